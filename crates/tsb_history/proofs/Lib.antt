@@ -1,0 +1,3 @@
+pub mod PlaceLemmas
+pub mod ByteLemmas
+pub mod LawLemmas

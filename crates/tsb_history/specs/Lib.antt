@@ -1,0 +1,3 @@
+pub mod History
+pub mod Bytes
+pub mod Laws
