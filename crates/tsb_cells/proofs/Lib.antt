@@ -1,0 +1,5 @@
+pub mod ChangeLemmas
+pub mod DiffLemmas
+pub mod PartLemmas
+pub mod RowLemmas
+pub mod TimerLemmas

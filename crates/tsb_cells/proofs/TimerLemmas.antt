@@ -1,0 +1,48 @@
+-- Timers and their cells.
+use Rattle.std.proofs.Common.{◌≡◌, ℕ, ◌+◌, ◌-◌, ◌<◌, ◌≤◌, ◌^◌, refl, arith, inl, inr}
+use Rattle.std.proofs.lemmas.Bool.Decides.{nat_tests, eqb_tells}
+use Rattle.tsb_cells.specs.declared.timer.Timer.{Timer}
+use Rattle.tsb_cells.specs.declared.timer.Timer.TheVariants.{Off, On}
+pub use Rattle.tsb_cells.specs.TimerLaws.{timer_at-timer_cell}
+use Rattle.tsb_cells.specs.Timer.{advanced, started, CanAdvance, IsWithin, timer_cell, timer_at}
+
+-- the next tick reads a cell as one tick more
+pub timer_at-next : (now cell : ℕ) → cell ≤ now + 1 → timer_at (now + 1) cell ≡ advanced (timer_at now cell)
+timer_at-next now cell h = grind (arith, nat_tests)
+
+pub timer_cell-le : (now : ℕ) (x : Timer) → timer_cell now x ≤ now + 1
+timer_cell-le now Off = omega arith
+timer_cell-le now (On n) = omega arith
+
+-- a cell that is read and written at one tick is the same
+pub timer_cell-timer_at : (now cell : ℕ) → cell ≤ now + 1 → timer_cell now (timer_at now cell) ≡ cell
+timer_cell-timer_at now cell h = grind (arith, nat_tests)
+
+pub IsWithin-timer_at : (now cell : ℕ) → IsWithin now (timer_at now cell)
+IsWithin-timer_at now cell =
+    elim (eqb_tells cell 0) [
+      | inl zero ↦ rw zero.0 tt
+      | inr on ↦ let within : now + 1 - cell ≤ now = omega arith in rw on.0 within
+    ]
+
+pub IsWithin-started : (now : ℕ) (x : Timer) → IsWithin now x → IsWithin now (started x)
+IsWithin-started now Off h = omega arith
+IsWithin-started now (On n) h = h
+
+-- a timer that runs on, or stays off, keeps its cell
+pub timer_cell-advanced : (now : ℕ) (x : Timer) → timer_cell (now + 1) (advanced x) ≡ timer_cell now x
+timer_cell-advanced now Off = refl
+timer_cell-advanced now (On n) = omega arith
+
+pub IsWithin-advanced : (now : ℕ) (x : Timer) → IsWithin now x → IsWithin (now + 1) (advanced x)
+IsWithin-advanced now Off h = tt
+IsWithin-advanced now (On n) h = omega arith
+
+pub IsWithin-more : (m n : ℕ) (x : Timer) → m ≤ n → IsWithin m x → IsWithin n x
+IsWithin-more m n Off l h = tt
+IsWithin-more m n (On k) l h = omega arith
+
+-- a timer that began at tick 0 or later can advance as long as the tick's number can
+pub CanAdvance-IsWithin : (now : ℕ) (x : Timer) → now + 1 < 2 ^ 32 → IsWithin now x → CanAdvance x
+CanAdvance-IsWithin now Off l h = tt
+CanAdvance-IsWithin now (On n) l h = omega arith

@@ -1,0 +1,34 @@
+//! What holds of every difference of two rows of cells, each law the contract of a function that does nothing.
+ghost use Rattle.tsb_cells.specs.DiffLaws.{TellsEachChange, Ascends, GivesBack, Shifts, Joins, AppliesByParts, HasOwnParts};
+
+/// A difference has an entry for each cell that changed, with what it held before, and no other, in ascending
+/// order of the cells.
+pub fn difference_is_what_changed()
+    ensures tells { TellsEachChange }
+    ensures ascends { Ascends }
+{}
+
+/// What was changed is taken back by the difference.
+pub fn difference_is_taken_back()
+    ensures { GivesBack }
+{}
+
+/// Numbering the cells from a greater number shifts the entries, and changes nothing else.
+pub fn numbering_shifts_entries()
+    ensures { Shifts }
+{}
+
+/// Rows that stand side by side have their differences side by side.
+pub fn differences_join()
+    ensures { Joins }
+{}
+
+/// Entries that are put into rows side by side are put into each row by its own part.
+pub fn entries_apply_by_parts()
+    ensures { AppliesByParts }
+{}
+
+/// Each row's part of the difference of rows side by side is the row's own difference.
+pub fn parts_are_own_differences()
+    ensures { HasOwnParts }
+{}

@@ -1,0 +1,114 @@
+ghost use Rattle.std.specs.Prelude.{ℕ, List, [], ◌∷◌, slice_index};
+ghost use Rattle.tsb_cells.specs.Timer.{IsWithin, timer_cell, timer_at};
+
+use super::*;
+use arrayvec::ArrayVec;
+
+/// Two cells: a count, and since when there is a presence.
+#[derive(Clone, Copy, PartialEq, Eq, Debug)]
+struct Reading {
+    count: u32,
+    presence: Timer,
+}
+
+impl Layout<2> for Reading {
+    ghost use Rattle.std.specs.Prelude.{refl};
+    ghost use Rattle.std.proofs.Common.{ap};
+    ghost use Rattle.tsb_cells.specs.TimerLaws.{timer_at-timer_cell};
+    ghost use Rattle.tsb_cells.specs.declared.tests.Reading.{Reading};
+    ghost use Rattle.tsb_cells.specs.declared.timer.Timer.{Timer as TimerValue};
+
+    ghost cells = { λ now value. value.count ∷ timer_cell now value.presence ∷ [] };
+
+    ghost of = { λ now row. record { count = slice_index row 0; presence = timer_at now (slice_index row 1) } };
+
+    ghost IsBy = { λ now value. IsWithin now value.presence };
+
+    ghost of_its_cells = { λ now value within. ap
+        (λ (x : TimerValue). let read : Reading = record { count = value.count; presence = x } in read)
+        (timer_at-timer_cell now value.presence within) };
+
+    ghost length_cells = { λ now value. refl };
+
+    fn of_cells(now: u32, row: &[u32; 2]) -> Reading {
+        let [count, presence] = *row;
+        Reading {
+            count,
+            presence: Timer::at(now, presence),
+        }
+    }
+
+    fn cells(self, now: u32) -> [u32; 2] {
+        [self.count, self.presence.cell(now)]
+    }
+}
+
+#[test]
+#[tactic(auto, using(crate::proofs::DiffLemmas::lengths))]
+fn changes_are_given_and_taken_back(rt: HostRuntime) {
+    let mut bank = Bank::<4>::new();
+    bank.open();
+    bank.put_row(1, [5, 6]);
+    let _ = bank.close();
+
+    bank.open();
+    bank.put(3, 9);
+    bank.put(1, 7);
+    bank.put(2, 8);
+    bank.put(2, 6);
+    let changes = bank.close();
+    assert_eq!(rt; changes.as_slice(), [(1, 5), (3, 0)].as_slice());
+    assert_eq!(rt; bank.row::<4>(0), [0, 7, 6, 9]);
+
+    bank.undo(&changes);
+    assert_eq!(rt; bank.get(1), 5);
+    assert_eq!(rt; bank.row::<4>(0), [0, 5, 6, 0]);
+
+    bank.open();
+    bank.put(0, 1);
+    abandon(&mut bank);
+    assert_eq!(rt; bank.row::<4>(0), [0, 5, 6, 0]);
+}
+
+#[test]
+fn values_are_kept_in_cells(rt: HostRuntime) {
+    let mut bank = Bank::<6>::new();
+    let reading = Reading {
+        count: 3,
+        presence: Timer::Off.started(),
+    };
+    bank.open();
+    bank.store(100, 2, reading);
+    assert_eq!(rt; bank.row::<6>(0), [0, 0, 3, 101, 0, 0]);
+    let later = Reading {
+        count: 3,
+        presence: Timer::On(20),
+    };
+    assert_eq!(rt; bank.load::<2, Reading>(120, 2), later);
+    assert_eq!(rt; bank.load::<2, Reading>(120, 4).presence, Timer::Off);
+}
+
+#[test]
+fn timers_are_read(rt: HostRuntime) {
+    let timer = Timer::On(19).advanced();
+    assert_eq!(rt; timer, Timer::On(20));
+    assert_eq!(rt; timer.started(), Timer::On(20));
+    assert!(rt; timer.is_on() && !Timer::Off.is_on());
+    assert!(rt; timer.has_reached(20) && !timer.has_reached(21) && !Timer::Off.has_reached(0));
+    assert!(rt; timer.is_below(21) && !timer.is_below(20) && !Timer::Off.is_below(1));
+}
+
+#[test]
+fn layers_share_one_numbering(rt: HostRuntime) {
+    let mut first = Bank::<2>::new();
+    let mut second = Bank::<3>::new();
+    first.open();
+    second.open();
+    first.put(1, 4);
+    second.put(0, 5);
+    second.put(2, 6);
+    let mut all = ArrayVec::<(u16, u32), 5>::new();
+    add_shifted(&mut all, &first.close(), 0);
+    add_shifted(&mut all, &second.close(), 2);
+    assert_eq!(rt; all.as_slice(), [(1, 0), (2, 0), (4, 0)].as_slice());
+}
