@@ -1,0 +1,4 @@
+pub mod BitLemmas
+pub mod PlanLemmas
+pub mod TableLemmas
+pub mod RunLemmas

@@ -1,0 +1,13 @@
+use Rattle.std.proofs.Common.{◌≡◌, ℕ, ◌<◌, ◌≤◌, false}
+use Rattle.tsb_objects.specs.Plan.{has_maximum_recall}
+use Rattle.tsb_objects.specs.PlanOf.{plan_of}
+use Rattle.tsb_objects.specs.Sets.{has}
+use Rattle.tsb_objects.proofs.checked.recalled_phases.Given as goal
+
+-- the phases so far are told, and no other is in the set
+abbrev pub invariant-loop-number : goal.invariant-loop-number
+invariant-loop-number l = record {
+  from_one : 1 ≤ l.number;
+  told : (p : ℕ) → p < l.number → has l.set p ≡ has_maximum_recall (plan_of l.plan) p;
+  rest : (p : ℕ) → l.number ≤ p → has l.set p ≡ false;
+}

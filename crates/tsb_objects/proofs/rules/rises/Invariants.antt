@@ -1,0 +1,10 @@
+use Rattle.std.proofs.Common.{◌≡◌, drop, ℕ, Bool, not, ◌||◌, ◌&&◌, ◌==◌}
+use Rattle.std.specs.Prelude.{nat_le}
+use Rattle.std.specs.List.{list_all}
+use Rattle.tsb_objects.specs.PlanOf.{plan_of}
+use Rattle.tsb_objects.specs.Rules.{rises}
+use Rattle.tsb_objects.proofs.rules.rises.Given as goal
+
+abbrev pub invariant-loop-place : goal.invariant-loop-place
+invariant-loop-place l =
+    rises (plan_of l.plan) (drop l.place l.places) ≡ rises (plan_of l.plan) l.places

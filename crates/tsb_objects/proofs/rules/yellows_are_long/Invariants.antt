@@ -1,0 +1,11 @@
+use Rattle.std.proofs.Common.{◌≡◌, drop, ℕ, Bool, not, ◌||◌}
+use Rattle.std.specs.Prelude.{nat_le}
+use Rattle.std.specs.List.{list_all}
+use Rattle.tsb_objects.specs.Plan.{is_enabled, yellow_change}
+use Rattle.tsb_objects.specs.PlanOf.{plan_of}
+use Rattle.tsb_objects.proofs.rules.yellows_are_long.Given as goal
+
+abbrev pub invariant-loop-phase : goal.invariant-loop-phase
+invariant-loop-phase l =
+    let test : ℕ → Bool = λ p. not (is_enabled (plan_of l.plan) p) || nat_le 30 (yellow_change (plan_of l.plan) p) in
+    list_all test (drop l.phase-index l.phases) ≡ list_all test l.phases

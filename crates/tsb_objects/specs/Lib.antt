@@ -1,0 +1,9 @@
+pub mod Lists
+pub mod Sets
+pub mod Objects
+pub mod Plan
+pub mod PlanOf
+pub mod Two
+pub mod Rules
+pub mod Built
+pub mod Checked
