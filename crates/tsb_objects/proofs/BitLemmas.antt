@@ -1,5 +1,5 @@
 -- The bits of words, as tests: what is in a list of phases.
-use Rattle.std.proofs.Common.{◌*◌, ◌%◌, ◌^◌, zero, suc, ◌≡◌, ◌≢◌, ℕ, ◌+◌, ◌-◌, ◌<◌, ◌≤◌, ◌==◌, not, ◌&&◌, ◌||◌, Bool, true, false, min, max, refl, arith, w16, bit_or, bit_and, sym, ◌∙◌, ap, inl, inr}
+use Rattle.std.proofs.Common.{◌*◌, ◌%◌, ◌^◌, zero, suc, ◌≡◌, ◌≢◌, ℕ, ◌+◌, ◌-◌, ◌<◌, ◌≤◌, ◌==◌, not, ◌&&◌, ◌||◌, true, false, min, max, refl, arith, w16, bit_or, bit_and, sym, ◌∙◌, ap, inl, inr}
 use Rattle.std.specs.Int.{bit_at, trailing_zeros}
 use Rattle.std.proofs.lemmas.Bool.Decides.{nat_tests}
 use Rattle.std.proofs.lemmas.Bool.{cases_lt}

@@ -1,12 +1,11 @@
 -- The table of objects: each object has its place, and the cells of two objects do not meet.
-use Rattle.std.proofs.Common.{zero, suc, ◌≡◌, ◌≢◌, ℕ, ◌+◌, ◌-◌, ◌<◌, ◌≤◌, ◌==◌, ◌&&◌, Bool, true, false, List, [], ◌∷◌, length, get_or, take, sum_by, refl, arith, sym, ◌∙◌, ap, subst, inl, inr}
+use Rattle.std.proofs.Common.{zero, suc, ◌≡◌, ℕ, ◌+◌, ◌-◌, ◌<◌, ◌≤◌, true, List, [], ◌∷◌, length, get_or, take, sum_by, refl, arith, sym, ◌∙◌, ap, subst, inl, inr}
 use Rattle.std.proofs.lemmas.Bool.{cases_lt}
 use Rattle.std.proofs.lemmas.List.Sums.{sum_by-cons}
-use Rattle.std.proofs.lemmas.Bool.Decides.{nat_tests, eqb_tells}
+use Rattle.std.proofs.lemmas.Bool.Decides.{nat_tests}
 use Rattle.tsb_objects.specs.declared.object.Object.{Object}
 use Rattle.tsb_objects.specs.declared.object.Object.TheVariants.{PhaseEnabled, PhaseNonLock, PhaseMinRecall, PhaseMaxRecall, PhasePedRecall, PhaseSoftRecall, PhaseDualEntry, PhaseSimGapDisable, PhaseRestInWalk, PhaseVariableInitial, PhaseRing, PhaseSide, PhaseConcurrency, PhaseWalk, PhasePedestrianClear, PhaseMinimumGreen, PhaseMaximum1, PhaseMaximum2, PhaseMaximumInitial, PhaseTimeBeforeReduction, PhaseTimeToReduce, PhasePassage, PhaseYellowChange, PhaseRedClear, PhaseRedRevert, PhaseAddedInitial, PhaseMinimumGap, PhaseCarsBeforeReduction, VehicleDetectorCallPhase, VehicleDetectorDelay, VehicleDetectorExtend, VehicleDetectorNoActivity, VehicleDetectorMaxPresence, VehicleDetectorErraticCounts, VehicleDetectorFailTime, PedestrianDetectorCallPhase, OverlapIncludedPhases, PatternCycleTime, PatternOffsetTime, PatternSplitNumber, PatternSequenceNumber, SplitTime, SplitMode, SplitCoordPhase, SequenceData, PreemptDelay, PreemptMinimumDuration, PreemptMaximumPresence, PreemptMinimumGreen, PreemptMinimumWalk, PreemptEnterPedClear, PreemptTrackGreen, PreemptTrackPhase, PreemptDwellPhase, PreemptExitPhase, UnitRedRevert, UnitMax2, PhaseDynamicMaxLimit, PhaseDynamicMaxStep, OverlapType, OverlapModifierPhases}
 use Rattle.tsb_objects.specs.Objects.{objects, order, indices, first_cell, has_index}
-use Rattle.tsb_objects.specs.Plan.{is_same}
 
 at-order : (o : Object) → get_or objects (order o) PhaseEnabled ≡ o
 unfolding objects
@@ -135,11 +134,11 @@ order-below PhaseDynamicMaxStep = omega arith
 order-below OverlapType = omega arith
 order-below OverlapModifierPhases = omega arith
 
-total : sum_by indices objects ≡ 1230
+pub total : sum_by indices objects ≡ 1230
 unfolding objects
 total = refl
 
-length-objects : length objects ≡ 61
+pub length-objects : length objects ≡ 61
 unfolding objects
 length-objects = refl
 

@@ -31,7 +31,7 @@ keeps_zeros plan o = list_all (λ i. is_released o i || plan.value o i == 0) (ru
 abbrev pub uses_released_only : Plan → Bool
 uses_released_only plan = list_all (keeps_zeros plan) objects
 
--- each phase is of ring 1, alone on its side, and on maximum recall
+-- each enabled phase is of ring 1, alone on its side, and on maximum recall
 abbrev pub is_of_one_ring : Plan → Bool
 is_of_one_ring plan = each_phase plan (λ p. ring_of plan p == 1)
 

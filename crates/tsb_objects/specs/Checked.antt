@@ -3,5 +3,5 @@ use Rattle.tsb_objects.specs.declared.checked.Checked.{Checked}
 use Rattle.tsb_objects.specs.Plan.{Plan}
 use Rattle.tsb_objects.specs.PlanOf.{plan_of}
 
-abbrev pub checked_plan : Checked → Plan
+unfoldable pub checked_plan : Checked → Plan
 checked_plan checked = plan_of checked.plan

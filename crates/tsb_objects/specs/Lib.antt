@@ -7,3 +7,4 @@ pub mod Two
 pub mod Rules
 pub mod Built
 pub mod Checked
+pub mod Laws

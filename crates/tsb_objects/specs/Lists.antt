@@ -1,5 +1,5 @@
 -- Words on lists of phases and on what may be none.
-use Rattle.std.specs.Prelude.{ℕ, zero, suc, ◌+◌, ◌-◌, ◌==◌, Bool, true, false, if◌then◌else◌, List, [], ◌∷◌, ◌++◌, Option, Some, None, is_some, find}
+use Rattle.std.specs.Prelude.{ℕ, zero, suc, ◌+◌, ◌==◌, Bool, false, if◌then◌else◌, List, [], ◌∷◌, Option, Some, None, is_some, find}
 
 -- the first of a list that passes a test
 abbrev pub first : (ℕ → Bool) → List ℕ → Option ℕ

@@ -1,5 +1,6 @@
 -- The plan that every definition reads: what each object of NTCIP 1202 is at each index, and how many phases and
--- sides there are. Times are in tenths of a second. Sides are the profile's own.
+-- sides there are. `value` is in the object's own unit; the times named below it are in tenths of a second. Sides are
+-- the profile's own.
 use Rattle.std.specs.Prelude.{ℕ, ◌+◌, ◌-◌, ◌*◌, ◌==◌, Bool, ◌&&◌, if◌then◌else◌, List, [], ◌∷◌, ◌++◌, map, max}
 use Rattle.tsb_objects.specs.declared.object.Object.{Object}
 use Rattle.tsb_objects.specs.declared.object.Object.TheVariants.{PhaseEnabled, PhaseMaxRecall, PhaseRing, PhaseSide, PhaseConcurrency, PhaseMinimumGreen, PhaseMaximum1, PhaseMaximum2, PhaseTimeBeforeReduction, PhaseYellowChange, PhaseRedClear, PhaseRedRevert, SequenceData, UnitRedRevert, UnitMax2}

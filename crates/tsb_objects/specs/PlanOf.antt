@@ -1,6 +1,5 @@
 -- What a plan in memory says, and what its calls answer.
 use Rattle.std.specs.Prelude.{ℕ, List, Option, Some, None, Result, Ok, Err, if◌then◌else◌, nat_le}
-use Rattle.tsb_objects.specs.declared.object.Object.{Object}
 use Rattle.tsb_objects.specs.declared.object.ObjectId.{ObjectId}
 use Rattle.tsb_objects.specs.declared.refusal.Refusal.{Refusal}
 use Rattle.tsb_objects.specs.declared.refusal.Refusal.TheVariants.{NoSuchObject, OutOfRange}
@@ -12,7 +11,7 @@ use Rattle.tsb_objects.specs.Plan.{Plan}
 abbrev pub plan_in : List ℕ → Plan
 plan_in cells = record { phase_count = 16; side_count = 4; value = value_in cells }
 
-abbrev pub plan_of : memory.Plan → Plan
+unfoldable pub plan_of : memory.Plan → Plan
 plan_of plan = plan_in plan.values
 
 -- the value of an object, or that it has no such index

@@ -1,11 +1,10 @@
 -- The rules that a plan must meet, each as a test, and the first of them that it breaks. "Each phase" is each
 -- enabled phase.
-use Rattle.std.specs.Prelude.{ℕ, ◌==◌, nat_le, Bool, true, false, not, ◌&&◌, ◌||◌, if◌then◌else◌, List, [], ◌∷◌, Option, Some, None, Result, Ok, Err}
+use Rattle.std.specs.Prelude.{ℕ, ◌==◌, nat_le, Bool, true, false, not, ◌&&◌, ◌||◌, List, [], ◌∷◌, Option, Some, None, Result, Ok, Err}
 use Rattle.std.specs.List.{list_all}
-use Rattle.tsb_objects.specs.declared.object.Object.{Object}
 use Rattle.tsb_objects.specs.declared.object.Object.TheVariants.{PhaseMinimumGreen, PhaseMaximum1, PhaseMaximum2}
 use Rattle.tsb_objects.specs.declared.rules.Rule.{Rule}
-use Rattle.tsb_objects.specs.declared.rules.Rule.TheVariants.{K1, K2, K6, K8, K10, NotYet}
+use Rattle.tsb_objects.specs.declared.rules.Rule.TheVariants.{K1, K2, K6, K8, K10}
 use Rattle.tsb_objects.specs.Lists.{some_passes, among}
 use Rattle.tsb_objects.specs.Plan.{Plan, phases, is_enabled, ring_of, side_of, yellow_change, sequence}
 

@@ -1,5 +1,7 @@
 //! Which plans the bench can run so far.
-ghost use Rattle.std.specs.Prelude.{◌≡◌, ◌==◌, ◌||◌, true, not};
+#![tactic(auto, unfolding(crate::specs::PlanOf::plan_of))]
+
+ghost use Rattle.std.specs.Prelude.{◌≡◌};
 ghost use Rattle.tsb_objects.specs.Built.{uses_released_only, keeps_zeros, is_of_one_ring, is_alone, are_alone_on_sides, are_on_maximum_recall, is_built, is_released};
 ghost use Rattle.tsb_objects.specs.Lists.{run_from};
 ghost use Rattle.tsb_objects.specs.Objects.{objects};
@@ -12,7 +14,7 @@ use crate::rules::all_phases;
 
 /// Whether the bench can run the plan: its phases are of ring 1, each alone on its side and on maximum
 /// recall, and it gives no object that is not released.
-#[tactic(auto, unfolding(crate::specs::Built::is_built))]
+#[tactic(auto, unfolding(crate::specs::PlanOf::plan_of, crate::specs::Built::is_built))]
 pub(crate) fn is_built(plan: &Plan) -> bool
     ensures { result ≡ is_built (plan_of plan.now) }
 {
@@ -59,7 +61,7 @@ fn are_alone_on_sides(plan: &Plan, phases: &[Phase]) -> bool
     true
 }
 
-#[tactic(auto, unfolding(crate::specs::Built::is_alone))]
+#[tactic(auto, unfolding(crate::specs::PlanOf::plan_of, crate::specs::Built::is_alone))]
 fn is_alone(plan: &Plan, phases: &[Phase], phase: Phase) -> bool
     requires { phases.now ≡ run_from 1 16 }
     ensures { result ≡ is_alone (plan_of plan.now) phase }

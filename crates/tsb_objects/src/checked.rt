@@ -1,18 +1,23 @@
 //! Plans that may be run.
+#![tactic(auto, unfolding(crate::specs::PlanOf::plan_of))]
+
 ghost use Rattle.std.specs.Prelude.{◌≡◌, ℕ, None};
 ghost use Rattle.tsb_objects.specs.Built.{objection};
-ghost use Rattle.tsb_objects.specs.Plan.{is_enabled, has_maximum_recall, side_of};
+ghost use Rattle.tsb_objects.specs.Plan.{is_enabled, has_maximum_recall};
 ghost use Rattle.tsb_objects.specs.PlanOf.{plan_of};
 ghost use Rattle.tsb_objects.specs.Sets.{has};
 
 use crate::built::is_built;
-use crate::numbers::{Phase, Side};
+use crate::numbers::Phase;
 use crate::phase_set::PhaseSet;
 use crate::plan::Plan;
 use crate::rules::{Rule, check};
 
-/// A plan that passed the check and that the bench can run, with sets of its phases at hand.
-#[derive(Clone, Copy)]
+/// A plan that may be run, with sets of its phases at hand.
+///
+/// Its plan meets the rules and uses nothing that is not built yet, and stays as it is: a `Checked` is
+/// made by `Checked::new` alone, so who is handed one has nothing to check.
+#[derive(Clone, Copy, Debug, PartialEq, Eq)]
 pub struct Checked {
     plan: Plan,
     enabled: PhaseSet,
@@ -26,10 +31,13 @@ impl Checked {
     ghost use Rattle.std.specs.Prelude.{Some, Ok, Err, MatchResult};
     ghost use Rattle.tsb_objects.specs.Checked.{checked_plan};
 
-    /// The plan, if nothing stands against it: otherwise the first rule that it breaks, or `NotYet` where
-    /// it meets the rules but uses a part that is not built yet.
+    /// The plan, if nothing stands against it. An `Err` is the first rule that the plan breaks, as
+    /// `check` tells it, or `NotYet` where it meets the rules and uses a part that is not built yet.
+    #[tactic(auto, unfolding(crate::specs::PlanOf::plan_of, crate::specs::Checked::checked_plan))]
     pub fn new(plan: Plan) -> Result<Checked, Rule>
-        ensures { MatchResult result (λ checked. (objection (plan_of plan) ≡ None) × (checked_plan checked ≡ plan_of plan)) (λ rule. objection (plan_of plan) ≡ Some rule) }
+        ensures { MatchResult result
+            (λ checked. (objection (plan_of plan) ≡ None) × (checked_plan checked ≡ plan_of plan))
+            (λ rule. objection (plan_of plan) ≡ Some rule) }
     {
         check(&plan)?;
         if !is_built(&plan) {
@@ -43,21 +51,24 @@ impl Checked {
     }
 
     /// The plan that was checked.
+    #[tactic(auto, unfolding(crate::specs::PlanOf::plan_of, crate::specs::Checked::checked_plan))]
     pub fn plan(&self) -> &Plan
         ensures plan { plan_of result.now ≡ checked_plan self.now }
-        ensures passed { objection (plan_of result.now) ≡ None }
+        ensures passed { objection (checked_plan self.now) ≡ None }
     {
         &self.plan
     }
 
-    /// The enabled phases.
+    /// The phases that are in use (`phaseEnabled`).
+    #[tactic(auto, unfolding(crate::specs::PlanOf::plan_of, crate::specs::Checked::checked_plan))]
     pub fn enabled(&self) -> PhaseSet
         ensures { (p : ℕ) → has result p ≡ is_enabled (checked_plan self.now) p }
     {
         self.enabled
     }
 
-    /// The phases that have maximum recall.
+    /// The phases that have maximum recall (`phaseMaxRecall`), in use or not.
+    #[tactic(auto, unfolding(crate::specs::PlanOf::plan_of, crate::specs::Checked::checked_plan))]
     pub fn recalled(&self) -> PhaseSet
         ensures { (p : ℕ) → has result p ≡ has_maximum_recall (checked_plan self.now) p }
     {

@@ -1,12 +1,14 @@
 //! The interval of a phase.
 
-/// The interval of a phase. A phase is in service in each but `Red`.
+/// The interval of a phase's vehicle head. A phase is in service in each but `Red`.
 #[derive(Clone, Copy, Debug, PartialEq, Eq)]
 pub enum Interval {
+    /// Not in service: the head is red.
     Red,
+    /// The head is green.
     Green,
-    /// Yellow change.
+    /// Yellow change: the head is yellow, for `phaseYellowChange`.
     Yellow,
-    /// Red clearance: the head is red and the phase still in service.
+    /// Red clearance: the head is red and the phase still in service, for `phaseRedClear`.
     RedClear,
 }

@@ -2,12 +2,14 @@
 //! layers name: numbers of phases, sides, detectors, overlaps and stations, sets of phases, a tick's
 //! inputs, intervals and refusals.
 //!
-//! Object names and units are those of NTCIP 1202. Nothing here takes memory.
+//! Names and units of objects are those of NTCIP 1202. What is marked "profile" is this project's own
+//! choice. Nothing here takes memory.
 #![tactic(auto)]
 
 mod built;
 pub mod checked;
 pub mod interval;
+pub mod laws;
 pub mod limits;
 pub mod number_set;
 pub mod numbers;
@@ -28,3 +30,6 @@ pub use plan::Plan;
 pub use refusal::Refusal;
 pub use row::Row;
 pub use rules::{Rule, check};
+
+#[cfg(test)]
+mod tests;

@@ -1,13 +1,10 @@
-//! How many there are of each thing.
+//! How many there are of each thing (profile).
 
 /// Phases, numbered from 1.
 pub const PHASES: usize = 16;
 
-/// Sides of a barrier, numbered from 1.
-pub const SIDES: usize = 4;
-
-/// Tenths of a second that a bench can count: 6,000,000 ticks are some seven days.
+/// The greatest number of a tick. A tick is a tenth of a second, so a bench counts some seven days.
 pub const TICKS: u32 = 6_000_000;
 
-/// The cells of a plan, one for each object and index.
+/// The cells of a plan, one for each object at each of its indices.
 pub const PLAN_CELLS: usize = 1230;

@@ -2,7 +2,7 @@
 ghost use Rattle.std.specs.Prelude.{◌≡◌, ◌≢◌, ℕ, ◌<◌, ◌≤◌, ◌&&◌, ◌||◌, not, true, false, None, IfSome};
 ghost use Rattle.tsb_objects.specs.Sets.{names, has_number, size_of_numbers};
 
-/// A set of numbers from 1 to 16, one bit for each.
+/// A set of numbers from 1 to 16, one bit for each. Two sets with the same numbers are equal.
 #[derive(Clone, Copy, Debug, PartialEq, Eq)]
 pub struct NumberSet {
     word: u16,
@@ -16,14 +16,14 @@ impl NumberSet {
         NumberSet { word: 0 }
     }
 
-    /// The numbers that a list names: the sum of `2^(number - 1)`.
+    /// The numbers that a list names. A list is the sum of `2^(number - 1)` over its numbers.
     pub fn from_list(list: u16) -> NumberSet
         ensures { (n : ℕ) → has_number result n ≡ names list n }
     {
         NumberSet { word: list }
     }
 
-    /// The set as a list: the sum of `2^(number - 1)`.
+    /// The set as a list: the sum of `2^(number - 1)` over its numbers.
     pub fn list(self) -> u16
         ensures { (n : ℕ) → names result n ≡ has_number self n }
     {
@@ -75,13 +75,14 @@ impl NumberSet {
         }
     }
 
-    /// The set with the number, 1 to 16, or without it.
+    /// The set with the number, 1 to 16, where `on`, and else without it. The others stay.
     pub fn with(self, number: u8, on: bool) -> NumberSet
         requires from_one { 1 ≤ number }
         requires within { number ≤ 16 }
         ensures set { has_number result number ≡ on }
         ensures others { (n : ℕ) → n ≢ number → has_number result n ≡ has_number self n }
-        ensures smaller { on ≡ false → has_number self number ≡ true → size_of_numbers result < size_of_numbers self }
+        ensures smaller { on ≡ false → has_number self number ≡ true →
+            size_of_numbers result < size_of_numbers self }
     {
         let bit = number - 1;
         if on {
@@ -95,7 +96,7 @@ impl NumberSet {
         }
     }
 
-    /// The least number of the set.
+    /// The least number of the set, or `None` where it has none.
     pub fn first(self) -> Option<u8>
         ensures none { result ≡ None → (n : ℕ) → has_number self n ≡ false }
         ensures from_one { IfSome result (λ n. 1 ≤ n) }

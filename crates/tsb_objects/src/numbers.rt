@@ -1,9 +1,9 @@
-//! Numbers that hold only valid values. A contract sees each as its number.
+//! Numbers of things, each within its range. A contract sees each as the plain number.
 ghost use Rattle.std.specs.Prelude.{◌≡◌, ℕ, ◌≤◌, ◌&&◌, nat_le, if◌then◌else◌, Some, None};
 
 use std::marker::Model;
 
-/// A phase: 1 to 16.
+/// The number of a phase: 1 to 16.
 #[derive(Clone, Copy, Debug, PartialEq, Eq)]
 pub struct Phase {
     number: u8,
@@ -20,20 +20,17 @@ impl Model for Phase {
 }
 
 impl Phase {
-    /// The phase of this number, if it is 1 to 16.
+    /// The phase of this number, or `None` where it is not 1 to 16.
     pub fn new(number: u32) -> Option<Phase>
         ensures { result ≡ (if nat_le 1 number && nat_le number 16 then Some number else None) }
     {
-        if 1 <= number && number <= 16 {
-            Some(Phase {
-                number: number as u8,
-            })
-        } else {
-            None
+        match number {
+            1..=16 => Some(Phase::of(number as u8)),
+            _ => None,
         }
     }
 
-    /// The phase of this number.
+    /// The phase of this number, which has to be 1 to 16.
     pub fn of(number: u8) -> Phase
         requires from_one { 1 ≤ number }
         requires within { number ≤ 16 }
@@ -52,7 +49,7 @@ impl Phase {
     }
 }
 
-/// A side of the barriers: 1 to 4 (profile).
+/// The number of a side of the barriers: 1 to 4 (profile).
 #[derive(Clone, Copy, Debug, PartialEq, Eq)]
 pub struct Side {
     number: u8,
@@ -69,20 +66,17 @@ impl Model for Side {
 }
 
 impl Side {
-    /// The side of the barriers of this number, if it is 1 to 4.
+    /// The side of the barriers of this number, or `None` where it is not 1 to 4.
     pub fn new(number: u32) -> Option<Side>
         ensures { result ≡ (if nat_le 1 number && nat_le number 4 then Some number else None) }
     {
-        if 1 <= number && number <= 4 {
-            Some(Side {
-                number: number as u8,
-            })
-        } else {
-            None
+        match number {
+            1..=4 => Some(Side::of(number as u8)),
+            _ => None,
         }
     }
 
-    /// The side of the barriers of this number.
+    /// The side of the barriers of this number, which has to be 1 to 4.
     pub fn of(number: u8) -> Side
         requires from_one { 1 ≤ number }
         requires within { number ≤ 4 }
@@ -101,7 +95,7 @@ impl Side {
     }
 }
 
-/// A vehicle detector: 1 to 16.
+/// The number of a vehicle detector: 1 to 16.
 #[derive(Clone, Copy, Debug, PartialEq, Eq)]
 pub struct Detector {
     number: u8,
@@ -118,20 +112,17 @@ impl Model for Detector {
 }
 
 impl Detector {
-    /// The vehicle detector of this number, if it is 1 to 16.
+    /// The vehicle detector of this number, or `None` where it is not 1 to 16.
     pub fn new(number: u32) -> Option<Detector>
         ensures { result ≡ (if nat_le 1 number && nat_le number 16 then Some number else None) }
     {
-        if 1 <= number && number <= 16 {
-            Some(Detector {
-                number: number as u8,
-            })
-        } else {
-            None
+        match number {
+            1..=16 => Some(Detector::of(number as u8)),
+            _ => None,
         }
     }
 
-    /// The vehicle detector of this number.
+    /// The vehicle detector of this number, which has to be 1 to 16.
     pub fn of(number: u8) -> Detector
         requires from_one { 1 ≤ number }
         requires within { number ≤ 16 }
@@ -150,7 +141,7 @@ impl Detector {
     }
 }
 
-/// An overlap: 1 to 4.
+/// The number of an overlap: 1 to 4.
 #[derive(Clone, Copy, Debug, PartialEq, Eq)]
 pub struct Overlap {
     number: u8,
@@ -167,20 +158,17 @@ impl Model for Overlap {
 }
 
 impl Overlap {
-    /// The overlap of this number, if it is 1 to 4.
+    /// The overlap of this number, or `None` where it is not 1 to 4.
     pub fn new(number: u32) -> Option<Overlap>
         ensures { result ≡ (if nat_le 1 number && nat_le number 4 then Some number else None) }
     {
-        if 1 <= number && number <= 4 {
-            Some(Overlap {
-                number: number as u8,
-            })
-        } else {
-            None
+        match number {
+            1..=4 => Some(Overlap::of(number as u8)),
+            _ => None,
         }
     }
 
-    /// The overlap of this number.
+    /// The overlap of this number, which has to be 1 to 4.
     pub fn of(number: u8) -> Overlap
         requires from_one { 1 ≤ number }
         requires within { number ≤ 4 }
@@ -199,7 +187,7 @@ impl Overlap {
     }
 }
 
-/// A station that sends transactions: 1 to 4 (profile).
+/// The number of a station that sends transactions: 1 to 4 (profile).
 #[derive(Clone, Copy, Debug, PartialEq, Eq)]
 pub struct Station {
     number: u8,
@@ -216,20 +204,17 @@ impl Model for Station {
 }
 
 impl Station {
-    /// The station of this number, if it is 1 to 4.
+    /// The station of this number, or `None` where it is not 1 to 4.
     pub fn new(number: u32) -> Option<Station>
         ensures { result ≡ (if nat_le 1 number && nat_le number 4 then Some number else None) }
     {
-        if 1 <= number && number <= 4 {
-            Some(Station {
-                number: number as u8,
-            })
-        } else {
-            None
+        match number {
+            1..=4 => Some(Station::of(number as u8)),
+            _ => None,
         }
     }
 
-    /// The station of this number.
+    /// The station of this number, which has to be 1 to 4.
     pub fn of(number: u8) -> Station
         requires from_one { 1 ≤ number }
         requires within { number ≤ 4 }
@@ -245,5 +230,28 @@ impl Station {
         ensures within { result ≤ 4 }
     {
         self.number
+    }
+}
+
+#[cfg(test)]
+mod tests {
+    use super::*;
+
+    #[test]
+    fn numbers_hold_their_range(rt: HostRuntime) {
+        for number in 0..20u32 {
+            let small = (1 <= number && number <= 4).then_some(number as u8);
+            let large = (1 <= number && number <= 16).then_some(number as u8);
+            assert_eq!(rt; Phase::new(number).map(Phase::number), large);
+            assert_eq!(rt; Detector::new(number).map(Detector::number), large);
+            assert_eq!(rt; Side::new(number).map(Side::number), small);
+            assert_eq!(rt; Overlap::new(number).map(Overlap::number), small);
+            assert_eq!(rt; Station::new(number).map(Station::number), small);
+        }
+        assert_eq!(rt; Phase::new(16), Some(Phase::of(16)));
+        assert_eq!(rt; Detector::new(16), Some(Detector::of(16)));
+        assert_eq!(rt; Side::new(4), Some(Side::of(4)));
+        assert_eq!(rt; Overlap::new(4), Some(Overlap::of(4)));
+        assert_eq!(rt; Station::new(4), Some(Station::of(4)));
     }
 }

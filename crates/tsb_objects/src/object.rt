@@ -1,12 +1,14 @@
-//! The objects of a plan: names of NTCIP 1202, how many indices each has, and which values it takes.
-ghost use Rattle.std.specs.Prelude.{◌≡◌, ◌+◌, ◌-◌, ◌<◌, true};
-ghost use Rattle.tsb_objects.specs.Objects.{objects, indices, greatest, first_cell, has_index};
+//! The objects of a plan: their names, how many indices each has, and which values it takes.
+ghost use Rattle.std.specs.Prelude.{◌≡◌};
+ghost use Rattle.tsb_objects.specs.Objects.{indices, greatest, first_cell};
 
-/// An object of NTCIP 1202 section 2, or one of this profile's own.
+/// An object of a plan: one of NTCIP 1202 section 2, by its name there, or one of the profile's own.
 ///
-/// A variant's comment says what its index is and in what unit its values are. A list of phases is the
-/// sum of `2^(phase - 1)` over its members. Each object's least value is 0, which stands where a plan
-/// gives none.
+/// A variant's comment has the object's name, what its index counts, what its values are and in what
+/// unit, and their range. Each object's least value is 0, which stands where a plan gives none. "Yes or
+/// no" is 1 or 0. A list of phases is the sum of `2^(phase - 1)` over its phases (profile). The options
+/// that NTCIP 1202 has as the bits of one object are objects of their own here (profile), and the ranges
+/// of detector, pattern and preempt objects are the profile's.
 #[derive(Clone, Copy, Debug, PartialEq, Eq)]
 pub enum Object {
     /// `phaseEnabled`: phase, yes or no; 0 to 1.
@@ -27,7 +29,7 @@ pub enum Object {
     PhaseSimGapDisable,
     /// `phaseRestInWalk`: phase, yes or no; 0 to 1.
     PhaseRestInWalk,
-    /// `phaseVariableInitial`: phase, yes or no; 0 to 1.
+    /// `phaseVariableInitial`: phase, yes or no, whether added initial counts (profile); 0 to 1.
     PhaseVariableInitial,
     /// `phaseRing`: phase, 1 or 2, 0 for none; 0 to 2.
     PhaseRing,
@@ -41,9 +43,9 @@ pub enum Object {
     PhasePedestrianClear,
     /// `phaseMinimumGreen`: phase, seconds; 0 to 255.
     PhaseMinimumGreen,
-    /// `phaseMaximum1`: phase, seconds; 0 to 255.
+    /// `phaseMaximum1`: phase, seconds, in use unless unitMax2 is 1; 0 to 255.
     PhaseMaximum1,
-    /// `phaseMaximum2`: phase, seconds; 0 to 255.
+    /// `phaseMaximum2`: phase, seconds, in use where unitMax2 is 1; 0 to 255.
     PhaseMaximum2,
     /// `phaseMaximumInitial`: phase, seconds; 0 to 255.
     PhaseMaximumInitial,
@@ -63,7 +65,7 @@ pub enum Object {
     PhaseAddedInitial,
     /// `phaseMinimumGap`: phase, tenths of a second; 0 to 255.
     PhaseMinimumGap,
-    /// `phaseCarsBeforeReduction`: phase, vehicles; 0 to 255.
+    /// `phaseCarsBeforeReduction`: phase, vehicles, 0 for never; 0 to 255.
     PhaseCarsBeforeReduction,
     /// `vehicleDetectorCallPhase`: vehicle detector, phase, 0 for none; 0 to 16.
     VehicleDetectorCallPhase,
@@ -77,7 +79,8 @@ pub enum Object {
     VehicleDetectorMaxPresence,
     /// `vehicleDetectorErraticCounts`: vehicle detector, rises a minute, 0 for any number; 0 to 255.
     VehicleDetectorErraticCounts,
-    /// `vehicleDetectorFailTime`: vehicle detector, seconds; 0 to 255.
+    /// `vehicleDetectorFailTime`: vehicle detector, seconds, 0 for off and 255 for on while it has
+    /// failed; 0 to 255.
     VehicleDetectorFailTime,
     /// `pedestrianDetectorCallPhase`: pedestrian detector, phase, 0 for none; 0 to 16.
     PedestrianDetectorCallPhase,
@@ -93,7 +96,8 @@ pub enum Object {
     PatternSequenceNumber,
     /// `splitTime`: 16 (table - 1) + phase, seconds; 0 to 255.
     SplitTime,
-    /// `splitMode`: 16 (table - 1) + phase, 0 none, 1 minimum recall, 2 maximum recall, 3 pedestrian recall, 4 maximum and pedestrian recall, 5 omitted (profile); 0 to 5.
+    /// `splitMode`: 16 (table - 1) + phase, 0 none, 1 minimum recall, 2 maximum recall, 3 pedestrian
+    /// recall, 4 maximum and pedestrian recall, 5 omitted (profile); 0 to 5.
     SplitMode,
     /// `splitCoordPhase`: 16 (table - 1) + phase, yes or no; 0 to 1.
     SplitCoordPhase,
@@ -103,7 +107,7 @@ pub enum Object {
     PreemptDelay,
     /// `preemptMinimumDuration`: preempt, seconds; 0 to 65,535.
     PreemptMinimumDuration,
-    /// `preemptMaximumPresence`: preempt, seconds; 0 to 65,535.
+    /// `preemptMaximumPresence`: preempt, seconds, 0 for no limit; 0 to 65,535.
     PreemptMaximumPresence,
     /// `preemptMinimumGreen`: preempt, seconds; 0 to 255.
     PreemptMinimumGreen,
@@ -119,15 +123,15 @@ pub enum Object {
     PreemptDwellPhase,
     /// `preemptExitPhase`: preempt, list of phases; 0 to 65,535.
     PreemptExitPhase,
-    /// `unitRedRevert`: 1, tenths of a second; 0 to 255.
+    /// `unitRedRevert`: 1 alone, tenths of a second; 0 to 255.
     UnitRedRevert,
-    /// `unitMax2`: 1, yes or no: phaseMaximum2 is in use (profile); 0 to 1.
+    /// `unitMax2`: 1 alone, yes or no, whether phaseMaximum2 is in use (profile); 0 to 1.
     UnitMax2,
-    /// `phaseDynamicMaxLimit`: phase, seconds; 0 to 255.
+    /// `phaseDynamicMaxLimit`: phase, seconds (profile), 0 for no dynamic maximum; 0 to 255.
     PhaseDynamicMaxLimit,
-    /// `phaseDynamicMaxStep`: phase, tenths of a second (profile); 0 to 255.
+    /// `phaseDynamicMaxStep`: phase, tenths of a second (profile), 0 for no dynamic maximum; 0 to 255.
     PhaseDynamicMaxStep,
-    /// `overlapType`: overlap, 0 normal, 1 minusGreenYellow; 0 to 1.
+    /// `overlapType`: overlap, 0 normal, 1 minusGreenYellow (profile); 0 to 1.
     OverlapType,
     /// `overlapModifierPhases`: overlap, list of phases; 0 to 65,535.
     OverlapModifierPhases,
@@ -162,7 +166,7 @@ impl Object {
         }
     }
 
-    /// The greatest value of the object.
+    /// The greatest value that the object takes: it takes 0 to this number.
     pub fn greatest(self) -> u32
         ensures { result ≡ greatest self }
     {
@@ -340,15 +344,16 @@ impl Object {
     ];
 }
 
-/// An object at an index.
+/// An object at an index: what a plan has a value for.
 #[derive(Clone, Copy, Debug, PartialEq, Eq)]
 pub struct ObjectId {
+    /// Which object.
     pub object: Object,
-    /// 1 to the object's number of indices; any other names no object.
+    /// 1 to the object's number of indices. Any other names nothing, and calls refuse it.
     pub index: u32,
 }
 
-/// The indices and the values of an object.
+/// The indices that an object has and the values that it takes.
 #[derive(Clone, Copy, Debug, PartialEq, Eq)]
 pub struct Range {
     /// Its indices are 1 to this number.
@@ -357,7 +362,7 @@ pub struct Range {
     pub greatest: u32,
 }
 
-/// The indices and the values of an object.
+/// The indices that the object has and the values that it takes.
 pub fn range_of(object: Object) -> Range
     ensures { result ≡ record { indices = indices object; greatest = greatest object } }
 {

@@ -1,12 +1,11 @@
 //! Sets of phases.
 ghost use Rattle.std.specs.Prelude.{◌≡◌, ◌≢◌, ℕ, ◌<◌, ◌&&◌, ◌||◌, not, true, false, None, IfSome};
 ghost use Rattle.tsb_objects.specs.Sets.{names, has, size};
-ghost use Rattle.tsb_objects.specs.Lists.{is};
 
 use crate::number_set::NumberSet;
 use crate::numbers::Phase;
 
-/// A set of phases, one bit for each.
+/// A set of phases, one bit for each. Two sets with the same phases are equal.
 #[derive(Clone, Copy, Debug, PartialEq, Eq)]
 pub struct PhaseSet {
     numbers: NumberSet,
@@ -22,7 +21,8 @@ impl PhaseSet {
         }
     }
 
-    /// The phases that a list names: the sum of `2^(phase - 1)`.
+    /// The phases that a list names, as `phaseConcurrency` has it: the sum of `2^(phase - 1)` over its
+    /// phases (profile).
     pub fn from_list(list: u16) -> PhaseSet
         ensures { (p : ℕ) → has result p ≡ names list p }
     {
@@ -31,7 +31,7 @@ impl PhaseSet {
         }
     }
 
-    /// The set as a list: the sum of `2^(phase - 1)`.
+    /// The set as a list: the sum of `2^(phase - 1)` over its phases (profile).
     pub fn list(self) -> u16
         ensures { (p : ℕ) → names result p ≡ has self p }
     {
@@ -80,7 +80,7 @@ impl PhaseSet {
         }
     }
 
-    /// The set with the phase, or without it.
+    /// The set with the phase where `on`, and else without it. The others stay.
     pub fn with(self, phase: Phase, on: bool) -> PhaseSet
         ensures set { has result phase ≡ on }
         ensures others { (p : ℕ) → p ≢ phase → has result p ≡ has self p }
@@ -91,7 +91,7 @@ impl PhaseSet {
         }
     }
 
-    /// The least phase of the set.
+    /// The least phase of the set, or `None` where it has none.
     pub fn first(self) -> Option<Phase>
         ensures none { result ≡ None → (p : ℕ) → has self p ≡ false }
         ensures had { IfSome result (λ p. has self p ≡ true) }
@@ -103,7 +103,7 @@ impl PhaseSet {
         }
     }
 
-    /// Takes the least phase out of the set.
+    /// Takes the least phase out of the set and gives it, or `None` where there is none.
     pub fn pop(&mut self) -> Option<Phase>
         ensures none { result ≡ None → (p : ℕ) → has self.old p ≡ false }
         ensures had { IfSome result (λ p. has self.old p ≡ true) }

@@ -1,6 +1,8 @@
-//! A timing plan.
+//! Timing plans.
+#![tactic(auto, unfolding(crate::specs::PlanOf::plan_of))]
+
 ghost use Rattle.std.specs.List.{list_all};
-ghost use Rattle.std.specs.Prelude.{◌≡◌, ℕ, ◌+◌, ◌-◌, ◌≤◌, ◌<◌, true, false, length, slice_index, OnOk, OnErr, Ok, Err, Some, None};
+ghost use Rattle.std.specs.Prelude.{◌≡◌, ℕ, ◌+◌, ◌-◌, ◌≤◌, ◌<◌, true, length, slice_index, Ok, Err, Some, None};
 ghost use Rattle.tsb_objects.specs.Objects.{AreInRange, value_in, has_index, greatest, first_cell, indices};
 
 use crate::limits::{PHASES, PLAN_CELLS};
@@ -9,8 +11,11 @@ use crate::object::{Object, ObjectId, range_of};
 use crate::phase_set::PhaseSet;
 use crate::refusal::Refusal;
 
-/// A timing plan: the value of each object at each of its indices, each value in its object's range.
-#[derive(Clone, Copy)]
+/// A timing plan: the value of each object at each of its indices.
+///
+/// Each value is in its object's range, whatever is done to the plan. That a plan meets the rules is not
+/// promised: `check` tells, and a `Checked` keeps it.
+#[derive(Clone, Copy, Debug, PartialEq, Eq)]
 pub struct Plan {
     values: [u16; PLAN_CELLS],
     ghost full: { length values ≡ 1230 },
@@ -63,7 +68,7 @@ impl Plan {
     ghost use Rattle.tsb_objects.specs.PlanOf.{plan_of, got, put_refusal};
     ghost use Rattle.tsb_objects.specs.Two.{two, fits};
 
-    /// The plan in which each object is 0.
+    /// The plan in which each object is 0 at each index.
     pub fn empty() -> Plan
         ensures { plan_of result ≡ empty }
     {
@@ -71,7 +76,8 @@ impl Plan {
         Plan { values }
     }
 
-    /// The value of an object at an index. An index that the object has not is `NoSuchObject`.
+    /// The value of an object at an index, in the object's unit. An index that the object has not is
+    /// refused as `NoSuchObject`.
     pub fn get(&self, id: ObjectId) -> Result<u32, Refusal>
         ensures { result ≡ got (plan_of self.now) id }
     {
@@ -81,13 +87,15 @@ impl Plan {
         Ok(self.value(id.object, id.index))
     }
 
-    /// Sets the value of an object at an index.
+    /// Sets the value of an object at an index, in the object's unit. Every other value stays.
     ///
-    /// An index that the object has not is `NoSuchObject`, and a value that it does not take
-    /// `OutOfRange`; the plan is then as it was.
+    /// An index that the object has not is refused as `NoSuchObject`, and otherwise a value that it does
+    /// not take as `OutOfRange`. The plan is then as it was.
     pub fn put(&mut self, id: ObjectId, value: u32) -> Result<(), Refusal>
-        ensures put { put_refusal id value ≡ None → (result ≡ Ok tt) × (plan_of self.new ≡ with_value (plan_of self.old) id.object id.index value) }
-        ensures refused { (e : Refusal) → put_refusal id value ≡ Some e → (result ≡ Err e) × (self.new ≡ self.old) }
+        ensures put { put_refusal id value ≡ None →
+            (result ≡ Ok tt) × (plan_of self.new ≡ with_value (plan_of self.old) id.object id.index value) }
+        ensures refused { (e : Refusal) → put_refusal id value ≡ Some e →
+            (result ≡ Err e) × (self.new ≡ self.old) }
     {
         let range = range_of(id.object);
         if id.index == 0 || id.index > range.indices {
@@ -138,7 +146,8 @@ impl Plan {
         plan
     }
 
-    /// The built-in plan of two phases: 2 on side 1 and 4 on side 2, both on maximum recall.
+    /// The built-in plan of two phases: 2 on side 1 and 4 on side 2 of ring 1, both on maximum recall,
+    /// with 5 s of minimum green, 10 s and 8 s of maximum, 3 s of yellow and 1 s of red clearance.
     pub fn two() -> Plan
         ensures { plan_of result ≡ two }
     {
@@ -146,48 +155,49 @@ impl Plan {
     }
 }
 
-/// The plan's accessors for the layers: each is one setting of one phase, in the layers' units.
+/// What the plan says of a phase, times in tenths of a second.
 impl Plan {
     ghost use Rattle.tsb_objects.specs.Plan.{is_enabled, has_maximum_recall, ring_of, side_of, is_concurrent, minimum_green, maximum, time_before_reduction, yellow_change, red_clear, red_revert, sequence};
     ghost use Rattle.tsb_objects.specs.PlanOf.{plan_of};
     ghost use Rattle.tsb_objects.specs.Sets.{has};
 
-    /// Whether the phase is enabled.
+    /// Whether the phase is in use (`phaseEnabled`).
     pub fn is_enabled(&self, phase: Phase) -> bool
         ensures { result ≡ is_enabled (plan_of self.now) phase }
     {
         self.of_phase(Object::PhaseEnabled, phase) == 1
     }
 
-    /// Whether the phase has maximum recall.
+    /// Whether the phase has maximum recall (`phaseMaxRecall`).
     pub fn has_maximum_recall(&self, phase: Phase) -> bool
         ensures { result ≡ has_maximum_recall (plan_of self.now) phase }
     {
         self.of_phase(Object::PhaseMaxRecall, phase) == 1
     }
 
-    /// The ring of the phase, 1 or 2; 0 for none.
+    /// The ring of the phase, 1 or 2, or 0 for none (`phaseRing`).
     pub fn ring(&self, phase: Phase) -> u32
         ensures { result ≡ ring_of (plan_of self.now) phase }
     {
         self.of_phase(Object::PhaseRing, phase)
     }
 
-    /// The side of the phase, 1 to 4; 0 for none.
+    /// The side of the phase, 1 to 4, or 0 for none (`phaseSide`, profile).
     pub fn side(&self, phase: Phase) -> u32
         ensures { result ≡ side_of (plan_of self.now) phase }
     {
         self.of_phase(Object::PhaseSide, phase)
     }
 
-    /// The minimum green of the phase, in tenths of a second.
+    /// The minimum green of the phase (`phaseMinimumGreen`), in tenths of a second.
     pub fn minimum_green(&self, phase: Phase) -> u32
         ensures { result ≡ minimum_green (plan_of self.now) phase }
     {
         10 * self.of_phase(Object::PhaseMinimumGreen, phase)
     }
 
-    /// The maximum green of the phase that is in use, in tenths of a second.
+    /// The maximum of the phase that is in use, in tenths of a second: `phaseMaximum2` where `unitMax2`
+    /// is 1, and else `phaseMaximum1`.
     pub fn maximum(&self, phase: Phase) -> u32
         ensures { result ≡ maximum (plan_of self.now) phase }
     {
@@ -199,28 +209,29 @@ impl Plan {
         10 * self.of_phase(object, phase)
     }
 
-    /// The time before reduction of the phase, in tenths of a second.
+    /// The time before reduction of the phase (`phaseTimeBeforeReduction`), in tenths of a second.
     pub fn time_before_reduction(&self, phase: Phase) -> u32
         ensures { result ≡ time_before_reduction (plan_of self.now) phase }
     {
         10 * self.of_phase(Object::PhaseTimeBeforeReduction, phase)
     }
 
-    /// The yellow change of the phase, in tenths of a second.
+    /// The yellow change of the phase (`phaseYellowChange`), in tenths of a second.
     pub fn yellow_change(&self, phase: Phase) -> u32
         ensures { result ≡ yellow_change (plan_of self.now) phase }
     {
         self.of_phase(Object::PhaseYellowChange, phase)
     }
 
-    /// The red clearance of the phase, in tenths of a second.
+    /// The red clearance of the phase (`phaseRedClear`), in tenths of a second.
     pub fn red_clear(&self, phase: Phase) -> u32
         ensures { result ≡ red_clear (plan_of self.now) phase }
     {
         self.of_phase(Object::PhaseRedClear, phase)
     }
 
-    /// The red revert time of the phase, in tenths of a second: the larger of its own and the unit's.
+    /// The red revert time of the phase, in tenths of a second: the larger of its `phaseRedRevert` and
+    /// `unitRedRevert`.
     pub fn red_revert(&self, phase: Phase) -> u32
         ensures { result ≡ red_revert (plan_of self.now) phase }
     {
@@ -228,14 +239,15 @@ impl Plan {
             .max(self.value(Object::UnitRedRevert, 1))
     }
 
-    /// The phases that are concurrent with the phase.
+    /// The phases that are concurrent with the phase (`phaseConcurrency`).
     pub fn concurrency(&self, phase: Phase) -> PhaseSet
         ensures { (q : ℕ) → has result q ≡ is_concurrent (plan_of self.now) phase q }
     {
         PhaseSet::from_list(self.of_phase(Object::PhaseConcurrency, phase) as u16)
     }
 
-    /// What a sequence, 1 to 4, has for a ring, 1 or 2, place by place: a phase's number, or 0.
+    /// What a sequence, 1 to 4, has for a ring, 1 or 2, place by place: a phase's number, or 0 for none
+    /// (`sequenceData`).
     pub fn sequence(&self, number: u32, ring: u32) -> [u8; PHASES]
         requires first_sequence { 1 ≤ number }
         requires last_sequence { number ≤ 4 }

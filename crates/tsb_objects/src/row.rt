@@ -4,7 +4,7 @@ ghost use Rattle.tsb_objects.specs.Sets.{has_number};
 
 use crate::number_set::NumberSet;
 
-/// The inputs that are on in a tick.
+/// The inputs that are on in a tick, by number. Numbers above those that there are have no effect.
 #[derive(Clone, Copy, Debug, PartialEq, Eq)]
 pub struct Row {
     /// Vehicle detectors, 1 to 16.

@@ -1,70 +1,81 @@
-//! The rules that a plan must meet.
+//! The rules that a plan must meet (profile).
+#![tactic(auto, unfolding(crate::specs::PlanOf::plan_of))]
+
 ghost use Rattle.std.specs.List.{list_all};
-ghost use Rattle.std.specs.Prelude.{◌≡◌, ◌≤◌, ◌==◌, ◌&&◌, ◌||◌, not, nat_le};
-ghost use Rattle.tsb_objects.specs.Lists.{among, some_passes, run_from};
-ghost use Rattle.tsb_objects.specs.Objects.{objects, indices};
-ghost use Rattle.tsb_objects.specs.Plan.{Plan, is_enabled, ring_of, side_of, yellow_change, sequence, phases, has_maximum_recall};
+ghost use Rattle.std.specs.Prelude.{◌≡◌, ◌≤◌, ◌==◌, ◌&&◌, ◌||◌, nat_le};
+ghost use Rattle.tsb_objects.specs.Lists.{among, run_from};
+ghost use Rattle.tsb_objects.specs.Plan.{is_enabled, ring_of, side_of, sequence};
 ghost use Rattle.tsb_objects.specs.PlanOf.{plan_of};
-ghost use Rattle.tsb_objects.specs.Rules.{each_phase, is_placed, are_placed, lists_only, lists_each, lists_once, rises, zeros_last, is_ordered, first_sequence_is_ordered, yellows_are_long, reaches_minimum, maximums_reach_minimums, some_enabled, first_broken, or_broken};
+ghost use Rattle.tsb_objects.specs.Rules.{is_placed, are_placed, lists_only, lists_each, lists_once, rises, zeros_last, is_ordered, first_sequence_is_ordered, yellows_are_long, reaches_minimum, maximums_reach_minimums, some_enabled, first_broken, or_broken};
 
 use crate::numbers::Phase;
 use crate::object::Object;
 use crate::plan::Plan;
 
-/// A rule of a plan's consistency, K1 to K22, or that a plan uses what is not built yet.
+/// A rule that a plan must meet, or that it uses what is not built yet.
+///
+/// "Phase" without more is an enabled phase, and a used pattern is one whose cycle is not 0. A rule that
+/// is "not judged yet" stands for later: no call answers it so far.
 #[derive(Clone, Copy, Debug, PartialEq, Eq)]
 pub enum Rule {
     /// At least one phase is enabled.
     K1,
-    /// Each phase has ring 1 or 2, and one of the sides.
+    /// Each phase has ring 1 or 2 and one of the sides, 1 to 4.
     K2,
-    /// Not judged yet.
+    /// The concurrency list of a phase that is not enabled is empty. Not judged yet.
     K3,
-    /// Not judged yet.
+    /// A phase's concurrency list names only phases of the other ring and the same side. Not judged yet.
     K4,
-    /// Not judged yet.
+    /// Concurrency is symmetric. Not judged yet.
     K5,
     /// Sequence 1 lists, for each ring, each phase of that ring once and no other, sides in rising order,
     /// with zeros only after the last.
     K6,
-    /// Not judged yet.
+    /// Each of sequences 2 to 4 is all zeros or is as K6 says. Not judged yet.
     K7,
-    /// `phaseYellowChange` of a phase is at least 30 tenths.
+    /// `phaseYellowChange` of a phase is at least 30 tenths of a second.
     K8,
-    /// Not judged yet.
+    /// `phaseMinimumGap` of a phase is at most its `phasePassage`. Not judged yet.
     K9,
     /// `phaseMaximum1` and `phaseMaximum2` of a phase are at least its `phaseMinimumGreen`.
     K10,
-    /// Not judged yet.
+    /// A phase with `phasePedRecall` has `phaseWalk` over 0. Not judged yet.
     K11,
-    /// Not judged yet.
+    /// A vehicle detector's call phase is 0 or enabled. Not judged yet.
     K12,
-    /// Not judged yet.
+    /// A pedestrian detector's call phase is 0, or enabled with `phaseWalk` over 0. Not judged yet.
     K13,
-    /// Not judged yet.
+    /// An overlap's list of included phases names only enabled phases. Not judged yet.
     K14,
-    /// Not judged yet.
+    /// Each list of a preempt names only enabled phases, pairwise concurrent. Not judged yet.
     K15,
-    /// Not judged yet.
+    /// A preempt with an empty dwell list has empty track and exit lists. Not judged yet.
     K16,
-    /// Not judged yet.
+    /// A used pattern has an offset below its cycle, a split number of 1 to 8, and names a sequence that
+    /// is not all zeros. Not judged yet.
     K17,
-    /// Not judged yet.
+    /// In a used pattern the split of each phase that is not omitted holds its minimum green, yellow
+    /// change and red clearance. Not judged yet.
     K18,
-    /// Not judged yet.
+    /// In a used pattern the splits of a side have one sum in each ring that has phases there, and the
+    /// sums of the sides add up to the cycle. Omitted phases count. Not judged yet.
     K19,
-    /// Not judged yet.
+    /// A used pattern has coordinated phases. All are enabled, not omitted, on one side and pairwise
+    /// concurrent, one of each ring that has phases there, and their splits end at one time. Not judged
+    /// yet.
     K20,
+    /// An overlap's list of modifier phases names only enabled phases, and is empty where its type is 0.
     /// Not judged yet.
     K21,
-    /// Not judged yet.
+    /// `phaseDynamicMaxLimit` of a phase is 0 or at least its `phaseMinimumGreen`. Not judged yet.
     K22,
-    /// The plan meets the rules, but uses a part that is not built yet.
+    /// The plan meets the rules, and uses a part that is not built yet. `check` never answers it.
     NotYet,
 }
 
-/// The first rule that a plan breaks, if it breaks one. Of K1 to K22 it judges K1, K2, K6, K8 and K10 so far.
-#[tactic(auto, unfolding(crate::specs::Rules::first_broken))]
+/// Whether the plan meets the rules: an `Err` is the first one that it breaks, in the order of their
+/// numbers. It judges K1, K2, K6, K8 and K10 so far.
+#[tactic(auto, unfolding(crate::specs::PlanOf::plan_of, crate::specs::Rules::first_broken))]
 pub fn check(plan: &Plan) -> Result<(), Rule>
     ensures { result ≡ or_broken (first_broken (plan_of plan.now)) }
 {
@@ -92,7 +103,7 @@ fn first_sequence_is_ordered(plan: &Plan, phases: &[Phase]) -> bool
 }
 
 /// All phases.
-#[tactic(auto, unfolding(crate::specs::Lists::run_from))]
+#[tactic(auto, unfolding(crate::specs::PlanOf::plan_of, crate::specs::Lists::run_from))]
 pub(crate) fn all_phases() -> [Phase; 16]
     ensures { result ≡ run_from 1 16 }
 {

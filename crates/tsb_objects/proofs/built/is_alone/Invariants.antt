@@ -1,4 +1,4 @@
-use Rattle.std.proofs.Common.{◌≡◌, drop, ℕ, Bool, not, ◌||◌, ◌&&◌, ◌==◌}
+use Rattle.std.proofs.Common.{◌≡◌, drop, ℕ, Bool, not, ◌||◌, ◌==◌}
 use Rattle.std.specs.List.{list_all}
 use Rattle.tsb_objects.specs.PlanOf.{plan_of}
 use Rattle.tsb_objects.specs.Plan.{is_enabled, side_of}

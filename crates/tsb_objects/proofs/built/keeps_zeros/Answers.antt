@@ -1,4 +1,5 @@
-use Rattle.std.proofs.Common.{◌≡◌, ℕ, ◌||◌, ◌==◌, Bool, sym, ◌∙◌, arith, true, false}
+use Rattle.tsb_objects.specs.PlanOf.{plan_of}
+use Rattle.std.proofs.Common.{◌≡◌, ℕ, ◌||◌, ◌==◌, Bool, sym, ◌∙◌, arith, false}
 use Rattle.std.proofs.lemmas.Bool.Decides.{nat_tests}
 use Rattle.tsb_objects.specs.Built.{is_released}
 use Rattle.tsb_objects.specs.Objects.{value_in, indices}
@@ -6,12 +7,14 @@ use Rattle.tsb_objects.proofs.RunLemmas.{all-run_from, not_all-run_from}
 use Rattle.tsb_objects.proofs.built.keeps_zeros.Goals as goal
 
 pub returns-then-value-ne0 : goal.returns-then-value-ne0
+unfolding plan_of
 returns-then-value-ne0 c =
     let test : ℕ → Bool = λ i. is_released c.args.object i || value_in c.args.plan.now.values c.args.object i == 0 in
     let fails : test c.loop-index.index ≡ false = rw (sym c.is_released.ensures ∙ c.if-not-is_released.true) (grind (arith, nat_tests, c.value.ensures.value)) in
     sym (not_all-run_from test 1 (indices c.args.object) c.loop-index.index c.loop-index.auto.index (omega arith) fails)
 
 pub returns : goal.returns
+unfolding plan_of
 returns c =
     let test : ℕ → Bool = λ i. is_released c.args.object i || value_in c.args.plan.now.values c.args.object i == 0 in
     sym (all-run_from test 1 (indices c.args.object) (λ k from below. c.loop-index.invariant k from (omega arith)))

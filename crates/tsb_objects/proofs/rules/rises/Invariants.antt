@@ -1,6 +1,4 @@
-use Rattle.std.proofs.Common.{◌≡◌, drop, ℕ, Bool, not, ◌||◌, ◌&&◌, ◌==◌}
-use Rattle.std.specs.Prelude.{nat_le}
-use Rattle.std.specs.List.{list_all}
+use Rattle.std.proofs.Common.{◌≡◌, drop}
 use Rattle.tsb_objects.specs.PlanOf.{plan_of}
 use Rattle.tsb_objects.specs.Rules.{rises}
 use Rattle.tsb_objects.proofs.rules.rises.Given as goal

@@ -1,3 +1,4 @@
+use Rattle.tsb_objects.specs.PlanOf.{plan_of}
 use Rattle.tsb_objects.proofs.PlanLemmas.{plan-put, in_range-put}
 use Rattle.tsb_objects.proofs.plan.Plan.set.Goals as goal
 
@@ -7,5 +8,6 @@ invariant_of-self-clause-ranged c =
     c.requires.index c.requires.value c.args.self.now.ranged
 
 pub returns : goal.returns
+unfolding plan_of
 returns c =
     plan-put c.args.self.now.values c.args.object c.args.index c.args.value c.cell.result c.cell.ensures.at c.args.self.now.full c.requires.index
