@@ -1,0 +1,17 @@
+pub mod FirstLemmas
+pub mod OutsideLemmas
+pub mod SetLemmas
+pub mod ReadingLemmas
+pub mod RowLemmas
+pub mod ListLemmas
+pub mod WriteLemmas
+pub mod TickLemmas
+pub mod LeftLemmas
+pub mod CodedLemmas
+pub mod StartLemmas
+pub mod PartLemmas
+pub mod PlanLemmas
+pub mod PastLemmas
+pub mod SafeLemmas
+pub mod PlayLemmas
+pub mod QuietLemmas

@@ -1,0 +1,7 @@
+use Rattle.std.proofs.Common.{◌≡◌, drop}
+use Rattle.tsb_objects.specs.Lists.{first}
+use Rattle.tsb_objects.specs.Sets.{has}
+use Rattle.tsb_bench.proofs.sets.first_listed.Given as goal
+
+abbrev pub invariant-loop-number : goal.invariant-loop-number
+invariant-loop-number l = first (has l.set) (drop l.number-index l.places) ≡ first (has l.set) l.places

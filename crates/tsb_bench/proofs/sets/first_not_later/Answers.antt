@@ -1,0 +1,10 @@
+use Rattle.std.proofs.Common.{sym}
+use Rattle.tsb_objects.specs.Checked.{checked_plan}
+use Rattle.tsb_objects.specs.Lists.{not_later}
+use Rattle.tsb_objects.specs.Sets.{has}
+use Rattle.tsb_bench.specs.Signals.{order}
+use Rattle.tsb_bench.proofs.FirstLemmas.{first-none}
+use Rattle.tsb_bench.proofs.sets.first_not_later.Goals as goal
+
+pub returns-then-is_empty : goal.returns-then-is_empty
+returns-then-is_empty c = sym (first-none (has c.args.set) (not_later c.args.last (order (checked_plan c.args.plan.now))) (c.is_empty.ensures.none c.if-is_empty.true))

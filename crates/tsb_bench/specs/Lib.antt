@@ -1,0 +1,13 @@
+pub mod Signals
+pub mod SignalsCells
+pub mod Controller
+pub mod TimersLaws
+pub mod RingLaws
+pub mod State
+pub mod Display
+pub mod Moves
+pub mod Reading
+pub mod Writes
+pub mod Past
+pub mod Play
+pub mod Quiet
