@@ -1,4 +1,6 @@
 //! The lines of a session.
+ghost use Rattle.std.specs.Prelude.{◌≡◌, ◌<◌, length};
+ghost use Rattle.tsb.specs.declared.command.Reading.TheVariants.{Bad};
 
 /// What a line asks for.
 #[derive(Clone, Copy, Debug, PartialEq, Eq)]
@@ -27,7 +29,9 @@ pub enum Reading {
 pub const LINE: usize = 200;
 
 /// What a line, without its end, is.
-pub fn read_line(line: &[u8]) -> Reading {
+pub fn read_line(line: &[u8]) -> Reading
+    ensures long { 200 < length line.now → result ≡ Bad }
+{
     if line.len() > LINE {
         return Reading::Bad;
     }
