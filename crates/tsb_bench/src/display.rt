@@ -4,17 +4,20 @@ ghost use Rattle.tsb_bench.specs.Display.{shown};
 
 use tsb_objects::{Phase, PhaseSet};
 
-/// What a vehicle head shows.
+/// What a vehicle head shows. Green and yellow give right of way.
 #[derive(Clone, Copy, Debug, PartialEq, Eq)]
 pub enum Aspect {
-    /// The phase is not enabled.
+    /// The phase is not enabled (profile).
     Dark,
+    /// Red, also in red clearance.
     Red,
+    /// Yellow change.
     Yellow,
+    /// Green.
     Green,
 }
 
-/// What the heads show.
+/// What the heads show, a function of the controller's state alone.
 #[derive(Clone, Copy, Debug)]
 pub struct Display {
     pub(crate) enabled: PhaseSet,

@@ -24,8 +24,6 @@ pub use commands::{Answer, Cmd};
 pub use display::{Aspect, Display};
 pub use inputs::{Input, Nothing};
 pub use player::play;
-#[cfg(test)]
-use std::alloc::Global;
 pub use tsb_history::Kind;
 pub use tsb_objects::{
     Checked, NumberSet, Object, ObjectId, Phase, Plan, Range, Refusal, Row, Rule, Station, check,

@@ -1,4 +1,5 @@
 use super::*;
+use std::alloc::Global;
 
 /// The built-in plan of two phases, 2 and 4.
 fn two() -> Result<Checked, Rule> {
