@@ -163,3 +163,23 @@ fn a_failing_write_leaves_a_front(rt: HostRuntime) {
         assert!(rt; OUTPUT.starts_with(&out.room[..end]));
     }
 }
+
+/// At power-up nothing is left to undo; phase 2 turns yellow at tick 101.
+#[test]
+fn green_ends_at_its_maximum(rt: HostRuntime) {
+    let Some(mut bench) = bench(&rt) else {
+        assert!(rt; false);
+        return;
+    };
+    let mut reader = b"undo\nstep 101\n".as_slice();
+    let mut out = Vec::new(rt.alloc());
+    assert!(rt; talk(&mut bench, &mut reader, &mut out).is_ok());
+    assert!(rt; out.as_slice().starts_with(b"nothing\n0000001 -G-R"));
+    assert!(rt;
+        out.as_slice().ends_with(
+            b"0000100 -G-R------------ ---------------- ---- 0 ----
+0000101 -Y-R------------ ---------------- ---- 0 ----
+"
+        )
+    );
+}
