@@ -1,0 +1,59 @@
+-- Runs of numbers.
+use Rattle.std.proofs.Common.{zero, suc, ◌≡◌, ℕ, ◌+◌, ◌<◌, List, [], ◌∷◌, length, get_or, map, refl, arith, ap, ◌∙◌, Bool, true, false, ◌≤◌, inl, inr, ◌-◌, sum_by, sym}
+use Rattle.std.specs.List.{list_all}
+use Rattle.std.proofs.lemmas.Bool.{cases_eq}
+use Rattle.std.proofs.lemmas.List.Sums.{sum_by-cons}
+use Rattle.tsb_types.specs.Lists.{run_from}
+
+pub length-run_from : (a n : ℕ) → length (run_from a n) ≡ n
+unfolding run_from
+length-run_from a zero = refl
+length-run_from a (suc n) = ap suc (length-run_from (a + 1) n)
+
+-- a list that has f of each number of a run, one after the other
+pub map-run_from : (f : ℕ → ℕ) (a n : ℕ) (xs : List ℕ) → length xs ≡ n → ((k : ℕ) → k < n → get_or xs k 0 ≡ f (a + k)) → xs ≡ map f (run_from a n)
+unfolding run_from
+map-run_from f a zero [] full each = refl
+map-run_from f a zero (x ∷ xs) full each = absurd (omega arith)
+map-run_from f a (suc n) [] full each = absurd (omega arith)
+map-run_from f a (suc n) (x ∷ xs) full each =
+    let here : x ≡ f a = each 0 (omega arith) ∙ ap f (let e : a + 0 ≡ a = omega arith in e) in
+    let rest : xs ≡ map f (run_from (a + 1) n) =
+    map-run_from f (a + 1) n xs (omega arith) (λ k below. each (suc k) (omega arith) ∙ ap f (let e : a + suc k ≡ a + 1 + k = omega arith in e)) in
+    ap (λ (y : ℕ). y ∷ xs) here ∙ ap (λ (ys : List ℕ). f a ∷ ys) rest
+
+-- a test that each number of a run passes, and one that some number does not
+pub all-run_from : (test : ℕ → Bool) (a n : ℕ) → ((k : ℕ) → a ≤ k → k < a + n → test k ≡ true) → list_all test (run_from a n) ≡ true
+unfolding run_from
+all-run_from test a zero each = refl
+all-run_from test a (suc n) each =
+    rw (each a (omega arith) (omega arith)) (all-run_from test (a + 1) n (λ k from below. each k (omega arith) (omega arith)))
+
+later_fails : (test : ℕ → Bool) (x : ℕ) (xs : List ℕ) → list_all test xs ≡ false → list_all test (x ∷ xs) ≡ false
+later_fails test x xs fails = go (test x) refl
+  where
+    go : (b : Bool) → test x ≡ b → list_all test (x ∷ xs) ≡ false
+    go false e = rw e refl
+    go true e = rw e fails
+
+pub not_all-run_from : (test : ℕ → Bool) (a n k : ℕ) → a ≤ k → k < a + n → test k ≡ false → list_all test (run_from a n) ≡ false
+unfolding run_from
+not_all-run_from test a zero k from below fails = absurd (omega arith)
+not_all-run_from test a (suc n) k from below fails =
+    elim (cases_eq a k) [
+      | inl same ↦ rw (ap test same ∙ fails) refl
+      | inr other ↦ later_fails test a (run_from (a + 1) n) (not_all-run_from test (a + 1) n k (omega arith) (omega arith) fails)
+    ]
+
+-- the sum over a run is that of its first and the rest
+pub sum-run_from : (f : ℕ → ℕ) (a b : ℕ) → a ≤ b → f a + sum_by f (run_from (a + 1) (b + 1 - (a + 1))) ≡ sum_by f (run_from a (b + 1 - a))
+unfolding run_from
+sum-run_from f a b below =
+    let e : b + 1 - a ≡ suc (b + 1 - (a + 1)) = omega arith in
+    rw e (sym (sum_by-cons f a (run_from (a + 1) (b + 1 - (a + 1)))))
+
+pub sum-run_end : (f : ℕ → ℕ) (a b : ℕ) → b < a → sum_by f (run_from a (b + 1 - a)) ≡ 0
+unfolding run_from
+sum-run_end f a b above =
+    let e : b + 1 - a ≡ 0 = omega arith in
+    rw e refl

@@ -1,0 +1,35 @@
+-- Sets of phases. A list of phases is a number, the sum of 2 ^ (p - 1) over its phases p (profile).
+use Rattle.std.specs.Prelude.{ℕ, zero, suc, ◌+◌, ◌*◌, ◌==◌, Bool, false, if◌then◌else◌}
+use Rattle.std.specs.Int.{bit_at}
+use Rattle.tsb_types.specs.declared.number_set.NumberSet.{NumberSet}
+use Rattle.tsb_types.specs.declared.phase_set.PhaseSet.{PhaseSet}
+
+-- the list names phase p; none names phase 0
+abbrev pub names : ℕ → ℕ → Bool
+names list zero = false
+names list (suc k) = bit_at list k == 1
+
+-- the set has the number n
+abbrev pub has_number : NumberSet → ℕ → Bool
+has_number s n = names s.word n
+
+-- what grows less with each number that is taken out
+abbrev pub size_of_numbers : NumberSet → ℕ
+size_of_numbers s = s.word
+
+-- the set has phase p
+abbrev pub has : PhaseSet → ℕ → Bool
+has s p = has_number s.numbers p
+
+-- what grows less with each phase that is taken out
+abbrev pub size : PhaseSet → ℕ
+size s = size_of_numbers s.numbers
+
+-- the number whose bits are f 0, f 1 .. f (n - 1)
+unfoldable pub number_of_bits : ℕ → (ℕ → Bool) → ℕ
+number_of_bits zero f = 0
+number_of_bits (suc n) f = (if f 0 then 1 else 0) + 2 * number_of_bits n (λ k. f (suc k))
+
+-- the list of those of the first n phases that pass a test
+abbrev pub list_of : ℕ → (ℕ → Bool) → ℕ
+list_of n test = number_of_bits n (λ k. test (suc k))

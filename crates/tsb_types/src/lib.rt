@@ -1,0 +1,33 @@
+//! The plain types that every layer names: numbers of phases, detectors, patterns and so on, each within its
+//! range, sets of phases, a tick's inputs, intervals, lamps, refusals, and what layers tell one another
+//! within a tick.
+//!
+//! What is marked "profile" is this project's own choice. Nothing here takes memory.
+#![tactic(auto)]
+
+pub mod flow;
+pub mod interval;
+pub mod lamp;
+pub mod laws;
+pub mod limits;
+pub mod number_set;
+pub mod numbers;
+pub mod phase_set;
+pub mod plan_numbers;
+pub mod refusal;
+pub mod row;
+pub mod stage;
+
+pub use flow::{Called, Moves, Orders, RingMoves, Timing};
+pub use interval::{Interval, PedestrianInterval};
+pub use lamp::{Aspect, Lamp, PedestrianAspect, PedestrianColor, SignalColor};
+pub use number_set::NumberSet;
+pub use numbers::{Detector, Overlap, Phase, Side, Station};
+pub use phase_set::PhaseSet;
+pub use plan_numbers::{Pattern, PedestrianDetector, Preempt, Ring, Sequence, Split};
+pub use refusal::Refusal;
+pub use row::Row;
+pub use stage::Stage;
+
+#[cfg(test)]
+mod tests;

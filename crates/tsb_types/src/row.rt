@@ -1,0 +1,31 @@
+//! The inputs of a tick.
+ghost use Rattle.std.specs.Prelude.{◌≡◌, ℕ, false};
+ghost use Rattle.tsb_types.specs.Sets.{has_number};
+
+use crate::number_set::NumberSet;
+
+/// The inputs that are on in a tick, by number. Numbers above those that there are have no effect.
+#[derive(Clone, Copy, Debug, PartialEq, Eq)]
+pub struct Row {
+    /// Vehicle detectors, 1 to 16.
+    pub vehicles: NumberSet,
+    /// Pedestrian detectors, 1 to 8.
+    pub pedestrians: NumberSet,
+    /// Preempt inputs, 1 to 4.
+    pub preempts: NumberSet,
+}
+
+impl Row {
+    /// All inputs off.
+    pub fn all_off() -> Row
+        ensures vehicles { (d : ℕ) → has_number result.vehicles d ≡ false }
+        ensures pedestrians { (d : ℕ) → has_number result.pedestrians d ≡ false }
+        ensures preempts { (n : ℕ) → has_number result.preempts n ≡ false }
+    {
+        Row {
+            vehicles: NumberSet::empty(),
+            pedestrians: NumberSet::empty(),
+            preempts: NumberSet::empty(),
+        }
+    }
+}
