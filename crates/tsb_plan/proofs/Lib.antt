@@ -1,0 +1,4 @@
+pub mod PlanLemmas
+pub mod TableLemmas
+pub mod CellLemmas
+pub mod NameLemmas

@@ -1,0 +1,35 @@
+-- What holds of the cells of a plan and of its values, in words that do not retrace how they are found. Each law here is the contract of a
+-- function in src/laws.rt.
+use Rattle.std.specs.Prelude.{◌≡◌, ◌≢◌, ℕ, ◌+◌, ◌-◌, ◌<◌, true, Ok, None}
+use Rattle.tsb_plan.specs.declared.object.Object.{Object}
+use Rattle.tsb_plan.specs.declared.object.ObjectId.{ObjectId}
+use Rattle.tsb_plan.specs.Objects.{has_index, first_cell}
+use Rattle.tsb_plan.specs.Plan.{Plan, with_value}
+use Rattle.tsb_plan.specs.PlanOf.{got, put_refusal}
+
+-- the cell is that of the object at the index
+pub record IsCellOf (cell : ℕ) (o : Object) (i : ℕ) : Type 0 where
+  pub has : has_index o i ≡ true
+  pub at : first_cell o + (i - 1) ≡ cell
+
+-- each object has a cell at each of its indices, one of 1230
+abbrev pub HaveCells : Type 0
+HaveCells = (o : Object) (i : ℕ) → has_index o i ≡ true → first_cell o + (i - 1) < 1230
+
+-- no cell is that of two
+abbrev pub ShareNoCell : Type 0
+ShareNoCell = (cell : ℕ) (o p : Object) (i k : ℕ) → IsCellOf cell o i → IsCellOf cell p k → (o ≡ p) × (i ≡ k)
+
+-- each of the 1230 cells is that of some object at some index
+abbrev pub LeaveNoCell : Type 0
+LeaveNoCell = (cell : ℕ) → cell < 1230 → (o : Object) × ((i : ℕ) × IsCellOf cell o i)
+
+-- what is put is given back
+abbrev pub GiveBackWhatIsPut : Type 0
+GiveBackWhatIsPut = (plan : Plan) (id : ObjectId) (v : ℕ) → put_refusal id v ≡ None →
+    got (with_value plan id.object id.index v) id ≡ Ok v
+
+-- what is put changes no other value
+abbrev pub LeaveOthers : Type 0
+LeaveOthers = (plan : Plan) (id other : ObjectId) (v : ℕ) → id ≢ other →
+    got (with_value plan id.object id.index v) other ≡ got plan other

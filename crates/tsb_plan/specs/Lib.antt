@@ -1,0 +1,10 @@
+pub mod Objects
+pub mod Versions
+pub mod Names
+pub mod Plan
+pub mod Parts
+pub mod PlanOf
+pub mod Two
+pub mod Quad
+pub mod Laws
+pub mod VersionLaws

@@ -1,0 +1,143 @@
+-- The plan that every definition reads: what each object of NTCIP 1202 is at each index, and how many phases and
+-- sides there are. `value` is in the object's own unit; the times named below it are in tenths of a second. Sides are
+-- the profile's own.
+use Rattle.std.specs.Prelude.{ℕ, ◌+◌, ◌-◌, ◌*◌, ◌==◌, Bool, ◌&&◌, if◌then◌else◌, List, [], ◌∷◌, ◌++◌, map, max}
+use Rattle.tsb_plan.specs.declared.object.Object.{Object}
+use Rattle.tsb_plan.specs.declared.object.Object.TheVariants.{PhaseEnabled, PhaseNonLock, PhaseMinRecall, PhaseMaxRecall, PhasePedRecall, PhaseSoftRecall, PhaseDualEntry, PhaseSimGapDisable, PhaseRestInWalk, PhaseVariableInitial, PhaseRing, PhaseSide, PhaseConcurrency, PhaseWalk, PhasePedestrianClear, PhaseMinimumGreen, PhaseMaximum1, PhaseMaximum2, PhaseMaximumInitial, PhaseTimeBeforeReduction, PhaseTimeToReduce, PhasePassage, PhaseYellowChange, PhaseRedClear, PhaseRedRevert, PhaseAddedInitial, PhaseMinimumGap, PhaseCarsBeforeReduction, SequenceData, UnitRedRevert, UnitMax2, PhaseDynamicMaxLimit, PhaseDynamicMaxStep}
+use Rattle.tsb_types.specs.Lists.{run_from}
+use Rattle.tsb_plan.specs.Objects.{order}
+use Rattle.tsb_types.specs.Sets.{names}
+
+pub record Plan : Type 0 where
+  -- how many phases there are, numbered from 1, and how many sides
+  pub phase_count : ℕ
+  pub side_count : ℕ
+  -- the value of an object at an index, 0 where the plan gives none
+  pub value : Object → ℕ → ℕ
+
+-- all phase numbers
+abbrev pub phases : Plan → List ℕ
+phases plan = run_from 1 plan.phase_count
+
+abbrev pub is_enabled : Plan → ℕ → Bool
+is_enabled plan p = plan.value PhaseEnabled p == 1
+
+abbrev pub is_non_locking : Plan → ℕ → Bool
+is_non_locking plan p = plan.value PhaseNonLock p == 1
+
+abbrev pub has_minimum_recall : Plan → ℕ → Bool
+has_minimum_recall plan p = plan.value PhaseMinRecall p == 1
+
+abbrev pub has_maximum_recall : Plan → ℕ → Bool
+has_maximum_recall plan p = plan.value PhaseMaxRecall p == 1
+
+abbrev pub has_pedestrian_recall : Plan → ℕ → Bool
+has_pedestrian_recall plan p = plan.value PhasePedRecall p == 1
+
+abbrev pub has_soft_recall : Plan → ℕ → Bool
+has_soft_recall plan p = plan.value PhaseSoftRecall p == 1
+
+abbrev pub has_dual_entry : Plan → ℕ → Bool
+has_dual_entry plan p = plan.value PhaseDualEntry p == 1
+
+abbrev pub disables_simultaneous_gap : Plan → ℕ → Bool
+disables_simultaneous_gap plan p = plan.value PhaseSimGapDisable p == 1
+
+abbrev pub rests_in_walk : Plan → ℕ → Bool
+rests_in_walk plan p = plan.value PhaseRestInWalk p == 1
+
+abbrev pub has_variable_initial : Plan → ℕ → Bool
+has_variable_initial plan p = plan.value PhaseVariableInitial p == 1
+
+-- 1 or 2, 0 for none
+abbrev pub ring_of : Plan → ℕ → ℕ
+ring_of plan p = plan.value PhaseRing p
+
+-- 0 for none
+abbrev pub side_of : Plan → ℕ → ℕ
+side_of plan p = plan.value PhaseSide p
+
+-- the concurrency list of p names q
+abbrev pub is_concurrent : Plan → ℕ → ℕ → Bool
+is_concurrent plan p q = names (plan.value PhaseConcurrency p) q
+
+abbrev pub walk : Plan → ℕ → ℕ
+walk plan p = 10 * plan.value PhaseWalk p
+
+abbrev pub pedestrian_clear : Plan → ℕ → ℕ
+pedestrian_clear plan p = 10 * plan.value PhasePedestrianClear p
+
+abbrev pub minimum_green : Plan → ℕ → ℕ
+minimum_green plan p = 10 * plan.value PhaseMinimumGreen p
+
+-- phaseMaximum1, or phaseMaximum2 where unitMax2 is 1
+abbrev pub maximum : Plan → ℕ → ℕ
+maximum plan p = 10 * plan.value (if plan.value UnitMax2 1 == 1 then PhaseMaximum2 else PhaseMaximum1) p
+
+abbrev pub maximum_initial : Plan → ℕ → ℕ
+maximum_initial plan p = 10 * plan.value PhaseMaximumInitial p
+
+abbrev pub added_initial : Plan → ℕ → ℕ
+added_initial plan p = plan.value PhaseAddedInitial p
+
+abbrev pub passage : Plan → ℕ → ℕ
+passage plan p = plan.value PhasePassage p
+
+abbrev pub minimum_gap : Plan → ℕ → ℕ
+minimum_gap plan p = plan.value PhaseMinimumGap p
+
+abbrev pub time_before_reduction : Plan → ℕ → ℕ
+time_before_reduction plan p = 10 * plan.value PhaseTimeBeforeReduction p
+
+-- vehicles, 0 for any number
+abbrev pub cars_before_reduction : Plan → ℕ → ℕ
+cars_before_reduction plan p = plan.value PhaseCarsBeforeReduction p
+
+abbrev pub time_to_reduce : Plan → ℕ → ℕ
+time_to_reduce plan p = 10 * plan.value PhaseTimeToReduce p
+
+-- 0 for no dynamic maximum, as is a step of 0
+abbrev pub dynamic_maximum_limit : Plan → ℕ → ℕ
+dynamic_maximum_limit plan p = 10 * plan.value PhaseDynamicMaxLimit p
+
+abbrev pub dynamic_maximum_step : Plan → ℕ → ℕ
+dynamic_maximum_step plan p = plan.value PhaseDynamicMaxStep p
+
+abbrev pub yellow_change : Plan → ℕ → ℕ
+yellow_change plan p = plan.value PhaseYellowChange p
+
+abbrev pub red_clear : Plan → ℕ → ℕ
+red_clear plan p = plan.value PhaseRedClear p
+
+-- the larger of the phase's and the unit's
+abbrev pub red_revert : Plan → ℕ → ℕ
+red_revert plan p = max (plan.value PhaseRedRevert p) (plan.value UnitRedRevert 1)
+
+-- what a sequence has for a ring, place by place; 0 for no phase
+abbrev pub sequence : Plan → ℕ → ℕ → List ℕ
+sequence plan s r =
+    map (λ k. plan.value SequenceData (2 * plan.phase_count * (s - 1) + plan.phase_count * (r - 1) + k)) (phases plan)
+
+-- the other sides in cyclic order, beginning after this one
+abbrev pub sides_after : Plan → ℕ → List ℕ
+sides_after plan side = run_from (side + 1) (plan.side_count - side) ++ run_from 1 (side - 1)
+
+-- no object is given
+abbrev pub empty : Plan
+empty = record { phase_count = 16; side_count = 4; value = λ o i. 0 }
+
+abbrev pub is_same : Object → ℕ → Object → ℕ → Bool
+is_same o i p k = (order o == order p) && (i == k)
+
+-- the plan with another value of one object at one index
+abbrev pub with_value : Plan → Object → ℕ → ℕ → Plan
+with_value plan o i v = record {
+  phase_count = plan.phase_count;
+  side_count = plan.side_count;
+  value = λ p k. if is_same o i p k then v else plan.value p k;
+}
+
+-- the plan with each of these values in turn
+abbrev pub with_values : Plan → List (Object × ℕ × ℕ) → Plan
+with_values plan [] = plan
+with_values plan (e ∷ es) = with_values (with_value plan e.0 e.1 e.2) es

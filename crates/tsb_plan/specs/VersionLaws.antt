@@ -1,0 +1,42 @@
+-- What holds of the two versions of plan texts and of the names in them, in words that do not retrace how an index is
+-- translated or a name is found. Each law here is the contract of a function in src/version_laws.rt.
+use Rattle.std.specs.Prelude.{◌≡◌, ℕ, ◌+◌, ◌-◌, ◌*◌, ◌≤◌, true}
+use Rattle.tsb_plan.specs.declared.object.Object.{Object}
+use Rattle.tsb_plan.specs.declared.object.Object.TheVariants.{SequenceData}
+use Rattle.tsb_plan.specs.declared.version.Version.{Version}
+use Rattle.tsb_plan.specs.declared.version.Version.TheVariants.{One}
+use Rattle.tsb_plan.specs.Names.{name_of}
+use Rattle.tsb_plan.specs.Objects.{has_index, greatest}
+use Rattle.tsb_plan.specs.Versions.{has_object, has_index_in, is_split, greatest_in, translated}
+
+-- a translated index is one that the object has
+abbrev pub TranslateWithin : Type 0
+TranslateWithin = (v : Version) (o : Object) (i : ℕ) → has_index_in v o i ≡ true → has_index o (translated v o i) ≡ true
+
+-- no two indices of an object are translated to one
+abbrev pub TranslateApart : Type 0
+TranslateApart = (v : Version) (o : Object) (i k : ℕ) → has_index_in v o i ≡ true → has_index_in v o k ≡ true →
+    translated v o i ≡ translated v o k → i ≡ k
+
+-- a value that the version lets the object take is one that it takes
+abbrev pub TakeNoOther : Type 0
+TakeNoOther = (v : Version) (o : Object) (x : ℕ) → has_object v o ≡ true → x ≤ greatest_in v o → x ≤ greatest o
+
+-- version 1 has the object at index i, which becomes index k
+pub record Becomes (o : Object) (i k : ℕ) : Type 0 where
+  pub has : has_index_in One o i ≡ true
+  pub at : translated One o i ≡ k
+
+-- phase p of split table t, of 8 tables with 8 phases each
+abbrev pub KeepSplits : Type 0
+KeepSplits = (o : Object) (t p : ℕ) → is_split o ≡ true → 1 ≤ t → t ≤ 8 → 1 ≤ p → p ≤ 8 →
+    Becomes o (8 * (t - 1) + p) (16 * (t - 1) + p)
+
+-- place k of ring r in sequence s, of 4 sequences of 2 rings with 8 places each
+abbrev pub KeepPlaces : Type 0
+KeepPlaces = (s r k : ℕ) → 1 ≤ s → s ≤ 4 → 1 ≤ r → r ≤ 2 → 1 ≤ k → k ≤ 8 →
+    Becomes SequenceData (16 * (s - 1) + 8 * (r - 1) + k) (32 * (s - 1) + 16 * (r - 1) + k)
+
+-- two objects of one name are one
+abbrev pub AreToldByName : Type 0
+AreToldByName = (o p : Object) → name_of o ≡ name_of p → o ≡ p

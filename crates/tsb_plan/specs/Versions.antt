@@ -1,0 +1,64 @@
+-- The two versions of plan texts: which objects each has, at how many indices, up to which value, and the index in
+-- version 2 of what a text names. Version 2 is the table of objects; here stands how version 1 differs.
+use Rattle.std.specs.Prelude.{ℕ, ◌+◌, ◌-◌, ◌*◌, ◌/◌, ◌%◌, Bool, true, false, ◌&&◌, nat_le, if◌then◌else◌, Option, Some, None}
+use Rattle.tsb_plan.specs.declared.object.Object.{Object}
+use Rattle.tsb_plan.specs.declared.object.Object.TheVariants.{PhaseCarsBeforeReduction, PhaseSide, PhaseConcurrency, VehicleDetectorCallPhase, PedestrianDetectorCallPhase, OverlapIncludedPhases, SplitTime, SplitMode, SplitCoordPhase, SequenceData, PreemptTrackPhase, PreemptDwellPhase, PreemptExitPhase, PhaseDynamicMaxLimit, PhaseDynamicMaxStep, OverlapType, OverlapModifierPhases}
+use Rattle.tsb_plan.specs.declared.object.Range.{Range}
+use Rattle.tsb_plan.specs.declared.version.Version.{Version}
+use Rattle.tsb_plan.specs.declared.version.Version.TheVariants.{One, Two}
+use Rattle.tsb_plan.specs.Objects.{order, indices, greatest}
+
+-- the version's texts may name the object
+abbrev pub has_object : Version → Object → Bool
+has_object One PhaseDynamicMaxLimit = false
+has_object One PhaseDynamicMaxStep = false
+has_object One OverlapType = false
+has_object One OverlapModifierPhases = false
+has_object v o = true
+
+-- its index is a phase, in version 1 too: from phaseEnabled to phaseCarsBeforeReduction
+abbrev pub is_by_phase : Object → Bool
+is_by_phase o = nat_le (order o) (order PhaseCarsBeforeReduction)
+
+-- its index counts the phases of one split table behind those of another
+abbrev pub is_split : Object → Bool
+is_split SplitTime = true
+is_split SplitMode = true
+is_split SplitCoordPhase = true
+is_split o = false
+
+-- its index counts rows, each of a split table's phases or of a sequence's places for one ring
+abbrev pub is_in_rows : Object → Bool
+is_in_rows SequenceData = true
+is_in_rows o = is_split o
+
+-- how many indices the object has, from 1 on: a row of version 1 is 8 long, and one of version 2 16
+abbrev pub indices_in : Version → Object → ℕ
+indices_in One o = if is_by_phase o then 8 else if is_in_rows o then 64 else indices o
+indices_in Two o = indices o
+
+-- the greatest value of the object; the least is 0
+abbrev pub greatest_in : Version → Object → ℕ
+greatest_in One PhaseSide = 2
+greatest_in One PhaseConcurrency = 255
+greatest_in One OverlapIncludedPhases = 255
+greatest_in One PreemptTrackPhase = 255
+greatest_in One PreemptDwellPhase = 255
+greatest_in One PreemptExitPhase = 255
+greatest_in One VehicleDetectorCallPhase = 8
+greatest_in One PedestrianDetectorCallPhase = 8
+greatest_in One SequenceData = 8
+greatest_in v o = greatest o
+
+-- the object's range in the version, or `None` where the version has no such object
+abbrev pub range_in : Version → Object → Option Range
+range_in v o = if has_object v o then Some (record { indices = indices_in v o; greatest = greatest_in v o }) else None
+
+-- the version has the object at the index
+abbrev pub has_index_in : Version → Object → ℕ → Bool
+has_index_in v o i = has_object v o && (nat_le 1 i && nat_le i (indices_in v o))
+
+-- the index in version 2 of what the version has at the index: the same place of the same row
+abbrev pub translated : Version → Object → ℕ → ℕ
+translated One o i = if is_in_rows o then 16 * ((i - 1) / 8) + (i - 1) % 8 + 1 else i
+translated Two o i = i

@@ -1,0 +1,128 @@
+//! What a plan says of coordination: patterns, splits and sequences. Times are in tenths of a second.
+#![tactic(auto, unfolding(crate::specs::PlanOf::plan_of))]
+
+ghost use Rattle.std.specs.Prelude.{◌≡◌, ℕ, ◌+◌, ◌-◌, ◌*◌, ◌≤◌};
+
+use crate::object::Object;
+use crate::plan::Plan;
+use tsb_types::limits::PHASES;
+use tsb_types::{Pattern, Phase, Ring, Sequence, Split};
+
+/// What a split does with a phase (`splitMode`; its numbers are the profile's).
+#[derive(Clone, Copy, Debug, PartialEq, Eq)]
+pub enum SplitMode {
+    /// Nothing: number 0.
+    NoMode,
+    /// Minimum recall: number 1.
+    MinimumRecall,
+    /// Maximum recall: number 2.
+    MaximumRecall,
+    /// Pedestrian recall: number 3.
+    PedestrianRecall,
+    /// Maximum recall and pedestrian recall: number 4.
+    MaximumAndPedestrianRecall,
+    /// The phase is omitted: number 5.
+    Omitted,
+}
+
+ghost use Rattle.std.specs.Prelude.{true};
+ghost use Rattle.tsb_plan.specs.declared.object.Object.TheVariants.{SplitTime};
+ghost use Rattle.tsb_plan.specs.Objects.{has_index};
+
+/// Where a split table has the value of a phase.
+fn split_index(split: Split, phase: Phase) -> u32
+    ensures at { result ≡ 16 * (split - 1) + phase }
+    ensures has { has_index SplitTime result ≡ true }
+{
+    16 * (u32::from(split.number()) - 1) + u32::from(phase.number())
+}
+
+impl Plan {
+    ghost use Rattle.tsb_plan.specs.Parts.{cycle, is_used, offset, split_of, sequence_of, split_time, split_mode, is_omitted, is_coordinated};
+    ghost use Rattle.tsb_plan.specs.PlanOf.{plan_of};
+    ghost use Rattle.tsb_plan.specs.Plan.{sequence as sequence_places};
+
+    /// The cycle of the pattern, 0 where the pattern is not used (`patternCycleTime`), in tenths of a
+    /// second.
+    pub fn cycle(&self, pattern: Pattern) -> u32
+        ensures { result ≡ cycle (plan_of self.now) pattern }
+    {
+        10 * self.value(Object::PatternCycleTime, u32::from(pattern.number()))
+    }
+
+    /// Whether the pattern is used, that is, has a cycle (`patternCycleTime`).
+    pub fn is_used(&self, pattern: Pattern) -> bool
+        ensures { result ≡ is_used (plan_of self.now) pattern }
+    {
+        self.value(Object::PatternCycleTime, u32::from(pattern.number())) != 0
+    }
+
+    /// The offset of the pattern (`patternOffsetTime`), in tenths of a second.
+    pub fn offset(&self, pattern: Pattern) -> u32
+        ensures { result ≡ offset (plan_of self.now) pattern }
+    {
+        10 * self.value(Object::PatternOffsetTime, u32::from(pattern.number()))
+    }
+
+    /// The split table of the pattern (`patternSplitNumber`).
+    pub fn split_of(&self, pattern: Pattern) -> Option<Split>
+        ensures { result ≡ split_of (plan_of self.now) pattern }
+    {
+        Split::new(self.value(Object::PatternSplitNumber, u32::from(pattern.number())))
+    }
+
+    /// The sequence of the pattern (`patternSequenceNumber`).
+    pub fn sequence_of(&self, pattern: Pattern) -> Option<Sequence>
+        ensures { result ≡ sequence_of (plan_of self.now) pattern }
+    {
+        Sequence::new(self.value(Object::PatternSequenceNumber, u32::from(pattern.number())))
+    }
+
+    /// The split of the phase (`splitTime`), in tenths of a second.
+    pub fn split_time(&self, split: Split, phase: Phase) -> u32
+        ensures { result ≡ split_time (plan_of self.now) split phase }
+    {
+        10 * self.value(Object::SplitTime, split_index(split, phase))
+    }
+
+    /// What the split does with the phase (`splitMode`).
+    pub fn split_mode(&self, split: Split, phase: Phase) -> SplitMode
+        ensures { result ≡ split_mode (plan_of self.now) split phase }
+    {
+        match self.value(Object::SplitMode, split_index(split, phase)) {
+            1 => SplitMode::MinimumRecall,
+            2 => SplitMode::MaximumRecall,
+            3 => SplitMode::PedestrianRecall,
+            4 => SplitMode::MaximumAndPedestrianRecall,
+            5 => SplitMode::Omitted,
+            _ => SplitMode::NoMode,
+        }
+    }
+
+    /// Whether the split omits the phase (`splitMode` 5).
+    pub fn is_omitted(&self, split: Split, phase: Phase) -> bool
+        ensures { result ≡ is_omitted (plan_of self.now) split phase }
+    {
+        self.value(Object::SplitMode, split_index(split, phase)) == 5
+    }
+
+    /// Whether the phase is a coordinated phase of the split (`splitCoordPhase`).
+    pub fn is_coordinated(&self, split: Split, phase: Phase) -> bool
+        ensures { result ≡ is_coordinated (plan_of self.now) split phase }
+    {
+        self.value(Object::SplitCoordPhase, split_index(split, phase)) == 1
+    }
+
+    /// What a sequence has for a ring, place by place: a phase's number, or 0 for none (`sequenceData`).
+    pub fn sequence(&self, sequence: Sequence, ring: Ring) -> [u8; PHASES]
+        ensures { result ≡ sequence_places (plan_of self.now) sequence ring }
+    {
+        let before = 32 * (u32::from(sequence.number()) - 1) + 16 * (u32::from(ring.number()) - 1);
+        let mut places = [0; PHASES];
+        for place in 0..PHASES {
+            let value = self.value(Object::SequenceData, before + place as u32 + 1);
+            places[place] = value as u8;
+        }
+        places
+    }
+}

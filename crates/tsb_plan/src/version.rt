@@ -1,0 +1,147 @@
+//! The versions of plan texts: which objects each has, and how an index in one is found in a plan.
+ghost use Rattle.std.specs.Prelude.{◌≡◌, true};
+ghost use Rattle.tsb_plan.specs.Versions.{has_object, indices_in, greatest_in, range_in, has_index_in, is_by_phase, is_in_rows, translated};
+
+use crate::object::{Object, Range};
+
+/// A version of plan texts.
+#[derive(Clone, Copy, Debug, PartialEq, Eq)]
+pub enum Version {
+    /// Version 1: it knows phases 1 to 8 and sides 1 and 2, so some objects have fewer indices or values
+    /// than in a plan, and `phaseDynamicMaxLimit`, `phaseDynamicMaxStep`, `overlapType` and
+    /// `overlapModifierPhases` are absent.
+    One,
+    /// Version 2: it knows 16 phases and 4 sides, and all objects as a plan has them.
+    Two,
+}
+
+impl Version {
+    /// Whether texts of this version may name the object.
+    pub fn has(self, object: Object) -> bool
+        ensures { result ≡ has_object self object }
+    {
+        match (self, object) {
+            (
+                Version::One,
+                Object::PhaseDynamicMaxLimit
+                | Object::PhaseDynamicMaxStep
+                | Object::OverlapType
+                | Object::OverlapModifierPhases,
+            ) => false,
+            _ => true,
+        }
+    }
+
+    /// The index at which a plan has what this version has at the index, which must be one that the
+    /// version gives the object: 1 to `object.range_in(version)`'s `indices`. Only `splitTime`,
+    /// `splitMode`, `splitCoordPhase` and `sequenceData` of version 1 stand at another, since a table has
+    /// 16 phases in a plan in place of 8, and a ring 16 places.
+    pub fn translated(self, object: Object, index: u32) -> u32
+        requires { has_index_in self object index ≡ true }
+        ensures { result ≡ translated self object index }
+    {
+        match self {
+            Version::One if is_in_rows(object) => 16 * ((index - 1) / 8) + (index - 1) % 8 + 1,
+            _ => index,
+        }
+    }
+
+    /// How many indices the object has in this version, where it has the object.
+    fn indices(self, object: Object) -> u32
+        ensures { result ≡ indices_in self object }
+    {
+        match self {
+            Version::One if is_by_phase(object) => 8,
+            Version::One if is_in_rows(object) => 64,
+            _ => object.indices(),
+        }
+    }
+
+    /// The greatest value of the object in this version, where it has the object.
+    fn greatest(self, object: Object) -> u32
+        ensures { result ≡ greatest_in self object }
+    {
+        match (self, object) {
+            (Version::One, Object::PhaseSide) => 2,
+            (
+                Version::One,
+                Object::PhaseConcurrency
+                | Object::OverlapIncludedPhases
+                | Object::PreemptTrackPhase
+                | Object::PreemptDwellPhase
+                | Object::PreemptExitPhase,
+            ) => 255,
+            (
+                Version::One,
+                Object::VehicleDetectorCallPhase
+                | Object::PedestrianDetectorCallPhase
+                | Object::SequenceData,
+            ) => 8,
+            _ => object.greatest(),
+        }
+    }
+}
+
+impl Object {
+    /// The indices that the object has and the values that it takes in texts of the version, or `None`
+    /// where the version has no such object.
+    pub fn range_in(self, version: Version) -> Option<Range>
+        ensures { result ≡ range_in version self }
+    {
+        if version.has(self) {
+            Some(Range {
+                indices: version.indices(self),
+                greatest: version.greatest(self),
+            })
+        } else {
+            None
+        }
+    }
+}
+
+/// Whether the index of the object is a phase, also in version 1.
+fn is_by_phase(object: Object) -> bool
+    ensures { result ≡ is_by_phase object }
+{
+    matches!(
+        object,
+        Object::PhaseEnabled
+            | Object::PhaseNonLock
+            | Object::PhaseMinRecall
+            | Object::PhaseMaxRecall
+            | Object::PhasePedRecall
+            | Object::PhaseSoftRecall
+            | Object::PhaseDualEntry
+            | Object::PhaseSimGapDisable
+            | Object::PhaseRestInWalk
+            | Object::PhaseVariableInitial
+            | Object::PhaseRing
+            | Object::PhaseSide
+            | Object::PhaseConcurrency
+            | Object::PhaseWalk
+            | Object::PhasePedestrianClear
+            | Object::PhaseMinimumGreen
+            | Object::PhaseMaximum1
+            | Object::PhaseMaximum2
+            | Object::PhaseMaximumInitial
+            | Object::PhaseTimeBeforeReduction
+            | Object::PhaseTimeToReduce
+            | Object::PhasePassage
+            | Object::PhaseYellowChange
+            | Object::PhaseRedClear
+            | Object::PhaseRedRevert
+            | Object::PhaseAddedInitial
+            | Object::PhaseMinimumGap
+            | Object::PhaseCarsBeforeReduction
+    )
+}
+
+/// Whether the index of the object counts rows, each of a table's phases or of a ring's places.
+fn is_in_rows(object: Object) -> bool
+    ensures { result ≡ is_in_rows object }
+{
+    matches!(
+        object,
+        Object::SplitTime | Object::SplitMode | Object::SplitCoordPhase | Object::SequenceData
+    )
+}
