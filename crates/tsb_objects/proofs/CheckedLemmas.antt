@@ -1,10 +1,10 @@
 -- What is known of each checked plan.
 use Rattle.std.proofs.Common.{◌≡◌, ℕ, refl, false}
 use Rattle.tsb_objects.specs.declared.checked.Checked.{Checked}
-use Rattle.tsb_objects.specs.declared.object.Object.{Object}
+use Rattle.tsb_plan.specs.declared.object.Object.{Object}
 use Rattle.tsb_objects.specs.Checked.{checked_plan}
-use Rattle.tsb_objects.specs.Objects.{has_index}
-use Rattle.tsb_objects.specs.PlanOf.{plan_of}
+use Rattle.tsb_plan.specs.Objects.{has_index}
+use Rattle.tsb_plan.specs.PlanOf.{plan_of}
 
 -- how many phases and sides there are
 pub checked-phase_count : (checked : Checked) → (checked_plan checked).phase_count ≡ 16

@@ -1,10 +1,6 @@
-pub mod Lists
-pub mod Sets
-pub mod Objects
-pub mod Plan
-pub mod PlanOf
-pub mod Two
+pub mod SequenceRules
+pub mod PatternRules
 pub mod Rules
 pub mod Built
 pub mod Checked
-pub mod Laws
+pub mod Consistent

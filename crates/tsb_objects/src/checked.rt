@@ -1,17 +1,17 @@
 //! Plans that may be run.
-#![tactic(auto, unfolding(crate::specs::PlanOf::plan_of))]
+#![tactic(auto, unfolding(tsb_plan::specs::PlanOf::plan_of))]
 
 ghost use Rattle.std.specs.Prelude.{◌≡◌, ℕ, None};
 ghost use Rattle.tsb_objects.specs.Built.{objection};
-ghost use Rattle.tsb_objects.specs.Plan.{is_enabled, has_maximum_recall};
-ghost use Rattle.tsb_objects.specs.PlanOf.{plan_of};
-ghost use Rattle.tsb_objects.specs.Sets.{has};
+ghost use Rattle.tsb_plan.specs.Plan.{is_enabled, has_maximum_recall};
+ghost use Rattle.tsb_plan.specs.PlanOf.{plan_of};
+ghost use Rattle.tsb_objects.specs.Rules.{first_broken};
+ghost use Rattle.tsb_types.specs.Sets.{has};
 
 use crate::built::is_built;
-use crate::numbers::Phase;
-use crate::phase_set::PhaseSet;
-use crate::plan::Plan;
 use crate::rules::{Rule, check};
+use tsb_plan::Plan;
+use tsb_types::{Phase, PhaseSet};
 
 /// A plan that may be run, with sets of its phases at hand.
 ///
@@ -33,7 +33,7 @@ impl Checked {
 
     /// The plan, if nothing stands against it. An `Err` is the first rule that the plan breaks, as
     /// `check` tells it, or `NotYet` where it meets the rules and uses a part that is not built yet.
-    #[tactic(auto, unfolding(crate::specs::PlanOf::plan_of, crate::specs::Checked::checked_plan))]
+    #[tactic(auto, unfolding(tsb_plan::specs::PlanOf::plan_of, crate::specs::Checked::checked_plan))]
     pub fn new(plan: Plan) -> Result<Checked, Rule>
         ensures { MatchResult result
             (λ checked. (objection (plan_of plan) ≡ None) × (checked_plan checked ≡ plan_of plan))
@@ -51,16 +51,17 @@ impl Checked {
     }
 
     /// The plan that was checked.
-    #[tactic(auto, unfolding(crate::specs::PlanOf::plan_of, crate::specs::Checked::checked_plan))]
+    #[tactic(auto, unfolding(tsb_plan::specs::PlanOf::plan_of, crate::specs::Checked::checked_plan))]
     pub fn plan(&self) -> &Plan
         ensures plan { plan_of result.now ≡ checked_plan self.now }
         ensures passed { objection (checked_plan self.now) ≡ None }
+        ensures consistent { first_broken (checked_plan self.now) ≡ None }
     {
         &self.plan
     }
 
     /// The phases that are in use (`phaseEnabled`).
-    #[tactic(auto, unfolding(crate::specs::PlanOf::plan_of, crate::specs::Checked::checked_plan))]
+    #[tactic(auto, unfolding(tsb_plan::specs::PlanOf::plan_of, crate::specs::Checked::checked_plan))]
     pub fn enabled(&self) -> PhaseSet
         ensures { (p : ℕ) → has result p ≡ is_enabled (checked_plan self.now) p }
     {
@@ -68,7 +69,7 @@ impl Checked {
     }
 
     /// The phases that have maximum recall (`phaseMaxRecall`), in use or not.
-    #[tactic(auto, unfolding(crate::specs::PlanOf::plan_of, crate::specs::Checked::checked_plan))]
+    #[tactic(auto, unfolding(tsb_plan::specs::PlanOf::plan_of, crate::specs::Checked::checked_plan))]
     pub fn recalled(&self) -> PhaseSet
         ensures { (p : ℕ) → has result p ≡ has_maximum_recall (checked_plan self.now) p }
     {

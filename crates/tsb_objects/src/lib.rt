@@ -1,6 +1,5 @@
-//! The objects of a timing plan, the rules that a plan must meet, and the plain types that several
-//! layers name: numbers of phases, sides, detectors, overlaps and stations, sets of phases, a tick's
-//! inputs, intervals and refusals.
+//! The rules that a timing plan must meet, and plans that were checked; with them the objects of plans and
+//! the plain types that layers name, given out again.
 //!
 //! Names and units of objects are those of NTCIP 1202. What is marked "profile" is this project's own
 //! choice. Nothing here takes memory.
@@ -8,28 +7,18 @@
 
 mod built;
 pub mod checked;
-pub mod interval;
-pub mod laws;
-pub mod limits;
-pub mod number_set;
-pub mod numbers;
-pub mod object;
-pub mod phase_set;
-pub mod plan;
-pub mod refusal;
-pub mod row;
+pub mod consistent;
 pub mod rules;
 
 pub use checked::Checked;
-pub use interval::Interval;
-pub use number_set::NumberSet;
-pub use numbers::{Detector, Overlap, Phase, Side, Station};
-pub use object::{Object, ObjectId, Range, range_of};
-pub use phase_set::PhaseSet;
-pub use plan::Plan;
-pub use refusal::Refusal;
-pub use row::Row;
-pub use rules::{Rule, check};
+pub use rules::{Rule, check, split_end};
+pub use tsb_plan::{Object, ObjectId, Plan, Range, SplitMode, Version, is_structural, range_of};
+pub use tsb_types::{
+    Aspect, Called, Detector, Interval, Lamp, Moves, NumberSet, Orders, Overlap, Pattern,
+    PedestrianAspect, PedestrianColor, PedestrianDetector, PedestrianInterval, Phase, PhaseSet,
+    Preempt, Refusal, Ring, RingMoves, Row, Sequence, Side, SignalColor, Split, Stage, Station,
+    Timing, limits,
+};
 
 #[cfg(test)]
 mod tests;

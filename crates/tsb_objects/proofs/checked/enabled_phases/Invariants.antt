@@ -1,7 +1,7 @@
 use Rattle.std.proofs.Common.{◌≡◌, ℕ, ◌<◌, ◌≤◌, false}
-use Rattle.tsb_objects.specs.Plan.{is_enabled}
-use Rattle.tsb_objects.specs.PlanOf.{plan_of}
-use Rattle.tsb_objects.specs.Sets.{has}
+use Rattle.tsb_plan.specs.Plan.{is_enabled}
+use Rattle.tsb_plan.specs.PlanOf.{plan_of}
+use Rattle.tsb_types.specs.Sets.{has}
 use Rattle.tsb_objects.proofs.checked.enabled_phases.Given as goal
 
 -- the phases so far are told, and no other is in the set

@@ -1,6 +1,0 @@
-use Rattle.std.proofs.Common.{arith}
-use Rattle.tsb_objects.proofs.BitLemmas.{names-minus}
-use Rattle.tsb_objects.proofs.number_set.NumberSet.difference.Goals as goal
-
-pub returns : goal.returns
-returns c = λ n. names-minus _ _ n (omega arith) (omega arith)

@@ -1,5 +1,0 @@
-use Rattle.tsb_objects.proofs.BitLemmas.{names-or}
-use Rattle.tsb_objects.proofs.number_set.NumberSet.union.Goals as goal
-
-pub returns : goal.returns
-returns c = names-or _ _

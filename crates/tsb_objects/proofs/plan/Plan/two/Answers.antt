@@ -1,8 +1,0 @@
-use Rattle.std.proofs.Common.{ap, ◌∙◌}
-use Rattle.tsb_objects.specs.Plan.{Plan, with_values}
-use Rattle.tsb_objects.specs.Two.{two, two_values}
-use Rattle.tsb_objects.proofs.plan.Plan.two.Goals as goal
-
-pub returns : goal.returns
-unfolding two
-returns c = c.with_values.ensures ∙ ap (λ (plan : Plan). with_values plan two_values) c.empty.ensures
