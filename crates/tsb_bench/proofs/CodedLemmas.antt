@@ -6,10 +6,10 @@ use Rattle.std.proofs.lemmas.List.{ext_get_or, get_or-drop, drop-drop, take-appe
 use Rattle.std.proofs.lemmas.Bool.Decides.{nat_tests}
 use Rattle.tsb_cells.specs.Row.{row_at}
 use Rattle.tsb_cells.proofs.TimerLemmas.{timer_cell-timer_at}
-use Rattle.tsb_objects.specs.declared.interval.Interval.TheVariants.{Red, Green, Yellow, RedClear}
-use Rattle.tsb_objects.specs.Lists.{or_number, run_from}
-use Rattle.tsb_objects.specs.Sets.{names, list_of}
-use Rattle.tsb_objects.proofs.SetLemmas.{list_of-names, same-list_of}
+use Rattle.tsb_types.specs.declared.interval.Interval.TheVariants.{Red, Green, Yellow, RedClear}
+use Rattle.tsb_types.specs.Lists.{or_number, run_from}
+use Rattle.tsb_types.specs.Sets.{names, list_of}
+use Rattle.tsb_types.proofs.SetLemmas.{list_of-names, same-list_of}
 use Rattle.tsb_bench.specs.Signals.{is_green, is_yellow, is_red_clear}
 use Rattle.tsb_bench.specs.SignalsCells.{signals_in, signals_cells, interval_in, timers_in, timers_of, timers_cells, ring_in, ring_of, ring_cells, list_in, is_phase, place, number_in, number_cell, AreLists, IsRingRow, IsBy}
 use Rattle.tsb_bench.proofs.RowLemmas.{get-row_at}

@@ -3,10 +3,10 @@ use Rattle.std.proofs.Common.{◌≡◌, zero, suc, ℕ, ◌+◌, ◌<◌, ◌�
 use Rattle.std.proofs.lemmas.Bool.{cases_eq, cases_lt}
 use Rattle.std.proofs.lemmas.Bool.Decides.{nat_tests}
 use Rattle.std.proofs.lemmas.Nat.Bits.{bit_at_above}
-use Rattle.tsb_objects.specs.declared.phase_set.PhaseSet.{PhaseSet}
-use Rattle.tsb_objects.specs.Sets.{has}
+use Rattle.tsb_types.specs.declared.phase_set.PhaseSet.{PhaseSet}
+use Rattle.tsb_types.specs.Sets.{has}
 use Rattle.tsb_bench.specs.SignalsCells.{number_in}
-use Rattle.tsb_objects.specs.Lists.{first, run_from}
+use Rattle.tsb_types.specs.Lists.{first, run_from}
 
 pub first-none : (test : ℕ → Bool) (ps : List ℕ) → ((q : ℕ) → test q ≡ false) → first test ps ≡ None
 first-none test [] none = refl

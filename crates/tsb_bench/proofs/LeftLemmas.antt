@@ -7,11 +7,11 @@ use Rattle.std.proofs.lemmas.List.{ext_get_or}
 use Rattle.std.proofs.lemmas.Nat.Bits.{bit_at_above}
 use Rattle.std.specs.Int.{bit_at}
 use Rattle.tsb_cells.specs.Row.{row_at}
-use Rattle.tsb_objects.specs.declared.interval.Interval.{Interval}
-use Rattle.tsb_objects.specs.declared.interval.Interval.TheVariants.{Red, Green, Yellow, RedClear}
-use Rattle.tsb_objects.specs.Lists.{first, is, run_from}
-use Rattle.tsb_objects.specs.Plan.{Plan}
-use Rattle.tsb_objects.specs.Sets.{names}
+use Rattle.tsb_types.specs.declared.interval.Interval.{Interval}
+use Rattle.tsb_types.specs.declared.interval.Interval.TheVariants.{Red, Green, Yellow, RedClear}
+use Rattle.tsb_types.specs.Lists.{first, is, run_from}
+use Rattle.tsb_plan.specs.Plan.{Plan}
+use Rattle.tsb_types.specs.Sets.{names}
 use Rattle.tsb_bench.specs.declared.phase_timers.PhaseTimers.{PhaseTimers}
 use Rattle.tsb_bench.specs.Reading.{ring_seen}
 use Rattle.tsb_bench.specs.Signals.{Signals, in_service, serving, starting, starts, has_conflict, new_interval, new_timers, timers_after, next_from_read}

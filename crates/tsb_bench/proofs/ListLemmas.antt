@@ -1,9 +1,9 @@
 -- The lists of phases that are Green, Yellow and RedClear, as one phase gets an interval.
 use Rattle.std.proofs.Common.{◌≡◌, ◌≢◌, ℕ, Bool, true, false, refl, sym, ap, ◌∙◌, inl, inr}
 use Rattle.std.proofs.lemmas.Bool.{cases_eq}
-use Rattle.tsb_objects.specs.declared.interval.Interval.{Interval}
-use Rattle.tsb_objects.specs.declared.interval.Interval.TheVariants.{Red, Green, Yellow, RedClear}
-use Rattle.tsb_objects.specs.Sets.{names}
+use Rattle.tsb_types.specs.declared.interval.Interval.{Interval}
+use Rattle.tsb_types.specs.declared.interval.Interval.TheVariants.{Red, Green, Yellow, RedClear}
+use Rattle.tsb_types.specs.Sets.{names}
 use Rattle.tsb_bench.specs.Signals.{is_green, is_yellow, is_red_clear}
 use Rattle.tsb_bench.specs.SignalsCells.{AreApart}
 

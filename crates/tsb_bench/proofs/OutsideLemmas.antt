@@ -3,11 +3,11 @@ use Rattle.std.proofs.Common.{◌≡◌, ℕ, ◌≤◌, ◌==◌, Bool, true, f
 use Rattle.std.specs.Prelude.{nat_le}
 use Rattle.std.proofs.lemmas.Bool.Decides.{nat_tests}
 use Rattle.tsb_objects.specs.declared.checked.Checked.{Checked}
-use Rattle.tsb_objects.specs.declared.object.Object.{Object}
-use Rattle.tsb_objects.specs.declared.object.Object.TheVariants.{PhaseSide}
+use Rattle.tsb_plan.specs.declared.object.Object.{Object}
+use Rattle.tsb_plan.specs.declared.object.Object.TheVariants.{PhaseSide}
 use Rattle.tsb_objects.specs.Checked.{checked_plan}
-use Rattle.tsb_objects.specs.Objects.{has_index, indices}
-use Rattle.tsb_objects.specs.Plan.{side_of}
+use Rattle.tsb_plan.specs.Objects.{has_index, indices}
+use Rattle.tsb_plan.specs.Plan.{side_of}
 use Rattle.tsb_objects.proofs.CheckedLemmas.{checked-outside}
 
 no-index : (o : Object) (p : ℕ) → indices o ≡ 16 → ((1 ≤ p) × (p ≤ 16) → ⊥) → has_index o p ≡ false

@@ -10,10 +10,10 @@ use Rattle.tsb_history.specs.History.{Change, newest, newest_kind, older}
 use Rattle.tsb_history.specs.declared.kinds.Kind.{Kind}
 use Rattle.tsb_history.specs.declared.kinds.Kind.TheVariants as kinds
 use Rattle.tsb_objects.specs.Built.{objection}
-use Rattle.tsb_objects.specs.declared.object.Object.{Object}
-use Rattle.tsb_objects.specs.Objects.{greatest}
-use Rattle.tsb_objects.specs.declared.refusal.Refusal.TheVariants.{TickLimit}
-use Rattle.tsb_objects.specs.PlanOf.{plan_in}
+use Rattle.tsb_plan.specs.declared.object.Object.{Object}
+use Rattle.tsb_plan.specs.Objects.{greatest}
+use Rattle.tsb_types.specs.declared.refusal.Refusal.TheVariants.{TickLimit}
+use Rattle.tsb_plan.specs.PlanOf.{plan_in}
 use Rattle.tsb_bench.specs.declared.inputs.Input.{Input}
 use Rattle.tsb_bench.specs.declared.inputs.Input.TheVariants.{Tick}
 use Rattle.tsb_bench.specs.Signals.{power_up}

@@ -7,13 +7,13 @@ use Rattle.std.proofs.lemmas.List.Concat.{length-flat_map}
 use Rattle.std.proofs.lemmas.List.Sums.{sum_by-cons}
 use Rattle.std.proofs.Math.Path.{fun_ext}
 use Rattle.std.specs.List.{flat_map}
-use Rattle.tsb_objects.specs.declared.object.Object.{Object}
-use Rattle.tsb_objects.specs.Lists.{run_from}
-use Rattle.tsb_objects.specs.Objects.{objects, indices, first_cell, has_index, value_in}
-use Rattle.tsb_objects.specs.Plan.{Plan}
-use Rattle.tsb_objects.specs.PlanOf.{plan_in}
-use Rattle.tsb_objects.proofs.RunLemmas.{length-run_from, map-run_from}
-use Rattle.tsb_objects.proofs.TableLemmas.{total}
+use Rattle.tsb_plan.specs.declared.object.Object.{Object}
+use Rattle.tsb_types.specs.Lists.{run_from}
+use Rattle.tsb_plan.specs.Objects.{objects, indices, first_cell, has_index, value_in}
+use Rattle.tsb_plan.specs.Plan.{Plan}
+use Rattle.tsb_plan.specs.PlanOf.{plan_in}
+use Rattle.tsb_types.proofs.RunLemmas.{length-run_from, map-run_from}
+use Rattle.tsb_plan.proofs.TableLemmas.{total}
 use Rattle.tsb_bench.specs.State.{plan_cells}
 
 -- each object has as many cells as indices

@@ -5,8 +5,8 @@ use Rattle.std.proofs.lemmas.List.Sums.{fold-append}
 use Rattle.std.proofs.lemmas.List.{reverse-append, take_more}
 use Rattle.tsb_history.specs.History.{Change, newest_kind}
 use Rattle.tsb_history.specs.declared.kinds.Kind.{Kind}
-use Rattle.tsb_objects.specs.declared.refusal.Refusal.{Refusal}
-use Rattle.tsb_objects.specs.Plan.{Plan}
+use Rattle.tsb_types.specs.declared.refusal.Refusal.{Refusal}
+use Rattle.tsb_plan.specs.Plan.{Plan}
 use Rattle.tsb_bench.specs.declared.inputs.Input.{Input}
 use Rattle.tsb_bench.specs.declared.commands.Cmd.{Cmd}
 use Rattle.tsb_bench.specs.declared.commands.Cmd.TheVariants.{Apply, Undo, Back, Seek}

@@ -14,10 +14,10 @@ use Rattle.tsb_cells.specs.declared.timer.Timer.TheVariants.{Off, On}
 use Rattle.tsb_cells.proofs.ChangeLemmas.{tells_each_change}
 use Rattle.tsb_cells.proofs.DiffLemmas.{diff-same}
 use Rattle.tsb_history.specs.History.{Change}
-use Rattle.tsb_objects.specs.declared.interval.Interval.{Interval}
-use Rattle.tsb_objects.specs.Lists.{run_from}
-use Rattle.tsb_objects.specs.Plan.{Plan}
-use Rattle.tsb_objects.specs.Sets.{list_of}
+use Rattle.tsb_types.specs.declared.interval.Interval.{Interval}
+use Rattle.tsb_types.specs.Lists.{run_from}
+use Rattle.tsb_plan.specs.Plan.{Plan}
+use Rattle.tsb_types.specs.Sets.{list_of}
 use Rattle.tsb_bench.specs.declared.inputs.Input.{Input}
 use Rattle.tsb_bench.specs.declared.inputs.Input.TheVariants.{Tick}
 use Rattle.tsb_bench.specs.declared.phase_timers.PhaseTimers.{PhaseTimers}

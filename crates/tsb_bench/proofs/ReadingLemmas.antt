@@ -1,10 +1,10 @@
 -- What is known of the plan that a tick reads.
 use Rattle.std.proofs.Common.{◌≡◌, ℕ, Bool, ap, sym, ◌∙◌}
 use Rattle.std.proofs.Math.Path.{fun_ext}
-use Rattle.tsb_objects.specs.declared.phase_set.PhaseSet.{PhaseSet}
-use Rattle.tsb_objects.specs.Lists.{some_passes, run_from}
-use Rattle.tsb_objects.specs.Plan.{Plan, phases}
-use Rattle.tsb_objects.specs.Sets.{has}
+use Rattle.tsb_types.specs.declared.phase_set.PhaseSet.{PhaseSet}
+use Rattle.tsb_types.specs.Lists.{some_passes, run_from}
+use Rattle.tsb_plan.specs.Plan.{Plan, phases}
+use Rattle.tsb_types.specs.Sets.{has}
 use Rattle.tsb_objects.proofs.CheckedLemmas.{checked-phase_count, checked-side_count}
 use Rattle.tsb_bench.specs.declared.reading.Reading.{Reading}
 use Rattle.tsb_bench.specs.Reading.{plan_seen}

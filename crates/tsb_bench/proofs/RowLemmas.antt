@@ -7,7 +7,7 @@ use Rattle.std.proofs.lemmas.Bool.Decides.{nat_tests}
 use Rattle.tsb_cells.specs.Row.{row_at}
 use Rattle.tsb_cells.proofs.RowLemmas.{rows_apart}
 use Rattle.tsb_cells.proofs.TimerLemmas.{timer_cell-le}
-use Rattle.tsb_objects.specs.Sets.{names}
+use Rattle.tsb_types.specs.Sets.{names}
 use Rattle.tsb_bench.specs.declared.phase_timers.PhaseTimers.{PhaseTimers}
 use Rattle.tsb_bench.specs.Signals.{all_off}
 use Rattle.tsb_bench.specs.SignalsCells.{interval_in, timers_in, timers_of, timers_cells, list_in, is_phase, place, number_in, number_cell}

@@ -2,11 +2,11 @@
 use Rattle.std.proofs.Common.{◌≡◌, ℕ, ◌≤◌, List, refl, ap, sym, ◌∙◌, true, false, Bool, ◌&&◌, ◌||◌, if◌then◌else◌, inl, Option, Some, None, is_some}
 use Rattle.std.specs.Prelude.{is_none}
 use Rattle.std.proofs.lemmas.Bool.{cond-true, cond-false, eqb-true}
-use Rattle.tsb_objects.specs.declared.interval.Interval.{Interval}
-use Rattle.tsb_objects.specs.declared.interval.Interval.TheVariants.{Red, Green, Yellow, RedClear}
-use Rattle.tsb_objects.specs.Lists.{first, is as is_it}
-use Rattle.tsb_objects.specs.Plan.{Plan, is_enabled}
-use Rattle.tsb_objects.specs.Sets.{has}
+use Rattle.tsb_types.specs.declared.interval.Interval.{Interval}
+use Rattle.tsb_types.specs.declared.interval.Interval.TheVariants.{Red, Green, Yellow, RedClear}
+use Rattle.tsb_types.specs.Lists.{first, is as is_it}
+use Rattle.tsb_plan.specs.Plan.{Plan, is_enabled}
+use Rattle.tsb_types.specs.Sets.{has}
 use Rattle.tsb_bench.specs.declared.display.Aspect.{Aspect}
 use Rattle.tsb_bench.specs.declared.display.Aspect.TheVariants as aspects
 use Rattle.tsb_bench.specs.declared.display.Aspect.TheVariants.{Dark}

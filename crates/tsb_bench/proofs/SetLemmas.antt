@@ -1,8 +1,8 @@
 -- Small equations of tests, as sets give them.
 use Rattle.std.proofs.Common.{◌≡◌, ◌≢◌, ℕ, ◌==◌, Bool, true, false, not, ◌&&◌, refl, inl, inr, sym, ◌∙◌, ap}
 use Rattle.std.proofs.lemmas.Bool.Decides.{eqb_tells}
-use Rattle.tsb_objects.specs.declared.phase_set.PhaseSet.{PhaseSet}
-use Rattle.tsb_objects.specs.Sets.{has}
+use Rattle.tsb_types.specs.declared.phase_set.PhaseSet.{PhaseSet}
+use Rattle.tsb_types.specs.Sets.{has}
 
 and-false : (b : Bool) → (b && false) ≡ false
 and-false true = refl

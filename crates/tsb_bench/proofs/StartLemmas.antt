@@ -5,10 +5,10 @@ use Rattle.std.proofs.lemmas.Grind.{common_steps}
 use Rattle.std.proofs.lemmas.List.{get_or-set_other}
 use Rattle.tsb_cells.specs.Row.{row_at}
 use Rattle.tsb_cells.specs.Timer.{timer_at}
-use Rattle.tsb_objects.specs.declared.interval.Interval.TheVariants.{Red}
-use Rattle.tsb_objects.specs.Lists.{or_number}
-use Rattle.tsb_objects.specs.Sets.{names}
-use Rattle.tsb_objects.proofs.SetLemmas.{names-zero}
+use Rattle.tsb_types.specs.declared.interval.Interval.TheVariants.{Red}
+use Rattle.tsb_types.specs.Lists.{or_number}
+use Rattle.tsb_types.specs.Sets.{names}
+use Rattle.tsb_types.proofs.SetLemmas.{names-zero}
 use Rattle.tsb_bench.specs.declared.phase_timers.PhaseTimers.{PhaseTimers}
 use Rattle.tsb_bench.specs.Signals.{all_off, power_up}
 use Rattle.tsb_bench.specs.SignalsCells.{signals_in, interval_in, timers_in, timers_of, ring_in, list_in, is_phase, place, number_in, AreApart, IsBy}

@@ -2,8 +2,8 @@
 use Rattle.std.proofs.Common.{◌≡◌, ◌≢◌, ◌⊎◌, ℕ, ◌+◌, ◌<◌, ◌≤◌, List, length, get_or, drop, take, length-drop, refl, sym, ap, subst, ◌∙◌, inl, inr, arith}
 use Rattle.std.proofs.lemmas.Bool.{cases_eq}
 use Rattle.std.proofs.lemmas.List.{ext_get_or, get_or-drop}
-use Rattle.tsb_objects.specs.Sets.{names}
-use Rattle.tsb_objects.specs.declared.interval.Interval.{Interval}
+use Rattle.tsb_types.specs.Sets.{names}
+use Rattle.tsb_types.specs.declared.interval.Interval.{Interval}
 use Rattle.tsb_bench.specs.declared.next.Next.{Next}
 use Rattle.tsb_bench.specs.declared.phase_timers.PhaseTimers.{PhaseTimers}
 use Rattle.tsb_bench.specs.SignalsCells.{interval_in, timers_in, list_in, place, IsStill, AreLists, IsRingRow, IsBy}

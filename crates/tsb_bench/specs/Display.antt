@@ -1,9 +1,9 @@
 -- What the heads show, and when that is safe. The heads are a function of the state alone.
 use Rattle.std.specs.Prelude.{◌≡◌, ℕ, Bool, true, false, if◌then◌else◌, ◌⊎◌}
-use Rattle.tsb_objects.specs.declared.interval.Interval.{Interval}
-use Rattle.tsb_objects.specs.declared.interval.Interval.TheVariants as intervals
-use Rattle.tsb_objects.specs.Plan.{Plan, is_enabled, is_concurrent}
-use Rattle.tsb_objects.specs.Sets.{has}
+use Rattle.tsb_types.specs.declared.interval.Interval.{Interval}
+use Rattle.tsb_types.specs.declared.interval.Interval.TheVariants as intervals
+use Rattle.tsb_plan.specs.Plan.{Plan, is_enabled, is_concurrent}
+use Rattle.tsb_types.specs.Sets.{has}
 use Rattle.tsb_bench.specs.declared.display.Aspect.{Aspect}
 use Rattle.tsb_bench.specs.declared.display.Aspect.TheVariants.{Dark, Red, Yellow, Green}
 use Rattle.tsb_bench.specs.declared.display.Display as memory

@@ -1,6 +1,6 @@
 -- What the ring does in a tick, in one record.
 use Rattle.std.specs.Prelude.{if◌then◌else◌, Some, None}
-use Rattle.tsb_objects.specs.Plan.{Plan}
+use Rattle.tsb_plan.specs.Plan.{Plan}
 use Rattle.tsb_bench.specs.declared.moves.Moves.{Moves}
 use Rattle.tsb_bench.specs.Signals.{Signals, want, wants_phase, begins, target_side, completes, committed, starting}
 

@@ -6,9 +6,9 @@ use Rattle.tsb_history.specs.declared.kinds.Kind.{Kind}
 use Rattle.tsb_history.specs.declared.kinds.Kind.TheVariants.{Tick}
 use Rattle.tsb_cells.specs.Diff.{apply_diff, AreWithin, part}
 use Rattle.tsb_objects.specs.Built.{objection}
-use Rattle.tsb_objects.specs.declared.object.Object.{Object}
-use Rattle.tsb_objects.specs.Objects.{greatest}
-use Rattle.tsb_objects.specs.PlanOf.{plan_in}
+use Rattle.tsb_plan.specs.declared.object.Object.{Object}
+use Rattle.tsb_plan.specs.Objects.{greatest}
+use Rattle.tsb_plan.specs.PlanOf.{plan_in}
 use Rattle.tsb_bench.specs.SignalsCells.{signals_in, signals_cells, IsAlone, IsBy}
 use Rattle.tsb_bench.specs.State.{State, cells_of, state_in}
 

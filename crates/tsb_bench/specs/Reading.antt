@@ -1,6 +1,6 @@
 -- What a tick reads: the state and the plan.
 use Rattle.tsb_objects.specs.Checked.{checked_plan}
-use Rattle.tsb_objects.specs.Plan.{Plan}
+use Rattle.tsb_plan.specs.Plan.{Plan}
 use Rattle.tsb_bench.specs.declared.reading.Reading.{Reading}
 use Rattle.tsb_bench.specs.declared.ring_state.RingState.{RingState}
 use Rattle.tsb_bench.specs.Controller.{row_of}

@@ -1,6 +1,6 @@
 -- The states of the ring that cells can keep, and that they are read as they were written.
 use Rattle.std.specs.Prelude.{◌≡◌, Some}
-use Rattle.tsb_objects.specs.Lists.{or_number}
+use Rattle.tsb_types.specs.Lists.{or_number}
 use Rattle.tsb_bench.specs.declared.ring_state.RingState.{RingState}
 use Rattle.tsb_bench.specs.SignalsCells.{ring_of, ring_cells, number_in, number_cell}
 

@@ -9,10 +9,10 @@ use Rattle.std.specs.Prelude.{ℕ, ◌==◌, nat_le, Bool, true, false, not, ◌
 use Rattle.tsb_cells.specs.declared.timer.Timer.{Timer}
 use Rattle.tsb_cells.specs.declared.timer.Timer.TheVariants.{Off, On}
 use Rattle.tsb_cells.specs.Timer.{advanced, started, has_reached}
-use Rattle.tsb_objects.specs.declared.interval.Interval.{Interval}
-use Rattle.tsb_objects.specs.declared.interval.Interval.TheVariants.{Red, Green, Yellow, RedClear}
-use Rattle.tsb_objects.specs.Lists.{first, some_passes, is, or_else, or_number, later, not_later}
-use Rattle.tsb_objects.specs.Plan.{Plan, phases, is_enabled, has_maximum_recall, side_of, is_concurrent, minimum_green, maximum, time_before_reduction, yellow_change, red_clear, red_revert, sequence, sides_after}
+use Rattle.tsb_types.specs.declared.interval.Interval.{Interval}
+use Rattle.tsb_types.specs.declared.interval.Interval.TheVariants.{Red, Green, Yellow, RedClear}
+use Rattle.tsb_types.specs.Lists.{first, some_passes, is, or_else, or_number, later, not_later}
+use Rattle.tsb_plan.specs.Plan.{Plan, phases, is_enabled, has_maximum_recall, side_of, is_concurrent, minimum_green, maximum, time_before_reduction, yellow_change, red_clear, red_revert, sequence, sides_after}
 use Rattle.tsb_bench.specs.declared.phase_timers.PhaseTimers.{PhaseTimers}
 use Rattle.tsb_bench.specs.declared.want.Want.{Want}
 use Rattle.tsb_bench.specs.declared.want.Want.TheVariants.{Go, Cross, Rest}

@@ -5,10 +5,10 @@ use Rattle.std.specs.Prelude.{◌≡◌, ℕ, ◌+◌, ◌-◌, ◌*◌, ◌%◌
 use Rattle.tsb_cells.specs.Row.{row_at}
 use Rattle.tsb_cells.specs.Timer.{timer_at, timer_cell}
 use Rattle.tsb_cells.specs.declared.timer.Timer.TheVariants.{Off}
-use Rattle.tsb_objects.specs.declared.interval.Interval.{Interval}
-use Rattle.tsb_objects.specs.declared.interval.Interval.TheVariants.{Red, Green, Yellow, RedClear}
-use Rattle.tsb_objects.specs.Lists.{or_number, run_from}
-use Rattle.tsb_objects.specs.Sets.{names, list_of}
+use Rattle.tsb_types.specs.declared.interval.Interval.{Interval}
+use Rattle.tsb_types.specs.declared.interval.Interval.TheVariants.{Red, Green, Yellow, RedClear}
+use Rattle.tsb_types.specs.Lists.{or_number, run_from}
+use Rattle.tsb_types.specs.Sets.{names, list_of}
 use Rattle.tsb_bench.specs.declared.phase_timers.PhaseTimers.{PhaseTimers}
 use Rattle.tsb_bench.specs.declared.ring_state.RingState.{RingState}
 use Rattle.tsb_bench.specs.Signals.{Signals, all_off, is_green, is_yellow, is_red_clear, in_service}

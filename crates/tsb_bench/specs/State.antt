@@ -4,12 +4,12 @@ use Rattle.tsb_history.specs.History.{Change}
 use Rattle.tsb_history.specs.declared.kinds.Kind.{Kind}
 use Rattle.tsb_history.specs.declared.kinds.Kind.TheVariants as kinds
 use Rattle.tsb_cells.specs.Diff.{diff}
-use Rattle.tsb_objects.specs.declared.refusal.Refusal.{Refusal}
-use Rattle.tsb_objects.specs.declared.refusal.Refusal.TheVariants as refusals
-use Rattle.tsb_objects.specs.Lists.{run_from}
-use Rattle.tsb_objects.specs.Objects.{objects, indices}
-use Rattle.tsb_objects.specs.Plan.{Plan}
-use Rattle.tsb_objects.specs.PlanOf.{plan_in}
+use Rattle.tsb_types.specs.declared.refusal.Refusal.{Refusal}
+use Rattle.tsb_types.specs.declared.refusal.Refusal.TheVariants as refusals
+use Rattle.tsb_types.specs.Lists.{run_from}
+use Rattle.tsb_plan.specs.Objects.{objects, indices}
+use Rattle.tsb_plan.specs.Plan.{Plan}
+use Rattle.tsb_plan.specs.PlanOf.{plan_in}
 use Rattle.tsb_bench.specs.declared.inputs.Input.{Input}
 use Rattle.tsb_bench.specs.declared.inputs.Input.TheVariants.{Tick}
 use Rattle.tsb_bench.specs.Signals.{Signals, power_up, next}

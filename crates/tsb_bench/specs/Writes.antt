@@ -1,6 +1,6 @@
 -- What becomes of a phase, and the rows of cells before and after it is written.
 use Rattle.std.specs.Prelude.{◌≡◌, ◌≢◌, ℕ, ◌≤◌, List, slice_index, Option, Some, None}
-use Rattle.tsb_objects.specs.Plan.{Plan}
+use Rattle.tsb_plan.specs.Plan.{Plan}
 use Rattle.tsb_bench.specs.declared.next.Next.{Next}
 use Rattle.tsb_bench.specs.Signals.{Signals, new_interval, new_timers}
 use Rattle.tsb_bench.specs.SignalsCells.{interval_in, timers_in, IsStill}

@@ -1,12 +1,12 @@
 //! A controller that can be wound back.
-#![tactic(auto, unfolding(tsb_objects::specs::Checked::checked_plan, tsb_objects::specs::PlanOf::plan_of))]
+#![tactic(auto, unfolding(tsb_objects::specs::Checked::checked_plan, tsb_plan::specs::PlanOf::plan_of))]
 
 ghost use Rattle.std.specs.Prelude.{◌≡◌, ℕ, ◌+◌, ◌-◌, ◌<◌, ◌≤◌, [], ◌∷◌, length, nat_le, nat_lt, ◌&&◌, true, false, None, Some, Err, OnOk, OnErr, IfOk, IfErr};
 ghost use Rattle.tsb_cells.specs.Diff.{diff, apply_diff, part, shifted, AreWithin};
 ghost use Rattle.tsb_history.specs.History.{newest_kind};
 ghost use Rattle.tsb_objects.specs.Checked.{checked_plan};
-ghost use Rattle.tsb_objects.specs.PlanOf.{plan_of};
-ghost use Rattle.tsb_objects.specs.declared.refusal.Refusal.TheVariants.{Memory};
+ghost use Rattle.tsb_plan.specs.PlanOf.{plan_of};
+ghost use Rattle.tsb_types.specs.declared.refusal.Refusal.TheVariants.{Memory};
 ghost use Rattle.tsb_bench.specs.Controller.{row_of, is_open};
 ghost use Rattle.tsb_bench.specs.Display.{display, shown, IsSafe};
 ghost use Rattle.tsb_bench.specs.Past.{state_of, whole, earlier, ticks, ticks_of, sought, IsLeastBack, IsGood};

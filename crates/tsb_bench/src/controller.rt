@@ -3,7 +3,7 @@
 
 ghost use Rattle.std.specs.Prelude.{◌≡◌, ◌≢◌, ◌⊎◌, ℕ, ◌+◌, ◌-◌, ◌<◌, ◌≤◌, ◌^◌, ◌&&◌, ◌||◌, not, true, false, length, slice_index};
 ghost use Rattle.tsb_objects.specs.Checked.{checked_plan};
-ghost use Rattle.tsb_objects.specs.Sets.{has, names};
+ghost use Rattle.tsb_types.specs.Sets.{has, names};
 ghost use Rattle.tsb_bench.specs.Signals.{power_up, next, is_green, is_yellow, is_red_clear, in_service};
 ghost use Rattle.tsb_bench.specs.SignalsCells.{signals_in, interval_in, timers_in, ring_in, list_in, place, is_phase, IsAlone, AreLists, IsRingRow, IsBy};
 ghost use Rattle.tsb_bench.specs.RingLaws.{IsRing};

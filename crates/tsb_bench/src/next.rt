@@ -1,6 +1,6 @@
 //! What becomes of a phase in a tick.
 ghost use Rattle.std.specs.Prelude.{◌≡◌, if◌then◌else◌, is_some, None};
-ghost use Rattle.tsb_objects.specs.Lists.{is, or_number};
+ghost use Rattle.tsb_types.specs.Lists.{is, or_number};
 ghost use Rattle.tsb_bench.specs.RingLaws.{IsRing};
 ghost use Rattle.tsb_bench.specs.SignalsCells.{number_in, number_cell};
 

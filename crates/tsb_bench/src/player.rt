@@ -1,8 +1,8 @@
 //! Runs of commands.
 ghost use Rattle.std.specs.Prelude.{◌≡◌, ℕ, ◌≤◌, length, drop, reverse, fold, IfOk, IfErr};
-ghost use Rattle.tsb_objects.specs.declared.refusal.Refusal.TheVariants.{Memory};
+ghost use Rattle.tsb_types.specs.declared.refusal.Refusal.TheVariants.{Memory};
 ghost use Rattle.tsb_objects.specs.Checked.{checked_plan};
-ghost use Rattle.tsb_objects.specs.Plan as words;
+ghost use Rattle.tsb_plan.specs.Plan as words;
 ghost use Rattle.tsb_bench.specs.Display.{display, IsSafe};
 ghost use Rattle.tsb_bench.specs.Past.{state_of, whole, earlier};
 ghost use Rattle.tsb_bench.specs.Play.{replay, records_of, remaining, AreRight, Answers};

@@ -25,8 +25,8 @@ pub(crate) struct Reading<'a> {
 impl<'a> Reading<'a> {
     ghost use Rattle.std.specs.Prelude.{◌≡◌, Bool, ◌==◌, ◌&&◌, if◌then◌else◌, Some, None};
     ghost use Rattle.tsb_objects.specs.Checked.{checked_plan};
-    ghost use Rattle.tsb_objects.specs.PlanOf.{plan_of};
-    ghost use Rattle.tsb_objects.specs.Sets.{has};
+    ghost use Rattle.tsb_plan.specs.PlanOf.{plan_of};
+    ghost use Rattle.tsb_types.specs.Sets.{has};
     ghost use Rattle.tsb_bench.specs.Controller.{row_of};
     ghost use Rattle.tsb_bench.specs.Reading.{seen, plan_seen, ring_seen};
     ghost use Rattle.tsb_bench.specs.SignalsCells.{signals_in};

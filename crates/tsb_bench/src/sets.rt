@@ -1,12 +1,12 @@
 //! Phases that are found by sets: each is the first, or some, of those that pass a test.
 ghost use Rattle.std.specs.Prelude.{◌≡◌, ◌+◌, ◌-◌, ◌++◌, ℕ, ◌==◌, ◌&&◌, Some, None, if◌then◌else◌};
 ghost use Rattle.tsb_objects.specs.Checked.{checked_plan};
-ghost use Rattle.tsb_objects.specs.Lists.{or_number, first, some_passes, run_from, after, up_to, later, not_later};
-ghost use Rattle.tsb_objects.specs.Plan.{side_of};
-ghost use Rattle.tsb_objects.specs.Sets.{has};
+ghost use Rattle.tsb_types.specs.Lists.{or_number, first, some_passes, run_from, after, up_to, later, not_later};
+ghost use Rattle.tsb_plan.specs.Plan.{side_of};
+ghost use Rattle.tsb_types.specs.Sets.{has};
 ghost use Rattle.tsb_bench.specs.Signals.{order, some_on_side};
 
-use tsb_objects::{Checked, Phase, PhaseSet, Side};
+use tsb_objects::{Checked, Phase, PhaseSet, Ring, Sequence, Side};
 
 /// The first phase of the set.
 pub(crate) fn first_phase(set: PhaseSet) -> Option<Phase>
@@ -53,7 +53,7 @@ pub(crate) fn first_later(plan: &Checked, last: Option<Phase>, set: PhaseSet) ->
     if set.is_empty() {
         return None;
     }
-    let places = plan.plan().sequence(1, 1);
+    let places = plan.plan().sequence(Sequence::of(1), Ring::of(1));
     match last {
         Some(last) => first_listed(after(&places, last.number()), set),
         None => first_listed(&places, set),
@@ -67,7 +67,7 @@ pub(crate) fn first_not_later(plan: &Checked, last: Option<Phase>, set: PhaseSet
     if set.is_empty() {
         return None;
     }
-    let places = plan.plan().sequence(1, 1);
+    let places = plan.plan().sequence(Sequence::of(1), Ring::of(1));
     match last {
         Some(last) => first_listed(up_to(&places, last.number()), set),
         None => None,
@@ -78,7 +78,7 @@ pub(crate) fn first_not_later(plan: &Checked, last: Option<Phase>, set: PhaseSet
 pub(crate) fn first_in_order(plan: &Checked, set: PhaseSet) -> Option<Phase>
     ensures { result ≡ first (has set) (order (checked_plan plan.now)) }
 {
-    first_listed(&plan.plan().sequence(1, 1), set)
+    first_listed(&plan.plan().sequence(Sequence::of(1), Ring::of(1)), set)
 }
 
 /// The first number in a list that is of a phase of the set.
@@ -159,7 +159,7 @@ fn has_some_on_side(plan: &Checked, set: PhaseSet, side: Side) -> bool
 }
 
 /// The other sides in cyclic order.
-#[tactic(auto, unfolding(tsb_objects::specs::Lists::run_from))]
+#[tactic(auto, unfolding(tsb_types::specs::Lists::run_from))]
 fn sides_after(side: Side) -> [Side; 3]
     ensures { result ≡ run_from (side + 1) (4 - side) ++ run_from 1 (side - 1) }
 {

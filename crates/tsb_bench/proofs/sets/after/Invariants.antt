@@ -1,5 +1,5 @@
 use Rattle.std.proofs.Common.{◌≡◌, drop}
-use Rattle.tsb_objects.specs.Lists.{after}
+use Rattle.tsb_types.specs.Lists.{after}
 use Rattle.tsb_bench.proofs.sets.after.Given as goal
 
 abbrev pub invariant-loop-place : goal.invariant-loop-place

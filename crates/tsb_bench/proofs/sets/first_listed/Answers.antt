@@ -1,5 +1,5 @@
 use Rattle.std.proofs.Common.{sym, ◌∙◌}
-use Rattle.tsb_objects.specs.Sets.{has}
+use Rattle.tsb_types.specs.Sets.{has}
 use Rattle.tsb_bench.proofs.FirstLemmas.{first-passed, not-had}
 use Rattle.tsb_bench.proofs.sets.first_listed.Goals as goal
 

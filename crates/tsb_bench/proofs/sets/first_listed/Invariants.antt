@@ -1,6 +1,6 @@
 use Rattle.std.proofs.Common.{◌≡◌, drop}
-use Rattle.tsb_objects.specs.Lists.{first}
-use Rattle.tsb_objects.specs.Sets.{has}
+use Rattle.tsb_types.specs.Lists.{first}
+use Rattle.tsb_types.specs.Sets.{has}
 use Rattle.tsb_bench.proofs.sets.first_listed.Given as goal
 
 abbrev pub invariant-loop-number : goal.invariant-loop-number

@@ -1,7 +1,7 @@
 use Rattle.std.proofs.Common.{sym}
 use Rattle.tsb_objects.specs.Checked.{checked_plan}
-use Rattle.tsb_objects.specs.Lists.{not_later}
-use Rattle.tsb_objects.specs.Sets.{has}
+use Rattle.tsb_types.specs.Lists.{not_later}
+use Rattle.tsb_types.specs.Sets.{has}
 use Rattle.tsb_bench.specs.Signals.{order}
 use Rattle.tsb_bench.proofs.FirstLemmas.{first-none}
 use Rattle.tsb_bench.proofs.sets.first_not_later.Goals as goal

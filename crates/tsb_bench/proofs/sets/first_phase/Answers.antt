@@ -1,6 +1,6 @@
 use Rattle.std.proofs.Common.{◌≡◌, ◌≤◌, ◌<◌, ◌+◌, sym, ◌∙◌, arith, ap, Some}
-use Rattle.tsb_objects.specs.Lists.{run_from}
-use Rattle.tsb_objects.specs.Sets.{has}
+use Rattle.tsb_types.specs.Lists.{run_from}
+use Rattle.tsb_types.specs.Sets.{has}
 use Rattle.tsb_bench.proofs.FirstLemmas.{first-none, first-run_from}
 use Rattle.tsb_bench.proofs.sets.first_phase.Goals as goal
 

@@ -1,7 +1,7 @@
 use Rattle.std.proofs.Common.{◌≡◌, drop}
 use Rattle.tsb_objects.specs.Checked.{checked_plan}
-use Rattle.tsb_objects.specs.Lists.{first}
-use Rattle.tsb_objects.specs.Sets.{has}
+use Rattle.tsb_types.specs.Lists.{first}
+use Rattle.tsb_types.specs.Sets.{has}
 use Rattle.tsb_bench.specs.Signals.{some_on_side}
 use Rattle.tsb_bench.proofs.sets.first_side.Given as goal
 

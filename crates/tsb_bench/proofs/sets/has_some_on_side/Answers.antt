@@ -1,9 +1,9 @@
 use Rattle.std.proofs.Common.{ℕ, Bool, ◌&&◌, ◌==◌, ap, sym, ◌∙◌}
 use Rattle.std.proofs.Math.Path.{fun_ext}
 use Rattle.tsb_objects.specs.Checked.{checked_plan}
-use Rattle.tsb_objects.specs.Lists.{some_passes, run_from}
-use Rattle.tsb_objects.specs.Plan.{side_of}
-use Rattle.tsb_objects.specs.Sets.{has}
+use Rattle.tsb_types.specs.Lists.{some_passes, run_from}
+use Rattle.tsb_plan.specs.Plan.{side_of}
+use Rattle.tsb_types.specs.Sets.{has}
 use Rattle.tsb_objects.proofs.CheckedLemmas.{checked-phase_count}
 use Rattle.tsb_bench.specs.Signals.{some_on_side}
 use Rattle.tsb_bench.proofs.sets.has_some_on_side.Goals as goal

@@ -1,5 +1,5 @@
 use Rattle.std.proofs.Common.{◌≡◌, false, sym, ◌∙◌, ap, arith, refl}
-use Rattle.tsb_objects.specs.Sets.{has}
+use Rattle.tsb_types.specs.Sets.{has}
 use Rattle.tsb_bench.proofs.FirstLemmas.{has-none}
 use Rattle.tsb_bench.proofs.sets.phase_of.Goals as goal
 

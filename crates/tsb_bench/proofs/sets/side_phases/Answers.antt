@@ -1,7 +1,7 @@
 use Rattle.std.proofs.Common.{◌≡◌, ℕ, ◌==◌, sym, ◌∙◌, ap, arith, inl, inr}
 use Rattle.std.proofs.lemmas.Bool.{cases_lt}
 use Rattle.tsb_objects.specs.Checked.{checked_plan}
-use Rattle.tsb_objects.specs.Plan.{side_of}
+use Rattle.tsb_plan.specs.Plan.{side_of}
 use Rattle.tsb_bench.proofs.OutsideLemmas.{side-outside}
 use Rattle.tsb_bench.proofs.sets.side_phases.Goals as goal
 

@@ -1,7 +1,7 @@
 use Rattle.std.proofs.Common.{◌≡◌, ℕ, ◌<◌, ◌≤◌, ◌==◌, false}
 use Rattle.tsb_objects.specs.Checked.{checked_plan}
-use Rattle.tsb_objects.specs.Plan.{side_of}
-use Rattle.tsb_objects.specs.Sets.{has}
+use Rattle.tsb_plan.specs.Plan.{side_of}
+use Rattle.tsb_types.specs.Sets.{has}
 use Rattle.tsb_bench.proofs.sets.side_phases.Given as goal
 
 -- the phases so far are told, and no other is in the set

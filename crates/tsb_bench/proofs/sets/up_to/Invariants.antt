@@ -1,5 +1,5 @@
 use Rattle.std.proofs.Common.{◌≡◌, drop, take, ◌++◌}
-use Rattle.tsb_objects.specs.Lists.{up_to}
+use Rattle.tsb_types.specs.Lists.{up_to}
 use Rattle.tsb_bench.proofs.sets.up_to.Given as goal
 
 abbrev pub invariant-loop-place : goal.invariant-loop-place

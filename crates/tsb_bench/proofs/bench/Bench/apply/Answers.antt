@@ -1,9 +1,9 @@
 use Rattle.std.proofs.Common.{◌≡◌, ◌∷◌, List, ap, sym, ◌∙◌, Option, None, Some, refl}
 use Rattle.tsb_objects.specs.Checked.{checked_plan}
-use Rattle.tsb_objects.specs.PlanOf.{plan_of}
+use Rattle.tsb_plan.specs.PlanOf.{plan_of}
 use Rattle.tsb_history.specs.History.{Change}
 use Rattle.tsb_history.specs.declared.kinds.Kind.{Kind}
-use Rattle.tsb_objects.specs.declared.refusal.Refusal.{Refusal}
+use Rattle.tsb_types.specs.declared.refusal.Refusal.{Refusal}
 use Rattle.tsb_bench.specs.Controller.{row_of, is_open}
 use Rattle.tsb_bench.specs.Past.{Held, state_of, whole}
 use Rattle.tsb_bench.specs.State.{kind_of, verdict, record_of}

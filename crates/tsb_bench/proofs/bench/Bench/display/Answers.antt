@@ -1,6 +1,6 @@
 use Rattle.std.proofs.Common.{◌∙◌, subst, ap}
 use Rattle.tsb_objects.specs.Checked.{checked_plan}
-use Rattle.tsb_objects.specs.PlanOf.{plan_of}
+use Rattle.tsb_plan.specs.PlanOf.{plan_of}
 use Rattle.tsb_bench.specs.Controller.{row_of}
 use Rattle.tsb_bench.specs.Display.{display, IsSafe}
 use Rattle.tsb_bench.specs.Past.{Held, state_of}

@@ -1,5 +1,5 @@
 use Rattle.tsb_objects.specs.Checked.{checked_plan}
-use Rattle.tsb_objects.specs.PlanOf.{plan_of}
+use Rattle.tsb_plan.specs.PlanOf.{plan_of}
 use Rattle.tsb_bench.specs.Controller.{row_of, is_open}
 use Rattle.tsb_bench.proofs.PastLemmas.{kept-start}
 use Rattle.tsb_bench.proofs.bench.Bench.power_up.Goals as goal

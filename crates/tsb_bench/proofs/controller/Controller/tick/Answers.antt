@@ -1,5 +1,5 @@
 use Rattle.std.proofs.Common.{◌≡◌, ◌<◌, ℕ, ◌+◌, ◌-◌, List, Option, arith, sym, ap, subst, ◌∙◌}
-use Rattle.tsb_objects.specs.Plan.{Plan}
+use Rattle.tsb_plan.specs.Plan.{Plan}
 use Rattle.tsb_bench.specs.declared.moves.Moves.{Moves}
 use Rattle.tsb_bench.specs.declared.next.Next.{Next}
 use Rattle.tsb_bench.specs.Controller.{row_of}

@@ -1,7 +1,7 @@
 use Rattle.std.proofs.Common.{ℕ, ◌&&◌, ◌==◌, Bool, ap, ◌∙◌}
 use Rattle.std.proofs.Math.Path.{fun_ext}
-use Rattle.tsb_objects.specs.Lists.{first}
-use Rattle.tsb_objects.specs.Plan.{side_of}
+use Rattle.tsb_types.specs.Lists.{first}
+use Rattle.tsb_plan.specs.Plan.{side_of}
 use Rattle.tsb_bench.specs.Reading.{seen, plan_seen}
 use Rattle.tsb_bench.specs.Signals.{entry, order, is_callable}
 use Rattle.tsb_bench.proofs.reading.Reading.entry.Goals as goal

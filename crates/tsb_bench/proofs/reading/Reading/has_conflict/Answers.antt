@@ -1,8 +1,8 @@
 use Rattle.std.proofs.Common.{◌≡◌, ℕ, ap, sym, ◌∙◌, ◌&&◌, not, ◌==◌, Bool}
 use Rattle.std.proofs.Math.Path.{fun_ext}
-use Rattle.tsb_objects.specs.Lists.{some_passes, run_from}
-use Rattle.tsb_objects.specs.Plan.{Plan, is_concurrent}
-use Rattle.tsb_objects.specs.Sets.{has}
+use Rattle.tsb_types.specs.Lists.{some_passes, run_from}
+use Rattle.tsb_plan.specs.Plan.{Plan, is_concurrent}
+use Rattle.tsb_types.specs.Sets.{has}
 use Rattle.tsb_bench.specs.Reading.{seen, plan_seen}
 use Rattle.tsb_bench.specs.Signals.{is_callable, has_conflict}
 use Rattle.tsb_bench.proofs.ReadingLemmas.{seen-phase_count}

@@ -1,6 +1,6 @@
 use Rattle.std.proofs.Common.{ℕ, Bool, ap, sym, ◌∙◌}
 use Rattle.std.proofs.Math.Path.{fun_ext}
-use Rattle.tsb_objects.specs.Lists.{first, run_from}
+use Rattle.tsb_types.specs.Lists.{first, run_from}
 use Rattle.tsb_objects.proofs.CheckedLemmas.{checked-phase_count}
 use Rattle.tsb_bench.specs.Reading.{seen, plan_seen}
 use Rattle.tsb_bench.specs.Signals.{in_service, serving}

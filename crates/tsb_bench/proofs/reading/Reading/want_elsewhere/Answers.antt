@@ -1,7 +1,7 @@
 use Rattle.std.proofs.Common.{◌≡◌, true, false, refl, ◌∙◌, sym}
-use Rattle.tsb_objects.specs.Lists.{some_passes}
-use Rattle.tsb_objects.specs.Plan.{phases}
-use Rattle.tsb_objects.specs.Sets.{has}
+use Rattle.tsb_types.specs.Lists.{some_passes}
+use Rattle.tsb_plan.specs.Plan.{phases}
+use Rattle.tsb_types.specs.Sets.{has}
 use Rattle.tsb_bench.specs.Reading.{plan_seen}
 use Rattle.tsb_bench.specs.Signals.{want_elsewhere_by}
 use Rattle.tsb_bench.proofs.ReadingLemmas.{seen-phase_count, some-by}

@@ -1,7 +1,7 @@
 use Rattle.std.proofs.Common.{◌≡◌, ℕ, Bool, true, false, not, refl, ap, ◌∙◌, ◌&&◌, ◌==◌}
 use Rattle.std.proofs.Math.Path.{fun_ext}
-use Rattle.tsb_objects.specs.Plan.{side_of}
-use Rattle.tsb_objects.specs.Sets.{has}
+use Rattle.tsb_plan.specs.Plan.{side_of}
+use Rattle.tsb_types.specs.Sets.{has}
 use Rattle.tsb_bench.specs.Reading.{seen, plan_seen}
 use Rattle.tsb_bench.specs.Signals.{want_within, is_callable, is_candidate}
 use Rattle.tsb_bench.proofs.reading.Reading.want_found.Goals as goal
