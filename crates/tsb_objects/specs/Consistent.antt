@@ -56,7 +56,7 @@ pub record ListsRings (plan : Plan) (s : ℕ) : Type 0 where
   pub first : ListsRing plan 1 (sequence plan s 1)
   pub second : ListsRing plan 2 (sequence plan s 2)
 
--- sequence 1 lists the rings, and so does that of each used pattern that has a phase to list
+-- sequence 1 lists the rings, and so does that of each used pattern
 abbrev pub FirstSequenceListsRings : Plan → Type 0
 FirstSequenceListsRings plan = ListsRings plan 1
 
