@@ -23,7 +23,7 @@ pub use bench::Bench;
 pub use commands::{Answer, Cmd};
 pub use display::{Aspect, Display};
 pub use inputs::{Input, Nothing};
-pub use player::play;
+pub use player::{answer, play};
 pub use tsb_history::Kind;
 pub use tsb_objects::{
     Checked, NumberSet, Object, ObjectId, Phase, Plan, Range, Refusal, Row, Rule, Station, check,

@@ -14,8 +14,9 @@ use crate::commands::{Answer, Cmd};
 use std::alloc::Global;
 use tsb_objects::{Checked, Refusal};
 
-/// What a command answers, with what it leaves.
-fn answer(bench: &mut Bench, command: Cmd) -> Answer
+/// Carries out a command, and gives its answer. Where the bench has come from power-up by some inputs, the answer is
+/// right, and the bench is then one that has come by the inputs that remain.
+pub fn answer(bench: &mut Bench, command: Cmd) -> Answer
     ensures { (plan : words.Plan) → Answers plan (whole bench.old) command result (whole bench.new) }
 {
     match command {

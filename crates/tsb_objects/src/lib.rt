@@ -17,7 +17,7 @@ pub use tsb_types::{
     Aspect, Called, Detector, Interval, Lamp, Moves, NumberSet, Orders, Overlap, Pattern,
     PedestrianAspect, PedestrianColor, PedestrianDetector, PedestrianInterval, Phase, PhaseSet,
     Preempt, Refusal, Ring, RingMoves, Row, Sequence, Side, SignalColor, Split, Stage, Station,
-    Timing, limits,
+    Timing, Watch, limits,
 };
 
 #[cfg(test)]

@@ -17,6 +17,7 @@ pub mod plan_numbers;
 pub mod refusal;
 pub mod row;
 pub mod stage;
+pub mod watch;
 
 pub use flow::{Called, Moves, Orders, RingMoves, Timing};
 pub use interval::{Interval, PedestrianInterval};
@@ -28,6 +29,7 @@ pub use plan_numbers::{Pattern, PedestrianDetector, Preempt, Ring, Sequence, Spl
 pub use refusal::Refusal;
 pub use row::Row;
 pub use stage::Stage;
+pub use watch::Watch;
 
 #[cfg(test)]
 mod tests;
