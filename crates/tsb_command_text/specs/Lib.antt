@@ -1,0 +1,3 @@
+pub mod Lamps
+pub mod Commands
+pub mod Readings

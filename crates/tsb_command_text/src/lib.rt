@@ -1,0 +1,14 @@
+//! The commands of a session, and the lines that spell them. Nothing here takes memory.
+//!
+//! A command is a line of words with one or more spaces between them; spaces at either end are dropped, and
+//! case matters. All of it is "profile": this project's own choice.
+#![tactic(auto)]
+
+pub mod command;
+mod lamps;
+mod read;
+#[cfg(test)]
+mod tests;
+
+pub use command::{Command, Reading};
+pub use read::{LINE, read_command, reading_of};

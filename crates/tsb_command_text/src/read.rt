@@ -1,0 +1,203 @@
+//! The command of a line.
+ghost use Rattle.std.specs.Prelude.{◌≡◌};
+ghost use Rattle.tsb_command_text.specs.Commands.{command_of, command_of_five, command_of_one, command_of_three, command_of_two, on_or_off, watch_of_one, watch_of_two};
+ghost use Rattle.tsb_command_text.specs.Readings.{reading};
+ghost use Rattle.tsb_plan.specs.Names.{object_named};
+ghost use Rattle.tsb_plan.specs.declared.version.Version.TheVariants.{Two};
+
+use crate::command::{Command, Reading};
+use crate::lamps::{detector, lamp, phase, station};
+use tsb_lines::{is_skipped, next_word, number};
+use tsb_plan::{Object, ObjectId, Version};
+use tsb_types::Watch;
+
+/// The bytes that a line may have, its end not counted.
+pub const LINE: usize = 200;
+
+/// What a line asks, which is given without its end.
+pub fn reading_of(line: &[u8]) -> Reading
+    ensures { result ≡ reading line.now }
+{
+    if line.len() > LINE {
+        return Reading::Bad;
+    }
+    if is_skipped(line) {
+        return Reading::Skip;
+    }
+    match read_command(line) {
+        None => Reading::Bad,
+        Some(Command::Quit) => Reading::Leave,
+        Some(command) => Reading::Do(command),
+    }
+}
+
+/// The command of a line, which is given without its end. `None` where it is no command: also where the
+/// line is blank, a comment, or of over `LINE` bytes.
+pub fn read_command(line: &[u8]) -> Option<Command>
+    ensures { result ≡ command_of line.now }
+{
+    if line.len() > LINE {
+        return None;
+    }
+    let (name, rest) = next_word(line)?;
+    let Some((first, rest)) = next_word(rest) else {
+        return of_one(name);
+    };
+    let Some((second, rest)) = next_word(rest) else {
+        return of_two(name, first);
+    };
+    let Some((third, rest)) = next_word(rest) else {
+        return of_three(name, first, second);
+    };
+    let (fourth, rest) = next_word(rest)?;
+    if next_word(rest).is_some() {
+        return None;
+    }
+    of_five(name, first, second, third, fourth)
+}
+
+#[tactic(auto, unfolding(crate::specs::Commands::command_of_one))]
+fn of_one(name: &[u8]) -> Option<Command>
+    ensures { result ≡ command_of_one name.now }
+{
+    if name == b"undo".as_slice() {
+        return Some(Command::Undo);
+    }
+    if name == b"show".as_slice() {
+        return Some(Command::Show);
+    }
+    if name == b"reset".as_slice() {
+        return Some(Command::Reset);
+    }
+    if name == b"quit".as_slice() {
+        return Some(Command::Quit);
+    }
+    None
+}
+
+#[tactic(auto, unfolding(crate::specs::Commands::command_of_two))]
+fn of_two(name: &[u8], word: &[u8]) -> Option<Command>
+    ensures { result ≡ command_of_two name.now word.now }
+{
+    if name == b"step".as_slice() {
+        return Some(Command::Step(number(word)?));
+    }
+    if name == b"back".as_slice() {
+        return Some(Command::Back(number(word)?));
+    }
+    if name == b"seek".as_slice() {
+        return Some(Command::Seek(number(word)?));
+    }
+    if name == b"pattern".as_slice() {
+        return Some(Command::Pattern(number(word)?));
+    }
+    if name == b"when".as_slice() {
+        return Some(Command::When(watch_by_one(word)?));
+    }
+    if name == b"begin".as_slice() {
+        return Some(Command::Begin(station(word)?));
+    }
+    if name == b"verify".as_slice() {
+        return Some(Command::Verify(station(word)?));
+    }
+    if name == b"commit".as_slice() {
+        return Some(Command::Commit(station(word)?));
+    }
+    if name == b"abort".as_slice() {
+        return Some(Command::Abort(station(word)?));
+    }
+    if name == b"fault".as_slice() && word == b"none".as_slice() {
+        return Some(Command::Fault(None));
+    }
+    None
+}
+
+#[tactic(auto, unfolding(crate::specs::Commands::command_of_three))]
+fn of_three(name: &[u8], first: &[u8], second: &[u8]) -> Option<Command>
+    ensures { result ≡ command_of_three name.now first.now second.now }
+{
+    if name == b"when".as_slice() {
+        return Some(Command::When(watch_by_two(first, second)?));
+    }
+    if name == b"preempt".as_slice() {
+        return Some(Command::Preempt(number(first)?, turned_on(second)?));
+    }
+    if name == b"fault".as_slice() {
+        return Some(Command::Fault(Some(lamp(first, second)?)));
+    }
+    None
+}
+
+#[tactic(auto, unfolding(crate::specs::Commands::command_of_five))]
+fn of_five(
+    name: &[u8],
+    station_word: &[u8],
+    object_word: &[u8],
+    index: &[u8],
+    value: &[u8],
+) -> Option<Command>
+    ensures { result ≡ command_of_five name.now station_word.now object_word.now index.now value.now }
+{
+    if name != b"set".as_slice() {
+        return None;
+    }
+    let station = station(station_word)?;
+    let object = object(object_word)?;
+    let index = number(index)?;
+    Some(Command::Set(station, ObjectId { object, index }, number(value)?))
+}
+
+fn watch_by_one(word: &[u8]) -> Option<Watch>
+    ensures { result ≡ watch_of_one word.now }
+{
+    if word == b"stage".as_slice() {
+        return Some(Watch::Stage);
+    }
+    if word == b"trip".as_slice() {
+        return Some(Watch::Trip);
+    }
+    None
+}
+
+fn watch_by_two(word: &[u8], number: &[u8]) -> Option<Watch>
+    ensures { result ≡ watch_of_two word.now number.now }
+{
+    if word == b"interval".as_slice() {
+        return Some(Watch::Interval(phase(number)?));
+    }
+    if word == b"ped".as_slice() {
+        return Some(Watch::Ped(phase(number)?));
+    }
+    if word == b"call".as_slice() {
+        return Some(Watch::Call(phase(number)?));
+    }
+    if word == b"output".as_slice() {
+        return Some(Watch::Output(detector(number)?));
+    }
+    if word == b"alarm".as_slice() {
+        return Some(Watch::Alarm(detector(number)?));
+    }
+    None
+}
+
+/// `true` for `on`, `false` for `off`.
+fn turned_on(word: &[u8]) -> Option<bool>
+    ensures { result ≡ on_or_off word.now }
+{
+    if word == b"on".as_slice() {
+        return Some(true);
+    }
+    if word == b"off".as_slice() {
+        return Some(false);
+    }
+    None
+}
+
+/// The object of version 2 that has this name.
+#[tactic(auto, unfolding(tsb_plan::specs::Names::object_named, tsb_plan::specs::Objects::objects))]
+fn object(word: &[u8]) -> Option<Object>
+    ensures { result ≡ object_named Two word.now }
+{
+    Object::ALL.iter().copied().find(|object| Version::Two.has(*object)
+        && object.name().as_bytes() == word)
+}

@@ -1,0 +1,87 @@
+use Rattle.std.proofs.Common.{◌≡◌, ℕ, ◌<◌, List, [], ◌∷◌, ◌++◌, length, refl, ap, ◌∙◌, arith, zero, suc, get_or, take, drop, inl, inr}
+use Rattle.std.proofs.lemmas.Bool.Decides.{eqb_tells}
+use Rattle.tsb_lines.specs.Lines.{without_return, HasNoFeed, onto_first, split, ended, lines_of}
+
+pub without-last : (xs : List ℕ) (n : ℕ) → length xs ≡ suc n → get_or xs n 0 ≡ 13 → take n xs ≡ without_return xs
+without-last [] n l e = absurd (omega arith)
+without-last (b ∷ []) zero l e = let z : b ≡ 13 = e in rw z refl
+without-last (b ∷ []) (suc n) l e = absurd (omega arith)
+without-last (b ∷ c ∷ bs) zero l e = absurd (omega arith)
+without-last (b ∷ c ∷ bs) (suc n) l e = ap (λ (v : List ℕ). b ∷ v) (without-last (c ∷ bs) n (omega arith) e)
+
+pub without-none : (xs : List ℕ) (n : ℕ) → length xs ≡ suc n → (get_or xs n 0 ≡ 13 → ⊥) → xs ≡ without_return xs
+without-none [] n l e = absurd (omega arith)
+without-none (b ∷ []) zero l e = elim (eqb_tells b 13) [ inl z ↦ absurd (e z.1) | inr on ↦ rw on.0 refl ]
+without-none (b ∷ []) (suc n) l e = absurd (omega arith)
+without-none (b ∷ c ∷ bs) zero l e = absurd (omega arith)
+without-none (b ∷ c ∷ bs) (suc n) l e = ap (λ (v : List ℕ). b ∷ v) (without-none (c ∷ bs) n (omega arith) e)
+
+pub without-empty : (xs : List ℕ) → length xs ≡ 0 → xs ≡ without_return xs
+without-empty [] l = refl
+without-empty (b ∷ xs) l = absurd (omega arith)
+
+-- no line feed among the first n
+abbrev pub Feedless : List ℕ → ℕ → Type 0
+Feedless xs n = (k : ℕ) → k < n → get_or xs k 0 ≡ 10 → ⊥
+
+pub split-none : (xs : List ℕ) → Feedless xs (length xs) → split xs ≡ xs ∷ []
+split-none [] f = refl
+split-none (b ∷ bs) f = elim (eqb_tells b 10) [
+  | inl z ↦ absurd (f 0 (omega arith) z.1)
+  | inr off ↦ rw off.0 (ap (onto_first b) (split-none bs (λ k lt. f (suc k) (omega (arith, lt)))))
+]
+
+pub split-first : (xs : List ℕ) (n : ℕ) → n < length xs → Feedless xs n → get_or xs n 0 ≡ 10 → split xs ≡ take n xs ∷ split (drop (suc n) xs)
+split-first [] n lt f e = absurd (omega (arith, lt))
+split-first (b ∷ bs) zero lt f e = let z : b ≡ 10 = e in rw z refl
+split-first (b ∷ bs) (suc n) lt f e = elim (eqb_tells b 10) [
+  | inl z ↦ absurd (f 0 (omega arith) z.1)
+  | inr off ↦ rw off.0 (ap (onto_first b) (split-first bs n (omega (arith, lt)) (λ k below. f (suc k) (omega (arith, below))) e))
+]
+
+ended-onto : (l : List ℕ) (b : ℕ) (ls : List (List ℕ)) → ended (l ∷ onto_first b ls) ≡ without_return l ∷ ended (onto_first b ls)
+ended-onto l b [] = refl
+ended-onto l b (m ∷ ms) = refl
+
+ended-split : (l xs : List ℕ) → ended (l ∷ split xs) ≡ without_return l ∷ ended (split xs)
+ended-split l [] = refl
+ended-split l (b ∷ bs) = elim (eqb_tells b 10) [
+  | inl z ↦ rw z.0 refl
+  | inr off ↦ rw off.0 (ended-onto l b (split bs))
+]
+
+-- the lines of a text without a line feed
+pub lines-last : (xs : List ℕ) → Feedless xs (length xs) → lines_of xs ≡ xs ∷ []
+lines-last xs f = ap ended (split-none xs f)
+
+-- the lines of a text whose first line feed is at n
+pub lines-first : (xs : List ℕ) (n : ℕ) → n < length xs → Feedless xs n → get_or xs n 0 ≡ 10 → lines_of xs ≡ without_return (take n xs) ∷ lines_of (drop (suc n) xs)
+lines-first xs n lt f e = ap ended (split-first xs n lt f e) ∙ ended-split (take n xs) (drop (suc n) xs)
+
+split-joined : (held more : List ℕ) → HasNoFeed held → split (held ++ 10 ∷ more) ≡ held ∷ split more
+split-joined [] more f = refl
+split-joined (b ∷ bs) more f = elim (eqb_tells b 10) [
+  | inl z ↦ absurd (f.0 z.1)
+  | inr off ↦ rw off.0 (ap (onto_first b) (split-joined bs more f.1))
+]
+
+split-alone : (held : List ℕ) → HasNoFeed held → split held ≡ held ∷ []
+split-alone [] f = refl
+split-alone (b ∷ bs) f = elim (eqb_tells b 10) [
+  | inl z ↦ absurd (f.0 z.1)
+  | inr off ↦ rw off.0 (ap (onto_first b) (split-alone bs f.1))
+]
+
+-- for a reader that holds the bytes of a line until its line feed comes: the lines of what it holds, that line feed and
+-- what follows
+pub lines-joined : (held more : List ℕ) → HasNoFeed held → lines_of (held ++ 10 ∷ more) ≡ without_return held ∷ lines_of more
+lines-joined held more f = ap ended (split-joined held more f) ∙ ended-split held more
+
+-- and the lines of what it holds at the end of the text
+pub lines-alone : (held : List ℕ) → HasNoFeed held → lines_of held ≡ held ∷ []
+lines-alone held f = ap ended (split-alone held f)
+
+-- a further byte that is no line feed
+pub feedless-more : (held : List ℕ) (b : ℕ) → HasNoFeed held → (b ≡ 10 → ⊥) → HasNoFeed (held ++ b ∷ [])
+feedless-more [] b f n = (n, tt)
+feedless-more (c ∷ held) b f n = (f.0, feedless-more held b f.1 n)

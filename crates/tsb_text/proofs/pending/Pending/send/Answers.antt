@@ -1,0 +1,21 @@
+use Rattle.std.proofs.Common.{◌≡◌, ◌+◌, ◌-◌, ◌≤◌, [], List, ℕ, arith, rules, length, drop, take, sym, subst}
+use Rattle.std.specs.Io.KnownBytes.{Appends}
+use Rattle.tsb_text.specs.Written.{Said}
+use Rattle.tsb_text.proofs.WrittenLemmas.{said-nothing, said-gone, said-kept}
+use Rattle.tsb_text.proofs.pending.Pending.send.Goals as goal
+
+pub loop-self-init : goal.loop-self-init
+loop-self-init g c = record {
+  said = subst (λ (w : List ℕ). Said (g.W.Write.contents c.args.writer.now) (g.W.Write.contents c.args.writer.now) w (drop c.self.inside.gone c.self.inside.bytes.items) []) c.self.view_is
+      (said-nothing (g.W.Write.contents c.args.writer.now) (drop c.self.inside.gone c.self.inside.bytes.items));
+  within = c.self.invariant;
+}
+
+pub loop-self-preserved : goal.loop-self-preserved
+loop-self-preserved g c = record {
+  said = said-gone _ _ _ c.args.self.now c.loop-self.self-inside.bytes.items c.loop-self.self-inside.gone c.in-Ok.count c.deref.result.now c.deref.ensures.0 c.loop-self.invariant.said c.in-Ok.ensures.bytes;
+  within = search rules;
+}
+
+pub returns-in-Err-clause-said : goal.returns-in-Err-clause-said
+returns-in-Err-clause-said g c = said-kept _ _ _ _ _ _ c.loop-self.invariant.said c.in-Err.ensures.bytes

@@ -1,0 +1,20 @@
+//! What ends a session before its commands do.
+
+use thiserror::Error;
+
+/// What ends a session before its commands do. What was written until then is a front of the session's text.
+#[derive(Clone, Copy, Debug, PartialEq, Eq, Error)]
+pub enum SessionFault {
+    /// There was no memory to begin with.
+    #[error("memory")]
+    Memory,
+    /// A read failed or was interrupted.
+    #[error("read fault")]
+    Read,
+    /// A write failed, was interrupted or took no byte.
+    #[error("write fault")]
+    Write,
+    /// The commands are longer than 16 MiB.
+    #[error("commands: too large")]
+    TooLarge,
+}
