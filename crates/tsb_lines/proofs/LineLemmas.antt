@@ -1,4 +1,4 @@
-use Rattle.std.proofs.Common.{◌≡◌, ℕ, ◌<◌, List, [], ◌∷◌, ◌++◌, length, refl, ap, ◌∙◌, arith, zero, suc, get_or, take, drop, inl, inr}
+use Rattle.std.proofs.Common.{◌≡◌, ℕ, ◌<◌, ◌≤◌, List, [], ◌∷◌, ◌++◌, length, refl, ap, ◌∙◌, arith, zero, suc, get_or, take, drop, inl, inr}
 use Rattle.std.proofs.lemmas.Bool.Decides.{eqb_tells}
 use Rattle.tsb_lines.specs.Lines.{without_return, HasNoFeed, onto_first, split, ended, lines_of}
 
@@ -85,3 +85,28 @@ lines-alone held f = ap ended (split-alone held f)
 pub feedless-more : (held : List ℕ) (b : ℕ) → HasNoFeed held → (b ≡ 10 → ⊥) → HasNoFeed (held ++ b ∷ [])
 feedless-more [] b f n = (n, tt)
 feedless-more (c ∷ held) b f n = (f.0, feedless-more held b f.1 n)
+
+length-onto : (b : ℕ) (ls : List (List ℕ)) → length (onto_first b ls) ≤ suc (length ls)
+length-onto b [] = omega arith
+length-onto b (l ∷ ls) = omega arith
+
+length-split : (xs : List ℕ) → length (split xs) ≤ suc (length xs)
+length-split [] = omega arith
+length-split (b ∷ bs) = elim (eqb_tells b 10) [
+    | inl z ↦ rw z.0 (let rest : length (split bs) ≤ suc (length bs) = length-split bs in omega (arith, rest))
+    | inr off ↦
+        rw off.0 (
+          let rest : length (split bs) ≤ suc (length bs) = length-split bs in
+          let onto : length (onto_first b (split bs)) ≤ suc (length (split bs)) = length-onto b (split bs) in
+          omega (arith, rest, onto)
+        )
+  ]
+
+length-ended : (ls : List (List ℕ)) → length (ended ls) ≡ length ls
+length-ended [] = refl
+length-ended (l ∷ []) = refl
+length-ended (l ∷ m ∷ ms) = ap suc (length-ended (m ∷ ms))
+
+-- a text has at most one line more than bytes
+pub length-lines : (xs : List ℕ) → length (lines_of xs) ≤ suc (length xs)
+length-lines xs = let same : length (lines_of xs) ≡ length (split xs) = length-ended (split xs) in let most = length-split xs in omega (arith, same, most)

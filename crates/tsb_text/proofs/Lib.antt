@@ -1,2 +1,4 @@
 pub mod WrittenLemmas
 pub mod LineLemmas
+pub mod TextLemmas
+pub mod AnswerLemmas

@@ -1,2 +1,5 @@
 pub mod Line
 pub mod Written
+pub mod Answers
+pub mod Text
+pub mod Talk

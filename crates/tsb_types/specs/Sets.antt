@@ -2,6 +2,7 @@
 use Rattle.std.specs.Prelude.{ℕ, zero, suc, ◌+◌, ◌*◌, ◌==◌, Bool, false, if◌then◌else◌}
 use Rattle.std.specs.Int.{bit_at}
 use Rattle.tsb_types.specs.declared.number_set.NumberSet.{NumberSet}
+use Rattle.tsb_types.specs.declared.row.Row.{Row}
 use Rattle.tsb_types.specs.declared.phase_set.PhaseSet.{PhaseSet}
 
 -- the list names phase p; none names phase 0
@@ -13,9 +14,17 @@ names list (suc k) = bit_at list k == 1
 abbrev pub has_number : NumberSet → ℕ → Bool
 has_number s n = names s.word n
 
+-- the set of the numbers that a list names
+abbrev pub set_of_list : ℕ → NumberSet
+set_of_list list = record { word = list }
+
 -- what grows less with each number that is taken out
 abbrev pub size_of_numbers : NumberSet → ℕ
 size_of_numbers s = s.word
+
+-- all inputs off
+abbrev pub all_off : Row
+all_off = record { vehicles = set_of_list 0; pedestrians = set_of_list 0; preempts = set_of_list 0 }
 
 -- the set has phase p
 abbrev pub has : PhaseSet → ℕ → Bool

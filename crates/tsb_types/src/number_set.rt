@@ -1,6 +1,6 @@
 //! Sets of numbers from 1 to 16.
 ghost use Rattle.std.specs.Prelude.{◌≡◌, ◌≢◌, ℕ, ◌<◌, ◌≤◌, ◌&&◌, ◌||◌, not, true, false, None, IfSome};
-ghost use Rattle.tsb_types.specs.Sets.{names, has_number, size_of_numbers};
+ghost use Rattle.tsb_types.specs.Sets.{names, has_number, set_of_list, size_of_numbers};
 
 /// A set of numbers from 1 to 16, one bit for each. Two sets with the same numbers are equal.
 #[derive(Clone, Copy, Debug, PartialEq, Eq)]
@@ -11,14 +11,16 @@ pub struct NumberSet {
 impl NumberSet {
     /// The set of no number.
     pub fn empty() -> NumberSet
-        ensures { (n : ℕ) → has_number result n ≡ false }
+        ensures none { (n : ℕ) → has_number result n ≡ false }
+        ensures same { result ≡ set_of_list 0 }
     {
         NumberSet { word: 0 }
     }
 
     /// The numbers that a list names. A list is the sum of `2^(number - 1)` over its numbers.
     pub fn from_list(list: u16) -> NumberSet
-        ensures { (n : ℕ) → has_number result n ≡ names list n }
+        ensures named { (n : ℕ) → has_number result n ≡ names list n }
+        ensures same { result ≡ set_of_list list }
     {
         NumberSet { word: list }
     }

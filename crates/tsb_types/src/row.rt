@@ -1,6 +1,6 @@
 //! The inputs of a tick.
 ghost use Rattle.std.specs.Prelude.{◌≡◌, ℕ, false};
-ghost use Rattle.tsb_types.specs.Sets.{has_number};
+ghost use Rattle.tsb_types.specs.Sets.{all_off, has_number};
 
 use crate::number_set::NumberSet;
 
@@ -21,6 +21,7 @@ impl Row {
         ensures vehicles { (d : ℕ) → has_number result.vehicles d ≡ false }
         ensures pedestrians { (d : ℕ) → has_number result.pedestrians d ≡ false }
         ensures preempts { (n : ℕ) → has_number result.preempts n ≡ false }
+        ensures same { result ≡ all_off }
     {
         Row {
             vehicles: NumberSet::empty(),

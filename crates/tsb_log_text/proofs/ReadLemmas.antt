@@ -1,0 +1,116 @@
+use Rattle.std.proofs.Common.{◌≡◌, ℕ, ◌+◌, ◌<◌, ◌≤◌, List, [], ◌∷◌, ◌++◌, suc, refl, sym, ap, subst, ◌∙◌, true, false, Bool, inl, inr, Option, Some, None, Result, Ok, Err, append_assoc, append-nil, if◌then◌else◌, length}
+use Rattle.std.proofs.lemmas.Bool.{lt-ltb, le-ltb}
+use Rattle.std.proofs.lemmas.Bool.Decides.{leb_tells}
+use Rattle.tsb_lines.specs.Lines.{is_skipped, lines_of}
+use Rattle.std.specs.Prelude.{MatchOption}
+use Rattle.tsb_log_text.specs.Rows.{row_of}
+use Rattle.tsb_log_text.specs.Logs.{rows_from, row_then, with_rows, log_of, Gives, Rises}
+use Rattle.tsb_log_text.specs.Steps.{Stepped}
+use Rattle.tsb_log_text.specs.declared.log.LogRow.{LogRow}
+use Rattle.tsb_log_text.specs.declared.fault.LogFault.{LogFault}
+use Rattle.tsb_log_text.specs.declared.fault.LogFault.TheVariants.{Memory, TooLarge, Malformed, TickOrder}
+
+-- what was read is in order, and no fault of a line is that of the whole text
+abbrev pub Sound : ℕ → Result (List LogRow) LogFault → Type 0
+Sound last (Ok rows) = Rises last rows
+Sound last (Err TooLarge) = ⊥
+Sound last (Err e) = Unit {0}
+
+sound-with : (last : ℕ) (r : LogRow) (read : Result (List LogRow) LogFault) → last < r.tick → Sound r.tick read → Sound last (with_rows (r ∷ []) read)
+sound-with last r (Ok rows) lt h = (lt, h)
+sound-with last r (Err Memory) lt h = tt
+sound-with last r (Err TooLarge) lt h = h
+sound-with last r (Err (Malformed n)) lt h = tt
+sound-with last r (Err (TickOrder n)) lt h = tt
+
+sound-then : (n last : ℕ) (o : Option LogRow) (rest : ℕ → Result (List LogRow) LogFault) → ((tick : ℕ) → Sound tick (rest tick)) → Sound last (row_then n last o rest)
+sound-then n last None rest h = tt
+sound-then n last (Some r) rest h = elim (leb_tells (suc last) r.tick) [
+  | inl lt ↦ rw lt.0 (sound-with last r (rest r.tick) lt.1 (h r.tick))
+  | inr off ↦ rw off.0 tt
+]
+
+sound-choice : (last : ℕ) (b : Bool) (x y : Result (List LogRow) LogFault) → Sound last x → Sound last y → Sound last (if b then x else y)
+sound-choice last true x y h k = h
+sound-choice last false x y h k = k
+
+sound : (n last : ℕ) (lines : List (List ℕ)) → Sound last (rows_from n last lines)
+unfolding rows_from
+sound n last [] = tt
+sound n last (line ∷ lines) =
+    sound-choice last (is_skipped line) (rows_from (n + 1) last lines) (row_then n last (row_of line) (λ tick. rows_from (n + 1) tick lines))
+    (sound (n + 1) last lines) (sound-then n last (row_of line) (λ tick. rows_from (n + 1) tick lines) (λ tick. sound (n + 1) tick lines))
+
+-- the ticks of what was read rise
+pub rises : (lines : List (List ℕ)) (rows : List LogRow) → rows_from 1 0 lines ≡ Ok rows → Rises 0 rows
+rises lines rows e = let P : Result (List LogRow) LogFault → Type 0 = λ r. Sound 0 r in subst P e (sound 1 0 lines)
+
+-- no line makes the text too large
+pub never-large : (n last : ℕ) (lines : List (List ℕ)) → rows_from n last lines ≡ Err TooLarge → ⊥
+never-large n last lines e = let P : Result (List LogRow) LogFault → Type 0 = λ r. Sound last r in subst P e (sound n last lines)
+
+-- a line that is skipped
+pub skipped : (rows : List LogRow) (n last : ℕ) (line : List ℕ) (lines : List (List ℕ)) → is_skipped line ≡ true
+    → with_rows rows (rows_from n last (line ∷ lines)) ≡ with_rows rows (rows_from (n + 1) last lines)
+unfolding rows_from
+skipped rows n last line lines e = rw e refl
+
+-- what a line that is not skipped gives
+row-first : (n last : ℕ) (line : List ℕ) (lines : List (List ℕ)) → is_skipped line ≡ false
+    → rows_from n last (line ∷ lines) ≡ row_then n last (row_of line) (λ tick. rows_from (n + 1) tick lines)
+unfolding rows_from
+row-first n last line lines e = rw e refl
+
+pub malformed : (n last : ℕ) (line : List ℕ) (lines : List (List ℕ)) → is_skipped line ≡ false → row_of line ≡ None → rows_from n last (line ∷ lines) ≡ Err (Malformed n)
+malformed n last line lines e none = row-first n last line lines e ∙ ap (λ (o : Option LogRow). row_then n last o (λ tick. rows_from (n + 1) tick lines)) none
+
+pub out-of-order : (n last : ℕ) (line : List ℕ) (lines : List (List ℕ)) (r : LogRow) → is_skipped line ≡ false → row_of line ≡ Some r → r.tick ≤ last
+    → rows_from n last (line ∷ lines) ≡ Err (TickOrder n)
+out-of-order n last line lines r e some le =
+    row-first n last line lines e ∙ ap (λ (o : Option LogRow). row_then n last o (λ tick. rows_from (n + 1) tick lines)) some ∙ rw (le-ltb last r.tick le) refl
+
+with-one : (rows : List LogRow) (r : LogRow) (read : Result (List LogRow) LogFault) → with_rows rows (with_rows (r ∷ []) read) ≡ with_rows (rows ++ r ∷ []) read
+with-one rows r (Ok more) = ap (λ (v : List LogRow). Ok v) (sym (append_assoc rows (r ∷ []) more))
+with-one rows r (Err e) = refl
+
+pub taken : (rows : List LogRow) (n last : ℕ) (line : List ℕ) (lines : List (List ℕ)) (r : LogRow) → is_skipped line ≡ false → row_of line ≡ Some r → last < r.tick
+    → with_rows rows (rows_from n last (line ∷ lines)) ≡ with_rows (rows ++ r ∷ []) (rows_from (n + 1) r.tick lines)
+taken rows n last line lines r e some lt =
+    let first : rows_from n last (line ∷ lines) ≡ with_rows (r ∷ []) (rows_from (n + 1) r.tick lines) =
+    row-first n last line lines e ∙ ap (λ (o : Option LogRow). row_then n last o (λ tick. rows_from (n + 1) tick lines)) some ∙ rw (lt-ltb last r.tick lt) refl in
+    ap (with_rows rows) first ∙ with-one rows r (rows_from (n + 1) r.tick lines)
+
+-- what stands at the end of the text
+pub all-read : (rows : List LogRow) (n last : ℕ) → with_rows rows (rows_from n last []) ≡ Ok rows
+unfolding rows_from
+all-read rows n last = ap (λ (v : List LogRow). Ok v) (append-nil rows)
+
+-- the first of the lines, and the others
+pub first-line : {X : Type 0} (behind : Option X) (others : X → List (List ℕ)) (lines : List (List ℕ)) (line : List ℕ)
+    → MatchOption behind (lines ≡ line ∷ []) (λ more. lines ≡ line ∷ others more) → (rest : List (List ℕ)) × (lines ≡ line ∷ rest)
+first-line None others lines line h = ([], h)
+first-line (Some more) others lines line h = (others more, h)
+
+within-limit : (text : List ℕ) → length text ≤ 67108864 → log_of text ≡ rows_from 1 0 (lines_of text)
+within-limit text le = rw (le-ltb 67108864 (length text) le) refl
+
+-- what a fault of a line says of the whole text
+fault-says : (text : List ℕ) (rows : List LogRow) (n last : ℕ) (lines : List (List ℕ)) (e : LogFault) → length text ≤ 67108864
+    → with_rows rows (rows_from n last lines) ≡ rows_from 1 0 (lines_of text) → rows_from n last lines ≡ Err e → log_of text ≡ Err e
+fault-says text rows n last lines e le read h = within-limit text le ∙ sym read ∙ ap (with_rows rows) h
+
+pub faulty : (text rest line : List ℕ) (others : List (List ℕ)) (rows new : List LogRow) (n last : ℕ) (e : LogFault) → length text ≤ 67108864
+    → with_rows rows (rows_from n last (lines_of rest)) ≡ rows_from 1 0 (lines_of text) → lines_of rest ≡ line ∷ others → Stepped (Err e) rows last n line new
+    → Gives (Err e) (log_of text)
+faulty text rest line others rows new n last Memory le read first s = λ large. never-large 1 0 (lines_of text) (sym (within-limit text le) ∙ large)
+faulty text rest line others rows new n last TooLarge le read first s = fault-says text rows n last (lines_of rest) TooLarge le read (rw first (s others))
+faulty text rest line others rows new n last (Malformed m) le read first s = fault-says text rows n last (lines_of rest) (Malformed m) le read (rw first (s others))
+faulty text rest line others rows new n last (TickOrder m) le read first s = fault-says text rows n last (lines_of rest) (TickOrder m) le read (rw first (s others))
+
+-- what the last line says of the whole text
+pub last-read : (text rest line : List ℕ) (rows new : List LogRow) (n last tick : ℕ) → with_rows rows (rows_from n last (lines_of rest)) ≡ rows_from 1 0 (lines_of text)
+    → lines_of rest ≡ line ∷ [] → Stepped (Ok tick) rows last n line new → rows_from 1 0 (lines_of text) ≡ Ok new
+last-read text rest line rows new n last tick read only s = sym read ∙ ap (λ (ls : List (List ℕ)). with_rows rows (rows_from n last ls)) only ∙ s [] ∙ all-read new (n + 1) tick
+
+pub log-read : (text : List ℕ) (rows : List LogRow) → length text ≤ 67108864 → rows_from 1 0 (lines_of text) ≡ Ok rows → log_of text ≡ Ok rows
+log-read text rows le h = within-limit text le ∙ h

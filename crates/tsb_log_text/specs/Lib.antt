@@ -1,0 +1,4 @@
+pub mod Rows
+pub mod Logs
+pub mod Places
+pub mod Steps

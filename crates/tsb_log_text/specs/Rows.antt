@@ -1,0 +1,44 @@
+-- A row of a log: the line that spells it.
+use Rattle.std.specs.Prelude.{ℕ, ◌+◌, ◌*◌, ◌==◌, ◌&&◌, nat_le, List, [], ◌∷◌, if◌then◌else◌, length, take, drop, slice_index, Bool, Option, Some, None}
+use Rattle.tsb_lines.specs.Words.{number_of}
+use Rattle.tsb_types.specs.Sets.{set_of_list}
+use Rattle.tsb_log_text.specs.declared.log.LogRow.{LogRow}
+
+-- a digit 0 or 1 before others, of which this is the number
+abbrev pub onto_digits : ℕ → Option ℕ → Option ℕ
+onto_digits d None = None
+onto_digits d (Some rest) = if d == 48 then Some (2 * rest) else if d == 49 then Some (1 + 2 * rest) else None
+
+-- the list that digits 0 and 1 spell, the first digit for number 1: bit k of it is digit k, from 0
+abbrev pub list_in_digits : List ℕ → Option ℕ
+list_in_digits [] = Some 0
+list_in_digits (d ∷ ds) = onto_digits d (list_in_digits ds)
+
+abbrev pub in_ticks : Option ℕ → Option ℕ
+in_ticks None = None
+in_ticks (Some t) = if nat_le 1 t && nat_le t 6000000 then Some t else None
+
+-- the tick that digits spell: 1 to 6,000,000
+abbrev pub tick_of : List ℕ → Option ℕ
+tick_of digits = in_ticks (number_of digits)
+
+-- so many bytes from this place on
+abbrev pub field : ℕ → ℕ → List ℕ → List ℕ
+field place count line = take count (drop place line)
+
+-- a space, at this place
+abbrev pub has_space : ℕ → List ℕ → Bool
+has_space place line = slice_index line place == 32
+
+abbrev pub row_with : Option ℕ → Option ℕ → Option ℕ → Option ℕ → Option LogRow
+row_with (Some t) (Some v) (Some p) (Some e) =
+    Some (record { tick = t; row = record { vehicles = set_of_list v; pedestrians = set_of_list p; preempts = set_of_list e } })
+row_with t v p e = None
+
+-- a row: 7 digits for its tick, 16 for vehicle detectors, 8 for pedestrian detectors and 4 for preempt inputs, with a
+-- space between them
+unfoldable pub row_of : List ℕ → Option LogRow
+row_of line =
+    if length line == 38 && has_space 7 line && has_space 24 line && has_space 33 line
+    then row_with (tick_of (field 0 7 line)) (list_in_digits (field 8 16 line)) (list_in_digits (field 25 8 line)) (list_in_digits (field 34 4 line))
+    else None

@@ -1,0 +1,19 @@
+//! Logs of inputs: their text, and the row that is in force at a tick.
+//!
+//! A log is a text of lines. A row is a line of 38 bytes: a tick in 7 digits, 16 digits 0 or 1 for vehicle
+//! detectors 1 to 16, 8 for pedestrian detectors 1 to 8 and 4 for preempt inputs 1 to 4, with a space
+//! between them. Ticks are 1 to 6,000,000 and rise from row to row. Blank lines and lines that begin with
+//! `#` are skipped. All of it is "profile": this project's own choice.
+#![tactic(auto)]
+
+pub mod fault;
+pub mod log;
+mod read;
+mod row_text;
+mod search;
+#[cfg(test)]
+mod tests;
+
+pub use fault::LogFault;
+pub use log::{Log, LogRow};
+pub use read::{LIMIT, read_log};

@@ -1,0 +1,58 @@
+//! The line that spells a row.
+ghost use Rattle.std.specs.Prelude.{◌≡◌, ◌≤◌, length};
+ghost use Rattle.tsb_log_text.specs.Rows.{list_in_digits, row_of, tick_of};
+
+use crate::log::LogRow;
+use tsb_lines::number;
+use tsb_types::{NumberSet, Row};
+
+/// The row that a line spells, or `None` where it is no row.
+#[tactic(auto, unfolding(crate::specs::Rows::row_of))]
+pub(crate) fn row(line: &[u8]) -> Option<LogRow>
+    ensures { result ≡ row_of line.now }
+{
+    if line.len() != 38 || line[7] != b' ' || line[24] != b' ' || line[33] != b' ' {
+        return None;
+    }
+    let tick = tick(&line[..7])?;
+    let vehicles = list(&line[8..24])?;
+    let pedestrians = list(&line[25..33])?;
+    let preempts = list(&line[34..38])?;
+    Some(LogRow {
+        tick,
+        row: Row {
+            vehicles: NumberSet::from_list(vehicles),
+            pedestrians: NumberSet::from_list(pedestrians),
+            preempts: NumberSet::from_list(preempts),
+        },
+    })
+}
+
+fn tick(digits: &[u8]) -> Option<u32>
+    ensures { result ≡ tick_of digits.now }
+{
+    let tick = number(digits)?;
+    if 1 <= tick && tick <= 6_000_000 {
+        Some(tick)
+    } else {
+        None
+    }
+}
+
+/// The list that digits 0 and 1 spell, the first for number 1.
+fn list(digits: &[u8]) -> Option<u16>
+    requires { length digits.now ≤ 16 }
+    ensures { result ≡ list_in_digits digits.now }
+{
+    let mut list: u32 = 0;
+    let mut weight: u32 = 1;
+    for digit in digits {
+        if *digit == b'1' {
+            list += weight;
+        } else if *digit != b'0' {
+            return None;
+        }
+        weight *= 2;
+    }
+    Some(list as u16)
+}

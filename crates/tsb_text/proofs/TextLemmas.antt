@@ -1,0 +1,155 @@
+-- Texts of sessions: there is one for all bytes, and of a long line the first bytes tell as much as all.
+use Rattle.std.proofs.Common.{◌≡◌, ℕ, ◌+◌, ◌-◌, ◌<◌, ◌≤◌, List, [], ◌∷◌, ◌++◌, length, refl, sym, ap, ◌∙◌, Some, None, Option, arith, rules, subst, zero, suc, true, false, cond, eqb, Bool, length-append, ◌⊎◌, inl, inr, nat_lt}
+use Rattle.std.proofs.lemmas.Bool.Decides.{eqb_tells}
+use Rattle.tsb_types.specs.declared.refusal.Refusal.{Refusal}
+use Rattle.tsb_types.specs.declared.refusal.Refusal.TheVariants.{TickLimit}
+use Rattle.tsb_bench.specs.declared.inputs.Input.{Input}
+use Rattle.tsb_bench.specs.declared.inputs.Input.TheVariants.{Tick}
+use Rattle.tsb_bench.specs.declared.commands.Cmd.{Cmd}
+use Rattle.tsb_bench.specs.declared.commands.Cmd.TheVariants as asks
+use Rattle.tsb_bench.specs.declared.commands.Answer.{Answer}
+use Rattle.tsb_bench.specs.declared.commands.Answer.TheVariants.{Took, Refused, Undone, Moved, Nothing}
+use Rattle.tsb_bench.specs.State.{verdict, kind_of}
+use Rattle.tsb_bench.specs.Play.{replay, IsRight, remaining_after}
+use Rattle.tsb_command_text.specs.declared.command.Command.{Command}
+use Rattle.tsb_command_text.specs.declared.command.Command.TheVariants.{Step, Back, Seek, Undo, Show, When, Begin, Set, Verify, Commit, Abort, Pattern, Preempt, Fault, Reset, Quit}
+use Rattle.tsb_command_text.specs.declared.command.Reading.{Reading}
+use Rattle.tsb_command_text.specs.declared.command.Reading.TheVariants.{Skip, Bad, Leave, Do}
+use Rattle.tsb_command_text.specs.Readings.{reading}
+use Rattle.tsb_lines.specs.Lines.{lines_of, split, ended, onto_first, without_return, HasNoFeed}
+use Rattle.tsb_text.specs.Answers.{Given, Asked, Ticked, Stopped, Steps, Answers, next_tick, told}
+use Rattle.tsb_text.specs.Text.{Says, IsAnswered, IsText}
+use Rattle.tsb_text.specs.Written.{with_feed}
+
+-- ## There is an answer to each command: one with no want of memory
+
+right-tick : (given : Given) (is : List Input) → IsRight given.plan is (asks.Apply (next_tick given is)) Took ⊎ IsRight given.plan is (asks.Apply (next_tick given is)) (Refused TickLimit)
+right-tick given is = at (nat_lt (replay given.plan is).now 6000000) refl
+  where
+    at : (b : Bool) → nat_lt (replay given.plan is).now 6000000 ≡ b → IsRight given.plan is (asks.Apply (next_tick given is)) Took ⊎ IsRight given.plan is (asks.Apply (next_tick given is)) (Refused TickLimit)
+    at true e = inl (rw e refl)
+    at false e = inr (rw e refl)
+
+pub some-steps : (given : Given) (n : ℕ) (is : List Input) → (text : List ℕ) × (left : List Input) × Steps given is n text left
+some-steps given zero is = ([], is, (refl, refl))
+some-steps given (suc n) is = elim (right-tick given is) [
+  | inl took ↦
+      let rest : (text : List ℕ) × (left : List Input) × Steps given (next_tick given is ∷ is) n text left = some-steps given n (next_tick given is ∷ is) in
+      (_, rest.1, inl (rest.0, record { right = took; line = refl }, rest.2))
+  | inr refused ↦ (_, is, inr (record { refusal = TickLimit; right = refused; line = refl; left = refl }))
+]
+
+asked : (given : Given) (is : List Input) (cmd : Cmd) (a : Answer) → IsRight given.plan is cmd a → (text : List ℕ) × (left : List Input) × Asked given is cmd text left
+asked given is cmd a right = (_, _, record { answer = a; right = right; left = refl; line = refl })
+
+some-back : (given : Given) (is : List Input) (n : ℕ) → (text : List ℕ) × (left : List Input) × Asked given is (asks.Back n) text left
+some-back given is n = at (nat_lt (replay given.plan is).now n) refl
+  where
+    at : (b : Bool) → nat_lt (replay given.plan is).now n ≡ b → (text : List ℕ) × (left : List Input) × Asked given is (asks.Back n) text left
+    at true e = asked given is (asks.Back n) Nothing (search (rules, e))
+    at false e = asked given is (asks.Back n) Moved (search (rules, e))
+
+some-seek : (given : Given) (is : List Input) (t : ℕ) → (text : List ℕ) × (left : List Input) × Asked given is (asks.Seek t) text left
+some-seek given is t = at (nat_lt (replay given.plan is).now t) refl
+  where
+    at : (b : Bool) → nat_lt (replay given.plan is).now t ≡ b → (text : List ℕ) × (left : List Input) × Asked given is (asks.Seek t) text left
+    at true e = asked given is (asks.Seek t) Nothing (search (rules, e))
+    at false e = asked given is (asks.Seek t) Moved (search (rules, e))
+
+some-undo : (given : Given) (is : List Input) → (text : List ℕ) × (left : List Input) × Asked given is asks.Undo text left
+some-undo given [] = asked given [] asks.Undo Nothing refl
+some-undo given (i ∷ is) = asked given (i ∷ is) asks.Undo (Undone (kind_of i)) refl
+
+pub some-answer : (given : Given) (is : List Input) (c : Command) → (text : List ℕ) × (left : List Input) × Answers given is c text left
+some-answer given is (Step n) = some-steps given n is
+some-answer given is (Back n) = some-back given is n
+some-answer given is (Seek t) = some-seek given is t
+some-answer given is Undo = some-undo given is
+some-answer given is Show = (_, _, (refl, refl))
+some-answer given is Quit = (_, _, (refl, refl))
+some-answer given is (When w) = (_, _, (refl, refl))
+some-answer given is (Begin s) = (_, _, (refl, refl))
+some-answer given is (Set s o v) = (_, _, (refl, refl))
+some-answer given is (Verify s) = (_, _, (refl, refl))
+some-answer given is (Commit s) = (_, _, (refl, refl))
+some-answer given is (Abort s) = (_, _, (refl, refl))
+some-answer given is (Pattern n) = (_, _, (refl, refl))
+some-answer given is (Preempt n on) = (_, _, (refl, refl))
+some-answer given is (Fault lamp) = (_, _, (refl, refl))
+some-answer given is Reset = (_, _, (refl, refl))
+
+pub some-says : (given : Given) (r : Reading) (is : List Input) (Rest : List Input → List ℕ → Type 0) → ((new : List Input) → (t : List ℕ) × Rest new t) → (t : List ℕ) × Says given r is t Rest
+some-says given Skip is Rest k = k is
+some-says given Bad is Rest k = (_, ((k is).0, refl, (k is).1))
+some-says given Leave is Rest k = ([], refl)
+some-says given (Do c) is Rest k = let a : (text : List ℕ) × (left : List Input) × Answers given is c text left = some-answer given is c in
+    (a.0 ++ (k a.1).0, (a.0, (k a.1).0, a.1, a.2, refl, (k a.1).1))
+
+pub some-answered : (given : Given) (ls : List (List ℕ)) (is : List Input) → (t : List ℕ) × IsAnswered given is ls t
+some-answered given [] is = ([], refl)
+some-answered given (l ∷ ls) is = some-says given (reading l) is (λ new rest. IsAnswered given new ls rest) (λ new. some-answered given ls new)
+
+pub some-text : (given : Given) (is : List Input) (bytes : List ℕ) → (t : List ℕ) × IsText given is bytes t
+some-text given is bytes = some-answered given (lines_of bytes) is
+
+-- ## Of a long line the first 202 bytes tell as much as all
+
+-- h in front of the first line
+onto_line : List ℕ → List (List ℕ) → List (List ℕ)
+onto_line h [] = h ∷ []
+onto_line h (l ∷ ls) = (h ++ l) ∷ ls
+
+onto-nothing : (b : ℕ) (ls : List (List ℕ)) → onto_first b ls ≡ onto_line [] (onto_first b ls)
+unfolding onto_line
+onto-nothing b [] = refl
+onto-nothing b (l ∷ ls) = refl
+
+onto-cons : (b : ℕ) (h : List ℕ) (ls : List (List ℕ)) → onto_first b (onto_line h ls) ≡ onto_line (b ∷ h) ls
+unfolding onto_line
+onto-cons b h [] = refl
+onto-cons b h (l ∷ ls) = refl
+
+-- bytes without a feed stand in front of the first line
+split-front : (h x : List ℕ) → HasNoFeed h → split (h ++ x) ≡ onto_line h (split x)
+unfolding onto_line
+split-front [] [] f = refl
+split-front [] (c ∷ x) f = elim (eqb c 10) as (λ t. cond t ([] ∷ split x) (onto_first c (split x)) ≡ onto_line [] (cond t ([] ∷ split x) (onto_first c (split x)))) [ true ↦ refl | false ↦ onto-nothing c (split x) ]
+split-front (b ∷ h) x f =
+    let rest : split (h ++ x) ≡ onto_line h (split x) = split-front h x f.1 in
+    elim (eqb_tells b 10) [ inl z ↦ absurd (f.0 z.1) | inr on ↦ rw (on.0, rest) (onto-cons b h (split x)) ]
+
+length-without : (raw : List ℕ) → length raw ≤ suc (length (without_return raw))
+length-without [] = omega arith
+length-without (b ∷ []) = elim (eqb b 13) as (λ t. 1 ≤ suc (length (cond t [] (b ∷ [])))) [ true ↦ omega arith | false ↦ omega arith ]
+length-without (b ∷ c ∷ bs) = let rest : length (c ∷ bs) ≤ suc (length (without_return (c ∷ bs))) = length-without (c ∷ bs) in omega (arith, rest)
+
+reading-long : (line : List ℕ) → 200 < length line → reading line ≡ Bad
+reading-long line long = let lt : nat_lt 200 (length line) ≡ true = search (rules, long) in rw lt refl
+
+reading-returned : (raw : List ℕ) → 202 ≤ length raw → reading (without_return raw) ≡ Bad
+reading-returned raw long = let more : length raw ≤ suc (length (without_return raw)) = length-without raw in reading-long (without_return raw) (omega (arith, more, long))
+
+-- where the first of these lines is long, another long line in its place is answered so as well
+cut-lines : (given : Given) (is : List Input) (l m : List ℕ) (ls : List (List ℕ)) (t : List ℕ) → 202 ≤ length l → 202 ≤ length m → IsAnswered given is (ended (l ∷ ls)) t → IsAnswered given is (ended (m ∷ ls)) t
+cut-lines given is l m [] t long too a =
+    let was : reading l ≡ Bad = reading-long l (omega (arith, long)) in
+    let now : reading m ≡ Bad = reading-long m (omega (arith, too)) in
+    subst (λ (r : Reading). Says given r is t (λ new rest. rest ≡ [])) (was ∙ sym now) a
+cut-lines given is l m (k ∷ ks) t long too a =
+    let was : reading (without_return l) ≡ Bad = reading-returned l long in
+    let now : reading (without_return m) ≡ Bad = reading-returned m too in
+    subst (λ (r : Reading). Says given r is t (λ new rest. IsAnswered given new (ended (k ∷ ks)) rest)) (was ∙ sym now) a
+
+cut-first : (given : Given) (is : List Input) (h : List ℕ) (b : ℕ) (ls : List (List ℕ)) (t : List ℕ) → 202 ≤ length h → IsAnswered given is (ended (onto_line h ls)) t → IsAnswered given is (ended (onto_line h (onto_first b ls))) t
+unfolding onto_line
+cut-first given is h b [] t long a = cut-lines given is h (h ++ b ∷ []) [] t long (let e : length (h ++ b ∷ []) ≡ length h + 1 = length-append h (b ∷ []) in omega (arith, e, long)) a
+cut-first given is h b (l ∷ ls) t long a =
+    cut-lines given is (h ++ l) (h ++ b ∷ l) ls t
+    (let e : length (h ++ l) ≡ length h + length l = length-append h l in omega (arith, e, long))
+    (let e : length (h ++ b ∷ l) ≡ length h + suc (length l) = length-append h (b ∷ l) in omega (arith, e, long)) a
+
+pub text-cut : (given : Given) (is : List Input) (h : List ℕ) (b : ℕ) (more t : List ℕ) → HasNoFeed h → 202 ≤ length h → (b ≡ 10 → ⊥) → IsText given is (h ++ more) t → IsText given is (h ++ b ∷ more) t
+text-cut given is h b more t f long n x =
+    let front : IsAnswered given is (ended (onto_line h (split more))) t = subst (λ (ls : List (List ℕ)). IsAnswered given is (ended ls) t) (split-front h more f) x in
+    let next : split (b ∷ more) ≡ onto_first b (split more) = elim (eqb_tells b 10) [ inl z ↦ absurd (n z.1) | inr on ↦ rw on.0 refl ] in
+    subst (λ (ls : List (List ℕ)). IsAnswered given is (ended ls) t) (sym (split-front h (b ∷ more) f ∙ ap (onto_line h) next)) (cut-first given is h b (split more) t long front)

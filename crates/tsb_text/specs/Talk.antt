@@ -1,0 +1,117 @@
+-- How far a session has come with the bytes that it has read, and how it ends.
+use Rattle.std.specs.Prelude.{◌≡◌, ◌⊎◌, ◌+◌, ◌<◌, ◌≤◌, ℕ, List, [], ◌++◌, length, Option, Result, Ok, Err}
+use Rattle.std.specs.Io.KnownBytes.{Appends, Consumes, IsAtEnd}
+use Rattle.tsb_bench.specs.declared.inputs.Input.{Input}
+use Rattle.tsb_bench.specs.Past.{Whole}
+use Rattle.tsb_bench.specs.Play.{Follows}
+use Rattle.tsb_command_text.specs.declared.command.Reading.{Reading}
+use Rattle.tsb_log_text.specs.declared.log.LogRow.{LogRow}
+use Rattle.tsb_text.specs.declared.fault.SessionFault.{SessionFault}
+use Rattle.tsb_text.specs.declared.fault.SessionFault.TheVariants.{TooLarge}
+use Rattle.tsb_text.specs.declared.talk.Flow.{Flow}
+use Rattle.tsb_text.specs.declared.talk.Flow.TheVariants.{On, Over}
+use Rattle.tsb_text.specs.Answers.{Given, Steps}
+use Rattle.tsb_text.specs.Text.{Says, IsAnswered, IsText}
+use Rattle.tsb_text.specs.Written.{Wrote}
+
+-- a bench has come from power-up by these inputs, under what was given
+pub record Stands (given : Given) (log : List LogRow) (bench : Whole) (inputs : List Input) : Type 0 where
+  pub same : given.log ≡ log
+  pub follows : Follows given.plan bench inputs
+
+-- ## What was said of an answer
+
+-- all of an answer was said, and the bench goes on from the inputs that it leaves; or a fault came within it
+abbrev pub Done : Result (Unit {0}) SessionFault → Given → List LogRow → Whole → (List ℕ → List Input → Type 0)
+    → Option (List ℕ) → Option (List ℕ) → List ℕ → List ℕ → Type 0
+Done (Ok u) given log bench IsAnswer old new waited waits = (left : List Input)
+    × Stands given log bench left × Wrote old new waited waits (λ text. IsAnswer text left)
+Done (Err e) given log bench IsAnswer old new waited waits =
+    Wrote old new waited waits (λ text. (rest : List ℕ) × (left : List Input) × IsAnswer (text ++ rest) left)
+
+-- so many ticks are answered by this, and then by what answers k ticks from these inputs on
+abbrev pub StepsOn : Given → List Input → ℕ → List Input → ℕ → List ℕ → Type 0
+StepsOn given inputs n now k said =
+    (text : List ℕ) (last : List Input) → Steps given now k text last → Steps given inputs n (said ++ text) last
+
+-- ## What was said of a line
+
+-- this answers the line, and then what answers the lines behind it
+abbrev pub AnswersLine : Given → List Input → Reading → List Input → List ℕ → Type 0
+AnswersLine given inputs reading left said = (lines : List (List ℕ)) (rest : List ℕ) → IsAnswered given left lines rest
+    → Says given reading inputs (said ++ rest) (λ new text. IsAnswered given new lines text)
+
+-- this answers the line and all lines behind it
+abbrev pub AnswersAll : Given → List Input → Reading → List ℕ → Type 0
+AnswersAll given inputs reading said = (lines : List (List ℕ)) → Says given reading inputs said (λ new text. IsAnswered given new lines text)
+
+-- this begins what answers the line and those behind it
+abbrev pub BeginsLine : Given → List Input → Reading → List ℕ → Type 0
+BeginsLine given inputs reading said =
+    (lines : List (List ℕ)) → (rest : List ℕ) × Says given reading inputs (said ++ rest) (λ new text. IsAnswered given new lines text)
+
+-- a line was answered: the session goes on, or the line ends it, or a fault came within
+abbrev pub Obeyed : Result Flow SessionFault → Given → List Input → Reading → List LogRow → Whole
+    → Option (List ℕ) → Option (List ℕ) → List ℕ → List ℕ → Type 0
+Obeyed (Ok On) given inputs reading log bench old new waited waits = (left : List Input)
+    × Stands given log bench left × Wrote old new waited waits (AnswersLine given inputs reading left)
+Obeyed (Ok Over) given inputs reading log bench old new waited waits =
+    Wrote old new waited waits (AnswersAll given inputs reading)
+Obeyed (Err e) given inputs reading log bench old new waited waits =
+    Wrote old new waited waits (BeginsLine given inputs reading)
+
+-- ## What was said for the bytes that were read
+
+-- what may be said for these bytes and any more is this, and then what may be said for those held and the more
+pub record Carries (given : Given) (inputs : List Input) (bytes : List ℕ) (left : List Input) (held said : List ℕ) : Type 0 where
+  pub on : (more text : List ℕ) → IsText given left (held ++ more) text → IsText given inputs (bytes ++ more) (said ++ text)
+
+-- this is the text, whatever comes behind these bytes
+pub record IsWhole (given : Given) (inputs : List Input) (bytes said : List ℕ) : Type 0 where
+  pub all : (more : List ℕ) → IsText given inputs (bytes ++ more) said
+
+-- this begins a text, whatever comes behind these bytes
+pub record IsBegun (given : Given) (inputs : List Input) (bytes said : List ℕ) : Type 0 where
+  pub rest : (more : List ℕ) → (rest : List ℕ) × IsText given inputs (bytes ++ more) (said ++ rest)
+
+-- bytes were taken: the session goes on with those held, or a line ended it, or a fault did
+abbrev pub Went : Result Flow SessionFault → Given → List Input → List ℕ → List LogRow → Whole → List ℕ
+    → Option (List ℕ) → Option (List ℕ) → List ℕ → List ℕ → Type 0
+Went (Ok On) given inputs bytes log bench held old new waited waits = (left : List Input)
+    × Stands given log bench left × Wrote old new waited waits (Carries given inputs bytes left held)
+Went (Ok Over) given inputs bytes log bench held old new waited waits = Wrote old new waited waits (IsWhole given inputs bytes)
+Went (Err e) given inputs bytes log bench held old new waited waits = Wrote old new waited waits (IsBegun given inputs bytes)
+
+-- at the end of the input the bytes held are the last line
+abbrev pub Finished : Result (Unit {0}) SessionFault → Given → List Input → List ℕ → List ℕ → List ℕ → Type 0
+Finished (Ok u) given inputs held waits said = (waits ≡ []) × IsText given inputs held said
+Finished (Err e) given inputs held waits said = (rest : List ℕ) × IsText given inputs held (said ++ rest)
+
+-- ## The end
+
+-- how a session ended, after these bytes were read: it wrote a text of theirs, at the end of the input or at a line
+-- that ends it; or after a fault a front of one, whatever comes behind them or at the end of the input
+abbrev pub EndedSo : Result (Unit {0}) SessionFault → Given → Option (List ℕ) → List ℕ → List ℕ → Type 0
+EndedSo (Ok u) given left read written = (IsAtEnd left × IsText given [] read written) ⊎ IsWhole given [] read written
+EndedSo (Err e) given left read written =
+    (IsAtEnd left × (rest : List ℕ) × IsText given [] read (written ++ rest)) ⊎ IsBegun given [] read written
+
+-- the bytes that it read, and those that it wrote: no others went to the writer
+pub record Ended (result : Result (Unit {0}) SessionFault) (given : Given) (input left old new : Option (List ℕ)) : Type 0 where
+  pub read : List ℕ
+  pub taken : Consumes input left read
+  pub written : List ℕ
+  pub grown : Appends old new written
+  pub so : EndedSo result given left read written
+  -- too large is answered only where more than 16 MiB were read, and of more no second byte is read
+  pub large : result ≡ Err TooLarge → 16777216 < length read
+  pub most : length read ≤ 16777217
+
+-- the bytes that were read so far, of which this many more may come, and what was said for them
+pub record Going (given : Given) (log : List LogRow) (bench : Whole) (held : List ℕ) (budget : ℕ) (input left old new : Option (List ℕ)) (waits : List ℕ) : Type 0 where
+  pub inputs : List Input
+  pub stands : Stands given log bench inputs
+  pub read : List ℕ
+  pub taken : Consumes input left read
+  pub wrote : Wrote old new [] waits (Carries given [] read inputs held)
+  pub fits : length read + budget ≡ 16777216

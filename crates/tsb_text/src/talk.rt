@@ -1,0 +1,187 @@
+//! Sessions: commands in, answers out.
+
+ghost use Rattle.std.specs.Prelude.{◌≡◌, ◌∷◌, [], ◌++◌, List, OnOk};
+ghost use Rattle.tsb_lines.specs.Lines.{HasNoFeed};
+ghost use Rattle.tsb_objects.specs.Checked.{checked_plan};
+ghost use Rattle.tsb_bench.specs.declared.inputs.Input.{Input};
+ghost use Rattle.tsb_bench.specs.Past.{whole};
+ghost use Rattle.tsb_text.specs.Answers.{Given};
+ghost use Rattle.tsb_text.specs.Talk.{Stands, Obeyed, Went, Finished, Ended};
+ghost use Rattle.tsb_text.specs.Written.{Said, Wrote};
+
+use crate::answers::obey;
+use crate::fault::SessionFault;
+use crate::pending::Pending;
+use arrayvec::ArrayVec;
+use std::alloc::Global;
+use std::io::{Read, Write};
+use tsb_bench::{Bench, Checked};
+use tsb_command_text::{LINE, Reading, reading_of};
+use tsb_lines::without_return;
+use tsb_log_text::Log;
+
+/// The greatest length of the commands of a session, in bytes: 16 MiB.
+pub const COMMANDS: usize = 16_777_216;
+
+/// How many bytes of a line are kept: one more than its greatest length, and the carriage return behind it.
+const KEPT: usize = LINE + 2;
+
+/// How many bytes one read asks for.
+const CHUNK: usize = 4096;
+
+/// Whether a session goes on after a line.
+#[derive(Clone, Copy, Debug, PartialEq, Eq)]
+pub(crate) enum Flow {
+    On,
+    Over,
+}
+
+/// A session between two bytes: its bench, and the bytes of the line that is not whole yet, of a long one the first.
+#[derive(Drop)]
+struct Talk {
+    bench: Bench,
+    place: usize,
+    held: ArrayVec<u8, KEPT>,
+    pending: Pending,
+}
+
+impl Talk {
+    /// Does what a line asks.
+    fn answer<W: Write>(
+        &mut self,
+        log: &Log,
+        asked: Reading,
+        writer: &mut W,
+    ) -> Result<Flow, SessionFault>
+        ensures obeyed { (given : Given) (inputs : List Input) → Stands given log.now (whole self.old.bench) inputs
+            → Obeyed result given inputs asked log.now (whole self.new.bench) (W.contents writer.old) (W.contents writer.new) self.old.pending self.new.pending }
+        ensures held { self.new.held ≡ self.old.held }
+    {
+        match asked {
+            Reading::Skip => Ok(Flow::On),
+            Reading::Bad => {
+                self.pending.say(writer, b"bad command")?;
+                Ok(Flow::On)
+            }
+            Reading::Leave => Ok(Flow::Over),
+            Reading::Do(command) => {
+                obey(
+                    &mut self.bench,
+                    log,
+                    &mut self.place,
+                    command,
+                    &mut self.pending,
+                    writer,
+                )?;
+                Ok(Flow::On)
+            }
+        }
+    }
+
+    /// Takes one byte more.
+    fn feed<W: Write>(&mut self, log: &Log, byte: u8, writer: &mut W) -> Result<Flow, SessionFault>
+        requires { HasNoFeed self.old.held.items }
+        ensures went { (given : Given) (inputs : List Input) → Stands given log.now (whole self.old.bench) inputs
+            → Went result given inputs (self.old.held.items ++ byte ∷ []) log.now (whole self.new.bench) self.new.held.items (W.contents writer.old) (W.contents writer.new) self.old.pending self.new.pending }
+        ensures clean { HasNoFeed self.new.held.items }
+    {
+        if byte == b'\n' {
+            let asked = reading_of(without_return(&self.held));
+            self.held.clear();
+            return self.answer(log, asked, writer);
+        }
+        if !self.held.is_full() {
+            self.held.push(byte);
+        }
+        Ok(Flow::On)
+    }
+
+    /// Takes these bytes, up to a line that ends the session.
+    fn feed_all<W: Write>(
+        &mut self,
+        log: &Log,
+        bytes: &[u8],
+        writer: &mut W,
+    ) -> Result<Flow, SessionFault>
+        requires { HasNoFeed self.old.held.items }
+        ensures went { (given : Given) (inputs : List Input) → Stands given log.now (whole self.old.bench) inputs
+            → Went result given inputs (self.old.held.items ++ bytes.now) log.now (whole self.new.bench) self.new.held.items (W.contents writer.old) (W.contents writer.new) self.old.pending self.new.pending }
+        ensures clean { HasNoFeed self.new.held.items }
+    {
+        for byte in bytes {
+            match self.feed(log, *byte, writer)? {
+                Flow::On => {}
+                Flow::Over => return Ok(Flow::Over),
+            }
+        }
+        Ok(Flow::On)
+    }
+
+    /// Answers what stands behind the last line feed, at the end of the input, and writes all that waits.
+    fn finish<W: Write>(&mut self, log: &Log, writer: &mut W) -> Result<(), SessionFault>
+        requires { HasNoFeed self.old.held.items }
+        ensures { (given : Given) (inputs : List Input) → Stands given log.now (whole self.old.bench) inputs
+            → Wrote (W.contents writer.old) (W.contents writer.new) self.old.pending self.new.pending (Finished result given inputs self.old.held.items self.new.pending) }
+    {
+        let asked = reading_of(&self.held);
+        let _ = self.answer(log, asked, writer)?;
+        self.send(writer)
+    }
+
+    /// Writes all that waits, and has the writer pass it on.
+    fn send<W: Write>(&mut self, writer: &mut W) -> Result<(), SessionFault>
+        ensures said { Said (W.contents writer.old) (W.contents writer.new) self.old.pending self.new.pending [] }
+        ensures ok { OnOk result (self.new.pending ≡ []) }
+        ensures rest { (self.new.bench ≡ self.old.bench) × (self.new.held ≡ self.old.held) }
+    {
+        self.pending.send(writer)?;
+        match writer.flush() {
+            Ok(()) => Ok(()),
+            Err(_) => Err(SessionFault::Write),
+        }
+    }
+}
+
+/// Runs a session: reads commands, and writes their answers, up to a line `quit` or the end of what is read. The bench
+/// begins at power-up with the plan, and its ticks take the rows of the log.
+///
+/// What was answered goes out before each read. A fault ends the session; what was written until then is a front of its
+/// text. `TooLarge` comes where a byte stands behind the first 16 MiB, after the whole lines within them were answered.
+pub fn session<R: Read, W: Write>(
+    alloc: Global,
+    plan: Checked,
+    log: &Log,
+    reader: &mut R,
+    writer: &mut W,
+) -> Result<(), SessionFault>
+    ensures { Ended result (record { plan = checked_plan plan; log = log.now })
+        (R.remaining reader.old) (R.remaining reader.new) (W.contents writer.old) (W.contents writer.new) }
+{
+    let mut talk = Talk {
+        bench: Bench::power_up(alloc, plan),
+        place: 0,
+        held: ArrayVec::new(),
+        pending: Pending::new(),
+    };
+    let mut chunk = [0; CHUNK];
+    let mut left = COMMANDS;
+    loop {
+        let most = left.min(CHUNK).max(1);
+        let room = &mut chunk[..most];
+        let count = match reader.read(room) {
+            Ok(count) => count,
+            Err(_) => return Err(SessionFault::Read),
+        };
+        if count == 0 {
+            return talk.finish(log, writer);
+        }
+        if left < count {
+            return Err(SessionFault::TooLarge);
+        }
+        left -= count;
+        match talk.feed_all(log, &room[..count], writer)? {
+            Flow::On => talk.send(writer)?,
+            Flow::Over => return talk.send(writer),
+        }
+    }
+}
