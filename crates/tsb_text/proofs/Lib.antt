@@ -2,3 +2,4 @@ pub mod WrittenLemmas
 pub mod LineLemmas
 pub mod TextLemmas
 pub mod AnswerLemmas
+pub mod TalkLemmas
