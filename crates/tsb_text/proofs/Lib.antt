@@ -3,3 +3,4 @@ pub mod LineLemmas
 pub mod TextLemmas
 pub mod AnswerLemmas
 pub mod TalkLemmas
+pub mod SessionLemmas

@@ -7,7 +7,8 @@ use Rattle.tsb_bench.specs.Play.{Follows}
 use Rattle.tsb_command_text.specs.declared.command.Reading.{Reading}
 use Rattle.tsb_log_text.specs.declared.log.LogRow.{LogRow}
 use Rattle.tsb_text.specs.declared.fault.SessionFault.{SessionFault}
-use Rattle.tsb_text.specs.declared.fault.SessionFault.TheVariants.{TooLarge}
+use Rattle.tsb_text.specs.declared.fault.SessionFault.TheVariants.{Write, TooLarge}
+use Rattle.tsb_text.specs.declared.fault.WriteFault.{WriteFault}
 use Rattle.tsb_text.specs.declared.talk.Flow.{Flow}
 use Rattle.tsb_text.specs.declared.talk.Flow.TheVariants.{On, Over}
 use Rattle.tsb_text.specs.Answers.{Given, Steps}
@@ -22,7 +23,7 @@ pub record Stands (given : Given) (log : List LogRow) (bench : Whole) (inputs : 
 -- ## What was said of an answer
 
 -- all of an answer was said, and the bench goes on from the inputs that it leaves; or a fault came within it
-abbrev pub Done : Result (Unit {0}) SessionFault → Given → List LogRow → Whole → (List ℕ → List Input → Type 0)
+abbrev pub Done : Result (Unit {0}) WriteFault → Given → List LogRow → Whole → (List ℕ → List Input → Type 0)
     → Option (List ℕ) → Option (List ℕ) → List ℕ → List ℕ → Type 0
 Done (Ok u) given log bench IsAnswer old new waited waits = (left : List Input)
     × Stands given log bench left × Wrote old new waited waits (λ text. IsAnswer text left)
@@ -51,7 +52,7 @@ BeginsLine given inputs reading said =
     (lines : List (List ℕ)) → (rest : List ℕ) × Says given reading inputs (said ++ rest) (λ new text. IsAnswered given new lines text)
 
 -- a line was answered: the session goes on, or the line ends it, or a fault came within
-abbrev pub Obeyed : Result Flow SessionFault → Given → List Input → Reading → List LogRow → Whole
+abbrev pub Obeyed : Result Flow WriteFault → Given → List Input → Reading → List LogRow → Whole
     → Option (List ℕ) → Option (List ℕ) → List ℕ → List ℕ → Type 0
 Obeyed (Ok On) given inputs reading log bench old new waited waits = (left : List Input)
     × Stands given log bench left × Wrote old new waited waits (AnswersLine given inputs reading left)
@@ -75,7 +76,7 @@ pub record IsBegun (given : Given) (inputs : List Input) (bytes said : List ℕ)
   pub rest : (more : List ℕ) → (rest : List ℕ) × IsText given inputs (bytes ++ more) (said ++ rest)
 
 -- bytes were taken: the session goes on with those held, or a line ended it, or a fault did
-abbrev pub Went : Result Flow SessionFault → Given → List Input → List ℕ → List LogRow → Whole → List ℕ
+abbrev pub Went : Result Flow WriteFault → Given → List Input → List ℕ → List LogRow → Whole → List ℕ
     → Option (List ℕ) → Option (List ℕ) → List ℕ → List ℕ → Type 0
 Went (Ok On) given inputs bytes log bench held old new waited waits = (left : List Input)
     × Stands given log bench left × Wrote old new waited waits (Carries given inputs bytes left held)
@@ -83,11 +84,16 @@ Went (Ok Over) given inputs bytes log bench held old new waited waits = Wrote ol
 Went (Err e) given inputs bytes log bench held old new waited waits = Wrote old new waited waits (IsBegun given inputs bytes)
 
 -- at the end of the input the bytes held are the last line
-abbrev pub Finished : Result (Unit {0}) SessionFault → Given → List Input → List ℕ → List ℕ → List ℕ → Type 0
+abbrev pub Finished : Result (Unit {0}) WriteFault → Given → List Input → List ℕ → List ℕ → List ℕ → Type 0
 Finished (Ok u) given inputs held waits said = (waits ≡ []) × IsText given inputs held said
 Finished (Err e) given inputs held waits said = (rest : List ℕ) × IsText given inputs held (said ++ rest)
 
 -- ## The end
+
+-- what a session ends with after a write
+abbrev pub as_session : Result (Unit {0}) WriteFault → Result (Unit {0}) SessionFault
+as_session (Ok u) = Ok u
+as_session (Err e) = Err Write
 
 -- how a session ended, after these bytes were read: it wrote a text of theirs, at the end of the input or at a line
 -- that ends it; or after a fault a front of one, whatever comes behind them or at the end of the input

@@ -18,3 +18,7 @@ pub enum SessionFault {
     #[error("commands: too large")]
     TooLarge,
 }
+
+/// A write failed, was interrupted or took no byte.
+#[derive(Clone, Copy, Debug, PartialEq, Eq)]
+pub(crate) struct WriteFault;

@@ -6,11 +6,11 @@ ghost use Rattle.tsb_objects.specs.Checked.{checked_plan};
 ghost use Rattle.tsb_bench.specs.declared.inputs.Input.{Input};
 ghost use Rattle.tsb_bench.specs.Past.{whole};
 ghost use Rattle.tsb_text.specs.Answers.{Given};
-ghost use Rattle.tsb_text.specs.Talk.{Stands, Obeyed, Went, Finished, Ended};
+ghost use Rattle.tsb_text.specs.Talk.{Stands, Obeyed, Went, Finished, Ended, as_session};
 ghost use Rattle.tsb_text.specs.Written.{Said, Wrote};
 
 use crate::answers::obey;
-use crate::fault::SessionFault;
+use crate::fault::{SessionFault, WriteFault};
 use crate::pending::Pending;
 use arrayvec::ArrayVec;
 use std::alloc::Global;
@@ -52,7 +52,7 @@ impl Talk {
         log: &Log,
         asked: Reading,
         writer: &mut W,
-    ) -> Result<Flow, SessionFault>
+    ) -> Result<Flow, WriteFault>
         ensures obeyed { (given : Given) (inputs : List Input) → Stands given log.now (whole self.old.bench) inputs
             → Obeyed result given inputs asked log.now (whole self.new.bench) (W.contents writer.old) (W.contents writer.new) self.old.pending self.new.pending }
         ensures held { self.new.held ≡ self.old.held }
@@ -79,7 +79,7 @@ impl Talk {
     }
 
     /// Takes one byte more.
-    fn feed<W: Write>(&mut self, log: &Log, byte: u8, writer: &mut W) -> Result<Flow, SessionFault>
+    fn feed<W: Write>(&mut self, log: &Log, byte: u8, writer: &mut W) -> Result<Flow, WriteFault>
         requires { HasNoFeed self.old.held.items }
         ensures went { (given : Given) (inputs : List Input) → Stands given log.now (whole self.old.bench) inputs
             → Went result given inputs (self.old.held.items ++ byte ∷ []) log.now (whole self.new.bench) self.new.held.items (W.contents writer.old) (W.contents writer.new) self.old.pending self.new.pending }
@@ -102,7 +102,7 @@ impl Talk {
         log: &Log,
         bytes: &[u8],
         writer: &mut W,
-    ) -> Result<Flow, SessionFault>
+    ) -> Result<Flow, WriteFault>
         requires { HasNoFeed self.old.held.items }
         ensures went { (given : Given) (inputs : List Input) → Stands given log.now (whole self.old.bench) inputs
             → Went result given inputs (self.old.held.items ++ bytes.now) log.now (whole self.new.bench) self.new.held.items (W.contents writer.old) (W.contents writer.new) self.old.pending self.new.pending }
@@ -118,7 +118,7 @@ impl Talk {
     }
 
     /// Answers what stands behind the last line feed, at the end of the input, and writes all that waits.
-    fn finish<W: Write>(&mut self, log: &Log, writer: &mut W) -> Result<(), SessionFault>
+    fn finish<W: Write>(&mut self, log: &Log, writer: &mut W) -> Result<(), WriteFault>
         requires { HasNoFeed self.old.held.items }
         ensures { (given : Given) (inputs : List Input) → Stands given log.now (whole self.old.bench) inputs
             → Wrote (W.contents writer.old) (W.contents writer.new) self.old.pending self.new.pending (Finished result given inputs self.old.held.items self.new.pending) }
@@ -129,7 +129,7 @@ impl Talk {
     }
 
     /// Writes all that waits, and has the writer pass it on.
-    fn send<W: Write>(&mut self, writer: &mut W) -> Result<(), SessionFault>
+    fn send<W: Write>(&mut self, writer: &mut W) -> Result<(), WriteFault>
         ensures said { Said (W.contents writer.old) (W.contents writer.new) self.old.pending self.new.pending [] }
         ensures ok { OnOk result (self.new.pending ≡ []) }
         ensures rest { (self.new.bench ≡ self.old.bench) × (self.new.held ≡ self.old.held) }
@@ -137,8 +137,62 @@ impl Talk {
         self.pending.send(writer)?;
         match writer.flush() {
             Ok(()) => Ok(()),
-            Err(_) => Err(SessionFault::Write),
+            Err(_) => Err(WriteFault),
         }
+    }
+
+    /// Reads commands and answers them, up to a line that ends the session or the end of what is read.
+    fn run<R: Read, W: Write>(
+        &mut self,
+        log: &Log,
+        reader: &mut R,
+        writer: &mut W,
+    ) -> Result<(), SessionFault>
+        requires held { self.old.held.items ≡ [] }
+        requires waits { self.old.pending ≡ [] }
+        ensures { (given : Given) → Stands given log.now (whole self.old.bench) []
+            → Ended result given (R.remaining reader.old) (R.remaining reader.new) (W.contents writer.old) (W.contents writer.new) }
+    {
+        let mut chunk = [0; CHUNK];
+        let mut left = COMMANDS;
+        loop {
+            let most = left.min(CHUNK).max(1);
+            let room = &mut chunk[..most];
+            let count = match reader.read(room) {
+                Ok(count) => count,
+                Err(_) => return Err(SessionFault::Read),
+            };
+            if count == 0 {
+                return as_session(self.finish(log, writer));
+            }
+            if left < count {
+                return Err(SessionFault::TooLarge);
+            }
+            left -= count;
+            let flow = match self.feed_all(log, &room[..count], writer) {
+                Ok(flow) => flow,
+                Err(_) => return Err(SessionFault::Write),
+            };
+            let sent = self.send(writer);
+            match flow {
+                Flow::On => {
+                    if sent.is_err() {
+                        return Err(SessionFault::Write);
+                    }
+                }
+                Flow::Over => return as_session(sent),
+            }
+        }
+    }
+}
+
+/// What a session ends with after this.
+fn as_session(sent: Result<(), WriteFault>) -> Result<(), SessionFault>
+    ensures { result ≡ as_session sent }
+{
+    match sent {
+        Ok(()) => Ok(()),
+        Err(_) => Err(SessionFault::Write),
     }
 }
 
@@ -163,25 +217,5 @@ pub fn session<R: Read, W: Write>(
         held: ArrayVec::new(),
         pending: Pending::new(),
     };
-    let mut chunk = [0; CHUNK];
-    let mut left = COMMANDS;
-    loop {
-        let most = left.min(CHUNK).max(1);
-        let room = &mut chunk[..most];
-        let count = match reader.read(room) {
-            Ok(count) => count,
-            Err(_) => return Err(SessionFault::Read),
-        };
-        if count == 0 {
-            return talk.finish(log, writer);
-        }
-        if left < count {
-            return Err(SessionFault::TooLarge);
-        }
-        left -= count;
-        match talk.feed_all(log, &room[..count], writer)? {
-            Flow::On => talk.send(writer)?,
-            Flow::Over => return talk.send(writer),
-        }
-    }
+    talk.run(log, reader, writer)
 }

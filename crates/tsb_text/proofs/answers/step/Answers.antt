@@ -15,7 +15,7 @@ loop-i-preserved g c given is s =
 pub returns-in_err-say-in-Ok : goal.returns-in_err-say-in-Ok
 returns-in_err-say-in-Ok g c given is s = let p = err_from_is_err_and c.from_residual.result c.from_residual.ensures.1 in
     rw p.1 (steps-fault given c.args.log.now is c.args.ticks c.loop-i.bench c.tick.new.bench _ (c.args.ticks - (c.loop-i._i + 1)) c.row-row.result c.next_tick.result _ _ _ _ _ _ _ p.0 (c.loop-i.invariant given is s)
-        (omega arith) c.row-row.ensures c.next_tick.ensures c.in-Ok.ensures c.line_bytes.ensures c.in_err-say-in-Ok.ensures.fault)
+    (omega arith) c.row-row.ensures c.next_tick.ensures c.in-Ok.ensures c.line_bytes.ensures c.in_err-say-in-Ok.ensures.fault)
 
 pub returns-in-Err : goal.returns-in-Err
 returns-in-Err g c given is s =

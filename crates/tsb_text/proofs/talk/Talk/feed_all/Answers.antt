@@ -22,8 +22,8 @@ loop-byte-preserved g c = record {
 pub returns-in_err-feed-clause-went : goal.returns-in_err-feed-clause-went
 returns-in_err-feed-clause-went g c given is s = let p = err_from_is_err_and c.from_residual.result c.from_residual.ensures.1 in
     rw p.1 (talking-fault given c.args.log.now is c.args.self.now.held.items c.args.bytes.now c.loop-byte.byte-index (get_or c.args.bytes.now c.loop-byte.byte-index 0)
-        (whole c.loop-byte.self.bench) (whole c.feed.new.self.bench) c.loop-byte.self.held.items c.feed.new.self.held.items p.0 _ _ _ _ _ _ c.loop-byte-test.true refl
-        (c.loop-byte.invariant.talking given is s) c.in_err-feed.ensures.went)
+    (whole c.loop-byte.self.bench) (whole c.feed.new.self.bench) c.loop-byte.self.held.items c.feed.new.self.held.items p.0 _ _ _ _ _ _ c.loop-byte-test.true refl
+    (c.loop-byte.invariant.talking given is s) c.in_err-feed.ensures.went)
 
 pub returns-in-Over-clause-went : goal.returns-in-Over-clause-went
 returns-in-Over-clause-went g c given is s =

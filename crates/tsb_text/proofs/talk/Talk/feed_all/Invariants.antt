@@ -11,6 +11,6 @@ abbrev pub invariant-loop-byte : goal.invariant-loop-byte
 invariant-loop-byte g l = record {
   talking : (given : Given) (is : List Input) → Stands given l.log (whole l.fn.self.bench) is
       → Talking given l.log is (l.fn.self.held.items ++ take l.byte-index l.bytes) (whole l.self.bench) l.self.held.items
-          (g.W.Write.contents l.fn.writer) (g.W.Write.contents l.writer) l.fn.self.pending l.self.pending;
+      (g.W.Write.contents l.fn.writer) (g.W.Write.contents l.writer) l.fn.self.pending l.self.pending;
   clean : HasNoFeed l.self.held.items;
 }

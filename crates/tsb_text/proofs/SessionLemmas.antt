@@ -1,0 +1,216 @@
+-- A session from its first read to its end.
+use Rattle.std.proofs.Common.{◌≡◌, ℕ, ◌+◌, ◌-◌, ◌<◌, ◌≤◌, List, [], ◌∷◌, ◌++◌, length, refl, sym, ap, ◌∙◌, append_assoc, length-append, length-take, Some, None, Ok, Err, arith, subst, OnOk, OnErr, take, ◌⊎◌, inl, inr}
+use Rattle.std.proofs.lemmas.List.{append-nil}
+use Rattle.std.specs.declared.option.Option.{Option}
+use Rattle.std.specs.declared.result.Result.{Result}
+use Rattle.std.specs.Io.KnownBytes.{Appends, Consumes, Keeps, IsAtEnd}
+use Rattle.tsb_bench.specs.declared.inputs.Input.{Input}
+use Rattle.tsb_bench.specs.Past.{Held, Whole, whole}
+use Rattle.tsb_log_text.specs.declared.log.LogRow.{LogRow}
+use Rattle.tsb_text.specs.declared.fault.SessionFault.{SessionFault}
+use Rattle.tsb_text.specs.declared.fault.SessionFault.TheVariants.{Read, Write, TooLarge}
+use Rattle.tsb_text.specs.declared.fault.WriteFault.{WriteFault}
+use Rattle.tsb_text.specs.declared.talk.Flow.{Flow}
+use Rattle.tsb_text.specs.declared.talk.Flow.TheVariants.{On, Over}
+use Rattle.tsb_text.specs.Answers.{Given}
+use Rattle.tsb_text.specs.Text.{IsText}
+use Rattle.tsb_text.specs.Talk.{Stands, Carries, IsWhole, IsBegun, Went, Finished, Ended, EndedSo, Going, as_session}
+use Rattle.tsb_text.specs.Written.{Said, Wrote}
+use Rattle.tsb_text.proofs.TextLemmas.{some-text}
+use Rattle.tsb_text.proofs.TalkLemmas.{joined, begun-more}
+use Rattle.tsb_text.proofs.WrittenLemmas.{said-nothing, said-more}
+
+consumes-nothing : (a : Option (List ℕ)) → Consumes a a []
+consumes-nothing None = tt
+consumes-nothing (Some xs) = refl
+
+consumes-more : (a b c : Option (List ℕ)) (x y : List ℕ) → Consumes a b x → Consumes b c y → Consumes a c (x ++ y)
+consumes-more None b c x y h k = tt
+consumes-more (Some xs) None c x y h k = absurd h
+consumes-more (Some xs) (Some ys) None x y h k = absurd k
+consumes-more (Some xs) (Some ys) (Some zs) x y h k = h ∙ ap (λ (v : List ℕ). x ++ v) k ∙ sym (append_assoc x y zs)
+
+consumes-kept : (a b c : Option (List ℕ)) (x : List ℕ) → Consumes a b x → Keeps b c → Consumes a c x
+consumes-kept None b c x h k = tt
+consumes-kept (Some xs) None c x h k = absurd h
+consumes-kept (Some xs) (Some ys) None x h k = absurd k
+consumes-kept (Some xs) (Some ys) (Some zs) x h k = h ∙ ap (λ (v : List ℕ). x ++ v) (sym k)
+
+pub going-start : (given : Given) (log : List LogRow) (bench : Whole) (held : List ℕ) (i o : Option (List ℕ)) (waits : List ℕ) → held ≡ [] → waits ≡ [] → Stands given log bench [] → Going given log bench held 16777216 i i o o waits
+going-start given log bench held i o waits empty none stands = record {
+  inputs = [];
+  stands = stands;
+  read = [];
+  taken = consumes-nothing i;
+  wrote = record {
+    text = [];
+    said = subst (λ (v : List ℕ). Said o o [] v []) (sym none) (said-nothing o []);
+    so = record { on = λ more text t. subst (λ (v : List ℕ). IsText given [] (v ++ more) text) empty t };
+  };
+  fits = refl;
+}
+
+-- ## How it ends
+
+-- what was said in all
+EndedText : Result (Unit {0}) SessionFault → Given → Option (List ℕ) → List ℕ → List ℕ → List ℕ → Type 0
+EndedText (Ok u) given left read waits said = (waits ≡ []) × ((IsAtEnd left × IsText given [] read said) ⊎ IsWhole given [] read said)
+EndedText (Err e) given left read waits said = (IsAtEnd left × (rest : List ℕ) × IsText given [] read (said ++ rest)) ⊎ IsBegun given [] read said
+
+ended-so : (r : Result (Unit {0}) SessionFault) (given : Given) (left : Option (List ℕ)) (read waits said gone : List ℕ) → said ≡ gone ++ waits → EndedText r given left read waits said → EndedSo r given left read gone
+unfolding EndedText
+ended-so (Ok u) given left read waits said gone e x =
+    let all : said ≡ gone = e ∙ ap (λ (v : List ℕ). gone ++ v) x.0 ∙ append-nil gone in
+    elim x.1 [
+      | inl end ↦ inl (end.0, subst (λ (v : List ℕ). IsText given [] read v) all end.1)
+      | inr whole ↦ inr (record { all = λ more. subst (λ (v : List ℕ). IsText given [] (read ++ more) v) all (whole.all more) })
+    ]
+ended-so (Err f) given left read waits said gone e x = elim x [
+  | inl end ↦ inl (end.0, waits ++ end.1, subst (λ (v : List ℕ). IsText given [] read v) (front end.1) end.2)
+  | inr begun ↦ inr (record { rest = λ more. (waits ++ (begun.rest more).0, subst (λ (v : List ℕ). IsText given [] (read ++ more) v) (front (begun.rest more).0) (begun.rest more).1) })
+]
+  where
+    front : (rest : List ℕ) → said ++ rest ≡ gone ++ (waits ++ rest)
+    front rest = ap (λ (v : List ℕ). v ++ rest) e ∙ append_assoc gone waits rest
+
+ended : (r : Result (Unit {0}) SessionFault) (given : Given) (i l o n : Option (List ℕ)) (read waits : List ℕ) → Consumes i l read → Wrote o n [] waits (EndedText r given l read waits) → (r ≡ Err TooLarge → 16777216 < length read) → length read ≤ 16777217
+    → Ended r given i l o n
+ended r given i l o n read waits taken wrote large most = record {
+  read = read;
+  taken = taken;
+  written = wrote.said.gone;
+  grown = wrote.said.grown;
+  so = ended-so r given l read waits wrote.text wrote.said.gone wrote.said.kept wrote.so;
+  large = large;
+  most = most;
+}
+
+-- what goes on begins a text
+begun-going : (given : Given) (is : List Input) (read held said : List ℕ) → Carries given [] read is held said → IsBegun given [] read said
+begun-going given is read held said k =
+    record { rest = λ more. let some : (t : List ℕ) × IsText given is (held ++ more) t = some-text given is (held ++ more) in (some.0, k.on more some.0 some.1) }
+
+-- a read failed
+pub ended-read : (given : Given) (log : List LogRow) (bench : Whole) (held : List ℕ) (budget : ℕ) (i l l2 o n : Option (List ℕ)) (waits : List ℕ) → Going given log bench held budget i l o n waits → Keeps l l2 → Ended (Err Read) given i l2 o n
+unfolding EndedText
+ended-read given log bench held budget i l l2 o n waits g k =
+    ended (Err Read) given i l2 o n g.read waits (consumes-kept i l l2 g.read g.taken k)
+    (record { text = g.wrote.text; said = g.wrote.said; so = inr (begun-going given g.inputs g.read held g.wrote.text g.wrote.so) })
+    (λ e. absurd (cc)) (let f : length g.read + budget ≡ 16777216 = g.fits in omega (arith, f))
+
+-- a byte stands behind those that may be read
+pub ended-large : (given : Given) (log : List LogRow) (bench : Whole) (held : List ℕ) (budget : ℕ) (i l l2 o n : Option (List ℕ)) (waits : List ℕ) (count most : ℕ) (piece : List ℕ) → Going given log bench held budget i l o n waits → Consumes l l2 piece
+    → budget < count → count ≡ length piece → count ≤ most → (budget < most → most ≤ 1) → Ended (Err TooLarge) given i l2 o n
+unfolding EndedText
+ended-large given log bench held budget i l l2 o n waits count most piece g k over long room one =
+    let f : length g.read + budget ≡ 16777216 = g.fits in
+    let all : length (g.read ++ piece) ≡ length g.read + length piece = length-append g.read piece in
+    let single : most ≤ 1 = one (omega (arith, over, room)) in
+    ended (Err TooLarge) given i l2 o n (g.read ++ piece) waits (consumes-more i l l2 g.read piece g.taken k)
+    (let b : Wrote o n [] waits (IsBegun given [] (g.read ++ piece)) = begun-more given [] g.read piece o n [] waits (record { text = g.wrote.text; said = g.wrote.said; so = begun-going given g.inputs g.read held g.wrote.text g.wrote.so }) in
+    record { text = b.text; said = b.said; so = inr b.so })
+    (λ e. omega (arith, f, all, over, long)) (omega (arith, f, all, over, long, room, single))
+
+never-large : (r : Result (Unit {0}) WriteFault) → as_session r ≡ Err TooLarge → ⊥
+never-large (Ok u) h = cc
+never-large (Err e) h = cc
+
+-- the end of what is read
+pub ended-end : (given : Given) (log : List LogRow) (bench : Whole) (held : List ℕ) (budget : ℕ) (i l l2 o n n2 : Option (List ℕ)) (waits waits2 : List ℕ) (r : Result (Unit {0}) WriteFault) (count : ℕ) (buf : List ℕ)
+    → Going given log bench held budget i l o n waits → count ≡ 0 → Consumes l l2 (take count buf) → IsAtEnd l2
+    → ((given : Given) (inputs : List Input) → Stands given log bench inputs → Wrote n n2 waits waits2 (Finished r given inputs held waits2)) → Ended (as_session r) given i l2 o n2
+unfolding EndedText
+ended-end given log bench held budget i l l2 o n n2 waits waits2 r count buf g none k end finish =
+    ended (as_session r) given i l2 o n2 (g.read ++ []) waits2 (consumes-more i l l2 g.read [] g.taken (subst (λ (m : ℕ). Consumes l l2 (take m buf)) none k))
+    (at r (finish given g.inputs g.stands)) (λ e. absurd (never-large r e))
+    (let f : length g.read + budget ≡ 16777216 = g.fits in let all : length (g.read ++ []) ≡ length g.read + 0 = length-append g.read [] in omega (arith, f, all))
+  where
+    at : (r : Result (Unit {0}) WriteFault) → Wrote n n2 waits waits2 (Finished r given g.inputs held waits2) → Wrote o n2 [] waits2 (EndedText (as_session r) given l2 (g.read ++ []) waits2)
+    at (Ok u) w = record {
+      text = g.wrote.text ++ w.text;
+      said = said-more o n n2 [] waits waits2 g.wrote.text w.text g.wrote.said w.said;
+      so = (w.so.0, inl (end, g.wrote.so.on [] w.text (subst (λ (v : List ℕ). IsText given g.inputs v w.text) (sym (append-nil held)) w.so.1)));
+    }
+    at (Err e) w = record {
+      text = g.wrote.text ++ w.text;
+      said = said-more o n n2 [] waits waits2 g.wrote.text w.text g.wrote.said w.said;
+      so = inl (
+        end,
+        w.so.0,
+        subst (λ (v : List ℕ). IsText given [] (g.read ++ []) v) (sym (append_assoc g.wrote.text w.text w.so.0))
+            (g.wrote.so.on [] (w.text ++ w.so.0) (subst (λ (v : List ℕ). IsText given g.inputs v (w.text ++ w.so.0)) (sym (append-nil held)) w.so.1)),
+      );
+    }
+
+-- a fault within the answers to a piece
+pub ended-fault : (given : Given) (log : List LogRow) (bench bench2 : Whole) (held held2 : List ℕ) (budget : ℕ) (i l l2 o n n2 : Option (List ℕ)) (waits waits2 : List ℕ) (count : ℕ) (piece : List ℕ)
+    → Going given log bench held budget i l o n waits → Consumes l l2 piece → count ≡ length piece → count ≤ budget
+    → ((given : Given) (inputs : List Input) → Stands given log bench inputs → Wrote n n2 waits waits2 (IsBegun given inputs (held ++ piece))) → Ended (Err Write) given i l2 o n2
+unfolding EndedText
+ended-fault given log bench bench2 held held2 budget i l l2 o n n2 waits waits2 count piece g k long fits went =
+    let w : Wrote o n2 [] waits2 (IsBegun given [] (g.read ++ piece)) = joined (Err _) given log [] g.read g.inputs held piece bench2 held2 o n n2 [] waits waits2 g.wrote (went given g.inputs g.stands) in
+    ended (Err Write) given i l2 o n2 (g.read ++ piece) waits2 (consumes-more i l l2 g.read piece g.taken k) (record { text = w.text; said = w.said; so = inr w.so })
+    (λ x. absurd (cc)) (let f : length g.read + budget ≡ 16777216 = g.fits in let all : length (g.read ++ piece) ≡ length g.read + length piece = length-append g.read piece in omega (arith, f, all, long, fits))
+
+-- a line ended it, and what waited then was written, or was not
+pub ended-over : (given : Given) (log : List LogRow) (bench bench2 : Whole) (held held2 : List ℕ) (budget : ℕ) (i l l2 o n n2 n3 : Option (List ℕ)) (waits waits2 waits3 : List ℕ) (r : Result (Unit {0}) WriteFault) (f : Flow) (count : ℕ) (piece : List ℕ)
+    → Going given log bench held budget i l o n waits → Consumes l l2 piece → count ≡ length piece → count ≤ budget → f ≡ Over
+    → ((given : Given) (inputs : List Input) → Stands given log bench inputs → Went (Ok f) given inputs (held ++ piece) log bench2 held2 n n2 waits waits2)
+    → Said n2 n3 waits2 waits3 [] → OnOk r (waits3 ≡ []) → Ended (as_session r) given i l2 o n3
+unfolding EndedText
+ended-over given log bench bench2 held held2 budget i l l2 o n n2 n3 waits waits2 waits3 r f count piece g k long fits over went said ok =
+    ended (as_session r) given i l2 o n3 (g.read ++ piece) waits3 (consumes-more i l l2 g.read piece g.taken k) (at r ok) (λ x. absurd (never-large r x))
+    (let f : length g.read + budget ≡ 16777216 = g.fits in let all : length (g.read ++ piece) ≡ length g.read + length piece = length-append g.read piece in omega (arith, f, all, long, fits))
+  where
+    w : Wrote o n2 [] waits2 (IsWhole given [] (g.read ++ piece))
+    w = joined (Ok Over) given log [] g.read g.inputs held piece bench2 held2 o n n2 [] waits waits2 g.wrote
+        (subst (λ (x : Flow). Went (Ok x) given g.inputs (held ++ piece) log bench2 held2 n n2 waits waits2) over (went given g.inputs g.stands))
+
+    all : (more : List ℕ) → IsText given [] ((g.read ++ piece) ++ more) (w.text ++ [])
+    all more = subst (λ (v : List ℕ). IsText given [] ((g.read ++ piece) ++ more) v) (sym (append-nil w.text)) (w.so.all more)
+
+    at : (r : Result (Unit {0}) WriteFault) → OnOk r (waits3 ≡ []) → Wrote o n3 [] waits3 (EndedText (as_session r) given l2 (g.read ++ piece) waits3)
+    at (Ok u) ok = record { text = w.text ++ []; said = said-more o n2 n3 [] waits2 waits3 w.text [] w.said said; so = (ok, inr (record { all = all })) }
+    at (Err e) ok = record {
+      text = w.text ++ [];
+      said = said-more o n2 n3 [] waits2 waits3 w.text [] w.said said;
+      so = inr (record { rest = λ more. ([], subst (λ (v : List ℕ). IsText given [] ((g.read ++ piece) ++ more) v) (sym (append-nil (w.text ++ []))) (all more)) });
+    }
+
+-- a piece more
+pub going-more : (given : Given) (log : List LogRow) (bench bench2 : Whole) (held held2 : List ℕ) (budget : ℕ) (i l l2 o n n2 n3 : Option (List ℕ)) (waits waits2 waits3 : List ℕ) (f : Flow) (count : ℕ) (piece : List ℕ)
+    → Going given log bench held budget i l o n waits → Consumes l l2 piece → count ≡ length piece → count ≤ budget → f ≡ On
+    → ((given : Given) (inputs : List Input) → Stands given log bench inputs → Went (Ok f) given inputs (held ++ piece) log bench2 held2 n n2 waits waits2)
+    → Said n2 n3 waits2 waits3 [] → Going given log bench2 held2 (budget - count) i l2 o n3 waits3
+going-more given log bench bench2 held held2 budget i l l2 o n n2 n3 waits waits2 waits3 f count piece g k long fits on went said =
+    let w : Went (Ok On) given [] (g.read ++ piece) log bench2 held2 o n2 [] waits2 = joined (Ok On) given log [] g.read g.inputs held piece bench2 held2 o n n2 [] waits waits2 g.wrote
+    (subst (λ (x : Flow). Went (Ok x) given g.inputs (held ++ piece) log bench2 held2 n n2 waits waits2) on (went given g.inputs g.stands)) in
+    record {
+      inputs = w.0;
+      stands = w.1;
+      read = g.read ++ piece;
+      taken = consumes-more i l l2 g.read piece g.taken k;
+      wrote = record {
+        text = w.2.text ++ [];
+        said = said-more o n2 n3 [] waits2 waits3 w.2.text [] w.2.said said;
+        so = record { on = λ more text t. subst (λ (v : List ℕ). IsText given [] ((g.read ++ piece) ++ more) (v ++ text)) (sym (append-nil w.2.text)) (w.2.so.on more text t) };
+      };
+      fits = let f : length g.read + budget ≡ 16777216 = g.fits in let all : length (g.read ++ piece) ≡ length g.read + length piece = length-append g.read piece in omega (arith, f, all, long, fits);
+    }
+
+-- a fault in writing what waited behind a piece
+pub ended-send : (given : Given) (log : List LogRow) (bench bench2 : Whole) (held held2 : List ℕ) (budget : ℕ) (i l l2 o n n2 n3 : Option (List ℕ)) (waits waits2 waits3 : List ℕ) (f : Flow) (count : ℕ) (piece : List ℕ)
+    → Going given log bench held budget i l o n waits → Consumes l l2 piece → count ≡ length piece → count ≤ budget → f ≡ On
+    → ((given : Given) (inputs : List Input) → Stands given log bench inputs → Went (Ok f) given inputs (held ++ piece) log bench2 held2 n n2 waits waits2)
+    → Said n2 n3 waits2 waits3 [] → Ended (Err Write) given i l2 o n3
+unfolding EndedText
+ended-send given log bench bench2 held held2 budget i l l2 o n n2 n3 waits waits2 waits3 f count piece g k long fits on went said =
+    let x : Going given log bench2 held2 (budget - count) i l2 o n3 waits3 = going-more given log bench bench2 held held2 budget i l l2 o n n2 n3 waits waits2 waits3 f count piece g k long fits on went said in
+    ended (Err Write) given i l2 o n3 x.read waits3 x.taken (record { text = x.wrote.text; said = x.wrote.said; so = inr (begun-going given x.inputs x.read held2 x.wrote.text x.wrote.so) })
+    (λ h. absurd (cc)) (let f : length x.read + (budget - count) ≡ 16777216 = x.fits in omega (arith, f))
+
+-- the same bench, the same bytes held
+pub going-same : (given : Given) (log : List LogRow) (old new : Held) (held held2 : List ℕ) (budget : ℕ) (i l o n : Option (List ℕ)) (waits : List ℕ) → new ≡ old → held2 ≡ held → Going given log (whole old) held budget i l o n waits
+    → Going given log (whole new) held2 budget i l o n waits
+going-same given log old new held held2 budget i l o n waits bench bytes g =
+    subst (λ (b : Held). Going given log (whole b) held2 budget i l o n waits) (sym bench) (subst (λ (h : List ℕ). Going given log (whole old) h budget i l o n waits) (sym bytes) g)
