@@ -1,39 +1,46 @@
-//! A bench for signal timing plans. So far it runs the built-in plan of two phases with all inputs off, and
-//! takes the commands `step N`, `back N`, `undo` and `show` on standard input, one a line.
+//! A bench for signal timing plans: `tsb check PLAN` judges a plan, `tsb run PLAN LOG` runs a session on it, and `tsb`
+//! alone runs one on the built-in plan of two phases with an empty log.
 #![tactic(auto)]
 
-mod command;
-mod display_line;
-mod session;
+mod asked;
+mod files;
+mod run;
 
-use crate::session::{Fault, talk};
-use std::io::{self, Write};
+use crate::asked::WordsFault;
+use crate::files::Disk;
+use crate::run::{run_words, tell_words_fault};
+use std::env;
+use std::io::ErrorKind;
 use std::process::ExitCode;
-use tsb_bench::{Bench, Checked, Plan};
-
-/// The status of a run that a device or memory ended.
-const FAULT: u8 = 3;
 
 fn main(rt: HostRuntime) -> ExitCode {
-    let Ok(plan) = Checked::new(Plan::two()) else {
-        return ExitCode::from(FAULT);
+    let status = match words_given(&rt) {
+        Ok(words) => run_words(
+            rt.alloc(),
+            words.as_slice(),
+            &Disk { rt: &rt },
+            &mut rt.stdin(),
+            &mut rt.stdout(),
+            &mut rt.stderr(),
+        ),
+        Err(fault) => tell_words_fault(&mut rt.stderr(), fault),
     };
-    let mut bench = Bench::power_up(rt.alloc(), plan);
-    match talk(&mut bench, &mut rt.stdin(), &mut rt.stdout()) {
-        Ok(()) => ExitCode::SUCCESS,
-        Err(fault) => {
-            let _ = tell(&mut rt.stderr(), fault);
-            ExitCode::from(FAULT)
-        }
-    }
+    ExitCode::from(status)
 }
 
-fn tell<W: Write>(errors: &mut W, fault: Fault) -> io::Result<()> {
-    let text = match fault {
-        Fault::Read => b"read fault\n".as_slice(),
-        Fault::Write => b"write fault\n".as_slice(),
-    };
-    errors.write_all(text)
+/// The words that the program was given, of which the first is its name. Those that are not UTF-8 are bad words.
+fn words_given(rt: &HostRuntime) -> Result<Vec<String>, WordsFault> {
+    let mut words = Vec::new(rt.alloc());
+    match env::args(rt) {
+        Ok(args) => {
+            for word in args {
+                words.push(word).map_err(|_| WordsFault::Memory)?;
+            }
+            Ok(words)
+        }
+        Err(error) if error.kind() == ErrorKind::OutOfMemory => Err(WordsFault::Memory),
+        Err(_) => Err(WordsFault::Bad),
+    }
 }
 
 #[cfg(test)]

@@ -93,14 +93,14 @@ length-onto b (l ∷ ls) = omega arith
 length-split : (xs : List ℕ) → length (split xs) ≤ suc (length xs)
 length-split [] = omega arith
 length-split (b ∷ bs) = elim (eqb_tells b 10) [
-    | inl z ↦ rw z.0 (let rest : length (split bs) ≤ suc (length bs) = length-split bs in omega (arith, rest))
-    | inr off ↦
-        rw off.0 (
-          let rest : length (split bs) ≤ suc (length bs) = length-split bs in
-          let onto : length (onto_first b (split bs)) ≤ suc (length (split bs)) = length-onto b (split bs) in
-          omega (arith, rest, onto)
-        )
-  ]
+  | inl z ↦ rw z.0 (let rest : length (split bs) ≤ suc (length bs) = length-split bs in omega (arith, rest))
+  | inr off ↦
+      rw off.0 (
+      let rest : length (split bs) ≤ suc (length bs) = length-split bs in
+      let onto : length (onto_first b (split bs)) ≤ suc (length (split bs)) = length-onto b (split bs) in
+      omega (arith, rest, onto)
+      )
+]
 
 length-ended : (ls : List (List ℕ)) → length (ended ls) ≡ length ls
 length-ended [] = refl

@@ -3,6 +3,7 @@
 //! What is said here is "profile": this project's own choice.
 #![tactic(auto)]
 
+pub mod laws;
 pub mod lines;
 #[cfg(test)]
 mod tests;

@@ -13,6 +13,7 @@ fn lines_end_at_line_feeds(rt: HostRuntime) {
     assert_eq!(rt; line, b"last\r".as_slice());
     assert!(rt; rest.is_none());
     assert_eq!(rt; without_return(line), b"last".as_slice());
+    laws::lines_make_up_the_text();
 }
 
 #[test]
@@ -37,4 +38,5 @@ fn words_spell_numbers(rt: HostRuntime) {
     assert_eq!(rt; number(b"00000000001".as_slice()), None);
     assert_eq!(rt; number(b"".as_slice()), None);
     assert_eq!(rt; number(b"1x".as_slice()), None);
+    laws::words_stand_between_spaces();
 }

@@ -1,3 +1,4 @@
 pub mod DigitLemmas
 pub mod PlaceLemmas
 pub mod ReadLemmas
+pub mod LawLemmas

@@ -2,3 +2,4 @@ pub mod Rows
 pub mod Logs
 pub mod Places
 pub mod Steps
+pub mod Laws

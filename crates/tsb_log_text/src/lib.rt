@@ -7,6 +7,7 @@
 #![tactic(auto)]
 
 pub mod fault;
+pub mod laws;
 pub mod log;
 mod read;
 mod row_text;

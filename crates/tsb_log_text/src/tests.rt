@@ -30,6 +30,7 @@ fn rows_are_in_force_until_the_next(rt: HostRuntime) {
     assert_eq!(rt; log.row(100, &mut place), only(36));
     let empty = Log::empty(rt.alloc());
     assert_eq!(rt; empty.row(100, &mut place), Row::all_off());
+    laws::rows_are_in_force_to_the_next();
 }
 
 #[test]
@@ -43,6 +44,7 @@ fn digits_are_inputs(rt: HostRuntime) {
     assert_eq!(rt; row.vehicles.list(), 0x8001);
     assert_eq!(rt; row.pedestrians.list(), 0x81);
     assert_eq!(rt; row.preempts.list(), 9);
+    laws::digits_tell_their_inputs();
 }
 
 #[test]
@@ -58,6 +60,7 @@ fn faults_name_their_line(rt: HostRuntime) {
     assert!(rt; says(rt.alloc(), behind, "log line 3: malformed"));
     let end = b"0000100 0010010000000000 00000000 0000\r".as_slice();
     assert!(rt; says(rt.alloc(), end, "log line 1: malformed"));
+    laws::logs_are_rows_that_rise();
 }
 
 fn says(alloc: Global, text: &[u8], message: &str) -> bool {

@@ -1,4 +1,6 @@
-//! Texts: the display line, and sessions of commands.
+//! Texts: plans, logs and commands in, display lines and the answers of a session out.
+//!
+//! What a session needs of the crates below is given out again: plans and their faults, logs, commands, and the bench.
 #![tactic(auto)]
 
 mod answers;
@@ -11,3 +13,7 @@ mod talk;
 pub use display_line::line;
 pub use fault::SessionFault;
 pub use talk::{COMMANDS, session};
+pub use tsb_bench::{Bench, Checked, Kind, Plan, Refusal, Row, Rule, Station};
+pub use tsb_command_text::{Command, read_command};
+pub use tsb_log_text::{LIMIT as LOG_LIMIT, Log, LogFault, read_log};
+pub use tsb_plan_text::{LIMIT as PLAN_LIMIT, PlanFault, read_plan};

@@ -1,0 +1,190 @@
+//! What the program does for its words.
+
+use crate::asked::{Asked, WordsFault, read_words};
+use crate::files::{FileFault, Files, read_file};
+use std::alloc::Global;
+use std::convert::AsStr;
+use std::fmt::Display;
+use std::io::{Read, Write};
+use tsb_text::{
+    Checked, LOG_LIMIT, Log, LogFault, PLAN_LIMIT, Plan, PlanFault, read_log, read_plan, session,
+};
+
+/// How to use the program.
+const USAGE: &str = "usage: tsb check PLAN or tsb run PLAN LOG";
+
+/// What the program ends with.
+#[derive(Clone, Copy, Debug, PartialEq, Eq)]
+enum Status {
+    /// All was done.
+    Done,
+    /// A plan or a log was refused.
+    Refused,
+    /// The words are not those of the program.
+    BadWords,
+    /// A read, a write or memory failed.
+    Fault,
+}
+
+impl Status {
+    /// The number that the program ends with.
+    fn number(self) -> u8 {
+        match self {
+            Status::Done => 0,
+            Status::Refused => 1,
+            Status::BadWords => 2,
+            Status::Fault => 3,
+        }
+    }
+}
+
+/// Does what the words ask for, of which the first is the program's name, and gives the status that the program ends
+/// with: 0 where all was done, 1 for a refused plan or log, 2 for bad words, 3 where a read, a write or memory failed.
+///
+/// What `check` finds of a plan goes to `output`, and so do the answers of a session. The fault that ends `run` goes to
+/// `errors`, and so do bad words and failures.
+pub fn run_words<S: AsStr, F: Files, R: Read, W: Write, E: Write>(
+    alloc: Global,
+    words: &[S],
+    files: &F,
+    input: &mut R,
+    output: &mut W,
+    errors: &mut E,
+) -> u8 {
+    match read_words(alloc, words) {
+        Ok(Asked::Check(plan)) => check(alloc, plan, files, output, errors),
+        Ok(Asked::Run(plan, log)) => run(alloc, (plan, log), files, input, output, errors),
+        Ok(Asked::BuiltIn) => run_built_in(alloc, input, output, errors),
+        Err(fault) => tell_words_fault(errors, fault),
+    }
+}
+
+/// Tells why words ask for nothing, and gives the status that the program ends with.
+pub fn tell_words_fault<E: Write>(errors: &mut E, fault: WordsFault) -> u8 {
+    match fault {
+        WordsFault::Memory => tell(errors, Status::Fault, "memory"),
+        WordsFault::Bad => tell(errors, Status::BadWords, USAGE),
+    }
+}
+
+/// Writes a line, and gives the number of the status. Where the line can't be written, nobody can be told of it.
+fn tell<E: Write, T: Display + Drop>(errors: &mut E, status: Status, text: T) -> u8 {
+    let _ = writeln!(errors, "{text}");
+    let _ = errors.flush();
+    status.number()
+}
+
+/// Why there is no plan or log.
+#[derive(Drop)]
+enum Fault<T> {
+    /// Its file was not read.
+    File(FileFault),
+    /// There was no memory for it.
+    Memory,
+    /// It was refused.
+    Refused(T),
+}
+
+/// The plan in the file at this path.
+fn plan_of<F: Files>(alloc: Global, files: &F, path: &str) -> Result<Checked, Fault<PlanFault>> {
+    let text = read_file(alloc, files, path, PLAN_LIMIT).map_err(Fault::File)?;
+    match read_plan(alloc, &text) {
+        Ok(plan) => Ok(plan),
+        Err(PlanFault::Memory) => Err(Fault::Memory),
+        Err(fault) => Err(Fault::Refused(fault)),
+    }
+}
+
+/// The log in the file at this path.
+fn log_of<F: Files>(alloc: Global, files: &F, path: &str) -> Result<Log, Fault<LogFault>> {
+    let text = read_file(alloc, files, path, LOG_LIMIT).map_err(Fault::File)?;
+    match read_log(alloc, &text) {
+        Ok(log) => Ok(log),
+        Err(LogFault::Memory) => Err(Fault::Memory),
+        Err(fault) => Err(Fault::Refused(fault)),
+    }
+}
+
+/// Tells why there is no plan or log.
+fn refuse<E: Write, T: Display + Drop>(errors: &mut E, fault: Fault<T>) -> u8 {
+    match fault {
+        Fault::File(FileFault::Read) => tell(errors, Status::Fault, "read fault"),
+        Fault::File(FileFault::Memory) | Fault::Memory => tell(errors, Status::Fault, "memory"),
+        Fault::Refused(fault) => tell(errors, Status::Refused, fault),
+    }
+}
+
+/// Judges a plan.
+fn check<F: Files, W: Write, E: Write>(
+    alloc: Global,
+    path: &str,
+    files: &F,
+    output: &mut W,
+    errors: &mut E,
+) -> u8 {
+    match plan_of(alloc, files, path) {
+        Ok(_) => judge(output, errors, Status::Done, "plan ok"),
+        Err(Fault::Refused(fault)) => judge(output, errors, Status::Refused, fault),
+        Err(fault) => refuse(errors, fault),
+    }
+}
+
+/// Writes what was found of a plan.
+fn judge<W: Write, E: Write, T: Display + Drop>(
+    output: &mut W,
+    errors: &mut E,
+    status: Status,
+    text: T,
+) -> u8 {
+    if writeln!(output, "{text}").is_err() || output.flush().is_err() {
+        return tell(errors, Status::Fault, "write fault");
+    }
+    status.number()
+}
+
+/// Runs a session on a plan and a log.
+fn run<F: Files, R: Read, W: Write, E: Write>(
+    alloc: Global,
+    (plan, log): (&str, &str),
+    files: &F,
+    input: &mut R,
+    output: &mut W,
+    errors: &mut E,
+) -> u8 {
+    let plan = match plan_of(alloc, files, plan) {
+        Ok(plan) => plan,
+        Err(fault) => return refuse(errors, fault),
+    };
+    let log = match log_of(alloc, files, log) {
+        Ok(log) => log,
+        Err(fault) => return refuse(errors, fault),
+    };
+    talk(alloc, plan, &log, input, output, errors)
+}
+
+/// Runs a session on the built-in plan of two phases with an empty log.
+fn run_built_in<R: Read, W: Write, E: Write>(
+    alloc: Global,
+    input: &mut R,
+    output: &mut W,
+    errors: &mut E,
+) -> u8 {
+    match Checked::new(Plan::two()) {
+        Ok(plan) => talk(alloc, plan, &Log::empty(alloc), input, output, errors),
+        Err(rule) => tell(errors, Status::Refused, PlanFault::Rule(rule)),
+    }
+}
+
+fn talk<R: Read, W: Write, E: Write>(
+    alloc: Global,
+    plan: Checked,
+    log: &Log,
+    input: &mut R,
+    output: &mut W,
+    errors: &mut E,
+) -> u8 {
+    match session(alloc, plan, log, input, output) {
+        Ok(()) => Status::Done.number(),
+        Err(fault) => tell(errors, Status::Fault, fault),
+    }
+}

@@ -1,0 +1,6 @@
+pub mod LimitLemmas
+pub mod NumberLemmas
+pub mod RiseLemmas
+pub mod SaysLemmas
+pub mod TableLemmas
+pub mod TextLemmas

@@ -1,0 +1,3 @@
+pub mod PlanFaults
+pub mod PlanText
+pub mod PlanTextSays

@@ -1,0 +1,105 @@
+-- What a plan text says: the plan, or its first fault. `read` and `Data` are those of `serde_json`: an object's members
+-- stand in the byte order of their names, each name once with the value that it has last, so what goes over the members
+-- from the first on judges them in that order.
+use Rattle.std.specs.Prelude.{ℕ, ◌^◌, List, length, nat_lt, nat_le, ◌==◌, if◌then◌else◌, Option, Some, None, option_and_then, Result, Ok, Err, codes, bytes_eq, find}
+use Rattle.std.specs.Fmt.{decimal}
+use Rattle.std.specs.Str.{is_utf8}
+use Rattle.serde_json.specs.Data.{Data, Members, no_members, member}
+use Rattle.serde_json.specs.Find.{get_member, as_number, as_object, as_u64}
+use Rattle.serde_json.specs.Read.{read}
+use Rattle.tsb_objects.specs.Built.{objection}
+use Rattle.tsb_objects.specs.declared.rules.Rule.{Rule}
+use Rattle.tsb_plan.specs.declared.object.Object.{Object}
+use Rattle.tsb_plan.specs.declared.version.Version.{Version}
+use Rattle.tsb_plan.specs.declared.version.Version.TheVariants.{One, Two}
+use Rattle.tsb_plan.specs.Names.{object_named}
+use Rattle.tsb_plan.specs.Plan.{Plan, empty, with_value}
+use Rattle.tsb_plan.specs.Versions.{indices_in, greatest_in, translated}
+use Rattle.tsb_types.specs.Lists.{run_from}
+use Rattle.tsb_plan_text.specs.PlanFaults.{Fault, too_large, not_json, not_a_table, no_version, no_such_object, object_not_a_table, no_such_index, not_a_whole_number, out_of_range, broken}
+
+-- the longest text that is read, in bytes
+abbrev pub limit : ℕ
+limit = 1048576
+
+-- what follows on what there is, or this fault where there is nothing
+abbrev pub or_fault : {A B : Type 0} → Option A → Fault → (A → Result B Fault) → Result B Fault
+or_fault None f next = Err f
+or_fault (Some x) f next = next x
+
+-- what follows on a plan, or the fault that came before
+abbrev pub then_on : Result Plan Fault → (Plan → Result Plan Fault) → Result Plan Fault
+then_on (Ok plan) next = next plan
+then_on (Err f) next = Err f
+
+-- the JSON value that a text is
+unfoldable pub data_of : List ℕ → Option Data
+data_of text = if is_utf8 text then read text else None
+
+-- 1 or 2
+abbrev pub version_numbered : ℕ → Option Version
+version_numbered n = if n == 1 then Some One else (if n == 2 then Some Two else None)
+
+-- the number that `as_u64` gives of a value
+abbrev pub number_in : Data → Option ℕ
+number_in d = option_and_then as_u64 (as_number d)
+
+abbrev pub version_in : Members → Option Version
+version_in members = option_and_then version_numbered (option_and_then number_in (get_member (codes "version") members))
+
+-- a whole number that has 32 bits
+abbrev pub of_32_bits : ℕ → Option ℕ
+of_32_bits n = if nat_lt n (2 ^ 32) then Some n else None
+
+abbrev pub whole_number : Data → Option ℕ
+whole_number d = option_and_then of_32_bits (number_in d)
+
+-- the index, of 1 to n, whose decimal text this is: `decimal` writes no zero in front
+unfoldable pub index_named : ℕ → List ℕ → Option ℕ
+index_named n text = find (λ i. bytes_eq (decimal i) text) (run_from 1 n)
+
+-- the plan with the value of one index of a table, which is judged from its index on
+unfoldable pub with_entry : Version → Object → List ℕ → Data → Plan → Result Plan Fault
+with_entry v o text d plan =
+    or_fault (index_named (indices_in v o) text) (no_such_index o text) (λ i.
+    or_fault (whole_number d) (not_a_whole_number o text) (λ n.
+    if nat_le n (greatest_in v o) then Ok (with_value plan o (translated v o i) n) else Err (out_of_range o text)))
+
+-- with each value of an object's table
+abbrev pub with_table : Version → Object → Members → Plan → Result Plan Fault
+with_table v o no_members plan = Ok plan
+with_table v o (member text d rest) plan = then_on (with_entry v o text d plan) (with_table v o rest)
+
+-- with a member of the text
+unfoldable pub with_member : Version → List ℕ → Data → Plan → Result Plan Fault
+with_member v name d plan =
+    if bytes_eq name (codes "version") then Ok plan else
+    or_fault (object_named v name) (no_such_object name) (λ o.
+    or_fault (as_object d) (object_not_a_table o) (λ table.
+    with_table v o table plan))
+
+-- with all members
+abbrev pub with_members : Version → Members → Plan → Result Plan Fault
+with_members v no_members plan = Ok plan
+with_members v (member name d rest) plan = then_on (with_member v name d plan) (with_members v rest)
+
+-- the plan that a value gives: 0 what it does not name
+unfoldable pub data_plan : Data → Result Plan Fault
+data_plan d =
+    or_fault (as_object d) not_a_table (λ members.
+    or_fault (version_in members) no_version (λ v.
+    with_members v members empty))
+
+-- a plan against which no rule stands
+abbrev pub unless_broken : Option Rule → Plan → Result Plan Fault
+unless_broken None plan = Ok plan
+unless_broken (Some r) plan = Err (broken r)
+
+unfoldable pub checked : Plan → Result Plan Fault
+checked plan = unless_broken (objection plan) plan
+
+-- the plan that a text gives, or the first fault
+unfoldable pub reading : List ℕ → Result Plan Fault
+reading text =
+    if nat_lt limit (length text) then Err too_large else
+    or_fault (data_of text) not_json (λ d. then_on (data_plan d) checked)

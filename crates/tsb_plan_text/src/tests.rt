@@ -1,0 +1,174 @@
+use super::*;
+use std::alloc::{AllocError, Global};
+use tsb_objects::Plan;
+
+/// The built-in plan of two phases.
+const TWO: &str =
+    r#"{"version":1,"phaseEnabled":{"2":1,"4":1},"phaseRing":{"2":1,"4":1},"phaseSide":{"2":1,"4":2},"phaseMinimumGreen":{"2":5,"4":5},"phaseMaximum1":{"2":10,"4":8},"phaseMaximum2":{"2":10,"4":8},"phaseYellowChange":{"2":30,"4":30},"phaseRedClear":{"2":10,"4":10},"phaseMaxRecall":{"2":1,"4":1},"sequenceData":{"1":2,"2":4}}"#;
+
+/// The same with a yellow change of phase 2 that is too short.
+const SHORT_YELLOW: &str =
+    r#"{"version":1,"phaseEnabled":{"2":1,"4":1},"phaseRing":{"2":1,"4":1},"phaseSide":{"2":1,"4":2},"phaseMinimumGreen":{"2":5,"4":5},"phaseMaximum1":{"2":10,"4":8},"phaseMaximum2":{"2":10,"4":8},"phaseYellowChange":{"2":29,"4":30},"phaseRedClear":{"2":10,"4":10},"phaseMaxRecall":{"2":1,"4":1},"sequenceData":{"1":2,"2":4}}"#;
+
+/// The built-in plan of eight phases, which version 1 has in tables of 8.
+const QUAD: &str = r#"{
+  "version": 1,
+  "phaseEnabled": {"1":1,"2":1,"3":1,"4":1,"5":1,"6":1,"7":1,"8":1},
+  "phaseRing": {"1":1,"2":1,"3":1,"4":1,"5":2,"6":2,"7":2,"8":2},
+  "phaseSide": {"1":1,"2":1,"3":2,"4":2,"5":1,"6":1,"7":2,"8":2},
+  "phaseConcurrency": {"1":48,"2":48,"3":192,"4":192,"5":3,"6":3,"7":12,"8":12},
+  "phaseMinimumGreen": {"1":5,"2":5,"3":5,"4":5,"5":5,"6":5,"7":5,"8":5},
+  "phaseMaximum1": {"1":20,"2":20,"3":20,"4":20,"5":20,"6":20,"7":20,"8":20},
+  "phaseMaximum2": {"1":20,"2":20,"3":20,"4":20,"5":20,"6":20,"7":20,"8":20},
+  "phasePassage": {"1":20,"2":20,"3":20,"4":20,"5":20,"6":20,"7":20,"8":20},
+  "phaseMinimumGap": {"1":20,"2":20,"3":20,"4":20,"5":20,"6":20,"7":20,"8":20},
+  "phaseYellowChange": {"1":30,"2":30,"3":30,"4":30,"5":30,"6":30,"7":30,"8":30},
+  "phaseRedClear": {"1":10,"2":10,"3":10,"4":10,"5":10,"6":10,"7":10,"8":10},
+  "phaseWalk": {"2":4},
+  "phasePedestrianClear": {"2":6},
+  "phaseMinRecall": {"2":1,"6":1},
+  "phaseDualEntry": {"2":1,"4":1,"6":1,"8":1},
+  "vehicleDetectorCallPhase": {"1":1,"2":2,"3":3,"4":4,"5":5,"6":6,"7":7,"8":8},
+  "pedestrianDetectorCallPhase": {"2":2},
+  "splitTime": {"1":15,"2":25,"3":15,"4":25,"5":15,"6":25,"7":15,"8":25},
+  "splitCoordPhase": {"2":1,"6":1},
+  "sequenceData": {"1":1,"2":2,"3":3,"4":4,"9":5,"10":6,"11":7,"12":8},
+  "overlapIncludedPhases": {"1":3},
+  "unitRedRevert": {"1":20},
+  "patternCycleTime": {"1":80,"2":80},
+  "patternOffsetTime": {"2":79},
+  "patternSplitNumber": {"1":1,"2":1},
+  "patternSequenceNumber": {"1":1,"2":1},
+  "preemptDwellPhase": {"1":132,"2":72},
+  "preemptMinimumGreen": {"1":2,"2":2},
+  "preemptMinimumWalk": {"1":2,"2":2},
+  "preemptEnterPedClear": {"1":3,"2":3},
+  "preemptMinimumDuration": {"1":10}
+}
+"#;
+
+/// What reading the text answers, printed: the fault's line, or `read`.
+fn answer(alloc: Global, text: &str) -> Result<String, AllocError> {
+    match read_plan(alloc, text.as_bytes()) {
+        Ok(_) => String::from_str(alloc, "read"),
+        Err(fault) => format!(in alloc; "{fault}"),
+    }
+}
+
+/// What reading a text answers that is `front` with blanks up to the length, printed.
+fn answer_padded(alloc: Global, front: &str, len: usize) -> Result<String, AllocError> {
+    let mut text = String::from_str(alloc, front)?;
+    for _ in front.len()..len {
+        text.push(' ')?;
+    }
+    answer(alloc, text.as_str())
+}
+
+#[test]
+fn faults_are_printed(rt: HostRuntime) {
+    let wanted = [
+        (r#""#, "plan: not JSON"),
+        (r#"{"version":1"#, "plan: not JSON"),
+        (r#"[]"#, "plan: not a table"),
+        (r#"{}"#, "plan: version"),
+        (r#"{"version":1.0}"#, "plan: version"),
+        (r#"{"version":"1"}"#, "plan: version"),
+        (r#"{"version":1,"version":3}"#, "plan: version"),
+        (r#"{"version":3,"version":1}"#, "plan: rule K1"),
+        (r#"{"version":1}"#, "plan: rule K1"),
+        (SHORT_YELLOW, "plan: rule K8"),
+        (QUAD, "plan: rule NotYet"),
+    ];
+    for (text, line) in &wanted {
+        let given = answer(rt.alloc(), text).expect(&rt, "memory");
+        assert_eq!(rt; given.as_str(), *line);
+    }
+}
+
+#[test]
+fn faults_of_members_are_printed(rt: HostRuntime) {
+    let wanted = [
+        (r#""Walk":{}"#, "plan: Walk: no such object"),
+        (
+            r#""phaseWalk":5,"W\u0041\"":5"#,
+            "plan: WA\": no such object",
+        ),
+        (r#""overlapType":{}"#, "plan: overlapType: no such object"),
+        (r#""phaseWalk":5"#, "plan: phaseWalk: not a table"),
+        (
+            r#""phaseWalk":{"02":1}"#,
+            "plan: phaseWalk.02: no such object",
+        ),
+        (
+            r#""phaseWalk":{"+2":1}"#,
+            "plan: phaseWalk.+2: no such object",
+        ),
+        (
+            r#""phaseWalk":{"9":1}"#,
+            "plan: phaseWalk.9: no such object",
+        ),
+        (
+            r#""phaseWalk":{"2":-1}"#,
+            "plan: phaseWalk.2: not a whole number",
+        ),
+        (
+            r#""phaseWalk":{"2":30.0}"#,
+            "plan: phaseWalk.2: not a whole number",
+        ),
+        (
+            r#""phaseWalk":{"2":4294967296}"#,
+            "plan: phaseWalk.2: not a whole number",
+        ),
+        (
+            r#""phaseWalk":{"2":4294967295}"#,
+            "plan: phaseWalk.2: out of range",
+        ),
+        (
+            r#""phaseWalk":{"2":256}"#,
+            "plan: phaseWalk.2: out of range",
+        ),
+        (
+            r#""phaseWalk":{"2":256,"10":-1}"#,
+            "plan: phaseWalk.10: no such object",
+        ),
+        (
+            r#""phaseWalk":{"2":256},"phaseSide":{"2":3}"#,
+            "plan: phaseSide.2: out of range",
+        ),
+        (
+            r#""phaseWalk":{"2":256},"phaseWalk":{"2":5}"#,
+            "plan: rule K1",
+        ),
+    ];
+    for (members, line) in &wanted {
+        let text = format!(in rt.alloc(); "{{\"version\":1,{members}}}").expect(&rt, "memory");
+        let given = answer(rt.alloc(), text.as_str()).expect(&rt, "memory");
+        assert_eq!(rt; given.as_str(), *line);
+    }
+}
+
+#[test]
+fn plan_two_is_read(rt: HostRuntime) {
+    let read = read_plan(rt.alloc(), TWO.as_bytes()).expect(&rt, "a plan");
+    assert_eq!(rt; *read.plan(), Plan::two());
+}
+
+#[test]
+fn a_text_of_the_limit_is_read(rt: HostRuntime) {
+    let largest = answer_padded(rt.alloc(), TWO, LIMIT).expect(&rt, "memory");
+    assert_eq!(rt; largest.as_str(), "read");
+    let larger = answer_padded(rt.alloc(), TWO, LIMIT + 1).expect(&rt, "memory");
+    assert_eq!(rt; larger.as_str(), "plan: too large");
+}
+
+#[test]
+fn bytes_that_are_no_text_are_not_json(rt: HostRuntime) {
+    let text = [b'"', 255, b'"'];
+    assert!(rt; matches!(read_plan(rt.alloc(), &text), Err(PlanFault::NotJson)));
+}
+
+#[test]
+fn want_of_memory_is_printed(rt: HostRuntime) {
+    let line = format!(in rt.alloc(); "{}", PlanFault::Memory).expect(&rt, "memory");
+    assert_eq!(rt; line.as_str(), "memory");
+}
