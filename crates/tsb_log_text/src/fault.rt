@@ -3,7 +3,7 @@
 use thiserror::Error;
 
 /// Why a text is no log. Lines count from 1, and those that are skipped count too.
-#[derive(Debug, Drop, Error, Clone, Copy, PartialEq, Eq)]
+#[derive(Clone, Copy, Debug, Error, PartialEq, Eq)]
 pub enum LogFault {
     /// Memory ran out. A fault of a line may stand behind it.
     #[error("memory")]

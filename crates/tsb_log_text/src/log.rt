@@ -41,6 +41,7 @@ impl Log {
         }
     }
 
+    /// The log of these rows, whose ticks have to rise.
     pub(crate) fn of(rows: Vec<LogRow>) -> Log
         requires { Rises 0 rows.items }
         ensures { result ≡ rows.items }
@@ -50,7 +51,7 @@ impl Log {
 
     /// The row in force at a tick: that of the greatest tick not above it, or all inputs off where the log has
     /// none. `place` says where the last answer was found, so that a caller who goes tick by tick pays for
-    /// no search. The answer is the same whatever it holds.
+    /// no search; any other pays for a binary search. The answer is the same whatever it holds.
     pub fn row(&self, tick: u32, place: &mut usize) -> Row
         ensures { result ≡ row_at self.now tick }
     {
