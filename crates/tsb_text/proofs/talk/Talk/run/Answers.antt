@@ -29,7 +29,7 @@ loop-count-preserved g c = record {
   going = λ given s.
       going-same given c.args.log.now c.feed_all.new.self.bench c.send-sent.new.self.bench c.feed_all.new.self.held.items c.send-sent.new.self.held.items _ _ _ _ _ _ c.send-sent.ensures.rest.0 (search (rules, c.send-sent.ensures.rest.1))
       (going-more given c.args.log.now (whole c.loop-count.self.bench) (whole c.feed_all.new.self.bench) c.loop-count.self.held.items c.feed_all.new.self.held.items c.loop-count.left _ _ _ _ _ _ _ c.loop-count.self.pending c.feed_all.new.self.pending c.send-sent.new.self.pending
-          c.in-Ok-feed_all.flow c.in-Ok.count (take c.in-Ok.count c.read.new.buf) (c.loop-count.invariant.going given s) c.in-Ok.ensures.bytes.0 c.in-Ok.ensures.bound.1 c.if-left-count.false c.in-On.is c.in-Ok-feed_all.ensures.went c.send-sent.ensures.said);
+      c.in-Ok-feed_all.flow c.in-Ok.count (take c.in-Ok.count c.read.new.buf) (c.loop-count.invariant.going given s) c.in-Ok.ensures.bytes.0 c.in-Ok.ensures.bound.1 c.if-left-count.false c.in-On.is c.in-Ok-feed_all.ensures.went c.send-sent.ensures.said);
   clean = search (rules, c.send-sent.ensures.rest.1, c.feed_all.ensures.clean);
 }
 

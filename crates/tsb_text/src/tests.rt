@@ -1,0 +1,373 @@
+use super::*;
+use std::io::{self, Read, Write};
+
+/// Gives its bytes in pieces, and fails at one of its reads.
+#[derive(Drop)]
+struct Pieces<'a> {
+    left: &'a [u8],
+    piece: usize,
+    fails_at: usize,
+}
+
+impl Read for Pieces<'_> {
+    fn read(&mut self, buf: &mut [u8]) -> io::Result<usize> {
+        if self.fails_at == 0 {
+            return Err(io::Error::from(io::ErrorKind::Interrupted));
+        }
+        self.fails_at -= 1;
+        let count = self.piece.min(buf.len()).min(self.left.len());
+        let (now, later) = self.left.split_at(count);
+        buf[..count].copy_from_slice(now);
+        self.left = later;
+        Ok(count)
+    }
+}
+
+/// Gives blank lines for ever, or as many bytes as are left.
+#[derive(Drop)]
+struct Blanks {
+    left: usize,
+}
+
+impl Read for Blanks {
+    fn read(&mut self, buf: &mut [u8]) -> io::Result<usize> {
+        let count = self.left.min(buf.len());
+        for byte in &mut buf[..count] {
+            *byte = b'\n';
+        }
+        self.left -= count;
+        Ok(count)
+    }
+}
+
+const ROOM: usize = 2048;
+
+/// How a write ends that does not succeed.
+#[derive(Clone, Copy)]
+enum Failure {
+    TakesNothing,
+    Interrupted,
+}
+
+/// Takes few bytes at a time, and fails from one of its writes on.
+#[derive(Drop)]
+struct Narrow {
+    room: [u8; ROOM],
+    len: usize,
+    takes: usize,
+    fails_at: usize,
+    failure: Failure,
+}
+
+impl Write for Narrow {
+    fn write(&mut self, buf: &[u8]) -> io::Result<usize> {
+        if self.fails_at == 0 || self.len > ROOM {
+            return match self.failure {
+                Failure::TakesNothing => Ok(0),
+                Failure::Interrupted => Err(io::Error::from(io::ErrorKind::Interrupted)),
+            };
+        }
+        self.fails_at -= 1;
+        let taken = self.takes.min(buf.len()).min(ROOM - self.len);
+        let end = self.len + taken;
+        self.room[self.len..end].copy_from_slice(&buf[..taken]);
+        self.len = end;
+        Ok(taken)
+    }
+
+    fn flush(&mut self) -> io::Result<()> {
+        Ok(())
+    }
+}
+
+/// Takes all bytes, and never passes them on.
+#[derive(Drop)]
+struct Stuck;
+
+impl Write for Stuck {
+    fn write(&mut self, buf: &[u8]) -> io::Result<usize> {
+        Ok(buf.len())
+    }
+
+    fn flush(&mut self) -> io::Result<()> {
+        Err(io::Error::from(io::ErrorKind::Interrupted))
+    }
+}
+
+const INPUT: &[u8] =
+    b"step 2\r\n\n# none\n   \n # a comment begins its line\nback 1\nwhat\nstep\nstep x\nstep 4294967296\nstep 1 1\nstep 0000000001\nstep 00000000001\nstep 0\nshow\nshow it\n\tshow\n  undo  \nseek 5\nback  1\nundo\nundo it\nSTEP 1\nshow\r\r\nbegin 5\nfault W1 G\nset 1 phaseWalk 2\nstep 99999999999\nseek 0\nshow";
+
+const OUTPUT: &[u8] = b"0000001 -G-R------------ ---------------- ---- 0 ----
+0000002 -G-R------------ ---------------- ---- 0 ----
+bad command
+0000001 -G-R------------ ---------------- ---- 0 ----
+bad command
+bad command
+bad command
+bad command
+bad command
+0000002 -G-R------------ ---------------- ---- 0 ----
+bad command
+0000002 -G-R------------ ---------------- ---- 0 ----
+bad command
+bad command
+undone tick
+nothing
+0000000 -R-R------------ ---------------- ---- 0 ----
+nothing
+bad command
+bad command
+bad command
+bad command
+bad command
+bad command
+bad command
+0000000 -R-R------------ ---------------- ---- 0 ----
+0000000 -R-R------------ ---------------- ---- 0 ----
+";
+
+/// Runs a session with the built-in plan and an empty log.
+fn talk<R: Read, W: Write>(
+    rt: &HostRuntime,
+    reader: &mut R,
+    writer: &mut W,
+) -> Option<Result<(), SessionFault>> {
+    let plan = Checked::new(Plan::two()).ok()?;
+    let log = Log::empty(rt.alloc());
+    Some(session(rt.alloc(), plan, &log, reader, writer))
+}
+
+/// Whether the answer to these commands is this.
+fn answers(rt: &HostRuntime, commands: &[u8], text: &[u8]) -> bool {
+    let mut reader = commands;
+    let mut out = Vec::new(rt.alloc());
+    match talk(rt, &mut reader, &mut out) {
+        Some(Ok(())) => out.as_slice() == text,
+        _ => false,
+    }
+}
+
+#[test]
+fn answers_whatever_the_pieces(rt: HostRuntime) {
+    for piece in 1..40 {
+        let mut out = Vec::new(rt.alloc());
+        let mut reader = Pieces {
+            left: INPUT,
+            piece,
+            fails_at: 1000,
+        };
+        assert!(rt; matches!(talk(&rt, &mut reader, &mut out), Some(Ok(()))));
+        assert_eq!(rt; out.as_slice(), OUTPUT);
+    }
+}
+
+#[test]
+fn a_failing_read_leaves_a_front(rt: HostRuntime) {
+    for reads in 0..40 {
+        let mut out = Vec::new(rt.alloc());
+        let mut reader = Pieces {
+            left: INPUT,
+            piece: 7,
+            fails_at: reads,
+        };
+        assert!(rt;
+            matches!(
+                talk(&rt, &mut reader, &mut out),
+                Some(Err(SessionFault::Read))
+            )
+        );
+        assert!(rt; OUTPUT.starts_with(out.as_slice()));
+    }
+}
+
+#[test]
+fn a_failing_write_leaves_a_front(rt: HostRuntime) {
+    for failure in [Failure::TakesNothing, Failure::Interrupted] {
+        for writes in 0..200 {
+            let mut out = Narrow {
+                room: [0; ROOM],
+                len: 0,
+                takes: 3,
+                fails_at: writes,
+                failure,
+            };
+            let mut reader = INPUT;
+            assert!(rt;
+                matches!(
+                    talk(&rt, &mut reader, &mut out),
+                    Some(Err(SessionFault::Write))
+                )
+            );
+            let end = out.len.min(ROOM);
+            assert!(rt; OUTPUT.starts_with(&out.room[..end]));
+        }
+    }
+}
+
+#[test]
+fn a_writer_that_passes_nothing_on_is_a_fault(rt: HostRuntime) {
+    let mut reader = b"show\n".as_slice();
+    assert!(rt;
+        matches!(
+            talk(&rt, &mut reader, &mut Stuck),
+            Some(Err(SessionFault::Write))
+        )
+    );
+}
+
+/// A session takes 16 MiB, and not a byte more.
+#[test]
+fn a_reader_that_never_ends_is_too_large(rt: HostRuntime) {
+    let mut out = Vec::new(rt.alloc());
+    let mut all = Blanks { left: COMMANDS };
+    assert!(rt; matches!(talk(&rt, &mut all, &mut out), Some(Ok(()))));
+    let mut more = Blanks { left: usize::MAX };
+    assert!(rt;
+        matches!(
+            talk(&rt, &mut more, &mut out),
+            Some(Err(SessionFault::TooLarge))
+        )
+    );
+    assert_eq!(rt; more.left, usize::MAX - COMMANDS - 1);
+    assert!(rt; out.is_empty());
+}
+
+/// What stands behind `quit` is not answered.
+#[test]
+fn quit_ends_a_session(rt: HostRuntime) {
+    assert!(rt;
+        answers(
+            &rt,
+            b"step 1\nundo\nundo\nquit\nstep 1\n",
+            b"0000001 -G-R------------ ---------------- ---- 0 ----\nundone tick\nnothing\n"
+        )
+    );
+    assert!(rt; answers(&rt, b"quit", b""));
+    assert!(rt; answers(&rt, b"", b""));
+    assert!(rt; answers(&rt, b"show it\r\nquit\r\nshow\r\n", b"bad command\n"));
+}
+
+#[test]
+fn no_step_has_no_line(rt: HostRuntime) {
+    assert!(rt;
+        answers(
+            &rt,
+            b"step 0\nback 0\n",
+            b"0000000 -R-R------------ ---------------- ---- 0 ----\n"
+        )
+    );
+}
+
+/// A carriage return belongs to a line's end only where a line feed follows it.
+#[test]
+fn the_last_line_keeps_its_return(rt: HostRuntime) {
+    let shown = b"0000000 -R-R------------ ---------------- ---- 0 ----\n".as_slice();
+    assert!(rt; answers(&rt, b"show\r\n", shown));
+    assert!(rt; answers(&rt, b"show", shown));
+    assert!(rt; answers(&rt, b"show\r", b"bad command\n"));
+    assert!(rt; answers(&rt, b"\r", b"bad command\n"));
+    assert!(rt; answers(&rt, b"\r\n", b""));
+}
+
+/// What is read and waits for its part of the bench.
+#[test]
+fn what_is_not_built_is_answered_so(rt: HostRuntime) {
+    assert!(rt;
+        answers(
+            &rt,
+            b"when trip\nbegin 1\nset 1 phaseMaximum1 9 30\nverify 1\ncommit 4\nabort 1\npattern 3\npreempt 3 on\nfault P3 G\nfault none\nreset\nshow\n",
+            b"not yet\nnot yet\nnot yet\nnot yet\nnot yet\nnot yet\nnot yet\nnot yet\nnot yet\nnot yet\nnot yet\n0000000 -R-R------------ ---------------- ---- 0 ----\n"
+        )
+    );
+}
+
+/// `step`, so many spaces, and `1`, with this behind it.
+fn answers_spaced(rt: &HostRuntime, spaces: usize, end: &[u8], text: &[u8]) -> bool {
+    let mut line = [b' '; 300];
+    line[..4].copy_from_slice(b"step");
+    let last = 4 + spaces.min(200);
+    line[last] = b'1';
+    let whole = last + 1 + end.len().min(2);
+    line[last + 1..whole].copy_from_slice(&end[..whole - last - 1]);
+    answers(rt, &line[..whole], text)
+}
+
+/// A line has at most 200 bytes, without its end.
+#[test]
+fn long_lines_are_bad(rt: HostRuntime) {
+    let stepped = b"0000001 -G-R------------ ---------------- ---- 0 ----\n".as_slice();
+    for end in [b"".as_slice(), b"\n", b"\r\n"] {
+        assert!(rt; answers_spaced(&rt, 195, end, stepped));
+        assert!(rt; answers_spaced(&rt, 196, end, b"bad command\n"));
+    }
+    assert!(rt; answers_spaced(&rt, 195, b"\r", b"bad command\n"));
+    assert!(rt; answers_spaced(&rt, 195, b"\rx", b"bad command\n"));
+}
+
+/// A long line is bad also where it is blank or a comment.
+#[test]
+fn long_blanks_and_comments_are_bad(rt: HostRuntime) {
+    for (first, length, wanted) in [
+        (b' ', 200, b"".as_slice()),
+        (b' ', 201, b"bad command\n"),
+        (b'#', 200, b""),
+        (b'#', 201, b"bad command\n"),
+        (b'#', 5000, b"bad command\n"),
+    ] {
+        let mut line = [b' '; 5000];
+        line[0] = first;
+        assert!(rt; answers(&rt, &line[..length], wanted));
+    }
+}
+
+/// The rows of the log are taken by ticks; they have no effect yet.
+#[test]
+fn a_session_runs_a_plan_and_a_log(rt: HostRuntime) {
+    let text =
+        br#"{"version":1,"phaseEnabled":{"2":1,"4":1},"phaseRing":{"2":1,"4":1},"phaseSide":{"2":1,"4":2},"phaseMinimumGreen":{"2":5,"4":5},"phaseMaximum1":{"2":10,"4":8},"phaseMaximum2":{"2":10,"4":8},"phaseYellowChange":{"2":30,"4":30},"phaseRedClear":{"2":10,"4":10},"phaseMaxRecall":{"2":1,"4":1},"sequenceData":{"1":2,"2":4}}"#;
+    let rows = b"0000100 0010010000000000 00000000 0000\n0000102 0000010000000000 00000000 0000\n";
+    let (Ok(plan), Ok(log)) = (
+        read_plan(rt.alloc(), text.as_slice()),
+        read_log(rt.alloc(), rows.as_slice()),
+    ) else {
+        assert!(rt; false);
+        return;
+    };
+    let mut reader = b"step 101\n".as_slice();
+    let mut out = Vec::new(rt.alloc());
+    assert!(rt; session(rt.alloc(), plan, &log, &mut reader, &mut out).is_ok());
+    assert!(rt;
+        out.as_slice().ends_with(
+            b"0000100 -G-R------------ ---------------- ---- 0 ----
+0000101 -Y-R------------ ---------------- ---- 0 ----
+"
+        )
+    );
+}
+
+#[test]
+fn a_line_is_that_of_the_state(rt: HostRuntime) {
+    let Ok(plan) = Checked::new(Plan::two()) else {
+        assert!(rt; false);
+        return;
+    };
+    let bench = Bench::power_up(rt.alloc(), plan);
+    assert_eq!(rt;
+        line(&bench).as_str(),
+        "0000000 -R-R------------ ---------------- ---- 0 ----"
+    );
+}
+
+#[test]
+fn faults_have_lines(rt: HostRuntime) {
+    for (fault, text) in [
+        (SessionFault::Memory, "memory"),
+        (SessionFault::Read, "read fault"),
+        (SessionFault::Write, "write fault"),
+        (SessionFault::TooLarge, "commands: too large"),
+    ] {
+        let mut line = Vec::new(rt.alloc());
+        assert!(rt; write!(line, "{fault}").is_ok());
+        assert_eq!(rt; line.as_slice(), text.as_bytes());
+    }
+}
