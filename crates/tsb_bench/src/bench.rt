@@ -19,7 +19,7 @@ use crate::inputs::{Input, Nothing};
 use arrayvec::ArrayVec;
 use std::alloc::{AllocError, Global};
 use std::marker::Model;
-use tsb_cells::{Diff, Reversible, add_shifted};
+use tsb_cells::{Diff, Reversible};
 use tsb_history::{History, Kind, Record};
 use tsb_objects::{Checked, Plan, Refusal, limits};
 
@@ -50,33 +50,33 @@ impl Model for Bench {
         (record { tick = a.tick; plan = a.plan.plan.values; row = row_of a.controller; records = a.history.records; room = a.history.room }) };
 }
 
-/// Lets the controller take an input, and gives the number of the tick then, and the cells that changed, each with
-/// its value before.
+/// Lets the controller take an input, gives the number of the tick then, and adds the cells that changed to `entries`,
+/// each with its value before.
 fn stepped(
     tick: u32,
     controller: &mut Controller,
     plan: &Checked,
     input: Input,
-) -> (u32, Diff<CELLS>)
+    entries: &mut Diff<CELLS>,
+) -> u32
     requires allowed { verdict (record { now = tick; plan = checked_plan plan.now; signals = signals_in tick (row_of controller.old) }) input ≡ None }
     requires closed { is_open controller.old ≡ false }
     requires by { IsBy tick (row_of controller.old) }
     requires alone { IsAlone (signals_in tick (row_of controller.old)) }
-    ensures state { record { now = result.0; plan = checked_plan plan.now; signals = signals_in result.0 (row_of controller.new) }
+    requires empty { entries.old.items ≡ [] }
+    ensures state { record { now = result; plan = checked_plan plan.now; signals = signals_in result (row_of controller.new) }
         ≡ step (record { now = tick; plan = checked_plan plan.now; signals = signals_in tick (row_of controller.old) }) input }
-    ensures entries { result.1.items ≡ shifted 1230 (diff (row_of controller.old) (row_of controller.new)) }
+    ensures entries { entries.new.items ≡ shifted 1230 (diff (row_of controller.old) (row_of controller.new)) }
     ensures closed { is_open controller.new ≡ false }
-    ensures by { IsBy result.0 (row_of controller.new) }
+    ensures by { IsBy result (row_of controller.new) }
 {
     let next = match input {
         Input::Tick(_) => tick + 1,
     };
     controller.open();
     controller.tick(next, plan);
-    let changes = controller.close();
-    let mut entries = ArrayVec::new();
-    add_shifted(&mut entries, &changes, FIRST_CELL);
-    (next, entries)
+    controller.close_onto(entries, FIRST_CELL);
+    next
 }
 
 fn kind_of_input(input: Input) -> Kind
@@ -213,7 +213,14 @@ impl Bench {
         if self.history.reserve(CELLS).is_err() {
             return Err(Refusal::Memory);
         }
-        let (tick, entries) = stepped(self.tick, &mut self.controller, &self.plan, input);
+        let mut entries = ArrayVec::new();
+        let tick = stepped(
+            self.tick,
+            &mut self.controller,
+            &self.plan,
+            input,
+            &mut entries,
+        );
         self.tick = tick;
         self.history.push(kind_of_input(input), &entries);
         Ok(())

@@ -1,7 +1,9 @@
 //! The phases and the ring of the plans that are accepted so far.
 #![tactic(auto, unfolding(crate::specs::SignalsCells::interval_in, crate::specs::SignalsCells::timers_in, crate::specs::SignalsCells::ring_in))]
 
-ghost use Rattle.std.specs.Prelude.{◌≡◌, ◌≢◌, ◌⊎◌, ℕ, ◌+◌, ◌-◌, ◌<◌, ◌≤◌, ◌^◌, ◌&&◌, ◌||◌, not, true, false, length, slice_index};
+ghost use Rattle.std.specs.Prelude.{◌≡◌, ◌≢◌, ◌⊎◌, ℕ, ◌+◌, ◌-◌, ◌<◌, ◌≤◌, ◌^◌, ◌++◌, ◌&&◌, ◌||◌, not, true, false, length, slice_index};
+ghost use Rattle.arrayvec.specs.ArrayVec.{array_vec_len};
+ghost use Rattle.tsb_cells.specs.Diff.{diff, shifted};
 ghost use Rattle.tsb_objects.specs.Checked.{checked_plan};
 ghost use Rattle.tsb_types.specs.Sets.{has, names};
 ghost use Rattle.tsb_bench.specs.Signals.{power_up, next, is_green, is_yellow, is_red_clear, in_service};
@@ -15,6 +17,7 @@ use crate::phase_timers::PhaseTimers;
 use crate::reading::Reading;
 use crate::ring_state::RingState;
 use crate::timing::{is_green, is_red_clear, is_yellow};
+use arrayvec::ArrayVec;
 use tsb_cells::{Bank, Diff, Reversible};
 use tsb_objects::{Checked, Interval, Phase, PhaseSet};
 
@@ -66,6 +69,23 @@ impl Controller {
         self.write_some(now, &served);
         self.write_some(now, &started);
         self.set_ring(&ring);
+    }
+
+    /// Ends a change, and adds the cells that changed to `out`, with what they held before: the cell 0 has the number
+    /// `offset` there.
+    pub(crate) fn close_onto<const M: usize>(
+        &mut self,
+        out: &mut ArrayVec<(u16, u32), M>,
+        offset: u16,
+    )
+        requires opened { is_open self.old ≡ true }
+        requires fits { offset + 87 ≤ 2 ^ 16 }
+        requires room { array_vec_len out.old + 87 ≤ M }
+        ensures changes { out.new.items ≡ out.old.items ++ shifted offset (diff (kept_of self.old) (row_of self.old)) }
+        ensures cells { row_of self.new ≡ row_of self.old }
+        ensures closed { is_open self.new ≡ false }
+    {
+        self.bank.close_onto(out, offset);
     }
 
     /// Puts what becomes of a phase, if there is one, into the cells.

@@ -1,5 +1,7 @@
 //! A row of cells that knows between which cells it was written.
-ghost use Rattle.std.specs.Prelude.{◌≡◌, ℕ, ◌+◌, ◌<◌, ◌≤◌, true, false, length, slice_index, slice_set, replicate, take, drop};
+ghost use Rattle.std.specs.Prelude.{◌≡◌, ℕ, ◌+◌, ◌^◌, ◌<◌, ◌≤◌, ◌++◌, true, false, length, slice_index, slice_set, replicate, take, drop};
+ghost use Rattle.arrayvec.specs.ArrayVec.{array_vec_len};
+ghost use Rattle.tsb_cells.specs.Diff.{diff, shifted};
 ghost use Rattle.tsb_cells.specs.Row.{row_at, with_row};
 
 use crate::diff::Diff;
@@ -96,6 +98,26 @@ impl<const N: usize> Bank<N> {
             self.put(at + k, row[k]);
         }
     }
+
+    /// Ends a change as `close` does, and adds each cell that differs to `out`, with what it held at `open`: the cell 0
+    /// has the number `offset` there. It builds no list of its own.
+    pub fn close_onto<const M: usize>(&mut self, out: &mut ArrayVec<(u16, u32), M>, offset: u16)
+        requires opened { is_open self.old ≡ true }
+        requires fits { offset + N ≤ 2 ^ 16 }
+        requires room { array_vec_len out.old + N ≤ M }
+        ensures changes { out.new.items ≡ out.old.items ++ shifted offset (diff (kept_of self.old) (cells_of self.old)) }
+        ensures cells { cells_of self.new ≡ cells_of self.old }
+        ensures closed { is_open self.new ≡ false }
+    {
+        for i in self.from..self.to {
+            let (old, new) = (self.kept[i], self.cells[i]);
+            if old != new {
+                out.push((offset + i as u16, old));
+            }
+            self.kept[i] = new;
+        }
+        self.is_open = false;
+    }
 }
 
 impl<const N: usize> Reversible<N> for Bank<N> {
@@ -125,14 +147,7 @@ impl<const N: usize> Reversible<N> for Bank<N> {
 
     fn close(&mut self) -> Diff<N> {
         let mut changes = ArrayVec::new();
-        for i in self.from..self.to {
-            let (old, new) = (self.kept[i], self.cells[i]);
-            if old != new {
-                changes.push((i as u16, old));
-            }
-            self.kept[i] = new;
-        }
-        self.is_open = false;
+        self.close_onto(&mut changes, 0);
         changes
     }
 

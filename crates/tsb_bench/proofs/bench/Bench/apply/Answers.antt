@@ -15,7 +15,7 @@ no_refusal None none = refl
 no_refusal (Some e) none = absurd (none e refl)
 
 -- what the controller has gone through
-applied : (c : goal.After-push) → Applied (record { tick = c.self.inside.tick; plan = c.self.inside.plan.plan.values; row = row_of c.self.inside.controller; records = c.self.inside.history.records; room = c.self.inside.history.room }) c.args.input c.stepped-tick.result.0
+applied : (c : goal.After-push) → Applied (record { tick = c.self.inside.tick; plan = c.self.inside.plan.plan.values; row = row_of c.self.inside.controller; records = c.self.inside.history.records; room = c.self.inside.history.room }) c.args.input c.stepped-tick.result
     (row_of c.stepped-tick.new.controller) c.deref.result.now
 unfolding checked_plan plan_of
 applied c = record {
@@ -32,19 +32,19 @@ pushed c =
 
 pub invariant_of-self-2 : goal.invariant_of-self-2
 invariant_of-self-2 c =
-    kept-applied (is_open c.self.inside.controller) (is_open c.stepped-tick.new.controller) (record { tick = c.self.inside.tick; plan = c.self.inside.plan.plan.values; row = row_of c.self.inside.controller; records = c.self.inside.history.records; room = c.self.inside.history.room }) c.args.input c.stepped-tick.result.0
+    kept-applied (is_open c.self.inside.controller) (is_open c.stepped-tick.new.controller) (record { tick = c.self.inside.tick; plan = c.self.inside.plan.plan.values; row = row_of c.self.inside.controller; records = c.self.inside.history.records; room = c.self.inside.history.room }) c.args.input c.stepped-tick.result
     (row_of c.stepped-tick.new.controller) c.deref.result.now c.push.new.self.records c.push.new.self.room c.self.invariant c.stepped-tick.ensures.closed (applied c) (pushed c)
 
 pub returns-clause-records : goal.returns-clause-records
 returns-clause-records c =
-    let next : Held = record { tick = c.stepped-tick.result.0; plan = c.self.inside.plan.plan.values; row = row_of c.stepped-tick.new.controller; records = c.push.new.self.records; room = c.push.new.self.room } in
-    records-applied (is_open c.self.inside.controller) (record { tick = c.self.inside.tick; plan = c.self.inside.plan.plan.values; row = row_of c.self.inside.controller; records = c.self.inside.history.records; room = c.self.inside.history.room }) c.args.input c.stepped-tick.result.0
+    let next : Held = record { tick = c.stepped-tick.result; plan = c.self.inside.plan.plan.values; row = row_of c.stepped-tick.new.controller; records = c.push.new.self.records; room = c.push.new.self.room } in
+    records-applied (is_open c.self.inside.controller) (record { tick = c.self.inside.tick; plan = c.self.inside.plan.plan.values; row = row_of c.self.inside.controller; records = c.self.inside.history.records; room = c.self.inside.history.room }) c.args.input c.stepped-tick.result
     (row_of c.stepped-tick.new.controller) c.deref.result.now c.push.new.self.records c.self.invariant (applied c) (pushed c)
     ∙ ap (λ (h : Held). record_of c.args.input (state_of h) (state_of next) ∷ h.records) c.self.view_is
 
 pub returns-clause-back : goal.returns-clause-back
 returns-clause-back c =
-    back-applied (is_open c.self.inside.controller) (record { tick = c.self.inside.tick; plan = c.self.inside.plan.plan.values; row = row_of c.self.inside.controller; records = c.self.inside.history.records; room = c.self.inside.history.room }) c.args.input c.stepped-tick.result.0
+    back-applied (is_open c.self.inside.controller) (record { tick = c.self.inside.tick; plan = c.self.inside.plan.plan.values; row = row_of c.self.inside.controller; records = c.self.inside.history.records; room = c.self.inside.history.room }) c.args.input c.stepped-tick.result
     (row_of c.stepped-tick.new.controller) c.deref.result.now c.push.new.self.records c.self.invariant (applied c) (pushed c)
     ∙ ap whole c.self.view_is
 

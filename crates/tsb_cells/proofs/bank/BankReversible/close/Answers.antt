@@ -1,44 +1,16 @@
-use Rattle.std.proofs.Common.{arith, ◌≡◌, ℕ, ◌<◌, ◌≤◌, length, refl, sym, ◌∙◌, get_or, ap, drop, List, ◌++◌, [], inl, inr}
-use Rattle.std.proofs.lemmas.Bool.{cases_lt}
+use Rattle.std.proofs.Common.{◌≡◌, ◌∙◌, ◌++◌, ◌<◌, ◌≤◌, ℕ, List, arith, length, ap}
 use Rattle.std.proofs.lemmas.List.Elements.{All-same}
-use Rattle.std.proofs.lemmas.List.{ext_get_or, append-nil}
-use Rattle.tsb_cells.specs.Diff.{diff, diff_from}
-use Rattle.tsb_cells.proofs.DiffLemmas.{diff-skip, diff_from-rest, AreWithin-diff}
+use Rattle.tsb_cells.specs.Diff.{diff, shifted}
+use Rattle.tsb_cells.proofs.DiffLemmas.{AreWithin-diff}
+use Rattle.tsb_cells.proofs.PartLemmas.{shifted-zero}
 use Rattle.tsb_cells.proofs.bank.BankReversible.close.Goals as goal
-
-pub loop-i-init : goal.loop-i-init
-loop-i-init g c = record {
-  found = rw c.new-changes.ensures (diff-skip c.args.self.now.from c.args.self.now.kept c.args.self.now.cells (c.args.self.now.kept_full ∙ sym c.args.self.now.cells_full) (omega arith) c.args.self.now.same_below);
-  room = rw c.new-changes.ensures (omega arith);
-  below = c.args.self.now.same_below;
-  above = λ k h. refl;
-  cells = refl;
-  to = refl;
-  opened = c.requires;
-}
 
 pub returns-clause-changes : goal.returns-clause-changes
 returns-clause-changes g c =
-    let i : ℕ = c.loop-i.i in
-    let full : length c.args.self.now.kept ≡ length c.loop-i.self.cells = c.args.self.now.kept_full ∙ sym c.loop-i.self.cells_full in
-    let rest : diff_from i (drop i c.args.self.now.kept) (drop i c.loop-i.self.cells) ≡ [] =
-    diff_from-rest i c.args.self.now.kept c.loop-i.self.cells full
-    (λ k h. c.loop-i.self.same_above k (omega arith) ∙ c.loop-i.invariant.above k h) in
-    sym (append-nil c.loop-i.changes.items) ∙ ap (λ (es : List (ℕ × ℕ)). c.loop-i.changes.items ++ es) (sym rest) ∙ c.loop-i.invariant.found
-    ∙ ap (diff c.args.self.now.kept) c.loop-i.invariant.cells
+    c.close_onto.ensures.changes ∙ ap (λ (es : List (ℕ × ℕ)). es ++ shifted 0 (diff c.args.self.now.kept c.args.self.now.cells)) c.new-changes.ensures
+    ∙ shifted-zero (diff c.args.self.now.kept c.args.self.now.cells)
 
 pub returns-clause-in_range : goal.returns-clause-in_range
 returns-clause-in_range g c =
-    All-same (λ (e : ℕ × ℕ). e.0 < g.row.N) c.loop-i.changes.items _ (returns-clause-changes g c)
+    All-same (λ (e : ℕ × ℕ). e.0 < g.row.N) c.close_onto.new.out.items _ (returns-clause-changes g c)
     (AreWithin-diff g.row.N c.args.self.now.kept c.args.self.now.cells (let full : length c.args.self.now.kept ≡ g.row.N = c.args.self.now.kept_full in omega arith))
-
--- rows that agree below a place and from it on are the same
-same_rows : (cells kept : List ℕ) (n : ℕ) → length cells ≡ length kept →
-    ((k : ℕ) → k < n → get_or cells k 0 ≡ get_or kept k 0) → ((k : ℕ) → n ≤ k → get_or cells k 0 ≡ get_or kept k 0) → cells ≡ kept
-same_rows cells kept n full below above =
-    ext_get_or 0 cells kept full (λ k h. elim (cases_lt k n) [ inl l ↦ below k l | inr l ↦ above k l ])
-
-pub invariant_of-self-2-clause-same_closed : goal.invariant_of-self-2-clause-same_closed
-invariant_of-self-2-clause-same_closed g c =
-    λ closed. same_rows c.loop-i.self.cells c.loop-i.self.kept c.loop-i.i (c.loop-i.self.cells_full ∙ sym c.loop-i.self.kept_full)
-    c.loop-i.invariant.below (λ k h. c.loop-i.self.same_above k (omega arith))
