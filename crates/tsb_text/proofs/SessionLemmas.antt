@@ -1,23 +1,24 @@
 -- A session from its first read to its end.
-use Rattle.std.proofs.Common.{◌≡◌, ℕ, ◌+◌, ◌-◌, ◌<◌, ◌≤◌, List, [], ◌∷◌, ◌++◌, length, refl, sym, ap, ◌∙◌, append_assoc, length-append, length-take, Some, None, Ok, Err, arith, subst, OnOk, OnErr, take, ◌⊎◌, inl, inr}
+use Rattle.std.proofs.Common.{◌≡◌, ℕ, ◌+◌, ◌-◌, ◌<◌, ◌≤◌, List, [], ◌∷◌, ◌++◌, length, refl, sym, ap, ◌∙◌, append_assoc, length-append, length-take, take_all, Some, None, Ok, Err, arith, subst, OnOk, OnErr, take, zero, suc, ◌⊎◌, inl, inr}
 use Rattle.std.proofs.lemmas.List.{append-nil}
 use Rattle.std.specs.declared.option.Option.{Option}
 use Rattle.std.specs.declared.result.Result.{Result}
 use Rattle.std.specs.Io.KnownBytes.{Appends, Consumes, Keeps, IsAtEnd}
 use Rattle.tsb_bench.specs.declared.inputs.Input.{Input}
 use Rattle.tsb_bench.specs.Past.{Held, Whole, whole}
+use Rattle.tsb_lines.specs.Lines.{HasNoFeed}
 use Rattle.tsb_log_text.specs.declared.log.LogRow.{LogRow}
 use Rattle.tsb_text.specs.declared.fault.SessionFault.{SessionFault}
-use Rattle.tsb_text.specs.declared.fault.SessionFault.TheVariants.{Read, Write, TooLarge}
+use Rattle.tsb_text.specs.declared.fault.SessionFault.TheVariants.{Memory, Read, Write, TooLarge}
 use Rattle.tsb_text.specs.declared.fault.WriteFault.{WriteFault}
 use Rattle.tsb_text.specs.declared.talk.Flow.{Flow}
 use Rattle.tsb_text.specs.declared.talk.Flow.TheVariants.{On, Over}
 use Rattle.tsb_text.specs.Answers.{Given}
 use Rattle.tsb_text.specs.Text.{IsText}
-use Rattle.tsb_text.specs.Talk.{Stands, Carries, IsWhole, IsBegun, Went, Finished, Ended, EndedSo, Going, as_session}
+use Rattle.tsb_text.specs.Talk.{Stands, Carries, IsWhole, IsBegun, Went, Finished, AnswersWhole, Ended, EndedSo, Going, as_session}
 use Rattle.tsb_text.specs.Written.{Said, Wrote}
 use Rattle.tsb_text.proofs.TextLemmas.{some-text}
-use Rattle.tsb_text.proofs.TalkLemmas.{joined, begun-more}
+use Rattle.tsb_text.proofs.TalkLemmas.{joined}
 use Rattle.tsb_text.proofs.WrittenLemmas.{said-nothing, said-more}
 
 consumes-nothing : (a : Option (List ℕ)) → Consumes a a []
@@ -52,10 +53,29 @@ going-start given log bench held i o waits empty none stands = record {
 
 -- ## How it ends
 
+take-front : (n : ℕ) (xs ys : List ℕ) → length xs ≡ n → take n (xs ++ ys) ≡ xs
+take-front zero [] ys e = refl
+take-front zero (x ∷ xs) ys e = absurd (omega (arith, e))
+take-front (suc n) [] ys e = absurd (omega (arith, e))
+take-front (suc n) (x ∷ xs) ys e = ap (λ (v : List ℕ). x ∷ v) (take-front n xs ys (omega (arith, e)))
+
 -- what was said in all
 EndedText : Result (Unit {0}) SessionFault → Given → Option (List ℕ) → List ℕ → List ℕ → List ℕ → Type 0
 EndedText (Ok u) given left read waits said = (waits ≡ []) × ((IsAtEnd left × IsText given [] read said) ⊎ IsWhole given [] read said)
+EndedText (Err Memory) given left read waits said = ⊥
 EndedText (Err e) given left read waits said = (IsAtEnd left × (rest : List ℕ) × IsText given [] read (said ++ rest)) ⊎ IsBegun given [] read said
+
+-- what went out begins what was said
+ended-front : (given : Given) (left : Option (List ℕ)) (read waits said gone : List ℕ) → said ≡ gone ++ waits
+    → ((IsAtEnd left × (rest : List ℕ) × IsText given [] read (said ++ rest)) ⊎ IsBegun given [] read said)
+    → (IsAtEnd left × (rest : List ℕ) × IsText given [] read (gone ++ rest)) ⊎ IsBegun given [] read gone
+ended-front given left read waits said gone e x = elim x [
+  | inl end ↦ inl (end.0, waits ++ end.1, subst (λ (v : List ℕ). IsText given [] read v) (front end.1) end.2)
+  | inr begun ↦ inr (record { rest = λ more. (waits ++ (begun.rest more).0, subst (λ (v : List ℕ). IsText given [] (read ++ more) v) (front (begun.rest more).0) (begun.rest more).1) })
+]
+  where
+    front : (rest : List ℕ) → said ++ rest ≡ gone ++ (waits ++ rest)
+    front rest = ap (λ (v : List ℕ). v ++ rest) e ∙ append_assoc gone waits rest
 
 ended-so : (r : Result (Unit {0}) SessionFault) (given : Given) (left : Option (List ℕ)) (read waits said gone : List ℕ) → said ≡ gone ++ waits → EndedText r given left read waits said → EndedSo r given left read gone
 unfolding EndedText
@@ -65,24 +85,29 @@ ended-so (Ok u) given left read waits said gone e x =
       | inl end ↦ inl (end.0, subst (λ (v : List ℕ). IsText given [] read v) all end.1)
       | inr whole ↦ inr (record { all = λ more. subst (λ (v : List ℕ). IsText given [] (read ++ more) v) all (whole.all more) })
     ]
-ended-so (Err f) given left read waits said gone e x = elim x [
-  | inl end ↦ inl (end.0, waits ++ end.1, subst (λ (v : List ℕ). IsText given [] read v) (front end.1) end.2)
-  | inr begun ↦ inr (record { rest = λ more. (waits ++ (begun.rest more).0, subst (λ (v : List ℕ). IsText given [] (read ++ more) v) (front (begun.rest more).0) (begun.rest more).1) })
-]
-  where
-    front : (rest : List ℕ) → said ++ rest ≡ gone ++ (waits ++ rest)
-    front rest = ap (λ (v : List ℕ). v ++ rest) e ∙ append_assoc gone waits rest
+ended-so (Err Memory) given left read waits said gone e x = x
+ended-so (Err Read) given left read waits said gone e x = ended-front given left read waits said gone e x
+ended-so (Err Write) given left read waits said gone e x = ended-front given left read waits said gone e x
+ended-so (Err TooLarge) given left read waits said gone e x = ended-front given left read waits said gone e x
 
-ended : (r : Result (Unit {0}) SessionFault) (given : Given) (i l o n : Option (List ℕ)) (read waits : List ℕ) → Consumes i l read → Wrote o n [] waits (EndedText r given l read waits) → (r ≡ Err TooLarge → 16777216 < length read) → length read ≤ 16777217
+-- where nothing waits, all whole lines were answered
+whole-answered : (given : Given) (left : List Input) (bytes held waits said gone : List ℕ) → said ≡ gone ++ waits → waits ≡ [] → HasNoFeed held → Carries given [] bytes left held said → AnswersWhole given bytes gone
+whole-answered given left bytes held waits said gone e none clean k =
+    let all : said ≡ gone = e ∙ ap (λ (v : List ℕ). gone ++ v) none ∙ append-nil gone in
+    record { left = left; held = held; unfinished = clean; carries = record { on = λ more text t. subst (λ (v : List ℕ). IsText given [] (bytes ++ more) (v ++ text)) all (k.on more text t) } }
+
+-- an end at which no more than 16 MiB were read
+ended : (r : Result (Unit {0}) SessionFault) (given : Given) (i l o n : Option (List ℕ)) (read waits : List ℕ) → Consumes i l read → Wrote o n [] waits (EndedText r given l read waits) → (r ≡ Err TooLarge → ⊥) → (r ≡ Err Read → ⊥) → length read ≤ 16777216
     → Ended r given i l o n
-ended r given i l o n read waits taken wrote large most = record {
+ended r given i l o n read waits taken wrote small sound most = record {
   read = read;
   taken = taken;
   written = wrote.said.gone;
   grown = wrote.said.grown;
   so = ended-so r given l read waits wrote.text wrote.said.gone wrote.said.kept wrote.so;
-  large = large;
-  most = most;
+  large = (λ e. absurd (small e), λ h. absurd (omega (arith, h, most)));
+  most = omega (arith, most);
+  answered = λ x. elim x [ inl e ↦ absurd (sound e) | inr e ↦ absurd (small e) ];
 }
 
 -- what goes on begins a text
@@ -91,25 +116,51 @@ begun-going given is read held said k =
     record { rest = λ more. let some : (t : List ℕ) × IsText given is (held ++ more) t = some-text given is (held ++ more) in (some.0, k.on more some.0 some.1) }
 
 -- a read failed
-pub ended-read : (given : Given) (log : List LogRow) (bench : Whole) (held : List ℕ) (budget : ℕ) (i l l2 o n : Option (List ℕ)) (waits : List ℕ) → Going given log bench held budget i l o n waits → Keeps l l2 → Ended (Err Read) given i l2 o n
+pub ended-read : (given : Given) (log : List LogRow) (bench : Whole) (held : List ℕ) (budget : ℕ) (i l l2 o n : Option (List ℕ)) (waits : List ℕ) → Going given log bench held budget i l o n waits → waits ≡ [] → HasNoFeed held → Keeps l l2
+    → Ended (Err Read) given i l2 o n
 unfolding EndedText
-ended-read given log bench held budget i l l2 o n waits g k =
-    ended (Err Read) given i l2 o n g.read waits (consumes-kept i l l2 g.read g.taken k)
-    (record { text = g.wrote.text; said = g.wrote.said; so = inr (begun-going given g.inputs g.read held g.wrote.text g.wrote.so) })
-    (λ e. absurd (cc)) (let f : length g.read + budget ≡ 16777216 = g.fits in omega (arith, f))
+ended-read given log bench held budget i l l2 o n waits g none clean k =
+    let f : length g.read + budget ≡ 16777216 = g.fits in
+    let all : take 16777216 g.read ≡ g.read = take_all 16777216 g.read (omega (arith, f)) in
+    record {
+      read = g.read;
+      taken = consumes-kept i l l2 g.read g.taken k;
+      written = g.wrote.said.gone;
+      grown = g.wrote.said.grown;
+      so = ended-so (Err Read) given l2 g.read waits g.wrote.text g.wrote.said.gone g.wrote.said.kept (inr (begun-going given g.inputs g.read held g.wrote.text g.wrote.so));
+      large = (λ e. absurd (cc), λ h. absurd (omega (arith, h, f)));
+      most = omega (arith, f);
+      answered = λ x. subst (λ (v : List ℕ). AnswersWhole given v g.wrote.said.gone) (sym all) (whole-answered given g.inputs g.read held waits g.wrote.text g.wrote.said.gone g.wrote.said.kept none clean g.wrote.so);
+    }
 
 -- a byte stands behind those that may be read
-pub ended-large : (given : Given) (log : List LogRow) (bench : Whole) (held : List ℕ) (budget : ℕ) (i l l2 o n : Option (List ℕ)) (waits : List ℕ) (count most : ℕ) (piece : List ℕ) → Going given log bench held budget i l o n waits → Consumes l l2 piece
+pub ended-large : (given : Given) (log : List LogRow) (bench : Whole) (held : List ℕ) (budget : ℕ) (i l l2 o n : Option (List ℕ)) (waits : List ℕ) (count most : ℕ) (piece : List ℕ) → Going given log bench held budget i l o n waits → waits ≡ [] → HasNoFeed held → Consumes l l2 piece
     → budget < count → count ≡ length piece → count ≤ most → (budget < most → most ≤ 1) → Ended (Err TooLarge) given i l2 o n
 unfolding EndedText
-ended-large given log bench held budget i l l2 o n waits count most piece g k over long room one =
+ended-large given log bench held budget i l l2 o n waits count most piece g none clean k over long room one =
     let f : length g.read + budget ≡ 16777216 = g.fits in
     let all : length (g.read ++ piece) ≡ length g.read + length piece = length-append g.read piece in
     let single : most ≤ 1 = one (omega (arith, over, room)) in
-    ended (Err TooLarge) given i l2 o n (g.read ++ piece) waits (consumes-more i l l2 g.read piece g.taken k)
-    (let b : Wrote o n [] waits (IsBegun given [] (g.read ++ piece)) = begun-more given [] g.read piece o n [] waits (record { text = g.wrote.text; said = g.wrote.said; so = begun-going given g.inputs g.read held g.wrote.text g.wrote.so }) in
-    record { text = b.text; said = b.said; so = inr b.so })
-    (λ e. omega (arith, f, all, over, long)) (omega (arith, f, all, over, long, room, single))
+    let full : length g.read ≡ 16777216 = omega (arith, f, over, room, single) in
+    let first : take 16777216 (g.read ++ piece) ≡ g.read = take-front 16777216 g.read piece full in
+    let begun : IsBegun given [] g.read g.wrote.text = begun-going given g.inputs g.read held g.wrote.text g.wrote.so in
+    let front : IsBegun given [] (g.read ++ piece) g.wrote.text = record {
+      rest = λ more. ((begun.rest (piece ++ more)).0, subst (λ (v : List ℕ). IsText given [] v (g.wrote.text ++ (begun.rest (piece ++ more)).0)) (sym (append_assoc g.read piece more)) (begun.rest (piece ++ more)).1);
+    } in
+    record {
+      read = g.read ++ piece;
+      taken = consumes-more i l l2 g.read piece g.taken k;
+      written = g.wrote.said.gone;
+      grown = g.wrote.said.grown;
+      so = ended-so (Err TooLarge) given l2 (g.read ++ piece) waits g.wrote.text g.wrote.said.gone g.wrote.said.kept (inr front);
+      large = (λ e. omega (arith, f, all, over, long), λ h. refl);
+      most = omega (arith, f, all, over, long, room, single);
+      answered = λ x. subst (λ (v : List ℕ). AnswersWhole given v g.wrote.said.gone) (sym first) (whole-answered given g.inputs g.read held waits g.wrote.text g.wrote.said.gone g.wrote.said.kept none clean g.wrote.so);
+    }
+
+never-read : (r : Result (Unit {0}) WriteFault) → as_session r ≡ Err Read → ⊥
+never-read (Ok u) h = cc
+never-read (Err e) h = cc
 
 never-large : (r : Result (Unit {0}) WriteFault) → as_session r ≡ Err TooLarge → ⊥
 never-large (Ok u) h = cc
@@ -122,7 +173,7 @@ pub ended-end : (given : Given) (log : List LogRow) (bench : Whole) (held : List
 unfolding EndedText
 ended-end given log bench held budget i l l2 o n n2 waits waits2 r count buf g none k end finish =
     ended (as_session r) given i l2 o n2 (g.read ++ []) waits2 (consumes-more i l l2 g.read [] g.taken (subst (λ (m : ℕ). Consumes l l2 (take m buf)) none k))
-    (at r (finish given g.inputs g.stands)) (λ e. absurd (never-large r e))
+    (at r (finish given g.inputs g.stands)) (never-large r) (never-read r)
     (let f : length g.read + budget ≡ 16777216 = g.fits in let all : length (g.read ++ []) ≡ length g.read + 0 = length-append g.read [] in omega (arith, f, all))
   where
     at : (r : Result (Unit {0}) WriteFault) → Wrote n n2 waits waits2 (Finished r given g.inputs held waits2) → Wrote o n2 [] waits2 (EndedText (as_session r) given l2 (g.read ++ []) waits2)
@@ -150,7 +201,7 @@ unfolding EndedText
 ended-fault given log bench bench2 held held2 budget i l l2 o n n2 waits waits2 count piece g k long fits went =
     let w : Wrote o n2 [] waits2 (IsBegun given [] (g.read ++ piece)) = joined (Err _) given log [] g.read g.inputs held piece bench2 held2 o n n2 [] waits waits2 g.wrote (went given g.inputs g.stands) in
     ended (Err Write) given i l2 o n2 (g.read ++ piece) waits2 (consumes-more i l l2 g.read piece g.taken k) (record { text = w.text; said = w.said; so = inr w.so })
-    (λ x. absurd (cc)) (let f : length g.read + budget ≡ 16777216 = g.fits in let all : length (g.read ++ piece) ≡ length g.read + length piece = length-append g.read piece in omega (arith, f, all, long, fits))
+    (λ x. cc) (λ x. cc) (let f : length g.read + budget ≡ 16777216 = g.fits in let all : length (g.read ++ piece) ≡ length g.read + length piece = length-append g.read piece in omega (arith, f, all, long, fits))
 
 -- a line ended it, and what waited then was written, or was not
 pub ended-over : (given : Given) (log : List LogRow) (bench bench2 : Whole) (held held2 : List ℕ) (budget : ℕ) (i l l2 o n n2 n3 : Option (List ℕ)) (waits waits2 waits3 : List ℕ) (r : Result (Unit {0}) WriteFault) (f : Flow) (count : ℕ) (piece : List ℕ)
@@ -159,7 +210,7 @@ pub ended-over : (given : Given) (log : List LogRow) (bench bench2 : Whole) (hel
     → Said n2 n3 waits2 waits3 [] → OnOk r (waits3 ≡ []) → Ended (as_session r) given i l2 o n3
 unfolding EndedText
 ended-over given log bench bench2 held held2 budget i l l2 o n n2 n3 waits waits2 waits3 r f count piece g k long fits over went said ok =
-    ended (as_session r) given i l2 o n3 (g.read ++ piece) waits3 (consumes-more i l l2 g.read piece g.taken k) (at r ok) (λ x. absurd (never-large r x))
+    ended (as_session r) given i l2 o n3 (g.read ++ piece) waits3 (consumes-more i l l2 g.read piece g.taken k) (at r ok) (never-large r) (never-read r)
     (let f : length g.read + budget ≡ 16777216 = g.fits in let all : length (g.read ++ piece) ≡ length g.read + length piece = length-append g.read piece in omega (arith, f, all, long, fits))
   where
     w : Wrote o n2 [] waits2 (IsWhole given [] (g.read ++ piece))
@@ -207,7 +258,7 @@ unfolding EndedText
 ended-send given log bench bench2 held held2 budget i l l2 o n n2 n3 waits waits2 waits3 f count piece g k long fits on went said =
     let x : Going given log bench2 held2 (budget - count) i l2 o n3 waits3 = going-more given log bench bench2 held held2 budget i l l2 o n n2 n3 waits waits2 waits3 f count piece g k long fits on went said in
     ended (Err Write) given i l2 o n3 x.read waits3 x.taken (record { text = x.wrote.text; said = x.wrote.said; so = inr (begun-going given x.inputs x.read held2 x.wrote.text x.wrote.so) })
-    (λ h. absurd (cc)) (let f : length x.read + (budget - count) ≡ 16777216 = x.fits in omega (arith, f))
+    (λ h. cc) (λ h. cc) (let f : length x.read + (budget - count) ≡ 16777216 = x.fits in omega (arith, f))
 
 -- the same bench, the same bytes held
 pub going-same : (given : Given) (log : List LogRow) (old new : Held) (held held2 : List ℕ) (budget : ℕ) (i l o n : Option (List ℕ)) (waits : List ℕ) → new ≡ old → held2 ≡ held → Going given log (whole old) held budget i l o n waits

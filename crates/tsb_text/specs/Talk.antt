@@ -1,13 +1,14 @@
 -- How far a session has come with the bytes that it has read, and how it ends.
-use Rattle.std.specs.Prelude.{◌≡◌, ◌⊎◌, ◌+◌, ◌<◌, ◌≤◌, ℕ, List, [], ◌++◌, length, Option, Result, Ok, Err}
+use Rattle.std.specs.Prelude.{◌≡◌, ◌⊎◌, ◌↔◌, ◌+◌, ◌<◌, ◌≤◌, ℕ, List, [], ◌++◌, length, take, Option, Result, Ok, Err}
 use Rattle.std.specs.Io.KnownBytes.{Appends, Consumes, IsAtEnd}
 use Rattle.tsb_bench.specs.declared.inputs.Input.{Input}
 use Rattle.tsb_bench.specs.Past.{Whole}
 use Rattle.tsb_bench.specs.Play.{Follows}
 use Rattle.tsb_command_text.specs.declared.command.Reading.{Reading}
+use Rattle.tsb_lines.specs.Lines.{HasNoFeed}
 use Rattle.tsb_log_text.specs.declared.log.LogRow.{LogRow}
 use Rattle.tsb_text.specs.declared.fault.SessionFault.{SessionFault}
-use Rattle.tsb_text.specs.declared.fault.SessionFault.TheVariants.{Write, TooLarge}
+use Rattle.tsb_text.specs.declared.fault.SessionFault.TheVariants.{Memory, Read, Write, TooLarge}
 use Rattle.tsb_text.specs.declared.fault.WriteFault.{WriteFault}
 use Rattle.tsb_text.specs.declared.talk.Flow.{Flow}
 use Rattle.tsb_text.specs.declared.talk.Flow.TheVariants.{On, Over}
@@ -96,11 +97,21 @@ as_session (Ok u) = Ok u
 as_session (Err e) = Err Write
 
 -- how a session ended, after these bytes were read: it wrote a text of theirs, at the end of the input or at a line
--- that ends it; or after a fault a front of one, whatever comes behind them or at the end of the input
+-- that ends it; or after a fault a front of one, whatever comes behind them or at the end of the input. So far a
+-- session asks for no memory to begin with.
 abbrev pub EndedSo : Result (Unit {0}) SessionFault → Given → Option (List ℕ) → List ℕ → List ℕ → Type 0
 EndedSo (Ok u) given left read written = (IsAtEnd left × IsText given [] read written) ⊎ IsWhole given [] read written
+EndedSo (Err Memory) given left read written = ⊥
 EndedSo (Err e) given left read written =
     (IsAtEnd left × (rest : List ℕ) × IsText given [] read (written ++ rest)) ⊎ IsBegun given [] read written
+
+-- all whole lines of these bytes were answered: whatever comes behind, a text is what was written, and then what may be
+-- said for an unfinished line and the bytes behind
+pub record AnswersWhole (given : Given) (bytes written : List ℕ) : Type 0 where
+  pub left : List Input
+  pub held : List ℕ
+  pub unfinished : HasNoFeed held
+  pub carries : Carries given [] bytes left held written
 
 -- the bytes that it read, and those that it wrote: no others went to the writer
 pub record Ended (result : Result (Unit {0}) SessionFault) (given : Given) (input left old new : Option (List ℕ)) : Type 0 where
@@ -109,9 +120,11 @@ pub record Ended (result : Result (Unit {0}) SessionFault) (given : Given) (inpu
   pub written : List ℕ
   pub grown : Appends old new written
   pub so : EndedSo result given left read written
-  -- too large is answered only where more than 16 MiB were read, and of more no second byte is read
-  pub large : result ≡ Err TooLarge → 16777216 < length read
+  -- too large is answered where more than 16 MiB were read, and only there; of more no second byte is read
+  pub large : (result ≡ Err TooLarge) ↔ (16777216 < length read)
   pub most : length read ≤ 16777217
+  -- after a read that failed, and after 16 MiB, no answer to a whole line is missing
+  pub answered : (result ≡ Err Read) ⊎ (result ≡ Err TooLarge) → AnswersWhole given (take 16777216 read) written
 
 -- the bytes that were read so far, of which this many more may come, and what was said for them
 pub record Going (given : Given) (log : List LogRow) (bench : Whole) (held : List ℕ) (budget : ℕ) (input left old new : Option (List ℕ)) (waits : List ℕ) : Type 0 where

@@ -7,7 +7,7 @@ use Rattle.tsb_text.proofs.SessionLemmas.{going-start, going-more, going-same, e
 use Rattle.tsb_text.proofs.talk.Talk.run.Goals as goal
 
 pub returns-in-Err : goal.returns-in-Err
-returns-in-Err g c given s = ended-read given c.args.log.now (whole c.loop-count.self.bench) c.loop-count.self.held.items c.loop-count.left _ _ _ _ _ c.loop-count.self.pending (c.loop-count.invariant.going given s) c.in-Err.ensures.bytes
+returns-in-Err g c given s = ended-read given c.args.log.now (whole c.loop-count.self.bench) c.loop-count.self.held.items c.loop-count.left _ _ _ _ _ c.loop-count.self.pending (c.loop-count.invariant.going given s) c.loop-count.invariant.sent c.loop-count.invariant.clean c.in-Err.ensures.bytes
 
 pub returns-then-count-eq0 : goal.returns-then-count-eq0
 returns-then-count-eq0 g c given s = rw c.as_session.ensures
@@ -17,7 +17,7 @@ returns-then-count-eq0 g c given s = rw c.as_session.ensures
 pub returns-then-left-count : goal.returns-then-left-count
 returns-then-left-count g c given s =
     ended-large given c.args.log.now (whole c.loop-count.self.bench) c.loop-count.self.held.items c.loop-count.left _ _ _ _ _ c.loop-count.self.pending c.in-Ok.count c.max-most.result (take c.in-Ok.count c.read.new.buf)
-    (c.loop-count.invariant.going given s) c.in-Ok.ensures.bytes.0 c.if-left-count.true c.in-Ok.ensures.bound.1 (search rules) (λ lt. search (rules, lt))
+    (c.loop-count.invariant.going given s) c.loop-count.invariant.sent c.loop-count.invariant.clean c.in-Ok.ensures.bytes.0 c.if-left-count.true c.in-Ok.ensures.bound.1 (search rules) (λ lt. search (rules, lt))
 
 pub returns-in-Err-feed_all : goal.returns-in-Err-feed_all
 returns-in-Err-feed_all g c given s =
@@ -31,6 +31,7 @@ loop-count-preserved g c = record {
       (going-more given c.args.log.now (whole c.loop-count.self.bench) (whole c.feed_all.new.self.bench) c.loop-count.self.held.items c.feed_all.new.self.held.items c.loop-count.left _ _ _ _ _ _ _ c.loop-count.self.pending c.feed_all.new.self.pending c.send-sent.new.self.pending
       c.in-Ok-feed_all.flow c.in-Ok.count (take c.in-Ok.count c.read.new.buf) (c.loop-count.invariant.going given s) c.in-Ok.ensures.bytes.0 c.in-Ok.ensures.bound.1 c.if-left-count.false c.in-On.is c.in-Ok-feed_all.ensures.went c.send-sent.ensures.said);
   clean = search (rules, c.send-sent.ensures.rest.1, c.feed_all.ensures.clean);
+  sent = search (rules, c.send-sent.ensures.ok, c.is_err.ensures, c.if-is_err.false);
 }
 
 pub returns-then-is_err : goal.returns-then-is_err

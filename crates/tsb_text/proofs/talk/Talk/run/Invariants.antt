@@ -1,4 +1,4 @@
-use Rattle.std.proofs.Common.{[]}
+use Rattle.std.proofs.Common.{◌≡◌, []}
 use Rattle.tsb_bench.specs.Past.{whole}
 use Rattle.tsb_lines.specs.Lines.{HasNoFeed}
 use Rattle.tsb_text.specs.Answers.{Given}
@@ -11,6 +11,7 @@ invariant-loop-count g l = record {
   going : (given : Given) → Stands given l.log (whole l.fn.self.bench) []
       → Going given l.log (whole l.self.bench) l.self.held.items l.left (g.R.Read.remaining l.fn.reader) (g.R.Read.remaining l.reader) (g.W.Write.contents l.fn.writer) (g.W.Write.contents l.writer) l.self.pending;
   clean : HasNoFeed l.self.held.items;
+  sent : l.self.pending ≡ [];
 }
 
 abbrev pub decreases-loop-count : goal.decreases-loop-count
