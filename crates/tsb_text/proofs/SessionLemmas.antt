@@ -15,9 +15,10 @@ use Rattle.tsb_text.specs.declared.talk.Flow.{Flow}
 use Rattle.tsb_text.specs.declared.talk.Flow.TheVariants.{On, Over}
 use Rattle.tsb_text.specs.Answers.{Given}
 use Rattle.tsb_text.specs.Text.{IsText}
-use Rattle.tsb_text.specs.Talk.{Stands, Carries, IsWhole, IsBegun, Went, Finished, AnswersWhole, Ended, EndedSo, Going, as_session}
+use Rattle.tsb_text.specs.Talk.{Stands, Carries, IsWhole, IsBegun, Went, Finished, Holds, Quits, HeldAfter, AnswersWhole, Ended, EndedSo, Going, as_session}
 use Rattle.tsb_text.specs.Written.{Said, Wrote}
 use Rattle.tsb_text.proofs.TextLemmas.{some-text}
+use Rattle.tsb_text.proofs.HeldLemmas.{holds-start}
 use Rattle.tsb_text.proofs.TalkLemmas.{joined}
 use Rattle.tsb_text.proofs.WrittenLemmas.{said-nothing, said-more}
 
@@ -49,6 +50,7 @@ going-start given log bench held i o waits empty none stands = record {
     so = record { on = λ more text t. subst (λ (v : List ℕ). IsText given [] (v ++ more) text) empty t };
   };
   fits = refl;
+  holds = holds-start held empty;
 }
 
 -- ## How it ends
@@ -61,7 +63,7 @@ take-front (suc n) (x ∷ xs) ys e = ap (λ (v : List ℕ). x ∷ v) (take-front
 
 -- what was said in all
 EndedText : Result (Unit {0}) SessionFault → Given → Option (List ℕ) → List ℕ → List ℕ → List ℕ → Type 0
-EndedText (Ok u) given left read waits said = (waits ≡ []) × ((IsAtEnd left × IsText given [] read said) ⊎ IsWhole given [] read said)
+EndedText (Ok u) given left read waits said = (waits ≡ []) × ((IsAtEnd left × IsText given [] read said) ⊎ (Quits read × IsWhole given [] read said))
 EndedText (Err Memory) given left read waits said = ⊥
 EndedText (Err e) given left read waits said = (IsAtEnd left × (rest : List ℕ) × IsText given [] read (said ++ rest)) ⊎ IsBegun given [] read said
 
@@ -83,7 +85,7 @@ ended-so (Ok u) given left read waits said gone e x =
     let all : said ≡ gone = e ∙ ap (λ (v : List ℕ). gone ++ v) x.0 ∙ append-nil gone in
     elim x.1 [
       | inl end ↦ inl (end.0, subst (λ (v : List ℕ). IsText given [] read v) all end.1)
-      | inr whole ↦ inr (record { all = λ more. subst (λ (v : List ℕ). IsText given [] (read ++ more) v) all (whole.all more) })
+      | inr whole ↦ inr (whole.0, record { all = λ more. subst (λ (v : List ℕ). IsText given [] (read ++ more) v) all (whole.1.all more) })
     ]
 ended-so (Err Memory) given left read waits said gone e x = x
 ended-so (Err Read) given left read waits said gone e x = ended-front given left read waits said gone e x
@@ -207,9 +209,9 @@ ended-fault given log bench bench2 held held2 budget i l l2 o n n2 waits waits2 
 pub ended-over : (given : Given) (log : List LogRow) (bench bench2 : Whole) (held held2 : List ℕ) (budget : ℕ) (i l l2 o n n2 n3 : Option (List ℕ)) (waits waits2 waits3 : List ℕ) (r : Result (Unit {0}) WriteFault) (f : Flow) (count : ℕ) (piece : List ℕ)
     → Going given log bench held budget i l o n waits → Consumes l l2 piece → count ≡ length piece → count ≤ budget → f ≡ Over
     → ((given : Given) (inputs : List Input) → Stands given log bench inputs → Went (Ok f) given inputs (held ++ piece) log bench2 held2 n n2 waits waits2)
-    → Said n2 n3 waits2 waits3 [] → OnOk r (waits3 ≡ []) → Ended (as_session r) given i l2 o n3
+    → ((before : List ℕ) → Holds before held → HeldAfter (Ok f) (before ++ piece) held2) → Said n2 n3 waits2 waits3 [] → OnOk r (waits3 ≡ []) → Ended (as_session r) given i l2 o n3
 unfolding EndedText
-ended-over given log bench bench2 held held2 budget i l l2 o n n2 n3 waits waits2 waits3 r f count piece g k long fits over went said ok =
+ended-over given log bench bench2 held held2 budget i l l2 o n n2 n3 waits waits2 waits3 r f count piece g k long fits over went keeps said ok =
     ended (as_session r) given i l2 o n3 (g.read ++ piece) waits3 (consumes-more i l l2 g.read piece g.taken k) (at r ok) (never-large r) (never-read r)
     (let f : length g.read + budget ≡ 16777216 = g.fits in let all : length (g.read ++ piece) ≡ length g.read + length piece = length-append g.read piece in omega (arith, f, all, long, fits))
   where
@@ -217,11 +219,14 @@ ended-over given log bench bench2 held held2 budget i l l2 o n n2 n3 waits waits
     w = joined (Ok Over) given log [] g.read g.inputs held piece bench2 held2 o n n2 [] waits waits2 g.wrote
         (subst (λ (x : Flow). Went (Ok x) given g.inputs (held ++ piece) log bench2 held2 n n2 waits waits2) over (went given g.inputs g.stands))
 
+    quits : Quits (g.read ++ piece)
+    quits = subst (λ (x : Flow). HeldAfter (Ok x) (g.read ++ piece) held2) over (keeps g.read g.holds)
+
     all : (more : List ℕ) → IsText given [] ((g.read ++ piece) ++ more) (w.text ++ [])
     all more = subst (λ (v : List ℕ). IsText given [] ((g.read ++ piece) ++ more) v) (sym (append-nil w.text)) (w.so.all more)
 
     at : (r : Result (Unit {0}) WriteFault) → OnOk r (waits3 ≡ []) → Wrote o n3 [] waits3 (EndedText (as_session r) given l2 (g.read ++ piece) waits3)
-    at (Ok u) ok = record { text = w.text ++ []; said = said-more o n2 n3 [] waits2 waits3 w.text [] w.said said; so = (ok, inr (record { all = all })) }
+    at (Ok u) ok = record { text = w.text ++ []; said = said-more o n2 n3 [] waits2 waits3 w.text [] w.said said; so = (ok, inr (quits, record { all = all })) }
     at (Err e) ok = record {
       text = w.text ++ [];
       said = said-more o n2 n3 [] waits2 waits3 w.text [] w.said said;
@@ -232,8 +237,8 @@ ended-over given log bench bench2 held held2 budget i l l2 o n n2 n3 waits waits
 pub going-more : (given : Given) (log : List LogRow) (bench bench2 : Whole) (held held2 : List ℕ) (budget : ℕ) (i l l2 o n n2 n3 : Option (List ℕ)) (waits waits2 waits3 : List ℕ) (f : Flow) (count : ℕ) (piece : List ℕ)
     → Going given log bench held budget i l o n waits → Consumes l l2 piece → count ≡ length piece → count ≤ budget → f ≡ On
     → ((given : Given) (inputs : List Input) → Stands given log bench inputs → Went (Ok f) given inputs (held ++ piece) log bench2 held2 n n2 waits waits2)
-    → Said n2 n3 waits2 waits3 [] → Going given log bench2 held2 (budget - count) i l2 o n3 waits3
-going-more given log bench bench2 held held2 budget i l l2 o n n2 n3 waits waits2 waits3 f count piece g k long fits on went said =
+    → ((before : List ℕ) → Holds before held → HeldAfter (Ok f) (before ++ piece) held2) → Said n2 n3 waits2 waits3 [] → Going given log bench2 held2 (budget - count) i l2 o n3 waits3
+going-more given log bench bench2 held held2 budget i l l2 o n n2 n3 waits waits2 waits3 f count piece g k long fits on went keeps said =
     let w : Went (Ok On) given [] (g.read ++ piece) log bench2 held2 o n2 [] waits2 = joined (Ok On) given log [] g.read g.inputs held piece bench2 held2 o n n2 [] waits waits2 g.wrote
     (subst (λ (x : Flow). Went (Ok x) given g.inputs (held ++ piece) log bench2 held2 n n2 waits waits2) on (went given g.inputs g.stands)) in
     record {
@@ -246,6 +251,7 @@ going-more given log bench bench2 held held2 budget i l l2 o n n2 n3 waits waits
         said = said-more o n2 n3 [] waits2 waits3 w.2.text [] w.2.said said;
         so = record { on = λ more text t. subst (λ (v : List ℕ). IsText given [] ((g.read ++ piece) ++ more) (v ++ text)) (sym (append-nil w.2.text)) (w.2.so.on more text t) };
       };
+      holds = subst (λ (x : Flow). HeldAfter (Ok x) (g.read ++ piece) held2) on (keeps g.read g.holds);
       fits = let f : length g.read + budget ≡ 16777216 = g.fits in let all : length (g.read ++ piece) ≡ length g.read + length piece = length-append g.read piece in omega (arith, f, all, long, fits);
     }
 
@@ -253,10 +259,10 @@ going-more given log bench bench2 held held2 budget i l l2 o n n2 n3 waits waits
 pub ended-send : (given : Given) (log : List LogRow) (bench bench2 : Whole) (held held2 : List ℕ) (budget : ℕ) (i l l2 o n n2 n3 : Option (List ℕ)) (waits waits2 waits3 : List ℕ) (f : Flow) (count : ℕ) (piece : List ℕ)
     → Going given log bench held budget i l o n waits → Consumes l l2 piece → count ≡ length piece → count ≤ budget → f ≡ On
     → ((given : Given) (inputs : List Input) → Stands given log bench inputs → Went (Ok f) given inputs (held ++ piece) log bench2 held2 n n2 waits waits2)
-    → Said n2 n3 waits2 waits3 [] → Ended (Err Write) given i l2 o n3
+    → ((before : List ℕ) → Holds before held → HeldAfter (Ok f) (before ++ piece) held2) → Said n2 n3 waits2 waits3 [] → Ended (Err Write) given i l2 o n3
 unfolding EndedText
-ended-send given log bench bench2 held held2 budget i l l2 o n n2 n3 waits waits2 waits3 f count piece g k long fits on went said =
-    let x : Going given log bench2 held2 (budget - count) i l2 o n3 waits3 = going-more given log bench bench2 held held2 budget i l l2 o n n2 n3 waits waits2 waits3 f count piece g k long fits on went said in
+ended-send given log bench bench2 held held2 budget i l l2 o n n2 n3 waits waits2 waits3 f count piece g k long fits on went keeps said =
+    let x : Going given log bench2 held2 (budget - count) i l2 o n3 waits3 = going-more given log bench bench2 held held2 budget i l l2 o n n2 n3 waits waits2 waits3 f count piece g k long fits on went keeps said in
     ended (Err Write) given i l2 o n3 x.read waits3 x.taken (record { text = x.wrote.text; said = x.wrote.said; so = inr (begun-going given x.inputs x.read held2 x.wrote.text x.wrote.so) })
     (λ h. cc) (λ h. cc) (let f : length x.read + (budget - count) ≡ 16777216 = x.fits in omega (arith, f))
 

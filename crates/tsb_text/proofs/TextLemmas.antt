@@ -126,7 +126,7 @@ length-without (b ∷ c ∷ bs) = let rest : length (c ∷ bs) ≤ suc (length (
 reading-long : (line : List ℕ) → 200 < length line → reading line ≡ Bad
 reading-long line long = let lt : nat_lt 200 (length line) ≡ true = search (rules, long) in rw lt refl
 
-reading-returned : (raw : List ℕ) → 202 ≤ length raw → reading (without_return raw) ≡ Bad
+pub reading-returned : (raw : List ℕ) → 202 ≤ length raw → reading (without_return raw) ≡ Bad
 reading-returned raw long = let more : length raw ≤ suc (length (without_return raw)) = length-without raw in reading-long (without_return raw) (omega (arith, more, long))
 
 -- where the first of these lines is long, another long line in its place is answered so as well

@@ -1,11 +1,13 @@
 -- How far a session has come with the bytes that it has read, and how it ends.
-use Rattle.std.specs.Prelude.{◌≡◌, ◌⊎◌, ◌↔◌, ◌+◌, ◌<◌, ◌≤◌, ℕ, List, [], ◌++◌, length, take, Option, Result, Ok, Err}
+use Rattle.std.specs.Prelude.{◌≡◌, ◌⊎◌, ◌↔◌, ◌+◌, ◌<◌, ◌≤◌, ℕ, List, [], ◌∷◌, ◌++◌, length, take, Option, Result, Ok, Err}
 use Rattle.std.specs.Io.KnownBytes.{Appends, Consumes, IsAtEnd}
 use Rattle.tsb_bench.specs.declared.inputs.Input.{Input}
 use Rattle.tsb_bench.specs.Past.{Whole}
 use Rattle.tsb_bench.specs.Play.{Follows}
 use Rattle.tsb_command_text.specs.declared.command.Reading.{Reading}
-use Rattle.tsb_lines.specs.Lines.{HasNoFeed}
+use Rattle.tsb_command_text.specs.declared.command.Reading.TheVariants.{Leave}
+use Rattle.tsb_command_text.specs.Readings.{reading}
+use Rattle.tsb_lines.specs.Lines.{HasNoFeed, without_return}
 use Rattle.tsb_log_text.specs.declared.log.LogRow.{LogRow}
 use Rattle.tsb_text.specs.declared.fault.SessionFault.{SessionFault}
 use Rattle.tsb_text.specs.declared.fault.SessionFault.TheVariants.{Memory, Read, Write, TooLarge}
@@ -76,6 +78,37 @@ pub record IsWhole (given : Given) (inputs : List Input) (bytes said : List ℕ)
 pub record IsBegun (given : Given) (inputs : List Input) (bytes said : List ℕ) : Type 0 where
   pub rest : (more : List ℕ) → (rest : List ℕ) × IsText given inputs (bytes ++ more) (said ++ rest)
 
+-- ## Which bytes are held
+
+-- nothing stands behind the last line feed
+abbrev pub EndsLine : List ℕ → Type 0
+EndsLine bytes = (bytes ≡ []) ⊎ ((front : List ℕ) × (bytes ≡ front ++ 10 ∷ []))
+
+-- of the line that no line feed has ended yet the first bytes are held, enough to tell that it is too long
+pub record Holds (bytes held : List ℕ) : Type 0 where
+  pub done : List ℕ
+  pub rest : List ℕ
+  pub whole : bytes ≡ done ++ rest
+  pub ended : EndsLine done
+  pub unfinished : HasNoFeed rest
+  pub kept : held ≡ take 202 rest
+
+-- a line of these bytes is `quit`
+pub record Quits (bytes : List ℕ) : Type 0 where
+  pub front : List ℕ
+  pub line : List ℕ
+  pub more : List ℕ
+  pub whole : bytes ≡ front ++ (line ++ 10 ∷ more)
+  pub ended : EndsLine front
+  pub one : HasNoFeed line
+  pub reads : reading (without_return line) ≡ Leave
+
+-- after bytes were taken: the session goes on with those held, or a line was `quit`
+abbrev pub HeldAfter : Result Flow WriteFault → List ℕ → List ℕ → Type 0
+HeldAfter (Ok On) bytes held = Holds bytes held
+HeldAfter (Ok Over) bytes held = Quits bytes
+HeldAfter (Err e) bytes held = Unit {0}
+
 -- bytes were taken: the session goes on with those held, or a line ended it, or a fault did
 abbrev pub Went : Result Flow WriteFault → Given → List Input → List ℕ → List LogRow → Whole → List ℕ
     → Option (List ℕ) → Option (List ℕ) → List ℕ → List ℕ → Type 0
@@ -96,11 +129,11 @@ abbrev pub as_session : Result (Unit {0}) WriteFault → Result (Unit {0}) Sessi
 as_session (Ok u) = Ok u
 as_session (Err e) = Err Write
 
--- how a session ended, after these bytes were read: it wrote a text of theirs, at the end of the input or at a line
--- that ends it; or after a fault a front of one, whatever comes behind them or at the end of the input. So far a
+-- how a session ended, after these bytes were read: it wrote a text of theirs, at the end of the input or where a line
+-- was `quit`, and then whatever comes behind; or after a fault a front of one, whatever comes behind them or at the end of the input. So far a
 -- session asks for no memory to begin with.
 abbrev pub EndedSo : Result (Unit {0}) SessionFault → Given → Option (List ℕ) → List ℕ → List ℕ → Type 0
-EndedSo (Ok u) given left read written = (IsAtEnd left × IsText given [] read written) ⊎ IsWhole given [] read written
+EndedSo (Ok u) given left read written = (IsAtEnd left × IsText given [] read written) ⊎ (Quits read × IsWhole given [] read written)
 EndedSo (Err Memory) given left read written = ⊥
 EndedSo (Err e) given left read written =
     (IsAtEnd left × (rest : List ℕ) × IsText given [] read (written ++ rest)) ⊎ IsBegun given [] read written
@@ -134,3 +167,4 @@ pub record Going (given : Given) (log : List LogRow) (bench : Whole) (held : Lis
   pub taken : Consumes input left read
   pub wrote : Wrote old new [] waits (Carries given [] read inputs held)
   pub fits : length read + budget ≡ 16777216
+  pub holds : Holds read held

@@ -1,12 +1,14 @@
 //! Sessions: commands in, answers out.
 
-ghost use Rattle.std.specs.Prelude.{◌≡◌, ◌∷◌, [], ◌++◌, List, OnOk};
+ghost use Rattle.std.specs.Prelude.{◌≡◌, ◌∷◌, [], ◌++◌, ℕ, List, Ok, OnOk};
 ghost use Rattle.tsb_lines.specs.Lines.{HasNoFeed};
 ghost use Rattle.tsb_objects.specs.Checked.{checked_plan};
 ghost use Rattle.tsb_bench.specs.declared.inputs.Input.{Input};
 ghost use Rattle.tsb_bench.specs.Past.{whole};
 ghost use Rattle.tsb_text.specs.Answers.{Given};
-ghost use Rattle.tsb_text.specs.Talk.{Stands, Obeyed, Went, Finished, Ended, as_session};
+ghost use Rattle.tsb_text.specs.Talk.{Stands, Obeyed, Went, Finished, Ended, Holds, HeldAfter, as_session};
+ghost use Rattle.tsb_text.specs.declared.talk.Flow.TheVariants.{Over};
+ghost use Rattle.tsb_command_text.specs.declared.command.Reading.TheVariants.{Leave};
 ghost use Rattle.tsb_text.specs.Written.{Said, Wrote};
 
 use crate::answers::obey;
@@ -56,6 +58,7 @@ impl Talk {
         ensures obeyed { (given : Given) (inputs : List Input) → Stands given log.now (whole self.old.bench) inputs
             → Obeyed result given inputs asked log.now (whole self.new.bench) (W.contents writer.old) (W.contents writer.new) self.old.pending self.new.pending }
         ensures held { self.new.held ≡ self.old.held }
+        ensures over { result ≡ Ok Over → asked ≡ Leave }
     {
         match asked {
             Reading::Skip => Ok(Flow::On),
@@ -84,6 +87,7 @@ impl Talk {
         ensures went { (given : Given) (inputs : List Input) → Stands given log.now (whole self.old.bench) inputs
             → Went result given inputs (self.old.held.items ++ byte ∷ []) log.now (whole self.new.bench) self.new.held.items (W.contents writer.old) (W.contents writer.new) self.old.pending self.new.pending }
         ensures clean { HasNoFeed self.new.held.items }
+        ensures holds { (bytes : List ℕ) → Holds bytes self.old.held.items → HeldAfter result (bytes ++ byte ∷ []) self.new.held.items }
     {
         if byte == b'\n' {
             let asked = reading_of(without_return(&self.held));
@@ -107,6 +111,7 @@ impl Talk {
         ensures went { (given : Given) (inputs : List Input) → Stands given log.now (whole self.old.bench) inputs
             → Went result given inputs (self.old.held.items ++ bytes.now) log.now (whole self.new.bench) self.new.held.items (W.contents writer.old) (W.contents writer.new) self.old.pending self.new.pending }
         ensures clean { HasNoFeed self.new.held.items }
+        ensures holds { (before : List ℕ) → Holds before self.old.held.items → HeldAfter result (before ++ bytes.now) self.new.held.items }
     {
         for byte in bytes {
             match self.feed(log, *byte, writer)? {

@@ -1,9 +1,9 @@
-use Rattle.std.proofs.Common.{◌++◌, take, List}
+use Rattle.std.proofs.Common.{◌++◌, take, List, ℕ}
 use Rattle.tsb_bench.specs.declared.inputs.Input.{Input}
 use Rattle.tsb_bench.specs.Past.{whole}
 use Rattle.tsb_lines.specs.Lines.{HasNoFeed}
 use Rattle.tsb_text.specs.Answers.{Given}
-use Rattle.tsb_text.specs.Talk.{Stands}
+use Rattle.tsb_text.specs.Talk.{Stands, Holds}
 use Rattle.tsb_text.proofs.TalkLemmas.{Talking}
 use Rattle.tsb_text.proofs.talk.Talk.feed_all.Given as goal
 
@@ -13,4 +13,5 @@ invariant-loop-byte g l = record {
       → Talking given l.log is (l.fn.self.held.items ++ take l.byte-index l.bytes) (whole l.self.bench) l.self.held.items
       (g.W.Write.contents l.fn.writer) (g.W.Write.contents l.writer) l.fn.self.pending l.self.pending;
   clean : HasNoFeed l.self.held.items;
+  holds : (before : List ℕ) → Holds before l.fn.self.held.items → Holds (before ++ take l.byte-index l.bytes) l.self.held.items;
 }

@@ -1,4 +1,4 @@
-use Rattle.std.proofs.Common.{◌≡◌, ◌≤◌, ◌<◌, arith, rules, take, length, sym, subst}
+use Rattle.std.proofs.Common.{List, ℕ, ◌≡◌, ◌≤◌, ◌<◌, arith, rules, take, length, sym, subst}
 use Rattle.std.specs.declared.result.Result.{Result}
 use Rattle.tsb_bench.specs.Past.{whole}
 use Rattle.tsb_lines.specs.Lines.{HasNoFeed}
@@ -29,7 +29,7 @@ loop-count-preserved g c = record {
   going = λ given s.
       going-same given c.args.log.now c.feed_all.new.self.bench c.send-sent.new.self.bench c.feed_all.new.self.held.items c.send-sent.new.self.held.items _ _ _ _ _ _ c.send-sent.ensures.rest.0 (search (rules, c.send-sent.ensures.rest.1))
       (going-more given c.args.log.now (whole c.loop-count.self.bench) (whole c.feed_all.new.self.bench) c.loop-count.self.held.items c.feed_all.new.self.held.items c.loop-count.left _ _ _ _ _ _ _ c.loop-count.self.pending c.feed_all.new.self.pending c.send-sent.new.self.pending
-      c.in-Ok-feed_all.flow c.in-Ok.count (take c.in-Ok.count c.read.new.buf) (c.loop-count.invariant.going given s) c.in-Ok.ensures.bytes.0 c.in-Ok.ensures.bound.1 c.if-left-count.false c.in-On.is c.in-Ok-feed_all.ensures.went c.send-sent.ensures.said);
+      c.in-Ok-feed_all.flow c.in-Ok.count (take c.in-Ok.count c.read.new.buf) (c.loop-count.invariant.going given s) c.in-Ok.ensures.bytes.0 c.in-Ok.ensures.bound.1 c.if-left-count.false c.in-On.is c.in-Ok-feed_all.ensures.went c.in-Ok-feed_all.ensures.holds c.send-sent.ensures.said);
   clean = search (rules, c.send-sent.ensures.rest.1, c.feed_all.ensures.clean);
   sent = search (rules, c.send-sent.ensures.ok, c.is_err.ensures, c.if-is_err.false);
 }
@@ -37,9 +37,16 @@ loop-count-preserved g c = record {
 pub returns-then-is_err : goal.returns-then-is_err
 returns-then-is_err g c given s =
     ended-send given c.args.log.now (whole c.loop-count.self.bench) (whole c.feed_all.new.self.bench) c.loop-count.self.held.items c.feed_all.new.self.held.items c.loop-count.left _ _ _ _ _ _ _ c.loop-count.self.pending c.feed_all.new.self.pending c.send-sent.new.self.pending
-    c.in-Ok-feed_all.flow c.in-Ok.count (take c.in-Ok.count c.read.new.buf) (c.loop-count.invariant.going given s) c.in-Ok.ensures.bytes.0 c.in-Ok.ensures.bound.1 c.if-left-count.false c.in-On.is c.in-Ok-feed_all.ensures.went c.send-sent.ensures.said
+    c.in-Ok-feed_all.flow c.in-Ok.count (take c.in-Ok.count c.read.new.buf) (c.loop-count.invariant.going given s) c.in-Ok.ensures.bytes.0 c.in-Ok.ensures.bound.1 c.if-left-count.false c.in-On.is c.in-Ok-feed_all.ensures.went c.in-Ok-feed_all.ensures.holds c.send-sent.ensures.said
 
 pub returns-in-Over : goal.returns-in-Over
 returns-in-Over g c given s = rw c.as_session-in-Over.ensures
     (ended-over given c.args.log.now (whole c.loop-count.self.bench) (whole c.feed_all.new.self.bench) c.loop-count.self.held.items c.feed_all.new.self.held.items c.loop-count.left _ _ _ _ _ _ _ c.loop-count.self.pending c.feed_all.new.self.pending c.send-sent.new.self.pending
-    c.send-sent.result c.in-Ok-feed_all.flow c.in-Ok.count (take c.in-Ok.count c.read.new.buf) (c.loop-count.invariant.going given s) c.in-Ok.ensures.bytes.0 c.in-Ok.ensures.bound.1 c.if-left-count.false c.in-Over.is c.in-Ok-feed_all.ensures.went c.send-sent.ensures.said c.send-sent.ensures.ok)
+    c.send-sent.result c.in-Ok-feed_all.flow c.in-Ok.count (take c.in-Ok.count c.read.new.buf) (c.loop-count.invariant.going given s) c.in-Ok.ensures.bytes.0 c.in-Ok.ensures.bound.1 c.if-left-count.false c.in-Over.is c.in-Ok-feed_all.ensures.went c.in-Ok-feed_all.ensures.holds c.send-sent.ensures.said c.send-sent.ensures.ok)
+
+pub loop-count-init : goal.loop-count-init
+loop-count-init g c = record {
+  going = λ given s. going-start given c.args.log.now (whole c.args.self.now.bench) c.args.self.now.held.items _ _ c.args.self.now.pending c.requires.held c.requires.waits s;
+  clean = subst (λ (v : List ℕ). HasNoFeed v) (sym c.requires.held) tt;
+  sent = c.requires.waits;
+}
