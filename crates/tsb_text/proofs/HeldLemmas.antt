@@ -11,7 +11,8 @@ use Rattle.tsb_lines.proofs.LineLemmas.{feedless-more}
 use Rattle.tsb_text.specs.declared.fault.WriteFault.{WriteFault}
 use Rattle.tsb_text.specs.declared.talk.Flow.{Flow}
 use Rattle.tsb_text.specs.declared.talk.Flow.TheVariants.{On, Over}
-use Rattle.tsb_text.specs.Talk.{EndsLine, Holds, Quits, HeldAfter}
+use Rattle.tsb_text.specs.Ended.{EndsLine, Quits}
+use Rattle.tsb_text.specs.Talk.{Holds, HeldAfter}
 use Rattle.tsb_text.proofs.TextLemmas.{reading-returned}
 
 pub holds-start : (held : List ℕ) → held ≡ [] → Holds [] held

@@ -15,7 +15,8 @@ use Rattle.tsb_text.specs.declared.talk.Flow.{Flow}
 use Rattle.tsb_text.specs.declared.talk.Flow.TheVariants.{On, Over}
 use Rattle.tsb_text.specs.Answers.{Given}
 use Rattle.tsb_text.specs.Text.{IsText}
-use Rattle.tsb_text.specs.Talk.{Stands, Carries, IsWhole, IsBegun, Went, Finished, Holds, Quits, HeldAfter, AnswersWhole, Ended, EndedSo, Going, as_session}
+use Rattle.tsb_text.specs.Ended.{Carries, IsWhole, IsBegun, Quits, AnswersWhole, Ended, EndedSo}
+use Rattle.tsb_text.specs.Talk.{Stands, Went, Finished, Holds, HeldAfter, Going, as_session}
 use Rattle.tsb_text.specs.Written.{Said, Wrote}
 use Rattle.tsb_text.proofs.TextLemmas.{some-text}
 use Rattle.tsb_text.proofs.HeldLemmas.{holds-start}

@@ -17,7 +17,8 @@ use Rattle.tsb_text.specs.declared.talk.Flow.{Flow}
 use Rattle.tsb_text.specs.declared.talk.Flow.TheVariants.{On, Over}
 use Rattle.tsb_text.specs.Answers.{Given, Answers}
 use Rattle.tsb_text.specs.Text.{Says, IsAnswered, IsText}
-use Rattle.tsb_text.specs.Talk.{Stands, Done, AnswersLine, AnswersAll, BeginsLine, Obeyed, Carries, IsWhole, IsBegun, Went, Finished}
+use Rattle.tsb_text.specs.Ended.{Carries, IsWhole, IsBegun}
+use Rattle.tsb_text.specs.Talk.{Stands, Done, AnswersLine, AnswersAll, BeginsLine, Obeyed, Went, Finished}
 use Rattle.tsb_text.specs.Written.{Said, Wrote, with_feed}
 use Rattle.tsb_text.proofs.TextLemmas.{some-answered, some-text, text-cut}
 use Rattle.tsb_text.proofs.WrittenLemmas.{said-nothing, said-more}

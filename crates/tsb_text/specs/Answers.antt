@@ -15,7 +15,7 @@ use Rattle.tsb_bench.specs.declared.commands.Answer.TheVariants.{Took, Refused, 
 use Rattle.tsb_bench.specs.State.{State}
 use Rattle.tsb_bench.specs.Play.{replay, IsRight, remaining_after}
 use Rattle.tsb_command_text.specs.declared.command.Command.{Command}
-use Rattle.tsb_command_text.specs.declared.command.Command.TheVariants.{Step, Back, Seek, Undo, Show, Quit}
+use Rattle.tsb_command_text.specs.declared.command.Command.TheVariants.{Step, Back, Seek, Undo, Show, Quit, When, Begin, Set, Verify, Commit, Abort, Pattern, Preempt, Fault, Reset}
 use Rattle.tsb_log_text.specs.declared.log.LogRow.{LogRow}
 use Rattle.tsb_log_text.specs.Logs.{row_at}
 use Rattle.tsb_text.specs.Line.{display_line}
@@ -114,5 +114,15 @@ Answers given inputs (Back n) text new = Asked given inputs (asks.Back n) text n
 Answers given inputs (Seek t) text new = Asked given inputs (asks.Seek t) text new
 Answers given inputs Undo text new = Asked given inputs asks.Undo text new
 Answers given inputs Show text new = (text ≡ with_feed (display_line (replay given.plan inputs))) × (new ≡ inputs)
+-- it ends the session, which answers no line then
 Answers given inputs Quit text new = (text ≡ []) × (new ≡ inputs)
-Answers given inputs command text new = IsNotYet inputs text new
+Answers given inputs (When watch) text new = IsNotYet inputs text new
+Answers given inputs (Begin station) text new = IsNotYet inputs text new
+Answers given inputs (Set station object value) text new = IsNotYet inputs text new
+Answers given inputs (Verify station) text new = IsNotYet inputs text new
+Answers given inputs (Commit station) text new = IsNotYet inputs text new
+Answers given inputs (Abort station) text new = IsNotYet inputs text new
+Answers given inputs (Pattern number) text new = IsNotYet inputs text new
+Answers given inputs (Preempt number on) text new = IsNotYet inputs text new
+Answers given inputs (Fault lamp) text new = IsNotYet inputs text new
+Answers given inputs Reset text new = IsNotYet inputs text new

@@ -5,13 +5,13 @@ use thiserror::Error;
 /// What ends a session before its commands do. What was written until then is a front of the session's text.
 #[derive(Clone, Copy, Debug, PartialEq, Eq, Error)]
 pub enum SessionFault {
-    /// There was no memory to begin with.
+    /// There was no memory to begin with. So far a session asks for none then.
     #[error("memory")]
     Memory,
     /// A read failed or was interrupted.
     #[error("read fault")]
     Read,
-    /// A write failed, was interrupted or took no byte.
+    /// A write failed, was interrupted or took no byte, or the writer did not pass on what it had taken.
     #[error("write fault")]
     Write,
     /// The commands are longer than 16 MiB.
@@ -19,6 +19,6 @@ pub enum SessionFault {
     TooLarge,
 }
 
-/// A write failed, was interrupted or took no byte.
+/// A write failed, was interrupted or took no byte, or the writer did not pass on what it had taken.
 #[derive(Clone, Copy, Debug, PartialEq, Eq)]
 pub(crate) struct WriteFault;

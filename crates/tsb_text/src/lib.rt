@@ -16,6 +16,9 @@ pub use talk::{COMMANDS, session};
 pub use tsb_bench::{Bench, Checked, Kind, Plan, Refusal, Row, Rule, Station};
 pub use tsb_command_text::{Command, read_command};
 pub use tsb_log_text::{LIMIT as LOG_LIMIT, Log, LogFault, read_log};
+pub use tsb_objects::{
+    Detector, Lamp, Object, ObjectId, Overlap, PedestrianColor, Phase, SignalColor, Watch,
+};
 pub use tsb_plan_text::{LIMIT as PLAN_LIMIT, PlanFault, read_plan};
 
 #[cfg(test)]

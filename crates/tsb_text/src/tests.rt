@@ -247,6 +247,19 @@ fn quit_ends_a_session(rt: HostRuntime) {
     assert!(rt; answers(&rt, b"show it\r\nquit\r\nshow\r\n", b"bad command\n"));
 }
 
+/// What stands behind `quit` is not read.
+#[test]
+fn quit_reads_no_further(rt: HostRuntime) {
+    let mut out = Vec::new(rt.alloc());
+    let mut reader = Pieces {
+        left: b"quit\nshow\n",
+        piece: 5,
+        fails_at: 1,
+    };
+    assert!(rt; matches!(talk(&rt, &mut reader, &mut out), Some(Ok(()))));
+    assert_eq!(rt; reader.left.len(), 5);
+}
+
 #[test]
 fn no_step_has_no_line(rt: HostRuntime) {
     assert!(rt;

@@ -1,0 +1,67 @@
+-- How a session ends: what it has written for the bytes that it has read.
+use Rattle.std.specs.Prelude.{◌≡◌, ◌⊎◌, ◌↔◌, ◌<◌, ◌≤◌, ℕ, List, [], ◌∷◌, ◌++◌, length, take, Option, Result, Ok, Err}
+use Rattle.std.specs.Io.KnownBytes.{Appends, Consumes, IsAtEnd}
+use Rattle.tsb_bench.specs.declared.inputs.Input.{Input}
+use Rattle.tsb_command_text.specs.declared.command.Reading.TheVariants.{Leave}
+use Rattle.tsb_command_text.specs.Readings.{reading}
+use Rattle.tsb_lines.specs.Lines.{HasNoFeed, without_return}
+use Rattle.tsb_text.specs.declared.fault.SessionFault.{SessionFault}
+use Rattle.tsb_text.specs.declared.fault.SessionFault.TheVariants.{Memory, Read, TooLarge}
+use Rattle.tsb_text.specs.Answers.{Given}
+use Rattle.tsb_text.specs.Text.{IsText}
+
+-- what may be said for these bytes and any more is this, and then what may be said for those held and the more
+pub record Carries (given : Given) (inputs : List Input) (bytes : List ℕ) (left : List Input) (held said : List ℕ) : Type 0 where
+  pub on : (more text : List ℕ) → IsText given left (held ++ more) text → IsText given inputs (bytes ++ more) (said ++ text)
+
+-- this is the text, whatever comes behind these bytes
+pub record IsWhole (given : Given) (inputs : List Input) (bytes said : List ℕ) : Type 0 where
+  pub all : (more : List ℕ) → IsText given inputs (bytes ++ more) said
+
+-- this begins a text, whatever comes behind these bytes
+pub record IsBegun (given : Given) (inputs : List Input) (bytes said : List ℕ) : Type 0 where
+  pub rest : (more : List ℕ) → (rest : List ℕ) × IsText given inputs (bytes ++ more) (said ++ rest)
+
+-- nothing stands behind the last line feed
+abbrev pub EndsLine : List ℕ → Type 0
+EndsLine bytes = (bytes ≡ []) ⊎ ((front : List ℕ) × (bytes ≡ front ++ 10 ∷ []))
+
+-- a line of these bytes is `quit`
+pub record Quits (bytes : List ℕ) : Type 0 where
+  pub front : List ℕ
+  pub line : List ℕ
+  pub more : List ℕ
+  pub whole : bytes ≡ front ++ (line ++ 10 ∷ more)
+  pub ended : EndsLine front
+  pub one : HasNoFeed line
+  pub reads : reading (without_return line) ≡ Leave
+
+-- how a session ended, after these bytes were read: it wrote a text of theirs, at the end of the input or where a line
+-- was `quit`, and then whatever comes behind; or after a fault a front of one, whatever comes behind them or at the end of the input. So far a
+-- session asks for no memory to begin with.
+abbrev pub EndedSo : Result (Unit {0}) SessionFault → Given → Option (List ℕ) → List ℕ → List ℕ → Type 0
+EndedSo (Ok u) given left read written = (IsAtEnd left × IsText given [] read written) ⊎ (Quits read × IsWhole given [] read written)
+EndedSo (Err Memory) given left read written = ⊥
+EndedSo (Err e) given left read written =
+    (IsAtEnd left × (rest : List ℕ) × IsText given [] read (written ++ rest)) ⊎ IsBegun given [] read written
+
+-- all whole lines of these bytes were answered: whatever comes behind, a text is what was written, and then what may be
+-- said for an unfinished line and the bytes behind
+pub record AnswersWhole (given : Given) (bytes written : List ℕ) : Type 0 where
+  pub left : List Input
+  pub held : List ℕ
+  pub unfinished : HasNoFeed held
+  pub carries : Carries given [] bytes left held written
+
+-- the bytes that it read, and those that it wrote: no others went to the writer
+pub record Ended (result : Result (Unit {0}) SessionFault) (given : Given) (input left old new : Option (List ℕ)) : Type 0 where
+  pub read : List ℕ
+  pub taken : Consumes input left read
+  pub written : List ℕ
+  pub grown : Appends old new written
+  pub so : EndedSo result given left read written
+  -- too large is answered where more than 16 MiB were read, and only there; of more no second byte is read
+  pub large : (result ≡ Err TooLarge) ↔ (16777216 < length read)
+  pub most : length read ≤ 16777217
+  -- after a read that failed, and after 16 MiB, no answer to a whole line is missing
+  pub answered : (result ≡ Err Read) ⊎ (result ≡ Err TooLarge) → AnswersWhole given (take 16777216 read) written
