@@ -1,5 +1,5 @@
 -- What is said of an answer, where a bench has come from power-up by some inputs.
-use Rattle.std.proofs.Common.{◌≡◌, ℕ, ◌+◌, ◌-◌, ◌<◌, List, [], ◌∷◌, ◌++◌, refl, sym, ap, ◌∙◌, append_assoc, Some, None, Ok, Err, subst, zero, suc, OnOk, OnErr, inl, inr, MatchResult, codes}
+use Rattle.std.proofs.Common.{◌≡◌, ℕ, ◌+◌, List, [], ◌∷◌, ◌++◌, refl, sym, ap, ◌∙◌, append_assoc, Ok, Err, subst, suc, OnOk, OnErr, inl, inr, codes}
 use Rattle.std.specs.declared.option.Option.{Option}
 use Rattle.std.specs.declared.result.Result.{Result}
 use Rattle.tsb_history.specs.History.{Change}
@@ -12,7 +12,7 @@ use Rattle.tsb_bench.specs.declared.commands.Cmd.TheVariants.{Apply}
 use Rattle.tsb_bench.specs.declared.commands.Answer.{Answer}
 use Rattle.tsb_bench.specs.declared.commands.Answer.TheVariants.{Took, Refused}
 use Rattle.tsb_bench.specs.State.{State}
-use Rattle.tsb_bench.specs.Past.{Held, Whole, state_of, whole, pasts, undone}
+use Rattle.tsb_bench.specs.Past.{Held, Whole, state_of, whole, pasts}
 use Rattle.tsb_bench.specs.Play.{replay, run, IsRight, remaining_after, Follows}
 use Rattle.tsb_bench.specs.Play as play
 use Rattle.tsb_command_text.specs.declared.command.Command.{Command}

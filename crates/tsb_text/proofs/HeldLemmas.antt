@@ -1,17 +1,17 @@
 -- The bytes that are held are those of the line that is not whole yet, of a long one the first.
-use Rattle.std.proofs.Common.{◌≡◌, ℕ, ◌+◌, ◌<◌, ◌≤◌, List, [], ◌∷◌, ◌++◌, length, refl, sym, ap, ◌∙◌, append_assoc, length-append, Ok, Err, arith, subst, zero, suc, take, drop, get_or, take_all, ◌⊎◌, inl, inr}
+use Rattle.std.proofs.Common.{◌≡◌, ℕ, ◌+◌, ◌<◌, ◌≤◌, List, [], ◌∷◌, ◌++◌, length, refl, sym, ap, ◌∙◌, append_assoc, length-append, Ok, Err, arith, subst, zero, suc, take, drop, get_or, take_all, inl, inr}
 use Rattle.std.proofs.lemmas.List.{append-nil, take_more, take-append-drop}
 use Rattle.std.proofs.lemmas.Bool.{cases_lt}
 use Rattle.std.specs.declared.result.Result.{Result}
 use Rattle.tsb_command_text.specs.declared.command.Reading.{Reading}
-use Rattle.tsb_command_text.specs.declared.command.Reading.TheVariants.{Skip, Bad, Leave, Do}
+use Rattle.tsb_command_text.specs.declared.command.Reading.TheVariants.{Bad, Leave}
 use Rattle.tsb_command_text.specs.Readings.{reading}
-use Rattle.tsb_lines.specs.Lines.{without_return, HasNoFeed}
+use Rattle.tsb_lines.specs.Lines.{without_return}
 use Rattle.tsb_lines.proofs.LineLemmas.{feedless-more}
 use Rattle.tsb_text.specs.declared.fault.WriteFault.{WriteFault}
 use Rattle.tsb_text.specs.declared.talk.Flow.{Flow}
 use Rattle.tsb_text.specs.declared.talk.Flow.TheVariants.{On, Over}
-use Rattle.tsb_text.specs.Ended.{EndsLine, Quits}
+use Rattle.tsb_text.specs.Ended.{Quits}
 use Rattle.tsb_text.specs.Talk.{Holds, HeldAfter}
 use Rattle.tsb_text.proofs.TextLemmas.{reading-returned}
 

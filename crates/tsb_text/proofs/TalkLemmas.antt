@@ -1,5 +1,5 @@
 -- A session takes bytes piece after piece, and answers line after line.
-use Rattle.std.proofs.Common.{◌≡◌, ℕ, ◌+◌, ◌-◌, ◌<◌, ◌≤◌, List, [], ◌∷◌, ◌++◌, length, refl, sym, ap, ◌∙◌, append_assoc, Some, None, Ok, Err, arith, subst, zero, suc, OnOk, OnErr, take, drop, get_or, take_all, codes}
+use Rattle.std.proofs.Common.{◌≡◌, ℕ, ◌+◌, ◌<◌, ◌≤◌, List, [], ◌∷◌, ◌++◌, length, refl, sym, ap, ◌∙◌, append_assoc, Ok, Err, subst, OnOk, take, drop, get_or, take_all, codes}
 use Rattle.std.proofs.lemmas.List.{append-nil, take_more, take-append-drop}
 use Rattle.std.specs.declared.option.Option.{Option}
 use Rattle.std.specs.declared.result.Result.{Result}
@@ -18,9 +18,9 @@ use Rattle.tsb_text.specs.declared.talk.Flow.TheVariants.{On, Over}
 use Rattle.tsb_text.specs.Answers.{Given, Answers}
 use Rattle.tsb_text.specs.Text.{Says, IsAnswered, IsText}
 use Rattle.tsb_text.specs.Ended.{Carries, IsWhole, IsBegun}
-use Rattle.tsb_text.specs.Talk.{Stands, Done, AnswersLine, AnswersAll, BeginsLine, Obeyed, Went, Finished}
+use Rattle.tsb_text.specs.Talk.{Stands, Done, Obeyed, Went, Finished}
 use Rattle.tsb_text.specs.Written.{Said, Wrote, with_feed}
-use Rattle.tsb_text.proofs.TextLemmas.{some-answered, some-text, text-cut}
+use Rattle.tsb_text.proofs.TextLemmas.{some-answered, text-cut}
 use Rattle.tsb_text.proofs.WrittenLemmas.{said-nothing, said-more}
 
 -- ## A line

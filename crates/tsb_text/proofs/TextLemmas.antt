@@ -1,25 +1,22 @@
 -- Texts of sessions: there is one for all bytes, and of a long line the first bytes tell as much as all.
-use Rattle.std.proofs.Common.{◌≡◌, ℕ, ◌+◌, ◌-◌, ◌<◌, ◌≤◌, List, [], ◌∷◌, ◌++◌, length, refl, sym, ap, ◌∙◌, Some, None, Option, arith, rules, subst, zero, suc, true, false, cond, eqb, Bool, length-append, ◌⊎◌, inl, inr, nat_lt}
+use Rattle.std.proofs.Common.{◌≡◌, ℕ, ◌+◌, ◌<◌, ◌≤◌, List, [], ◌∷◌, ◌++◌, length, refl, sym, ap, ◌∙◌, arith, rules, subst, zero, suc, true, false, cond, eqb, Bool, length-append, ◌⊎◌, inl, inr, nat_lt}
 use Rattle.std.proofs.lemmas.Bool.Decides.{eqb_tells}
-use Rattle.tsb_types.specs.declared.refusal.Refusal.{Refusal}
 use Rattle.tsb_types.specs.declared.refusal.Refusal.TheVariants.{TickLimit}
 use Rattle.tsb_bench.specs.declared.inputs.Input.{Input}
-use Rattle.tsb_bench.specs.declared.inputs.Input.TheVariants.{Tick}
 use Rattle.tsb_bench.specs.declared.commands.Cmd.{Cmd}
 use Rattle.tsb_bench.specs.declared.commands.Cmd.TheVariants as asks
 use Rattle.tsb_bench.specs.declared.commands.Answer.{Answer}
 use Rattle.tsb_bench.specs.declared.commands.Answer.TheVariants.{Took, Refused, Undone, Moved, Nothing}
-use Rattle.tsb_bench.specs.State.{verdict, kind_of}
-use Rattle.tsb_bench.specs.Play.{replay, IsRight, remaining_after}
+use Rattle.tsb_bench.specs.State.{kind_of}
+use Rattle.tsb_bench.specs.Play.{replay, IsRight}
 use Rattle.tsb_command_text.specs.declared.command.Command.{Command}
 use Rattle.tsb_command_text.specs.declared.command.Command.TheVariants.{Step, Back, Seek, Undo, Show, When, Begin, Set, Verify, Commit, Abort, Pattern, Preempt, Fault, Reset, Quit}
 use Rattle.tsb_command_text.specs.declared.command.Reading.{Reading}
 use Rattle.tsb_command_text.specs.declared.command.Reading.TheVariants.{Skip, Bad, Leave, Do}
 use Rattle.tsb_command_text.specs.Readings.{reading}
 use Rattle.tsb_lines.specs.Lines.{lines_of, split, ended, onto_first, without_return, HasNoFeed}
-use Rattle.tsb_text.specs.Answers.{Given, Asked, Ticked, Stopped, Steps, Answers, next_tick, told}
+use Rattle.tsb_text.specs.Answers.{Given, Asked, Steps, Answers, next_tick}
 use Rattle.tsb_text.specs.Text.{Says, IsAnswered, IsText}
-use Rattle.tsb_text.specs.Written.{with_feed}
 
 -- ## There is an answer to each command: one with no want of memory
 

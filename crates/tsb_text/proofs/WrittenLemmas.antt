@@ -1,9 +1,9 @@
 -- Answers are said one after another, and go out in any pieces.
-use Rattle.std.proofs.Common.{◌≡◌, ℕ, ◌+◌, ◌-◌, ◌<◌, ◌≤◌, List, [], ◌∷◌, ◌++◌, length, take, drop, refl, sym, ap, ◌∙◌, append_assoc, Some, None, arith, subst, zero, suc, take_all, length-drop}
+use Rattle.std.proofs.Common.{◌≡◌, ℕ, ◌+◌, ◌-◌, ◌≤◌, List, [], ◌∷◌, ◌++◌, length, take, drop, refl, sym, ap, ◌∙◌, append_assoc, Some, None, arith, subst, zero, suc, take_all, length-drop}
 use Rattle.std.proofs.lemmas.List.{append-nil, take-append-drop, drop-drop}
 use Rattle.std.specs.declared.option.Option.{Option}
 use Rattle.std.specs.Io.KnownBytes.{Appends, Keeps}
-use Rattle.tsb_text.specs.Written.{Said, Wrote}
+use Rattle.tsb_text.specs.Written.{Said}
 
 appends-nothing : (a : Option (List ℕ)) → Appends a a []
 appends-nothing None = tt

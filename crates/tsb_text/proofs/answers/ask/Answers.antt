@@ -1,4 +1,4 @@
-use Rattle.std.proofs.Common.{refl, ap, ◌∙◌}
+use Rattle.std.proofs.Common.{refl}
 use Rattle.tsb_bench.specs.declared.commands.Answer.TheVariants.{Took, Refused, Undone, Moved, Nothing}
 use Rattle.tsb_text.proofs.AnswerLemmas.{ask-done}
 use Rattle.tsb_text.proofs.answers.ask.Goals as goal

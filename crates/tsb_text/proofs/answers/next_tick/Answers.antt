@@ -1,4 +1,4 @@
-use Rattle.std.proofs.Common.{◌≡◌, ◌≤◌, rules, arith}
+use Rattle.std.proofs.Common.{◌≡◌, ◌≤◌, rules}
 use Rattle.tsb_text.proofs.answers.next_tick.Goals as goal
 
 pub overflow_add-result : goal.overflow_add-result

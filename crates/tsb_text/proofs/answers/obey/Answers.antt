@@ -1,9 +1,6 @@
-use Rattle.std.proofs.Common.{refl, sym, subst}
+use Rattle.std.proofs.Common.{refl}
 use Rattle.tsb_bench.specs.Past.{whole}
-use Rattle.tsb_command_text.specs.declared.command.Command.{Command}
-use Rattle.tsb_text.specs.Answers.{Answers}
-use Rattle.tsb_text.specs.Talk.{Done}
-use Rattle.tsb_text.proofs.AnswerLemmas.{show-done, quit-done, not_yet-done}
+use Rattle.tsb_text.proofs.AnswerLemmas.{show-done, not_yet-done}
 use Rattle.tsb_text.proofs.answers.obey.Goals as goal
 
 pub returns-in-Back : goal.returns-in-Back

@@ -1,6 +1,5 @@
-use Rattle.std.proofs.Common.{◌≡◌, List, ℕ, subst, sym}
+use Rattle.std.proofs.Common.{List, ℕ, subst, sym}
 use Rattle.std.specs.Str.{IsUtf8}
-use Rattle.tsb_bench.specs.Display.{display}
 use Rattle.tsb_bench.specs.Past.{state_of}
 use Rattle.tsb_text.specs.Line.{display_line}
 use Rattle.tsb_text.proofs.LineLemmas.{line-utf8}

@@ -1,4 +1,4 @@
-use Rattle.std.proofs.Common.{◌≡◌, ◌∙◌, ◌∷◌, [], ℕ, sym}
+use Rattle.std.proofs.Common.{◌≡◌, ◌∙◌, ◌∷◌, []}
 use Rattle.tsb_bench.specs.Display.{display, shown}
 use Rattle.tsb_bench.specs.Past.{state_of}
 use Rattle.tsb_types.specs.Lists.{run_from}

@@ -1,5 +1,4 @@
-use Rattle.std.proofs.Common.{◌≡◌, ◌+◌, ◌-◌, ◌≤◌, [], List, ℕ, arith, rules, length, drop, take, sym, subst}
-use Rattle.std.specs.Io.KnownBytes.{Appends}
+use Rattle.std.proofs.Common.{[], List, ℕ, rules, drop, subst}
 use Rattle.tsb_text.specs.Written.{Said}
 use Rattle.tsb_text.proofs.WrittenLemmas.{said-nothing, said-gone, said-kept}
 use Rattle.tsb_text.proofs.pending.Pending.send.Goals as goal

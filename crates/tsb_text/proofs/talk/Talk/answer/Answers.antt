@@ -1,6 +1,6 @@
 use Rattle.std.proofs.lemmas.Result.{err_from_is_err_and}
 use Rattle.tsb_bench.specs.Past.{whole}
-use Rattle.tsb_text.proofs.TalkLemmas.{obeyed-skip, obeyed-bad, obeyed-bad_fault, obeyed-leave, obeyed-do, obeyed-do_fault}
+use Rattle.tsb_text.proofs.TalkLemmas.{obeyed-bad_fault, obeyed-do_fault}
 use Rattle.tsb_text.proofs.talk.Talk.answer.Goals as goal
 
 pub returns-in_err-say-in-Bad-clause-obeyed : goal.returns-in_err-say-in-Bad-clause-obeyed

@@ -1,8 +1,7 @@
-use Rattle.std.proofs.Common.{◌≡◌, List, ℕ, refl, sym, ap, ◌∙◌, subst, rules}
+use Rattle.std.proofs.Common.{List, ℕ, sym, ap, ◌∙◌, subst, rules}
 use Rattle.tsb_bench.specs.Past.{whole}
 use Rattle.tsb_lines.specs.Lines.{HasNoFeed, without_return}
 use Rattle.tsb_lines.proofs.LineLemmas.{feedless-more}
-use Rattle.tsb_text.specs.Talk.{Went}
 use Rattle.tsb_text.proofs.TalkLemmas.{went-line, went-kept, went-cut}
 use Rattle.tsb_text.proofs.HeldLemmas.{holds-line, holds-push, holds-cut}
 use Rattle.tsb_text.proofs.talk.Talk.feed.Goals as goal

@@ -1,4 +1,4 @@
-use Rattle.std.proofs.Common.{refl, get_or, arith, rules}
+use Rattle.std.proofs.Common.{refl, get_or}
 use Rattle.std.proofs.lemmas.Result.{err_from_is_err_and}
 use Rattle.tsb_bench.specs.Past.{whole}
 use Rattle.tsb_text.proofs.TalkLemmas.{talking-start, talking-more, talking-over, talking-fault, talking-end}

@@ -3,7 +3,6 @@ use Rattle.tsb_bench.specs.Past.{whole}
 use Rattle.tsb_lines.specs.Lines.{HasNoFeed}
 use Rattle.tsb_text.specs.Answers.{Given}
 use Rattle.tsb_text.specs.Talk.{Stands, Going}
-use Rattle.tsb_text.proofs.SessionLemmas.{ended-read}
 use Rattle.tsb_text.proofs.talk.Talk.run.Given as goal
 
 abbrev pub invariant-loop-count : goal.invariant-loop-count
