@@ -39,23 +39,13 @@ fn next_case(text: &[u8]) -> Result<Option<(Case, &[u8])>, Fault>
     loop {
         let (line, behind) = next_line(rest);
         if !is_skipped(line) {
-            return first_case(line, behind.ok_or(Fault::Malformed)?);
+            let behind = behind.ok_or(Fault::Malformed)?;
+            return Ok(Some(read_case(line, behind).ok_or(Fault::Malformed)?));
         }
         let Some(behind) = behind else {
             return Ok(None);
         };
         rest = behind;
-    }
-}
-
-/// The case with this head, and what stands behind its pieces.
-fn first_case<'a>(head: &'a [u8], text: &'a [u8]) -> Result<Option<(Case<'a>, &'a [u8])>, Fault>
-    ensures { IfOk result (λ found. MatchOption found ⊥
-        (λ first. IsCase first.0.given first.0.name.now head.now text.now first.1.now)) }
-{
-    match read_case(head, text) {
-        Some(found) => Ok(Some(found)),
-        None => Err(Fault::Malformed),
     }
 }
 

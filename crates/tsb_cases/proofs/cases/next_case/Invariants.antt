@@ -3,10 +3,10 @@ use Rattle.tsb_lines.specs.Lines.{lines_of}
 use Rattle.tsb_cases.specs.Cases.{headed}
 use Rattle.tsb_cases.proofs.cases.next_case.Given as goal
 
-abbrev pub invariant-loop-line : goal.invariant-loop-line
-invariant-loop-line l = record {
+abbrev pub invariant-loop-behind : goal.invariant-loop-behind
+invariant-loop-behind l = record {
   same : headed (lines_of l.rest) ≡ headed (lines_of l.text);
 }
 
-abbrev pub decreases-loop-line : goal.decreases-loop-line
-decreases-loop-line l = length (lines_of l.rest)
+abbrev pub decreases-loop-behind : goal.decreases-loop-behind
+decreases-loop-behind l = length (lines_of l.rest)
