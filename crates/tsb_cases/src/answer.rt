@@ -1,0 +1,63 @@
+//! Answers to cases.
+
+use crate::case::Given;
+use crate::ticks::write_rows;
+use anyhow::Result;
+use std::alloc::Global;
+use std::io::Write;
+use tsb_text::{read_log, read_plan, session};
+
+/// Writes the answer to what is given. To a plan text it is its first fault, or `plan ok`; to a log its first fault, or
+/// a line for each tick that is asked for; to a session the first fault of its plan or else of its log, or else its
+/// text.
+pub fn answer<W: Write>(alloc: Global, given: Given, output: &mut W) -> Result<()> {
+    match given {
+        Given::Plan(text) => judge(alloc, text, output),
+        Given::Log(text, ticks) => tell_rows(alloc, text, ticks, output),
+        Given::Session(plan, log, commands) => talk(alloc, plan, log, commands, output),
+    }
+}
+
+/// What `tsb check` writes of a plan text.
+fn judge<W: Write>(alloc: Global, text: &[u8], output: &mut W) -> Result<()> {
+    match read_plan(alloc, text) {
+        Ok(_) => writeln!(output, "plan ok")?,
+        Err(fault) => writeln!(output, "{fault}")?,
+    }
+    Ok(())
+}
+
+fn tell_rows<W: Write>(alloc: Global, text: &[u8], ticks: &[u8], output: &mut W) -> Result<()> {
+    match read_log(alloc, text) {
+        Ok(log) => write_rows(&log, ticks, output)?,
+        Err(fault) => writeln!(output, "{fault}")?,
+    }
+    Ok(())
+}
+
+/// What `tsb run` writes for a plan text, a log and commands.
+fn talk<W: Write>(
+    alloc: Global,
+    plan: &[u8],
+    log: &[u8],
+    commands: &[u8],
+    output: &mut W,
+) -> Result<()> {
+    let plan = match read_plan(alloc, plan) {
+        Ok(plan) => plan,
+        Err(fault) => {
+            writeln!(output, "{fault}")?;
+            return Ok(());
+        }
+    };
+    let log = match read_log(alloc, log) {
+        Ok(log) => log,
+        Err(fault) => {
+            writeln!(output, "{fault}")?;
+            return Ok(());
+        }
+    };
+    let mut reader = commands;
+    session(alloc, plan, &log, &mut reader, output)?;
+    Ok(())
+}
