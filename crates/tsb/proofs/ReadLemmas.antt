@@ -1,6 +1,6 @@
 -- A text whose fault is told gives no plan and no log.
-use Rattle.std.proofs.Common.{◌≡◌, ℕ, List, rules, refl}
-use Rattle.std.specs.Prelude.{Option, Result, Ok, Err}
+use Rattle.std.proofs.Common.{◌≡◌, List, refl}
+use Rattle.std.specs.Prelude.{Result, Err}
 use Rattle.tsb_plan.specs.Plan.{Plan}
 use Rattle.tsb_plan_text.specs.declared.fault.PlanFault.{PlanFault}
 use Rattle.tsb_plan_text.specs.declared.fault.PlanFault.TheVariants as told

@@ -2,6 +2,8 @@
 use Rattle.std.specs.Prelude.{ℕ, Result, Ok, Err}
 use Rattle.tsb.specs.declared.run.Status.{Status}
 use Rattle.tsb.specs.declared.run.Status.TheVariants.{Done, Refused, BadWords, Fault}
+use Rattle.tsb.specs.declared.asked.WordsFault.{WordsFault}
+use Rattle.tsb.specs.declared.asked.WordsFault.TheVariants as words
 use Rattle.tsb.specs.declared.run.Fault.{Fault as NotRead}
 use Rattle.tsb.specs.declared.run.Fault.TheVariants as faults
 use Rattle.tsb_text.specs.declared.fault.SessionFault.{SessionFault}
@@ -18,6 +20,11 @@ abbrev pub after_fault : {A : Type 0} → NotRead A → ℕ
 after_fault (faults.Refused why) = 1
 after_fault faults.Memory = 3
 after_fault (faults.File why) = 3
+
+-- what the program ends with where the words ask for nothing
+abbrev pub after_words : WordsFault → ℕ
+after_words words.Memory = 3
+after_words words.Bad = 2
 
 -- what a session ends the program with
 abbrev pub after_session : Result (Unit {0}) SessionFault → ℕ

@@ -62,9 +62,6 @@ pub fn read_file<F: Files>(
     ensures { IfOk result (λ read. IsFront (F.bytes files.now path.now) most read.items) }
 {
     let mut bytes = Vec::new(alloc);
-    files
-        .open(path)?
-        .take(most as u64)
-        .read_to_end(&mut bytes)?;
+    files.open(path)?.take(most as u64).read_to_end(&mut bytes)?;
     Ok(bytes)
 }

@@ -1,11 +1,13 @@
 //! What the program does for its words.
 
-ghost use Rattle.std.specs.Prelude.{◌≡◌, ◌++◌, ◌∷◌, [], IfSome};
+ghost use Rattle.std.specs.Prelude.{◌≡◌, ◌++◌, ◌∷◌, [], IfSome, Result};
+ghost use Rattle.tsb.specs.declared.asked.Asked.{Asked};
+ghost use Rattle.tsb.specs.declared.asked.WordsFault.{WordsFault};
 ghost use Rattle.std.specs.Io.KnownBytes.{Appends};
 ghost use Rattle.tsb_objects.specs.Checked.{checked_plan};
-ghost use Rattle.tsb.specs.Statuses.{number, after_fault};
+ghost use Rattle.tsb.specs.Statuses.{number, after_fault, after_words};
 ghost use Rattle.tsb.specs.Read.{PlanRead, LogRead};
-ghost use Rattle.tsb.specs.Ends.{Checks, Judged, Ran, Talked};
+ghost use Rattle.tsb.specs.Ends.{Checks, Judged, Ran, RanBuiltIn, Did, Talked};
 
 use crate::asked::{Asked, WordsFault, read_words};
 use crate::files::{FileFault, Files, read_file};
@@ -59,7 +61,10 @@ pub fn run_words<S: AsStr, F: Files, R: Read, W: Write, E: Write>(
     input: &mut R,
     output: &mut W,
     errors: &mut E,
-) -> u8 {
+) -> u8
+    ensures { (asked : Result Asked WordsFault) × Did asked result (F.bytes files.now)
+        (R.remaining input.old) (R.remaining input.new) (W.contents output.old) (W.contents output.new) }
+{
     match read_words(alloc, words) {
         Ok(Asked::Check(plan)) => check(alloc, plan, files, output, errors),
         Ok(Asked::Run(plan, log)) => run(alloc, plan, log, files, input, output, errors),
@@ -69,7 +74,9 @@ pub fn run_words<S: AsStr, F: Files, R: Read, W: Write, E: Write>(
 }
 
 /// Tells why words ask for nothing, and gives the status that the program ends with.
-pub fn tell_words_fault<E: Write>(errors: &mut E, fault: WordsFault) -> u8 {
+pub fn tell_words_fault<E: Write>(errors: &mut E, fault: WordsFault) -> u8
+    ensures { result ≡ after_words fault }
+{
     match fault {
         WordsFault::Memory => tell(errors, Status::Fault, "memory"),
         WordsFault::Bad => tell(errors, Status::BadWords, USAGE),
@@ -193,7 +200,10 @@ fn run_built_in<R: Read, W: Write, E: Write>(
     input: &mut R,
     output: &mut W,
     errors: &mut E,
-) -> u8 {
+) -> u8
+    ensures { RanBuiltIn result
+        (R.remaining input.old) (R.remaining input.new) (W.contents output.old) (W.contents output.new) }
+{
     match Checked::new(Plan::two()) {
         Ok(plan) => talk(alloc, plan, &Log::empty(alloc), input, output, errors),
         Err(rule) => tell(errors, Status::Refused, PlanFault::Rule(rule)),

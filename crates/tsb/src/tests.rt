@@ -196,8 +196,14 @@ fn files_that_are_not_read_end_with_3(rt: HostRuntime) {
         ("no memory", memory),
         ("no memory to open", memory),
     ] {
-        assert!(rt; gives(&rt, &["tsb", "check", plan], 3, b"", errors), "{plan}");
-        assert!(rt; gives(&rt, &["tsb", "run", plan, "none"], 3, b"", errors), "{plan}");
+        assert!(rt;
+            gives(&rt, &["tsb", "check", plan], 3, b"", errors),
+            "{plan}"
+        );
+        assert!(rt;
+            gives(&rt, &["tsb", "run", plan, "none"], 3, b"", errors),
+            "{plan}"
+        );
     }
     for (log, errors) in [
         ("none", read),
@@ -205,7 +211,10 @@ fn files_that_are_not_read_end_with_3(rt: HostRuntime) {
         ("no memory", memory),
         ("no memory to open", memory),
     ] {
-        assert!(rt; gives(&rt, &["tsb", "run", "two", log], 3, b"", errors), "{log}");
+        assert!(rt;
+            gives(&rt, &["tsb", "run", "two", log], 3, b"", errors),
+            "{log}"
+        );
     }
 }
 
@@ -237,9 +246,15 @@ fn a_writer_that_fails_ends_with_3(rt: HostRuntime) {
     ] {
         for room in 0..8 {
             let reader = b"show\n".as_slice();
-            assert!(rt; fails(&rt, words, reader, Narrow { room }, write), "{words:?}");
+            assert!(rt;
+                fails(&rt, words, reader, Narrow { room }, write),
+                "{words:?}"
+            );
         }
-        assert!(rt; fails(&rt, words, b"show\n".as_slice(), Stuck, write), "{words:?}");
+        assert!(rt;
+            fails(&rt, words, b"show\n".as_slice(), Stuck, write),
+            "{words:?}"
+        );
     }
 }
 
@@ -248,7 +263,10 @@ fn commands_that_are_not_read_end_with_3(rt: HostRuntime) {
     for words in [["tsb", "run", "two", "log"].as_slice(), &["tsb"]] {
         let mut out = Vec::new(rt.alloc());
         let reader = torn(b"step 1\nback 1\n", ErrorKind::UnexpectedEof);
-        assert!(rt; fails(&rt, words, reader, &mut out, b"read fault\n"), "{words:?}");
+        assert!(rt;
+            fails(&rt, words, reader, &mut out, b"read fault\n"),
+            "{words:?}"
+        );
         assert!(rt; SESSION.starts_with(out.as_slice()), "{words:?}");
     }
 }

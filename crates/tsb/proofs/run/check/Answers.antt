@@ -1,4 +1,4 @@
-use Rattle.std.proofs.Common.{rules, ◌≡◌, ℕ, List, inl, inr}
+use Rattle.std.proofs.Common.{inl, inr}
 use Rattle.tsb_objects.specs.Checked.{checked_plan}
 use Rattle.tsb.proofs.run.check.Goals as goal
 

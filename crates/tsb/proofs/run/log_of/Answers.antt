@@ -1,4 +1,4 @@
-use Rattle.std.proofs.Common.{rules, ◌≡◌, ℕ, List}
+use Rattle.std.proofs.Common.{rules}
 use Rattle.tsb.specs.Read.{IsFront}
 use Rattle.tsb.proofs.ReadLemmas.{log-fault}
 use Rattle.tsb.proofs.run.log_of.Goals as goal

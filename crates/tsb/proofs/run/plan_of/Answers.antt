@@ -1,4 +1,4 @@
-use Rattle.std.proofs.Common.{rules, ◌≡◌, ℕ, List}
+use Rattle.std.proofs.Common.{rules}
 use Rattle.tsb.specs.Read.{IsFront}
 use Rattle.tsb.proofs.ReadLemmas.{told-fault}
 use Rattle.tsb.proofs.run.plan_of.Goals as goal
