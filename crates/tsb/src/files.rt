@@ -1,5 +1,8 @@
 //! Where files come from.
 
+ghost use Rattle.std.specs.Prelude.{◌≡◌, ℕ, List, Option, None, IfOk};
+ghost use Rattle.tsb.specs.Read.{IsFront};
+
 use std::alloc::Global;
 use std::fs::File;
 use std::io::{self, ErrorKind, Read};
@@ -9,8 +12,12 @@ pub trait Files {
     /// An open file.
     type Reader: Read + Drop;
 
+    // The bytes of the file at this path, where they are known.
+    ghost bytes: { Self → List ℕ → Option (List ℕ) } = { λ _ _. None };
+
     /// The file at this path, to be read.
-    fn open(&self, path: &str) -> io::Result<Self::Reader>;
+    fn open(&self, path: &str) -> io::Result<Self::Reader>
+        ensures { IfOk result (λ reader. Self.Reader.remaining reader ≡ bytes self.now path.now) };
 }
 
 /// The files of the machine.
@@ -45,17 +52,16 @@ impl From<io::Error> for FileFault {
     }
 }
 
-/// The bytes of the file at this path, up to one more than `limit`.
+/// The first bytes of the file at this path, at most `most` of them.
 pub fn read_file<F: Files>(
     alloc: Global,
     files: &F,
     path: &str,
-    limit: usize,
-) -> Result<Vec<u8>, FileFault> {
+    most: usize,
+) -> Result<Vec<u8>, FileFault>
+    ensures { IfOk result (λ read. IsFront (F.bytes files.now path.now) most read.items) }
+{
     let mut bytes = Vec::new(alloc);
-    files
-        .open(path)?
-        .take((limit as u64).saturating_add(1))
-        .read_to_end(&mut bytes)?;
+    files.open(path)?.take(most as u64).read_to_end(&mut bytes)?;
     Ok(bytes)
 }

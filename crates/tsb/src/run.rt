@@ -1,5 +1,14 @@
 //! What the program does for its words.
 
+ghost use Rattle.std.specs.Prelude.{◌≡◌, ◌++◌, ◌∷◌, [], IfSome, Result};
+ghost use Rattle.tsb.specs.declared.asked.Asked.{Asked};
+ghost use Rattle.tsb.specs.declared.asked.WordsFault.{WordsFault};
+ghost use Rattle.std.specs.Io.KnownBytes.{Appends};
+ghost use Rattle.tsb_objects.specs.Checked.{checked_plan};
+ghost use Rattle.tsb.specs.Statuses.{number, after_fault, after_words};
+ghost use Rattle.tsb.specs.Read.{PlanRead, LogRead};
+ghost use Rattle.tsb.specs.Ends.{Checks, Judged, Ran, RanBuiltIn, Did, Talked};
+
 use crate::asked::{Asked, WordsFault, read_words};
 use crate::files::{FileFault, Files, read_file};
 use std::alloc::Global;
@@ -28,7 +37,9 @@ enum Status {
 
 impl Status {
     /// The number that the program ends with.
-    fn number(self) -> u8 {
+    fn number(self) -> u8
+        ensures { result ≡ number self }
+    {
         match self {
             Status::Done => 0,
             Status::Refused => 1,
@@ -50,17 +61,22 @@ pub fn run_words<S: AsStr, F: Files, R: Read, W: Write, E: Write>(
     input: &mut R,
     output: &mut W,
     errors: &mut E,
-) -> u8 {
+) -> u8
+    ensures { (asked : Result Asked WordsFault) × Did asked result (F.bytes files.now)
+        (R.remaining input.old) (R.remaining input.new) (W.contents output.old) (W.contents output.new) }
+{
     match read_words(alloc, words) {
         Ok(Asked::Check(plan)) => check(alloc, plan, files, output, errors),
-        Ok(Asked::Run(plan, log)) => run(alloc, (plan, log), files, input, output, errors),
+        Ok(Asked::Run(plan, log)) => run(alloc, plan, log, files, input, output, errors),
         Ok(Asked::BuiltIn) => run_built_in(alloc, input, output, errors),
         Err(fault) => tell_words_fault(errors, fault),
     }
 }
 
 /// Tells why words ask for nothing, and gives the status that the program ends with.
-pub fn tell_words_fault<E: Write>(errors: &mut E, fault: WordsFault) -> u8 {
+pub fn tell_words_fault<E: Write>(errors: &mut E, fault: WordsFault) -> u8
+    ensures { result ≡ after_words fault }
+{
     match fault {
         WordsFault::Memory => tell(errors, Status::Fault, "memory"),
         WordsFault::Bad => tell(errors, Status::BadWords, USAGE),
@@ -68,7 +84,9 @@ pub fn tell_words_fault<E: Write>(errors: &mut E, fault: WordsFault) -> u8 {
 }
 
 /// Writes a line, and gives the number of the status. Where the line can't be written, nobody can be told of it.
-fn tell<E: Write, T: Display + Drop>(errors: &mut E, status: Status, text: T) -> u8 {
+fn tell<E: Write, T: Display + Drop>(errors: &mut E, status: Status, text: T) -> u8
+    ensures { result ≡ number status }
+{
     let _ = writeln!(errors, "{text}");
     let _ = errors.flush();
     status.number()
@@ -86,8 +104,10 @@ enum Fault<T> {
 }
 
 /// The plan in the file at this path.
-fn plan_of<F: Files>(alloc: Global, files: &F, path: &str) -> Result<Checked, Fault<PlanFault>> {
-    let text = read_file(alloc, files, path, PLAN_LIMIT).map_err(Fault::File)?;
+fn plan_of<F: Files>(alloc: Global, files: &F, path: &str) -> Result<Checked, Fault<PlanFault>>
+    ensures { PlanRead result (F.bytes files.now path.now) }
+{
+    let text = read_file(alloc, files, path, PLAN_LIMIT + 1).map_err(Fault::File)?;
     match read_plan(alloc, &text) {
         Ok(plan) => Ok(plan),
         Err(PlanFault::Memory) => Err(Fault::Memory),
@@ -96,8 +116,10 @@ fn plan_of<F: Files>(alloc: Global, files: &F, path: &str) -> Result<Checked, Fa
 }
 
 /// The log in the file at this path.
-fn log_of<F: Files>(alloc: Global, files: &F, path: &str) -> Result<Log, Fault<LogFault>> {
-    let text = read_file(alloc, files, path, LOG_LIMIT).map_err(Fault::File)?;
+fn log_of<F: Files>(alloc: Global, files: &F, path: &str) -> Result<Log, Fault<LogFault>>
+    ensures { LogRead result (F.bytes files.now path.now) }
+{
+    let text = read_file(alloc, files, path, LOG_LIMIT + 1).map_err(Fault::File)?;
     match read_log(alloc, &text) {
         Ok(log) => Ok(log),
         Err(LogFault::Memory) => Err(Fault::Memory),
@@ -106,7 +128,9 @@ fn log_of<F: Files>(alloc: Global, files: &F, path: &str) -> Result<Log, Fault<L
 }
 
 /// Tells why there is no plan or log.
-fn refuse<E: Write, T: Display + Drop>(errors: &mut E, fault: Fault<T>) -> u8 {
+fn refuse<E: Write, T: Display + Drop>(errors: &mut E, fault: Fault<T>) -> u8
+    ensures { result ≡ after_fault fault }
+{
     match fault {
         Fault::File(FileFault::Read) => tell(errors, Status::Fault, "read fault"),
         Fault::File(FileFault::Memory) | Fault::Memory => tell(errors, Status::Fault, "memory"),
@@ -121,7 +145,9 @@ fn check<F: Files, W: Write, E: Write>(
     files: &F,
     output: &mut W,
     errors: &mut E,
-) -> u8 {
+) -> u8
+    ensures { Checks result (F.bytes files.now path.now) (W.contents output.old) (W.contents output.new) }
+{
     match plan_of(alloc, files, path) {
         Ok(_) => judge(output, errors, Status::Done, "plan ok"),
         Err(Fault::Refused(fault)) => judge(output, errors, Status::Refused, fault),
@@ -135,7 +161,9 @@ fn judge<W: Write, E: Write, T: Display + Drop>(
     errors: &mut E,
     status: Status,
     text: T,
-) -> u8 {
+) -> u8
+    ensures { Judged result (number status) (T.output text) (W.contents output.old) (W.contents output.new) }
+{
     if writeln!(output, "{text}").is_err() || output.flush().is_err() {
         return tell(errors, Status::Fault, "write fault");
     }
@@ -145,21 +173,25 @@ fn judge<W: Write, E: Write, T: Display + Drop>(
 /// Runs a session on a plan and a log.
 fn run<F: Files, R: Read, W: Write, E: Write>(
     alloc: Global,
-    (plan, log): (&str, &str),
+    plan: &str,
+    log: &str,
     files: &F,
     input: &mut R,
     output: &mut W,
     errors: &mut E,
-) -> u8 {
-    let plan = match plan_of(alloc, files, plan) {
-        Ok(plan) => plan,
+) -> u8
+    ensures { Ran result (F.bytes files.now plan.now) (F.bytes files.now log.now)
+        (R.remaining input.old) (R.remaining input.new) (W.contents output.old) (W.contents output.new) }
+{
+    let checked = match plan_of(alloc, files, plan) {
+        Ok(checked) => checked,
         Err(fault) => return refuse(errors, fault),
     };
-    let log = match log_of(alloc, files, log) {
-        Ok(log) => log,
+    let rows = match log_of(alloc, files, log) {
+        Ok(rows) => rows,
         Err(fault) => return refuse(errors, fault),
     };
-    talk(alloc, plan, &log, input, output, errors)
+    talk(alloc, checked, &rows, input, output, errors)
 }
 
 /// Runs a session on the built-in plan of two phases with an empty log.
@@ -168,13 +200,17 @@ fn run_built_in<R: Read, W: Write, E: Write>(
     input: &mut R,
     output: &mut W,
     errors: &mut E,
-) -> u8 {
+) -> u8
+    ensures { RanBuiltIn result
+        (R.remaining input.old) (R.remaining input.new) (W.contents output.old) (W.contents output.new) }
+{
     match Checked::new(Plan::two()) {
         Ok(plan) => talk(alloc, plan, &Log::empty(alloc), input, output, errors),
         Err(rule) => tell(errors, Status::Refused, PlanFault::Rule(rule)),
     }
 }
 
+/// Runs a session, and gives the status that the program ends with.
 fn talk<R: Read, W: Write, E: Write>(
     alloc: Global,
     plan: Checked,
@@ -182,7 +218,10 @@ fn talk<R: Read, W: Write, E: Write>(
     input: &mut R,
     output: &mut W,
     errors: &mut E,
-) -> u8 {
+) -> u8
+    ensures { Talked result (record { plan = checked_plan plan; log = log.now })
+        (R.remaining input.old) (R.remaining input.new) (W.contents output.old) (W.contents output.new) }
+{
     match session(alloc, plan, log, input, output) {
         Ok(()) => Status::Done.number(),
         Err(fault) => tell(errors, Status::Fault, fault),
