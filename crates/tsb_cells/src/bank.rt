@@ -106,6 +106,7 @@ impl<const N: usize> Bank<N> {
         requires fits { offset + N ≤ 2 ^ 16 }
         requires room { array_vec_len out.old + N ≤ M }
         ensures changes { out.new.items ≡ out.old.items ++ shifted offset (diff (kept_of self.old) (cells_of self.old)) }
+        ensures len { array_vec_len out.new ≤ array_vec_len out.old + N }
         ensures cells { cells_of self.new ≡ cells_of self.old }
         ensures closed { is_open self.new ≡ false }
     {

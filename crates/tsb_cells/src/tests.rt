@@ -108,7 +108,7 @@ fn layers_share_one_numbering(rt: HostRuntime) {
     second.put(0, 5);
     second.put(2, 6);
     let mut all = ArrayVec::<(u16, u32), 5>::new();
-    add_shifted(&mut all, &first.close(), 0);
-    add_shifted(&mut all, &second.close(), 2);
+    first.close_onto(&mut all, 0);
+    second.close_onto(&mut all, 2);
     assert_eq!(rt; all.as_slice(), [(1, 0), (2, 0), (4, 0)].as_slice());
 }

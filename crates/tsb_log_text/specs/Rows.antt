@@ -9,7 +9,7 @@ abbrev pub onto_digits : ℕ → Option ℕ → Option ℕ
 onto_digits d None = None
 onto_digits d (Some rest) = if d == 48 then Some (2 * rest) else if d == 49 then Some (1 + 2 * rest) else None
 
--- the list that digits 0 and 1 spell, the first digit for number 1: bit k of it is digit k, from 0
+-- the list that digits 0 and 1 spell, the first digit for number 1
 abbrev pub list_in_digits : List ℕ → Option ℕ
 list_in_digits [] = Some 0
 list_in_digits (d ∷ ds) = onto_digits d (list_in_digits ds)
