@@ -10,7 +10,7 @@ use Rattle.tsb_types.specs.declared.interval.Interval.TheVariants.{Red, Green, Y
 use Rattle.tsb_types.specs.Lists.{or_number, run_from}
 use Rattle.tsb_types.specs.Sets.{names, list_of}
 use Rattle.tsb_types.proofs.SetLemmas.{list_of-names, same-list_of}
-use Rattle.tsb_bench.specs.Signals.{is_green, is_yellow, is_red_clear}
+use Rattle.tsb_types.specs.Intervals.{is_green, is_yellow, is_red_clear}
 use Rattle.tsb_bench.specs.SignalsCells.{signals_in, signals_cells, interval_in, timers_in, timers_of, timers_cells, ring_in, ring_of, ring_cells, list_in, is_phase, place, number_in, number_cell, AreLists, IsRingRow, IsBy}
 use Rattle.tsb_bench.proofs.RowLemmas.{get-row_at}
 

@@ -14,7 +14,8 @@ use Rattle.tsb_plan.specs.Plan.{Plan}
 use Rattle.tsb_types.specs.Sets.{names}
 use Rattle.tsb_bench.specs.declared.phase_timers.PhaseTimers.{PhaseTimers}
 use Rattle.tsb_bench.specs.Reading.{ring_seen}
-use Rattle.tsb_bench.specs.Signals.{Signals, in_service, serving, starting, starts, has_conflict, new_interval, new_timers, timers_after, next_from_read}
+use Rattle.tsb_types.specs.Intervals.{in_service}
+use Rattle.tsb_bench.specs.Signals.{Signals, serving, starting, starts, has_conflict, new_interval, new_timers, timers_after, next_from_read}
 use Rattle.tsb_bench.specs.SignalsCells.{signals_in, interval_in, timers_in, ring_in, list_in, place, IsStill, IsAlone, IsRingRow, IsBy}
 use Rattle.tsb_bench.specs.Writes.{next_of, IsWrittenSome}
 use Rattle.tsb_bench.proofs.FirstLemmas.{first-run_from}

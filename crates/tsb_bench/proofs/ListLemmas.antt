@@ -4,7 +4,7 @@ use Rattle.std.proofs.lemmas.Bool.{cases_eq}
 use Rattle.tsb_types.specs.declared.interval.Interval.{Interval}
 use Rattle.tsb_types.specs.declared.interval.Interval.TheVariants.{Red, Green, Yellow, RedClear}
 use Rattle.tsb_types.specs.Sets.{names}
-use Rattle.tsb_bench.specs.Signals.{is_green, is_yellow, is_red_clear}
+use Rattle.tsb_types.specs.Intervals.{is_green, is_yellow, is_red_clear}
 use Rattle.tsb_bench.specs.SignalsCells.{AreApart}
 
 -- a list as one phase is put in or taken out by a test

@@ -12,7 +12,8 @@ use Rattle.tsb_bench.specs.declared.display.Aspect.TheVariants as aspects
 use Rattle.tsb_bench.specs.declared.display.Aspect.TheVariants.{Dark}
 use Rattle.tsb_bench.specs.declared.display.Display as memory
 use Rattle.tsb_bench.specs.Display.{display, shown, aspect_of, gives_way, IsSafe}
-use Rattle.tsb_bench.specs.Signals.{Signals, as_read, in_service, is_green, is_yellow, serving, starts, starting, start_now, idle_pick, pick, is_none_or_over, has_reverted, is_over, is_over_in, yellow_is_done, committed, clears, new_interval, next_interval, next_from_read, next}
+use Rattle.tsb_types.specs.Intervals.{in_service, is_green, is_yellow}
+use Rattle.tsb_bench.specs.Signals.{Signals, as_read, serving, starts, starting, start_now, idle_pick, pick, is_none_or_over, has_reverted, is_over, is_over_in, yellow_is_done, committed, clears, new_interval, next_interval, next_from_read, next}
 use Rattle.tsb_bench.specs.SignalsCells.{signals_in, IsAlone}
 use Rattle.tsb_bench.specs.State.{State}
 use Rattle.tsb_bench.proofs.LeftLemmas.{listed, serving-is}

@@ -10,7 +10,8 @@ use Rattle.tsb_types.specs.declared.interval.Interval.{Interval}
 use Rattle.tsb_types.specs.declared.interval.Interval.TheVariants.{Red, Green, Yellow, RedClear}
 use Rattle.tsb_plan.specs.Plan.{Plan}
 use Rattle.tsb_bench.specs.declared.phase_timers.PhaseTimers.{PhaseTimers}
-use Rattle.tsb_bench.specs.Signals.{Signals, all_off, timers_as_read, as_read, in_service, is_green, is_yellow, is_red_clear, starts, has_conflict, new_interval, new_timers, timers_after, conflict_timer, begun_reduction, taken_timer, interval_timer_in}
+use Rattle.tsb_types.specs.Intervals.{in_service, is_green, is_yellow, is_red_clear}
+use Rattle.tsb_bench.specs.Signals.{Signals, all_off, timers_as_read, as_read, starts, has_conflict, new_interval, new_timers, timers_after, conflict_timer, begun_reduction, taken_timer, interval_timer_in}
 use Rattle.tsb_bench.specs.SignalsCells.{signals_in, interval_in, timers_in, timers_of, ring_in, is_phase, place, IsStill, IsBy}
 use Rattle.tsb_bench.specs.TimersLaws.{AreWithin}
 use Rattle.tsb_bench.specs.Writes.{next_at, next_of, CanWrite, CanWriteSome}

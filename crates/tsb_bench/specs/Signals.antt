@@ -11,6 +11,7 @@ use Rattle.tsb_cells.specs.declared.timer.Timer.TheVariants.{Off, On}
 use Rattle.tsb_cells.specs.Timer.{advanced, started, has_reached}
 use Rattle.tsb_types.specs.declared.interval.Interval.{Interval}
 use Rattle.tsb_types.specs.declared.interval.Interval.TheVariants.{Red, Green, Yellow, RedClear}
+use Rattle.tsb_types.specs.Intervals.{is_green, is_yellow, is_red_clear, in_service}
 use Rattle.tsb_types.specs.Lists.{first, some_passes, is, or_else, or_number, later, not_later}
 use Rattle.tsb_plan.specs.Plan.{Plan, phases, is_enabled, has_maximum_recall, side_of, is_concurrent, minimum_green, maximum, time_before_reduction, yellow_change, red_clear, red_revert, sequence, sides_after}
 use Rattle.tsb_bench.specs.declared.phase_timers.PhaseTimers.{PhaseTimers}
@@ -54,33 +55,6 @@ as_read s = record {
   side = s.side;
   crossing = s.crossing;
 }
-
--- ## Intervals
-
-abbrev pub is_green : Interval → Bool
-is_green Green = true
-is_green Red = false
-is_green Yellow = false
-is_green RedClear = false
-
-abbrev pub is_yellow : Interval → Bool
-is_yellow Yellow = true
-is_yellow Red = false
-is_yellow Green = false
-is_yellow RedClear = false
-
-abbrev pub is_red_clear : Interval → Bool
-is_red_clear RedClear = true
-is_red_clear Red = false
-is_red_clear Green = false
-is_red_clear Yellow = false
-
--- a phase is in service in Green, Yellow or RedClear
-abbrev pub in_service : Interval → Bool
-in_service Red = false
-in_service Green = true
-in_service Yellow = true
-in_service RedClear = true
 
 -- the ring's phase that was in service
 unfoldable pub serving : Plan → Signals → Option ℕ

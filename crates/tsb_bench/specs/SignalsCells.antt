@@ -11,7 +11,8 @@ use Rattle.tsb_types.specs.Lists.{or_number, run_from}
 use Rattle.tsb_types.specs.Sets.{names, list_of}
 use Rattle.tsb_bench.specs.declared.phase_timers.PhaseTimers.{PhaseTimers}
 use Rattle.tsb_bench.specs.declared.ring_state.RingState.{RingState}
-use Rattle.tsb_bench.specs.Signals.{Signals, all_off, is_green, is_yellow, is_red_clear, in_service}
+use Rattle.tsb_types.specs.Intervals.{is_green, is_yellow, is_red_clear, in_service}
+use Rattle.tsb_bench.specs.Signals.{Signals, all_off}
 
 -- ## Reading
 

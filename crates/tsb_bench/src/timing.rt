@@ -1,7 +1,8 @@
 //! The tests and timers of one phase, on plain values.
 ghost use Rattle.std.specs.Prelude.{◌≡◌};
 ghost use Rattle.tsb_plan.specs.PlanOf.{plan_of};
-ghost use Rattle.tsb_bench.specs.Signals.{is_green, is_yellow, is_red_clear, is_over_in, conflict_timer, has_passed, interval_timer_in, taken_timer, while_green, reduction_timer, begun_reduction, red_revert_timer, timers_after};
+ghost use Rattle.tsb_types.specs.Intervals.{is_green, is_yellow, is_red_clear};
+ghost use Rattle.tsb_bench.specs.Signals.{is_over_in, conflict_timer, has_passed, interval_timer_in, taken_timer, while_green, reduction_timer, begun_reduction, red_revert_timer, timers_after};
 
 use crate::phase_timers::PhaseTimers;
 use tsb_cells::Timer;

@@ -3,6 +3,7 @@ pub mod Versions
 pub mod Names
 pub mod Plan
 pub mod Parts
+pub mod Running
 pub mod PlanOf
 pub mod Two
 pub mod Quad

@@ -1,3 +1,5 @@
 pub mod Lists
 pub mod Sets
+pub mod Intervals
+pub mod Flow
 pub mod Laws

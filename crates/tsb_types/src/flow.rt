@@ -1,13 +1,34 @@
-//! What the layers of the controller tell one another within one tick: what is asked of the rings, which
-//! phases are called and timed out, and what the rings do about it.
+//! What the layers of the controller tell one another within one tick: what phases show, what is asked of
+//! the rings, which phases are called and timed out, and what the rings do about it. `docs/CONTRACTS.md`
+//! says who finds each value, and who reads it.
 
 use crate::numbers::{Phase, Side};
 use crate::phase_set::PhaseSet;
 
+/// The intervals of all phases: a phase in none of the sets is Red. No phase is in two of them.
+#[derive(Clone, Copy, Debug, PartialEq, Eq)]
+pub struct Intervals {
+    /// Phases that are Green.
+    pub green: PhaseSet,
+    /// Phases in yellow change.
+    pub yellow: PhaseSet,
+    /// Phases in red clearance.
+    pub red_clear: PhaseSet,
+}
+
+/// The pedestrian parts of all phases: a phase in none of the sets is in `DontWalk`. No phase is in both.
+#[derive(Clone, Copy, Debug, PartialEq, Eq)]
+pub struct Pedestrians {
+    /// Phases whose pedestrians may start to walk.
+    pub walk: PhaseSet,
+    /// Phases whose pedestrians finish crossing.
+    pub clearance: PhaseSet,
+}
+
 /// What coordination and preemption ask of the rings in a tick.
 #[derive(Clone, Copy, Debug, PartialEq, Eq)]
 pub struct Orders {
-    /// Phases that coordination keeps green.
+    /// Phases that coordination keeps green until their force-off: the coordinated phases.
     pub hold: PhaseSet,
     /// Phases that the preempt ends.
     pub must_end: PhaseSet,
@@ -15,7 +36,7 @@ pub struct Orders {
     pub forced: PhaseSet,
     /// Phases that may not be served.
     pub omit: PhaseSet,
-    /// The phases that a preempt wants served, or `None` where no preempt wants any.
+    /// The phases that a preempt wants served, or `None` where no preempt is in service.
     pub target: Option<PhaseSet>,
 }
 
@@ -28,6 +49,15 @@ pub struct Called {
     pub conflict: PhaseSet,
     /// Phases with a pedestrian call.
     pub pedestrian: PhaseSet,
+    /// Phases that a vehicle detector calls whose output is on.
+    pub output: PhaseSet,
+}
+
+/// The actuations that each phase has counted while it was not Green.
+#[derive(Clone, Copy, Debug, PartialEq, Eq)]
+pub struct Counts {
+    /// Vehicles, 0 to 255, of phases 1 to 16 in turn.
+    pub vehicles: [u8; 16],
 }
 
 /// Which times of phases have passed in a tick.
@@ -48,7 +78,7 @@ pub struct Timing {
 pub struct RingMoves {
     /// The phase that goes from green to yellow, if any.
     pub ends: Option<Phase>,
-    /// The phase that goes from yellow to red, if any.
+    /// The phase that goes from yellow or red clearance to red, if any.
     pub clears: Option<Phase>,
     /// The phase that goes green, if any.
     pub starts: Option<Phase>,
@@ -63,6 +93,8 @@ pub struct Moves {
     pub first: RingMoves,
     /// What ring 2 does.
     pub second: RingMoves,
-    /// The side towards which a crossing of the barrier is under way, or `None` where none is.
+    /// The side that a crossing of the barriers goes to, where one begins now.
     pub crossing: Option<Side>,
+    /// Whether a crossing that began earlier is completed now.
+    pub completes: bool,
 }

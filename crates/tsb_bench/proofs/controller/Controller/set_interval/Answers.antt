@@ -1,7 +1,7 @@
 use Rattle.std.proofs.Common.{◌≡◌, ◌<◌, ℕ, arith, sym, ap, ◌∙◌, get_or, List, subst}
 use Rattle.tsb_types.specs.Sets.{names}
 use Rattle.tsb_bench.specs.Controller.{row_of}
-use Rattle.tsb_bench.specs.Signals.{is_green, is_yellow, is_red_clear}
+use Rattle.tsb_types.specs.Intervals.{is_green, is_yellow, is_red_clear}
 use Rattle.tsb_bench.specs.SignalsCells.{list_in}
 use Rattle.tsb_bench.proofs.ListLemmas.{IsListWith, apart-with}
 use Rattle.tsb_bench.proofs.controller.Controller.set_interval.Goals as goal

@@ -3,7 +3,8 @@ use Rattle.std.proofs.Math.Path.{fun_ext}
 use Rattle.tsb_types.specs.Lists.{first, run_from}
 use Rattle.tsb_objects.proofs.CheckedLemmas.{checked-phase_count}
 use Rattle.tsb_bench.specs.Reading.{seen, plan_seen}
-use Rattle.tsb_bench.specs.Signals.{in_service, serving}
+use Rattle.tsb_types.specs.Intervals.{in_service}
+use Rattle.tsb_bench.specs.Signals.{serving}
 use Rattle.tsb_bench.proofs.reading.Reading.serving.Goals as goal
 
 pub returns : goal.returns

@@ -1,0 +1,5 @@
+pub mod Detector
+pub mod Cells
+pub mod Promises
+pub mod Examples
+pub mod Mistakes

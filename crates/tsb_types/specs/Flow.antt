@@ -1,0 +1,28 @@
+-- What the values that layers tell one another say of each phase, as functions of its number.
+use Rattle.std.specs.Prelude.{ℕ, ◌-◌, Bool, false, if◌then◌else◌, Option, Some, None, slice_index}
+use Rattle.tsb_types.specs.declared.interval.Interval.{Interval}
+use Rattle.tsb_types.specs.declared.interval.Interval.TheVariants.{Red, Green, Yellow, RedClear}
+use Rattle.tsb_types.specs.declared.interval.PedestrianInterval.{PedestrianInterval}
+use Rattle.tsb_types.specs.declared.interval.PedestrianInterval.TheVariants.{DontWalk, Walk, PedestrianClear}
+use Rattle.tsb_types.specs.declared.flow.Intervals.{Intervals}
+use Rattle.tsb_types.specs.declared.flow.Pedestrians.{Pedestrians}
+use Rattle.tsb_types.specs.declared.flow.Counts.{Counts}
+use Rattle.tsb_types.specs.declared.phase_set.PhaseSet.{PhaseSet}
+use Rattle.tsb_types.specs.Sets.{has}
+
+-- the interval of phase p
+abbrev pub interval_of : Intervals → ℕ → Interval
+interval_of i p = if has i.green p then Green else (if has i.yellow p then Yellow else (if has i.red_clear p then RedClear else Red))
+
+-- the pedestrian part of phase p
+abbrev pub pedestrian_of : Pedestrians → ℕ → PedestrianInterval
+pedestrian_of i p = if has i.walk p then Walk else (if has i.clearance p then PedestrianClear else DontWalk)
+
+-- how many vehicles phase p has counted
+abbrev pub count_of : Counts → ℕ → ℕ
+count_of counts p = slice_index counts.vehicles (p - 1)
+
+-- the phases that a set has, if there is a set
+abbrev pub target_of : Option PhaseSet → Option (ℕ → Bool)
+target_of None = None
+target_of (Some phases) = Some (has phases)
