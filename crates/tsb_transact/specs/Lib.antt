@@ -3,3 +3,7 @@ pub mod Commit
 pub mod Calls
 pub mod Cells
 pub mod Promises
+pub mod Examples
+pub mod CommitExamples
+pub mod CellExamples
+pub mod Mistakes
