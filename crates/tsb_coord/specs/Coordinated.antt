@@ -1,0 +1,115 @@
+-- What coordination asks of the rings in a tick: the pattern that runs, its local counter, and by it hold, force-off and
+-- omit. Cycle, offset, splits, split modes, coordinated phases and sequences are the objects of NTCIP 1202 of these names.
+-- That the local counter is 0 where the coordinated split ends, that a phase is forced off in time for its split to end with
+-- its red clearance (fixed force-off, no transition after a change of pattern), and the orders, are the profile's own.
+--
+-- `t` is the number of this tick, and `selected` the pattern that the operator selected, if any. Times are in ticks, which
+-- are tenths of a second. All is found from these and the plan, so the only state is which pattern is selected.
+use Rattle.std.specs.Prelude.{◌≡◌, ℕ, ◌+◌, ◌-◌, ◌%◌, ◌==◌, nat_le, Bool, false, ◌&&◌, ◌||◌, if◌then◌else◌, List, Option, Some, None}
+use Rattle.tsb_types.specs.declared.refusal.Refusal.{Refusal}
+use Rattle.tsb_types.specs.declared.refusal.Refusal.TheVariants.{NoSuchPattern}
+use Rattle.tsb_types.specs.Lists.{first}
+use Rattle.tsb_plan.specs.Plan.{Plan, phases, is_enabled, yellow_change, red_clear, sequence}
+use Rattle.tsb_plan.specs.Parts.{is_used, cycle, offset, split_of, unless_zero}
+use Rattle.tsb_plan.specs.Running.{running, sequence_in_effect, is_coordinated_now, is_omitted_now}
+use Rattle.tsb_objects.specs.PatternRules.{split_end}
+
+-- ## The pattern that runs, and its local counter
+
+-- the pattern that is selected at power-up, and after a reset: none, which is free operation
+abbrev pub at_power_up : Option ℕ
+at_power_up = None
+
+-- the local counter of a pattern: t less the offset, within the cycle. K17: the offset is below the cycle.
+abbrev pub counter : Plan → ℕ → ℕ → ℕ
+counter plan n t = (t + cycle plan n - offset plan n) % cycle plan n
+
+-- that of the pattern that runs; none in free operation
+abbrev pub local_in : Plan → ℕ → Option ℕ → Option ℕ
+local_in plan t None = None
+local_in plan t (Some n) = Some (counter plan n t)
+
+abbrev pub local : Plan → ℕ → Option ℕ → Option ℕ
+local plan t selected = local_in plan t (running plan selected)
+
+-- ## Force-off
+
+-- the residue of a - b, never negative, also where b is greater than a, or than m
+abbrev pub residue_of_difference : ℕ → ℕ → ℕ → ℕ
+residue_of_difference m a b = (a + (m - b % m)) % m
+
+-- when the split of p ends in pattern n, counted from the begin of side 1's first split. K17: a pattern that is used has a
+-- split table and a sequence.
+abbrev pub end_in : Plan → ℕ → Option ℕ → ℕ → ℕ
+end_in plan n None p = 0
+end_in plan n (Some table) p = split_end plan (sequence_in_effect plan (Some n)) table p
+
+abbrev pub end_of : Plan → ℕ → ℕ → ℕ
+end_of plan n p = end_in plan n (split_of plan n) p
+
+-- The force-off instant of p, on the local counter: its split's end less that of the coordinated phase c, and less its
+-- yellow change and red clearance, within the cycle. Local 0 is thus the end of the coordinated split.
+abbrev pub instant_from : Plan → ℕ → ℕ → ℕ → ℕ
+instant_from plan n c p =
+    residue_of_difference (cycle plan n) (end_of plan n p) (end_of plan n c + yellow_change plan p + red_clear plan p)
+
+-- it is the same from each of two phases whose splits end at one time
+pub is_same_from_both : (plan : Plan) (n c d p : ℕ) →
+    end_of plan n c ≡ end_of plan n d → instant_from plan n c p ≡ instant_from plan n d p
+is_same_from_both plan n c d p e = cc
+
+-- The coordinated phase that instants are counted from is the first. Any other gives the same: by K20 a pattern that is used
+-- has one at least, and the splits of all its coordinated phases end at one time.
+abbrev pub reference : Plan → ℕ → Option ℕ
+reference plan n = first (is_coordinated_now plan (Some n)) (phases plan)
+
+abbrev pub instant_by : Plan → ℕ → Option ℕ → ℕ → Option ℕ
+instant_by plan n None p = None
+instant_by plan n (Some c) p = Some (instant_from plan n c p)
+
+-- the force-off instant of an enabled phase in a pattern that runs; no other phase has one
+unfoldable pub force_off : Plan → Option ℕ → ℕ → Option ℕ
+force_off plan None p = None
+force_off plan (Some n) p = if is_enabled plan p then instant_by plan n (reference plan n) p else None
+
+-- ## The orders
+
+-- both are numbers, and the same
+abbrev pub agree : Option ℕ → Option ℕ → Bool
+agree None instant = false
+agree (Some m) None = false
+agree (Some m) (Some n) = m == n
+
+-- force-off: the local counter is at the force-off instant of p in this tick
+abbrev pub asks_force_off : Plan → ℕ → Option ℕ → ℕ → Bool
+asks_force_off plan t selected p = agree (local plan t selected) (force_off plan (running plan selected) p)
+
+-- hold: p is a coordinated phase of the pattern that runs
+abbrev pub asks_hold : Plan → Option ℕ → ℕ → Bool
+asks_hold plan selected p = is_coordinated_now plan (running plan selected) p
+
+-- omit: the split mode of p omits it in the pattern that runs
+abbrev pub asks_omit : Plan → Option ℕ → ℕ → Bool
+asks_omit plan selected p = is_omitted_now plan (running plan selected) p
+
+-- the sequence in effect: that of the pattern that runs, or sequence 1 in free operation
+abbrev pub sequence_now : Plan → Option ℕ → ℕ
+sequence_now plan selected = sequence_in_effect plan (running plan selected)
+
+-- the phases of ring r in the order in which it serves them
+abbrev pub serving_order : Plan → Option ℕ → ℕ → List ℕ
+serving_order plan selected r = sequence plan (sequence_now plan selected) r
+
+-- ## Selecting a pattern
+
+-- a pattern is one of 1 to 16, and used: its cycle is not 0
+abbrev pub is_pattern : Plan → ℕ → Bool
+is_pattern plan n = (nat_le 1 n && nat_le n 16) && is_used plan n
+
+-- E9: no pattern, and not 0, which is free operation
+abbrev pub refusal : Plan → ℕ → Option Refusal
+refusal plan n = if n == 0 || is_pattern plan n then None else Some NoSuchPattern
+
+-- the pattern selected by an input that is not refused
+abbrev pub selects : ℕ → Option ℕ
+selects n = unless_zero n

@@ -1,0 +1,5 @@
+pub mod Coordinated
+pub mod Cells
+pub mod Promises
+pub mod Examples
+pub mod Mistakes

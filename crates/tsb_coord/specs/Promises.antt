@@ -1,0 +1,46 @@
+-- The contracts of the public calls of `Coord`, clause by clause, over its cells: `old` before a call, `new` after it.
+-- docs/CONTRACTS.md says which value comes from which layer.
+use Rattle.std.specs.Prelude.{◌≡◌, ℕ, ◌≤◌, List, Option, Some, None, Result, Ok, Err}
+use Rattle.tsb_types.specs.declared.refusal.Refusal.{Refusal}
+use Rattle.tsb_types.specs.Sets.{has}
+use Rattle.tsb_plan.specs.Plan.{Plan}
+use Rattle.tsb_plan.specs.Running.{running}
+use Rattle.tsb_coord.specs.declared.coordination.Coordination.{Coordination}
+use Rattle.tsb_coord.specs.Coordinated.{at_power_up, local, asks_force_off, asks_hold, asks_omit, sequence_now, refusal, selects}
+use Rattle.tsb_coord.specs.Cells.{pattern_in}
+
+-- `new`, `reset(now)`: no pattern is selected
+abbrev pub IsAtPowerUp : List ℕ → Type 0
+IsAtPowerUp new = pattern_in new ≡ at_power_up
+
+-- `orders(now, plan)`: the pattern that runs and its sequence, and of every phase the three orders
+pub record AreOrders (now : ℕ) (plan : Plan) (row : List ℕ) (result : Coordination) : Type 0 where
+  pub runs : result.runs ≡ running plan (pattern_in row)
+  pub sequence : result.sequence ≡ sequence_now plan (pattern_in row)
+  pub hold : (p : ℕ) → 1 ≤ p → p ≤ 16 → has result.hold p ≡ asks_hold plan (pattern_in row) p
+  pub forced : (p : ℕ) → 1 ≤ p → p ≤ 16 → has result.forced p ≡ asks_force_off plan now (pattern_in row) p
+  pub omit : (p : ℕ) → 1 ≤ p → p ≤ 16 → has result.omit p ≡ asks_omit plan (pattern_in row) p
+
+-- `set_pattern(n, plan)`, clause `refused`: it answers the refusal, if there is one
+abbrev pub answered : Option Refusal → Result (Unit {0}) Refusal
+answered None = Ok tt
+answered (Some r) = Err r
+
+abbrev pub IsAnswered : ℕ → Plan → Result (Unit {0}) Refusal → Type 0
+IsAnswered n plan result = result ≡ answered (refusal plan n)
+
+-- clause `selected`: the pattern of that number, where it is not refused; else all is as it was
+abbrev pub selected_after : Option Refusal → ℕ → Option ℕ → Option ℕ
+selected_after None n was = selects n
+selected_after (Some r) n was = was
+
+abbrev pub IsSelected : ℕ → Plan → List ℕ → List ℕ → Type 0
+IsSelected n plan old new = pattern_in new ≡ selected_after (refusal plan n) n (pattern_in old)
+
+-- `local(now, plan)`: the local counter, or `None` in free operation
+abbrev pub TellsLocal : ℕ → Plan → List ℕ → Option ℕ → Type 0
+TellsLocal now plan row result = result ≡ local plan now (pattern_in row)
+
+-- `pattern()`: the pattern that is selected
+abbrev pub TellsPattern : List ℕ → Option ℕ → Type 0
+TellsPattern row result = result ≡ pattern_in row

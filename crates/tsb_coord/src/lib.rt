@@ -1,0 +1,14 @@
+//! Coordination: which pattern is selected and runs, the local counter, and what the pattern asks of the
+//! rings: hold, force-off and omit.
+//!
+//! So far this crate has the types, and in `specs/` the definitions and the contracts of its calls. Names are
+//! those of NTCIP 1202 (cycle, offset, splits, sequences, coordinated phases); the orders and the instants
+//! at which splits end are the profile's own.
+#![tactic(auto)]
+
+pub mod coordination;
+
+pub use coordination::Coordination;
+
+/// The cells of coordination.
+pub const CELLS: usize = 1;
