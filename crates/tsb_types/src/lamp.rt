@@ -13,12 +13,15 @@ pub enum Aspect {
     Yellow,
     /// Green.
     Green,
+    /// Red, on and off: the monitor has tripped the controller.
+    FlashingRed,
 }
 
 /// What a phase's pedestrian head shows.
 #[derive(Clone, Copy, Debug, PartialEq, Eq)]
 pub enum PedestrianAspect {
-    /// The phase has no pedestrian head.
+    /// The phase is not enabled, or has no walk and is in `DontWalk`, or the monitor has tripped the
+    /// controller (profile).
     Dark,
     /// Pedestrians wait.
     DontWalk,

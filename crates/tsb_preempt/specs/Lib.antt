@@ -1,0 +1,6 @@
+pub mod Service
+pub mod Preempts
+pub mod Cells
+pub mod Promises
+pub mod Examples
+pub mod Mistakes
