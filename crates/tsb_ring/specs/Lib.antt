@@ -1,0 +1,5 @@
+pub mod Rings
+pub mod Wants
+pub mod Crossings
+pub mod Next
+pub mod Moves
