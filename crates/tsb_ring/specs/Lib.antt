@@ -6,3 +6,9 @@ pub mod Moves
 pub mod Laws
 pub mod Cells
 pub mod Promises
+pub mod Scenes
+pub mod Examples
+pub mod CrossingExamples
+pub mod TargetExamples
+pub mod PremiseExamples
+pub mod Mistakes
