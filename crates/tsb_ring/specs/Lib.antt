@@ -1,0 +1,14 @@
+pub mod Rings
+pub mod Wants
+pub mod Crossings
+pub mod Next
+pub mod Moves
+pub mod Laws
+pub mod Cells
+pub mod Promises
+pub mod Scenes
+pub mod Examples
+pub mod CrossingExamples
+pub mod TargetExamples
+pub mod PremiseExamples
+pub mod Mistakes
