@@ -8,20 +8,16 @@
 -- | 6 to 21 | rises of detectors 1 to 16 |
 -- | 22 to 37 | change timers, as one more than the tick at which each began |
 -- | 38 to 53 | extend timers, likewise; 0 for Off |
-use Rattle.std.specs.Prelude.{◌≡◌, ℕ, ◌+◌, ◌%◌, ◌<◌, ◌≤◌, nat_le, Bool, true, false, ◌&&◌, if◌then◌else◌, List, [], ◌∷◌, ◌++◌, length, map, slice_index, Option, Some, None, is_some}
+use Rattle.std.specs.Prelude.{◌≡◌, ℕ, ◌+◌, ◌<◌, ◌≤◌, nat_le, Bool, true, false, ◌&&◌, if◌then◌else◌, List, [], ◌∷◌, ◌++◌, length, map, slice_index, Option, Some, None, is_some}
 use Rattle.tsb_cells.specs.Timer.{timer_at, timer_cell}
 use Rattle.tsb_cells.specs.declared.timer.Timer.TheVariants.{Off}
 use Rattle.tsb_types.specs.Lists.{run_from}
-use Rattle.tsb_types.specs.Sets.{names, list_of}
+use Rattle.tsb_types.specs.Sets.{names, list_of, list_in}
 use Rattle.tsb_detect.specs.declared.alarm.Alarm.{Alarm}
 use Rattle.tsb_detect.specs.declared.alarm.Alarm.TheVariants.{NoActivity, MaxPresence, Erratic}
 use Rattle.tsb_detect.specs.Detector.{Detector, at_power_up, is_erratic}
 
 -- ## Reading
-
--- the list in a cell
-abbrev pub list_in : List ℕ → ℕ → ℕ
-list_in row k = slice_index row k % 65536
 
 abbrev pub is_detector : ℕ → Bool
 is_detector d = nat_le 1 d && nat_le d 16

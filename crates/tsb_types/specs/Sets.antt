@@ -1,5 +1,5 @@
 -- Sets of phases. A list of phases is a number, the sum of 2 ^ (p - 1) over its phases p (profile).
-use Rattle.std.specs.Prelude.{ℕ, zero, suc, ◌+◌, ◌*◌, ◌==◌, Bool, false, if◌then◌else◌}
+use Rattle.std.specs.Prelude.{ℕ, zero, suc, ◌+◌, ◌*◌, ◌%◌, ◌==◌, nat_le, Bool, false, ◌&&◌, if◌then◌else◌, List, slice_index}
 use Rattle.std.specs.Int.{bit_at}
 use Rattle.tsb_types.specs.declared.number_set.NumberSet.{NumberSet}
 use Rattle.tsb_types.specs.declared.row.Row.{Row}
@@ -42,3 +42,11 @@ number_of_bits (suc n) f = (if f 0 then 1 else 0) + 2 * number_of_bits n (λ k. 
 -- the list of those of the first n phases that pass a test
 abbrev pub list_of : ℕ → (ℕ → Bool) → ℕ
 list_of n test = number_of_bits n (λ k. test (suc k))
+
+-- the list that cell k of a row holds, of phases or of detectors
+abbrev pub list_in : List ℕ → ℕ → ℕ
+list_in row k = slice_index row k % 65536
+
+-- p is the number of a phase, for which rows of cells have room
+abbrev pub is_phase : ℕ → Bool
+is_phase p = nat_le 1 p && nat_le p 16
