@@ -6,3 +6,6 @@ pub mod Ready
 pub mod Next
 pub mod Moves
 pub mod Laws
+pub mod Cells
+pub mod Promises
+pub mod CellsExamples
