@@ -8,4 +8,10 @@ pub mod Moves
 pub mod Laws
 pub mod Cells
 pub mod Promises
+pub mod Examples
+pub mod GreenExamples
+pub mod MaximumExamples
+pub mod PedestrianExamples
+pub mod ClearanceExamples
 pub mod CellsExamples
+pub mod Mistakes
