@@ -1,0 +1,17 @@
+pub mod Phase
+pub mod DynamicMaximum
+pub mod Green
+pub mod Pedestrian
+pub mod Ready
+pub mod Next
+pub mod Moves
+pub mod Laws
+pub mod Cells
+pub mod Promises
+pub mod Examples
+pub mod GreenExamples
+pub mod MaximumExamples
+pub mod PedestrianExamples
+pub mod ClearanceExamples
+pub mod CellsExamples
+pub mod Mistakes
