@@ -2,6 +2,7 @@
 -- gapped out calls again, for those whom it did not serve. And the whole new state of the calls. That such a green calls
 -- again also where its phase is non-locking, and that no walk starts while a preempt is in service, are the profile's own.
 use Rattle.std.specs.Prelude.{◌≡◌, ℕ, Bool, false, not, ◌&&◌, ◌||◌, if◌then◌else◌, Option, is_none, refl}
+use Rattle.tsb_types.specs.Flow.{gives_walk}
 use Rattle.tsb_plan.specs.Plan.{Plan}
 use Rattle.tsb_calls.specs.Memories.{Memories, Given, vehicle_memory, pedestrian_memory, counted, as_set}
 use Rattle.tsb_calls.specs.Callable.{has_pedestrian_call}
@@ -17,7 +18,7 @@ pub record Done : Type 0 where
 
 -- a walk starts: the phase starts with a pedestrian call, while no preempt is in service
 abbrev pub walk_starts : Done → (ℕ → Bool) → ℕ → Bool
-walk_starts done pedestrian_call p = done.starts p && (pedestrian_call p && is_none done.service)
+walk_starts done pedestrian_call p = done.starts p && gives_walk (pedestrian_call p) done.service
 
 -- a green ends that has not gapped out
 abbrev pub is_cut_short : Done → ℕ → Bool

@@ -23,20 +23,13 @@ use Rattle.tsb_types.specs.declared.interval.PedestrianInterval.{PedestrianInter
 use Rattle.tsb_types.specs.declared.interval.PedestrianInterval.TheVariants.{DontWalk, Walk, PedestrianClear}
 use Rattle.tsb_types.specs.Intervals.{is_green, is_yellow, is_red_clear, is_walk, is_clearance}
 use Rattle.tsb_types.specs.Lists.{run_from}
-use Rattle.tsb_types.specs.Sets.{names, list_of}
+use Rattle.tsb_types.specs.Sets.{names, list_of, list_in, is_phase}
 use Rattle.tsb_phase.specs.declared.ending.Ending.{Ending}
 use Rattle.tsb_phase.specs.declared.ending.Ending.TheVariants.{MaxOut, GapOut}
 use Rattle.tsb_phase.specs.Phase.{Phase, at_power_up}
 use Rattle.tsb_phase.specs.DynamicMaximum.{is_same}
 
 -- ## Reading
-
--- the list in a cell
-abbrev pub list_in : List ℕ → ℕ → ℕ
-list_in row k = slice_index row k % 65536
-
-abbrev pub is_phase : ℕ → Bool
-is_phase p = nat_le 1 p && nat_le p 16
 
 abbrev pub interval_in : List ℕ → ℕ → Interval
 interval_in row p =

@@ -7,6 +7,7 @@ use Rattle.tsb_types.specs.declared.interval.Interval.TheVariants.{Red, Green, Y
 use Rattle.tsb_types.specs.declared.interval.PedestrianInterval.{PedestrianInterval}
 use Rattle.tsb_types.specs.declared.interval.PedestrianInterval.TheVariants.{DontWalk, Walk}
 use Rattle.tsb_types.specs.Intervals.{is_green, is_yellow, is_red_clear}
+use Rattle.tsb_types.specs.Flow.{gives_walk}
 use Rattle.tsb_plan.specs.Plan.{Plan}
 use Rattle.tsb_phase.specs.declared.ending.Ending.{Ending}
 use Rattle.tsb_phase.specs.Phase.{Phase, Given, Moved, none_moved, Held, held_of, none_held, as_read}
@@ -46,7 +47,7 @@ is_green_after moved p w = moved.starts p || (is_green w.interval && not (moved.
 
 -- a start with a pedestrian call gives Walk, but not while a preempt is in service
 abbrev pub starts_walk : Given → ℕ → Bool
-starts_walk given p = given.pedestrian_call p && is_none given.service
+starts_walk given p = gives_walk (given.pedestrian_call p) given.service
 
 abbrev pub pedestrian_at_start : Given → ℕ → PedestrianInterval
 pedestrian_at_start given p = if starts_walk given p then Walk else DontWalk

@@ -1,5 +1,5 @@
 -- What the values that layers tell one another say of each phase, as functions of its number.
-use Rattle.std.specs.Prelude.{ℕ, ◌-◌, Bool, if◌then◌else◌, Option, Some, None, slice_index}
+use Rattle.std.specs.Prelude.{ℕ, ◌-◌, Bool, if◌then◌else◌, Option, Some, None, slice_index, ◌&&◌, is_none}
 use Rattle.tsb_types.specs.declared.interval.Interval.{Interval}
 use Rattle.tsb_types.specs.declared.interval.Interval.TheVariants.{Red, Green, Yellow, RedClear}
 use Rattle.tsb_types.specs.declared.interval.PedestrianInterval.{PedestrianInterval}
@@ -26,3 +26,7 @@ count_of counts p = slice_index counts.vehicles (p - 1)
 abbrev pub target_of : Option PhaseSet → Option (ℕ → Bool)
 target_of None = None
 target_of (Some phases) = Some (has phases)
+
+-- a phase that starts has a walk at once where it has a pedestrian call, and no preempt is in service
+abbrev pub gives_walk : Bool → Option ℕ → Bool
+gives_walk called service = called && is_none service
