@@ -15,12 +15,9 @@ use Rattle.tsb_types.specs.Lists.{run_from}
 use Rattle.tsb_types.specs.Sets.{names, list_of, list_in}
 use Rattle.tsb_detect.specs.declared.alarm.Alarm.{Alarm}
 use Rattle.tsb_detect.specs.declared.alarm.Alarm.TheVariants.{NoActivity, MaxPresence, Erratic}
-use Rattle.tsb_detect.specs.Detector.{Detector, at_power_up, is_erratic}
+use Rattle.tsb_detect.specs.Detector.{Detector, at_power_up, is_erratic, is_detector}
 
 -- ## Reading
-
-abbrev pub is_detector : ℕ → Bool
-is_detector d = nat_le 1 d && nat_le d 16
 
 abbrev pub alarm_in : List ℕ → ℕ → Option Alarm
 alarm_in row d =

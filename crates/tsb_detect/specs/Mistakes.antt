@@ -1,7 +1,10 @@
 -- One-line mistakes, each with an example that tells it from the definition.
-use Rattle.std.specs.Prelude.{◌≡◌, ℕ, nat_lt, nat_le, Bool, true, false, not, ◌&&◌, if◌then◌else◌, Some, None, is_none, refl}
+use Rattle.std.specs.Prelude.{◌≡◌, ℕ, nat_lt, nat_le, Bool, true, false, not, ◌&&◌, if◌then◌else◌, Some, None, is_none, refl, ◌||◌}
 use Rattle.tsb_cells.specs.declared.timer.Timer.{Timer}
 use Rattle.tsb_cells.specs.declared.timer.Timer.TheVariants.{Off, On}
+use Rattle.tsb_cells.specs.Timer.{is_on, has_reached, is_below}
+use Rattle.tsb_plan.specs.Plan.{Plan}
+use Rattle.tsb_plan.specs.Parts.{detector_delay, detector_extend}
 use Rattle.tsb_detect.specs.declared.alarm.Alarm.TheVariants.{MaxPresence}
 use Rattle.tsb_detect.specs.Detector.{Detector, new_rises, is_minute, counted, exceeds, new_alarm, extending, sound_output}
 use Rattle.tsb_detect.specs.Examples.{plan, on_for, counting}
@@ -49,12 +52,15 @@ extends_not = refl
 
 -- ## An output that came on in a green stays on after it, before its delay
 
-abbrev pub output_kept : Bool → Bool → Bool
-output_kept x was = x && was
+abbrev pub sound_output_kept : Plan → ℕ → Bool → Timer → Detector → Bool
+sound_output_kept plan d x green w =
+    if x then w.output || (is_on green || has_reached (on_time x w) (detector_delay plan d))
+    else is_on green && is_below (extending w) (detector_extend plan d)
 
 goes_off : sound_output plan 1 true Off (record (on_for 5) { output = true }) ≡ false
 unfolding plan
 goes_off = refl
 
-stays_on : output_kept true true ≡ true
+stays_on : sound_output_kept plan 1 true Off (record (on_for 5) { output = true }) ≡ true
+unfolding plan
 stays_on = refl
