@@ -1,5 +1,5 @@
 -- What a plan says while a pattern runs, and in free operation: split modes, coordinated phases and the sequence in
--- effect. Names are those of NTCIP 1202; what a split mode does is the profile's own.
+-- effect. Names are those of NTCIP 1202; the numbers of split modes are the profile's own.
 use Rattle.std.specs.Prelude.{ℕ, Bool, true, false, ◌||◌, if◌then◌else◌, Option, Some, None}
 use Rattle.tsb_types.specs.Lists.{or_number}
 use Rattle.tsb_plan.specs.declared.plan.patterns.SplitMode.{SplitMode}
@@ -73,7 +73,8 @@ recalls_pedestrians MinimumRecall = false
 recalls_pedestrians MaximumRecall = false
 recalls_pedestrians Omitted = false
 
--- p may not be served: its split mode in effect omits it
+-- no call and no dual entry brings p into service: its split mode in effect omits it. A preempt does, where p is in its
+-- target
 abbrev pub is_omitted_now : Plan → Option ℕ → ℕ → Bool
 is_omitted_now plan runs p = omits (mode_in_effect plan runs p)
 

@@ -18,7 +18,7 @@ interval_of i p = if has i.green p then Green else (if has i.yellow p then Yello
 abbrev pub pedestrian_of : Pedestrians → ℕ → PedestrianInterval
 pedestrian_of i p = if has i.walk p then Walk else (if has i.clearance p then PedestrianClear else DontWalk)
 
--- how many vehicles phase p has counted
+-- how many vehicles phase p has counted, of phases 1 to 16
 abbrev pub count_of : Counts → ℕ → ℕ
 count_of counts p = slice_index counts.vehicles (p - 1)
 

@@ -28,13 +28,15 @@ pub struct Pedestrians {
 /// What coordination and preemption ask of the rings in a tick.
 #[derive(Clone, Copy, Debug, PartialEq, Eq)]
 pub struct Orders {
-    /// Phases that coordination keeps green until their force-off: the coordinated phases.
+    /// The coordinated phases of the pattern that runs: coordination keeps them green until their force-off,
+    /// unless a preempt is in service.
     pub hold: PhaseSet,
     /// Phases that the preempt ends.
     pub must_end: PhaseSet,
     /// Phases whose force-off instant is this tick.
     pub forced: PhaseSet,
-    /// Phases that may not be served.
+    /// Phases that the pattern that runs omits: no call and no dual entry brings them into service. A preempt
+    /// does, where they are in its target.
     pub omit: PhaseSet,
     /// The phases that a preempt wants served, or `None` where no preempt is in service.
     pub target: Option<PhaseSet>,
