@@ -5,4 +5,5 @@ pub mod Cells
 pub mod Promises
 pub mod Examples
 pub mod MemoryExamples
+pub mod EnabledExamples
 pub mod Mistakes
