@@ -1,1 +1,3 @@
 pub mod MoveLemmas
+pub mod ReadyLemmas
+pub mod SinceLemmas

@@ -5,9 +5,9 @@ pub mod Pedestrian
 pub mod Ready
 pub mod Next
 pub mod Moves
-pub mod Laws
 pub mod Cells
 pub mod Promises
+pub mod Laws
 pub mod Examples
 pub mod GreenExamples
 pub mod MaximumExamples
