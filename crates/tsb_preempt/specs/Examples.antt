@@ -1,19 +1,18 @@
--- What the definitions give, by computing: a preempt through Track, Dwell and Exit, one that interrupts another, delay,
--- maximum presence, and refusals. Each state is written out as the tick before left it.
+-- What the definitions give, by computing: a preempt through Track, Dwell and Exit, and one that interrupts another.
+-- Each state is written out as the tick before left it.
 use Rattle.std.specs.Prelude.{◌≡◌, ℕ, ◌==◌, ◌||◌, Bool, true, false, if◌then◌else◌, [], ◌∷◌, Option, Some, None, refl}
 use Rattle.tsb_cells.specs.declared.timer.Timer.{Timer}
 use Rattle.tsb_cells.specs.declared.timer.Timer.TheVariants.{Off, On}
 use Rattle.tsb_types.specs.declared.interval.Interval.{Interval}
 use Rattle.tsb_types.specs.declared.interval.Interval.TheVariants.{Red, Green, RedClear}
-use Rattle.tsb_types.specs.declared.refusal.Refusal.TheVariants.{NoSuchPreempt}
 use Rattle.tsb_types.specs.declared.stage.Stage.{Stage}
 use Rattle.tsb_types.specs.declared.stage.Stage.TheVariants.{Track, Dwell, Exit}
 use Rattle.tsb_types.specs.Lists.{run_from}
-use Rattle.tsb_plan.specs.declared.object.Object.TheVariants.{PreemptDelay, PreemptMaximumPresence, PreemptTrackGreen, PreemptTrackPhase, PreemptExitPhase}
+use Rattle.tsb_plan.specs.declared.object.Object.TheVariants.{PreemptTrackGreen, PreemptTrackPhase, PreemptExitPhase}
 use Rattle.tsb_plan.specs.Plan.{Plan, with_values}
 use Rattle.tsb_plan.specs.Quad.{quad}
 use Rattle.tsb_preempt.specs.Service.{Service, all_green}
-use Rattle.tsb_preempt.specs.Preempts.{Preempts, Given, at_power_up, as_read, requesting, beginning, new_service, dwell_ends, next, must_end, service_ended, switch_refusal, with_switch}
+use Rattle.tsb_preempt.specs.Preempts.{Preempts, Given, at_power_up, as_read, requesting, beginning, new_service, next, must_end, service_ended, with_switch}
 
 -- preempt 1 of `quad` (dwell 3 and 8, minimum duration 10 seconds) with track and exit phases 2 and 6, track green 3
 -- seconds
@@ -24,15 +23,15 @@ plan = with_values quad ((PreemptTrackPhase, 1, 34) ∷ (PreemptExitPhase, 1, 34
 abbrev pub both : Interval → ℕ → ℕ → ℕ → Interval
 both i p q k = if k == p || k == q then i else Red
 
-abbrev pub is : ℕ → ℕ → Bool
-is n k = k == n
+abbrev pub alone : ℕ → ℕ → Bool
+alone n k = k == n
 
 -- no input of the row is on, and preempt n alone
 abbrev pub without_row : (ℕ → Interval) → Given
 without_row interval = record { row = λ k. false; interval = interval }
 
 abbrev pub with_row : ℕ → (ℕ → Interval) → Given
-with_row n interval = record { row = is n; interval = interval }
+with_row n interval = record { row = alone n; interval = interval }
 
 -- preempt n in service, with its delay timer
 abbrev pub serving : ℕ → Timer → Stage → Timer → Timer → Preempts
@@ -99,6 +98,15 @@ spares_2 : must_end plan (without_row (both Green 2 6)) (as_read (switched (serv
 unfolding plan quad run_from requesting beginning new_service all_green
 spares_2 = refl
 
+-- a track green of 0 ends Track in the tick in which its timer begins
+unfoldable pub without_track_green : Plan
+without_track_green = with_values plan ((PreemptTrackGreen, 1, 0) ∷ [])
+
+dwells_at_once : (next without_track_green (without_row (both Green 2 6)) (switched (serving 1 (On 0) Track (On 0) Off))).service
+    ≡ service 1 Dwell (On 1) Off
+unfolding without_track_green plan quad run_from requesting beginning new_service all_green
+dwells_at_once = refl
+
 -- ## Dwell: the switch is off from tick 133 on, and the minimum duration is reached at tick 161
 
 off_at_133 : (next plan (without_row (both Green 3 8)) (serving 1 (On 71) Dwell (On 71) Off)).delay 1 ≡ Off
@@ -130,6 +138,15 @@ still_exit : (next plan (without_row (both RedClear 3 8)) (serving 1 Off Exit (O
 unfolding plan quad run_from requesting beginning new_service all_green
 still_exit = refl
 
+-- meanwhile 2 and 6 are what it wants, and 3 and 8 must end
+spares_2_in_exit : must_end plan (without_row (both RedClear 3 8)) (as_read (serving 1 Off Exit (On 139) Off)) 2 ≡ false
+unfolding plan quad run_from requesting beginning new_service all_green
+spares_2_in_exit = refl
+
+ends_3_in_exit : must_end plan (without_row (both RedClear 3 8)) (as_read (serving 1 Off Exit (On 139) Off)) 3 ≡ true
+unfolding plan quad run_from requesting beginning new_service all_green
+ends_3_in_exit = refl
+
 ends : (next plan (without_row (both Green 2 6)) at_201).service ≡ None
 unfolding plan quad run_from requesting beginning new_service all_green
 ends = refl
@@ -142,6 +159,11 @@ ended = refl
 ends_none : must_end plan (without_row (both Green 2 6)) (as_read at_201) 3 ≡ false
 unfolding plan quad run_from requesting beginning new_service all_green
 ends_none = refl
+
+-- where no preempt was in service, none ends
+not_ended_without_service : service_ended plan (without_row (both Green 2 6)) at_power_up ≡ false
+unfolding plan quad run_from requesting beginning new_service
+not_ended_without_service = refl
 
 -- a request in Exit begins service anew
 begins_anew : (next plan (with_row 1 (both Green 2 6)) at_201).service ≡ service 1 Track (On 0) Off
@@ -165,93 +187,3 @@ interrupts_not : (next quad (with_row 2 (both Green 3 8)) (serving 1 Off Dwell (
     ≡ service 1 Dwell (On 40) Off
 unfolding quad run_from requesting beginning new_service
 interrupts_not = refl
-
--- ## Maximum presence of 12 seconds: spent until the input is off
-
-unfoldable pub short_plan : Plan
-short_plan = with_values quad ((PreemptMaximumPresence, 1, 12) ∷ [])
-
-abbrev pub at_180 : Preempts
-at_180 = switched (serving 1 (On 119) Dwell (On 119) Off)
-
-present : (next short_plan (without_row (both Green 3 8)) (switched (serving 1 (On 118) Dwell (On 118) Off))).service
-    ≡ at_180.service
-unfolding short_plan quad run_from requesting beginning new_service
-present = refl
-
--- service ends at tick 181
-presence_ends : (next short_plan (without_row (both Green 3 8)) at_180).service ≡ None
-unfolding short_plan quad run_from requesting beginning new_service
-presence_ends = refl
-
-is_spent : (next short_plan (without_row (both Green 3 8)) at_180).spent 1 ≡ true
-unfolding short_plan quad run_from requesting beginning dwell_ends
-is_spent = refl
-
--- the switch is still on at tick 182
-abbrev pub at_181 : Preempts
-at_181 = switched (record at_power_up { delay = λ k. if k == 1 then On 120 else Off; spent = is 1 })
-
-spent_is_kept : (next short_plan (without_row (both Green 3 8)) at_181).spent 1 ≡ true
-unfolding short_plan quad run_from requesting beginning dwell_ends
-spent_is_kept = refl
-
-spent_is_not_served : (next short_plan (without_row (both Green 3 8)) at_181).service ≡ None
-unfolding short_plan quad run_from requesting beginning new_service
-spent_is_not_served = refl
-
--- at tick 183 it is off, and at tick 184 on
-off_again : (next short_plan (without_row (both Green 3 8)) (with_switch 1 false at_181)).spent 1 ≡ false
-unfolding short_plan quad run_from requesting beginning dwell_ends
-off_again = refl
-
-on_again : (next short_plan (without_row (both Green 3 8)) (switched at_power_up)).service ≡ service 1 Dwell (On 0) Off
-unfolding short_plan quad run_from requesting beginning new_service
-on_again = refl
-
--- ## Delay of 2 seconds: the input of the row is on in 21 ticks
-
-unfoldable pub slow_plan : Plan
-slow_plan = with_values quad ((PreemptDelay, 1, 2) ∷ [])
-
-abbrev pub waiting : ℕ → Preempts
-waiting n = record at_power_up { delay = λ k. if k == 1 then On n else Off }
-
-delays : (next slow_plan (with_row 1 (both Green 2 6)) (waiting 18)).service ≡ None
-unfolding slow_plan quad run_from requesting beginning new_service
-delays = refl
-
-delayed : (next slow_plan (with_row 1 (both Green 2 6)) (waiting 19)).service ≡ service 1 Dwell (On 0) Off
-unfolding slow_plan quad run_from requesting beginning new_service
-delayed = refl
-
--- preempt 3 of `quad` has no dwell phase: its delay timer runs, and it never requests
-runs_without_dwell : (next quad (with_row 3 (both Green 2 6)) at_power_up).delay 3 ≡ On 0
-unfolding quad
-runs_without_dwell = refl
-
-never_requests : requesting quad (with_row 3 (both Green 2 6)) at_power_up ≡ None
-unfolding quad run_from requesting
-never_requests = refl
-
--- ## Switches
-
-refuses_0 : switch_refusal quad 0 false ≡ Some NoSuchPreempt
-unfolding quad
-refuses_0 = refl
-
-refuses_5 : switch_refusal quad 5 false ≡ Some NoSuchPreempt
-unfolding quad
-refuses_5 = refl
-
-refuses_3_on : switch_refusal quad 3 true ≡ Some NoSuchPreempt
-unfolding quad
-refuses_3_on = refl
-
-takes_3_off : switch_refusal quad 3 false ≡ None
-unfolding quad
-takes_3_off = refl
-
-takes_1_on : switch_refusal quad 1 true ≡ None
-unfolding quad
-takes_1_on = refl
