@@ -1,11 +1,12 @@
 -- The contracts of the public calls of this crate, clause by clause. docs/CONTRACTS.md says which value comes from
 -- which layer.
-use Rattle.std.specs.Prelude.{◌≡◌, ℕ, ◌≤◌, Bool, true, Option, None}
+use Rattle.std.specs.Prelude.{◌≡◌, ℕ, ◌≤◌, Bool, true, false, Option, None}
 use Rattle.tsb_types.specs.declared.flow.Intervals.{Intervals}
 use Rattle.tsb_types.specs.declared.flow.Pedestrians.{Pedestrians}
 use Rattle.tsb_types.specs.declared.lamp.Aspect.{Aspect}
 use Rattle.tsb_types.specs.declared.lamp.PedestrianAspect.{PedestrianAspect}
 use Rattle.tsb_types.specs.declared.lamp.Lamp.{Lamp}
+use Rattle.tsb_types.specs.Sets.{has, has_number}
 use Rattle.tsb_plan.specs.Plan.{Plan}
 use Rattle.tsb_objects.specs.Consistent.{IsPhase}
 use Rattle.tsb_objects.specs.Rules.{first_broken}
@@ -32,6 +33,21 @@ IsDisplayed intervals pedestrians ring_1 ring_2 tripped plan result =
 abbrev pub Flashes : Bool → Display → Type 0
 Flashes tripped result = result.flashing ≡ tripped
 
+-- and clause `apart`: no head is in two sets of its kind, so that each set is of the heads that show its colour
+abbrev pub IsApart : (ℕ → Bool) → (ℕ → Bool) → Type 0
+IsApart one other = (n : ℕ) → one n ≡ true → other n ≡ false
+
+pub record AreApart (d : Display) : Type 0 where
+  pub red_yellow : IsApart (has d.red) (has d.yellow)
+  pub red_green : IsApart (has d.red) (has d.green)
+  pub yellow_green : IsApart (has d.yellow) (has d.green)
+  pub wait_clear : IsApart (has d.dont_walk) (has d.clearance)
+  pub wait_walk : IsApart (has d.dont_walk) (has d.walk)
+  pub clear_walk : IsApart (has d.clearance) (has d.walk)
+  pub overlap_red_yellow : IsApart (has_number d.overlap_red) (has_number d.overlap_yellow)
+  pub overlap_red_green : IsApart (has_number d.overlap_red) (has_number d.overlap_green)
+  pub overlap_yellow_green : IsApart (has_number d.overlap_yellow) (has_number d.overlap_green)
+
 -- `Display::vehicle(p)`, `pedestrian(p)`, `overlap(o)`: the head
 abbrev pub TellsVehicle : Display → ℕ → Aspect → Type 0
 TellsVehicle d p result = result ≡ (heads_of d).vehicle p
@@ -42,7 +58,8 @@ TellsPedestrian d p result = result ≡ (heads_of d).pedestrian p
 abbrev pub TellsOverlap : Display → ℕ → Aspect → Type 0
 TellsOverlap d o result = result ≡ (heads_of d).overlap o
 
--- `Field::new(display, lamp)`, of a display that does not flash, clause `heads`: the lamp laid over it
+-- `Field::new(display, lamp)`, of a display that does not flash and whose sets are apart, clause `heads`: the lamp laid
+-- over it. Its other clauses are of the heads of the result: `apart`, `AreApart`, and `steady`, that they do not flash.
 abbrev pub IsLaidOver : Display → Option Lamp → Field → Type 0
 IsLaidOver d lamp result = IsSame (heads_of_field result) (laid_over lamp (heads_of d))
 
