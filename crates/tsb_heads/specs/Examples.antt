@@ -1,6 +1,6 @@
 -- What the definitions give, by computing, of plan `quad`: heads of phases, an overlap through a yellow that its ring
--- follows, one that is minusGreenYellow, flash, and what trips the monitor.
-use Rattle.std.specs.Prelude.{◌≡◌, ℕ, ◌==◌, true, false, if◌then◌else◌, List, [], ◌∷◌, map, Option, Some, None, refl}
+-- follows, one that is minusGreenYellow, and flash.
+use Rattle.std.specs.Prelude.{◌≡◌, ℕ, ◌==◌, true, false, if◌then◌else◌, List, [], ◌∷◌, map, Some, None, refl}
 use Rattle.tsb_types.specs.declared.interval.Interval.{Interval}
 use Rattle.tsb_types.specs.declared.interval.Interval.TheVariants as intervals
 use Rattle.tsb_types.specs.declared.interval.PedestrianInterval.{PedestrianInterval}
@@ -8,20 +8,13 @@ use Rattle.tsb_types.specs.declared.interval.PedestrianInterval.TheVariants as p
 use Rattle.tsb_types.specs.declared.lamp.Aspect.{Aspect}
 use Rattle.tsb_types.specs.declared.lamp.Aspect.TheVariants.{Dark, Red, Yellow, Green, FlashingRed}
 use Rattle.tsb_types.specs.declared.lamp.PedestrianAspect.TheVariants as pedestrian_aspects
-use Rattle.tsb_types.specs.declared.lamp.SignalColor.TheVariants as signals
-use Rattle.tsb_types.specs.declared.lamp.PedestrianColor.TheVariants as pedestrians
-use Rattle.tsb_types.specs.declared.lamp.Lamp.{Lamp}
-use Rattle.tsb_types.specs.declared.lamp.Lamp.TheVariants as lamps
 use Rattle.tsb_types.specs.Lists.{run_from}
 use Rattle.tsb_plan.specs.declared.object.Object.TheVariants.{OverlapIncludedPhases, OverlapType, OverlapModifierPhases}
 use Rattle.tsb_plan.specs.Plan.{Plan, with_values}
 use Rattle.tsb_plan.specs.Quad.{quad}
-use Rattle.tsb_heads.specs.declared.monitor.Trip.{Trip}
-use Rattle.tsb_heads.specs.declared.monitor.Trip.TheVariants.{Conflict, GreenToRed}
 use Rattle.tsb_heads.specs.Heads.{Shown, vehicle_head, pedestrian_head}
 use Rattle.tsb_heads.specs.Overlaps.{is_kept_green, is_on_yellow, has_green_modifier, has_yellow_modifier, is_on_last_yellow, overlap_head}
-use Rattle.tsb_heads.specs.Displays.{display, field}
-use Rattle.tsb_heads.specs.Monitoring.{conflict_of, conflict, green_to_red, judge}
+use Rattle.tsb_heads.specs.Displays.{display}
 
 -- p in one interval and q in another, all others Red, nothing walks, and no ring is committed
 abbrev pub two_in : ℕ → Interval → ℕ → Interval → Shown
@@ -65,6 +58,11 @@ walks : map (pedestrian_head quad (walking pedestrian_intervals.Walk)) (run_from
 unfolding quad run_from
 walks = refl
 
+-- phase 9 is not enabled
+no_pedestrian_head : pedestrian_head quad (walking pedestrian_intervals.Walk) 9 ≡ pedestrian_aspects.Dark
+unfolding quad
+no_pedestrian_head = refl
+
 clears : pedestrian_head quad (walking pedestrian_intervals.PedestrianClear) 2 ≡ pedestrian_aspects.Clearance
 unfolding quad
 clears = refl
@@ -107,6 +105,15 @@ red_with_3 : overlaps quad (two_in 3 intervals.Green 8 intervals.Green) ≡ Red 
 unfolding quad run_from is_kept_green is_on_yellow
 red_with_3 = refl
 
+-- where it includes 2 and 6 of the two rings, the commitment of ring 2 to 6 does not keep it green with 2
+unfoldable pub across : Plan
+across = with_values quad ((OverlapIncludedPhases, 1, 34) ∷ [])
+
+not_by_the_other_ring : overlap_head across (committed 1 3 (committed 2 6 (two_in 2 intervals.Yellow 5 intervals.Yellow))) 1
+    ≡ Yellow
+unfolding across quad run_from is_kept_green is_on_yellow
+not_by_the_other_ring = refl
+
 -- ## Overlap 2 is minusGreenYellow, with phase 2 included and phase 6 as modifier
 
 unfoldable pub plan : Plan
@@ -135,7 +142,29 @@ red_by_yellow_modifier : overlap_head plan (two_in 2 intervals.Yellow 6 interval
 unfolding plan quad run_from is_kept_green is_on_last_yellow has_yellow_modifier
 red_by_yellow_modifier = refl
 
--- ## Flash
+-- a Yellow modifier takes no green away, and a Green one no yellow
+green_beside_yellow_modifier : overlap_head plan (two_in 2 intervals.Green 6 intervals.Yellow) 2 ≡ Green
+unfolding plan quad run_from is_kept_green has_green_modifier
+green_beside_yellow_modifier = refl
+
+yellow_beside_green_modifier : overlap_head plan (two_in 2 intervals.Yellow 6 intervals.Green) 2 ≡ Yellow
+unfolding plan quad run_from is_kept_green is_on_last_yellow has_yellow_modifier
+yellow_beside_green_modifier = refl
+
+-- ## Flash, and none until the controller has tripped
+
+steady : map (display quad through).vehicle (run_from 1 3) ≡ Red ∷ Green ∷ Red ∷ []
+unfolding quad run_from
+steady = refl
+
+steady_overlaps : map (display quad through).overlap (run_from 1 4) ≡ Green ∷ Dark ∷ Dark ∷ Dark ∷ []
+unfolding quad run_from is_kept_green
+steady_overlaps = refl
+
+steady_pedestrians : map (display quad through).pedestrian (run_from 1 3)
+    ≡ pedestrian_aspects.Dark ∷ pedestrian_aspects.DontWalk ∷ pedestrian_aspects.Dark ∷ []
+unfolding quad run_from
+steady_pedestrians = refl
 
 abbrev pub tripped : Shown
 tripped = record through { tripped = true }
@@ -150,59 +179,3 @@ flash_of_overlaps = refl
 
 dark_in_flash : (display quad tripped).pedestrian 2 ≡ pedestrian_aspects.Dark
 dark_in_flash = refl
-
--- ## The monitor: 2 and 6 are Green, and a lamp is injected
-
-abbrev pub trip_by : Lamp → Option Trip
-trip_by lamp = judge quad (field quad through None) (field quad through (Some lamp))
-
-no_trip : judge quad (field quad through None) (field quad through None) ≡ None
-unfolding quad run_from conflict conflict_of green_to_red
-no_trip = refl
-
--- 3 is concurrent with neither
-green_lamp : trip_by (lamps.Phase 3 signals.Green) ≡ Some (Conflict 2 3)
-unfolding quad run_from conflict conflict_of
-green_lamp = refl
-
--- a pedestrian head counts whether its phase has a walk or not
-walk_lamp : trip_by (lamps.Pedestrian 3 pedestrians.Walk) ≡ Some (Conflict 2 3)
-unfolding quad run_from conflict conflict_of
-walk_lamp = refl
-
-clearance_lamp : trip_by (lamps.Pedestrian 4 pedestrians.Clearance) ≡ Some (Conflict 2 4)
-unfolding quad run_from conflict conflict_of
-clearance_lamp = refl
-
--- and the head of a phase that is not enabled
-lamp_on_9 : trip_by (lamps.Phase 9 signals.Green) ≡ Some (Conflict 2 9)
-unfolding quad run_from conflict conflict_of
-lamp_on_9 = refl
-
-red_lamp : trip_by (lamps.Phase 2 signals.Red) ≡ Some (GreenToRed 2)
-unfolding quad run_from conflict conflict_of green_to_red
-red_lamp = refl
-
--- an overlap's lamp trips nothing, nor does one that gives no right of way
-overlap_lamp : trip_by (lamps.Overlap 2 signals.Green) ≡ None
-unfolding quad run_from conflict conflict_of green_to_red
-overlap_lamp = refl
-
-dont_walk_lamp : trip_by (lamps.Pedestrian 3 pedestrians.DontWalk) ≡ None
-unfolding quad run_from conflict conflict_of green_to_red
-dont_walk_lamp = refl
-
--- in all red a green lamp on the head of phase 9 trips nothing; a red one in its place is green to red, and none is not
-abbrev pub all_red : Shown
-all_red = two_in 1 intervals.Red 5 intervals.Red
-
-abbrev pub after_lamp_on_9 : Option Lamp → Option Trip
-after_lamp_on_9 lamp = judge quad (field quad all_red (Some (lamps.Phase 9 signals.Green))) (field quad all_red lamp)
-
-red_after_green : after_lamp_on_9 (Some (lamps.Phase 9 signals.Red)) ≡ Some (GreenToRed 9)
-unfolding quad run_from conflict conflict_of green_to_red
-red_after_green = refl
-
-none_after_green : after_lamp_on_9 None ≡ None
-unfolding quad run_from conflict conflict_of green_to_red
-none_after_green = refl

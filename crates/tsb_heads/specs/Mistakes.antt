@@ -3,22 +3,24 @@ use Rattle.std.specs.Prelude.{◌≡◌, ℕ, nat_lt, Bool, true, false, not, �
 use Rattle.std.specs.Option.{option_or}
 use Rattle.tsb_types.specs.declared.interval.Interval.TheVariants as intervals
 use Rattle.tsb_types.specs.declared.lamp.Aspect.{Aspect}
-use Rattle.tsb_types.specs.declared.lamp.Aspect.TheVariants.{Dark, Red, Yellow, Green}
+use Rattle.tsb_types.specs.declared.lamp.Aspect.TheVariants.{Dark, Red, Yellow, Green, FlashingRed}
+use Rattle.tsb_types.specs.declared.lamp.SignalColor.TheVariants as signals
 use Rattle.tsb_types.specs.declared.lamp.PedestrianColor.TheVariants as pedestrians
 use Rattle.tsb_types.specs.declared.lamp.Lamp.TheVariants as lamps
-use Rattle.tsb_types.specs.Intervals.{is_green, is_red_clear}
+use Rattle.tsb_types.specs.Intervals.{is_green, is_yellow, is_red_clear}
 use Rattle.tsb_types.specs.Lists.{first, run_from}
 use Rattle.tsb_plan.specs.declared.object.Object.TheVariants.{OverlapType, OverlapModifierPhases}
 use Rattle.tsb_plan.specs.Plan.{Plan, phases, walk, with_values}
 use Rattle.tsb_plan.specs.Parts.{is_included}
 use Rattle.tsb_plan.specs.Quad.{quad}
+use Rattle.tsb_objects.specs.PatternRules.{some_and}
 use Rattle.tsb_heads.specs.declared.monitor.Trip.{Trip}
 use Rattle.tsb_heads.specs.declared.monitor.Trip.TheVariants.{Conflict, GreenToRed}
 use Rattle.tsb_heads.specs.Heads.{Shown, Heads, aspect_of, vehicle_head}
 use Rattle.tsb_heads.specs.Overlaps.{some_of, is_followed, is_kept_green, is_on_yellow, has_green_modifier, has_yellow_modifier, is_on_last_yellow, overlap_head}
 use Rattle.tsb_heads.specs.Displays.{field}
-use Rattle.tsb_heads.specs.Monitoring.{gives_way, lets_walk, has_right_of_way, conflict_of, conflict_by, conflict, green_to_red, judge}
-use Rattle.tsb_heads.specs.Examples.{two_in, committed, through}
+use Rattle.tsb_heads.specs.Monitoring.{gives_way, lets_walk, has_right_of_way, conflict_of, conflict_by, conflict, is_red, goes_red, green_to_red, judge}
+use Rattle.tsb_heads.specs.Examples.{two_in, committed, through, across}
 
 -- ## The head of a phase that is not enabled is red
 
@@ -48,6 +50,24 @@ keeps_not : some_of quad (is_included quad 1) (keeps_by_clearance quad in_yellow
 unfolding quad run_from
 keeps_not = refl
 
+-- ## An overlap stays green where any ring is committed to an included phase
+
+abbrev pub keeps_by_any_ring : Plan → Shown → ℕ → ℕ → Bool
+keeps_by_any_ring plan s o p = is_green (s.interval p) || ((is_yellow (s.interval p) || is_red_clear (s.interval p)) &&
+    (some_and (is_included plan o) (s.commitment 1) || some_and (is_included plan o) (s.commitment 2)))
+
+-- 2 is Yellow, and the overlap includes 2 and 6
+abbrev pub to_3_and_6 : Shown
+to_3_and_6 = committed 1 3 (committed 2 6 (two_in 2 intervals.Yellow 5 intervals.Yellow))
+
+by_its_ring : is_kept_green across to_3_and_6 1 ≡ false
+unfolding across quad run_from is_kept_green
+by_its_ring = refl
+
+by_any_ring : some_of across (is_included across 1) (keeps_by_any_ring across to_3_and_6 1) ≡ true
+unfolding across quad run_from
+by_any_ring = refl
+
 -- ## A minusGreenYellow overlap is yellow while its ring follows with an included phase
 
 abbrev pub yellow_at_each : Plan → Shown → ℕ → Aspect
@@ -66,6 +86,43 @@ red_when_followed = refl
 yellow_when_followed : yellow_at_each minus_plan in_yellow 1 ≡ Yellow
 unfolding minus_plan quad run_from is_kept_green has_green_modifier is_on_yellow has_yellow_modifier
 yellow_when_followed = refl
+
+-- ## Yellow gives no right of way
+
+abbrev pub gives_way_in_green : Aspect → Bool
+gives_way_in_green Green = true
+gives_way_in_green Dark = false
+gives_way_in_green Red = false
+gives_way_in_green Yellow = false
+gives_way_in_green FlashingRed = false
+
+abbrev pub yellow_on_3 : Aspect
+yellow_on_3 = (field quad through (Some (lamps.Phase 3 signals.Yellow))).vehicle 3
+
+gives : gives_way yellow_on_3 ≡ true
+gives = refl
+
+gives_not : gives_way_in_green yellow_on_3 ≡ false
+gives_not = refl
+
+-- ## Yellow to red counts as green to red
+
+abbrev pub goes_red_from_any : Heads → Heads → ℕ → Bool
+goes_red_from_any before after p = gives_way (before.vehicle p) && is_red (after.vehicle p)
+
+abbrev pub before_red : Heads
+before_red = field quad (two_in 2 intervals.Yellow 6 intervals.Yellow) None
+
+abbrev pub after_red : Heads
+after_red = field quad (two_in 2 intervals.RedClear 6 intervals.RedClear) None
+
+from_green : goes_red before_red after_red 2 ≡ false
+unfolding quad
+from_green = refl
+
+from_any : goes_red_from_any before_red after_red 2 ≡ true
+unfolding quad
+from_any = refl
 
 -- ## The monitor never trips
 
