@@ -96,7 +96,7 @@ asks_omit plan selected p = is_omitted_now plan (running plan selected) p
 abbrev pub sequence_now : Plan → Option ℕ → ℕ
 sequence_now plan selected = sequence_in_effect plan (running plan selected)
 
--- the phases of ring r in the order in which it serves them
+-- what the sequence in effect has for ring r, place by place; 0 for no phase
 abbrev pub serving_order : Plan → Option ℕ → ℕ → List ℕ
 serving_order plan selected r = sequence plan (sequence_now plan selected) r
 
@@ -106,7 +106,7 @@ serving_order plan selected r = sequence plan (sequence_now plan selected) r
 abbrev pub is_pattern : Plan → ℕ → Bool
 is_pattern plan n = (nat_le 1 n && nat_le n 16) && is_used plan n
 
--- E9: no pattern, and not 0, which is free operation
+-- refusal E9: the number is neither 0, which is free operation, nor that of a pattern
 abbrev pub refusal : Plan → ℕ → Option Refusal
 refusal plan n = if n == 0 || is_pattern plan n then None else Some NoSuchPattern
 

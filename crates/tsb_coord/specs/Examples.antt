@@ -8,7 +8,7 @@ use Rattle.tsb_plan.specs.Plan.{Plan, empty, with_value, with_values}
 use Rattle.tsb_plan.specs.Quad.{quad, with_rows}
 use Rattle.tsb_objects.specs.PatternRules.{split_sum, side_sum, split_end, coordinated_count}
 use Rattle.tsb_objects.specs.Rules.{first_broken, broken_by_rings, broken_by_phases, broken_by_parts, broken_by_extensions}
-use Rattle.tsb_coord.specs.Coordinated.{local, residue_of_difference, end_of, instant_from, force_off, asks_force_off, asks_hold, asks_omit, serving_order, refusal, selects}
+use Rattle.tsb_coord.specs.Coordinated.{local, residue_of_difference, end_of, instant_from, force_off, asks_force_off, asks_hold, asks_omit, refusal, selects}
 use Rattle.tsb_coord.specs.Cells.{pattern_in, pattern_cells}
 
 -- ## The local counter
@@ -117,7 +117,7 @@ four_instants : map (force_off four (Some 1)) (2 ∷ 4 ∷ 10 ∷ 12 ∷ 14 ∷ 
 unfolding four run_from split_sum side_sum split_end force_off
 four_instants = refl
 
--- ## Hold, omit and the sequence in effect
+-- ## Hold and omit
 
 abbrev pub held : Option ℕ → List ℕ
 held selected = filter (asks_hold quad selected) (run_from 1 8)
@@ -132,19 +132,6 @@ left_out selected = filter (asks_omit (with_value quad SplitMode 3 5) selected) 
 omit : left_out (Some 1) ∷ left_out None ∷ [] ≡ (3 ∷ []) ∷ [] ∷ []
 unfolding quad run_from
 omit = refl
-
--- pattern 1 with sequence 2, in which phase 2 comes before phase 1
-abbrev pub lagging : Plan
-lagging = with_values quad (
-    (PatternSequenceNumber, 1, 2) ∷
-    (SequenceData, 33, 2) ∷ (SequenceData, 34, 1) ∷ (SequenceData, 35, 3) ∷ (SequenceData, 36, 4) ∷
-    (SequenceData, 49, 5) ∷ (SequenceData, 50, 6) ∷ (SequenceData, 51, 7) ∷ (SequenceData, 52, 8) ∷ [])
-
-orders_of_ring_1 : serving_order lagging (Some 1) 1 ∷ serving_order lagging None 1 ∷ []
-    ≡ (2 ∷ 1 ∷ 3 ∷ 4 ∷ 0 ∷ 0 ∷ 0 ∷ 0 ∷ 0 ∷ 0 ∷ 0 ∷ 0 ∷ 0 ∷ 0 ∷ 0 ∷ 0 ∷ [])
-    ∷ (1 ∷ 2 ∷ 3 ∷ 4 ∷ 0 ∷ 0 ∷ 0 ∷ 0 ∷ 0 ∷ 0 ∷ 0 ∷ 0 ∷ 0 ∷ 0 ∷ 0 ∷ 0 ∷ []) ∷ []
-unfolding quad run_from
-orders_of_ring_1 = refl
 
 -- ## Selecting a pattern: 1, 2 and free operation; E9 for a pattern that is not used, and for 17
 

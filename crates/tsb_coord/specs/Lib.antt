@@ -2,4 +2,5 @@ pub mod Coordinated
 pub mod Cells
 pub mod Promises
 pub mod Examples
+pub mod PatternExamples
 pub mod Mistakes

@@ -1,5 +1,5 @@
 -- One-line mistakes, each with an example that tells it from the definition.
-use Rattle.std.specs.Prelude.{◌≡◌, ℕ, ◌+◌, ◌-◌, ◌%◌, ◌==◌, Bool, true, false, not, ◌&&◌, if◌then◌else◌, Option, Some, None, sum_by, refl}
+use Rattle.std.specs.Prelude.{◌≡◌, ℕ, ◌+◌, ◌-◌, ◌%◌, ◌==◌, Bool, true, false, not, ◌&&◌, if◌then◌else◌, [], ◌∷◌, map, Option, Some, None, sum_by, refl}
 use Rattle.tsb_types.specs.declared.refusal.Refusal.{Refusal}
 use Rattle.tsb_types.specs.declared.refusal.Refusal.TheVariants.{NoSuchPattern}
 use Rattle.tsb_types.specs.Lists.{run_from, up_to}
@@ -8,9 +8,10 @@ use Rattle.tsb_plan.specs.Plan.{Plan, is_enabled, ring_of, side_of, yellow_chang
 use Rattle.tsb_plan.specs.Parts.{is_omitted, split_time, cycle, offset}
 use Rattle.tsb_plan.specs.Running.{is_coordinated_now}
 use Rattle.tsb_plan.specs.Quad.{quad}
-use Rattle.tsb_objects.specs.PatternRules.{split_sum, side_sum, split_end}
+use Rattle.tsb_objects.specs.PatternRules.{split_before, split_sum, side_sum, split_end}
 use Rattle.tsb_coord.specs.Coordinated.{counter, end_of, instant_from, residue_of_difference, asks_hold, refusal, is_pattern}
 use Rattle.tsb_coord.specs.Examples.{four}
+use Rattle.tsb_coord.specs.PatternExamples.{lagging}
 
 -- ## A difference below 0 counts as 0
 
@@ -51,7 +52,8 @@ counts_not = refl
 
 abbrev pub end_in_ring : Plan → ℕ → ℕ → ℕ
 end_in_ring plan table p =
-    split_time plan table p + sum_by (split_sum plan table (ring_of plan p)) (run_from 1 (side_of plan p - 1))
+    sum_by (split_before plan table (side_of plan p)) (up_to p (sequence plan 1 (ring_of plan p)))
+    + sum_by (split_sum plan table (ring_of plan p)) (run_from 1 (side_of plan p - 1))
 
 of_any_ring : end_of four 1 14 ≡ 700
 unfolding four run_from split_sum side_sum split_end
@@ -60,6 +62,19 @@ of_any_ring = refl
 of_its_ring : end_in_ring four 1 14 ≡ 250
 unfolding four run_from split_sum
 of_its_ring = refl
+
+-- ## Splits end in the order of sequence 1, whatever the pattern's sequence
+
+abbrev pub end_in_sequence_1 : Plan → ℕ → ℕ → ℕ
+end_in_sequence_1 plan table p = split_end plan 1 table p
+
+in_its_sequence : map (end_of lagging 1) (1 ∷ 2 ∷ []) ≡ 400 ∷ 250 ∷ []
+unfolding lagging quad run_from split_sum side_sum split_end
+in_its_sequence = refl
+
+in_sequence_1 : map (end_in_sequence_1 lagging 1) (1 ∷ 2 ∷ []) ≡ 150 ∷ 400 ∷ []
+unfolding lagging quad run_from split_sum side_sum split_end
+in_sequence_1 = refl
 
 -- ## A phase is forced off where its split ends, and not before its yellow change and red clearance
 

@@ -24,7 +24,7 @@ pub record AreOrders (now : ℕ) (plan : Plan) (row : List ℕ) (result : Coordi
 -- `set_pattern(n, plan)`, clause `refused`: it answers the refusal, if there is one
 abbrev pub answered : Option Refusal → Result (Unit {0}) Refusal
 answered None = Ok tt
-answered (Some r) = Err r
+answered (Some refusal) = Err refusal
 
 abbrev pub IsAnswered : ℕ → Plan → Result (Unit {0}) Refusal → Type 0
 IsAnswered n plan result = result ≡ answered (refusal plan n)
@@ -37,7 +37,8 @@ selected_after (Some r) n was = was
 abbrev pub IsSelected : ℕ → Plan → List ℕ → List ℕ → Type 0
 IsSelected n plan old new = pattern_in new ≡ selected_after (refusal plan n) n (pattern_in old)
 
--- `local(now, plan)`: the local counter, or `None` in free operation
+-- `local(now, plan)`: the local counter at tick number `now`, which goes on while tripped, or `None` in free operation.
+-- So `now` is here the tick number itself, also of a bench that has tripped, and not the tick of the trip.
 abbrev pub TellsLocal : ℕ → Plan → List ℕ → Option ℕ → Type 0
 TellsLocal now plan row result = result ≡ local plan now (pattern_in row)
 

@@ -9,10 +9,11 @@ pub struct Coordination {
     pub runs: Option<Pattern>,
     /// The sequence in effect.
     pub sequence: Sequence,
-    /// Phases that are kept green until their force-off: the coordinated phases.
+    /// The coordinated phases, which end their green only by force-off while no preempt is in service.
     pub hold: PhaseSet,
     /// Phases whose force-off instant is this tick.
     pub forced: PhaseSet,
-    /// Phases that may not be served.
+    /// Phases that no call and no dual entry brings into service, as their split mode omits them. A preempt does,
+    /// where its target has them.
     pub omit: PhaseSet,
 }

@@ -5,4 +5,6 @@ pub mod Monitoring
 pub mod Reading
 pub mod Promises
 pub mod Examples
+pub mod MonitorExamples
+pub mod ReadingExamples
 pub mod Mistakes

@@ -41,7 +41,7 @@ IsTicked now row intervals plan old new =
 -- its answer, clause `orders`, of the preempts `w` as the tick reads them
 pub record AreOrders (plan : Plan) (given : Given) (w : Preempts) (orders : PreemptOrders) : Type 0 where
   pub target : target_of orders.target ≡ target plan given w
-  pub must_end : (p : ℕ) → 1 ≤ p → p ≤ plan.phase_count → has orders.must_end p ≡ must_end plan given w p
+  pub must_end : (p : ℕ) → 1 ≤ p → p ≤ 16 → has orders.must_end p ≡ must_end plan given w p
   pub ended : orders.ended ≡ service_ended plan given w
 
 abbrev pub AreOrdered : ℕ → Row → Intervals → Plan → List ℕ → PreemptOrders → Type 0
@@ -53,13 +53,13 @@ abbrev pub IsCompatible : Plan → Option (ℕ → Bool) → Type 0
 IsCompatible plan None = Unit {0}
 IsCompatible plan (Some list) = AreCompatible plan list
 
--- `switch(n, on, plan)`, clause `refused`: it is refused as its definition says
-abbrev pub refused_or : Option Refusal → Result (Unit {0}) Refusal
-refused_or None = Ok tt
-refused_or (Some refusal) = Err refusal
+-- `switch(n, on, plan)`, clause `refused`: it answers the refusal, if there is one
+abbrev pub answered : Option Refusal → Result (Unit {0}) Refusal
+answered None = Ok tt
+answered (Some refusal) = Err refusal
 
-abbrev pub IsRefused : ℕ → Bool → Plan → Result (Unit {0}) Refusal → Type 0
-IsRefused n on plan result = result ≡ refused_or (switch_refusal plan n on)
+abbrev pub IsAnswered : ℕ → Bool → Plan → Result (Unit {0}) Refusal → Type 0
+IsAnswered n on plan result = result ≡ answered (switch_refusal plan n on)
 
 -- and clause `set`: where it is not refused the switch is set, else no cell changes
 abbrev pub IsSet : ℕ → Bool → List ℕ → List ℕ → Result (Unit {0}) Refusal → Type 0
