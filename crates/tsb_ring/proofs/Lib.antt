@@ -1,2 +1,3 @@
 pub mod ActLemmas
+pub mod MoveLemmas
 pub mod SafetyLemmas
