@@ -2,8 +2,8 @@
 -- what ends, clears and starts, of commitments, and that phases that are not concurrent never serve together.
 --
 -- Proved, each as the contract of a function that does nothing (src/laws.rt): ActsAsNext, ActsInEitherOrder, EndsReady,
--- ClearsOver, StartsReverted, CommitmentsStand, CommitmentsStartAlone, PowerUpIsSound, SoundIsSafe.
--- Only stated, not proved: MovesKeepSound and StartsWait, which stand last, under "Ticks: only stated".
+-- ClearsOver, StartsReverted, CommitmentsStand, CommitmentsStartAlone, PowerUpIsSound, SoundIsSafe, StartsWait.
+-- Only stated, not proved: MovesKeepSound, which stands last.
 use Rattle.std.specs.Prelude.{◌≡◌, ℕ, Bool, true, false, Option, Some, None, ◌⊎◌}
 use Rattle.tsb_types.specs.declared.interval.Interval.{Interval}
 use Rattle.tsb_types.specs.declared.interval.Interval.TheVariants.{Red, Green, Yellow, RedClear}
@@ -132,7 +132,14 @@ abbrev pub SoundIsSafe : Type 0
 SoundIsSafe = (plan : Plan) (interval : ℕ → Interval) (s : State) →
     IsSymmetric plan → IsSound plan interval s → IsSafe plan interval
 
--- ## Ticks: only stated
+-- Where the rings are sound, a phase starts only when every phase that was in service and is not concurrent with it is
+-- over.
+abbrev pub StartsWait : Type 0
+StartsWait = (plan : Plan) (s : State) (given : Given) (p q : ℕ) → IsSound plan given.interval s →
+    is_started (moves plan s given) p ≡ true → Serves given.interval q →
+    (is_concurrent plan p q ≡ true) ⊎ (given.over q ≡ true)
+
+-- ## Only stated
 
 -- Only stated. Whatever is called, omitted, ready, reverted or wanted by a preempt, and whenever yellows are done: the
 -- moves of a tick lead from sound rings to sound rings.
@@ -140,10 +147,3 @@ abbrev pub MovesKeepSound : Type 0
 MovesKeepSound = (plan : Plan) (s : State) (given : Given) (yellow_done : ℕ → Bool) →
     IsSymmetric plan → IsGiven plan given → IsSound plan given.interval s →
     IsSound plan (interval_after (moves plan s given) yellow_done given.interval) (next plan s given)
-
--- Only stated. A phase starts only when every phase that was in service and is not concurrent with it is over.
-abbrev pub StartsWait : Type 0
-StartsWait = (plan : Plan) (s : State) (given : Given) (p q : ℕ) →
-    IsSymmetric plan → IsGiven plan given → IsSound plan given.interval s →
-    is_started (moves plan s given) p ≡ true → Serves given.interval q →
-    (is_concurrent plan p q ≡ true) ⊎ (given.over q ≡ true)

@@ -1,5 +1,5 @@
 //! What holds of the rings whatever is found in a tick, each law the contract of a function that does nothing.
-ghost use Rattle.tsb_ring.specs.Laws.{ActsAsNext, ActsInEitherOrder, ClearsOver, CommitmentsStand, CommitmentsStartAlone, EndsReady, PowerUpIsSound, SoundIsSafe, StartsReverted};
+ghost use Rattle.tsb_ring.specs.Laws.{ActsAsNext, ActsInEitherOrder, ClearsOver, CommitmentsStand, CommitmentsStartAlone, EndsReady, PowerUpIsSound, SoundIsSafe, StartsReverted, StartsWait};
 
 /// Acting on the moves of a tick gives the rings after it, and whatever the moves, the order in which the
 /// rings act makes no difference.
@@ -23,8 +23,10 @@ pub fn commitments_stand()
 {}
 
 /// The rings are sound at power-up, and where they are, no two phases that are not concurrent are in
-/// service, and so none have right of way.
+/// service, and so none have right of way; and a phase starts only when every phase in service that is not
+/// concurrent with it is over.
 pub fn sound_rings_are_safe()
     ensures power_up { PowerUpIsSound }
     ensures safe { SoundIsSafe }
+    ensures wait { StartsWait }
 {}
