@@ -1,2 +1,4 @@
 pub mod ActLemmas
+pub mod MoveLemmas
 pub mod SafetyLemmas
+pub mod WaitLemmas

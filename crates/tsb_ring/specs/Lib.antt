@@ -11,4 +11,5 @@ pub mod Examples
 pub mod CrossingExamples
 pub mod TargetExamples
 pub mod PremiseExamples
+pub mod CellsExamples
 pub mod Mistakes
