@@ -1,7 +1,8 @@
 -- The contracts of the public calls of `Coord`, clause by clause, over its cells: `old` before a call, `new` after it.
 -- docs/CONTRACTS.md says which value comes from which layer.
-use Rattle.std.specs.Prelude.{◌≡◌, ℕ, ◌≤◌, List, Option, Some, None, Result, Ok, Err}
+use Rattle.std.specs.Prelude.{◌≡◌, ℕ, ◌≤◌, List, Option, Some, None, Result}
 use Rattle.tsb_types.specs.declared.refusal.Refusal.{Refusal}
+use Rattle.tsb_types.specs.Flow.{answered}
 use Rattle.tsb_types.specs.Sets.{has}
 use Rattle.tsb_plan.specs.Plan.{Plan}
 use Rattle.tsb_plan.specs.Running.{running}
@@ -22,10 +23,6 @@ pub record AreOrders (now : ℕ) (plan : Plan) (row : List ℕ) (result : Coordi
   pub omit : (p : ℕ) → 1 ≤ p → p ≤ 16 → has result.omit p ≡ asks_omit plan (pattern_in row) p
 
 -- `set_pattern(n, plan)`, clause `refused`: it answers the refusal, if there is one
-abbrev pub answered : Option Refusal → Result (Unit {0}) Refusal
-answered None = Ok tt
-answered (Some refusal) = Err refusal
-
 abbrev pub IsAnswered : ℕ → Plan → Result (Unit {0}) Refusal → Type 0
 IsAnswered n plan result = result ≡ answered (refusal plan n)
 

@@ -1,5 +1,5 @@
 -- What the values that layers tell one another say of each phase, as functions of its number.
-use Rattle.std.specs.Prelude.{ℕ, ◌-◌, Bool, if◌then◌else◌, Option, Some, None, slice_index, ◌&&◌, is_none}
+use Rattle.std.specs.Prelude.{ℕ, ◌-◌, Bool, if◌then◌else◌, Option, Some, None, Result, Ok, Err, slice_index, ◌&&◌, is_none}
 use Rattle.tsb_types.specs.declared.interval.Interval.{Interval}
 use Rattle.tsb_types.specs.declared.interval.Interval.TheVariants.{Red, Green, Yellow, RedClear}
 use Rattle.tsb_types.specs.declared.interval.PedestrianInterval.{PedestrianInterval}
@@ -8,6 +8,7 @@ use Rattle.tsb_types.specs.declared.flow.Intervals.{Intervals}
 use Rattle.tsb_types.specs.declared.flow.Pedestrians.{Pedestrians}
 use Rattle.tsb_types.specs.declared.flow.Counts.{Counts}
 use Rattle.tsb_types.specs.declared.phase_set.PhaseSet.{PhaseSet}
+use Rattle.tsb_types.specs.declared.refusal.Refusal.{Refusal}
 use Rattle.tsb_types.specs.Sets.{has}
 
 -- the interval of phase p
@@ -26,6 +27,11 @@ count_of counts p = slice_index counts.vehicles (p - 1)
 abbrev pub target_of : Option PhaseSet → Option (ℕ → Bool)
 target_of None = None
 target_of (Some phases) = Some (has phases)
+
+-- what a call that may be refused answers
+abbrev pub answered : Option Refusal → Result (Unit {0}) Refusal
+answered None = Ok tt
+answered (Some refusal) = Err refusal
 
 -- a phase that starts has a walk at once where it has a pedestrian call, and no preempt is in service
 abbrev pub gives_walk : Bool → Option ℕ → Bool
