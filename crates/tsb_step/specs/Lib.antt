@@ -1,0 +1,5 @@
+pub mod State
+pub mod Tick
+pub mod Signs
+pub mod Tables
+pub mod Step

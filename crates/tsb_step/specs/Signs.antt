@@ -1,0 +1,57 @@
+-- What the controller shows: its display, the field with a lamp that a fault has lit, the local counter and the stage of a
+-- preempt; when a display is safe; and the monitor, which judges the field.
+use Rattle.std.specs.Prelude.{ℕ, Option, is_some, option_map, if◌then◌else◌}
+use Rattle.tsb_types.specs.declared.stage.Stage.{Stage}
+use Rattle.tsb_heads.specs.Heads.{Shown, Heads}
+use Rattle.tsb_heads.specs.Displays as heads
+use Rattle.tsb_heads.specs.Monitoring as monitor
+use Rattle.tsb_heads.specs.Reading.{commitment_of}
+use Rattle.tsb_ring.specs.Rings.{Ring1, Ring2}
+use Rattle.tsb_coord.specs.Coordinated as coordination
+use Rattle.tsb_preempt.specs.Promises.{stage_of}
+use Rattle.tsb_step.specs.State.{State, interval, pedestrian_part}
+
+-- the commitment of ring 1 and of ring 2
+abbrev pub commitment : State → ℕ → Option ℕ
+commitment s = commitment_of (s.rings.commitment Ring1) (s.rings.commitment Ring2)
+
+abbrev pub shown : State → Shown
+shown s = record {
+  interval = interval s;
+  pedestrian = pedestrian_part s;
+  commitment = commitment s;
+  tripped = is_some s.trip;
+}
+
+-- the display: a function of the state alone
+unfoldable pub display : State → Heads
+display s = heads.display s.plan (shown s)
+
+-- the display is safe in the plan in effect: any two phases with right of way are equal or concurrent
+abbrev pub IsSafe : State → Type 0
+IsSafe s = monitor.IsSafe s.plan (display s)
+
+-- the local counter of the pattern that runs, which goes on also while the controller is tripped
+abbrev pub local : State → Option ℕ
+local s = coordination.local s.plan s.now s.pattern
+
+-- the preempt in service and its stage
+abbrev pub stage : State → Option (ℕ × Stage)
+stage s = stage_of s.preempts.service
+
+-- ## The monitor
+
+-- the field of a controller that has not tripped
+unfoldable pub field : State → Heads
+field s = heads.field s.plan (shown s) s.lamp
+
+-- the monitor compares the fields before and after, and trips the controller at the tick number in force
+unfoldable pub watched : State → State → State
+watched before after = record after {
+  trip = option_map (λ cause. record { cause = cause; tick = after.now })
+      (monitor.judge after.plan (field before) (field after));
+}
+
+-- a controller that has tripped is not judged again
+abbrev pub unless_tripped : State → State → State
+unless_tripped before after = if is_some before.trip then after else watched before after

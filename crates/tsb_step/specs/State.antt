@@ -1,0 +1,70 @@
+-- The whole controller: all of its state, field by field, each of the layer whose it is; and its state at power-up and after
+-- a reset.
+use Rattle.std.specs.Prelude.{ℕ, Option, None}
+use Rattle.tsb_types.specs.declared.interval.Interval.{Interval}
+use Rattle.tsb_types.specs.declared.interval.PedestrianInterval.{PedestrianInterval}
+use Rattle.tsb_types.specs.declared.lamp.Lamp.{Lamp}
+use Rattle.tsb_plan.specs.Plan.{Plan}
+use Rattle.tsb_detect.specs.Detector as detector
+use Rattle.tsb_detect.specs.Detector.{Detector}
+use Rattle.tsb_calls.specs.Memories as calls
+use Rattle.tsb_calls.specs.Memories.{Memories}
+use Rattle.tsb_phase.specs.Phase as phase
+use Rattle.tsb_phase.specs.Phase.{Phase}
+use Rattle.tsb_ring.specs.Rings as rings
+use Rattle.tsb_coord.specs.Coordinated as coordination
+use Rattle.tsb_preempt.specs.Preempts as preempts
+use Rattle.tsb_preempt.specs.Preempts.{Preempts}
+use Rattle.tsb_heads.specs.declared.monitor.Trip.{Trip}
+use Rattle.tsb_transact.specs.Desk.{Desk, closed}
+
+-- why the monitor tripped the controller, and the tick number at which it did
+pub record Tripped : Type 0 where
+  pub cause : Trip
+  pub tick : ℕ
+
+pub record State : Type 0 where
+  -- the tick number: tenths of a second since power-up
+  pub now : ℕ
+  -- the plan in effect, and the desk at which stations change it
+  pub plan : Plan
+  pub desk : Desk
+  -- the pattern that the operator selected
+  pub pattern : Option ℕ
+  -- of each vehicle detector, of each phase
+  pub detectors : ℕ → Detector
+  pub memories : Memories
+  pub phases : ℕ → Phase
+  pub rings : rings.State
+  pub preempts : Preempts
+  -- the lamp that a fault has lit, and the trip, if the monitor has tripped
+  pub lamp : Option Lamp
+  pub trip : Option Tripped
+
+-- at power-up with a plan
+abbrev pub start : Plan → State
+start plan = record {
+  now = 0;
+  plan = plan;
+  desk = closed;
+  pattern = coordination.at_power_up;
+  detectors = λ d. detector.at_power_up;
+  memories = calls.at_power_up;
+  phases = λ p. phase.at_power_up;
+  rings = rings.power_up;
+  preempts = preempts.at_power_up;
+  lamp = None;
+  trip = None;
+}
+
+-- a controller that starts anew: as at power-up, but for its plan, desk, switches and tick number
+abbrev pub restarted : State → State
+restarted s = record (start s.plan) { now = s.now; desk = s.desk; preempts = preempts.after_reset s.preempts }
+
+-- ## Words on the state
+
+abbrev pub interval : State → ℕ → Interval
+interval s p = (s.phases p).interval
+
+abbrev pub pedestrian_part : State → ℕ → PedestrianInterval
+pedestrian_part s p = (s.phases p).pedestrian

@@ -1,0 +1,67 @@
+-- Which objects a plan takes, by its numbers of phases and sides. With 16 phases and 4 sides this is the table of
+-- objects, with 8 and 2 that of version 1 of plan texts.
+use Rattle.std.specs.Prelude.{◌≡◌, ℕ, ◌-◌, ◌*◌, ◌^◌, nat_le, ◌==◌, Bool, true, not, ◌&&◌, ◌||◌, if◌then◌else◌, Option, Some, None, refl}
+use Rattle.std.specs.List.{list_all}
+use Rattle.tsb_types.specs.declared.refusal.Refusal.{Refusal}
+use Rattle.tsb_types.specs.declared.refusal.Refusal.TheVariants.{NoSuchObject, OutOfRange}
+use Rattle.tsb_plan.specs.declared.object.Object.{Object}
+use Rattle.tsb_plan.specs.declared.object.Object.TheVariants.{PhaseSide, PhaseConcurrency, VehicleDetectorCallPhase, PedestrianDetectorCallPhase, OverlapIncludedPhases, SequenceData, PreemptTrackPhase, PreemptDwellPhase, PreemptExitPhase, PhaseDynamicMaxLimit, PhaseDynamicMaxStep, OverlapModifierPhases}
+use Rattle.tsb_plan.specs.declared.object.ObjectId.{ObjectId}
+use Rattle.tsb_plan.specs.declared.version.Version.TheVariants.{One}
+use Rattle.tsb_plan.specs.Objects.{objects, indices, greatest}
+use Rattle.tsb_plan.specs.Plan.{Plan}
+use Rattle.tsb_plan.specs.Versions.{is_by_phase, is_in_rows, has_object, indices_in, greatest_in}
+
+-- the index of the object is a phase
+abbrev pub is_of_phases : Object → Bool
+is_of_phases PhaseDynamicMaxLimit = true
+is_of_phases PhaseDynamicMaxStep = true
+is_of_phases o = is_by_phase o
+
+-- how many indices it has, from 1 on, where there are n phases
+abbrev pub indices_for : ℕ → Object → ℕ
+indices_for n o = if is_of_phases o then n else (if is_in_rows o then 8 * n else indices o)
+
+-- its greatest value, where there are n phases and d sides
+abbrev pub greatest_for : ℕ → ℕ → Object → ℕ
+greatest_for n d PhaseSide = d
+greatest_for n d PhaseConcurrency = 2 ^ n - 1
+greatest_for n d OverlapIncludedPhases = 2 ^ n - 1
+greatest_for n d OverlapModifierPhases = 2 ^ n - 1
+greatest_for n d PreemptTrackPhase = 2 ^ n - 1
+greatest_for n d PreemptDwellPhase = 2 ^ n - 1
+greatest_for n d PreemptExitPhase = 2 ^ n - 1
+greatest_for n d VehicleDetectorCallPhase = n
+greatest_for n d PedestrianDetectorCallPhase = n
+greatest_for n d SequenceData = n
+greatest_for n d o = greatest o
+
+-- the plan has the object at the index
+abbrev pub has_place : Plan → Object → ℕ → Bool
+has_place plan o i = nat_le 1 i && nat_le i (indices_for plan.phase_count o)
+
+abbrev pub greatest_of : Plan → Object → ℕ
+greatest_of plan o = greatest_for plan.phase_count plan.side_count o
+
+-- why the plan does not take a value, if it does not: E2 for the index first, then E3 for the value
+abbrev pub place_refusal : Plan → ObjectId → ℕ → Option Refusal
+place_refusal plan id v =
+    if has_place plan id.object id.index then (if nat_le v (greatest_of plan id.object) then None else Some OutOfRange)
+    else Some NoSuchObject
+
+-- ## The two tables
+
+abbrev is_as_in_table : Object → Bool
+is_as_in_table o = (indices_for 16 o == indices o) && (greatest_for 16 4 o == greatest o)
+
+all_as_in_table : list_all is_as_in_table objects ≡ true
+unfolding objects
+all_as_in_table = refl
+
+abbrev is_as_in_version_1 : Object → Bool
+is_as_in_version_1 o =
+    not (has_object One o) || ((indices_for 8 o == indices_in One o) && (greatest_for 8 2 o == greatest_in One o))
+
+all_as_in_version_1 : list_all is_as_in_version_1 objects ≡ true
+unfolding objects
+all_as_in_version_1 = refl

@@ -1,0 +1,193 @@
+-- What a tick finds and what it makes of the controller: the layers' definitions joined, in the order in which values are
+-- found. That order is the profile's own. "Was" is before this tick: `s` is the state that was, and `row` the inputs that
+-- are on in the tick. No value is found from one that stands behind it, and no field of the new state from another.
+use Rattle.std.specs.Prelude.{ℕ, ◌+◌, Bool, ◌&&◌, if◌then◌else◌, Option, Some, None, option_map}
+use Rattle.tsb_cells.specs.declared.timer.Timer.{Timer}
+use Rattle.tsb_cells.specs.declared.timer.Timer.TheVariants.{Off}
+use Rattle.tsb_types.specs.declared.flow.Moves.{Moves}
+use Rattle.tsb_types.specs.declared.row.Row.{Row}
+use Rattle.tsb_types.specs.Intervals.{is_green}
+use Rattle.tsb_types.specs.Sets.{has_number}
+use Rattle.tsb_plan.specs.Parts.{call_phase}
+use Rattle.tsb_plan.specs.Running.{running}
+use Rattle.tsb_detect.specs.Detector as detector
+use Rattle.tsb_detect.specs.Detector.{Detector}
+use Rattle.tsb_calls.specs.Memories as calls
+use Rattle.tsb_calls.specs.Callable as called
+use Rattle.tsb_calls.specs.Settled as settled
+use Rattle.tsb_phase.specs.Phase as phase
+use Rattle.tsb_phase.specs.Next as phase_next
+use Rattle.tsb_phase.specs.Ready as timing
+use Rattle.tsb_ring.specs.Rings as rings
+use Rattle.tsb_ring.specs.Rings.{Ring, number}
+use Rattle.tsb_ring.specs.Moves as ring_moves
+use Rattle.tsb_ring.specs.Next as rings_next
+use Rattle.tsb_coord.specs.Coordinated as coordination
+use Rattle.tsb_preempt.specs.Preempts as preempts
+use Rattle.tsb_preempt.specs.Service.{Service}
+use Rattle.tsb_step.specs.State.{State, interval, pedestrian_part}
+
+-- ## Preempts: stage, target, what must end
+
+abbrev pub preempts_given : State → Row → preempts.Given
+preempts_given s row = record {
+  row = λ n. preempts.is_preempt n && has_number row.preempts n;
+  interval = interval s;
+}
+
+abbrev pub preempts_read : State → preempts.Preempts
+preempts_read s = preempts.as_read s.preempts
+
+-- the service of a preempt in this tick
+unfoldable pub new_service : State → Row → Option Service
+new_service s row = preempts.new_service s.plan (preempts_given s row) (preempts_read s)
+
+-- the preempt in service in this tick
+abbrev pub service : State → Row → Option ℕ
+service s row = option_map (λ x. x.preempt) (new_service s row)
+
+abbrev pub service_ended : State → Row → Bool
+service_ended s row = preempts.service_ended s.plan (preempts_given s row) (preempts_read s)
+
+abbrev pub target : State → Row → Option (ℕ → Bool)
+target s row = preempts.target s.plan (preempts_given s row) (preempts_read s)
+
+abbrev pub must_end : State → Row → ℕ → Bool
+must_end s row = preempts.must_end s.plan (preempts_given s row) (preempts_read s)
+
+-- ## Coordination: the pattern that runs, its local counter and its orders
+
+abbrev pub runs : State → Option ℕ
+runs s = running s.plan s.pattern
+
+abbrev pub hold : State → ℕ → Bool
+hold s = coordination.asks_hold s.plan s.pattern
+
+-- the local counter is at the phase's force-off instant in this tick
+abbrev pub forced : State → ℕ → Bool
+forced s = coordination.asks_force_off s.plan (s.now + 1) s.pattern
+
+abbrev pub omitted : State → ℕ → Bool
+omitted s = coordination.asks_omit s.plan s.pattern
+
+-- ## Detectors: outputs and actuations
+
+-- the green timer of a phase that was Green
+abbrev pub green_timer : State → Option ℕ → Timer
+green_timer s None = Off
+green_timer s (Some p) = if is_green (interval s p) then (phase.as_read (s.phases p)).timer else Off
+
+-- the detectors after the tick
+unfoldable pub new_detectors : State → Row → ℕ → Detector
+new_detectors s row =
+    detector.all_after s.plan (s.now + 1) (has_number row.vehicles) (λ d. green_timer s (call_phase s.plan d)) s.detectors
+
+-- ## Calls: memories as set, counts, what is callable, conflict
+
+abbrev pub calls_given : State → Row → calls.Given
+calls_given s row = record {
+  output = λ d. (new_detectors s row d).output;
+  actuated = λ d. (new_detectors s row d).actuated;
+  button = has_number row.pedestrians;
+  interval = interval s;
+  pedestrian_part = pedestrian_part s;
+  runs = runs s;
+  omitted = omitted s;
+  service_ended = service_ended s row;
+}
+
+-- the memories as set in this tick, and the counts with its actuations
+abbrev pub set : State → Row → calls.Memories
+set s row = calls.as_set s.plan (calls_given s row) s.memories
+
+abbrev pub callable : State → Row → ℕ → Bool
+callable s row = called.is_callable s.plan (calls_given s row) (set s row)
+
+abbrev pub conflict : State → Row → ℕ → Bool
+conflict s row = called.has_conflict s.plan (calls_given s row) (set s row)
+
+abbrev pub pedestrian_call : State → Row → ℕ → Bool
+pedestrian_call s row = settled.pedestrian_call s.plan (calls_given s row) s.memories
+
+-- ## Phase timing: what is ready, over, reverted and gapped
+
+unfoldable pub phases_given : State → Row → phase.Given
+phases_given s row = record {
+  output = calls.has_output s.plan (calls_given s row);
+  conflict = conflict s row;
+  callable = callable s row;
+  pedestrian_call = pedestrian_call s row;
+  count = (set s row).count;
+  runs = runs s;
+  service = service s row;
+  hold = hold s;
+  must_end = must_end s row;
+  forced = forced s;
+}
+
+abbrev pub phase_read : State → ℕ → phase.Phase
+phase_read s p = phase.as_read (s.phases p)
+
+abbrev pub ready : State → Row → ℕ → Bool
+ready s row p = timing.is_ready s.plan (phases_given s row) p (phase_read s p)
+
+abbrev pub over : State → ℕ → Bool
+over s p = timing.is_over s.plan p (phase_read s p)
+
+abbrev pub reverted : State → ℕ → Bool
+reverted s p = timing.red_revert_passed s.plan p (phase_read s p)
+
+abbrev pub gapped : State → Row → ℕ → Bool
+gapped s row p = timing.is_gapped_now s.plan (phases_given s row) p (phase_read s p)
+
+abbrev pub yellow_done : State → ℕ → Bool
+yellow_done s p = timing.yellow_is_done s.plan p (phase_read s p)
+
+-- ## Rings: wants, crossing, commitments, what is over and what starts
+
+unfoldable pub rings_given : State → Row → rings.Given
+rings_given s row = record {
+  interval = interval s;
+  sequence = λ r. coordination.serving_order s.plan s.pattern (number r);
+  callable = callable s row;
+  omitted = omitted s;
+  ready = ready s row;
+  over = over s;
+  reverted = reverted s;
+  target = target s row;
+}
+
+unfoldable pub moves : State → Row → Moves
+moves s row = ring_moves.moves s.plan s.rings (rings_given s row)
+
+abbrev pub moved : State → Row → phase.Moved
+moved s row = record {
+  ends = ring_moves.is_ended (moves s row);
+  clears = ring_moves.is_cleared (moves s row);
+  starts = ring_moves.is_started (moves s row);
+}
+
+abbrev pub done : State → Row → settled.Done
+done s row = record {
+  starts = ring_moves.is_started (moves s row);
+  ends = ring_moves.is_ended (moves s row);
+  gapped = gapped s row;
+  service = service s row;
+}
+
+-- ## The new state, of a controller that has not tripped and before the monitor judges it
+
+abbrev pub next : State → Row → State
+next s row = record {
+  now = s.now + 1;
+  plan = s.plan;
+  desk = s.desk;
+  pattern = s.pattern;
+  detectors = new_detectors s row;
+  memories = settled.next s.plan (calls_given s row) (done s row) s.memories;
+  phases = λ p. phase_next.next s.plan (phases_given s row) (moved s row) p (s.phases p);
+  rings = rings_next.next s.plan s.rings (rings_given s row);
+  preempts = preempts.next s.plan (preempts_given s row) s.preempts;
+  lamp = s.lamp;
+  trip = s.trip;
+}
