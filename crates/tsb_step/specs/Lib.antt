@@ -3,3 +3,9 @@ pub mod Tick
 pub mod Signs
 pub mod Tables
 pub mod Step
+pub mod Scenes
+pub mod TickExamples
+pub mod OrderExamples
+pub mod SignsExamples
+pub mod StepExamples
+pub mod RefusalExamples
