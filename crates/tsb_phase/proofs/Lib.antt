@@ -1,3 +1,4 @@
+pub mod BoundLemmas
 pub mod MoveLemmas
 pub mod ReadyLemmas
 pub mod SinceLemmas

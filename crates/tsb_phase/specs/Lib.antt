@@ -15,3 +15,4 @@ pub mod PedestrianExamples
 pub mod ClearanceExamples
 pub mod CellsExamples
 pub mod Mistakes
+pub mod LawMistakes
