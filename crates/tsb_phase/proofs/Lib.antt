@@ -2,3 +2,4 @@ pub mod BoundLemmas
 pub mod MoveLemmas
 pub mod ReadyLemmas
 pub mod SinceLemmas
+pub mod ClearanceLemmas
