@@ -1,0 +1,7 @@
+pub mod IntervalLemmas
+pub mod EditLemmas
+pub mod CommitLemmas
+pub mod ServiceLemmas
+pub mod GivenLemmas
+pub mod GoodLemmas
+pub mod SafeLemmas

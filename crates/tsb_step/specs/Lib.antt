@@ -3,3 +3,6 @@ pub mod Tick
 pub mod Signs
 pub mod Tables
 pub mod Step
+pub mod Runs
+pub mod Laws
+pub mod Good

@@ -7,6 +7,7 @@
 
 pub mod commands;
 pub mod inputs;
+pub mod laws;
 
 pub use commands::{Answer, Cmd};
 pub use inputs::Input;

@@ -1,0 +1,32 @@
+//! What holds of every run of the controller, each law the contract of a function that does nothing.
+ghost use Rattle.tsb_step.specs.Laws.{DisplaysAreSafe, PlansStayConsistent, PreemptsHavePhases, RingsActInEitherOrder, ServedGoTogether, StartsWait, WalksAreBesideGreens};
+
+/// Whatever ticks, patterns, switches, faults, resets and transactions there were: no display gives right of
+/// way to two phases that are not concurrent in the plan in effect. More than that, any two phases in service
+/// are equal or concurrent, and pedestrians walk or clear only beside a Green phase.
+pub fn displays_are_safe()
+    ensures safe { DisplaysAreSafe }
+    ensures together { ServedGoTogether }
+    ensures walks { WalksAreBesideGreens }
+{}
+
+/// The plan in effect breaks no rule, whatever was committed.
+pub fn plans_stay_consistent()
+    ensures { PlansStayConsistent }
+{}
+
+/// A phase starts only when every phase in service that is not concurrent with it is over.
+pub fn starts_wait()
+    ensures { StartsWait }
+{}
+
+/// The order in which the two rings act makes no difference.
+pub fn rings_act_in_either_order()
+    ensures { RingsActInEitherOrder }
+{}
+
+/// A preempt in service has, for its stage, a list that is not empty, of enabled phases that are pairwise
+/// concurrent, whatever was committed.
+pub fn preempts_have_phases()
+    ensures { PreemptsHavePhases }
+{}
