@@ -5,3 +5,6 @@ pub mod ServiceLemmas
 pub mod GivenLemmas
 pub mod GoodLemmas
 pub mod SafeLemmas
+pub mod DeskLemmas
+pub mod OnceLemmas
+pub mod DeskRunLemmas

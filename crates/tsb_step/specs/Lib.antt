@@ -6,3 +6,5 @@ pub mod Step
 pub mod Runs
 pub mod Laws
 pub mod Good
+pub mod DeskLaws
+pub mod DeskLawMistakes

@@ -6,6 +6,7 @@
 #![tactic(auto)]
 
 pub mod commands;
+pub mod desk_laws;
 pub mod inputs;
 pub mod laws;
 
