@@ -5,3 +5,5 @@ pub mod ServiceLemmas
 pub mod GivenLemmas
 pub mod GoodLemmas
 pub mod SafeLemmas
+pub mod PlaceLemmas
+pub mod TripLemmas

@@ -6,3 +6,9 @@ pub mod Step
 pub mod Runs
 pub mod Laws
 pub mod Good
+pub mod MonitorCells
+pub mod Cells
+pub mod Past
+pub mod Watches
+pub mod Play
+pub mod Quiet
