@@ -1,8 +1,8 @@
 -- The table of objects with 16 phases and 4 sides is that of plans in memory, so a plan in memory has nothing where it has no
 -- place.
-use Rattle.std.proofs.Common.{◌≡◌, ℕ, ◌<◌, ◌==◌, nat_le, Bool, true, false, ◌&&◌, if◌then◌else◌, length, get_or, None, refl, sym, ap, inl, inr, arith, ◌∙◌}
+use Rattle.std.proofs.Common.{◌≡◌, ℕ, ◌<◌, ◌==◌, nat_le, true, false, ◌&&◌, length, None, refl, sym, ap, inl, inr, ◌∙◌}
 use Rattle.std.specs.List.{list_all}
-use Rattle.std.proofs.lemmas.Bool.{cases_Bool, eqb-true, true≢false, false≢true, and_parts}
+use Rattle.std.proofs.lemmas.Bool.{cases_Bool, eqb-true, true≢false, and_parts}
 use Rattle.std.proofs.lemmas.List.Folds.{list_all_at}
 use Rattle.tsb_plan.specs.declared.object.Object.{Object}
 use Rattle.tsb_plan.specs.declared.object.Object.TheVariants.{PhaseEnabled}
@@ -11,7 +11,7 @@ use Rattle.tsb_plan.specs.Objects.{objects, order, indices, greatest, has_index,
 use Rattle.tsb_plan.specs.PlanOf.{plan_of}
 use Rattle.tsb_plan.proofs.TableLemmas.{at-order, order-below, length-objects}
 use Rattle.tsb_objects.specs.Rules.{first_broken}
-use Rattle.tsb_step.specs.Tables.{indices_for, greatest_for, has_place, is_as_in_table, all_as_in_table}
+use Rattle.tsb_step.specs.Tables.{indices_for, greatest_for, is_as_in_table, all_as_in_table}
 use Rattle.tsb_step.specs.Laws.{IsConsistent}
 
 as_in_table : (o : Object) → is_as_in_table o ≡ true

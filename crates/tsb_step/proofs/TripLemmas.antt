@@ -1,7 +1,6 @@
 -- A controller on which no fault was lit does not trip.
-use Rattle.std.proofs.Common.{◌≡◌, ℕ, Bool, true, false, not, ◌&&◌, ◌||◌, if◌then◌else◌, ◌+◌, List, [], ◌∷◌, Option, Some, None, is_some, refl, sym, ap, inl, inr, ◌∙◌}
-use Rattle.std.specs.Option.{option_map, option_or}
-use Rattle.std.proofs.lemmas.Bool.{cases_Bool, true≢false, false≢true, and_parts}
+use Rattle.std.proofs.Common.{◌≡◌, ℕ, Bool, true, false, not, ◌&&◌, if◌then◌else◌, ◌+◌, List, [], ◌∷◌, Option, Some, None, is_some, refl, inl, inr}
+use Rattle.std.proofs.lemmas.Bool.{true≢false, false≢true}
 use Rattle.tsb_types.specs.declared.interval.Interval.{Interval}
 use Rattle.tsb_types.specs.declared.interval.Interval.TheVariants.{Red, Green, Yellow, RedClear}
 use Rattle.tsb_types.specs.declared.lamp.Lamp.{Lamp}
@@ -11,18 +10,17 @@ use Rattle.tsb_types.specs.declared.row.Row.{Row}
 use Rattle.tsb_types.specs.Lists.{first}
 use Rattle.tsb_plan.specs.Plan.{Plan, phases, is_enabled}
 use Rattle.tsb_phase.specs.Next.{new_interval}
-use Rattle.tsb_heads.specs.declared.monitor.Trip.{Trip}
-use Rattle.tsb_heads.specs.Heads.{Shown, Heads, aspect_of, vehicle_head}
+use Rattle.tsb_heads.specs.Heads.{Heads, aspect_of, vehicle_head}
 use Rattle.tsb_heads.specs.Displays.{ordered, laid_over}
 use Rattle.tsb_heads.specs.Monitoring.{is_green, is_red, goes_red, green_to_red, conflict, judge}
 use Rattle.tsb_ring.proofs.MoveLemmas.{or_cases}
 use Rattle.tsb_heads.proofs.MonitorLemmas.{safe_heads_do_not_conflict}
 use Rattle.tsb_step.specs.declared.inputs.Input.{Input}
 use Rattle.tsb_step.specs.declared.inputs.Input.TheVariants as inputs
-use Rattle.tsb_step.specs.State.{State, Tripped, start, restarted, interval}
+use Rattle.tsb_step.specs.State.{State, restarted, interval}
 use Rattle.tsb_step.specs.Tick.{moved, phase_read, next}
-use Rattle.tsb_step.specs.Signs.{shown, field, watched, unless_tripped}
-use Rattle.tsb_step.specs.Step.{step, verdict, ticked, with_lamp, reset}
+use Rattle.tsb_step.specs.Signs.{shown, field, watched}
+use Rattle.tsb_step.specs.Step.{step, ticked, with_lamp, reset}
 use Rattle.tsb_step.specs.Runs.{replay, AreTaken}
 use Rattle.tsb_step.specs.Laws.{IsConsistent, lights, is_unlit}
 use Rattle.tsb_step.specs.Good.{IsGood}
@@ -109,8 +107,12 @@ calm_dark : (s : State) → IsGood s → IsCalm s → IsCalm (watched s (record 
 unfolding watched
 calm_dark s good calm = record {
   lamp = refl;
-  trip = rw (field_is s calm.lamp, field_is (record s { lamp = None }) refl, no_trip s.plan (ordered s.plan (shown s)) (ordered s.plan (shown s))
-      (safe_heads_do_not_conflict s.plan (ordered s.plan (shown s)) (ordered_is_safe s good)) (λ p. not_both (vehicle_head s.plan (shown s) p))) refl;
+  trip = rw (
+    field_is s calm.lamp,
+    field_is (record s { lamp = None }) refl,
+    no_trip s.plan (ordered s.plan (shown s)) (ordered s.plan (shown s))
+        (safe_heads_do_not_conflict s.plan (ordered s.plan (shown s)) (ordered_is_safe s good)) (λ p. not_both (vehicle_head s.plan (shown s) p)),
+  ) refl;
 }
   where
     not_both : (a : Aspect) → (is_green a && is_red a) ≡ false

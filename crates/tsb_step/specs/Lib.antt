@@ -12,3 +12,4 @@ pub mod Past
 pub mod Watches
 pub mod Play
 pub mod Quiet
+pub mod LawMistakes

@@ -1,6 +1,6 @@
 -- The whole controller with its history, and the way back through the records. The record of an input tells what it changed,
 -- each cell with its value before, so that it can be taken back.
-use Rattle.std.specs.Prelude.{◌≡◌, ◌≢◌, ℕ, zero, suc, ◌-◌, ◌<◌, ◌≤◌, ◌+◌, ◌==◌, List, [], ◌∷◌, length, if◌then◌else◌}
+use Rattle.std.specs.Prelude.{◌≡◌, ◌≢◌, ℕ, zero, suc, ◌-◌, ◌<◌, ◌≤◌, ◌==◌, List, [], ◌∷◌, length, if◌then◌else◌}
 use Rattle.tsb_cells.specs.Diff.{diff, apply_diff}
 use Rattle.tsb_history.specs.History.{Change}
 use Rattle.tsb_history.specs.declared.kinds.Kind.{Kind}

@@ -1,11 +1,10 @@
 -- What a list of commands comes to: the inputs that remain, and which answer is right where it stands. Inputs are piled up,
 -- the newest first; the state is that of a replay of the inputs that remain.
-use Rattle.std.specs.Prelude.{◌≡◌, ◌≢◌, ℕ, ◌-◌, ◌<◌, ◌≤◌, ◌==◌, List, [], ◌∷◌, Option, Some, None, if◌then◌else◌, ◌⊎◌}
+use Rattle.std.specs.Prelude.{◌≡◌, ℕ, ◌-◌, ◌<◌, ◌≤◌, ◌==◌, List, [], ◌∷◌, Option, Some, None, if◌then◌else◌}
 use Rattle.tsb_history.specs.History.{Change}
 use Rattle.tsb_history.specs.declared.kinds.Kind.{Kind}
 use Rattle.tsb_types.specs.declared.refusal.Refusal.{Refusal}
 use Rattle.tsb_types.specs.declared.refusal.Refusal.TheVariants as refusals
-use Rattle.tsb_types.specs.declared.watch.Watch.{Watch}
 use Rattle.tsb_plan.specs.Plan.{Plan}
 use Rattle.tsb_step.specs.declared.inputs.Input.{Input}
 use Rattle.tsb_step.specs.declared.commands.Cmd.{Cmd}
@@ -13,7 +12,7 @@ use Rattle.tsb_step.specs.declared.commands.Cmd.TheVariants.{Apply, Undo, Back, 
 use Rattle.tsb_step.specs.declared.commands.Answer.{Answer}
 use Rattle.tsb_step.specs.declared.commands.Answer.TheVariants.{Took, Refused, Undone, Moved, Nothing, Changed}
 use Rattle.tsb_step.specs.State.{State, start}
-use Rattle.tsb_step.specs.Step.{step, verdict, kind_of}
+use Rattle.tsb_step.specs.Step.{verdict, kind_of}
 use Rattle.tsb_step.specs.Runs.{replay}
 use Rattle.tsb_step.specs.Past.{Whole, pasts, record_of}
 use Rattle.tsb_step.specs.Watches.{TellsLastChange}

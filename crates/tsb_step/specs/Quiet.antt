@@ -1,5 +1,5 @@
 -- Quiet ticks, in which nothing happens but time: what their records leave out.
-use Rattle.std.specs.Prelude.{◌≡◌, ℕ, ◌+◌, Bool, is_some, if◌then◌else◌}
+use Rattle.std.specs.Prelude.{◌≡◌, ℕ, ◌+◌, is_some, if◌then◌else◌}
 use Rattle.tsb_detect.specs.Detector as detector
 use Rattle.tsb_detect.specs.Detector.{Detector}
 use Rattle.tsb_phase.specs.Phase as phase
