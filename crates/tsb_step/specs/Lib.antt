@@ -13,3 +13,4 @@ pub mod Watches
 pub mod Play
 pub mod Quiet
 pub mod LawMistakes
+pub mod CellsExamples
