@@ -145,7 +145,7 @@ in_stage : (s : State) (row : Row) → IsGood s → (x : Service) → (next s ro
 unfolding new_service
 in_stage s row good x e = new_in_stage s row good x e
 
-good_next : (s : State) (row : Row) → IsGood s → IsGood (next s row)
+pub good_next : (s : State) (row : Row) → IsGood s → IsGood (next s row)
 good_next s row good = record {
   plan = good.plan;
   fit = good.fit;

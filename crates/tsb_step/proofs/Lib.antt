@@ -5,6 +5,8 @@ pub mod ServiceLemmas
 pub mod GivenLemmas
 pub mod GoodLemmas
 pub mod SafeLemmas
+pub mod PlaceLemmas
+pub mod TripLemmas
 pub mod DeskLemmas
 pub mod OnceLemmas
 pub mod DeskRunLemmas

@@ -3,12 +3,14 @@
 -- kind, each of which was taken, from power-up with a plan that breaks no rule.
 --
 -- All are proved, each as the contract of a function that does nothing (src/laws.rt).
-use Rattle.std.specs.Prelude.{◌≡◌, ℕ, Bool, true, false, List, Some, None, ◌⊎◌}
+use Rattle.std.specs.Prelude.{◌≡◌, ℕ, Bool, true, false, not, ◌&&◌, ◌||◌, List, [], ◌∷◌, Some, None, is_some, ◌⊎◌}
 use Rattle.tsb_types.specs.declared.interval.PedestrianInterval.TheVariants.{DontWalk}
 use Rattle.tsb_types.specs.declared.row.Row.{Row}
 use Rattle.tsb_types.specs.Intervals.{in_service, is_green}
 use Rattle.tsb_plan.specs.declared.object.Object.{Object}
+use Rattle.tsb_plan.specs.declared.plan.Plan as memory
 use Rattle.tsb_plan.specs.Plan.{Plan, is_concurrent}
+use Rattle.tsb_plan.specs.PlanOf.{plan_of}
 use Rattle.tsb_objects.specs.Consistent.{AreCompatible}
 use Rattle.tsb_objects.specs.Rules.{first_broken}
 use Rattle.tsb_ring.specs.declared.ring_order.RingOrder.{RingOrder}
@@ -19,6 +21,7 @@ use Rattle.tsb_preempt.specs.Service.{Service, has_track, has_dwell, has_exit, s
 use Rattle.tsb_types.specs.declared.stage.Stage.{Stage}
 use Rattle.tsb_types.specs.declared.stage.Stage.TheVariants.{Track, Dwell, Exit}
 use Rattle.tsb_step.specs.declared.inputs.Input.{Input}
+use Rattle.tsb_step.specs.declared.inputs.Input.TheVariants.{Fault, Reset}
 use Rattle.tsb_step.specs.State.{State, interval}
 use Rattle.tsb_step.specs.Tables.{has_place}
 use Rattle.tsb_step.specs.Tick.{moves, over, next}
@@ -94,3 +97,27 @@ ServesPreempt s = (x : Service) → s.preempts.service ≡ Some x → IsServed s
 
 abbrev pub PreemptsHavePhases : Type 0
 PreemptsHavePhases = OfEveryRun ServesPreempt
+
+-- ## The monitor
+
+-- a fault that lights a lamp
+abbrev pub lights : Input → Bool
+lights (Fault lamp) = is_some lamp
+lights i = false
+
+-- no lamp was lit since power-up, or since the last reset of a controller that had tripped
+abbrev pub is_unlit : Plan → List Input → Bool
+is_unlit plan [] = true
+is_unlit plan (Reset ∷ is) = is_some (replay plan is).trip || is_unlit plan is
+is_unlit plan (i ∷ is) = not (lights i) && is_unlit plan is
+
+-- The controller has not tripped where no lamp was lit.
+abbrev pub FaultsAloneTrip : Type 0
+FaultsAloneTrip = (plan : Plan) (is : List Input) → IsConsistent plan → AreTaken plan is → is_unlit plan is ≡ true →
+    (replay plan is).trip ≡ None
+
+-- ## Plans in memory
+
+-- A plan in memory that breaks no rule is one of those that all this is said of.
+abbrev pub MemoryIsConsistent : Type 0
+MemoryIsConsistent = (plan : memory.Plan) → first_broken (plan_of plan) ≡ None → IsConsistent (plan_of plan)

@@ -1,5 +1,5 @@
 //! What holds of every run of the controller, each law the contract of a function that does nothing.
-ghost use Rattle.tsb_step.specs.Laws.{DisplaysAreSafe, PlansStayConsistent, PreemptsHavePhases, RingsActInEitherOrder, ServedGoTogether, StartsWait, WalksAreBesideGreens};
+ghost use Rattle.tsb_step.specs.Laws.{DisplaysAreSafe, FaultsAloneTrip, MemoryIsConsistent, PlansStayConsistent, PreemptsHavePhases, RingsActInEitherOrder, ServedGoTogether, StartsWait, WalksAreBesideGreens};
 
 /// Whatever ticks, patterns, switches, faults, resets and transactions there were: no display gives right of
 /// way to two phases that are not concurrent in the plan in effect. More than that, any two phases in service
@@ -29,4 +29,15 @@ pub fn rings_act_in_either_order()
 /// concurrent, whatever was committed.
 pub fn preempts_have_phases()
     ensures { PreemptsHavePhases }
+{}
+
+/// Where no lamp was lit by a fault, since power-up or since the last reset of a controller that had tripped,
+/// the controller has not tripped.
+pub fn faults_alone_trip()
+    ensures { FaultsAloneTrip }
+{}
+
+/// A plan in memory that breaks no rule is one of those that the laws of runs speak of.
+pub fn plans_in_memory_are_consistent()
+    ensures { MemoryIsConsistent }
 {}
