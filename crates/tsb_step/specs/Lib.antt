@@ -9,3 +9,16 @@ pub mod OrderExamples
 pub mod SignsExamples
 pub mod StepExamples
 pub mod RefusalExamples
+pub mod Runs
+pub mod Laws
+pub mod Good
+pub mod MonitorCells
+pub mod Cells
+pub mod Past
+pub mod Watches
+pub mod Play
+pub mod Quiet
+pub mod LawMistakes
+pub mod CellsExamples
+pub mod DeskLaws
+pub mod DeskLawMistakes
