@@ -5,6 +5,7 @@ use Rattle.std.specs.Prelude.{ℕ, ◌-◌, ◌^◌, if◌then◌else◌, List, 
 use Rattle.tsb_cells.specs.declared.timer.Timer.TheVariants.{Off, On}
 use Rattle.tsb_types.specs.declared.interval.Interval.{Interval}
 use Rattle.tsb_types.specs.declared.interval.Interval.TheVariants.{Green, RedClear}
+use Rattle.tsb_types.specs.declared.interval.PedestrianInterval.TheVariants.{Walk}
 use Rattle.tsb_types.specs.declared.row.Row.{Row}
 use Rattle.tsb_types.specs.declared.stage.Stage.TheVariants.{Dwell}
 use Rattle.tsb_types.specs.Lists.{among, run_from}
@@ -101,6 +102,10 @@ resting = record red { phases = these (2 ∷ 6 ∷ []) (green 59) all_red }
 
 abbrev pub short : State
 short = record red { phases = these (2 ∷ 6 ∷ []) (green 9) all_red }
+
+-- 2 is Green alone, in a walk
+abbrev pub walking : State
+walking = record red { phases = these (2 ∷ []) (record (green 59) { pedestrian = Walk; pedestrian_timer = On 9 }) all_red }
 
 -- a crossing from 2 and 6 to 3 and 8 is completed in the next tick
 abbrev pub at_barrier : State

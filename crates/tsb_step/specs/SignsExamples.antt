@@ -3,6 +3,7 @@ use Rattle.std.specs.Prelude.{◌≡◌, ℕ, [], ◌∷◌, map, Option, Some, 
 use Rattle.tsb_types.specs.declared.lamp.Aspect.TheVariants.{Dark, Red, Green, FlashingRed}
 use Rattle.tsb_types.specs.declared.lamp.Lamp.{Lamp}
 use Rattle.tsb_types.specs.declared.lamp.Lamp.TheVariants as lamps
+use Rattle.tsb_types.specs.declared.lamp.PedestrianAspect.TheVariants as pedestrian_aspects
 use Rattle.tsb_types.specs.declared.lamp.SignalColor.TheVariants as signals
 use Rattle.tsb_types.specs.declared.stage.Stage.TheVariants.{Dwell}
 use Rattle.tsb_types.specs.Sets.{all_off}
@@ -11,7 +12,7 @@ use Rattle.tsb_step.specs.declared.inputs.Input.TheVariants.{Fault}
 use Rattle.tsb_step.specs.State.{State}
 use Rattle.tsb_step.specs.Signs.{display, local, stage}
 use Rattle.tsb_step.specs.Step.{step}
-use Rattle.tsb_step.specs.Scenes.{opened, after, vehicle, red, resting, at_barrier, entering, dwelling, coordinated}
+use Rattle.tsb_step.specs.Scenes.{opened, after, vehicle, red, resting, walking, at_barrier, entering, dwelling, coordinated}
 
 abbrev pub green_lamp : ℕ → Option Lamp
 green_lamp p = Some (lamps.Phase p signals.Green)
@@ -74,6 +75,10 @@ flashes = refl
 is_its_own : map (display (record resting { lamp = green_lamp 3 })).vehicle (2 ∷ 3 ∷ []) ≡ Green ∷ Red ∷ []
 unfolding opened
 is_its_own = refl
+
+walks : map (display walking).pedestrian (1 ∷ 2 ∷ []) ≡ pedestrian_aspects.Dark ∷ pedestrian_aspects.Walk ∷ []
+unfolding opened
+walks = refl
 
 -- overlap 1 includes 1 and 2: it stays green while ring 1, in whose red clearance 1 is, is committed to 2
 follows : (display entering).overlap 1 ≡ Green

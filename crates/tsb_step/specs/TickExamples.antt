@@ -13,8 +13,15 @@ use Rattle.tsb_phase.specs.Phase as phase
 use Rattle.tsb_ring.specs.Rings.{Ring1, Ring2}
 use Rattle.tsb_transact.specs.Desk.{closed}
 use Rattle.tsb_transact.specs.declared.desk_state.DeskState.TheVariants.{Transaction}
-use Rattle.tsb_step.specs.State.{State, interval, pedestrian_part}
-use Rattle.tsb_step.specs.Scenes.{opened, after, vehicle, button, green, clearing, these, all_red, called, intervals, red, resting, short, at_barrier, entering, coordinated}
+use Rattle.tsb_step.specs.State.{State, start, interval, pedestrian_part}
+use Rattle.tsb_step.specs.Scenes.{opened, after, vehicle, button, green, clearing, these, all_red, called, intervals, red, resting, short, walking, at_barrier, entering, coordinated}
+
+-- ## From power-up
+
+-- phases 2 and 6, which are recalled, start in the first tick
+starts : intervals (after (start quad) all_off) ≡ Red ∷ Green ∷ Red ∷ Red ∷ Red ∷ Green ∷ Red ∷ Red ∷ []
+unfolding opened
+starts = refl
 
 -- ## Detectors
 
@@ -102,9 +109,6 @@ unfolding opened
 waits = refl
 
 -- in a walk it is not
-abbrev pub walking : State
-walking = record resting { phases = these (2 ∷ []) (record (green 59) { pedestrian = Walk; pedestrian_timer = On 9 }) all_red }
-
 waits_not : (after walking (button 2)).memories.pedestrian 2 ≡ false
 unfolding opened
 waits_not = refl
