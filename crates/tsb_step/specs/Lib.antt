@@ -22,3 +22,4 @@ pub mod LawMistakes
 pub mod CellsExamples
 pub mod DeskLaws
 pub mod DeskLawMistakes
+pub mod ClearanceLaws
