@@ -1,1 +1,5 @@
 pub mod Plans
+pub mod Stands
+pub mod Layers
+pub mod Served
+pub mod Timing
