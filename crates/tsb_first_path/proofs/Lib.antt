@@ -5,3 +5,4 @@ pub mod CallLemmas
 pub mod PreemptLemmas
 pub mod ServedLemmas
 pub mod PhaseLemmas
+pub mod RingLemmas
