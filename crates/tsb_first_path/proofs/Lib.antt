@@ -6,3 +6,4 @@ pub mod PreemptLemmas
 pub mod ServedLemmas
 pub mod PhaseLemmas
 pub mod RingLemmas
+pub mod HeadLemmas

@@ -3,3 +3,4 @@ pub mod Stands
 pub mod Layers
 pub mod Served
 pub mod Timing
+pub mod Laws

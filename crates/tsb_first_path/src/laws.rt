@@ -1,6 +1,7 @@
 //! What holds of the first path and of the whole controller, each law the contract of a function that does nothing.
 ghost use Rattle.tsb_first_path.specs.Plans.{AcceptedPlansAreFirst};
 ghost use Rattle.tsb_first_path.specs.Layers.{RestStays, RestIsSilent, NoDetectorCalls, NothingIsRemembered, NothingIsLeftBehind, CallsAreRecalls, ConflictsAreOfRecalls, NoPedestrianCalls, FreeOperationAsksNothing, PreemptsAreIdle, PreemptsStay};
+ghost use Rattle.tsb_first_path.specs.Laws.{MonitorIsContent, WholeFollowsFirstPath, WholeGivesFirstPath, RefusesAlike, WholeShowsFirstPath};
 ghost use Rattle.tsb_first_path.specs.Timing.{PowerUpIsServed, TicksKeepServed, GreensAreReady, GreensAreGapped, ClearancesAreOver, RevertsHavePassed, PhasesMoveAlike, RingsAreOne, MovesAreOne};
 
 /// What a plan that is accepted so far does not use, and what its phases are like.
@@ -54,4 +55,22 @@ pub fn phases_time_alike()
 pub fn rings_are_one()
     ensures next { RingsAreOne }
     ensures moves { MovesAreOne }
+{}
+
+/// The monitor finds nothing to trip on.
+pub fn monitor_is_content()
+    ensures { MonitorIsContent }
+{}
+
+/// The whole controller, from power-up on, is in the state that the bench's state stands for, whatever the
+/// inputs of the row; and where they are all off, it is that very state. It refuses a tick where the bench does.
+pub fn whole_step_gives_first_path()
+    ensures follows { WholeFollowsFirstPath }
+    ensures gives { WholeGivesFirstPath }
+    ensures refuses { RefusesAlike }
+{}
+
+/// Its heads show what the bench shows.
+pub fn whole_step_shows_first_path()
+    ensures { WholeShowsFirstPath }
 {}
