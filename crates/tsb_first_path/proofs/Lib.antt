@@ -7,3 +7,5 @@ pub mod ServedLemmas
 pub mod PhaseLemmas
 pub mod RingLemmas
 pub mod HeadLemmas
+pub mod StepLemmas
+pub mod RunLemmas
