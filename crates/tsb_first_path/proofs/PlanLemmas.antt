@@ -9,9 +9,10 @@ use Rattle.tsb_plan.specs.declared.object.Object.{Object}
 use Rattle.tsb_plan.specs.declared.object.Object.TheVariants.{PhaseEnabled, PhaseMinRecall, PhaseSoftRecall, PhaseSimGapDisable, PhaseVariableInitial, PhaseWalk, PhaseTimeToReduce, PhasePassage, PhaseRedRevert, PhaseMinimumGap, PhaseCarsBeforeReduction, VehicleDetectorCallPhase, VehicleDetectorNoActivity, VehicleDetectorErraticCounts, PedestrianDetectorCallPhase, OverlapIncludedPhases, PreemptDwellPhase, UnitRedRevert, PhaseDynamicMaxLimit, PhaseDynamicMaxStep}
 use Rattle.tsb_plan.specs.Objects.{objects, order, indices, has_index}
 use Rattle.tsb_plan.specs.Plan.{Plan, is_enabled, has_maximum_recall, ring_of, side_of, sequence}
+use Rattle.tsb_plan.specs.PlanOf.{plan_in}
 use Rattle.tsb_plan.proofs.TableLemmas.{at-order, order-below, length-objects}
 use Rattle.tsb_objects.specs.declared.rules.Rule.{Rule}
-use Rattle.tsb_objects.specs.Built.{is_released, keeps_zeros, uses_released_only, is_of_one_ring, is_alone, are_alone_on_sides, are_on_maximum_recall, is_built, objection_in}
+use Rattle.tsb_objects.specs.Built.{is_released, keeps_zeros, uses_released_only, is_of_one_ring, are_alone_on_sides, are_on_maximum_recall, is_built, objection_in}
 use Rattle.tsb_objects.specs.Consistent.{IsPhase, IsPlaced, ListsRings}
 use Rattle.tsb_objects.specs.Rules.{first_broken}
 use Rattle.tsb_objects.specs.SequenceRules.{each_phase}
@@ -28,7 +29,6 @@ unobjected-parts None false e = cc
 
 record AreBuilt (plan : Plan) : Type 0 where
   ring : is_of_one_ring plan ≡ true
-  alone : are_alone_on_sides plan ≡ true
   recall : are_on_maximum_recall plan ≡ true
   zeros : uses_released_only plan ≡ true
 
@@ -38,7 +38,7 @@ built plan e =
     let one = both (is_of_one_ring plan) _ e in
     let two = both (are_alone_on_sides plan) _ one.1 in
     let three = both (are_on_maximum_recall plan) _ two.1 in
-    record { ring = one.0; alone = two.0; recall = three.0; zeros = three.1 }
+    record { ring = one.0; recall = three.0; zeros = three.1 }
 
 -- ## Objects that are 0
 
@@ -114,22 +114,6 @@ of-first-path plan table sound are p on =
       listed = lists.first.each p is on ring;
     }
 
-same-or-apart : (p q : ℕ) (b : Bool) → ((p == q) || not b) ≡ true → b ≡ true → p ≡ q
-same-or-apart p q true e on = elim (cases_Bool (p == q)) [
-  | inl same ↦ grind (arith, nat_tests, same)
-  | inr other ↦ let no : false ≡ true = rw other at e in absurd cc
-]
-same-or-apart p q false e on = cc
-
-apart : (plan : Plan) → IsInTable plan → are_alone_on_sides plan ≡ true → (p q : ℕ) → is_enabled plan p ≡ true → is_enabled plan q ≡ true →
-    side_of plan p ≡ side_of plan q → p ≡ q
-unfolding is_alone
-apart plan table all p q on also same =
-    let alone : is_alone plan p ≡ true = at-enabled plan (is_alone plan) p all (is-phase plan table p on) on in
-    let either : (p == q || not (side_of plan p == side_of plan q)) ≡ true =
-    at-enabled plan (λ x. p == x || not (side_of plan p == side_of plan x)) q alone (is-phase plan table q also) also in
-    same-or-apart p q (side_of plan p == side_of plan q) either (grind (arith, nat_tests, same))
-
 -- ## The plan
 
 pub accepted_plans_are_first : (plan : Plan) → IsAccepted plan → IsFirst plan
@@ -161,5 +145,7 @@ accepted_plans_are_first plan is =
         unit_revert = none UnitRedRevert (λ i. refl);
       };
       each = of-first-path plan is.table parts.0 are;
-      apart = apart plan is.table are.alone;
     }
+
+pub plans_in_memory_are_in_table : (cells : List ℕ) → IsInTable (plan_in cells)
+plans_in_memory_are_in_table cells = record { phase_count = refl; side_count = refl; outside = λ o i none. rw none refl }

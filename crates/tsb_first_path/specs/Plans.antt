@@ -1,12 +1,13 @@
 -- The plans that the bench accepts so far, and what is known of each: which objects are 0 at every index, and what its
 -- enabled phases are like. Names of objects are those of NTCIP 1202; that only such plans are accepted, until all parts of
 -- the controller are built, is the profile's own.
-use Rattle.std.specs.Prelude.{◌≡◌, ℕ, ◌≤◌, true, false, None}
+use Rattle.std.specs.Prelude.{◌≡◌, ℕ, ◌≤◌, true, false, List, None}
 use Rattle.tsb_types.specs.Lists.{among}
 use Rattle.tsb_plan.specs.declared.object.Object.{Object}
 use Rattle.tsb_plan.specs.declared.object.Object.TheVariants.{PhaseMinRecall, PhaseSoftRecall, PhaseSimGapDisable, PhaseVariableInitial, PhaseWalk, PhaseTimeToReduce, PhasePassage, PhaseRedRevert, PhaseMinimumGap, PhaseCarsBeforeReduction, VehicleDetectorCallPhase, VehicleDetectorNoActivity, VehicleDetectorErraticCounts, PedestrianDetectorCallPhase, OverlapIncludedPhases, PreemptDwellPhase, UnitRedRevert, PhaseDynamicMaxLimit, PhaseDynamicMaxStep}
 use Rattle.tsb_plan.specs.Objects.{has_index}
 use Rattle.tsb_plan.specs.Plan.{Plan, is_enabled, has_maximum_recall, ring_of, side_of, sequence}
+use Rattle.tsb_plan.specs.PlanOf.{plan_in}
 use Rattle.tsb_objects.specs.Built.{objection}
 
 -- The plan has the numbers of phases and sides of the table of objects, and says 0 at each index that an object has not.
@@ -87,9 +88,11 @@ pub record IsFirst (plan : Plan) : Type 0 where
   pub overlaps : HasNoOverlaps plan
   pub phases : HasPlainPhases plan
   pub each : (p : ℕ) → is_enabled plan p ≡ true → IsOfFirstPath plan p
-  -- each phase is alone on its side
-  pub apart : (p q : ℕ) → is_enabled plan p ≡ true → is_enabled plan q ≡ true → side_of plan p ≡ side_of plan q → p ≡ q
 
 -- Every plan that is accepted so far is like that.
 abbrev pub AcceptedPlansAreFirst : Type 0
 AcceptedPlansAreFirst = (plan : Plan) → IsAccepted plan → IsFirst plan
+
+-- What the cells of a plan say is in the table, whatever is in them.
+abbrev pub PlansInMemoryAreInTable : Type 0
+PlansInMemoryAreInTable = (cells : List ℕ) → IsInTable (plan_in cells)

@@ -1,12 +1,14 @@
 //! What holds of the first path and of the whole controller, each law the contract of a function that does nothing.
-ghost use Rattle.tsb_first_path.specs.Plans.{AcceptedPlansAreFirst};
+ghost use Rattle.tsb_first_path.specs.Plans.{AcceptedPlansAreFirst, PlansInMemoryAreInTable};
 ghost use Rattle.tsb_first_path.specs.Layers.{RestStays, RestIsSilent, NoDetectorCalls, NothingIsRemembered, NothingIsLeftBehind, CallsAreRecalls, ConflictsAreOfRecalls, NoPedestrianCalls, FreeOperationAsksNothing, PreemptsAreIdle, PreemptsStay};
 ghost use Rattle.tsb_first_path.specs.Laws.{MonitorIsContent, WholeFollowsFirstPath, WholeGivesFirstPath, RefusesAlike, WholeShowsFirstPath};
 ghost use Rattle.tsb_first_path.specs.Timing.{PowerUpIsServed, TicksKeepServed, GreensAreReady, GreensAreGapped, ClearancesAreOver, RevertsHavePassed, PhasesMoveAlike, RingsAreOne, MovesAreOne};
 
-/// What a plan that is accepted so far does not use, and what its phases are like.
+/// What a plan that is accepted so far does not use, and what its phases are like. Of a plan in memory no more is asked
+/// than that.
 pub fn accepted_plans_are_first()
-    ensures { AcceptedPlansAreFirst }
+    ensures first { AcceptedPlansAreFirst }
+    ensures table { PlansInMemoryAreInTable }
 {}
 
 /// Detectors whose inputs are off stay at rest, and none calls a phase.
