@@ -1,12 +1,11 @@
 -- Calls on a plan of the first path.
-use Rattle.std.proofs.Common.{◌≡◌, ℕ, ◌+◌, ◌==◌, nat_le, Bool, true, false, not, ◌&&◌, ◌||◌, if◌then◌else◌, Option, Some, None, refl, sym, ◌∙◌, ap, inl, inr}
+use Rattle.std.proofs.Common.{◌≡◌, ℕ, ◌==◌, Bool, true, false, not, ◌&&◌, ◌||◌, if◌then◌else◌, None, refl, ◌∙◌, ap, inl, inr}
 use Rattle.std.proofs.Math.Path.{fun_ext}
 use Rattle.std.proofs.lemmas.Bool.{cases_Bool}
-use Rattle.tsb_types.specs.Intervals.{is_green, is_walk}
+use Rattle.tsb_types.specs.Intervals.{is_green}
 use Rattle.tsb_plan.specs.Plan.{Plan, phases, is_enabled, is_non_locking, has_maximum_recall, is_concurrent}
-use Rattle.tsb_plan.specs.Running.{is_on_minimum_recall, is_on_maximum_recall}
 use Rattle.tsb_objects.specs.Rules.{serves_pedestrians}
-use Rattle.tsb_calls.specs.Memories.{Memories, Given, at_power_up, has_output, actuations, has_button, vehicle_memory, pedestrian_memory, counted, as_set, was_green}
+use Rattle.tsb_calls.specs.Memories.{Memories, Given, at_power_up, vehicle_memory, pedestrian_memory, counted, as_set, was_green}
 use Rattle.tsb_calls.specs.Callable as callable
 use Rattle.tsb_calls.specs.Callable.{is_callable_otherwise, some_is_callable_otherwise, is_callable, has_conflict, has_pedestrian_call}
 use Rattle.tsb_calls.specs.Settled as settled
@@ -86,12 +85,6 @@ nothing_is_left_behind plan is given free done gaps = λ i. record {
     count p = rw (counts-none plan is given p) (either-way (done.ends p) 0)
 
 -- ## Callable phases
-
-minimum-none : (plan : Plan) → IsFirst plan → (p : ℕ) → is_on_minimum_recall plan None p ≡ false
-minimum-none plan is p = rw (is.recalls.minimum p) refl
-
-maximum-own : (plan : Plan) (p : ℕ) → is_on_maximum_recall plan None p ≡ has_maximum_recall plan p
-maximum-own plan p = or-false (has_maximum_recall plan p)
 
 called : (plan : Plan) → IsFirst plan → (given : Given) → given.runs ≡ None → (p : ℕ) → callable.is_called plan given at_power_up p ≡ has_maximum_recall plan p
 called plan is given runs p =

@@ -1,22 +1,19 @@
 -- Detectors at rest.
-use Rattle.std.proofs.Common.{◌≡◌, ℕ, ◌+◌, ◌*◌, ◌==◌, Bool, true, false, ◌&&◌, if◌then◌else◌, Option, Some, None, refl, sym, ◌∙◌, ap, inl, inr}
+use Rattle.std.proofs.Common.{◌≡◌, ℕ, ◌+◌, Bool, false, ◌&&◌, refl, inl, inr}
 use Rattle.std.proofs.Math.Path.{fun_ext}
 use Rattle.std.proofs.lemmas.Bool.{cases_Bool}
 use Rattle.tsb_cells.specs.declared.timer.Timer.{Timer}
 use Rattle.tsb_cells.specs.declared.timer.Timer.TheVariants.{Off, On}
-use Rattle.tsb_cells.specs.Timer.{is_on, has_reached}
-use Rattle.tsb_types.specs.Lists.{is}
 use Rattle.tsb_types.specs.Sets.{has_number, all_off}
 use Rattle.tsb_types.proofs.SetLemmas.{names-zero}
 use Rattle.tsb_plan.specs.Plan.{Plan}
-use Rattle.tsb_plan.specs.Parts.{call_phase, unless_zero, no_activity, erratic_counts}
 use Rattle.tsb_detect.specs.Detector as detector
 use Rattle.tsb_detect.specs.Detector.{Detector, is_detector, is_minute, all_after, next}
 use Rattle.tsb_calls.specs.Memories as calls_of
 use Rattle.tsb_calls.specs.Memories.{calls, has_output, actuations, vehicle_detectors}
 use Rattle.tsb_first_path.specs.Plans.{HasNoDetectors}
 use Rattle.tsb_first_path.specs.Stands.{at_rest}
-use Rattle.tsb_first_path.proofs.ListLemmas.{some-never, count-never, and-false}
+use Rattle.tsb_first_path.proofs.ListLemmas.{some-never, count-never}
 
 -- one detector at rest
 one-rests : (plan : Plan) → HasNoDetectors plan → (t d n : ℕ) (green : Timer) →
@@ -49,6 +46,7 @@ calls-none plan has d p b = rw (has.calls d) refl
 pub no_detector_calls : (plan : Plan) → HasNoDetectors plan → (given : calls_of.Given) (p : ℕ) →
     (has_output plan given p ≡ false) × (actuations plan given p ≡ 0)
 unfolding has_output actuations
-no_detector_calls plan has given p =
-    (some-never (λ d. calls plan d p && given.output d) vehicle_detectors (λ d. calls-none plan has d p (given.output d)),
-    count-never (λ d. calls plan d p && given.actuated d) vehicle_detectors (λ d. calls-none plan has d p (given.actuated d)))
+no_detector_calls plan has given p = (
+  some-never (λ d. calls plan d p && given.output d) vehicle_detectors (λ d. calls-none plan has d p (given.output d)),
+  count-never (λ d. calls plan d p && given.actuated d) vehicle_detectors (λ d. calls-none plan has d p (given.actuated d)),
+)

@@ -1,15 +1,11 @@
 -- The heads of the whole controller in a state of the first path, and that the monitor finds nothing to trip on.
-use Rattle.std.proofs.Common.{◌≡◌, ◌⊎◌, ℕ, ◌+◌, ◌==◌, Bool, true, false, not, ◌&&◌, ◌||◌, if◌then◌else◌, Option, Some, None, refl, sym, ◌∙◌, ap, inl, inr}
-use Rattle.std.specs.Option.{option_map, option_or}
-use Rattle.std.proofs.lemmas.Bool.{cases_Bool, and_parts}
+use Rattle.std.proofs.Common.{◌≡◌, ℕ, Bool, true, false, ◌&&◌, ◌||◌, if◌then◌else◌, None, refl, sym, ◌∙◌, inl, inr}
+use Rattle.std.proofs.lemmas.Bool.{cases_Bool}
 use Rattle.tsb_types.specs.declared.interval.Interval.{Interval}
 use Rattle.tsb_types.specs.declared.interval.Interval.TheVariants.{Red, Green, Yellow, RedClear}
-use Rattle.tsb_types.specs.declared.lamp.Aspect.{Aspect}
 use Rattle.tsb_types.specs.declared.lamp.Aspect.TheVariants.{Dark}
-use Rattle.tsb_types.specs.declared.lamp.PedestrianAspect.TheVariants as pedestrian_aspects
 use Rattle.tsb_types.specs.declared.row.Row.{Row}
-use Rattle.tsb_types.specs.Intervals.{in_service, is_green}
-use Rattle.tsb_types.specs.Lists.{first}
+use Rattle.tsb_types.specs.Intervals.{in_service}
 use Rattle.tsb_plan.specs.Plan.{Plan, phases, is_enabled}
 use Rattle.tsb_detect.specs.Detector.{Detector}
 use Rattle.tsb_preempt.specs.Preempts.{Preempts}
@@ -99,6 +95,8 @@ pub monitor_is_content : (b : bench.State) → IsFirst b.plan → IsServed b.pla
 unfolding monitor.green_to_red
 monitor_is_content b is served row d e v w =
     let after : bench.State = bench.step b (bench_inputs.Tick row) in
-    rw (safe_heads_do_not_conflict b.plan (field (as_whole_with e w after))
-    (field-safe after is (ticks_keep_served b.plan is b.signals served) e w),
-    first-never (monitor.goes_red (field (as_whole_with d v b)) (field (as_whole_with e w after))) (phases b.plan) (never-red b row d e v w)) refl
+    rw (
+      safe_heads_do_not_conflict b.plan (field (as_whole_with e w after))
+          (field-safe after is (ticks_keep_served b.plan is b.signals served) e w),
+      first-never (monitor.goes_red (field (as_whole_with d v b)) (field (as_whole_with e w after))) (phases b.plan) (never-red b row d e v w),
+    ) refl

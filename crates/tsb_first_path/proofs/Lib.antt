@@ -5,6 +5,8 @@ pub mod CallLemmas
 pub mod PreemptLemmas
 pub mod ServedLemmas
 pub mod PhaseLemmas
+pub mod WantLemmas
+pub mod CrossingLemmas
 pub mod RingLemmas
 pub mod HeadLemmas
 pub mod StepLemmas

@@ -1,5 +1,5 @@
 -- Phase timing on a plan of the first path.
-use Rattle.std.proofs.Common.{◌≡◌, ℕ, ◌+◌, ◌==◌, nat_le, Bool, true, false, not, ◌&&◌, ◌||◌, if◌then◌else◌, Option, Some, None, refl, arith, sym, ◌∙◌, ap, inl, inr}
+use Rattle.std.proofs.Common.{◌≡◌, ℕ, ◌==◌, Bool, true, false, not, ◌&&◌, ◌||◌, if◌then◌else◌, Option, None, refl, arith, sym, ◌∙◌, ap, inl, inr}
 use Rattle.std.proofs.lemmas.Bool.{cases_Bool, and_parts}
 use Rattle.std.proofs.lemmas.Bool.Decides.{nat_tests}
 use Rattle.tsb_cells.specs.declared.timer.Timer.{Timer}
@@ -9,23 +9,20 @@ use Rattle.tsb_types.specs.declared.interval.Interval.{Interval}
 use Rattle.tsb_types.specs.declared.interval.Interval.TheVariants.{Red, Green, Yellow, RedClear}
 use Rattle.tsb_types.specs.declared.interval.PedestrianInterval.TheVariants.{DontWalk}
 use Rattle.tsb_types.specs.Intervals.{in_service, is_green, is_yellow}
-use Rattle.tsb_plan.specs.Plan.{Plan, is_enabled, has_maximum_recall, minimum_green, maximum, yellow_change, red_clear, red_revert, time_before_reduction}
-use Rattle.tsb_plan.specs.Running.{is_on_maximum_recall}
-use Rattle.tsb_phase.specs.Phase as phase
+use Rattle.tsb_plan.specs.Plan.{Plan, has_maximum_recall, minimum_green, maximum, yellow_change, red_clear, red_revert, time_before_reduction}
 use Rattle.tsb_phase.specs.Phase.{Phase, Held, held_of}
 use Rattle.tsb_phase.specs.Green as green
-use Rattle.tsb_phase.specs.DynamicMaximum.{maximum_in_use, is_dynamic}
+use Rattle.tsb_phase.specs.DynamicMaximum.{maximum_in_use}
 use Rattle.tsb_phase.specs.Pedestrian.{pedestrian_now}
 use Rattle.tsb_phase.specs.Ready as timing
 use Rattle.tsb_phase.specs.Next as phase_next
-use Rattle.tsb_bench.specs.declared.phase_timers.PhaseTimers.{PhaseTimers}
 use Rattle.tsb_bench.specs.Signals as bench
 use Rattle.tsb_bench.specs.Signals.{Signals}
 use Rattle.tsb_first_path.specs.Plans.{IsFirst}
 use Rattle.tsb_first_path.specs.Served.{IsServed, told_phases, moved}
 use Rattle.tsb_first_path.specs.Stands.{phase_of}
 use Rattle.tsb_first_path.proofs.ListLemmas.{and-false, or-false}
-use Rattle.tsb_first_path.proofs.ServedLemmas.{starts-from_red, over-served}
+use Rattle.tsb_first_path.proofs.ServedLemmas.{starts-from_red}
 
 -- ## Ready
 

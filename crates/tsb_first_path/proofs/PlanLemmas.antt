@@ -1,14 +1,13 @@
 -- What is known of a plan that the bench accepts so far.
-use Rattle.std.proofs.Common.{◌≡◌, ◌≢◌, if◌then◌else◌, ℕ, zero, suc, ◌+◌, ◌<◌, ◌≤◌, ◌==◌, nat_le, Bool, true, false, not, ◌&&◌, ◌||◌, List, length, get_or, Option, Some, None, refl, arith, sym, ◌∙◌, ap, subst, inl, inr, rules}
+use Rattle.std.proofs.Common.{◌≡◌, ℕ, ◌<◌, ◌≤◌, ◌==◌, nat_le, Bool, true, false, not, ◌||◌, List, length, get_or, Option, Some, None, refl, arith, subst, inl, inr}
 use Rattle.std.specs.List.{list_all}
-use Rattle.std.proofs.lemmas.Bool.{cases_eq, cases_Bool, cases_lt}
+use Rattle.std.proofs.lemmas.Bool.{cases_Bool}
 use Rattle.std.proofs.lemmas.Bool.Decides.{nat_tests}
 use Rattle.std.proofs.lemmas.List.Folds.{list_all_at}
-use Rattle.tsb_types.specs.Lists.{run_from, among}
 use Rattle.tsb_plan.specs.declared.object.Object.{Object}
 use Rattle.tsb_plan.specs.declared.object.Object.TheVariants.{PhaseEnabled, PhaseMinRecall, PhaseSoftRecall, PhaseSimGapDisable, PhaseVariableInitial, PhaseWalk, PhaseTimeToReduce, PhasePassage, PhaseRedRevert, PhaseMinimumGap, PhaseCarsBeforeReduction, VehicleDetectorCallPhase, VehicleDetectorNoActivity, VehicleDetectorErraticCounts, PedestrianDetectorCallPhase, OverlapIncludedPhases, PreemptDwellPhase, UnitRedRevert, PhaseDynamicMaxLimit, PhaseDynamicMaxStep}
 use Rattle.tsb_plan.specs.Objects.{objects, order, indices, has_index}
-use Rattle.tsb_plan.specs.Plan.{Plan, is_enabled, has_maximum_recall, ring_of, side_of, sequence}
+use Rattle.tsb_plan.specs.Plan.{Plan, is_enabled, has_maximum_recall, ring_of}
 use Rattle.tsb_plan.specs.PlanOf.{plan_in}
 use Rattle.tsb_plan.proofs.TableLemmas.{at-order, order-below, length-objects}
 use Rattle.tsb_objects.specs.declared.rules.Rule.{Rule}

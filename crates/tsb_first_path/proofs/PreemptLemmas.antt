@@ -1,5 +1,5 @@
 -- Preempts without dwell phases.
-use Rattle.std.proofs.Common.{◌≡◌, ℕ, ◌==◌, Bool, true, false, not, ◌&&◌, ◌||◌, Option, Some, None, refl, sym, ◌∙◌, ap}
+use Rattle.std.proofs.Common.{◌≡◌, ℕ, false, None, refl, ◌∙◌, ap}
 use Rattle.std.specs.Prelude.{is_none}
 use Rattle.std.proofs.Math.Path.{fun_ext}
 use Rattle.tsb_cells.specs.declared.timer.Timer.{Timer}

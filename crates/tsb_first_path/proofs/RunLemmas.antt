@@ -1,10 +1,10 @@
 -- The whole controller from power-up on, tick by tick.
-use Rattle.std.proofs.Common.{◌≡◌, ℕ, zero, suc, ◌+◌, Bool, true, false, if◌then◌else◌, List, [], ◌∷◌, Option, Some, None, refl, sym, ◌∙◌, ap}
+use Rattle.std.proofs.Common.{◌≡◌, ℕ, zero, suc, ◌+◌, Bool, true, false, if◌then◌else◌, List, [], ◌∷◌, None, refl, sym, ◌∙◌, ap}
 use Rattle.std.proofs.Math.Path.{fun_ext}
 use Rattle.tsb_cells.specs.declared.timer.Timer.{Timer}
 use Rattle.tsb_cells.specs.declared.timer.Timer.TheVariants.{Off}
 use Rattle.tsb_types.specs.declared.row.Row.{Row}
-use Rattle.tsb_types.specs.Sets.{all_off, has_number}
+use Rattle.tsb_types.specs.Sets.{all_off}
 use Rattle.tsb_types.proofs.SetLemmas.{names-zero}
 use Rattle.tsb_plan.specs.Plan.{Plan}
 use Rattle.tsb_detect.specs.Detector as detector
@@ -18,7 +18,6 @@ use Rattle.tsb_step.specs.declared.inputs.Input.TheVariants as whole_inputs
 use Rattle.tsb_step.specs.State as whole
 use Rattle.tsb_step.specs.Tick as tick
 use Rattle.tsb_step.specs.Step as whole_step
-use Rattle.tsb_step.specs.Signs.{display}
 use Rattle.tsb_first_path.specs.Plans.{IsAccepted, IsFirst}
 use Rattle.tsb_first_path.specs.Served.{IsServed}
 use Rattle.tsb_first_path.specs.Stands.{of_ring_1, at_rest, waiting, as_whole_with, as_whole}

@@ -9,8 +9,7 @@ use Rattle.tsb_types.specs.Intervals.{in_service, is_green}
 use Rattle.tsb_types.specs.Lists.{first, some_passes, later, not_later, is, among, run_from}
 use Rattle.tsb_plan.specs.Plan.{Plan, is_enabled, side_of}
 use Rattle.tsb_plan.specs.Plan.{phases, sides_after}
-use Rattle.tsb_bench.specs.Signals.{Signals, power_up, next, next_from_read, as_read, serving, starting, start_now, idle_pick, starts, is_over, is_over_in, is_none_or_over, has_reverted, is_ready, is_callable, want, want_by, want_within, want_elsewhere_by, go_or, is_candidate, is_elsewhere, is_idle_or_green, order, may_take, taken, pick, wants_cross, wants_phase, begins, some_on_side, target_side, entry, own_commitment, committed, ends, clears, new_interval, next_interval, new_commitment, yellow_is_done}
-use Rattle.tsb_bench.specs.SignalsCells.{IsAlone}
+use Rattle.tsb_bench.specs.Signals.{Signals, power_up, next, as_read, serving, starting, start_now, idle_pick, starts, is_over, is_over_in, is_none_or_over, has_reverted, is_ready, is_callable, want, want_within, want_elsewhere_by, is_candidate, is_elsewhere, is_idle_or_green, order, may_take, pick, wants_cross, wants_phase, begins, some_on_side, target_side, entry, own_commitment, committed, ends, clears, new_interval, next_interval, new_commitment, yellow_is_done}
 use Rattle.tsb_bench.proofs.LeftLemmas.{serving-is}
 use Rattle.tsb_bench.proofs.SafeLemmas.{AreListed, alone-next}
 use Rattle.tsb_first_path.specs.Plans.{IsFirst}
@@ -144,17 +143,6 @@ cross-elsewhere plan s e = elim (cases_Bool (some_passes (is_elsewhere plan (is_
             | inr rest ↦ let h : false ≡ true = rw (on, none, here, rest) at e in cc
           ]
         ]
-  ]
-]
-
--- a want is found only of a ring without a commitment
-wants-uncommitted : (plan : Plan) (s : Signals) → wants_cross (want plan s) ≡ true → s.commitment ≡ None
-unfolding want
-wants-uncommitted plan s e = elim (option-cases s.commitment) [
-  | inr none ↦ none
-  | inl found ↦ elim (cases_Bool (is_none s.crossing)) [
-    | inl clear ↦ let h : false ≡ true = rw (clear, found.1) at e in cc
-    | inr off ↦ let h : false ≡ true = rw off at e in cc
   ]
 ]
 

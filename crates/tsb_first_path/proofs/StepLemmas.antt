@@ -1,22 +1,17 @@
 -- One tick of the whole controller in a state of the first path.
-use Rattle.std.proofs.Common.{◌≡◌, ℕ, ◌+◌, ◌==◌, Bool, true, false, not, ◌&&◌, ◌||◌, if◌then◌else◌, Option, Some, None, is_some, refl, sym, ◌∙◌, ap, inl, inr}
-use Rattle.std.specs.Option.{option_map}
+use Rattle.std.proofs.Common.{◌≡◌, ℕ, ◌+◌, true, false, ◌&&◌, None, refl, sym, ◌∙◌, ap}
 use Rattle.std.proofs.Math.Path.{fun_ext}
-use Rattle.std.proofs.lemmas.Bool.{cases_Bool, and_parts}
+use Rattle.std.proofs.lemmas.Bool.{and_parts}
 use Rattle.tsb_cells.specs.declared.timer.Timer.{Timer}
 use Rattle.tsb_cells.specs.Timer.{advanced}
 use Rattle.tsb_types.specs.declared.row.Row.{Row}
 use Rattle.tsb_types.specs.Intervals.{is_green}
-use Rattle.tsb_plan.specs.Plan.{Plan}
 use Rattle.tsb_detect.specs.Detector.{Detector}
 use Rattle.tsb_calls.specs.Memories as calls
 use Rattle.tsb_calls.specs.Callable as called
-use Rattle.tsb_calls.specs.Settled as settled
 use Rattle.tsb_phase.specs.Phase as phase
 use Rattle.tsb_phase.specs.Next as phase_next
-use Rattle.tsb_ring.specs.Rings as rings
 use Rattle.tsb_ring.specs.Moves as ring_moves
-use Rattle.tsb_ring.specs.Next as rings_next
 use Rattle.tsb_preempt.specs.Preempts as preempts
 use Rattle.tsb_bench.specs.declared.inputs.Input.TheVariants as bench_inputs
 use Rattle.tsb_bench.specs.Signals as signals
@@ -25,7 +20,7 @@ use Rattle.tsb_bench.specs.State as bench
 use Rattle.tsb_step.specs.declared.inputs.Input.TheVariants as whole_inputs
 use Rattle.tsb_step.specs.State as whole
 use Rattle.tsb_step.specs.Tick as tick
-use Rattle.tsb_step.specs.Signs.{watched, field}
+use Rattle.tsb_step.specs.Signs.{watched}
 use Rattle.tsb_step.specs.Step as whole_step
 use Rattle.tsb_first_path.specs.Plans.{IsFirst}
 use Rattle.tsb_first_path.specs.Layers.{IsFree, IsIdle}

@@ -57,12 +57,14 @@ NothingIsLeftBehind = (plan : Plan) → IsFirst plan → (given : calls.Given) �
 -- Without memories the phases that are callable are those of the first path: enabled, not Green, on maximum recall. No
 -- phase has a pedestrian call.
 abbrev pub CallsAreRecalls : Type 0
-CallsAreRecalls = (plan : Plan) → IsFirst plan → (given : calls.Given) → IsFree given → (s : Signals) → given.interval ≡ s.interval →
-    (p : ℕ) → callable.is_callable plan given calls.at_power_up p ≡ signals.is_callable plan s p
+CallsAreRecalls = (plan : Plan) → IsFirst plan → (given : calls.Given) → IsFree given →
+    (s : Signals) → given.interval ≡ s.interval → (p : ℕ) →
+    callable.is_callable plan given calls.at_power_up p ≡ signals.is_callable plan s p
 
 abbrev pub ConflictsAreOfRecalls : Type 0
-ConflictsAreOfRecalls = (plan : Plan) → IsFirst plan → (given : calls.Given) → IsFree given → (s : Signals) → given.interval ≡ s.interval →
-    (p : ℕ) → callable.has_conflict plan given calls.at_power_up p ≡ signals.has_conflict plan s p
+ConflictsAreOfRecalls = (plan : Plan) → IsFirst plan → (given : calls.Given) → IsFree given →
+    (s : Signals) → given.interval ≡ s.interval → (p : ℕ) →
+    callable.has_conflict plan given calls.at_power_up p ≡ signals.has_conflict plan s p
 
 abbrev pub NoPedestrianCalls : Type 0
 NoPedestrianCalls = (plan : Plan) → IsFirst plan → (given : calls.Given) (m : calls.Memories) (p : ℕ) →

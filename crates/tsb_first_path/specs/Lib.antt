@@ -4,3 +4,4 @@ pub mod Layers
 pub mod Served
 pub mod Timing
 pub mod Laws
+pub mod Mistakes

@@ -1,6 +1,7 @@
 -- What phase timing and the rings of the whole controller make of a state of the first path: what the first path's own
 -- definition makes of it. Below, `s` is the state as the tick reads it.
-use Rattle.std.specs.Prelude.{◌≡◌, ℕ, None, Some}
+use Rattle.std.specs.Prelude.{◌≡◌, ℕ}
+use Rattle.tsb_types.specs.declared.flow.Moves.{Moves}
 use Rattle.tsb_types.specs.Intervals.{is_green}
 use Rattle.tsb_plan.specs.Plan.{Plan}
 use Rattle.tsb_phase.specs.Ready as timing
@@ -55,11 +56,15 @@ abbrev pub RingsAreOne : Type 0
 RingsAreOne = (plan : Plan) → IsFirst plan → (s : Signals) → IsServed plan s →
     rings_next.next plan (rings_of s) (told_rings plan s) ≡ rings_of (bench.next_from_read plan s)
 
+-- The moves of the two rings.
+abbrev pub moves_in : Plan → Signals → Moves
+moves_in plan s = ring_moves.moves plan (rings_of s) (told_rings plan s)
+
 -- So phases start, end and clear as in the first path.
 pub record MovesAre (plan : Plan) (s : Signals) : Type 0 where
-  pub starts : (p : ℕ) → ring_moves.is_started (ring_moves.moves plan (rings_of s) (told_rings plan s)) p ≡ (moved plan s).starts p
-  pub ends : (p : ℕ) → ring_moves.is_ended (ring_moves.moves plan (rings_of s) (told_rings plan s)) p ≡ (moved plan s).ends p
-  pub clears : (p : ℕ) → ring_moves.is_cleared (ring_moves.moves plan (rings_of s) (told_rings plan s)) p ≡ (moved plan s).clears p
+  pub starts : (p : ℕ) → ring_moves.is_started (moves_in plan s) p ≡ (moved plan s).starts p
+  pub ends : (p : ℕ) → ring_moves.is_ended (moves_in plan s) p ≡ (moved plan s).ends p
+  pub clears : (p : ℕ) → ring_moves.is_cleared (moves_in plan s) p ≡ (moved plan s).clears p
 
 abbrev pub MovesAreOne : Type 0
 MovesAreOne = (plan : Plan) → IsFirst plan → (s : Signals) → IsServed plan s → MovesAre plan s
