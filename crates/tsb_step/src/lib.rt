@@ -5,8 +5,11 @@
 //! meets them in code: each is the contract of a function that does nothing.
 #![tactic(auto)]
 
+pub mod clearance_laws;
 pub mod commands;
+pub mod desk_laws;
 pub mod inputs;
+pub mod laws;
 
 pub use commands::{Answer, Cmd};
 pub use inputs::Input;
