@@ -11,10 +11,9 @@ use Rattle.tsb_plan.specs.declared.object.Object.{Object}
 use Rattle.tsb_types.specs.Lists.{run_from}
 use Rattle.tsb_plan.specs.Objects.{objects, indices, first_cell, has_index, value_in}
 use Rattle.tsb_plan.specs.Plan.{Plan}
-use Rattle.tsb_plan.specs.PlanOf.{plan_in}
+use Rattle.tsb_plan.specs.PlanOf.{plan_in, plan_cells}
 use Rattle.tsb_types.proofs.RunLemmas.{length-run_from, map-run_from}
 use Rattle.tsb_plan.proofs.TableLemmas.{total}
-use Rattle.tsb_bench.specs.State.{plan_cells}
 
 -- each object has as many cells as indices
 pub length-plan_cells : (plan : Plan) → length (plan_cells plan) ≡ 1230

@@ -27,7 +27,8 @@ use Rattle.tsb_bench.specs.Quiet.{RanOn, IsQuiet, timer_of, cell_of_timer, Write
 use Rattle.tsb_types.specs.Intervals.{is_green, is_yellow, is_red_clear}
 use Rattle.tsb_bench.specs.Signals.{Signals}
 use Rattle.tsb_bench.specs.SignalsCells.{signals_cells, timers_cells, place, number_cell}
-use Rattle.tsb_bench.specs.State.{State, plan_cells, cells_of, step, record_of}
+use Rattle.tsb_plan.specs.PlanOf.{plan_cells}
+use Rattle.tsb_bench.specs.State.{State, cells_of, step, record_of}
 use Rattle.tsb_bench.proofs.PlanLemmas.{length-plan_cells}
 use Rattle.tsb_bench.proofs.PlayLemmas.{follows-state, follows-back}
 

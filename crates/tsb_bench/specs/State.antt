@@ -1,15 +1,13 @@
 -- The controller's state, what each input makes of it, and why an input is refused.
-use Rattle.std.specs.Prelude.{◌≡◌, ℕ, ◌+◌, nat_lt, List, ◌++◌, take, drop, map, flat_map, Option, Some, None, if◌then◌else◌}
+use Rattle.std.specs.Prelude.{◌≡◌, ℕ, ◌+◌, nat_lt, List, ◌++◌, take, drop, Option, Some, None, if◌then◌else◌}
 use Rattle.tsb_history.specs.History.{Change}
 use Rattle.tsb_history.specs.declared.kinds.Kind.{Kind}
 use Rattle.tsb_history.specs.declared.kinds.Kind.TheVariants as kinds
 use Rattle.tsb_cells.specs.Diff.{diff}
 use Rattle.tsb_types.specs.declared.refusal.Refusal.{Refusal}
 use Rattle.tsb_types.specs.declared.refusal.Refusal.TheVariants as refusals
-use Rattle.tsb_types.specs.Lists.{run_from}
-use Rattle.tsb_plan.specs.Objects.{objects, indices}
 use Rattle.tsb_plan.specs.Plan.{Plan}
-use Rattle.tsb_plan.specs.PlanOf.{plan_in}
+use Rattle.tsb_plan.specs.PlanOf.{plan_in, plan_cells}
 use Rattle.tsb_bench.specs.declared.inputs.Input.{Input}
 use Rattle.tsb_bench.specs.declared.inputs.Input.TheVariants.{Tick}
 use Rattle.tsb_bench.specs.Signals.{Signals, power_up, next}
@@ -43,10 +41,6 @@ abbrev pub kind_of : Input → Kind
 kind_of (Tick row) = kinds.Tick
 
 -- ## Cells and records
-
--- the cells of a plan: of each object in order, its value at each index
-abbrev pub plan_cells : Plan → List ℕ
-plan_cells plan = flat_map (λ o. map (plan.value o) (run_from 1 (indices o))) objects
 
 -- the cells of the state: the plan's 1230, then those of the phases and the ring
 abbrev pub cells_of : State → List ℕ

@@ -1,10 +1,11 @@
 -- What a plan in memory says, and what its calls answer.
-use Rattle.std.specs.Prelude.{ℕ, List, Option, Some, None, Result, Ok, Err, if◌then◌else◌, nat_le}
+use Rattle.std.specs.Prelude.{ℕ, List, map, flat_map, Option, Some, None, Result, Ok, Err, if◌then◌else◌, nat_le}
 use Rattle.tsb_plan.specs.declared.object.ObjectId.{ObjectId}
 use Rattle.tsb_types.specs.declared.refusal.Refusal.{Refusal}
 use Rattle.tsb_types.specs.declared.refusal.Refusal.TheVariants.{NoSuchObject, OutOfRange}
 use Rattle.tsb_plan.specs.declared.plan.Plan as memory
-use Rattle.tsb_plan.specs.Objects.{value_in, has_index, greatest}
+use Rattle.tsb_types.specs.Lists.{run_from}
+use Rattle.tsb_plan.specs.Objects.{objects, indices, value_in, has_index, greatest}
 use Rattle.tsb_plan.specs.Plan.{Plan}
 
 -- what the cells of a plan say
@@ -23,3 +24,7 @@ abbrev pub put_refusal : ObjectId → ℕ → Option Refusal
 put_refusal id v =
     if has_index id.object id.index then (if nat_le v (greatest id.object) then None else Some OutOfRange)
     else Some NoSuchObject
+
+-- the cells of a plan: of each object in order, its value at each index
+abbrev pub plan_cells : Plan → List ℕ
+plan_cells plan = flat_map (λ o. map (plan.value o) (run_from 1 (indices o))) objects

@@ -12,12 +12,9 @@
 -- | 1561 | the pattern's that is selected |
 -- | 1562 to 1571 | the preempts' |
 -- | 1572 to 1578 | the monitor's and the injected lamp's |
-use Rattle.std.specs.Prelude.{ℕ, List, ◌++◌, map, flat_map, Option, Some, None}
+use Rattle.std.specs.Prelude.{ℕ, List, ◌++◌, Option, Some, None}
 use Rattle.tsb_cells.specs.Row.{row_at}
-use Rattle.tsb_types.specs.Lists.{run_from}
-use Rattle.tsb_plan.specs.Objects.{objects, indices}
-use Rattle.tsb_plan.specs.Plan.{Plan}
-use Rattle.tsb_plan.specs.PlanOf.{plan_in}
+use Rattle.tsb_plan.specs.PlanOf.{plan_in, plan_cells}
 use Rattle.tsb_detect.specs.Cells.{detectors_cells, detector_in}
 use Rattle.tsb_transact.specs.Cells.{desk_cells, desk_in}
 use Rattle.tsb_calls.specs.Cells.{memories_cells, memories_in}
@@ -39,10 +36,6 @@ abbrev pub clock : State → ℕ
 clock s = clock_at s.now s.trip
 
 -- ## Writing
-
--- the cells of a plan
-abbrev pub plan_cells : Plan → List ℕ
-plan_cells plan = flat_map (λ o. map (plan.value o) (run_from 1 (indices o))) objects
 
 -- THE TABLE: the cells of the controller
 unfoldable pub cells_of : State → List ℕ
