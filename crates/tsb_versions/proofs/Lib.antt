@@ -1,3 +1,5 @@
 pub mod ListLemmas
 pub mod PlanLemmas
 pub mod CoordLemmas
+pub mod PreemptLemmas
+pub mod CallLemmas
