@@ -3,3 +3,4 @@ pub mod PlanLemmas
 pub mod CoordLemmas
 pub mod PreemptLemmas
 pub mod CallLemmas
+pub mod PhaseLemmas
