@@ -4,3 +4,5 @@ pub mod CoordLemmas
 pub mod PreemptLemmas
 pub mod CallLemmas
 pub mod PhaseLemmas
+pub mod WantLemmas
+pub mod CrossingLemmas
