@@ -45,7 +45,7 @@ called_on-same plan omitted given narrow none =
     (first-same plan (λ p. given.callable p && is_on_side plan d p) (λ p. given.callable p && is_on_side plan d p) narrow
     (λ p in_it. refl) (λ p out. rw (none p out) refl)))
 
-first-never : (test : ℕ → Bool) (ps : List ℕ) → ((p : ℕ) → test p ≡ false) → first test ps ≡ None
+pub first-never : (test : ℕ → Bool) (ps : List ℕ) → ((p : ℕ) → test p ≡ false) → first test ps ≡ None
 first-never test [] never = refl
 first-never test (p ∷ ps) never = rw (never p) (first-never test ps never)
 

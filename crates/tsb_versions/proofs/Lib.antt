@@ -6,3 +6,6 @@ pub mod CallLemmas
 pub mod PhaseLemmas
 pub mod WantLemmas
 pub mod CrossingLemmas
+pub mod MoveLemmas
+pub mod HeadLemmas
+pub mod RangeLemmas
