@@ -9,3 +9,4 @@ pub mod CrossingLemmas
 pub mod MoveLemmas
 pub mod HeadLemmas
 pub mod RangeLemmas
+pub mod TickLemmas
