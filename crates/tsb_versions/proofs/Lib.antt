@@ -10,3 +10,5 @@ pub mod MoveLemmas
 pub mod HeadLemmas
 pub mod RangeLemmas
 pub mod TickLemmas
+pub mod SequenceLemmas
+pub mod PatternLemmas
