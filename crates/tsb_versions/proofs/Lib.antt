@@ -12,3 +12,5 @@ pub mod RangeLemmas
 pub mod TickLemmas
 pub mod SequenceLemmas
 pub mod PatternLemmas
+pub mod RuleLemmas
+pub mod DeskLemmas

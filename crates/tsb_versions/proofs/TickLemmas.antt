@@ -22,7 +22,7 @@ use Rattle.tsb_coord.specs.Coordinated.{serving_order}
 use Rattle.tsb_step.specs.State.{State, interval}
 use Rattle.tsb_step.specs.Tick.{new_service, service, service_ended, target, must_end, runs, hold, forced, omitted, green_timer, new_detectors, calls_given, set, callable, conflict, pedestrian_call, phases_given, phase_read, ready, over, reverted, gapped, rings_given, moves, moved, done, next, preempts_given, preempts_read}
 use Rattle.tsb_transact.specs.declared.edit.Edit.{Edit}
-use Rattle.tsb_versions.specs.Widened.{IsNarrow, widened, widened_state, IsOfTable, IsLampWithin}
+use Rattle.tsb_versions.specs.Widened.{IsNarrow, widened, widened_state, AreOfTable, IsLampWithin}
 use Rattle.tsb_versions.proofs.ListLemmas.{is_narrow, is_beyond, IsSameOnNarrow, IsBeyondNarrow}
 use Rattle.tsb_versions.proofs.PlanLemmas.{zeros, beyond-narrow}
 use Rattle.tsb_versions.proofs.CoordLemmas.{running-same, asks_hold-same, asks_omit-same, asks_force_off-same, serving_order-same}
@@ -36,7 +36,7 @@ use Rattle.tsb_versions.proofs.RangeLemmas.{narrow_or_none, IsLow, not-started, 
 -- what holds of every state of the bench of 8 phases and 2 sides
 pub record IsNarrowState (s : State) : Type 0 where
   pub plan : IsNarrow s.plan
-  pub edits : All (λ (e : Edit). IsOfTable e.id e.value) s.desk.edits
+  pub edits : AreOfTable s.desk.edits
   pub resting : (p : ℕ) → is_narrow p ≡ false → s.phases p ≡ phase.at_power_up
   pub commitments : (r : Ring) → narrow_or_none (s.rings.commitment r) ≡ true
   pub side : s.rings.side ≤ 2

@@ -1,6 +1,6 @@
 -- The bench of 16 phases and 4 sides that stands for one of 8 and 2: the plan that a plan text of version 1 becomes, and
 -- inputs, edits and states with it. All of it is the profile's own.
-use Rattle.std.specs.Prelude.{◌≡◌, ℕ, ◌+◌, ◌-◌, ◌*◌, ◌/◌, ◌%◌, ◌≤◌, nat_le, nat_lt, Bool, true, false, ◌&&◌, if◌then◌else◌, List, map, Option, Some, None}
+use Rattle.std.specs.Prelude.{◌≡◌, ℕ, ◌+◌, ◌-◌, ◌*◌, ◌/◌, ◌%◌, ◌≤◌, nat_le, nat_lt, Bool, true, false, ◌&&◌, if◌then◌else◌, List, [], ◌∷◌, map, Option, Some, None}
 use Rattle.tsb_types.specs.declared.lamp.Lamp.{Lamp}
 use Rattle.tsb_types.specs.declared.lamp.Lamp.TheVariants as lamps
 use Rattle.tsb_plan.specs.declared.object.Object.{Object}
@@ -70,6 +70,10 @@ abbrev pub IsWithin : Input → Type 0
 IsWithin (Set station id v) = IsOfTable id v
 IsWithin (Fault lamp) = IsLampWithin lamp
 IsWithin i = Unit {0}
+
+abbrev pub AreOfTable : List Edit → Type 0
+AreOfTable [] = Unit {0}
+AreOfTable (e ∷ es) = IsOfTable e.id e.value × AreOfTable es
 
 abbrev pub widened_edit : Edit → Edit
 widened_edit e = record { id = widened_id e.id; value = e.value }
