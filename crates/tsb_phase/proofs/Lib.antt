@@ -1,3 +1,5 @@
+pub mod BoundLemmas
 pub mod MoveLemmas
 pub mod ReadyLemmas
 pub mod SinceLemmas
+pub mod ClearanceLemmas

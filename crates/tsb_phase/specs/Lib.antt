@@ -8,6 +8,7 @@ pub mod Moves
 pub mod Cells
 pub mod Promises
 pub mod Laws
+pub mod ClearanceLaws
 pub mod Examples
 pub mod GreenExamples
 pub mod MaximumExamples
@@ -15,3 +16,4 @@ pub mod PedestrianExamples
 pub mod ClearanceExamples
 pub mod CellsExamples
 pub mod Mistakes
+pub mod LawMistakes

@@ -13,3 +13,4 @@ pub mod TargetExamples
 pub mod PremiseExamples
 pub mod CellsExamples
 pub mod Mistakes
+pub mod LawMistakes

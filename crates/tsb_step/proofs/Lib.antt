@@ -1,0 +1,12 @@
+pub mod IntervalLemmas
+pub mod EditLemmas
+pub mod CommitLemmas
+pub mod ServiceLemmas
+pub mod GivenLemmas
+pub mod GoodLemmas
+pub mod SafeLemmas
+pub mod PlaceLemmas
+pub mod TripLemmas
+pub mod DeskLemmas
+pub mod OnceLemmas
+pub mod DeskRunLemmas

@@ -3,3 +3,16 @@ pub mod Tick
 pub mod Signs
 pub mod Tables
 pub mod Step
+pub mod Runs
+pub mod Laws
+pub mod Good
+pub mod MonitorCells
+pub mod Cells
+pub mod Past
+pub mod Watches
+pub mod Play
+pub mod Quiet
+pub mod LawMistakes
+pub mod CellsExamples
+pub mod DeskLaws
+pub mod DeskLawMistakes

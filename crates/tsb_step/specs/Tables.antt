@@ -51,17 +51,17 @@ place_refusal plan id v =
 
 -- ## The two tables
 
-abbrev is_as_in_table : Object → Bool
+abbrev pub is_as_in_table : Object → Bool
 is_as_in_table o = (indices_for 16 o == indices o) && (greatest_for 16 4 o == greatest o)
 
-all_as_in_table : list_all is_as_in_table objects ≡ true
+pub all_as_in_table : list_all is_as_in_table objects ≡ true
 unfolding objects
 all_as_in_table = refl
 
-abbrev is_as_in_version_1 : Object → Bool
+abbrev pub is_as_in_version_1 : Object → Bool
 is_as_in_version_1 o =
     not (has_object One o) || ((indices_for 8 o == indices_in One o) && (greatest_for 8 2 o == greatest_in One o))
 
-all_as_in_version_1 : list_all is_as_in_version_1 objects ≡ true
+pub all_as_in_version_1 : list_all is_as_in_version_1 objects ≡ true
 unfolding objects
 all_as_in_version_1 = refl

@@ -6,7 +6,9 @@
 #![tactic(auto)]
 
 pub mod commands;
+pub mod desk_laws;
 pub mod inputs;
+pub mod laws;
 
 pub use commands::{Answer, Cmd};
 pub use inputs::Input;
