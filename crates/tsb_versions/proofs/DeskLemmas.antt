@@ -25,16 +25,16 @@ from-one o i has =
     let low : nat_le 1 i ≡ true = (and_parts (nat_le 1 i) _ range).0 in
     grind (arith, nat_tests, low)
 
-abbrev row_index : ℕ → ℕ
+abbrev pub row_index : ℕ → ℕ
 row_index i = 16 * ((i - 1) / 8) + (i - 1) % 8 + 1
 
-row_index-of : (i : ℕ) → is_of_version_1 (row_index i) ≡ true
+pub row_index-of : (i : ℕ) → is_of_version_1 (row_index i) ≡ true
 row_index-of i = grind (arith, nat_tests)
 
-row_index-back : (i : ℕ) → 1 ≤ i → narrowed (row_index i) ≡ i
+pub row_index-back : (i : ℕ) → 1 ≤ i → narrowed (row_index i) ≡ i
 row_index-back i from = omega arith
 
-row_index-there : (k : ℕ) → is_of_version_1 k ≡ true → row_index (narrowed k) ≡ k
+pub row_index-there : (k : ℕ) → is_of_version_1 k ≡ true → row_index (narrowed k) ≡ k
 row_index-there k e =
     let parts : (nat_le 1 k ≡ true) × (nat_lt ((k - 1) % 16) 8 ≡ true) = and_parts (nat_le 1 k) _ e in
     let from : 1 ≤ k = grind (arith, nat_tests, parts.0) in
@@ -79,10 +79,10 @@ same-object o p e = order-injective o p (eqb-true (order o) (order p) e)
 same-index : (o p : Object) (i k : ℕ) → (order o == order p) ≡ true → is_same o i p k ≡ (i == k)
 same-index o p i k e = rw e refl
 
-translated-row : (o : Object) (i : ℕ) → is_in_rows o ≡ true → translated One o i ≡ row_index i
+pub translated-row : (o : Object) (i : ℕ) → is_in_rows o ≡ true → translated One o i ≡ row_index i
 translated-row o i rows = rw rows refl
 
-translated-flat : (o : Object) (i : ℕ) → is_in_rows o ≡ false → translated One o i ≡ i
+pub translated-flat : (o : Object) (i : ℕ) → is_in_rows o ≡ false → translated One o i ≡ i
 translated-flat o i flat = rw flat refl
 
 -- whether a place of an object in rows is the one that an index becomes
@@ -220,7 +220,7 @@ length-same (e ∷ es) = ap suc (length-same es)
 
 -- ## Changes
 
-value-same : (plan : Plan) (o : Object) (i : ℕ) → 1 ≤ i → (widened plan).value o (translated One o i) ≡ plan.value o i
+pub value-same : (plan : Plan) (o : Object) (i : ℕ) → 1 ≤ i → (widened plan).value o (translated One o i) ≡ plan.value o i
 value-same plan o i from =
     elim (cases_Bool (is_in_rows o)) [
       | inr flat ↦ rw flat refl

@@ -14,3 +14,5 @@ pub mod SequenceLemmas
 pub mod PatternLemmas
 pub mod RuleLemmas
 pub mod DeskLemmas
+pub mod StepLemmas
+pub mod RunLemmas

@@ -1,1 +1,2 @@
 pub mod Widened
+pub mod Laws

@@ -81,8 +81,13 @@ widened_edit e = record { id = widened_id e.id; value = e.value }
 abbrev pub widened_desk : Desk → Desk
 widened_desk desk = record desk { edits = map widened_edit desk.edits }
 
--- ## States
+-- ## States and runs
 
 -- the same state on the wide plan: its plan and the edits of its desk are widened, all else is the same
 abbrev pub widened_state : State → State
 widened_state s = record s { plan = widened s.plan; desk = widened_desk s.desk }
+
+-- each input of a pile is within version 1's ranges
+abbrev pub AreWithin : List Input → Type 0
+AreWithin [] = Unit {0}
+AreWithin (i ∷ is) = IsWithin i × AreWithin is

@@ -3,3 +3,5 @@
 //!
 //! The laws are about the definitions of the whole step: each is the contract of a function that does nothing.
 #![tactic(auto)]
+
+pub mod laws;
