@@ -143,7 +143,7 @@ with_edits-same plan (e ∷ es) table =
 
 -- ## Plans of version 1 stay such
 
-put-narrow : (plan : Plan) (o : Object) (i v : ℕ) → IsNarrow plan → has_index_in One o i ≡ true → v ≤ greatest_in One o →
+pub put-narrow : (plan : Plan) (o : Object) (i v : ℕ) → IsNarrow plan → has_index_in One o i ≡ true → v ≤ greatest_in One o →
     IsNarrow (with_value plan o i v)
 put-narrow plan o i v narrow has low = record {
   phase_count = narrow.phase_count;

@@ -16,3 +16,4 @@ pub mod RuleLemmas
 pub mod DeskLemmas
 pub mod StepLemmas
 pub mod RunLemmas
+pub mod PutLemmas

@@ -5,7 +5,9 @@
 use Rattle.std.specs.Prelude.{◌≡◌, ◌≢◌, ◌↔◌, ℕ, ◌<◌, true, false, List, map}
 use Rattle.tsb_plan.specs.declared.object.Object.{Object}
 use Rattle.tsb_plan.specs.declared.version.Version.TheVariants.{One}
-use Rattle.tsb_plan.specs.Plan.{Plan, is_enabled}
+use Rattle.tsb_plan.specs.Plan.{Plan, empty, with_values, is_enabled}
+use Rattle.tsb_plan.specs.Quad.{quad}
+use Rattle.tsb_plan.specs.Two.{two}
 use Rattle.tsb_plan.specs.Versions.{has_index_in, translated}
 use Rattle.tsb_objects.specs.Rules.{first_broken}
 use Rattle.tsb_phase.specs.Phase as phase
@@ -14,6 +16,7 @@ use Rattle.tsb_step.specs.Runs.{replay, AreTaken}
 use Rattle.tsb_step.specs.Signs.{display, field, local, stage}
 use Rattle.tsb_step.specs.Step.{verdict}
 use Rattle.tsb_versions.specs.Widened.{IsNarrow, widened, widened_input, IsWithin, AreWithin, widened_state}
+use Rattle.tsb_versions.specs.BuiltIn.{narrow_empty, AreValues, widened_puts, narrow_two, narrow_quad}
 
 -- ## The wide plan
 
@@ -31,6 +34,25 @@ WidePlansSayTheSame = (narrow wide : Plan) → IsNarrow narrow → SaysTheSame n
 -- It breaks the same rule first, or none as well.
 abbrev pub BreakTheSameRule : Type 0
 BreakTheSameRule = (narrow wide : Plan) → IsNarrow narrow → SaysTheSame narrow wide → first_broken wide ≡ first_broken narrow
+
+-- Values of version 1 that are put in turn make a plan of version 1, and put at translated indices they make the wide plan.
+abbrev pub PutsMakeNarrowPlans : Type 0
+PutsMakeNarrowPlans = (es : List (Object × ℕ × ℕ)) → AreValues es → IsNarrow (with_values narrow_empty es)
+
+abbrev pub PutsMakeWidePlans : Type 0
+PutsMakeWidePlans = (es : List (Object × ℕ × ℕ)) → AreValues es →
+    with_values empty (widened_puts es) ≡ widened (with_values narrow_empty es)
+
+-- So the built-in plans are the wide plans of these, which are of version 1.
+pub record IsWideOf (narrow wide : Plan) : Type 0 where
+  pub is_narrow : IsNarrow narrow
+  pub is_wide : wide ≡ widened narrow
+
+abbrev pub TwoIsWide : Type 0
+TwoIsWide = IsWideOf narrow_two two
+
+abbrev pub QuadIsWide : Type 0
+QuadIsWide = IsWideOf narrow_quad quad
 
 -- ## Runs
 

@@ -1,2 +1,4 @@
 pub mod Widened
+pub mod BuiltIn
 pub mod Laws
+pub mod Examples
