@@ -1,13 +1,13 @@
 -- Calls are the same on the wide plan, where orders are the same of phases 1 to 8.
-use Rattle.std.proofs.Common.{◌≡◌, ℕ, ◌==◌, Bool, true, false, not, ◌&&◌, ◌||◌, if◌then◌else◌, Option, Some, None, is_some, refl, sym, ◌∙◌, ap, ap₂, inl, inr}
+use Rattle.std.proofs.Common.{◌≡◌, ℕ, ◌==◌, Bool, true, false, not, ◌&&◌, Option, is_some, refl, ap, inl, inr}
 use Rattle.std.proofs.Math.Path.{fun_ext}
 use Rattle.std.proofs.lemmas.Bool.{cases_Bool}
-use Rattle.tsb_plan.specs.Plan.{Plan, phases, is_enabled, is_concurrent}
+use Rattle.tsb_plan.specs.Plan.{Plan, is_enabled, is_concurrent}
 use Rattle.tsb_calls.specs.Memories.{Memories, Given, has_output, actuations, has_button, vehicle_memory, pedestrian_memory, counted, as_set}
 use Rattle.tsb_calls.specs.Callable.{has_pedestrian_call, is_called, is_callable_otherwise, some_is_callable_otherwise, is_callable, has_conflict}
 use Rattle.tsb_calls.specs.Settled.{Done, next}
 use Rattle.tsb_versions.specs.Widened.{IsNarrow, widened}
-use Rattle.tsb_versions.proofs.ListLemmas.{is_narrow, is_beyond, IsSameOnNarrow, IsBeyondNarrow}
+use Rattle.tsb_versions.proofs.ListLemmas.{is_narrow, IsSameOnNarrow}
 use Rattle.tsb_versions.proofs.PlanLemmas.{first-same, beyond-narrow, not-enabled, enabled-narrow}
 use Rattle.tsb_versions.proofs.CoordLemmas.{minimum_recall-same, maximum_recall-same, pedestrian_recall-same}
 
@@ -40,8 +40,12 @@ has_pedestrian_call-same plan omitted given m p narrow =
 is_called-same : (plan : Plan) (omitted : ℕ → Bool) (given : Given) (m : Memories) (p : ℕ) → IsNarrow plan → is_narrow p ≡ true →
     is_called (widened plan) (wide_given omitted given) m p ≡ is_called plan given m p
 is_called-same plan omitted given m p narrow in_it =
-    rw (has_pedestrian_call-same plan omitted given m p narrow, has_output-same plan omitted given p,
-      minimum_recall-same plan given.runs p narrow in_it, maximum_recall-same plan given.runs p narrow in_it) refl
+    rw (
+      has_pedestrian_call-same plan omitted given m p narrow,
+      has_output-same plan omitted given p,
+      minimum_recall-same plan given.runs p narrow in_it,
+      maximum_recall-same plan given.runs p narrow in_it,
+    ) refl
 
 otherwise-same : (plan : Plan) (omitted : ℕ → Bool) (given : Given) (m : Memories) (p : ℕ) → IsNarrow plan →
     IsSameOnNarrow omitted given.omitted →
@@ -68,8 +72,11 @@ pub is_callable-same : (plan : Plan) (omitted : ℕ → Bool) (given : Given) (m
 unfolding is_callable
 is_callable-same plan omitted given m p narrow agree =
     elim (cases_Bool (is_enabled plan p)) [
-      | inl on ↦ rw (otherwise-same plan omitted given m p narrow agree, some_otherwise-same plan omitted given m narrow agree,
-          agree p (enabled-narrow plan p narrow on)) refl
+      | inl on ↦ rw (
+        otherwise-same plan omitted given m p narrow agree,
+        some_otherwise-same plan omitted given m narrow agree,
+        agree p (enabled-narrow plan p narrow on),
+      ) refl
       | inr off ↦ rw off refl
     ]
 
@@ -97,6 +104,6 @@ pub memories-same : (plan : Plan) (omitted : ℕ → Bool) (given : Given) (done
 unfolding has_output actuations has_button vehicle_memory pedestrian_memory counted
 memories-same plan omitted given done w narrow =
     let walks : has_pedestrian_call (widened plan) (wide_given omitted given) (as_set plan given w)
-          ≡ has_pedestrian_call plan given (as_set plan given w) =
-        fun_ext (λ p. has_pedestrian_call-same plan omitted given (as_set plan given w) p narrow) in
+    ≡ has_pedestrian_call plan given (as_set plan given w) =
+    fun_ext (λ p. has_pedestrian_call-same plan omitted given (as_set plan given w) p narrow) in
     rw walks refl

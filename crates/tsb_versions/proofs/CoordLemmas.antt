@@ -1,13 +1,13 @@
 -- What runs, and what coordination asks of phases 1 to 8, is the same on the wide plan.
-use Rattle.std.proofs.Common.{zero, suc, ◌≡◌, ℕ, ◌+◌, ◌-◌, ◌*◌, ◌==◌, nat_le, Bool, true, false, not, ◌&&◌, ◌||◌, if◌then◌else◌, List, [], ◌∷◌, ◌++◌, Option, Some, None, refl, arith, sym, ◌∙◌, ap, ap₂, inl, inr, sum_by}
+use Rattle.std.proofs.Common.{◌≡◌, ℕ, ◌+◌, ◌-◌, nat_le, true, false, ◌&&◌, ◌++◌, Option, Some, None, refl, ◌∙◌, ap, ap₂, inl, inr, sum_by}
 use Rattle.std.proofs.Math.Path.{fun_ext}
 use Rattle.std.proofs.lemmas.Bool.{cases_Bool}
-use Rattle.tsb_types.specs.Lists.{first, run_from, up_to}
-use Rattle.tsb_plan.specs.Plan.{Plan, phases, is_enabled, ring_of, side_of, sequence}
-use Rattle.tsb_plan.specs.Parts.{split_of, split_time, is_coordinated}
+use Rattle.tsb_types.specs.Lists.{run_from, up_to}
+use Rattle.tsb_plan.specs.Plan.{Plan, is_enabled, ring_of, side_of, sequence}
+use Rattle.tsb_plan.specs.Parts.{split_of}
 use Rattle.tsb_plan.specs.Running.{running, split_in_effect, sequence_in_effect, mode_in, mode_in_effect, coordinates_in, is_coordinated_now, is_omitted_now, is_on_minimum_recall, is_on_maximum_recall, is_on_pedestrian_recall}
 use Rattle.tsb_objects.specs.PatternRules.{is_on, has_phases, split_on, split_sum, side_sum, split_before, ring_sequence, split_end}
-use Rattle.tsb_coord.specs.Coordinated.{counter, local_in, local, end_in, end_of, instant_from, reference, instant_by, force_off, agree, asks_force_off, asks_hold, asks_omit, sequence_now, serving_order}
+use Rattle.tsb_coord.specs.Coordinated.{local_in, local, end_in, instant_from, reference, instant_by, force_off, asks_force_off, asks_hold, asks_omit, sequence_now, serving_order}
 use Rattle.tsb_versions.specs.Widened.{IsNarrow, widened}
 use Rattle.tsb_versions.proofs.ListLemmas.{is_narrow, is_beyond, sum-up_to}
 use Rattle.tsb_versions.proofs.PlanLemmas.{first-same, any-same, sum-same, beyond-narrow, not-enabled, enabled-narrow, split_time-same, split_mode-same, is_coordinated-same, not-coordinated, zeros, sequence-same}
@@ -112,7 +112,7 @@ unfolding split_end
 split_end-same plan s t p narrow =
     ap₂ (λ (m n : ℕ). m + n)
     (ap (λ f. sum_by f (up_to p (ring_sequence (widened plan) s (ring_of plan p)))) (fun_ext (λ q. split_before-same plan t (side_of plan p) q narrow))
-      ∙ before-same plan s t (side_of plan p) (ring_of plan p) p narrow)
+    ∙ before-same plan s t (side_of plan p) (ring_of plan p) p narrow)
     (ap (λ f. sum_by f (run_from 1 (side_of plan p - 1))) (fun_ext (λ d. side_sum-same plan t d narrow)))
 
 -- ## Force-off

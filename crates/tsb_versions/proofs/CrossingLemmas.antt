@@ -1,17 +1,17 @@
 -- Crossings begin at the same ticks, and go to the same side, on the wide plan.
-use Rattle.std.proofs.Common.{zero, suc, ◌≡◌, ℕ, ◌+◌, ◌-◌, ◌<◌, ◌≤◌, ◌==◌, Bool, true, false, not, ◌&&◌, ◌||◌, if◌then◌else◌, List, [], ◌∷◌, ◌++◌, Option, Some, None, is_some, is_none, refl, arith, sym, ◌∙◌, ap, ap₂, inl, inr}
+use Rattle.std.proofs.Common.{zero, suc, ◌≡◌, ℕ, ◌+◌, ◌-◌, ◌≤◌, ◌==◌, Bool, true, false, ◌&&◌, List, [], ◌∷◌, ◌++◌, Option, Some, None, is_some, refl, arith, sym, ◌∙◌, ap, ap₂, inl, inr}
 use Rattle.std.proofs.Math.Path.{fun_ext}
-use Rattle.std.proofs.lemmas.Bool.{cases_Bool, and_parts}
+use Rattle.std.proofs.lemmas.Bool.{cases_Bool}
 use Rattle.std.proofs.lemmas.Bool.Decides.{nat_tests}
-use Rattle.tsb_types.specs.Lists.{first, some_passes, run_from, or_else, or_number}
+use Rattle.tsb_types.specs.Lists.{first, run_from, or_else, or_number}
 use Rattle.tsb_plan.specs.declared.object.Object.TheVariants.{PhaseSide}
-use Rattle.tsb_plan.specs.Plan.{Plan, phases, is_enabled, side_of, is_concurrent, has_dual_entry, sides_after}
+use Rattle.tsb_plan.specs.Plan.{Plan, phases, sides_after}
 use Rattle.tsb_ring.specs.declared.want.Want.{Want}
 use Rattle.tsb_ring.specs.Rings.{Ring, Ring1, Ring2, State, Given, in_ring, serving}
-use Rattle.tsb_ring.specs.Wants.{concurrent_with, is_on_side, is_targeted, want_of, pick}
-use Rattle.tsb_ring.specs.Crossings.{wants_cross, joins, ring_joins, begins, is_called_on, side_of_or, side_sought, target_side, may_enter, dual, is_called_in, called_in_ring_1, called_in_ring_2, entry_by_calls, entry_for, entry, own_commitment, committed}
+use Rattle.tsb_ring.specs.Wants.{concurrent_with, is_on_side, is_targeted, want_of}
+use Rattle.tsb_ring.specs.Crossings.{joins, ring_joins, begins, is_called_on, side_of_or, side_sought, target_side, may_enter, dual, is_called_in, called_in_ring_1, called_in_ring_2, entry_by_calls, entry_for, entry, committed}
 use Rattle.tsb_versions.specs.Widened.{IsNarrow, widened}
-use Rattle.tsb_versions.proofs.ListLemmas.{is_narrow, is_beyond, IsSameOnNarrow, IsBeyondNarrow, first-behind}
+use Rattle.tsb_versions.proofs.ListLemmas.{IsSameOnNarrow, IsBeyondNarrow, first-behind}
 use Rattle.tsb_versions.proofs.PlanLemmas.{first-same, beyond-narrow, not-enabled, not-in_ring, in_ring-narrow, zeros}
 use Rattle.tsb_versions.proofs.WantLemmas.{wide_given, serving-same, concurrent_with-same, want_of-same, pick-same}
 
@@ -33,8 +33,12 @@ pub begins-same : (plan : Plan) (s : State) (omitted : ℕ → Bool) (given : Gi
     begins (widened plan) s (wide_given omitted given) ≡ begins plan s given
 unfolding begins
 begins-same plan s omitted given narrow none =
-    rw (ring_joins-same plan s omitted given Ring1 narrow none, ring_joins-same plan s omitted given Ring2 narrow none,
-      want_of-same plan s omitted given Ring1 narrow none, want_of-same plan s omitted given Ring2 narrow none) refl
+    rw (
+      ring_joins-same plan s omitted given Ring1 narrow none,
+      ring_joins-same plan s omitted given Ring2 narrow none,
+      want_of-same plan s omitted given Ring1 narrow none,
+      want_of-same plan s omitted given Ring2 narrow none,
+    ) refl
 
 -- ## Where it goes
 
@@ -88,8 +92,8 @@ side_sought-same : (plan : Plan) (s : State) (omitted : ℕ → Bool) (given : G
 side_sought-same plan s omitted given None narrow none low =
     ap (λ (o : Option ℕ). or_number o s.side)
     (ap (λ test. first test (sides_after (widened plan) s.side)) (called_on-same plan omitted given narrow none)
-      ∙ sides-same (is_called_on plan given) s.side low (never-called plan given 3 narrow (omega arith)) (never-called plan given 4 narrow (omega arith))
-      ∙ ap (λ n. first (is_called_on plan given) (run_from (s.side + 1) (n - s.side) ++ run_from 1 (s.side - 1))) (sym narrow.side_count))
+    ∙ sides-same (is_called_on plan given) s.side low (never-called plan given 3 narrow (omega arith)) (never-called plan given 4 narrow (omega arith))
+    ∙ ap (λ n. first (is_called_on plan given) (run_from (s.side + 1) (n - s.side) ++ run_from 1 (s.side - 1))) (sym narrow.side_count))
 side_sought-same plan s omitted given (Some target) narrow none low =
     rw (targeted-same plan target narrow) (side_of_or-same plan (first (is_targeted plan target) (phases plan)) s.side)
 
@@ -108,9 +112,9 @@ may_enter-same plan omitted given d r q narrow agree = fun_ext (λ p. at p)
   where
     at : (p : ℕ) → may_enter (widened plan) (wide_given omitted given) d r q p ≡ may_enter plan given d r q p
     at p = elim (cases_Bool (in_ring plan r p)) [
-        | inl on ↦ rw (agree p (in_ring-narrow plan r p narrow on)) refl
-        | inr off ↦ rw off refl
-      ]
+      | inl on ↦ rw (agree p (in_ring-narrow plan r p narrow on)) refl
+      | inr off ↦ rw off refl
+    ]
 
 dual-same : (plan : Plan) (omitted : ℕ → Bool) (given : Given) (d : ℕ) (r : Ring) (o : Option ℕ) → IsNarrow plan →
     IsSameOnNarrow omitted given.omitted →
@@ -133,7 +137,7 @@ called_in_ring_2-same plan omitted given d narrow =
     (rw (not-in_ring plan Ring2 0 narrow refl) refl) refl
   where
     at : (p : ℕ) → (is_called_in (widened plan) (wide_given omitted given) d Ring2 p
-          && concurrent_with (widened plan) p (called_in_ring_1 (widened plan) (wide_given omitted given) d))
+        && concurrent_with (widened plan) p (called_in_ring_1 (widened plan) (wide_given omitted given) d))
         ≡ (is_called_in plan given d Ring2 p && concurrent_with plan p (called_in_ring_1 plan given d))
     at p = rw (called_in_ring_1-same plan omitted given d narrow, concurrent_with-same plan p (called_in_ring_1 plan given d)) refl
 
@@ -167,5 +171,9 @@ pub committed-same : (plan : Plan) (s : State) (omitted : ℕ → Bool) (given :
     committed (widened plan) s (wide_given omitted given) r ≡ committed plan s given r
 unfolding committed
 committed-same plan s omitted given r narrow none agree low =
-    rw (begins-same plan s omitted given narrow none, entry-same plan s omitted given r narrow none agree low,
-      serving-same plan omitted given r narrow, pick-same plan s omitted given r narrow none) refl
+    rw (
+      begins-same plan s omitted given narrow none,
+      entry-same plan s omitted given r narrow none agree low,
+      serving-same plan omitted given r narrow,
+      pick-same plan s omitted given r narrow none,
+    ) refl

@@ -1,6 +1,5 @@
 -- Edits are laid over the wide plan at translated indices, and give the wide plan of what they give.
-use Rattle.std.proofs.Common.{zero, suc, ◌≡◌, ℕ, ◌+◌, ◌-◌, ◌*◌, ◌/◌, ◌%◌, ◌<◌, ◌≤◌, ◌==◌, nat_le, nat_lt, Bool, true, false, not, ◌&&◌, ◌||◌, if◌then◌else◌, List, [], ◌∷◌, map, length, All, Option, Some, None, refl, arith, sym, ◌∙◌, ap, ap₂, subst, inl, inr}
-use Rattle.std.specs.List.{list_any}
+use Rattle.std.proofs.Common.{suc, ◌≡◌, ℕ, ◌+◌, ◌-◌, ◌*◌, ◌/◌, ◌%◌, ◌<◌, ◌≤◌, ◌==◌, nat_le, nat_lt, Bool, true, false, not, ◌&&◌, if◌then◌else◌, List, [], ◌∷◌, map, length, refl, arith, sym, ◌∙◌, ap, subst, inl, inr}
 use Rattle.std.proofs.Math.Path.{fun_ext}
 use Rattle.std.proofs.lemmas.Bool.{cases_Bool, and_parts, eqb-true}
 use Rattle.std.proofs.lemmas.Bool.Decides.{nat_tests}
@@ -8,13 +7,13 @@ use Rattle.tsb_plan.specs.declared.object.Object.{Object}
 use Rattle.tsb_plan.specs.declared.object.ObjectId.{ObjectId}
 use Rattle.tsb_plan.specs.declared.version.Version.TheVariants.{One}
 use Rattle.tsb_plan.specs.Objects.{order}
-use Rattle.tsb_plan.specs.Plan.{Plan, is_same, with_value, with_values}
+use Rattle.tsb_plan.specs.Plan.{Plan, is_same, with_value}
 use Rattle.tsb_plan.specs.Versions.{is_in_rows, has_object, has_index_in, indices_in, greatest_in, translated}
 use Rattle.tsb_plan.proofs.TableLemmas.{order-injective}
 use Rattle.tsb_transact.specs.declared.edit.Edit.{Edit}
-use Rattle.tsb_transact.specs.Desk.{is_of, has_edit_of, with_edit, value_put, with_edits}
+use Rattle.tsb_transact.specs.Desk.{is_of, has_edit_of, with_edit, with_edits}
 use Rattle.tsb_transact.specs.Commit.{changes, changes_some}
-use Rattle.tsb_versions.specs.Widened.{IsNarrow, is_of_version_1, narrowed, widened_row, widened_value, widened, widened_id, IsOfTable, AreOfTable, widened_edit}
+use Rattle.tsb_versions.specs.Widened.{IsNarrow, is_of_version_1, narrowed, widened_value, widened, widened_id, IsOfTable, AreOfTable, widened_edit}
 
 -- ## Indices
 
@@ -120,9 +119,9 @@ put-same plan o i v p k from =
     elim (cases_Bool (is_in_rows p)) [
       | inr flat ↦ rw (flat, flat-same o p i k flat) refl
       | inl rows ↦ elim (cases_Bool (is_of_version_1 k)) [
-          | inl e ↦ rw (rows, e, row-same o p i k from rows e) refl
-          | inr e ↦ rw (rows, e, row-other o p i k rows e) refl
-        ]
+        | inl e ↦ rw (rows, e, row-same o p i k from rows e) refl
+        | inr e ↦ rw (rows, e, row-other o p i k rows e) refl
+      ]
     ]
 
 pub with_value-same : (plan : Plan) (o : Object) (i v : ℕ) → 1 ≤ i →
@@ -158,7 +157,7 @@ put-narrow plan o i v narrow has low = record {
           | inr other ↦ rw other (narrow.placed p k out)
           | inl same ↦ (let parts : ((order o == order p) ≡ true) × ((i == k) ≡ true) = and_parts (order o == order p) (i == k) same in
               let it : has_index_in One p k ≡ true = subst (λ (x : Object). has_index_in One x k ≡ true) (same-object o p parts.0)
-                (subst (λ n. has_index_in One o n ≡ true) (eqb-true i k parts.1) has) in
+              (subst (λ n. has_index_in One o n ≡ true) (eqb-true i k parts.1) has) in
               let no : false ≡ true = sym out ∙ it in absurd cc)
         ]
 
@@ -202,8 +201,11 @@ with_edit-same e [] it table = refl
 with_edit-same e (x ∷ xs) it table =
     elim (cases_Bool (is_of e.id x)) [
       | inl same ↦ rw (is_of-same e.id x (from-one e.id.object e.id.index it.placed) (from-one x.id.object x.id.index table.0.placed), same) refl
-      | inr other ↦ rw (is_of-same e.id x (from-one e.id.object e.id.index it.placed) (from-one x.id.object x.id.index table.0.placed), other,
-          with_edit-same e xs it table.1) refl
+      | inr other ↦ rw (
+        is_of-same e.id x (from-one e.id.object e.id.index it.placed) (from-one x.id.object x.id.index table.0.placed),
+        other,
+        with_edit-same e xs it table.1,
+      ) refl
     ]
 
 pub with_edit-table : (e : Edit) (es : List Edit) → IsOfTable e.id e.value → AreOfTable es → AreOfTable (with_edit e es)

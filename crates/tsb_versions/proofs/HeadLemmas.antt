@@ -1,9 +1,7 @@
 -- Heads show the same on the wide plan, and the monitor judges the same.
-use Rattle.std.proofs.Common.{◌≡◌, ℕ, ◌≤◌, ◌<◌, ◌==◌, nat_lt, Bool, true, false, not, ◌&&◌, ◌||◌, if◌then◌else◌, Option, Some, None, is_some, is_none, refl, arith, sym, ◌∙◌, ap, ap₂, inl, inr}
-use Rattle.std.specs.Option.{option_map, option_or}
-use Rattle.std.specs.List.{list_any}
+use Rattle.std.proofs.Common.{◌≡◌, ℕ, ◌≤◌, ◌==◌, nat_lt, Bool, true, false, not, ◌&&◌, if◌then◌else◌, Option, Some, None, is_some, refl, arith, ◌∙◌, ap}
+use Rattle.std.specs.Option.{option_map}
 use Rattle.std.proofs.Math.Path.{fun_ext}
-use Rattle.std.proofs.lemmas.Bool.{cases_Bool}
 use Rattle.std.proofs.lemmas.Bool.Decides.{nat_tests}
 use Rattle.tsb_types.specs.declared.lamp.Aspect.TheVariants.{Dark}
 use Rattle.tsb_types.specs.declared.lamp.PedestrianAspect.TheVariants as pedestrian_aspects
@@ -12,17 +10,16 @@ use Rattle.tsb_types.specs.declared.lamp.Lamp.TheVariants as lamps
 use Rattle.tsb_types.specs.Intervals.{is_green, is_yellow}
 use Rattle.tsb_types.specs.Lists.{first}
 use Rattle.tsb_plan.specs.declared.object.Object.TheVariants.{OverlapIncludedPhases, OverlapModifierPhases}
-use Rattle.tsb_plan.specs.Plan.{Plan, phases, is_enabled, is_concurrent, ring_of}
+use Rattle.tsb_plan.specs.Plan.{Plan, phases, ring_of}
 use Rattle.tsb_plan.specs.Parts.{is_included, is_modifier}
 use Rattle.tsb_objects.specs.PatternRules.{some_and}
-use Rattle.tsb_heads.specs.declared.monitor.Trip.{Trip}
-use Rattle.tsb_heads.specs.declared.monitor.Trip.TheVariants.{Conflict, GreenToRed}
+use Rattle.tsb_heads.specs.declared.monitor.Trip.TheVariants.{GreenToRed}
 use Rattle.tsb_heads.specs.Heads.{Shown, Heads}
 use Rattle.tsb_heads.specs.Overlaps.{some_of, is_followed, keeps_green, is_kept_green, is_on_yellow, has_green_modifier, has_yellow_modifier, is_on_last_yellow, overlap_head}
 use Rattle.tsb_heads.specs.Displays.{ordered, flashing, display, laid_over, field}
 use Rattle.tsb_heads.specs.Monitoring.{has_right_of_way, are_in_conflict, conflict_of, conflict_by, conflict, goes_red, green_to_red, judge}
 use Rattle.tsb_versions.specs.Widened.{IsNarrow, widened, IsLampWithin}
-use Rattle.tsb_versions.proofs.ListLemmas.{is_narrow, is_beyond, IsSameOnNarrow, IsBeyondNarrow}
+use Rattle.tsb_versions.proofs.ListLemmas.{is_beyond, IsBeyondNarrow}
 use Rattle.tsb_versions.proofs.PlanLemmas.{first-same, any-same, beyond-bound, beyond-narrow, not-enabled, names-none}
 use Rattle.tsb_versions.proofs.CrossingLemmas.{first-never}
 
@@ -72,8 +69,13 @@ last_yellow-same plan s o narrow =
 
 overlap_head-same : (plan : Plan) (s : Shown) → IsNarrow plan → overlap_head (widened plan) s ≡ overlap_head plan s
 overlap_head-same plan s narrow =
-    fun_ext (λ o. rw (kept_green-same plan s o narrow, on_yellow-same plan s o narrow, green_modifier-same plan s o narrow,
-      yellow_modifier-same plan s o narrow, last_yellow-same plan s o narrow) refl)
+    fun_ext (λ o. rw (
+      kept_green-same plan s o narrow,
+      on_yellow-same plan s o narrow,
+      green_modifier-same plan s o narrow,
+      yellow_modifier-same plan s o narrow,
+      last_yellow-same plan s o narrow,
+    ) refl)
 
 -- ## Displays
 

@@ -15,5 +15,6 @@ pub mod PatternLemmas
 pub mod RuleLemmas
 pub mod DeskLemmas
 pub mod StepLemmas
+pub mod RefusalLemmas
 pub mod RunLemmas
 pub mod PutLemmas

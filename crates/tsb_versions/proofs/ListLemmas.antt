@@ -1,9 +1,9 @@
 -- Phases 1 to 8 among phases 1 to 16, and lists with zeros behind them.
-use Rattle.std.proofs.Common.{zero, suc, ◌≡◌, ℕ, ◌+◌, ◌<◌, ◌≤◌, ◌==◌, nat_le, nat_lt, Bool, true, false, not, ◌&&◌, ◌||◌, if◌then◌else◌, List, [], ◌∷◌, ◌++◌, Option, Some, None, refl, arith, sym, ◌∙◌, ap, inl, inr, sum_by, map}
+use Rattle.std.proofs.Common.{◌≡◌, ℕ, ◌+◌, ◌==◌, nat_le, nat_lt, Bool, true, false, ◌&&◌, List, [], ◌∷◌, ◌++◌, Option, Some, None, refl, arith, sym, ◌∙◌, ap, inl, inr, sum_by}
 use Rattle.std.specs.List.{list_all, list_any}
 use Rattle.std.proofs.lemmas.Bool.{eqb-true, cases_Bool, and_parts}
 use Rattle.std.proofs.lemmas.List.Sums.{sum_by-cons}
-use Rattle.tsb_types.specs.Lists.{first, run_from, after, up_to, later, not_later, among}
+use Rattle.tsb_types.specs.Lists.{first, run_from, after, up_to, later, not_later}
 
 -- ## Phases 1 to 8 among phases 1 to 16
 
@@ -25,29 +25,93 @@ pub first-phases : (same test : ℕ → Bool) → IsSameOnNarrow same test → I
     first same (run_from 1 16) ≡ first test (run_from 1 8)
 unfolding run_from
 first-phases same test within beyond =
-    rw (within 1 refl, within 2 refl, within 3 refl, within 4 refl, within 5 refl, within 6 refl, within 7 refl, within 8 refl,
-      beyond 9 refl, beyond 10 refl, beyond 11 refl, beyond 12 refl, beyond 13 refl, beyond 14 refl, beyond 15 refl, beyond 16 refl) refl
+    rw (
+      within 1 refl,
+      within 2 refl,
+      within 3 refl,
+      within 4 refl,
+      within 5 refl,
+      within 6 refl,
+      within 7 refl,
+      within 8 refl,
+      beyond 9 refl,
+      beyond 10 refl,
+      beyond 11 refl,
+      beyond 12 refl,
+      beyond 13 refl,
+      beyond 14 refl,
+      beyond 15 refl,
+      beyond 16 refl,
+    ) refl
 
 pub any-phases : (same test : ℕ → Bool) → IsSameOnNarrow same test → IsBeyondNarrow same false →
     list_any same (run_from 1 16) ≡ list_any test (run_from 1 8)
 unfolding run_from
 any-phases same test within beyond =
-    rw (within 1 refl, within 2 refl, within 3 refl, within 4 refl, within 5 refl, within 6 refl, within 7 refl, within 8 refl,
-      beyond 9 refl, beyond 10 refl, beyond 11 refl, beyond 12 refl, beyond 13 refl, beyond 14 refl, beyond 15 refl, beyond 16 refl) refl
+    rw (
+      within 1 refl,
+      within 2 refl,
+      within 3 refl,
+      within 4 refl,
+      within 5 refl,
+      within 6 refl,
+      within 7 refl,
+      within 8 refl,
+      beyond 9 refl,
+      beyond 10 refl,
+      beyond 11 refl,
+      beyond 12 refl,
+      beyond 13 refl,
+      beyond 14 refl,
+      beyond 15 refl,
+      beyond 16 refl,
+    ) refl
 
 pub all-phases : (same test : ℕ → Bool) → IsSameOnNarrow same test → IsBeyondNarrow same true →
     list_all same (run_from 1 16) ≡ list_all test (run_from 1 8)
 unfolding run_from
 all-phases same test within beyond =
-    rw (within 1 refl, within 2 refl, within 3 refl, within 4 refl, within 5 refl, within 6 refl, within 7 refl, within 8 refl,
-      beyond 9 refl, beyond 10 refl, beyond 11 refl, beyond 12 refl, beyond 13 refl, beyond 14 refl, beyond 15 refl, beyond 16 refl) refl
+    rw (
+      within 1 refl,
+      within 2 refl,
+      within 3 refl,
+      within 4 refl,
+      within 5 refl,
+      within 6 refl,
+      within 7 refl,
+      within 8 refl,
+      beyond 9 refl,
+      beyond 10 refl,
+      beyond 11 refl,
+      beyond 12 refl,
+      beyond 13 refl,
+      beyond 14 refl,
+      beyond 15 refl,
+      beyond 16 refl,
+    ) refl
 
 pub sum-phases : (same test : ℕ → ℕ) → IsSameOnNarrow same test → IsBeyondNarrow same 0 →
     sum_by same (run_from 1 16) ≡ sum_by test (run_from 1 8)
 unfolding run_from
 sum-phases same test within beyond =
-    rw (within 1 refl, within 2 refl, within 3 refl, within 4 refl, within 5 refl, within 6 refl, within 7 refl, within 8 refl,
-      beyond 9 refl, beyond 10 refl, beyond 11 refl, beyond 12 refl, beyond 13 refl, beyond 14 refl, beyond 15 refl, beyond 16 refl) (omega arith)
+    rw (
+      within 1 refl,
+      within 2 refl,
+      within 3 refl,
+      within 4 refl,
+      within 5 refl,
+      within 6 refl,
+      within 7 refl,
+      within 8 refl,
+      beyond 9 refl,
+      beyond 10 refl,
+      beyond 11 refl,
+      beyond 12 refl,
+      beyond 13 refl,
+      beyond 14 refl,
+      beyond 15 refl,
+      beyond 16 refl,
+    ) (omega arith)
 
 -- ## Zeros behind a list
 

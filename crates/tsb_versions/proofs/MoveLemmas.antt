@@ -1,13 +1,9 @@
 -- The rings make the same moves on the wide plan.
-use Rattle.std.proofs.Common.{◌≡◌, ℕ, ◌≤◌, ◌==◌, Bool, true, false, not, ◌&&◌, ◌||◌, if◌then◌else◌, Option, Some, None, is_some, is_none, refl, sym, ◌∙◌, ap, ap₂}
+use Rattle.std.proofs.Common.{◌≡◌, ℕ, ◌≤◌, Bool, false, ◌&&◌, Option, Some, None, refl, ap₂}
 use Rattle.std.proofs.Math.Path.{fun_ext}
-use Rattle.tsb_types.specs.declared.flow.RingMoves.{RingMoves}
-use Rattle.tsb_types.specs.declared.flow.Moves.{Moves}
 use Rattle.tsb_types.specs.Intervals.{is_green}
 use Rattle.tsb_plan.specs.Plan.{Plan}
 use Rattle.tsb_ring.specs.Rings.{Ring, Ring1, Ring2, other, State, Given, own_ring, serving}
-use Rattle.tsb_ring.specs.Wants.{want_of, pick}
-use Rattle.tsb_ring.specs.Crossings.{begins, target_side, committed}
 use Rattle.tsb_ring.specs.Next.{is_none_or_over, makes_way, may_start, completes, start_now, starting, ends, clears, new_last, new_commitment, new_side, new_crossing, next}
 use Rattle.tsb_ring.specs.Moves.{if_passes, ring_moves, moves}
 use Rattle.tsb_versions.specs.Widened.{IsNarrow, widened}
@@ -31,8 +27,12 @@ may_start-same : (plan : Plan) (omitted : ℕ → Bool) (given : Given) (r : Rin
 may_start-same plan omitted given r None narrow =
     rw (serving-same plan omitted given r narrow) (none_or_over-same omitted given (serving plan given r))
 may_start-same plan omitted given r (Some c) narrow =
-    rw (serving-same plan omitted given r narrow, serving-same plan omitted given (other r) narrow,
-      none_or_over-same omitted given (serving plan given r), makes_way-same plan omitted given c (serving plan given (other r))) refl
+    rw (
+      serving-same plan omitted given r narrow,
+      serving-same plan omitted given (other r) narrow,
+      none_or_over-same omitted given (serving plan given r),
+      makes_way-same plan omitted given c (serving plan given (other r)),
+    ) refl
 
 completes-same : (plan : Plan) (s : State) (omitted : ℕ → Bool) (given : Given) → IsNarrow plan →
     completes (widened plan) s (wide_given omitted given) ≡ completes plan s given
@@ -67,8 +67,10 @@ clears-same : (plan : Plan) (s : State) (omitted : ℕ → Bool) (given : Given)
     clears (widened plan) s (wide_given omitted given) p ≡ clears plan s given p
 unfolding clears
 clears-same plan s omitted given p narrow none agree low =
-    rw (committed-same plan s omitted given (own_ring plan p) narrow none agree low,
-      starting-same plan s omitted given (own_ring plan p) narrow none) refl
+    rw (
+      committed-same plan s omitted given (own_ring plan p) narrow none agree low,
+      starting-same plan s omitted given (own_ring plan p) narrow none,
+    ) refl
 
 -- ## The rings after a tick
 
@@ -77,8 +79,13 @@ pub rings-same : (plan : Plan) (s : State) (omitted : ℕ → Bool) (given : Giv
     next (widened plan) s (wide_given omitted given) ≡ next plan s given
 unfolding next new_last new_commitment new_side new_crossing
 rings-same plan s omitted given narrow none agree low =
-    rw (fun_ext (λ r. last r), fun_ext (λ r. commitment r), begins-same plan s omitted given narrow none,
-      target_side-same plan s omitted given narrow none low, completes-same plan s omitted given narrow) refl
+    rw (
+      fun_ext (λ r. last r),
+      fun_ext (λ r. commitment r),
+      begins-same plan s omitted given narrow none,
+      target_side-same plan s omitted given narrow none low,
+      completes-same plan s omitted given narrow,
+    ) refl
   where
     last : (r : Ring) → new_last (widened plan) s (wide_given omitted given) r ≡ new_last plan s given r
     last r = rw (starting-same plan s omitted given r narrow none, completes-same plan s omitted given narrow) refl
@@ -95,7 +102,7 @@ ring_moves-same plan s omitted given r narrow none agree low =
     rw (endings, clearings, starting-same plan s omitted given r narrow none, committed-same plan s omitted given r narrow none agree low) refl
   where
     endings : if_passes (λ p. is_green (given.interval p) && ends (widened plan) s (wide_given omitted given) p)
-          (serving (widened plan) (wide_given omitted given) r)
+        (serving (widened plan) (wide_given omitted given) r)
         ≡ if_passes (λ p. is_green (given.interval p) && ends plan s given p) (serving plan given r)
     endings = ap₂ if_passes (fun_ext (λ p. rw (ends-same plan s omitted given p narrow none) refl)) (serving-same plan omitted given r narrow)
 
@@ -108,6 +115,10 @@ pub moves-same : (plan : Plan) (s : State) (omitted : ℕ → Bool) (given : Giv
     moves (widened plan) s (wide_given omitted given) ≡ moves plan s given
 unfolding moves
 moves-same plan s omitted given narrow none agree low =
-    rw (ring_moves-same plan s omitted given Ring1 narrow none agree low, ring_moves-same plan s omitted given Ring2 narrow none agree low,
-      begins-same plan s omitted given narrow none, target_side-same plan s omitted given narrow none low,
-      completes-same plan s omitted given narrow) refl
+    rw (
+      ring_moves-same plan s omitted given Ring1 narrow none agree low,
+      ring_moves-same plan s omitted given Ring2 narrow none agree low,
+      begins-same plan s omitted given narrow none,
+      target_side-same plan s omitted given narrow none low,
+      completes-same plan s omitted given narrow,
+    ) refl

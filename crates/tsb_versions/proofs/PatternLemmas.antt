@@ -1,18 +1,16 @@
 -- Patterns of the wide plan meet the rules where those of the narrow one do.
-use Rattle.std.proofs.Common.{zero, suc, ◌≡◌, ℕ, ◌+◌, ◌-◌, ◌<◌, ◌≤◌, ◌==◌, nat_le, nat_lt, Bool, true, false, not, ◌&&◌, ◌||◌, if◌then◌else◌, List, [], ◌∷◌, ◌++◌, Option, Some, None, refl, arith, sym, ◌∙◌, ap, ap₂, inl, inr, sum_by}
+use Rattle.std.proofs.Common.{◌≡◌, ℕ, ◌≤◌, ◌==◌, nat_le, Bool, true, false, not, ◌&&◌, ◌||◌, if◌then◌else◌, List, [], ◌∷◌, refl, arith, sym, ◌∙◌, ap, ap₂, sum_by}
 use Rattle.std.specs.List.{list_all, list_any}
 use Rattle.std.proofs.Math.Path.{fun_ext}
-use Rattle.std.proofs.lemmas.Bool.{cases_Bool}
 use Rattle.std.proofs.lemmas.Bool.Decides.{nat_tests}
 use Rattle.std.proofs.lemmas.List.Sums.{sum_by-cons}
 use Rattle.tsb_types.specs.Lists.{run_from}
 use Rattle.tsb_plan.specs.declared.object.Object.TheVariants.{PhaseSide}
 use Rattle.tsb_plan.specs.Parts.{is_used, split_of, sequence_of, is_coordinated, cycle}
-use Rattle.tsb_plan.specs.Plan.{Plan, phases, is_enabled, ring_of, side_of, is_concurrent}
-use Rattle.tsb_objects.specs.PatternRules.{some_and, each_pattern, names_sequence, is_whole, patterns_are_whole, holds_phase, holds_phases, splits_hold_phases, is_on, has_phases, split_on, split_sum, side_sum, rings_agree, rings_agree_on_sides, fills, splits_fill_cycles, may_coordinate, ends_with, agrees_with_all, is_coordinated_in, coordinated_count, has_one_in_each_ring, coordinates, has_coordinated, all_coordinate, coordinated_agree, coordinated_phases_agree}
-use Rattle.tsb_objects.specs.SequenceRules.{is_blank}
+use Rattle.tsb_plan.specs.Plan.{Plan, phases, is_enabled, ring_of, side_of}
+use Rattle.tsb_objects.specs.PatternRules.{some_and, each_pattern, names_sequence, is_whole, patterns_are_whole, holds_phase, holds_phases, splits_hold_phases, is_on, has_phases, split_on, split_sum, side_sum, rings_agree, rings_agree_on_sides, fills, splits_fill_cycles, ends_with, agrees_with_all, is_coordinated_in, coordinated_count, has_one_in_each_ring, coordinates, has_coordinated, all_coordinate, coordinated_agree, coordinated_phases_agree}
 use Rattle.tsb_versions.specs.Widened.{IsNarrow, widened}
-use Rattle.tsb_versions.proofs.ListLemmas.{is_narrow, is_beyond, IsSameOnNarrow}
+use Rattle.tsb_versions.proofs.ListLemmas.{is_narrow}
 use Rattle.tsb_versions.proofs.PlanLemmas.{any-same, all-same, sum-same, split_time-same, is_omitted-same, is_coordinated-same, not-coordinated}
 use Rattle.tsb_versions.proofs.CoordLemmas.{has_phases-same, split_sum-same, side_sum-same, split_end-same}
 use Rattle.tsb_versions.proofs.SequenceLemmas.{each_phase-same, is_blank-same}
@@ -159,4 +157,4 @@ coordinating-same plan narrow =
     (λ n. some_and (λ s. some_and (coordinated_agree (widened plan) s) (split_of plan n)) (sequence_of plan n))
     (λ n. some_and (λ s. some_and (coordinated_agree plan s) (split_of plan n)) (sequence_of plan n))
     (λ n. ap (λ (f : ℕ → Bool). some_and f (sequence_of plan n))
-      (fun_ext (λ s. ap (λ (f : ℕ → Bool). some_and f (split_of plan n)) (fun_ext (λ t. coordinated_agree-same plan s t narrow)))))
+    (fun_ext (λ s. ap (λ (f : ℕ → Bool). some_and f (split_of plan n)) (fun_ext (λ t. coordinated_agree-same plan s t narrow)))))

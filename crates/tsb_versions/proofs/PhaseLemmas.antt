@@ -1,6 +1,6 @@
 -- Phases 1 to 8 are timed the same on the wide plan, where orders are the same of them; and a phase that no ring moves
 -- stays as it was at power-up.
-use Rattle.std.proofs.Common.{◌≡◌, ℕ, ◌+◌, ◌*◌, ◌==◌, Bool, true, false, not, ◌&&◌, ◌||◌, if◌then◌else◌, Option, Some, None, is_some, is_none, refl, sym, ◌∙◌, ap, ap₂, inl, inr, sum_by}
+use Rattle.std.proofs.Common.{◌≡◌, ℕ, ◌==◌, Bool, true, false, if◌then◌else◌, Option, Some, None, refl, inl, inr}
 use Rattle.std.proofs.lemmas.Bool.{cases_Bool}
 use Rattle.tsb_cells.specs.declared.timer.Timer.{Timer}
 use Rattle.tsb_cells.specs.declared.timer.Timer.TheVariants.{Off, On}
@@ -9,17 +9,17 @@ use Rattle.tsb_types.specs.declared.interval.PedestrianInterval.TheVariants.{Don
 use Rattle.tsb_types.specs.declared.interval.Interval.{Interval}
 use Rattle.tsb_types.specs.declared.interval.Interval.TheVariants.{Red, Green, Yellow, RedClear}
 use Rattle.tsb_plan.specs.declared.object.Object.TheVariants.{UnitMax2}
-use Rattle.tsb_plan.specs.Plan.{Plan, phases, maximum, is_concurrent}
+use Rattle.tsb_plan.specs.Plan.{Plan, maximum}
 use Rattle.tsb_phase.specs.declared.ending.Ending.{Ending}
 use Rattle.tsb_phase.specs.declared.ending.Ending.TheVariants.{MaxOut, GapOut}
 use Rattle.tsb_phase.specs.Phase.{Phase, Given, Moved, Held, at_power_up, as_read, held_of}
-use Rattle.tsb_phase.specs.DynamicMaximum.{effective_maximum, maximum_in_use, stepped, running_maximum_after, last_ending_after, ending}
-use Rattle.tsb_phase.specs.Green.{waits_for, cars_waiting, begins_reduction, reduction_timer, gap, initial, initial_has_passed, gap_has_expired, gapped_latch, is_gapped, is_by_gap, has_maxed_out}
-use Rattle.tsb_phase.specs.Pedestrian.{ended_by, walk_time, clearance_time, after_walk, walk_has_ended, clearance_has_ended, pedestrian_after, pedestrian_now}
-use Rattle.tsb_phase.specs.Ready.{is_gapped_now, has_timed_out, may_end, green_is_done, is_ready, yellow_is_done, is_over_in, is_over, red_revert_passed}
-use Rattle.tsb_phase.specs.Next.{interval_after, new_interval, held_now, ending_now, next}
+use Rattle.tsb_phase.specs.DynamicMaximum.{effective_maximum, maximum_in_use, stepped, running_maximum_after}
+use Rattle.tsb_phase.specs.Green.{waits_for, cars_waiting, reduction_timer, gap, initial, gap_has_expired, gapped_latch, is_gapped, is_by_gap}
+use Rattle.tsb_phase.specs.Pedestrian.{ended_by, walk_time, clearance_time, pedestrian_after, pedestrian_now}
+use Rattle.tsb_phase.specs.Ready.{is_gapped_now, has_timed_out, green_is_done, is_ready, is_over_in, is_over, red_revert_passed}
+use Rattle.tsb_phase.specs.Next.{interval_after, held_now, ending_now, next}
 use Rattle.tsb_versions.specs.Widened.{IsNarrow, widened}
-use Rattle.tsb_versions.proofs.ListLemmas.{is_narrow, is_beyond, IsSameOnNarrow, IsBeyondNarrow}
+use Rattle.tsb_versions.proofs.ListLemmas.{is_narrow, IsSameOnNarrow, IsBeyondNarrow}
 use Rattle.tsb_versions.proofs.PlanLemmas.{sum-same}
 use Rattle.tsb_versions.proofs.CoordLemmas.{maximum_recall-same}
 
@@ -132,8 +132,11 @@ has_timed_out-same : (plan : Plan) (hold : ℕ → Bool) (given : Given) (p : �
     IsBeyondNarrow given.callable false →
     has_timed_out (widened plan) (wide_given hold given) p w ≡ has_timed_out plan given p w
 has_timed_out-same plan hold given p w narrow in_it none =
-    rw (is_gapped-same plan hold given p (held_of w) narrow none, maximum_recall-same plan given.runs p narrow in_it,
-      maximum_in_use-same plan p w.running_maximum) refl
+    rw (
+      is_gapped-same plan hold given p (held_of w) narrow none,
+      maximum_recall-same plan given.runs p narrow in_it,
+      maximum_in_use-same plan p w.running_maximum,
+    ) refl
 
 green_is_done-same : (plan : Plan) (hold : ℕ → Bool) (given : Given) (p : ℕ) (w : Phase) (o : Option ℕ) → IsNarrow plan →
     is_narrow p ≡ true → IsBeyondNarrow given.callable false → IsSameOnNarrow hold given.hold →
@@ -182,12 +185,14 @@ pub next-same : (plan : Plan) (hold : ℕ → Bool) (given : Given) (moved : Mov
     is_narrow p ≡ true → IsBeyondNarrow given.callable false →
     next (widened plan) (wide_given hold given) moved p was ≡ next plan given moved p was
 next-same plan hold given moved p was narrow in_it none =
-    rw (interval_after-same plan moved p (as_read was) (as_read was).interval,
+    rw (
+      interval_after-same plan moved p (as_read was) (as_read was).interval,
       pedestrian_now-same plan hold given p (as_read was),
       ending_now-same plan hold given p (as_read was) narrow in_it none,
       running_maximum_after-same plan p (ending_now plan given p (as_read was)) (as_read was),
       gapped_latch-same plan hold given p (held_now moved p (as_read was)) narrow none,
-      reduction_timer-same plan hold given p (held_now moved p (as_read was)) narrow none) refl
+      reduction_timer-same plan hold given p (held_now moved p (as_read was)) narrow none,
+    ) refl
 
 -- a phase that was as at power-up, and that no ring moves, is as at power-up
 pub stays_at_power_up : (plan : Plan) (given : Given) (moved : Moved) (p : ℕ) (was : Phase) → was ≡ at_power_up →

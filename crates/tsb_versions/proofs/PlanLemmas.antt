@@ -1,16 +1,15 @@
 -- What a plan of version 1 gives of phases beyond the eighth, and where the wide plan has the values of its rows.
-use Rattle.std.proofs.Common.{zero, suc, ◌≡◌, ℕ, ◌+◌, ◌-◌, ◌*◌, ◌/◌, ◌%◌, ◌^◌, ◌<◌, ◌≤◌, ◌==◌, nat_le, nat_lt, Bool, true, false, not, ◌&&◌, ◌||◌, ◌⊎◌, if◌then◌else◌, List, [], ◌∷◌, ◌++◌, Option, Some, None, refl, arith, sym, ◌∙◌, ap, inl, inr, sum_by, map}
+use Rattle.std.proofs.Common.{◌≡◌, ℕ, ◌+◌, ◌-◌, ◌*◌, ◌/◌, ◌%◌, ◌≤◌, ◌==◌, nat_le, nat_lt, Bool, true, false, ◌&&◌, ◌⊎◌, List, [], ◌∷◌, ◌++◌, refl, arith, ◌∙◌, ap, inl, inr, sum_by, map}
 use Rattle.std.specs.List.{list_all, list_any}
-use Rattle.std.proofs.lemmas.Bool.{eqb-true, cases_Bool, and_parts}
+use Rattle.std.proofs.lemmas.Bool.{cases_Bool}
 use Rattle.std.proofs.lemmas.Bool.Decides.{nat_tests}
 use Rattle.tsb_types.specs.Lists.{first, run_from}
 use Rattle.tsb_types.specs.Sets.{names}
 use Rattle.tsb_types.proofs.SetLemmas.{names-above}
-use Rattle.tsb_plan.specs.declared.object.Object.{Object}
-use Rattle.tsb_plan.specs.declared.object.Object.TheVariants.{PhaseEnabled, PhaseRing, PhaseSide, PhaseConcurrency, OverlapIncludedPhases, OverlapModifierPhases, PreemptTrackPhase, PreemptDwellPhase, PreemptExitPhase, SplitTime, SplitMode, SplitCoordPhase, SequenceData}
-use Rattle.tsb_plan.specs.Plan.{Plan, phases, is_enabled, ring_of, side_of, is_concurrent, sequence}
-use Rattle.tsb_plan.specs.Parts.{split_index, mode_of, split_time, split_mode, is_omitted, is_coordinated, is_included, is_modifier, is_track_phase, is_dwell_phase, is_exit_phase}
-use Rattle.tsb_ring.specs.Rings.{Ring, Ring1, Ring2, in_ring, number}
+use Rattle.tsb_plan.specs.declared.object.Object.TheVariants.{PhaseEnabled, PhaseRing, PhaseConcurrency, SplitTime, SplitMode, SplitCoordPhase, SequenceData}
+use Rattle.tsb_plan.specs.Plan.{Plan, phases, is_enabled, is_concurrent, sequence}
+use Rattle.tsb_plan.specs.Parts.{split_index, mode_of, split_time, split_mode, is_omitted, is_coordinated}
+use Rattle.tsb_ring.specs.Rings.{Ring, Ring1, Ring2, in_ring}
 use Rattle.tsb_versions.specs.Widened.{IsNarrow, widened, widened_row}
 use Rattle.tsb_versions.proofs.ListLemmas.{is_narrow, is_beyond, IsSameOnNarrow, IsBeyondNarrow, first-phases, any-phases, all-phases, sum-phases}
 
@@ -140,14 +139,24 @@ places : (v : ℕ → ℕ) (s r : ℕ) →
     ≡ map (λ k. v (16 * (s - 1) + 8 * (r - 1) + k)) (run_from 1 8) ++ zeros
 unfolding run_from
 places v s r =
-    cc (place-same v s r 1 (omega arith) (omega arith), place-same v s r 2 (omega arith) (omega arith),
-      place-same v s r 3 (omega arith) (omega arith), place-same v s r 4 (omega arith) (omega arith),
-      place-same v s r 5 (omega arith) (omega arith), place-same v s r 6 (omega arith) (omega arith),
-      place-same v s r 7 (omega arith) (omega arith), place-same v s r 8 (omega arith) (omega arith),
-      place-behind v s r 9 (omega arith) (omega arith), place-behind v s r 10 (omega arith) (omega arith),
-      place-behind v s r 11 (omega arith) (omega arith), place-behind v s r 12 (omega arith) (omega arith),
-      place-behind v s r 13 (omega arith) (omega arith), place-behind v s r 14 (omega arith) (omega arith),
-      place-behind v s r 15 (omega arith) (omega arith), place-behind v s r 16 (omega arith) (omega arith))
+    cc (
+      place-same v s r 1 (omega arith) (omega arith),
+      place-same v s r 2 (omega arith) (omega arith),
+      place-same v s r 3 (omega arith) (omega arith),
+      place-same v s r 4 (omega arith) (omega arith),
+      place-same v s r 5 (omega arith) (omega arith),
+      place-same v s r 6 (omega arith) (omega arith),
+      place-same v s r 7 (omega arith) (omega arith),
+      place-same v s r 8 (omega arith) (omega arith),
+      place-behind v s r 9 (omega arith) (omega arith),
+      place-behind v s r 10 (omega arith) (omega arith),
+      place-behind v s r 11 (omega arith) (omega arith),
+      place-behind v s r 12 (omega arith) (omega arith),
+      place-behind v s r 13 (omega arith) (omega arith),
+      place-behind v s r 14 (omega arith) (omega arith),
+      place-behind v s r 15 (omega arith) (omega arith),
+      place-behind v s r 16 (omega arith) (omega arith),
+    )
 
 -- a sequence of the wide plan is that of the narrow one with zeros behind it
 pub sequence-same : (plan : Plan) (s r : ℕ) → IsNarrow plan → sequence (widened plan) s r ≡ sequence plan s r ++ zeros

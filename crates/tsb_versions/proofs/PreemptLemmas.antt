@@ -1,5 +1,5 @@
 -- Preempts do the same on the wide plan.
-use Rattle.std.proofs.Common.{◌≡◌, ℕ, ◌≤◌, Bool, true, false, not, ◌&&◌, ◌||◌, if◌then◌else◌, Option, Some, None, is_some, is_none, refl, sym, ◌∙◌, ap, ap₂}
+use Rattle.std.proofs.Common.{◌≡◌, ℕ, Bool, true, false, not, ◌||◌, Option, Some, None, refl, ap}
 use Rattle.std.proofs.Math.Path.{fun_ext}
 use Rattle.tsb_types.specs.declared.interval.Interval.{Interval}
 use Rattle.tsb_types.specs.declared.stage.Stage.{Stage}
@@ -8,7 +8,7 @@ use Rattle.tsb_types.specs.Intervals.{is_green}
 use Rattle.tsb_plan.specs.declared.object.Object.TheVariants.{PreemptTrackPhase, PreemptExitPhase}
 use Rattle.tsb_plan.specs.Plan.{Plan}
 use Rattle.tsb_plan.specs.Parts.{is_track_phase, is_exit_phase}
-use Rattle.tsb_preempt.specs.Service.{Service, stage_phases, all_green, track_timer, ends_track, ends_exit, stage_after, new_stage, with_stage, moved}
+use Rattle.tsb_preempt.specs.Service.{Service, stage_phases, all_green, track_timer, stage_after, with_stage, moved}
 use Rattle.tsb_preempt.specs.Preempts.{Preempts, Given, as_read, has_input, requesting, beginning, going_on, service_by, new_service, dwell_ends_of, dwell_ends, new_spent, service_ended, wanted_by, target, must_end, next}
 use Rattle.tsb_versions.specs.Widened.{IsNarrow, widened}
 use Rattle.tsb_versions.proofs.ListLemmas.{is_beyond}

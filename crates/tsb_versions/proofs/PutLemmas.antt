@@ -1,5 +1,5 @@
 -- Values of version 1 that are put in turn, and the built-in plans.
-use Rattle.std.proofs.Common.{◌≡◌, ℕ, ◌≤◌, nat_le, Bool, true, false, ◌&&◌, if◌then◌else◌, List, [], ◌∷◌, map, refl, arith, sym, ◌∙◌, ap, inl, inr}
+use Rattle.std.proofs.Common.{◌≡◌, ℕ, nat_le, Bool, true, ◌&&◌, List, [], ◌∷◌, refl, arith, sym, ◌∙◌, ap, inl, inr}
 use Rattle.std.specs.List.{list_all}
 use Rattle.std.proofs.Math.Path.{fun_ext}
 use Rattle.std.proofs.lemmas.Bool.{cases_Bool, and_parts}
@@ -9,8 +9,8 @@ use Rattle.tsb_plan.specs.declared.version.Version.TheVariants.{One}
 use Rattle.tsb_plan.specs.Plan.{Plan, empty, with_value, with_values}
 use Rattle.tsb_plan.specs.Quad.{quad, quad_rows, quad_values, row, with_rows}
 use Rattle.tsb_plan.specs.Two.{two, two_values}
-use Rattle.tsb_plan.specs.Versions.{is_in_rows, has_index_in, greatest_in, translated}
-use Rattle.tsb_versions.specs.Widened.{IsNarrow, is_of_version_1, widened_value, widened, IsOfTable}
+use Rattle.tsb_plan.specs.Versions.{is_in_rows, has_index_in, greatest_in}
+use Rattle.tsb_versions.specs.Widened.{IsNarrow, is_of_version_1, widened_value, widened}
 use Rattle.tsb_versions.specs.BuiltIn.{narrow_empty, AreValues, widened_puts, narrow_two, narrow_quad, narrow_quad_values}
 use Rattle.tsb_versions.specs.Laws.{IsWideOf}
 use Rattle.tsb_versions.proofs.DeskLemmas.{from-one, with_value-same, put-narrow}
@@ -36,9 +36,9 @@ no-value o k =
     elim (cases_Bool (is_in_rows o)) [
       | inr flat ↦ rw flat refl
       | inl rows ↦ elim (cases_Bool (is_of_version_1 k)) [
-          | inl at ↦ rw (rows, at) refl
-          | inr out ↦ rw (rows, out) refl
-        ]
+        | inl at ↦ rw (rows, at) refl
+        | inr out ↦ rw (rows, out) refl
+      ]
     ]
 
 empty-wide : widened narrow_empty ≡ empty
@@ -79,9 +79,47 @@ AreFlat (e ∷ es) = (list_all fits (row e.0 1 e.1) ≡ true) × (widened_puts (
 
 quad-flat : AreFlat quad_rows
 unfolding AreFlat
-quad-flat =
-    (refl, refl, (refl, refl, (refl, refl, (refl, refl, (refl, refl, (refl, refl, (refl, refl, (refl, refl, (refl, refl, (refl, refl,
-    (refl, refl, (refl, refl, (refl, refl, (refl, refl, (refl, refl, (refl, refl, (refl, refl, (refl, refl, (refl, refl, (refl, refl, tt))))))))))))))))))))
+quad-flat = (
+  refl,
+  refl,
+  (
+    refl,
+    refl,
+    (
+      refl,
+      refl,
+      (
+        refl,
+        refl,
+        (
+          refl,
+          refl,
+          (
+            refl,
+            refl,
+            (
+              refl,
+              refl,
+              (
+                refl,
+                refl,
+                (
+                  refl,
+                  refl,
+                  (
+                    refl,
+                    refl,
+                    (refl, refl, (refl, refl, (refl, refl, (refl, refl, (refl, refl, (refl, refl, (refl, refl, (refl, refl, (refl, refl, (refl, refl, tt)))))))))),
+                  ),
+                ),
+              ),
+            ),
+          ),
+        ),
+      ),
+    ),
+  ),
+)
 
 rows-narrow : (plan : Plan) (rows : List (Object × List ℕ)) → IsNarrow plan → AreFlat rows → IsNarrow (with_rows plan rows)
 unfolding AreFlat

@@ -1,16 +1,14 @@
 -- On a plan of version 1 the rings serve, commit to and start phases 1 to 8 alone, and cross to sides up to 2.
-use Rattle.std.proofs.Common.{zero, suc, ◌≡◌, ℕ, ◌+◌, ◌-◌, ◌<◌, ◌≤◌, ◌==◌, Bool, true, false, not, ◌&&◌, ◌||◌, if◌then◌else◌, List, [], ◌∷◌, ◌++◌, Option, Some, None, is_some, is_none, refl, arith, sym, ◌∙◌, ap, ap₂, subst, inl, inr}
+use Rattle.std.proofs.Common.{zero, suc, ◌≡◌, ℕ, ◌+◌, ◌-◌, ◌≤◌, ◌==◌, Bool, true, false, ◌&&◌, ◌||◌, if◌then◌else◌, List, [], ◌∷◌, ◌++◌, Option, Some, None, is_some, is_none, refl, arith, sym, ◌∙◌, subst, inl, inr}
 use Rattle.std.proofs.lemmas.Bool.{cases_Bool, and_parts, eqb-true}
-use Rattle.tsb_types.specs.declared.flow.RingMoves.{RingMoves}
-use Rattle.tsb_types.specs.declared.flow.Moves.{Moves}
 use Rattle.tsb_types.specs.Intervals.{is_green, in_service}
 use Rattle.tsb_types.specs.Lists.{first, is, run_from, later, not_later, or_else, or_number}
 use Rattle.tsb_plan.specs.declared.object.Object.TheVariants.{PhaseSide}
-use Rattle.tsb_plan.specs.Plan.{Plan, phases, is_enabled, side_of, sides_after}
+use Rattle.tsb_plan.specs.Plan.{Plan, phases, sides_after}
 use Rattle.tsb_ring.specs.declared.want.Want.{Want}
 use Rattle.tsb_ring.specs.declared.want.Want.TheVariants.{Go, Cross, Rest, Stop}
-use Rattle.tsb_ring.specs.Rings.{Ring, Ring1, Ring2, other, State, Given, in_ring, serving}
-use Rattle.tsb_ring.specs.Wants.{go_or, concurrent_with, fits, is_on_side, is_candidate, is_called_elsewhere, want_within, want_by_calls, is_targeted, serves_target, targeted_here, is_targeted_elsewhere, want_by_target, want_found, is_idle_or_green, want, may_take, taken, picked_before, want_of, pick}
+use Rattle.tsb_ring.specs.Rings.{Ring, Ring1, Ring2, State, Given, in_ring, serving}
+use Rattle.tsb_ring.specs.Wants.{go_or, concurrent_with, fits, is_on_side, is_candidate, is_called_elsewhere, is_targeted, serves_target, targeted_here, is_targeted_elsewhere, want_found, is_idle_or_green, want, may_take, taken, picked_before, want_of, pick}
 use Rattle.tsb_ring.specs.Crossings.{begins, is_called_on, side_of_or, side_sought, target_side, may_enter, dual, is_called_in, called_in_ring_1, called_in_ring_2, entry_by_calls, entry_for, entry, own_commitment, committed}
 use Rattle.tsb_ring.specs.Next.{may_start, completes, idle_pick, start_now, starting, ends, new_commitment, new_side, new_crossing, next}
 use Rattle.tsb_ring.specs.Moves.{if_passes, ring_moves, moves, is_ended, is_started}
@@ -182,7 +180,7 @@ unfolding committed entry
 committed-narrow plan s given r narrow e = go (begins plan s given)
   where
     go : (b : Bool) → narrow_or_none (if b then entry_for plan s given r given.target
-          else own_commitment (s.commitment r) (serving plan given r) (pick plan s given r)) ≡ true
+        else own_commitment (s.commitment r) (serving plan given r) (pick plan s given r)) ≡ true
     go true = entry_for-narrow plan s given r given.target narrow
     go false = own-narrow (s.commitment r) (serving plan given r) (pick plan s given r) e (pick-narrow plan s given r narrow)
 

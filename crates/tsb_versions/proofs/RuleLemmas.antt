@@ -1,17 +1,15 @@
 -- The wide plan breaks the rule that the narrow one breaks first, or none with it.
-use Rattle.std.proofs.Common.{◌≡◌, ℕ, ◌≤◌, ◌==◌, nat_le, Bool, true, false, not, ◌&&◌, ◌||◌, List, [], ◌∷◌, Option, Some, None, refl, arith, sym, ◌∙◌, ap, ap₂, inl, inr}
-use Rattle.std.specs.List.{list_all, list_any}
+use Rattle.std.proofs.Common.{◌≡◌, ℕ, ◌≤◌, ◌==◌, nat_le, Bool, true, false, not, ◌&&◌, ◌||◌, List, [], ◌∷◌, refl, arith, sym, ◌∙◌, ap}
+use Rattle.std.specs.List.{list_all}
 use Rattle.std.proofs.Math.Path.{fun_ext}
-use Rattle.std.proofs.lemmas.Bool.{cases_Bool}
 use Rattle.std.proofs.lemmas.Bool.Decides.{nat_tests}
 use Rattle.tsb_types.specs.Lists.{run_from}
 use Rattle.tsb_types.specs.Sets.{names}
 use Rattle.tsb_types.proofs.SetLemmas.{names-zero}
 use Rattle.tsb_plan.specs.declared.object.Object.TheVariants.{PhaseSide, PhaseConcurrency, OverlapIncludedPhases, OverlapModifierPhases, PreemptTrackPhase, PreemptDwellPhase, PreemptExitPhase}
 use Rattle.tsb_plan.specs.Plan.{Plan, phases, is_enabled, ring_of, side_of, is_concurrent}
-use Rattle.tsb_objects.specs.Rules.{some_enabled, is_placed, are_placed, unused_lists_are_empty, may_be_concurrent, names_across_rings, lists_name_across_rings, is_named_back, concurrency_is_symmetric, yellows_are_long, gaps_can_reduce, reaches_minimum, maximums_reach_minimums, has_walk, recalled_pedestrians_walk, detectors_call_phases, pedestrian_detectors_call_walks, names_enabled, included_phases_are_enabled, goes_with_all, names_concurrent, has_concurrent_lists, preempts_are_concurrent, preempts_dwell, modifies_rightly, modifiers_are_right, limits_reach_minimums, broken_by_rings, broken_by_phases, broken_by_parts, broken_by_extensions, first_broken}
+use Rattle.tsb_objects.specs.Rules.{some_enabled, is_placed, are_placed, unused_lists_are_empty, may_be_concurrent, names_across_rings, lists_name_across_rings, is_named_back, concurrency_is_symmetric, yellows_are_long, gaps_can_reduce, reaches_minimum, maximums_reach_minimums, recalled_pedestrians_walk, names_enabled, included_phases_are_enabled, goes_with_all, names_concurrent, has_concurrent_lists, preempts_are_concurrent, modifies_rightly, modifiers_are_right, limits_reach_minimums, broken_by_rings, broken_by_phases, broken_by_parts, broken_by_extensions, first_broken}
 use Rattle.tsb_versions.specs.Widened.{IsNarrow, widened}
-use Rattle.tsb_versions.proofs.ListLemmas.{is_narrow, is_beyond, IsSameOnNarrow, IsBeyondNarrow}
 use Rattle.tsb_versions.proofs.PlanLemmas.{any-same, all-same, beyond-narrow, not-enabled, names-none, not-concurrent}
 use Rattle.tsb_versions.proofs.SequenceLemmas.{each_phase-same, first_sequence-same, other_sequences-same}
 use Rattle.tsb_versions.proofs.PatternLemmas.{whole-same, holding-same, filling-same, coordinating-same}
@@ -76,8 +74,15 @@ symmetric-same plan narrow =
 broken_by_rings-same : (plan : Plan) → IsNarrow plan → broken_by_rings (widened plan) ≡ broken_by_rings plan
 unfolding broken_by_rings
 broken_by_rings-same plan narrow =
-    rw (some_enabled-same plan narrow, are_placed-same plan narrow, unused-same plan narrow, all_across-same plan narrow,
-      symmetric-same plan narrow, first_sequence-same plan narrow, other_sequences-same plan narrow) refl
+    rw (
+      some_enabled-same plan narrow,
+      are_placed-same plan narrow,
+      unused-same plan narrow,
+      all_across-same plan narrow,
+      symmetric-same plan narrow,
+      first_sequence-same plan narrow,
+      other_sequences-same plan narrow,
+    ) refl
 
 -- ## Times and calls of phases
 
@@ -123,9 +128,11 @@ names_concurrent-same plan list narrow few =
 
 concurrent_lists-same : (plan : Plan) (n : ℕ) → IsNarrow plan → has_concurrent_lists (widened plan) n ≡ has_concurrent_lists plan n
 concurrent_lists-same plan n narrow =
-    rw (names_concurrent-same plan (plan.value PreemptTrackPhase n) narrow (narrow.bounded PreemptTrackPhase n),
+    rw (
+      names_concurrent-same plan (plan.value PreemptTrackPhase n) narrow (narrow.bounded PreemptTrackPhase n),
       names_concurrent-same plan (plan.value PreemptDwellPhase n) narrow (narrow.bounded PreemptDwellPhase n),
-      names_concurrent-same plan (plan.value PreemptExitPhase n) narrow (narrow.bounded PreemptExitPhase n)) refl
+      names_concurrent-same plan (plan.value PreemptExitPhase n) narrow (narrow.bounded PreemptExitPhase n),
+    ) refl
 
 preempts-same : (plan : Plan) → IsNarrow plan → preempts_are_concurrent (widened plan) ≡ preempts_are_concurrent plan
 preempts-same plan narrow =
@@ -134,8 +141,14 @@ preempts-same plan narrow =
 broken_by_parts-same : (plan : Plan) → IsNarrow plan → broken_by_parts (widened plan) ≡ broken_by_parts plan
 unfolding broken_by_parts
 broken_by_parts-same plan narrow =
-    rw (included-same plan narrow, preempts-same plan narrow, whole-same plan narrow, holding-same plan narrow, filling-same plan narrow,
-      coordinating-same plan narrow) refl
+    rw (
+      included-same plan narrow,
+      preempts-same plan narrow,
+      whole-same plan narrow,
+      holding-same plan narrow,
+      filling-same plan narrow,
+      coordinating-same plan narrow,
+    ) refl
 
 -- ## What version 1 has not
 
@@ -158,5 +171,9 @@ broken_by_extensions-same plan narrow = rw (modifiers-same plan narrow, limits-s
 pub first_broken-same : (plan : Plan) → IsNarrow plan → first_broken (widened plan) ≡ first_broken plan
 unfolding first_broken
 first_broken-same plan narrow =
-    rw (broken_by_rings-same plan narrow, broken_by_phases-same plan narrow, broken_by_parts-same plan narrow,
-      broken_by_extensions-same plan narrow) refl
+    rw (
+      broken_by_rings-same plan narrow,
+      broken_by_phases-same plan narrow,
+      broken_by_parts-same plan narrow,
+      broken_by_extensions-same plan narrow,
+    ) refl

@@ -1,5 +1,5 @@
 -- Both benches after a pile of inputs.
-use Rattle.std.proofs.Common.{◌≡◌, ◌≢◌, ◌↔◌, ℕ, ◌+◌, ◌<◌, ◌≤◌, nat_le, nat_lt, Bool, true, false, if◌then◌else◌, List, [], ◌∷◌, map, Option, Some, None, refl, arith, sym, ◌∙◌, true≢false, ap, ap₂, subst, inl, inr}
+use Rattle.std.proofs.Common.{◌≡◌, ◌≢◌, ◌↔◌, ℕ, ◌<◌, true, false, List, [], ◌∷◌, map, refl, arith, sym, ◌∙◌, true≢false, ap, ap₂, subst, inl, inr}
 use Rattle.std.proofs.Math.Path.{fun_ext}
 use Rattle.std.proofs.lemmas.Bool.{cases_Bool}
 use Rattle.std.proofs.lemmas.Bool.Decides.{nat_tests}
@@ -8,14 +8,12 @@ use Rattle.tsb_plan.specs.declared.version.Version.TheVariants.{One}
 use Rattle.tsb_plan.specs.Plan.{Plan, is_enabled}
 use Rattle.tsb_plan.specs.Versions.{is_in_rows, has_index_in, translated}
 use Rattle.tsb_objects.specs.Rules.{first_broken}
-use Rattle.tsb_phase.specs.Phase as phase
-use Rattle.tsb_coord.specs.Coordinated as coordination
 use Rattle.tsb_step.specs.declared.inputs.Input.{Input}
-use Rattle.tsb_step.specs.State.{State, start}
+use Rattle.tsb_step.specs.State.{State}
 use Rattle.tsb_step.specs.Runs.{replay, AreTaken}
 use Rattle.tsb_step.specs.Signs.{display, field, local, stage}
 use Rattle.tsb_step.specs.Step.{step, verdict}
-use Rattle.tsb_versions.specs.Widened.{IsNarrow, is_of_version_1, narrowed, widened_value, widened, widened_input, IsWithin, AreWithin, widened_state}
+use Rattle.tsb_versions.specs.Widened.{IsNarrow, is_of_version_1, narrowed, widened, widened_input, IsWithin, AreWithin, widened_state}
 use Rattle.tsb_versions.specs.Laws.{SaysTheSame, RestsBeyond}
 use Rattle.tsb_versions.proofs.ListLemmas.{is_narrow}
 use Rattle.tsb_versions.proofs.PlanLemmas.{not-enabled}
@@ -23,7 +21,8 @@ use Rattle.tsb_versions.proofs.CoordLemmas.{local-same}
 use Rattle.tsb_versions.proofs.TickLemmas.{IsNarrowState}
 use Rattle.tsb_versions.proofs.RuleLemmas.{first_broken-same}
 use Rattle.tsb_versions.proofs.DeskLemmas.{from-one, row_index-of, row_index-back, row_index-there, value-same, translated-row, translated-flat}
-use Rattle.tsb_versions.proofs.StepLemmas.{shows-same, fields-same, step-same, step-narrow, start-narrow, verdict-same}
+use Rattle.tsb_versions.proofs.StepLemmas.{shows-same, fields-same, step-same, step-narrow, start-narrow}
+use Rattle.tsb_versions.proofs.RefusalLemmas.{verdict-same}
 
 -- ## The wide plan
 
@@ -34,9 +33,9 @@ nothing-elsewhere narrow o k is other =
     elim (cases_Bool (is_in_rows o)) [
       | inr flat ↦ rw flat (is.placed o k (not-at k (translated-flat o k flat)))
       | inl rows ↦ elim (cases_Bool (is_of_version_1 k)) [
-          | inr out ↦ rw (rows, out) refl
-          | inl at ↦ rw (rows, at) (is.placed o (narrowed k) (not-at (narrowed k) (translated-row o (narrowed k) rows ∙ row_index-there k at)))
-        ]
+        | inr out ↦ rw (rows, out) refl
+        | inl at ↦ rw (rows, at) (is.placed o (narrowed k) (not-at (narrowed k) (translated-row o (narrowed k) rows ∙ row_index-there k at)))
+      ]
     ]
   where
     not-at : (i : ℕ) → translated One o i ≡ k → has_index_in One o i ≡ false
@@ -74,11 +73,11 @@ same-value narrow wide o k is says =
     elim (cases_Bool (is_in_rows o)) [
       | inr flat ↦ same-at narrow wide o k k is says (translated-flat o k flat) (λ j has f. sym (translated-flat o j flat) ∙ f)
       | inl rows ↦ elim (cases_Bool (is_of_version_1 k)) [
-          | inl at ↦ same-at narrow wide o k (narrowed k) is says (translated-row o (narrowed k) rows ∙ row_index-there k at)
-              (λ j has f. sym (row_index-back j (from-one o j has)) ∙ ap narrowed (sym (translated-row o j rows) ∙ f))
-          | inr out ↦ same-nothing narrow wide o k is says
-              (λ i has e. true≢false (sym (subst (λ n. is_of_version_1 n ≡ true) (sym (translated-row o i rows) ∙ e) (row_index-of i)) ∙ out))
-        ]
+        | inl at ↦ same-at narrow wide o k (narrowed k) is says (translated-row o (narrowed k) rows ∙ row_index-there k at)
+            (λ j has f. sym (row_index-back j (from-one o j has)) ∙ ap narrowed (sym (translated-row o j rows) ∙ f))
+        | inr out ↦ same-nothing narrow wide o k is says
+            (λ i has e. true≢false (sym (subst (λ n. is_of_version_1 n ≡ true) (sym (translated-row o i rows) ∙ e) (row_index-of i)) ∙ out))
+      ]
     ]
 
 pub wide_plans : (narrow wide : Plan) → IsNarrow narrow → SaysTheSame narrow wide ↔ (wide ≡ widened narrow)

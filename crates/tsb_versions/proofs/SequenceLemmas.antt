@@ -1,14 +1,14 @@
 -- Sequences of the wide plan meet the rules where those of the narrow one do.
-use Rattle.std.proofs.Common.{zero, suc, ◌≡◌, ℕ, ◌+◌, ◌-◌, ◌<◌, ◌≤◌, ◌==◌, nat_le, Bool, true, false, not, ◌&&◌, ◌||◌, if◌then◌else◌, List, [], ◌∷◌, ◌++◌, Option, Some, None, refl, arith, sym, ◌∙◌, ap, ap₂, inl, inr}
+use Rattle.std.proofs.Common.{◌≡◌, ℕ, ◌≤◌, ◌==◌, nat_le, Bool, false, not, ◌&&◌, ◌||◌, List, [], ◌∷◌, ◌++◌, refl, arith, ◌∙◌, ap, ap₂, inl, inr}
 use Rattle.std.specs.List.{list_all, list_any}
 use Rattle.std.proofs.Math.Path.{fun_ext}
-use Rattle.std.proofs.lemmas.Bool.{cases_Bool, and_parts, eqb-true}
+use Rattle.std.proofs.lemmas.Bool.{cases_Bool}
 use Rattle.std.proofs.lemmas.Bool.Decides.{nat_tests}
-use Rattle.tsb_types.specs.Lists.{run_from, among}
-use Rattle.tsb_plan.specs.Plan.{Plan, phases, is_enabled, ring_of, side_of, sequence}
+use Rattle.tsb_types.specs.Lists.{among}
+use Rattle.tsb_plan.specs.Plan.{Plan, is_enabled, ring_of, side_of, sequence}
 use Rattle.tsb_objects.specs.SequenceRules.{each_phase, lists_only, lists_each, lists_once, rises, is_zeros, zeros_last, is_ordered, sequence_is_ordered, is_blank, first_sequence_is_ordered, other_sequences_are_ordered}
 use Rattle.tsb_versions.specs.Widened.{IsNarrow, widened}
-use Rattle.tsb_versions.proofs.ListLemmas.{is_narrow, is_beyond, IsSameOnNarrow, all_zero, zero-cons, all-behind}
+use Rattle.tsb_versions.proofs.ListLemmas.{IsSameOnNarrow, all-behind}
 use Rattle.tsb_versions.proofs.PlanLemmas.{all-same, narrow-bounds, beyond-narrow, not-enabled, zeros, sequence-same}
 
 pub each_phase-same : (plan : Plan) (same test : ℕ → Bool) → IsNarrow plan → IsSameOnNarrow same test →

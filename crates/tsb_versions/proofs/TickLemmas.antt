@@ -1,9 +1,8 @@
 -- A tick makes the same of both benches.
-use Rattle.std.proofs.Common.{◌≡◌, ℕ, ◌+◌, ◌≤◌, Bool, true, false, not, ◌&&◌, ◌||◌, if◌then◌else◌, List, ◌++◌, Option, Some, None, All, is_some, option_map, refl, sym, ◌∙◌, ap, ap₂, inl, inr}
+use Rattle.std.proofs.Common.{◌≡◌, ℕ, ◌+◌, ◌≤◌, true, false, List, ◌++◌, Option, Some, None, option_map, refl, sym, ◌∙◌, ap, ap₂, inl, inr}
 use Rattle.std.proofs.Math.Path.{fun_ext}
 use Rattle.std.proofs.lemmas.Bool.{cases_Bool}
 use Rattle.tsb_cells.specs.declared.timer.Timer.{Timer}
-use Rattle.tsb_types.specs.declared.flow.Moves.{Moves}
 use Rattle.tsb_types.specs.declared.row.Row.{Row}
 use Rattle.tsb_types.specs.Sets.{has_number}
 use Rattle.tsb_plan.specs.Plan.{Plan}
@@ -19,11 +18,10 @@ use Rattle.tsb_ring.specs.Rings as rings
 use Rattle.tsb_ring.specs.Rings.{Ring, number}
 use Rattle.tsb_ring.specs.Next as rings_next
 use Rattle.tsb_coord.specs.Coordinated.{serving_order}
-use Rattle.tsb_step.specs.State.{State, interval}
-use Rattle.tsb_step.specs.Tick.{new_service, service, service_ended, target, must_end, runs, hold, forced, omitted, green_timer, new_detectors, calls_given, set, callable, conflict, pedestrian_call, phases_given, phase_read, ready, over, reverted, gapped, rings_given, moves, moved, done, next, preempts_given, preempts_read}
-use Rattle.tsb_transact.specs.declared.edit.Edit.{Edit}
+use Rattle.tsb_step.specs.State.{State}
+use Rattle.tsb_step.specs.Tick.{new_service, service, hold, forced, omitted, green_timer, new_detectors, calls_given, set, callable, conflict, pedestrian_call, phases_given, phase_read, ready, over, reverted, gapped, rings_given, moves, moved, done, next, preempts_given, preempts_read}
 use Rattle.tsb_versions.specs.Widened.{IsNarrow, widened, widened_state, AreOfTable, IsLampWithin}
-use Rattle.tsb_versions.proofs.ListLemmas.{is_narrow, is_beyond, IsSameOnNarrow, IsBeyondNarrow}
+use Rattle.tsb_versions.proofs.ListLemmas.{is_narrow, IsSameOnNarrow, IsBeyondNarrow}
 use Rattle.tsb_versions.proofs.PlanLemmas.{zeros, beyond-narrow}
 use Rattle.tsb_versions.proofs.CoordLemmas.{running-same, asks_hold-same, asks_omit-same, asks_force_off-same, serving_order-same}
 use Rattle.tsb_versions.proofs.PreemptLemmas as preempts
@@ -73,8 +71,11 @@ detectors-same s row =
 calls_given-same : (s : State) (row : Row) → IsNarrow s.plan →
     calls_given (widened_state s) row ≡ calls.wide_given (omitted (widened_state s)) (calls_given s row)
 calls_given-same s row narrow =
-    rw (detectors-same s row, running-same s.plan s.pattern,
-      preempts.service_ended-same s.plan (preempts_given s row) (preempts_read s) narrow) refl
+    rw (
+      detectors-same s row,
+      running-same s.plan s.pattern,
+      preempts.service_ended-same s.plan (preempts_given s row) (preempts_read s) narrow,
+    ) refl
 
 set-same : (s : State) (row : Row) → IsNarrow s.plan → set (widened_state s) row ≡ set s row
 set-same s row narrow =
@@ -116,9 +117,17 @@ phases_given-same : (s : State) (row : Row) → IsNarrow s.plan →
     phases_given (widened_state s) row ≡ phases.wide_given (hold (widened_state s)) (phases_given s row)
 unfolding phases_given
 phases_given-same s row narrow =
-    rw (output-same s row narrow, conflict-same s row narrow, callable-same s row narrow, pedestrian_call-same s row narrow,
-      count-same s row narrow, running-same s.plan s.pattern, service-same s row narrow,
-      preempts.must_end-same s.plan (preempts_given s row) (preempts_read s) narrow, forced-same s narrow) refl
+    rw (
+      output-same s row narrow,
+      conflict-same s row narrow,
+      callable-same s row narrow,
+      pedestrian_call-same s row narrow,
+      count-same s row narrow,
+      running-same s.plan s.pattern,
+      service-same s row narrow,
+      preempts.must_end-same s.plan (preempts_given s row) (preempts_read s) narrow,
+      forced-same s narrow,
+    ) refl
 
 none-given : (s : State) (row : Row) → IsNarrow s.plan → IsBeyondNarrow (phases_given s row).callable false
 unfolding phases_given
@@ -138,12 +147,12 @@ ready-same s row is = fun_ext (λ p. at p)
   where
     at : (p : ℕ) → ready (widened_state s) row p ≡ ready s row p
     at p = elim (cases_Bool (is_narrow p)) [
-        | inl in_it ↦ rw (phases_given-same s row is.plan)
-            (phases.is_ready-same s.plan (hold (widened_state s)) (phases_given s row) p (phase_read s p) is.plan in_it
-            (none-given s row is.plan) (hold-given s row is.plan))
-        | inr out ↦ not-ready (widened s.plan) (phases_given (widened_state s) row) p (s.phases p) (is.resting p out)
-            ∙ sym (not-ready s.plan (phases_given s row) p (s.phases p) (is.resting p out))
-      ]
+      | inl in_it ↦ rw (phases_given-same s row is.plan)
+          (phases.is_ready-same s.plan (hold (widened_state s)) (phases_given s row) p (phase_read s p) is.plan in_it
+          (none-given s row is.plan) (hold-given s row is.plan))
+      | inr out ↦ not-ready (widened s.plan) (phases_given (widened_state s) row) p (s.phases p) (is.resting p out)
+          ∙ sym (not-ready s.plan (phases_given s row) p (s.phases p) (is.resting p out))
+    ]
 
 over-same : (s : State) → over (widened_state s) ≡ over s
 over-same s = fun_ext (λ p. phases.is_over-same s.plan p (phase_read s p))
@@ -171,8 +180,14 @@ rings_given-same : (s : State) (row : Row) → IsNarrowState s →
     rings_given (widened_state s) row ≡ wants.wide_given (omitted (widened_state s)) (rings_given s row)
 unfolding rings_given
 rings_given-same s row is =
-    rw (order-same s is.plan, callable-same s row is.plan, ready-same s row is, over-same s, reverted-same s,
-      preempts.target-same s.plan (preempts_given s row) (preempts_read s) is.plan) refl
+    rw (
+      order-same s is.plan,
+      callable-same s row is.plan,
+      ready-same s row is,
+      over-same s,
+      reverted-same s,
+      preempts.target-same s.plan (preempts_given s row) (preempts_read s) is.plan,
+    ) refl
 
 none-wanted : (s : State) (row : Row) → IsNarrow s.plan → IsBeyondNarrow (rings_given s row).callable false
 unfolding rings_given
@@ -223,10 +238,10 @@ phases-same s row is = fun_ext (λ p. at p)
   where
     at : (p : ℕ) → (next (widened_state s) row).phases p ≡ (next s row).phases p
     at p = elim (cases_Bool (is_narrow p)) [
-        | inl in_it ↦ ap₂ (λ given moves. phase_next.next (widened s.plan) given moves p (s.phases p)) (phases_given-same s row is.plan) (moved-same s row is)
-            ∙ (phases.next-same s.plan (hold (widened_state s)) (phases_given s row) (moved s row) p (s.phases p) is.plan in_it (none-given s row is.plan))
-        | inr out ↦ wide-stays s row p is out ∙ sym (stays s row p is out)
-      ]
+      | inl in_it ↦ ap₂ (λ given moves. phase_next.next (widened s.plan) given moves p (s.phases p)) (phases_given-same s row is.plan) (moved-same s row is)
+          ∙ (phases.next-same s.plan (hold (widened_state s)) (phases_given s row) (moved s row) p (s.phases p) is.plan in_it (none-given s row is.plan))
+      | inr out ↦ wide-stays s row p is out ∙ sym (stays s row p is out)
+    ]
 
 memories-same : (s : State) (row : Row) → IsNarrowState s → (next (widened_state s) row).memories ≡ (next s row).memories
 memories-same s row is =

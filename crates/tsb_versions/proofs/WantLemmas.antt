@@ -1,16 +1,14 @@
 -- What the rings want is the same on the wide plan.
-use Rattle.std.proofs.Common.{zero, suc, ◌≡◌, ℕ, ◌+◌, ◌-◌, ◌≤◌, ◌==◌, Bool, true, false, not, ◌&&◌, ◌||◌, if◌then◌else◌, List, [], ◌∷◌, ◌++◌, Option, Some, None, is_some, is_none, refl, arith, sym, ◌∙◌, ap, ap₂, inl, inr}
+use Rattle.std.proofs.Common.{◌≡◌, ℕ, Bool, false, not, ◌&&◌, List, ◌++◌, Option, Some, None, is_some, refl, ◌∙◌, ap, ap₂}
 use Rattle.std.proofs.Math.Path.{fun_ext}
-use Rattle.std.proofs.lemmas.Bool.{cases_Bool}
 use Rattle.tsb_types.specs.Intervals.{in_service}
-use Rattle.tsb_types.specs.Lists.{first, some_passes, run_from, later, not_later}
-use Rattle.tsb_plan.specs.Plan.{Plan, phases, is_enabled, is_concurrent}
+use Rattle.tsb_plan.specs.Plan.{Plan}
 use Rattle.tsb_ring.specs.declared.want.Want.{Want}
 use Rattle.tsb_ring.specs.declared.want.Want.TheVariants.{Go, Cross, Rest, Stop}
 use Rattle.tsb_ring.specs.Rings.{Ring, Ring1, Ring2, other, State, Given, in_ring, serving}
 use Rattle.tsb_ring.specs.Wants.{concurrent_with, fits, is_on_side, is_candidate, is_called_elsewhere, want_within, want_by_calls, is_targeted, serves_target, targeted_here, is_targeted_elsewhere, want_by_target, want_found, is_idle_or_green, want, may_take, taken, pick_of_ring_1, picked_before, want_of, pick}
 use Rattle.tsb_versions.specs.Widened.{IsNarrow, widened}
-use Rattle.tsb_versions.proofs.ListLemmas.{is_narrow, is_beyond, IsSameOnNarrow, IsBeyondNarrow, first-later, first-not_later}
+use Rattle.tsb_versions.proofs.ListLemmas.{IsBeyondNarrow, first-later, first-not_later}
 use Rattle.tsb_versions.proofs.PlanLemmas.{first-same, beyond-narrow, not-enabled, not-in_ring, zeros}
 
 -- what the rings of the wide plan are given: sequences have zeros behind them, and other phases may be omitted, beyond the
@@ -33,8 +31,12 @@ fits-same : (plan : Plan) (s : State) (omitted : ℕ → Bool) (given : Given) (
     fits (widened plan) s (wide_given omitted given) r picked p ≡ fits plan s given r picked p
 unfolding fits
 fits-same plan s omitted given r picked p narrow =
-    rw (serving-same plan omitted given (other r) narrow, concurrent_with-same plan p (serving plan given (other r)),
-      concurrent_with-same plan p (s.commitment (other r)), concurrent_with-same plan p picked) refl
+    rw (
+      serving-same plan omitted given (other r) narrow,
+      concurrent_with-same plan p (serving plan given (other r)),
+      concurrent_with-same plan p (s.commitment (other r)),
+      concurrent_with-same plan p picked,
+    ) refl
 
 -- ## By calls
 
@@ -92,8 +94,12 @@ want_by_target-same : (plan : Plan) (s : State) (omitted : ℕ → Bool) (given 
     IsNarrow plan →
     want_by_target (widened plan) s (wide_given omitted given) r picked target ≡ want_by_target plan s given r picked target
 want_by_target-same plan s omitted given r picked target narrow =
-    rw (targeted_here-same plan s omitted given r picked target narrow, targeted_elsewhere-same plan s target narrow,
-      serving-same plan omitted given r narrow, serves_target-same plan target (serving plan given r)) refl
+    rw (
+      targeted_here-same plan s omitted given r picked target narrow,
+      targeted_elsewhere-same plan s target narrow,
+      serving-same plan omitted given r narrow,
+      serves_target-same plan target (serving plan given r),
+    ) refl
 
 -- ## The want
 
@@ -113,8 +119,11 @@ want-same : (plan : Plan) (s : State) (omitted : ℕ → Bool) (given : Given) (
     want (widened plan) s (wide_given omitted given) r picked ≡ want plan s given r picked
 unfolding want
 want-same plan s omitted given r picked narrow none =
-    rw (want_found-same plan s omitted given r picked given.target narrow none, serving-same plan omitted given r narrow,
-      idle_or_green-same omitted given (serving plan given r)) refl
+    rw (
+      want_found-same plan s omitted given r picked given.target narrow none,
+      serving-same plan omitted given r narrow,
+      idle_or_green-same omitted given (serving plan given r),
+    ) refl
 
 -- ## What it picks
 

@@ -2,3 +2,4 @@ pub mod Widened
 pub mod BuiltIn
 pub mod Laws
 pub mod Examples
+pub mod Mistakes

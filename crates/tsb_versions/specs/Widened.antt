@@ -11,7 +11,7 @@ use Rattle.tsb_plan.specs.Plan.{Plan}
 use Rattle.tsb_transact.specs.declared.edit.Edit.{Edit}
 use Rattle.tsb_transact.specs.Desk.{Desk}
 use Rattle.tsb_step.specs.declared.inputs.Input.{Input}
-use Rattle.tsb_step.specs.declared.inputs.Input.TheVariants.{Tick, Pattern, Switch, Fault, Reset, Begin, Set, Verify, Commit, Abort}
+use Rattle.tsb_step.specs.declared.inputs.Input.TheVariants.{Fault, Set}
 use Rattle.tsb_step.specs.State.{State}
 
 -- ## Plans
