@@ -156,7 +156,7 @@ good_next s row good = record {
   service = in_stage s row good;
 }
 
-good_ticked : (s : State) (row : Row) → IsGood s → IsGood (ticked row s)
+pub good_ticked : (s : State) (row : Row) → IsGood s → IsGood (ticked row s)
 good_ticked s row good = go (is_some s.trip)
   where
     go : (b : Bool) → IsGood (if b then record s { now = s.now + 1 } else unless_tripped s (next s row))

@@ -10,3 +10,5 @@ pub mod TripLemmas
 pub mod DeskLemmas
 pub mod OnceLemmas
 pub mod DeskRunLemmas
+pub mod WaitedLemmas
+pub mod ClearLemmas

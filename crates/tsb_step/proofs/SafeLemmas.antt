@@ -49,7 +49,7 @@ shows_walk true DontWalk h e = false≢true h
 shows_walk true Walk h e = cc
 shows_walk true PedestrianClear h e = cc
 
-green_serves : (i : Interval) → is_green i ≡ true → in_service i ≡ true
+pub green_serves : (i : Interval) → is_green i ≡ true → in_service i ≡ true
 green_serves Green h = refl
 green_serves Red h = absurd (false≢true h)
 green_serves Yellow h = absurd (false≢true h)

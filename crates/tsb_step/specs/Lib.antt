@@ -3,6 +3,12 @@ pub mod Tick
 pub mod Signs
 pub mod Tables
 pub mod Step
+pub mod Scenes
+pub mod TickExamples
+pub mod OrderExamples
+pub mod SignsExamples
+pub mod StepExamples
+pub mod RefusalExamples
 pub mod Runs
 pub mod Laws
 pub mod Good
@@ -16,3 +22,4 @@ pub mod LawMistakes
 pub mod CellsExamples
 pub mod DeskLaws
 pub mod DeskLawMistakes
+pub mod ClearanceLaws

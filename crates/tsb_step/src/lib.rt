@@ -5,6 +5,7 @@
 //! meets them in code: each is the contract of a function that does nothing.
 #![tactic(auto)]
 
+pub mod clearance_laws;
 pub mod commands;
 pub mod desk_laws;
 pub mod inputs;

@@ -1,0 +1,13 @@
+pub mod PlanLemmas
+pub mod ListLemmas
+pub mod DetectorLemmas
+pub mod CallLemmas
+pub mod PreemptLemmas
+pub mod ServedLemmas
+pub mod PhaseLemmas
+pub mod WantLemmas
+pub mod CrossingLemmas
+pub mod RingLemmas
+pub mod HeadLemmas
+pub mod StepLemmas
+pub mod RunLemmas

@@ -1,0 +1,83 @@
+-- What a green that ends has had, and what follows it, tick by tick, until its phase is over: yellow change, red clearance, and
+-- for a coordinated phase where the local counter stands then. Each law here is the contract of a function in
+-- src/clearance_laws.rt, and proved there. Times are in tenths of a second, which are ticks.
+use Rattle.std.specs.Prelude.{◌≡◌, ℕ, zero, suc, ◌+◌, ◌<◌, ◌≤◌, ◌==◌, true, Some, None}
+use Rattle.tsb_cells.specs.Timer.{has_reached}
+use Rattle.tsb_types.specs.declared.interval.Interval.TheVariants.{Yellow, RedClear}
+use Rattle.tsb_types.specs.declared.interval.PedestrianInterval.TheVariants.{DontWalk}
+use Rattle.tsb_types.specs.declared.row.Row.{Row}
+use Rattle.tsb_plan.specs.Plan.{is_enabled, yellow_change}
+use Rattle.tsb_plan.specs.Running.{is_coordinated_now}
+use Rattle.tsb_phase.specs.ClearanceLaws.{clearance}
+use Rattle.tsb_phase.specs.Laws.{least_green}
+use Rattle.tsb_phase.specs.Pedestrian.{ended_by, pedestrian_now}
+use Rattle.tsb_ring.specs.Moves.{is_ended, is_cleared, is_started}
+use Rattle.tsb_coord.specs.Coordinated.{is_pattern}
+use Rattle.tsb_step.specs.declared.inputs.Input.TheVariants.{Tick}
+use Rattle.tsb_step.specs.State.{State, interval}
+use Rattle.tsb_step.specs.Tick.{phases_given, phase_read, forced, moves, over, reverted}
+use Rattle.tsb_step.specs.Signs.{local}
+use Rattle.tsb_step.specs.Step.{step}
+use Rattle.tsb_step.specs.Laws.{OfEveryRun}
+
+-- ## What a move has waited for
+
+-- A green that ends, also where a crossing begins or a preempt ends it, has lasted the minimum green, under a preempt that ends
+-- it the smaller of that and the preempt's; and its pedestrian part is then DontWalk.
+pub record HasLasted (s : State) (row : Row) (p : ℕ) : Type 0 where
+  pub lasted : has_reached (phase_read s p).timer (least_green s.plan p (ended_by (phases_given s row) p)) ≡ true
+  pub dont_walk : pedestrian_now s.plan (phases_given s row) p (phase_read s p) ≡ DontWalk
+
+abbrev pub EndedGreensHaveLasted : Type 0
+EndedGreensHaveLasted = (s : State) (row : Row) (p : ℕ) → is_ended (moves s row) p ≡ true → HasLasted s row p
+
+-- A phase that goes Red is over, and one that starts has passed its red revert.
+abbrev pub ClearedAreOver : Type 0
+ClearedAreOver = (s : State) (row : Row) (p : ℕ) → is_cleared (moves s row) p ≡ true → over s p ≡ true
+
+abbrev pub StartedHaveReverted : Type 0
+StartedHaveReverted = (s : State) (row : Row) (p : ℕ) → is_started (moves s row) p ≡ true → reverted s p ≡ true
+
+-- ## What follows a green
+
+-- the state after k more ticks with these rows
+abbrev pub after_ticks : State → (ℕ → Row) → ℕ → State
+after_ticks s rows zero = s
+after_ticks s rows (suc k) = step (after_ticks s rows k) (Tick (rows k))
+
+-- the green of an enabled phase ends in the first of these ticks, and the controller does not trip before its clearance has
+-- passed
+pub record EndsNow (s : State) (rows : ℕ → Row) (p : ℕ) : Type 0 where
+  pub enabled : is_enabled s.plan p ≡ true
+  pub ends : is_ended (moves s (rows 0)) p ≡ true
+  pub untripped : (k : ℕ) → k ≤ clearance s.plan p → (after_ticks s rows k).trip ≡ None
+
+-- then it is Yellow for its yellow change time and in red clearance for its red clearance time, and it is over in the tick
+-- that comes both after the end of its green, and in none before
+pub record ClearsInTime (s : State) (rows : ℕ → Row) (p : ℕ) : Type 0 where
+  pub yellow : (k : ℕ) → k < yellow_change s.plan p → interval (after_ticks s rows (suc k)) p ≡ Yellow
+  pub red_clear : (k : ℕ) → yellow_change s.plan p ≤ k → k < clearance s.plan p →
+      interval (after_ticks s rows (suc k)) p ≡ RedClear
+  pub over : (k : ℕ) → k < clearance s.plan p → over (after_ticks s rows (suc k)) p ≡ (k + 1 == clearance s.plan p)
+
+-- Whatever the rows are: a green that ends is followed by its yellow change and its red clearance, each in full, where no
+-- other inputs than ticks come between.
+abbrev pub GreensClearInTime : Type 0
+GreensClearInTime = OfEveryRun (λ s. (rows : ℕ → Row) (p : ℕ) → EndsNow s rows p → ClearsInTime s rows p)
+
+-- a coordinated phase of the pattern that runs, at its force-off instant in the tick in which its green ends
+pub record IsForcedOff (s : State) (n p : ℕ) : Type 0 where
+  pub selected : s.pattern ≡ Some n
+  pub used : is_pattern s.plan n ≡ true
+  pub coordinated : is_coordinated_now s.plan (Some n) p ≡ true
+  pub forced : forced s p ≡ true
+
+-- it is over in a tick after which the local counter is 0
+pub record IsOverAtZero (s : State) (rows : ℕ → Row) (p : ℕ) : Type 0 where
+  pub over : over (after_ticks s rows (clearance s.plan p)) p ≡ true
+  pub local : local (after_ticks s rows (suc (clearance s.plan p))) ≡ Some 0
+
+-- A coordinated phase that is forced off at its instant has ended its yellow change and red clearance at local zero.
+abbrev pub CoordinatedClearAtZero : Type 0
+CoordinatedClearAtZero = OfEveryRun (λ s. (rows : ℕ → Row) (n p : ℕ) → IsForcedOff s n p → EndsNow s rows p →
+    IsOverAtZero s rows p)
