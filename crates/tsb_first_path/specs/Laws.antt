@@ -58,6 +58,7 @@ pub record Follows (s : whole.State) (b : bench.State) : Type 0 where
   pub preempts : s.preempts ≡ waiting s.preempts.delay
   pub rest : s ≡ as_whole_with s.detectors s.preempts b
 
+-- So it is from power-up on, whatever the inputs.
 abbrev pub WholeFollowsFirstPath : Type 0
 WholeFollowsFirstPath = (plan : Plan) → IsAccepted plan → (rows : List Row) →
     Follows (whole_after rows (whole.start plan)) (first_after rows (bench.start plan))
@@ -88,6 +89,7 @@ pub record ShowsAlike (s : whole.State) (b : bench.State) : Type 0 where
   pub pedestrian : (p : ℕ) → (display s).pedestrian p ≡ pedestrian_aspects.Dark
   pub overlap : (o : ℕ) → (display s).overlap o ≡ Dark
 
+-- So they do from power-up on, whatever the inputs.
 abbrev pub WholeShowsFirstPath : Type 0
 WholeShowsFirstPath = (plan : Plan) → IsAccepted plan → (rows : List Row) →
     ShowsAlike (whole_after rows (whole.start plan)) (first_after rows (bench.start plan))

@@ -54,18 +54,19 @@ NothingIsLeftBehind = (plan : Plan) → IsFirst plan → (given : calls.Given) �
     ((p : ℕ) → done.ends p ≡ true → done.gapped p ≡ true) →
     settled.next plan given done calls.at_power_up ≡ calls.at_power_up
 
--- Without memories the phases that are callable are those of the first path: enabled, not Green, on maximum recall. No
--- phase has a pedestrian call.
+-- Without memories the phases that are callable are those of the first path: enabled, not Green, on maximum recall.
 abbrev pub CallsAreRecalls : Type 0
 CallsAreRecalls = (plan : Plan) → IsFirst plan → (given : calls.Given) → IsFree given →
     (s : Signals) → given.interval ≡ s.interval → (p : ℕ) →
     callable.is_callable plan given calls.at_power_up p ≡ signals.is_callable plan s p
 
+-- So the conflicts are those of the first path.
 abbrev pub ConflictsAreOfRecalls : Type 0
 ConflictsAreOfRecalls = (plan : Plan) → IsFirst plan → (given : calls.Given) → IsFree given →
     (s : Signals) → given.interval ≡ s.interval → (p : ℕ) →
     callable.has_conflict plan given calls.at_power_up p ≡ signals.has_conflict plan s p
 
+-- No phase has a pedestrian call.
 abbrev pub NoPedestrianCalls : Type 0
 NoPedestrianCalls = (plan : Plan) → IsFirst plan → (given : calls.Given) (m : calls.Memories) (p : ℕ) →
     callable.has_pedestrian_call plan given m p ≡ false
@@ -81,6 +82,7 @@ pub record AsksNothing (plan : Plan) : Type 0 where
   pub omitted : (p : ℕ) → asks_omit plan None p ≡ false
   pub sequence : (r : ℕ) → serving_order plan None r ≡ sequence plan 1 r
 
+-- So it is on every plan.
 abbrev pub FreeOperationAsksNothing : Type 0
 FreeOperationAsksNothing = (plan : Plan) → AsksNothing plan
 

@@ -50,9 +50,11 @@ unfoldable pub opened_rules : Unit {0}
 unfolding two run_from objects first_broken broken_by_rings broken_by_phases broken_by_parts broken_by_extensions is_alone is_built
 opened_rules = tt
 
+-- the whole controller at tick 1, with these inputs in that tick
 abbrev pub whole_at_1 : Plan → Row → whole.State
 whole_at_1 plan row = whole_after (row ∷ []) (whole.start plan)
 
+-- the bench at tick 1
 abbrev pub first_at_1 : Plan → Row → bench.State
 first_at_1 plan row = first_after (row ∷ []) (bench.start plan)
 

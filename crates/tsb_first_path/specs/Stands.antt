@@ -49,6 +49,7 @@ abbrev pub of_ring_1 : Option ℕ → Ring → Option ℕ
 of_ring_1 o Ring1 = o
 of_ring_1 o Ring2 = None
 
+-- The two rings: ring 1 is the ring of the first path.
 abbrev pub rings_of : Signals → rings.State
 rings_of s = record {
   last = of_ring_1 s.last;

@@ -16,9 +16,11 @@ use Rattle.tsb_first_path.specs.Stands.{phase_of, rings_of}
 
 -- ## Invariant
 
+-- At power-up it holds.
 abbrev pub PowerUpIsServed : Type 0
 PowerUpIsServed = (plan : Plan) → IsServed plan bench.power_up
 
+-- A tick of the first path keeps it.
 abbrev pub TicksKeepServed : Type 0
 TicksKeepServed = (plan : Plan) → IsFirst plan → (s : Signals) → IsServed plan s → IsServed plan (bench.next plan s)
 
@@ -29,11 +31,12 @@ abbrev pub GreensAreReady : Type 0
 GreensAreReady = (plan : Plan) → IsFirst plan → (s : Signals) → IsServed plan s → (p : ℕ) →
     timing.is_ready plan (told_phases plan s) p (phase_of (s.interval p) (s.timers p)) ≡ bench.is_ready plan s p
 
--- It has always gapped out.
+-- A green has always gapped out.
 abbrev pub GreensAreGapped : Type 0
 GreensAreGapped = (plan : Plan) → IsFirst plan → (s : Signals) (p : ℕ) →
     timing.is_gapped_now plan (told_phases plan s) p (phase_of (s.interval p) (s.timers p)) ≡ is_green (s.interval p)
 
+-- A clearance is over when the first path says so.
 abbrev pub ClearancesAreOver : Type 0
 ClearancesAreOver = (plan : Plan) (s : Signals) (p : ℕ) →
     timing.is_over plan p (phase_of (s.interval p) (s.timers p)) ≡ bench.is_over plan s p
@@ -66,5 +69,6 @@ pub record MovesAre (plan : Plan) (s : Signals) : Type 0 where
   pub ends : (p : ℕ) → ring_moves.is_ended (moves_in plan s) p ≡ (moved plan s).ends p
   pub clears : (p : ℕ) → ring_moves.is_cleared (moves_in plan s) p ≡ (moved plan s).clears p
 
+-- They do in every state of the first path.
 abbrev pub MovesAreOne : Type 0
 MovesAreOne = (plan : Plan) → IsFirst plan → (s : Signals) → IsServed plan s → MovesAre plan s

@@ -1,8 +1,7 @@
 -- Why the laws of runs have their premises, and what each would be worth without: for each a mistake, and by computing what
 -- comes of it. What mistakes in the rings' own definitions do to them is in tsb_ring.
-use Rattle.std.specs.Prelude.{◌≡◌, ℕ, true, false, [], ◌∷◌, Option, Some, None, refl}
+use Rattle.std.specs.Prelude.{◌≡◌, ℕ, true, false, [], ◌∷◌, Some, None, refl}
 use Rattle.tsb_types.specs.Sets.{all_off}
-use Rattle.tsb_types.specs.Lists.{run_from}
 use Rattle.tsb_types.specs.declared.interval.Interval.TheVariants.{Green}
 use Rattle.tsb_types.specs.declared.lamp.Lamp.TheVariants as lamps
 use Rattle.tsb_types.specs.declared.lamp.SignalColor.TheVariants as signals
@@ -14,41 +13,21 @@ use Rattle.tsb_plan.specs.declared.object.Object.TheVariants.{PhaseConcurrency, 
 use Rattle.tsb_plan.specs.Plan.{Plan, is_concurrent, with_values}
 use Rattle.tsb_plan.specs.Quad.{quad}
 use Rattle.tsb_objects.specs.declared.rules.Rule.TheVariants.{K5, K15}
-use Rattle.tsb_objects.specs.Rules.{first_broken, broken_by_rings, broken_by_phases, broken_by_parts, broken_by_extensions}
+use Rattle.tsb_objects.specs.Rules.{first_broken}
 use Rattle.tsb_heads.specs.declared.monitor.Trip.TheVariants.{Conflict}
 use Rattle.tsb_heads.specs.Displays.{ordered}
-use Rattle.tsb_heads.specs.Overlaps.{is_kept_green, is_on_yellow}
-use Rattle.tsb_calls.specs.Memories.{has_output, actuations, has_button, vehicle_memory, pedestrian_memory, counted}
-use Rattle.tsb_calls.specs.Callable.{is_callable, has_conflict}
-use Rattle.tsb_phase.specs.Ready.{is_ready, is_over, red_revert_passed}
-use Rattle.tsb_phase.specs.Pedestrian.{pedestrian_now}
-use Rattle.tsb_phase.specs.Green.{reduction_timer, gap, initial, cars_waiting}
-use Rattle.tsb_ring.specs.Rings.{Ring, Ring1, Ring2, serving}
-use Rattle.tsb_ring.specs.Wants.{fits, want, pick_of_ring_1, want_of, pick}
-use Rattle.tsb_ring.specs.Crossings.{begins, target_side, entry, committed}
-use Rattle.tsb_ring.specs.Next.{completes, starting, ends, clears, new_last, new_commitment, new_side, new_crossing}
-use Rattle.tsb_ring.specs.Next as rings_next
-use Rattle.tsb_ring.specs.Moves as ring_moves
 use Rattle.tsb_preempt.specs.Preempts as preempts
-use Rattle.tsb_preempt.specs.Service.{all_green, has_dwell}
+use Rattle.tsb_preempt.specs.Service.{has_dwell}
+use Rattle.tsb_ring.specs.Scenes.{both}
 use Rattle.tsb_transact.specs.declared.desk_state.DeskState.TheVariants.{Verify, Done}
 use Rattle.tsb_transact.specs.declared.edit.Edit.{Edit}
-use Rattle.tsb_heads.specs.Monitoring.{has_right_of_way, conflict_of, conflict, green_to_red}
+use Rattle.tsb_heads.specs.Monitoring.{has_right_of_way}
 use Rattle.tsb_step.specs.declared.inputs.Input.TheVariants.{Tick, Switch, Fault, Commit}
 use Rattle.tsb_step.specs.State.{State, start, interval}
-use Rattle.tsb_step.specs.Tick.{new_service, new_detectors, phases_given, rings_given, moves}
-use Rattle.tsb_step.specs.Signs.{shown, display, field, watched}
+use Rattle.tsb_step.specs.Signs.{shown}
 use Rattle.tsb_step.specs.Step.{step, verdict}
 use Rattle.tsb_step.specs.Runs.{replay}
-
--- all that a step computes
-unfoldable opened : Unit {0}
-unfolding quad run_from first_broken broken_by_rings broken_by_phases broken_by_parts broken_by_extensions is_kept_green is_on_yellow has_output actuations has_button vehicle_memory pedestrian_memory counted is_callable has_conflict is_ready is_over red_revert_passed pedestrian_now reduction_timer gap initial cars_waiting serving fits want pick_of_ring_1 want_of pick begins target_side entry committed completes starting ends clears new_last new_commitment new_side new_crossing rings_next.next ring_moves.moves ring_moves.interval_after preempts.requesting preempts.beginning preempts.new_service preempts.dwell_ends all_green conflict_of conflict green_to_red new_service new_detectors phases_given rings_given moves display field watched step verdict
-opened = tt
-
-abbrev both : Option ℕ → Option ℕ → Ring → Option ℕ
-both one two Ring1 = one
-both one two Ring2 = two
+use Rattle.tsb_step.specs.Scenes.{opened}
 
 abbrev edit : Object → ℕ → ℕ → Edit
 edit o i v = record { id = record { object = o; index = i }; value = v }
