@@ -1,0 +1,8 @@
+use Rattle.tsb_versions.proofs.RunLemmas.{refusals_agree, take_the_same}
+use Rattle.tsb_versions.proofs.laws.benches_take_the_same.Goals as goal
+
+pub returns-clause-refusals : goal.returns-clause-refusals
+returns-clause-refusals c = refusals_agree
+
+pub returns-clause-piles : goal.returns-clause-piles
+returns-clause-piles c = take_the_same

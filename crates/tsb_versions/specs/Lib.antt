@@ -1,0 +1,5 @@
+pub mod Widened
+pub mod BuiltIn
+pub mod Laws
+pub mod Examples
+pub mod Mistakes
