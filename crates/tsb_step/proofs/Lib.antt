@@ -12,3 +12,4 @@ pub mod OnceLemmas
 pub mod DeskRunLemmas
 pub mod WaitedLemmas
 pub mod ClearLemmas
+pub mod QuietLemmas

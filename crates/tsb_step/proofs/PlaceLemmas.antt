@@ -8,10 +8,12 @@ use Rattle.tsb_plan.specs.declared.object.Object.{Object}
 use Rattle.tsb_plan.specs.declared.object.Object.TheVariants.{PhaseEnabled}
 use Rattle.tsb_plan.specs.declared.plan.Plan as memory
 use Rattle.tsb_plan.specs.Objects.{objects, order, indices, greatest, has_index, value_in}
-use Rattle.tsb_plan.specs.PlanOf.{plan_of}
+use Rattle.tsb_plan.specs.declared.object.ObjectId.{ObjectId}
+use Rattle.tsb_plan.specs.Plan.{Plan}
+use Rattle.tsb_plan.specs.PlanOf.{plan_of, put_refusal}
 use Rattle.tsb_plan.proofs.TableLemmas.{at-order, order-below, length-objects}
 use Rattle.tsb_objects.specs.Rules.{first_broken}
-use Rattle.tsb_step.specs.Tables.{indices_for, greatest_for, is_as_in_table, all_as_in_table}
+use Rattle.tsb_step.specs.Tables.{indices_for, greatest_for, place_refusal, is_as_in_table, all_as_in_table}
 use Rattle.tsb_step.specs.Laws.{IsConsistent}
 
 as_in_table : (o : Object) → is_as_in_table o ≡ true
@@ -40,3 +42,7 @@ memory_is_consistent plan rules = record { rules = rules; placed = placed }
     placed o i out =
         let off : has_index o i ≡ false = rw (same_indices o) at out in
         rw off refl
+
+pub same_refusal : (plan : Plan) (id : ObjectId) (v : ℕ) → plan.phase_count ≡ 16 → plan.side_count ≡ 4 →
+    place_refusal plan id v ≡ put_refusal id v
+same_refusal plan id v phases sides = rw (phases, sides, same_indices id.object, same_greatest id.object) refl

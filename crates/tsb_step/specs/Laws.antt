@@ -10,7 +10,8 @@ use Rattle.tsb_types.specs.Intervals.{in_service, is_green}
 use Rattle.tsb_plan.specs.declared.object.Object.{Object}
 use Rattle.tsb_plan.specs.declared.plan.Plan as memory
 use Rattle.tsb_plan.specs.Plan.{Plan, is_concurrent}
-use Rattle.tsb_plan.specs.PlanOf.{plan_of}
+use Rattle.tsb_plan.specs.declared.object.ObjectId.{ObjectId}
+use Rattle.tsb_plan.specs.PlanOf.{plan_of, put_refusal}
 use Rattle.tsb_objects.specs.Consistent.{AreCompatible}
 use Rattle.tsb_objects.specs.Rules.{first_broken}
 use Rattle.tsb_ring.specs.declared.ring_order.RingOrder.{RingOrder}
@@ -21,12 +22,14 @@ use Rattle.tsb_preempt.specs.Service.{Service, has_track, has_dwell, has_exit, s
 use Rattle.tsb_types.specs.declared.stage.Stage.{Stage}
 use Rattle.tsb_types.specs.declared.stage.Stage.TheVariants.{Track, Dwell, Exit}
 use Rattle.tsb_step.specs.declared.inputs.Input.{Input}
-use Rattle.tsb_step.specs.declared.inputs.Input.TheVariants.{Fault, Reset}
+use Rattle.tsb_step.specs.declared.inputs.Input.TheVariants.{Tick, Fault, Reset}
 use Rattle.tsb_step.specs.State.{State, interval}
-use Rattle.tsb_step.specs.Tables.{has_place}
+use Rattle.tsb_step.specs.Tables.{has_place, place_refusal}
 use Rattle.tsb_step.specs.Tick.{moves, over, next}
 use Rattle.tsb_step.specs.Signs.{IsSafe}
 use Rattle.tsb_step.specs.Runs.{replay, AreTaken}
+use Rattle.tsb_step.specs.Past.{record_of}
+use Rattle.tsb_step.specs.Quiet.{IsQuiet}
 
 -- a plan that breaks no rule, and gives nothing where it has no place
 pub record IsConsistent (plan : Plan) : Type 0 where
@@ -121,3 +124,15 @@ FaultsAloneTrip = (plan : Plan) (is : List Input) → IsConsistent plan → AreT
 -- A plan in memory that breaks no rule is one of those that all this is said of.
 abbrev pub MemoryIsConsistent : Type 0
 MemoryIsConsistent = (plan : memory.Plan) → first_broken (plan_of plan) ≡ None → IsConsistent (plan_of plan)
+
+-- With 16 phases and 4 sides, as such a plan has, a value is refused just where a plan in memory refuses it.
+abbrev pub MemoryRefusesTheSame : Type 0
+MemoryRefusesTheSame = (plan : Plan) (id : ObjectId) (v : ℕ) → plan.phase_count ≡ 16 → plan.side_count ≡ 4 →
+    place_refusal plan id v ≡ put_refusal id v
+
+-- ## Quiet ticks
+
+-- The record of a quiet tick has no entry.
+abbrev pub QuietTicksWriteNothing : Type 0
+QuietTicksWriteNothing = (row : Row) (before after : State) → IsQuiet before after →
+    (record_of (Tick row) before after).entries ≡ []

@@ -1,5 +1,5 @@
 //! What holds of every run of the controller, each law the contract of a function that does nothing.
-ghost use Rattle.tsb_step.specs.Laws.{DisplaysAreSafe, FaultsAloneTrip, MemoryIsConsistent, PlansStayConsistent, PreemptsHavePhases, RingsActInEitherOrder, ServedGoTogether, StartsWait, WalksAreBesideGreens};
+ghost use Rattle.tsb_step.specs.Laws.{DisplaysAreSafe, FaultsAloneTrip, MemoryIsConsistent, MemoryRefusesTheSame, PlansStayConsistent, PreemptsHavePhases, QuietTicksWriteNothing, RingsActInEitherOrder, ServedGoTogether, StartsWait, WalksAreBesideGreens};
 
 /// Whatever ticks, patterns, switches, faults, resets and transactions there were: no display gives right of
 /// way to two phases that are not concurrent in the plan in effect. More than that, any two phases in service
@@ -37,7 +37,13 @@ pub fn faults_alone_trip()
     ensures { FaultsAloneTrip }
 {}
 
-/// A plan in memory that breaks no rule is one of those that the laws of runs speak of.
+/// A plan in memory that breaks no rule is one of those that the laws of runs speak of, and takes the same values.
 pub fn plans_in_memory_are_consistent()
-    ensures { MemoryIsConsistent }
+    ensures consistent { MemoryIsConsistent }
+    ensures refuses { MemoryRefusesTheSame }
+{}
+
+/// The record of a tick in which nothing happens but time has no entry.
+pub fn quiet_ticks_write_nothing()
+    ensures { QuietTicksWriteNothing }
 {}
