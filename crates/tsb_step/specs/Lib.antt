@@ -19,6 +19,7 @@ pub mod Watches
 pub mod Play
 pub mod Quiet
 pub mod LawMistakes
+pub mod TimeMistakes
 pub mod CellsExamples
 pub mod DeskLaws
 pub mod DeskLawMistakes
