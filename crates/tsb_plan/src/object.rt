@@ -208,7 +208,7 @@ impl Object {
 
     /// The plan's cell that holds the object's value at index 1; those at 2, 3, .. follow it.
     #[tactic(auto, unfolding(crate::specs::Objects::first_cell, crate::specs::Objects::objects))]
-    pub(crate) fn first_cell(self) -> usize
+    pub fn first_cell(self) -> usize
         ensures { result ≡ first_cell self }
     {
         match self {
