@@ -1,5 +1,5 @@
 -- Timers and their cells.
-use Rattle.std.proofs.Common.{◌≡◌, ℕ, ◌+◌, ◌-◌, ◌<◌, ◌≤◌, ◌^◌, refl, arith, inl, inr}
+use Rattle.std.proofs.Common.{◌≡◌, ℕ, ◌+◌, ◌-◌, ◌<◌, ◌≤◌, ◌^◌, refl, subst, arith, inl, inr}
 use Rattle.std.proofs.lemmas.Bool.Decides.{nat_tests, eqb_tells}
 use Rattle.tsb_cells.specs.declared.timer.Timer.{Timer}
 use Rattle.tsb_cells.specs.declared.timer.Timer.TheVariants.{Off, On}
@@ -46,3 +46,20 @@ IsWithin-more m n (On k) l h = omega arith
 pub CanAdvance-IsWithin : (now : ℕ) (x : Timer) → now + 1 < 2 ^ 32 → IsWithin now x → CanAdvance x
 CanAdvance-IsWithin now Off l h = tt
 CanAdvance-IsWithin now (On n) l h = omega arith
+
+-- ## What a cell is read as
+
+pub timer_at-on : (now cell : ℕ) → 1 ≤ cell → timer_at now cell ≡ On (now + 1 - cell)
+timer_at-on now cell from = grind (arith, nat_tests, from)
+
+pub timer_at-off : (now cell : ℕ) → cell ≡ 0 → timer_at now cell ≡ Off
+timer_at-off now cell e = rw e refl
+
+pub timer_at-begins : (now : ℕ) → timer_at now (now + 1) ≡ On 0
+timer_at-begins now = grind (arith, nat_tests)
+
+-- as a tick reads it that is not the first
+pub timer_at-this : (now cell : ℕ) → 1 ≤ now → cell ≤ now - 1 + 1 → timer_at now cell ≡ advanced (timer_at (now - 1) cell)
+timer_at-this now cell begun within =
+    let e : now - 1 + 1 ≡ now = omega (arith, begun) in
+    subst (λ (n : ℕ). timer_at n cell ≡ advanced (timer_at (now - 1) cell)) e (timer_at-next (now - 1) cell within)

@@ -86,6 +86,16 @@ impl<const N: usize> Bank<N> {
         row
     }
 
+    /// The `count` cells from `at` on, lent.
+    pub fn part(&self, at: usize, count: usize) -> &[u32]
+        requires { at + count ≤ N }
+        ensures cells { result.now ≡ row_at count (cells_of self.now) at }
+        ensures full { length result.now ≡ count }
+    {
+        let cells = &self.cells[..];
+        &cells[at..at + count]
+    }
+
     /// Puts `row` into the cells from `at` on. The bank has to be open.
     pub fn put_row<const W: usize>(&mut self, at: usize, row: [u32; W])
         requires in_range { at + W ≤ N }

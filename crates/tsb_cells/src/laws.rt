@@ -1,5 +1,7 @@
-//! What holds of every difference of two rows of cells, each law the contract of a function that does nothing.
+//! What holds of every difference of two rows of cells, and of every cell of a timer, each law the contract of a
+//! function that does nothing.
 ghost use Rattle.tsb_cells.specs.DiffLaws.{TellsEachChange, Ascends, GivesBack, Shifts, Joins, AppliesByParts, HasOwnParts};
+ghost use Rattle.tsb_cells.specs.TimerLaws.{TellTheirCells, AreReadAsTheyWere, AreInTime, BeganInTime};
 
 /// A difference has an entry for each cell that changed, with what it held before, and no other, in ascending
 /// order of the cells.
@@ -31,4 +33,13 @@ pub fn entries_apply_by_parts()
 /// Each row's part of the difference of rows side by side is the row's own difference.
 pub fn parts_are_own_differences()
     ensures { HasOwnParts }
+{}
+
+/// A cell of a timer that began by the tick at which it is read is the cell of what is read, and a timer that began at
+/// tick 0 or later is what its cell is read as.
+pub fn cells_tell_timers()
+    ensures cells { TellTheirCells }
+    ensures timers { AreReadAsTheyWere }
+    ensures in_time { AreInTime }
+    ensures began { BeganInTime }
 {}

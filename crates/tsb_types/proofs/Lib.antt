@@ -1,3 +1,4 @@
 pub mod BitLemmas
+pub mod ClipLemmas
 pub mod RunLemmas
 pub mod SetLemmas

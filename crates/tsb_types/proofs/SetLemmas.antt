@@ -41,6 +41,11 @@ names-list_of n (suc k) test from within = bit_at-number_of_bits n k (λ j. test
 pub list_of-below : (n : ℕ) (test : ℕ → Bool) → list_of n test < 2 ^ n
 list_of-below n test = number_of_bits-below n (λ k. test (suc k))
 
+-- the list of all 16 phases names each
+pub names-all : (p : ℕ) → 1 ≤ p → p ≤ 16 → names 65535 p ≡ true
+unfolding number_of_bits
+names-all p from within = names-list_of 16 p (λ k. true) from within
+
 -- a list of the first n phases names none above n
 pub names-above : (n p list : ℕ) → list < 2 ^ n → n < p → names list p ≡ false
 names-above n zero list fits above = refl

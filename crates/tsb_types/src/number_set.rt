@@ -98,6 +98,19 @@ impl NumberSet {
         }
     }
 
+    /// The set with the number, 1 to 16, where `on`, of a set that has it not. The others stay. It only ever adds, so
+    /// that a loop over all numbers has no chain from one to the next.
+    #[inline(always)]
+    pub fn joined(self, number: u8, on: bool) -> NumberSet
+        requires from_one { 1 ≤ number }
+        requires within { number ≤ 16 }
+        requires absent { has_number self number ≡ false }
+        ensures set { has_number result number ≡ on }
+        ensures others { (n : ℕ) → n ≢ number → has_number result n ≡ has_number self n }
+    {
+        if !on { self } else { self.with(number, true) }
+    }
+
     /// The least number of the set, or `None` where it has none.
     pub fn first(self) -> Option<u8>
         ensures none { result ≡ None → (n : ℕ) → has_number self n ≡ false }

@@ -93,6 +93,17 @@ impl PhaseSet {
         }
     }
 
+    /// The set with the phase where `on`, of a set that has it not. The others stay. It only ever adds, so that a loop
+    /// over all phases has no chain from one to the next.
+    #[inline(always)]
+    pub fn joined(self, phase: Phase, on: bool) -> PhaseSet
+        requires { has self phase ≡ false }
+        ensures set { has result phase ≡ on }
+        ensures others { (p : ℕ) → p ≢ phase → has result p ≡ has self p }
+    {
+        if on { self.with(phase, true) } else { self }
+    }
+
     /// Puts the phase into the set. The others stay.
     pub fn insert(&mut self, phase: Phase)
         ensures set { has self.new phase ≡ true }

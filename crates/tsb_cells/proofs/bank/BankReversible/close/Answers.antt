@@ -1,4 +1,4 @@
-use Rattle.std.proofs.Common.{◌≡◌, ◌∙◌, ◌++◌, ◌<◌, ◌≤◌, ℕ, List, arith, length, ap}
+use Rattle.std.proofs.Common.{◌≡◌, ◌∙◌, ◌++◌, ◌<◌, ℕ, List, arith, length, ap}
 use Rattle.std.proofs.lemmas.List.Elements.{All-same}
 use Rattle.tsb_cells.specs.Diff.{diff, shifted}
 use Rattle.tsb_cells.proofs.DiffLemmas.{AreWithin-diff}
