@@ -10,6 +10,12 @@ unfolding run_from
 length-run_from a zero = refl
 length-run_from a (suc n) = ap suc (length-run_from (a + 1) n)
 
+pub get_or-run_from : (a n j : ℕ) → j < n → get_or (run_from a n) j 0 ≡ a + j
+unfolding run_from
+get_or-run_from a zero j below = absurd (omega arith)
+get_or-run_from a (suc n) zero below = omega arith
+get_or-run_from a (suc n) (suc j) below = get_or-run_from (a + 1) n j (omega arith) ∙ (let e : a + 1 + j ≡ a + suc j = omega arith in e)
+
 -- a list that has f of each number of a run, one after the other
 pub map-run_from : (f : ℕ → ℕ) (a n : ℕ) (xs : List ℕ) → length xs ≡ n → ((k : ℕ) → k < n → get_or xs k 0 ≡ f (a + k)) → xs ≡ map f (run_from a n)
 unfolding run_from
