@@ -1,10 +1,12 @@
--- Where the local counter stands once a phase that is forced off in time has ended its yellow change and red clearance.
--- Each law here is the contract of a function in src/laws.rt, and proved there.
-use Rattle.std.specs.Prelude.{◌≡◌, ℕ, ◌+◌, true, Some}
+-- Where the local counter stands once a phase that is forced off in time has ended its yellow change and red clearance,
+-- and that the cell of coordination is that of what it says. Each law here is the contract of a function in src/laws.rt, and
+-- proved there.
+use Rattle.std.specs.Prelude.{◌≡◌, ℕ, ◌+◌, ◌≤◌, true, List, Option, Some}
 use Rattle.tsb_plan.specs.Plan.{Plan, yellow_change, red_clear}
 use Rattle.tsb_plan.specs.Parts.{cycle}
 use Rattle.tsb_plan.specs.Running.{is_coordinated_now}
 use Rattle.tsb_objects.specs.Consistent.{IsPhase}
+use Rattle.tsb_coord.specs.Cells.{pattern_in, pattern_cells, IsBy}
 use Rattle.tsb_coord.specs.Coordinated.{local, residue_of_difference, end_of, asks_force_off, is_pattern}
 
 -- the tick at which p has ended its yellow change and red clearance, if its green ended in tick t
@@ -23,3 +25,21 @@ abbrev pub CoordinatedEndAtZero : Plan → Type 0
 CoordinatedEndAtZero plan = (n t p : ℕ) → is_pattern plan n ≡ true → IsPhase plan p →
     is_coordinated_now plan (Some n) p ≡ true → asks_force_off plan t (Some n) p ≡ true →
     local plan (clear_of plan t p) (Some n) ≡ Some 0
+
+-- ## The cell
+
+-- a row that coordination can hold is the table of what it says
+abbrev pub RowsAreTold : Type 0
+RowsAreTold = (row : List ℕ) → IsBy row → pattern_cells (pattern_in row) ≡ row
+
+-- a pattern that can be selected, if one is, is one of 1 to 16
+pub record IsSelectable (selected : Option ℕ) : Type 0 where
+  pub from_one : (n : ℕ) → selected ≡ Some n → 1 ≤ n
+  pub within : (n : ℕ) → selected ≡ Some n → n ≤ 16
+
+-- the table of such a pattern is read as it, and is a row that coordination can hold
+abbrev pub StatesAreRead : Type 0
+StatesAreRead = (selected : Option ℕ) → IsSelectable selected → pattern_in (pattern_cells selected) ≡ selected
+
+abbrev pub StatesAreBy : Type 0
+StatesAreBy = (selected : Option ℕ) → IsSelectable selected → IsBy (pattern_cells selected)

@@ -1,6 +1,7 @@
 pub mod Coordinated
 pub mod Cells
 pub mod Promises
+pub mod Layer
 pub mod Laws
 pub mod Examples
 pub mod PatternExamples

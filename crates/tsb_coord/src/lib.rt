@@ -8,9 +8,14 @@
 //! at which splits end are the profile's own.
 #![tactic(auto)]
 
+mod asking;
+pub mod coord;
 pub mod coordination;
+mod instants;
 pub mod laws;
+mod patterns;
 
+pub use coord::Coord;
 pub use coordination::Coordination;
 
 /// The cells of coordination.

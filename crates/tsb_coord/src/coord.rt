@@ -1,0 +1,209 @@
+//! Coordination over its cell.
+ghost use Rattle.std.specs.Prelude.{◌≡◌, ◌≢◌, ℕ, ◌+◌, ◌<◌, ◌≤◌, ◌^◌, ◌++◌, true, false, Some, None, IfSome, slice_index, length};
+ghost use Rattle.arrayvec.specs.ArrayVec.{array_vec_len};
+ghost use Rattle.tsb_cells.specs.Diff.{diff, shifted};
+ghost use Rattle.tsb_plan.specs.Parts.{is_used};
+ghost use Rattle.tsb_plan.specs.PlanOf.{plan_of};
+ghost use Rattle.tsb_plan.specs.Running.{running};
+ghost use Rattle.tsb_types.specs.declared.refusal.Refusal.{Refusal};
+ghost use Rattle.tsb_types.specs.Sets.{has};
+ghost use Rattle.tsb_coord.specs.Cells.{pattern_in, IsBy};
+ghost use Rattle.tsb_coord.specs.Coordinated.{refusal};
+ghost use Rattle.tsb_coord.specs.Promises.{IsAtPowerUp, AreOrders, IsAnswered, IsSelected, TellsLocal, TellsPattern};
+
+use crate::CELLS;
+use crate::asking::{forced, held, omitted};
+use crate::coordination::Coordination;
+use crate::patterns::{FREE_SEQUENCE, counter, sequence_in};
+use arrayvec::ArrayVec;
+use tsb_cells::{Bank, Diff, Reversible};
+use tsb_objects::{Pattern, PhaseSet, Plan, Refusal, Sequence};
+
+/// Coordination: which pattern is selected. All else is found from this, the plan and the number of the tick.
+#[derive(Clone, Copy)]
+pub struct Coord {
+    bank: Bank<CELLS>,
+}
+
+/// What is asked in free operation: nothing.
+#[inline(always)]
+fn free() -> Coordination
+    ensures runs { result.runs ≡ None }
+    ensures sequence { result.sequence ≡ 1 }
+    ensures hold { (p : ℕ) → has result.hold p ≡ false }
+    ensures forced { (p : ℕ) → has result.forced p ≡ false }
+    ensures omit { (p : ℕ) → has result.omit p ≡ false }
+{
+    Coordination {
+        runs: None,
+        sequence: Sequence::of(FREE_SEQUENCE),
+        hold: PhaseSet::empty(),
+        forced: PhaseSet::empty(),
+        omit: PhaseSet::empty(),
+    }
+}
+
+impl Coord {
+    ghost use Rattle.tsb_coord.specs.Layer.{cells_of, kept_of, is_open};
+
+    /// Coordination as at power-up: no pattern is selected, which is free operation.
+    pub fn new() -> Coord
+        ensures each { IsAtPowerUp (cells_of result) }
+        ensures by { IsBy (cells_of result) }
+        ensures closed { is_open result ≡ false }
+    {
+        Coord { bank: Bank::new() }
+    }
+
+    /// Coordination as at power-up: no pattern is selected.
+    pub fn reset(&mut self)
+        requires opened { is_open self.old ≡ true }
+        ensures each { IsAtPowerUp (cells_of self.new) }
+        ensures by { IsBy (cells_of self.new) }
+        ensures kept { kept_of self.new ≡ kept_of self.old }
+        ensures opened { is_open self.new ≡ true }
+    {
+        self.bank.put(0, 0);
+    }
+
+    /// Why a pattern cannot be selected, if it cannot: `NoSuchPattern` (E9), where the number is neither 0, which is free
+    /// operation, nor that of a pattern with a cycle.
+    pub fn refusal(n: u32, plan: &Plan) -> Option<Refusal>
+        ensures { result ≡ refusal (plan_of plan.now) n }
+    {
+        if n == 0 {
+            return None;
+        }
+        match Pattern::new(n) {
+            Some(pattern) => {
+                if plan.is_used(pattern) {
+                    None
+                } else {
+                    Some(Refusal::NoSuchPattern)
+                }
+            }
+            None => Some(Refusal::NoSuchPattern),
+        }
+    }
+
+    /// Selects a pattern, or free operation by 0. A refused number is E9, and leaves all as it was.
+    pub fn set_pattern(&mut self, n: u32, plan: &Plan) -> Result<(), Refusal>
+        requires opened { is_open self.old ≡ true }
+        requires by { IsBy (cells_of self.old) }
+        ensures refused { IsAnswered n (plan_of plan.now) result }
+        ensures selected { IsSelected n (plan_of plan.now) (cells_of self.old) (cells_of self.new) }
+        ensures stays { (r : Refusal) → refusal (plan_of plan.now) n ≡ Some r → cells_of self.new ≡ cells_of self.old }
+        ensures by { IsBy (cells_of self.new) }
+        ensures kept { kept_of self.new ≡ kept_of self.old }
+        ensures opened { is_open self.new ≡ true }
+    {
+        match Coord::refusal(n, plan) {
+            Some(refusal) => Err(refusal),
+            None => {
+                self.bank.put(0, n);
+                Ok(())
+            }
+        }
+    }
+
+    /// The pattern that is selected, whether it runs or not, or `None` for free operation.
+    #[inline(always)]
+    pub fn pattern(&self) -> Option<Pattern>
+        requires by { IsBy (cells_of self.now) }
+        ensures { TellsPattern (cells_of self.now) result }
+    {
+        Pattern::new(self.bank.get(0))
+    }
+
+    /// The pattern that runs: the one that is selected, if it has a cycle.
+    #[inline(always)]
+    fn running(&self, plan: &Plan) -> Option<Pattern>
+        requires by { IsBy (cells_of self.now) }
+        ensures runs { result ≡ running (plan_of plan.now) (pattern_in (cells_of self.now)) }
+        ensures used { IfSome result (λ n. is_used (plan_of plan.now) n ≡ true) }
+    {
+        match self.pattern() {
+            None => None,
+            Some(n) => { if plan.is_used(n) { Some(n) } else { None } }
+        }
+    }
+
+    /// What coordination says in tick `now`, at most the last that there is.
+    pub fn orders(&self, now: u32, plan: &Plan) -> Coordination
+        requires by { IsBy (cells_of self.now) }
+        requires in_time { now ≤ 6000000 }
+        ensures orders { AreOrders now (plan_of plan.now) (cells_of self.now) result }
+    {
+        match self.running(plan) {
+            None => free(),
+            Some(n) => Coordination {
+                runs: Some(n),
+                sequence: sequence_in(plan, n),
+                hold: held(plan, n),
+                forced: forced(plan, n, counter(plan, n, now)),
+                omit: omitted(plan, n),
+            },
+        }
+    }
+
+    /// The local counter at tick number `now`, at most the last that there is, in ticks, or `None` in free operation. It
+    /// goes on while the bench is tripped.
+    pub fn local(&self, now: u32, plan: &Plan) -> Option<u32>
+        requires by { IsBy (cells_of self.now) }
+        requires in_time { now ≤ 6000000 }
+        ensures { TellsLocal now (plan_of plan.now) (cells_of self.now) result }
+    {
+        match self.running(plan) {
+            None => None,
+            Some(n) => Some(counter(plan, n, now)),
+        }
+    }
+
+    /// Ends a change as `close` does, and adds each cell that differs to `out`, with what it held at `open`: the cell 0
+    /// has the number `offset` there.
+    pub fn close_onto<const M: usize>(&mut self, out: &mut ArrayVec<(u16, u32), M>, offset: u16)
+        requires opened { is_open self.old ≡ true }
+        requires fits { offset + 1 ≤ 2 ^ 16 }
+        requires room { array_vec_len out.old + 1 ≤ M }
+        ensures changes { out.new.items ≡ out.old.items ++ shifted offset (diff (kept_of self.old) (cells_of self.old)) }
+        ensures len { array_vec_len out.new ≤ array_vec_len out.old + 1 }
+        ensures cells { cells_of self.new ≡ cells_of self.old }
+        ensures closed { is_open self.new ≡ false }
+    {
+        self.bank.close_onto(out, offset);
+    }
+}
+
+impl Reversible<CELLS> for Coord {
+    ghost use Rattle.tsb_coord.specs.Layer.{cells_of, kept_of, is_open};
+
+    ghost cells = { λ s. cells_of s };
+
+    ghost kept = { λ s. kept_of s };
+
+    ghost is_open = { λ s. is_open s };
+
+    ghost allows = { λ row. length row ≡ 1 };
+
+    ghost indexed = { λ s. s.bank.indexed };
+
+    ghost length_cells = { λ s. s.bank.cells_full };
+
+    ghost length_kept = { λ s. s.bank.kept_full };
+
+    ghost cells_allowed = { λ s. s.bank.cells_full };
+
+    ghost kept_allowed = { λ s. s.bank.kept_full };
+
+    fn open(&mut self) {
+        self.bank.open()
+    }
+
+    fn close(&mut self) -> Diff<CELLS> {
+        self.bank.close()
+    }
+
+    fn undo(&mut self, changes: &Diff<CELLS>) {
+        self.bank.undo(changes)
+    }
+}
