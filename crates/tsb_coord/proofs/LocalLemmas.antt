@@ -43,7 +43,7 @@ no_difference m a some =
 
 -- ## The local counter
 
-counter_moves_on : (plan : Plan) (n t k : ℕ) → offset plan n < cycle plan n →
+pub counter_moves_on : (plan : Plan) (n t k : ℕ) → offset plan n < cycle plan n →
     counter plan n (t + k) ≡ (counter plan n t + k) % cycle plan n
 counter_moves_on plan n t k below =
     ap (λ x. x % cycle plan n) (later_by t k (cycle plan n) (offset plan n) below) ∙

@@ -3,26 +3,38 @@ ghost use Rattle.std.specs.Prelude.{◌≡◌, ◌≢◌, ℕ, ◌+◌, ◌<◌,
 ghost use Rattle.arrayvec.specs.ArrayVec.{array_vec_len};
 ghost use Rattle.tsb_cells.specs.Diff.{diff, shifted};
 ghost use Rattle.tsb_plan.specs.Parts.{is_used};
-ghost use Rattle.tsb_plan.specs.PlanOf.{plan_of};
+ghost use Rattle.tsb_objects.specs.Checked.{checked_plan};
 ghost use Rattle.tsb_plan.specs.Running.{running};
 ghost use Rattle.tsb_types.specs.declared.refusal.Refusal.{Refusal};
 ghost use Rattle.tsb_types.specs.Sets.{has};
 ghost use Rattle.tsb_coord.specs.Cells.{pattern_in, IsBy};
 ghost use Rattle.tsb_coord.specs.Coordinated.{refusal};
+ghost use Rattle.tsb_coord.specs.declared.coordination.Coordination.{Coordination};
 ghost use Rattle.tsb_coord.specs.Promises.{IsAtPowerUp, AreOrders, IsAnswered, IsSelected, TellsLocal, TellsPattern};
 
 use crate::CELLS;
 use crate::asking::{forced, held, omitted};
 use crate::coordination::Coordination;
 use crate::patterns::{FREE_SEQUENCE, counter, sequence_in};
+use crate::waiting::ticks_to_next;
 use arrayvec::ArrayVec;
 use tsb_cells::{Bank, Diff, Reversible};
-use tsb_objects::{Pattern, PhaseSet, Plan, Refusal, Sequence};
+use tsb_objects::limits::TICKS;
+use tsb_objects::{Checked, Pattern, PhaseSet, Refusal, Sequence};
 
 /// Coordination: which pattern is selected. All else is found from this, the plan and the number of the tick.
 #[derive(Clone, Copy)]
 pub struct Coord {
     bank: Bank<CELLS>,
+}
+
+/// A pattern has a number from 1 to 16.
+#[inline(always)]
+fn known(n: Pattern)
+    ensures from { 1 ≤ n }
+    ensures within { n ≤ 16 }
+{
+    let _number = n.number();
 }
 
 /// What is asked in free operation: nothing.
@@ -68,15 +80,15 @@ impl Coord {
 
     /// Why a pattern cannot be selected, if it cannot: `NoSuchPattern` (E9), where the number is neither 0, which is free
     /// operation, nor that of a pattern with a cycle.
-    pub fn refusal(n: u32, plan: &Plan) -> Option<Refusal>
-        ensures { result ≡ refusal (plan_of plan.now) n }
+    pub fn refusal(n: u32, plan: &Checked) -> Option<Refusal>
+        ensures { result ≡ refusal (checked_plan plan.now) n }
     {
         if n == 0 {
             return None;
         }
         match Pattern::new(n) {
             Some(pattern) => {
-                if plan.is_used(pattern) {
+                if plan.plan().is_used(pattern) {
                     None
                 } else {
                     Some(Refusal::NoSuchPattern)
@@ -87,12 +99,12 @@ impl Coord {
     }
 
     /// Selects a pattern, or free operation by 0. A refused number is E9, and leaves all as it was.
-    pub fn set_pattern(&mut self, n: u32, plan: &Plan) -> Result<(), Refusal>
+    pub fn set_pattern(&mut self, n: u32, plan: &Checked) -> Result<(), Refusal>
         requires opened { is_open self.old ≡ true }
         requires by { IsBy (cells_of self.old) }
-        ensures refused { IsAnswered n (plan_of plan.now) result }
-        ensures selected { IsSelected n (plan_of plan.now) (cells_of self.old) (cells_of self.new) }
-        ensures stays { (r : Refusal) → refusal (plan_of plan.now) n ≡ Some r → cells_of self.new ≡ cells_of self.old }
+        ensures refused { IsAnswered n (checked_plan plan.now) result }
+        ensures selected { IsSelected n (checked_plan plan.now) (cells_of self.old) (cells_of self.new) }
+        ensures stays { (r : Refusal) → refusal (checked_plan plan.now) n ≡ Some r → cells_of self.new ≡ cells_of self.old }
         ensures by { IsBy (cells_of self.new) }
         ensures kept { kept_of self.new ≡ kept_of self.old }
         ensures opened { is_open self.new ≡ true }
@@ -117,45 +129,74 @@ impl Coord {
 
     /// The pattern that runs: the one that is selected, if it has a cycle.
     #[inline(always)]
-    fn running(&self, plan: &Plan) -> Option<Pattern>
+    fn running(&self, plan: &Checked) -> Option<Pattern>
         requires by { IsBy (cells_of self.now) }
-        ensures runs { result ≡ running (plan_of plan.now) (pattern_in (cells_of self.now)) }
-        ensures used { IfSome result (λ n. is_used (plan_of plan.now) n ≡ true) }
+        ensures runs { result ≡ running (checked_plan plan.now) (pattern_in (cells_of self.now)) }
+        ensures used { IfSome result (λ n. is_used (checked_plan plan.now) n ≡ true) }
     {
         match self.pattern() {
             None => None,
-            Some(n) => { if plan.is_used(n) { Some(n) } else { None } }
+            Some(n) => {
+                if plan.plan().is_used(n) {
+                    Some(n)
+                } else {
+                    None
+                }
+            }
         }
     }
 
     /// What coordination says in tick `now`, at most the last that there is.
-    pub fn orders(&self, now: u32, plan: &Plan) -> Coordination
+    pub fn orders(&self, now: u32, plan: &Checked) -> Coordination
         requires by { IsBy (cells_of self.now) }
         requires in_time { now ≤ 6000000 }
-        ensures orders { AreOrders now (plan_of plan.now) (cells_of self.now) result }
+        ensures orders { AreOrders now (checked_plan plan.now) (cells_of self.now) result }
     {
         match self.running(plan) {
             None => free(),
-            Some(n) => Coordination {
-                runs: Some(n),
-                sequence: sequence_in(plan, n),
-                hold: held(plan, n),
-                forced: forced(plan, n, counter(plan, n, now)),
-                omit: omitted(plan, n),
-            },
+            Some(n) => {
+                let plan = plan.plan();
+                Coordination {
+                    runs: Some(n),
+                    sequence: sequence_in(plan, n),
+                    hold: held(plan, n),
+                    forced: forced(plan, n, counter(plan, n, now)),
+                    omit: omitted(plan, n),
+                }
+            }
+        }
+    }
+
+    /// The first tick after `now` at which `orders` may be others: the next force-off instant of the pattern that runs, or
+    /// the next tick, where `now` is at one. In free operation it is behind the last tick that there is.
+    pub fn due(&self, now: u32, plan: &Checked) -> u32
+        requires by { IsBy (cells_of self.now) }
+        requires in_time { now ≤ 6000000 }
+        ensures later { now < result }
+        ensures quiet { (t : ℕ) → now < t → t < result → (orders : Coordination) →
+            AreOrders now (checked_plan plan.now) (cells_of self.now) orders →
+            AreOrders t (checked_plan plan.now) (cells_of self.now) orders }
+    {
+        match self.running(plan) {
+            None => TICKS + 1,
+            Some(n) => {
+                known(n);
+                let plan = plan.plan();
+                now + ticks_to_next(plan, n, counter(plan, n, now))
+            }
         }
     }
 
     /// The local counter at tick number `now`, at most the last that there is, in ticks, or `None` in free operation. It
     /// goes on while the bench is tripped.
-    pub fn local(&self, now: u32, plan: &Plan) -> Option<u32>
+    pub fn local(&self, now: u32, plan: &Checked) -> Option<u32>
         requires by { IsBy (cells_of self.now) }
         requires in_time { now ≤ 6000000 }
-        ensures { TellsLocal now (plan_of plan.now) (cells_of self.now) result }
+        ensures { TellsLocal now (checked_plan plan.now) (cells_of self.now) result }
     {
         match self.running(plan) {
             None => None,
-            Some(n) => Some(counter(plan, n, now)),
+            Some(n) => Some(counter(plan.plan(), n, now)),
         }
     }
 

@@ -24,6 +24,7 @@ fn end_of(plan: &Plan, n: Pattern, p: Phase) -> u32
 fn instant_from(plan: &Plan, n: Pattern, c: Phase, p: Phase) -> u32
     requires used { is_used (plan_of plan.now) n ≡ true }
     ensures value { result ≡ instant_from (plan_of plan.now) n c p }
+    ensures below { result < cycle (plan_of plan.now) n }
 {
     let cycle = cycle_of(plan, n);
     let end = end_of(plan, n, p) % cycle;
@@ -48,6 +49,7 @@ pub(crate) fn instant(plan: &Plan, n: Pattern, from: &Option<Phase>, p: Phase) -
     requires used { is_used (plan_of plan.now) n ≡ true }
     requires from { from.now ≡ reference (plan_of plan.now) n }
     ensures value { result ≡ force_off (plan_of plan.now) (Some n) p }
+    ensures below { IfSome result (λ i. i < cycle (plan_of plan.now) n) }
 {
     if !plan.is_enabled(p) {
         return None;

@@ -14,6 +14,7 @@ pub mod coordination;
 mod instants;
 pub mod laws;
 mod patterns;
+mod waiting;
 
 pub use coord::Coord;
 pub use coordination::Coordination;

@@ -5,9 +5,8 @@ use Rattle.tsb_coord.specs.Coordinated.{end_of}
 use Rattle.tsb_coord.proofs.InstantLemmas.{from_residues}
 use Rattle.tsb_coord.proofs.instants.instant_from.Goals as goal
 
-pub returns : goal.returns
-returns c = record {
-  value = rw (c.end_of.ensures, c.end_of-2.ensures, c.clearance.ensures.value, c.cycle_of-cycle.ensures.value)
-      (from_residues (cycle (plan_of c.args.plan.now) c.args.n) (end_of (plan_of c.args.plan.now) c.args.n c.args.p) (end_of (plan_of c.args.plan.now) c.args.n c.args.c)
-      (yellow_change (plan_of c.args.plan.now) c.args.p) (red_clear (plan_of c.args.plan.now) c.args.p));
-}
+pub returns-clause-value : goal.returns-clause-value
+returns-clause-value c =
+    rw (c.end_of.ensures, c.end_of-2.ensures, c.clearance.ensures.value, c.cycle_of-cycle.ensures.value)
+    (from_residues (cycle (plan_of c.args.plan.now) c.args.n) (end_of (plan_of c.args.plan.now) c.args.n c.args.p) (end_of (plan_of c.args.plan.now) c.args.n c.args.c)
+    (yellow_change (plan_of c.args.plan.now) c.args.p) (red_clear (plan_of c.args.plan.now) c.args.p))

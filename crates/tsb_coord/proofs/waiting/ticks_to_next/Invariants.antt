@@ -1,0 +1,15 @@
+use Rattle.std.proofs.Common.{◌≡◌, ℕ, ◌+◌, ◌%◌, ◌<◌, ◌≤◌, false, Some}
+use Rattle.tsb_plan.specs.PlanOf.{plan_of}
+use Rattle.tsb_plan.specs.Parts.{cycle}
+use Rattle.tsb_coord.specs.Coordinated.{force_off, agree}
+use Rattle.tsb_coord.proofs.waiting.ticks_to_next.Given as goal
+
+-- no phase so far is forced off earlier
+abbrev pub invariant-loop-number : goal.invariant-loop-number
+invariant-loop-number l = record {
+  from_one : 1 ≤ l.number;
+  some : 1 ≤ l.ticks;
+  within : l.ticks ≤ l.cycle;
+  quiet : (p k : ℕ) → 1 ≤ p → p < l.number → k < l.ticks → 1 < l.ticks →
+      agree (Some ((l.local + k) % cycle (plan_of l.plan) l.n)) (force_off (plan_of l.plan) (Some l.n) p) ≡ false;
+}
