@@ -9,10 +9,10 @@ ghost use Rattle.tsb_plan.specs.PlanOf.{plan_of};
 use tsb_plan::{Object, Plan};
 use tsb_types::Phase;
 
-/// Whether the bench can run the plan: its phases are of ring 1, each alone on its side and on maximum
-/// recall, and it gives no object that is not released.
+/// Whether the bench can run the plan so far: its phases are of ring 1, each alone on its side and on
+/// maximum recall, and it gives no object that is not released.
 #[tactic(auto, unfolding(tsb_plan::specs::PlanOf::plan_of, crate::specs::Built::is_built))]
-pub(crate) fn is_built(plan: &Plan) -> bool
+pub fn is_built(plan: &Plan) -> bool
     ensures { result ≡ is_built (plan_of plan.now) }
 {
     is_of_one_ring(plan)

@@ -2,27 +2,25 @@
 #![tactic(auto, unfolding(tsb_plan::specs::PlanOf::plan_of))]
 
 ghost use Rattle.std.specs.Prelude.{◌≡◌, ℕ, None};
-ghost use Rattle.tsb_objects.specs.Built.{objection};
 ghost use Rattle.tsb_plan.specs.Plan.{is_enabled, has_maximum_recall};
 ghost use Rattle.tsb_plan.specs.PlanOf.{plan_of};
 ghost use Rattle.tsb_objects.specs.Rules.{first_broken};
 ghost use Rattle.tsb_types.specs.Sets.{has};
 
-use crate::built::is_built;
 use crate::rules::{Rule, check};
 use tsb_plan::Plan;
 use tsb_types::{Phase, PhaseSet};
 
 /// A plan that may be run, with sets of its phases at hand.
 ///
-/// Its plan meets the rules and uses nothing that is not built yet, and stays as it is: a `Checked` is
-/// made by `Checked::new` alone, so who is handed one has nothing to check.
+/// Its plan meets the rules and stays as it is: a `Checked` is made by `Checked::new` and `Checked::known`
+/// alone, so who is handed one has nothing to check.
 #[derive(Clone, Copy, Debug, PartialEq, Eq)]
 pub struct Checked {
     plan: Plan,
     enabled: PhaseSet,
     recalled: PhaseSet,
-    ghost passed: { objection (plan_of plan) ≡ None },
+    ghost passed: { first_broken (plan_of plan) ≡ None },
     ghost enabled_are: { (p : ℕ) → has enabled p ≡ is_enabled (plan_of plan) p },
     ghost recalled_are: { (p : ℕ) → has recalled p ≡ has_maximum_recall (plan_of plan) p },
 }
@@ -31,30 +29,34 @@ impl Checked {
     ghost use Rattle.std.specs.Prelude.{Some, Ok, Err, MatchResult};
     ghost use Rattle.tsb_objects.specs.Checked.{checked_plan};
 
-    /// The plan, if nothing stands against it. An `Err` is the first rule that the plan breaks, as
-    /// `check` tells it, or `NotYet` where it meets the rules and uses a part that is not built yet.
+    /// The plan, if it meets the rules. An `Err` is the first rule that it breaks, as `check` tells it.
     #[tactic(auto, unfolding(tsb_plan::specs::PlanOf::plan_of, crate::specs::Checked::checked_plan))]
     pub fn new(plan: Plan) -> Result<Checked, Rule>
         ensures { MatchResult result
-            (λ checked. (objection (plan_of plan) ≡ None) × (checked_plan checked ≡ plan_of plan))
-            (λ rule. objection (plan_of plan) ≡ Some rule) }
+            (λ checked. (first_broken (plan_of plan) ≡ None) × (checked_plan checked ≡ plan_of plan))
+            (λ rule. first_broken (plan_of plan) ≡ Some rule) }
     {
         check(&plan)?;
-        if !is_built(&plan) {
-            return Err(Rule::NotYet);
-        }
-        Ok(Checked {
+        Ok(Checked::known(plan))
+    }
+
+    /// The plan, of which it is known that it meets the rules, as that of an earlier `Checked`.
+    #[tactic(auto, unfolding(tsb_plan::specs::PlanOf::plan_of, crate::specs::Checked::checked_plan))]
+    pub fn known(plan: Plan) -> Checked
+        requires { first_broken (plan_of plan) ≡ None }
+        ensures { checked_plan result ≡ plan_of plan }
+    {
+        Checked {
             plan,
             enabled: enabled_phases(&plan),
             recalled: recalled_phases(&plan),
-        })
+        }
     }
 
     /// The plan that was checked.
     #[tactic(auto, unfolding(tsb_plan::specs::PlanOf::plan_of, crate::specs::Checked::checked_plan))]
     pub fn plan(&self) -> &Plan
         ensures plan { plan_of result.now ≡ checked_plan self.now }
-        ensures passed { objection (checked_plan self.now) ≡ None }
         ensures consistent { first_broken (checked_plan self.now) ≡ None }
     {
         &self.plan

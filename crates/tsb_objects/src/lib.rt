@@ -5,11 +5,12 @@
 //! choice. Nothing here takes memory.
 #![tactic(auto)]
 
-mod built;
+pub mod built;
 pub mod checked;
 pub mod consistent;
 pub mod rules;
 
+pub use built::is_built;
 pub use checked::Checked;
 pub use rules::{Rule, check, split_end};
 pub use tsb_plan::{Object, ObjectId, Plan, Range, SplitMode, Version, is_structural, range_of};

@@ -16,7 +16,7 @@ mod splits;
 pub use splits::split_end;
 use tsb_plan::Plan;
 
-/// A rule that a plan must meet, or that it uses what is not built yet.
+/// A rule that a plan must meet, or that it uses what the bench can't run yet.
 ///
 /// "Phase" without more is an enabled phase, and a used pattern is one whose cycle is not 0.
 #[derive(Clone, Copy, Debug, PartialEq, Eq)]
@@ -71,7 +71,8 @@ pub enum Rule {
     K21,
     /// `phaseDynamicMaxLimit` of a phase is 0 or at least its `phaseMinimumGreen`.
     K22,
-    /// The plan meets the rules, and uses a part that is not built yet. `check` never answers it.
+    /// The plan meets the rules, and uses a part that is not built yet. `check` and `Checked::new` never
+    /// answer it: the bench does.
     NotYet,
 }
 

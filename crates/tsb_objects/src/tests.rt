@@ -86,7 +86,7 @@ fn rules_are_judged_in_order(rt: HostRuntime) {
                 (Object::PhaseMaximum1, 2, 0),
             ],
         ),
-        // `NotYet` comes last.
+        // A rule is told also where a part is used that is not built yet.
         (
             Rule::K10,
             &[(Object::PhasePassage, 2, 1), (Object::PhaseMaximum1, 2, 4)],
@@ -104,7 +104,7 @@ fn rules_are_judged_in_order(rt: HostRuntime) {
 }
 
 #[test]
-fn what_is_not_built_is_not_accepted(rt: HostRuntime) {
+fn what_is_not_built_is_told_apart_from_the_rules(rt: HostRuntime) {
     let cases: [&[Value]; 8] = [
         &[
             (Object::PhaseRing, 4, 2),
@@ -123,7 +123,8 @@ fn what_is_not_built_is_not_accepted(rt: HostRuntime) {
         match changed(Plan::two(), changes) {
             Some(plan) => {
                 assert_eq!(rt; check(&plan), Ok(()));
-                assert_eq!(rt; accepted(plan), Err(Rule::NotYet));
+                assert_eq!(rt; accepted(plan), Ok(()));
+                assert!(rt; !is_built(&plan));
             }
             None => assert!(rt; false, "a value was refused"),
         }
@@ -133,6 +134,7 @@ fn what_is_not_built_is_not_accepted(rt: HostRuntime) {
 #[test]
 fn plans_are_accepted(rt: HostRuntime) {
     assert_eq!(rt; check(&Plan::two()), Ok(()));
+    assert!(rt; is_built(&Plan::two()));
     match Checked::new(Plan::two()) {
         Ok(two) => {
             assert_eq!(rt; *two.plan(), Plan::two());
@@ -228,5 +230,6 @@ fn worked_plans_break_their_rules(rt: HostRuntime) {
 #[test]
 fn quad_meets_the_rules(rt: HostRuntime) {
     assert_eq!(rt; check(&Plan::quad()), Ok(()));
-    assert_eq!(rt; Checked::new(Plan::quad()).err(), Some(Rule::NotYet));
+    assert_eq!(rt; accepted(Plan::quad()), Ok(()));
+    assert!(rt; !is_built(&Plan::quad()));
 }
