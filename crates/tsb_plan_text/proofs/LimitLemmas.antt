@@ -3,7 +3,7 @@ use Rattle.std.proofs.Common.{nat_le, ltb-true, subst, if◌then◌else◌, ◌�
 use Rattle.serde_json.specs.Data.{Data, Members, no_members, member}
 use Rattle.tsb_objects.specs.Checked.{checked_plan}
 use Rattle.tsb_objects.specs.declared.checked.Checked.{Checked}
-use Rattle.tsb_objects.specs.Built.{objection}
+use Rattle.tsb_objects.specs.Rules.{first_broken}
 use Rattle.tsb_objects.specs.declared.rules.Rule.{Rule}
 use Rattle.tsb_plan.specs.declared.object.Object.{Object}
 use Rattle.tsb_plan.specs.declared.version.Version.{Version}
@@ -81,7 +81,7 @@ unbroken p (Some r) = later_err (broken r) refl
 
 checked_later : (p : Plan) → Later (checked p)
 unfolding checked
-checked_later p = unbroken p (objection p)
+checked_later p = unbroken p (first_broken p)
 
 long : (b : Bool) (r : Result Plan Fault) → Later r → (if b then Err too_large else r) ≡ Err too_large → b ≡ true
 unfolding Later

@@ -24,7 +24,7 @@ use Rattle.tsb_plan_text.proofs.NumberLemmas.{index_named_is}
 use Rattle.tsb_plan_text.proofs.RiseLemmas.{IsBefore, Rise, RiseIn, AllRise, read_all_rise}
 use Rattle.tsb_plan_text.proofs.TextLemmas.{read_of_data}
 use Rattle.tsb_plan_text.proofs.TableLemmas.{few_indices}
-use Rattle.tsb_objects.specs.Built.{objection}
+use Rattle.tsb_objects.specs.Rules.{first_broken}
 use Rattle.tsb_objects.specs.Checked.{checked_plan}
 use Rattle.tsb_objects.specs.declared.checked.Checked.{Checked}
 use Rattle.tsb_objects.specs.declared.rules.Rule.{Rule}
@@ -282,7 +282,7 @@ short false r q e = e
 
 passed_is : (p q : Plan) → checked p ≡ Ok q → p ≡ q
 unfolding checked
-passed_is p q e = unbroken (objection p) e
+passed_is p q e = unbroken (first_broken p) e
   where
     unbroken : (r : Option Rule) → unless_broken r p ≡ Ok q → p ≡ q
     unbroken None e = if_ok true p q too_large e

@@ -7,7 +7,7 @@ use Rattle.std.specs.Str.{is_utf8}
 use Rattle.serde_json.specs.Data.{Data, Members, no_members, member}
 use Rattle.serde_json.specs.Find.{get_member, as_number, as_object, as_u64}
 use Rattle.serde_json.specs.Read.{read}
-use Rattle.tsb_objects.specs.Built.{objection}
+use Rattle.tsb_objects.specs.Rules.{first_broken}
 use Rattle.tsb_objects.specs.declared.rules.Rule.{Rule}
 use Rattle.tsb_plan.specs.declared.object.Object.{Object}
 use Rattle.tsb_plan.specs.declared.version.Version.{Version}
@@ -90,13 +90,13 @@ data_plan d =
     or_fault (version_in members) no_version (λ v.
     with_members v members empty))
 
--- a plan against which no rule stands
+-- a plan that breaks no rule
 abbrev pub unless_broken : Option Rule → Plan → Result Plan Fault
 unless_broken None plan = Ok plan
 unless_broken (Some r) plan = Err (broken r)
 
 unfoldable pub checked : Plan → Result Plan Fault
-checked plan = unless_broken (objection plan) plan
+checked plan = unless_broken (first_broken plan) plan
 
 -- the plan that a text gives, or the first fault
 unfoldable pub reading : List ℕ → Result Plan Fault

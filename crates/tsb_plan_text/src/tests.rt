@@ -77,7 +77,7 @@ fn faults_are_printed(rt: HostRuntime) {
         (r#"{"version":3,"version":1}"#, "plan: rule K1"),
         (r#"{"version":1}"#, "plan: rule K1"),
         (SHORT_YELLOW, "plan: rule K8"),
-        (QUAD, "plan: rule NotYet"),
+        (QUAD, "read"),
     ];
     for (text, line) in &wanted {
         let given = answer(rt.alloc(), text).expect(&rt, "memory");
