@@ -1,3 +1,4 @@
+pub mod Runnable
 pub mod Signals
 pub mod SignalsCells
 pub mod Controller

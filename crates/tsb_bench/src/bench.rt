@@ -9,6 +9,7 @@ ghost use Rattle.tsb_plan.specs.PlanOf.{plan_of};
 ghost use Rattle.tsb_types.specs.declared.refusal.Refusal.TheVariants.{Memory};
 ghost use Rattle.tsb_bench.specs.Controller.{row_of, is_open};
 ghost use Rattle.tsb_bench.specs.Display.{display, shown, IsSafe};
+ghost use Rattle.tsb_bench.specs.Runnable.{runnable_plan};
 ghost use Rattle.tsb_bench.specs.Past.{state_of, whole, earlier, ticks, ticks_of, sought, IsLeastBack, IsGood};
 ghost use Rattle.tsb_bench.specs.SignalsCells.{signals_in, IsAlone, IsBy};
 ghost use Rattle.tsb_bench.specs.State.{start, step, verdict, kind_of, record_of, IsRefusal};
@@ -16,6 +17,7 @@ ghost use Rattle.tsb_bench.specs.State.{start, step, verdict, kind_of, record_of
 use crate::controller::{CELLS, Controller};
 use crate::display::Display;
 use crate::inputs::{Input, Nothing};
+use crate::runnable::Runnable;
 use arrayvec::ArrayVec;
 use std::alloc::{AllocError, Global};
 use std::marker::Model;
@@ -141,12 +143,12 @@ impl Bench {
     pub const TICKS: u32 = limits::TICKS;
 
     /// A bench at power-up, which runs this plan: all phases Red, at tick 0. It takes no memory.
-    pub fn power_up(alloc: Global, plan: Checked) -> Bench
-        ensures { whole result ≡ record { state = start (checked_plan plan); records = [] } }
+    pub fn power_up(alloc: Global, plan: Runnable) -> Bench
+        ensures { whole result ≡ record { state = start (runnable_plan plan); records = [] } }
     {
         Bench {
             tick: 0,
-            plan,
+            plan: plan.checked(),
             controller: Controller::new(),
             history: History::new(alloc),
         }

@@ -15,6 +15,7 @@ mod phase_timers;
 mod player;
 mod reading;
 mod ring_state;
+mod runnable;
 mod sets;
 mod timing;
 mod want;
@@ -24,6 +25,7 @@ pub use commands::{Answer, Cmd};
 pub use display::{Aspect, Display};
 pub use inputs::{Input, Nothing};
 pub use player::{answer, play};
+pub use runnable::Runnable;
 pub use tsb_history::Kind;
 pub use tsb_objects::{
     Checked, NumberSet, Object, ObjectId, Phase, Plan, Range, Refusal, Row, Rule, Station, check,

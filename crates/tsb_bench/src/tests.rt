@@ -2,8 +2,8 @@ use super::*;
 use std::alloc::Global;
 
 /// The built-in plan of two phases, 2 and 4.
-fn two() -> Result<Checked, Rule> {
-    Checked::new(Plan::two())
+fn two() -> Result<Runnable, Rule> {
+    Runnable::new(Plan::two())
 }
 
 fn tick() -> Input {
@@ -61,7 +61,7 @@ type Change<'a> = (u32, &'a [u8; 16]);
 
 /// Runs a plan with all inputs off, and tells whether the heads change so and no more, up to a last tick.
 fn shows(alloc: Global, plan: Plan, changes: &[Change<'_>], last: u32) -> bool {
-    let Ok(plan) = Checked::new(plan) else {
+    let Ok(plan) = Runnable::new(plan) else {
         return false;
     };
     let mut bench = Bench::power_up(alloc, plan);

@@ -4,3 +4,4 @@ pub mod Answers
 pub mod Text
 pub mod Ended
 pub mod Talk
+pub mod Runs

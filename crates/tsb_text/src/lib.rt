@@ -8,12 +8,14 @@ mod display_line;
 mod fault;
 mod lines;
 mod pending;
+mod read;
 mod talk;
 
 pub use display_line::line;
 pub use fault::SessionFault;
+pub use read::read_runnable;
 pub use talk::{COMMANDS, session};
-pub use tsb_bench::{Bench, Checked, Kind, Plan, Refusal, Row, Rule, Station};
+pub use tsb_bench::{Bench, Checked, Kind, Plan, Refusal, Row, Rule, Runnable, Station};
 pub use tsb_command_text::{Command, read_command};
 pub use tsb_log_text::{LIMIT as LOG_LIMIT, Log, LogFault, read_log};
 pub use tsb_objects::{

@@ -2,7 +2,7 @@
 
 ghost use Rattle.std.specs.Prelude.{◌≡◌, ◌∷◌, [], ◌++◌, ℕ, List, Ok, OnOk};
 ghost use Rattle.tsb_lines.specs.Lines.{HasNoFeed};
-ghost use Rattle.tsb_objects.specs.Checked.{checked_plan};
+ghost use Rattle.tsb_bench.specs.Runnable.{runnable_plan};
 ghost use Rattle.tsb_bench.specs.declared.inputs.Input.{Input};
 ghost use Rattle.tsb_bench.specs.Past.{whole};
 ghost use Rattle.tsb_text.specs.Answers.{Given};
@@ -18,7 +18,7 @@ use crate::pending::Pending;
 use arrayvec::ArrayVec;
 use std::alloc::Global;
 use std::io::{Read, Write};
-use tsb_bench::{Bench, Checked};
+use tsb_bench::{Bench, Runnable};
 use tsb_command_text::{LINE, Reading, reading_of};
 use tsb_lines::without_return;
 use tsb_log_text::Log;
@@ -209,12 +209,12 @@ fn as_session(sent: Result<(), WriteFault>) -> Result<(), SessionFault>
 /// text. `TooLarge` comes where a byte stands behind the first 16 MiB, after the whole lines within them were answered.
 pub fn session<R: Read, W: Write>(
     alloc: Global,
-    plan: Checked,
+    plan: Runnable,
     log: &Log,
     reader: &mut R,
     writer: &mut W,
 ) -> Result<(), SessionFault>
-    ensures { Ended result (record { plan = checked_plan plan; log = log.now })
+    ensures { Ended result (record { plan = runnable_plan plan; log = log.now })
         (R.remaining reader.old) (R.remaining reader.new) (W.contents writer.old) (W.contents writer.new) }
 {
     let mut talk = Talk {

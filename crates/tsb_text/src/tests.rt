@@ -132,7 +132,7 @@ fn talk<R: Read, W: Write>(
     reader: &mut R,
     writer: &mut W,
 ) -> Option<Result<(), SessionFault>> {
-    let plan = Checked::new(Plan::two()).ok()?;
+    let plan = Runnable::new(Plan::two()).ok()?;
     let log = Log::empty(rt.alloc());
     Some(session(rt.alloc(), plan, &log, reader, writer))
 }
@@ -340,7 +340,7 @@ fn a_session_runs_a_plan_and_a_log(rt: HostRuntime) {
         br#"{"version":1,"phaseEnabled":{"2":1,"4":1},"phaseRing":{"2":1,"4":1},"phaseSide":{"2":1,"4":2},"phaseMinimumGreen":{"2":5,"4":5},"phaseMaximum1":{"2":10,"4":8},"phaseMaximum2":{"2":10,"4":8},"phaseYellowChange":{"2":30,"4":30},"phaseRedClear":{"2":10,"4":10},"phaseMaxRecall":{"2":1,"4":1},"sequenceData":{"1":2,"2":4}}"#;
     let rows = b"0000100 0010010000000000 00000000 0000\n0000102 0000010000000000 00000000 0000\n";
     let (Ok(plan), Ok(log)) = (
-        read_plan(rt.alloc(), text.as_slice()),
+        read_runnable(rt.alloc(), text.as_slice()),
         read_log(rt.alloc(), rows.as_slice()),
     ) else {
         assert!(rt; false);
@@ -360,7 +360,7 @@ fn a_session_runs_a_plan_and_a_log(rt: HostRuntime) {
 
 #[test]
 fn a_line_is_that_of_the_state(rt: HostRuntime) {
-    let Ok(plan) = Checked::new(Plan::two()) else {
+    let Ok(plan) = Runnable::new(Plan::two()) else {
         assert!(rt; false);
         return;
     };

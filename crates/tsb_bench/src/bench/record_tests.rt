@@ -18,7 +18,7 @@ fn is_change(tick: u32) -> bool {
 
 #[test]
 fn quiet_ticks_have_no_entries(rt: HostRuntime) {
-    let Ok(plan) = Checked::new(Plan::two()) else {
+    let Ok(plan) = Runnable::new(Plan::two()) else {
         assert!(rt; false);
         return;
     };

@@ -7,5 +7,5 @@ use Rattle.tsb_bench.proofs.bench.Bench.power_up.Goals as goal
 pub invariant_of-result : goal.invariant_of-result
 unfolding checked_plan plan_of
 invariant_of-result c =
-    kept-start (is_open c.new.result) c.args.plan.plan.values (row_of c.new.result) c.new-2.result.records c.new-2.result.room
-    c.new.ensures.closed c.args.plan.plan.full c.args.plan.plan.ranged.each c.args.plan.passed c.new.ensures.by c.new.ensures.start c.new-2.ensures.records
+    kept-start (is_open c.new.result) c.checked.result.plan.values (row_of c.new.result) c.new-2.result.records c.new-2.result.room
+    c.new.ensures.closed c.checked.result.plan.full c.checked.result.plan.ranged.each c.checked.ensures.runs c.new.ensures.by c.new.ensures.start c.new-2.ensures.records
