@@ -4,7 +4,7 @@ ghost use Rattle.std.specs.Prelude.{◌≡◌, ◌++◌, ◌∷◌, [], IfSome, 
 ghost use Rattle.tsb.specs.declared.asked.Asked.{Asked};
 ghost use Rattle.tsb.specs.declared.asked.WordsFault.{WordsFault};
 ghost use Rattle.std.specs.Io.KnownBytes.{Appends};
-ghost use Rattle.tsb_objects.specs.Checked.{checked_plan};
+ghost use Rattle.tsb_text.specs.Runs.{runnable_plan};
 ghost use Rattle.tsb.specs.Statuses.{number, after_fault, after_words};
 ghost use Rattle.tsb.specs.Read.{PlanRead, LogRead};
 ghost use Rattle.tsb.specs.Ends.{Checks, Judged, Ran, RanBuiltIn, Did, Talked};
@@ -16,7 +16,8 @@ use std::convert::AsStr;
 use std::fmt::Display;
 use std::io::{Read, Write};
 use tsb_text::{
-    Checked, LOG_LIMIT, Log, LogFault, PLAN_LIMIT, Plan, PlanFault, read_log, read_plan, session,
+    LOG_LIMIT, Log, LogFault, PLAN_LIMIT, Plan, PlanFault, Runnable, read_log, read_runnable,
+    session,
 };
 
 /// How to use the program.
@@ -104,11 +105,11 @@ enum Fault<T> {
 }
 
 /// The plan in the file at this path.
-fn plan_of<F: Files>(alloc: Global, files: &F, path: &str) -> Result<Checked, Fault<PlanFault>>
+fn plan_of<F: Files>(alloc: Global, files: &F, path: &str) -> Result<Runnable, Fault<PlanFault>>
     ensures { PlanRead result (F.bytes files.now path.now) }
 {
     let text = read_file(alloc, files, path, PLAN_LIMIT + 1).map_err(Fault::File)?;
-    match read_plan(alloc, &text) {
+    match read_runnable(alloc, &text) {
         Ok(plan) => Ok(plan),
         Err(PlanFault::Memory) => Err(Fault::Memory),
         Err(fault) => Err(Fault::Refused(fault)),
@@ -183,15 +184,15 @@ fn run<F: Files, R: Read, W: Write, E: Write>(
     ensures { Ran result (F.bytes files.now plan.now) (F.bytes files.now log.now)
         (R.remaining input.old) (R.remaining input.new) (W.contents output.old) (W.contents output.new) }
 {
-    let checked = match plan_of(alloc, files, plan) {
-        Ok(checked) => checked,
+    let runnable = match plan_of(alloc, files, plan) {
+        Ok(runnable) => runnable,
         Err(fault) => return refuse(errors, fault),
     };
     let rows = match log_of(alloc, files, log) {
         Ok(rows) => rows,
         Err(fault) => return refuse(errors, fault),
     };
-    talk(alloc, checked, &rows, input, output, errors)
+    talk(alloc, runnable, &rows, input, output, errors)
 }
 
 /// Runs a session on the built-in plan of two phases with an empty log.
@@ -204,7 +205,7 @@ fn run_built_in<R: Read, W: Write, E: Write>(
     ensures { RanBuiltIn result
         (R.remaining input.old) (R.remaining input.new) (W.contents output.old) (W.contents output.new) }
 {
-    match Checked::new(Plan::two()) {
+    match Runnable::new(Plan::two()) {
         Ok(plan) => talk(alloc, plan, &Log::empty(alloc), input, output, errors),
         Err(rule) => tell(errors, Status::Refused, PlanFault::Rule(rule)),
     }
@@ -213,13 +214,13 @@ fn run_built_in<R: Read, W: Write, E: Write>(
 /// Runs a session, and gives the status that the program ends with.
 fn talk<R: Read, W: Write, E: Write>(
     alloc: Global,
-    plan: Checked,
+    plan: Runnable,
     log: &Log,
     input: &mut R,
     output: &mut W,
     errors: &mut E,
 ) -> u8
-    ensures { Talked result (record { plan = checked_plan plan; log = log.now })
+    ensures { Talked result (record { plan = runnable_plan plan; log = log.now })
         (R.remaining input.old) (R.remaining input.new) (W.contents output.old) (W.contents output.new) }
 {
     match session(alloc, plan, log, input, output) {
