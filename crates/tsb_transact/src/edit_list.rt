@@ -1,0 +1,119 @@
+//! Edits as the cells have them: listed, laid over a plan, and what they would change there.
+ghost use Rattle.std.specs.Prelude.{◌≡◌, ◌&&◌, ◌≤◌, true, slice_index};
+ghost use Rattle.tsb_cells.specs.Bank.{cells_of};
+ghost use Rattle.tsb_plan.specs.Objects.{has_index, is_structural};
+ghost use Rattle.tsb_plan.specs.PlanOf.{plan_of};
+ghost use Rattle.tsb_transact.specs.Cells.{IsBy, desk_in, edit_in};
+ghost use Rattle.tsb_transact.specs.Commit.{changes, changes_structure, changes_preempt, is_preempt_list};
+ghost use Rattle.tsb_transact.specs.Desk.{with_edits};
+
+use crate::edit::Edit;
+use crate::head_cells::COUNT;
+use crate::places::id_at;
+use crate::{CELLS, MOST_EDITS};
+use arrayvec::ArrayVec;
+use tsb_cells::Bank;
+use tsb_objects::{Object, Plan, is_structural};
+
+/// Edit `k`, from 1.
+pub fn edit(bank: &Bank<CELLS>, k: usize) -> Edit
+    requires from { 1 ≤ k }
+    requires within { k ≤ 64 }
+    ensures { result ≡ edit_in (cells_of bank.now) k }
+{
+    Edit {
+        id: id_at(bank.get(2 * k + 2)),
+        value: bank.get(2 * k + 3),
+    }
+}
+
+/// All edits, in order.
+#[tactic(auto, unfolding(crate::specs::Cells::desk_in))]
+pub fn edits(bank: &Bank<CELLS>) -> ArrayVec<Edit, MOST_EDITS>
+    requires { slice_index (cells_of bank.now) 3 ≤ 64 }
+    ensures { result.items ≡ (desk_in (cells_of bank.now)).edits }
+{
+    let mut list = ArrayVec::new();
+    for k in 1..bank.get(COUNT) as usize + 1 {
+        list.push(edit(bank, k));
+    }
+    list
+}
+
+/// The plan with all edits laid over it.
+#[tactic(auto, unfolding(crate::specs::Cells::desk_in))]
+pub fn laid(bank: &Bank<CELLS>, plan: &Plan) -> Plan
+    requires { IsBy (cells_of bank.now) }
+    ensures { plan_of result ≡ with_edits (plan_of plan.now) (desk_in (cells_of bank.now)).edits }
+{
+    let mut laid = *plan;
+    for k in 1..bank.get(COUNT) as usize + 1 {
+        let edit = edit(bank, k);
+        let _put = laid.put(edit.id, edit.value);
+    }
+    laid
+}
+
+/// Whether the edit differs from the present value.
+fn changes(plan: &Plan, edit: Edit) -> bool
+    requires { has_index edit.id.object edit.id.index ≡ true }
+    ensures { result ≡ changes (plan_of plan.now) edit }
+{
+    plan.at(edit.id.object, edit.id.index) != edit.value
+}
+
+/// Whether the object is a list of phases of preempts: of track, dwell or exit.
+fn is_preempt_list(object: Object) -> bool
+    ensures { result ≡ is_preempt_list object }
+{
+    matches!(
+        object,
+        Object::PreemptTrackPhase | Object::PreemptDwellPhase | Object::PreemptExitPhase
+    )
+}
+
+/// Whether the edit changes which phases there are, where they stand, or which belong together.
+fn structural_change(plan: &Plan, edit: Edit) -> bool
+    requires { has_index edit.id.object edit.id.index ≡ true }
+    ensures { result ≡ (is_structural edit.id.object && changes (plan_of plan.now) edit) }
+{
+    is_structural(edit.id.object) && changes(plan, edit)
+}
+
+/// Whether the edits change which phases there are, where they stand, or which belong together.
+#[tactic(auto, unfolding(crate::specs::Cells::desk_in))]
+pub fn changes_structure(bank: &Bank<CELLS>, plan: &Plan) -> bool
+    requires { IsBy (cells_of bank.now) }
+    ensures { result ≡ changes_structure (plan_of plan.now) (desk_in (cells_of bank.now)).edits }
+{
+    for k in 1..bank.get(COUNT) as usize + 1 {
+        let edit = edit(bank, k);
+        if structural_change(plan, edit) {
+            return true;
+        }
+    }
+    false
+}
+
+/// Whether the edit changes a list of phases of some preempt.
+fn preempt_change(plan: &Plan, edit: Edit) -> bool
+    requires { has_index edit.id.object edit.id.index ≡ true }
+    ensures { result ≡ (is_preempt_list edit.id.object && changes (plan_of plan.now) edit) }
+{
+    is_preempt_list(edit.id.object) && changes(plan, edit)
+}
+
+/// Whether the edits change a list of phases of some preempt.
+#[tactic(auto, unfolding(crate::specs::Cells::desk_in))]
+pub fn changes_preempt(bank: &Bank<CELLS>, plan: &Plan) -> bool
+    requires { IsBy (cells_of bank.now) }
+    ensures { result ≡ changes_preempt (plan_of plan.now) (desk_in (cells_of bank.now)).edits }
+{
+    for k in 1..bank.get(COUNT) as usize + 1 {
+        let edit = edit(bank, k);
+        if preempt_change(plan, edit) {
+            return true;
+        }
+    }
+    false
+}

@@ -1,0 +1,45 @@
+//! Places of objects: the object at each index has one of 1 to 1,230 among all values of a plan.
+ghost use Rattle.std.specs.Prelude.{◌≡◌, ◌≤◌, true};
+ghost use Rattle.tsb_plan.specs.Objects.{has_index};
+ghost use Rattle.tsb_transact.specs.Cells.{place_of, id_at, id_among};
+
+use tsb_objects::{Object, ObjectId};
+
+/// The place of an object's value at an index among all of a plan, from 1.
+pub fn place(id: ObjectId) -> u32
+    requires { has_index id.object id.index ≡ true }
+    ensures at { result ≡ place_of id }
+    ensures from { 1 ≤ result }
+    ensures within { result ≤ 1230 }
+{
+    id.object.first_cell() as u32 + id.index
+}
+
+/// The object and index that have a place among the values of these objects, from 1. A place behind all of them has none: it
+/// gives the index 0, which no object has.
+fn id_among(all: &[Object], place: u32) -> ObjectId
+    ensures { result ≡ id_among all.now place }
+{
+    let mut rest = place;
+    for object in all {
+        if rest <= object.indices() {
+            return ObjectId {
+                object: *object,
+                index: rest,
+            };
+        }
+        rest -= object.indices();
+    }
+    ObjectId {
+        object: Object::PhaseEnabled,
+        index: 0,
+    }
+}
+
+/// The object and index that have a place among all of a plan, 1 to 1,230.
+#[tactic(auto, unfolding(tsb_plan::specs::Objects::objects))]
+pub fn id_at(place: u32) -> ObjectId
+    ensures { result ≡ id_at place }
+{
+    id_among(&Object::ALL, place)
+}
