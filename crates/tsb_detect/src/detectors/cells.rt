@@ -1,0 +1,145 @@
+//! Cells of detectors: lists and timers are read, and written where they change.
+ghost use Rattle.std.specs.Prelude.{◌≡◌, ◌≢◌, ℕ, ◌+◌, ◌*◌, ◌<◌, ◌≤◌, true, slice_index};
+ghost use Rattle.tsb_types.specs.Sets.{has_number, names, list_in};
+ghost use Rattle.tsb_detect.specs.Rows.{row_in, list_of_row, cell_of_row, with_list, with_cell};
+
+use crate::detector_row::DetectorRow;
+use crate::detectors::Detectors;
+use crate::sets::{has, known, with};
+use tsb_objects::{Detector, NumberSet};
+
+/// The cell of kind `k` of a detector.
+#[inline(always)]
+fn place(k: usize, d: Detector) -> usize
+    requires { k < 3 }
+    ensures at { result ≡ 5 + 16 * k + d }
+    ensures from { 1 ≤ d }
+    ensures within { d ≤ 16 }
+{
+    5 + 16 * k + usize::from(d.number())
+}
+
+impl Detectors {
+    ghost use Rattle.tsb_detect.specs.Layer.{cells_of, kept_of, is_open, KeepsLists};
+
+    /// The detectors in list `k`.
+    #[inline(always)]
+    pub(crate) fn list(&self, k: usize) -> NumberSet
+        requires { k < 6 }
+        ensures { (d : ℕ) → has_number result d ≡ names (list_in (cells_of self.now) k) d }
+    {
+        NumberSet::from_list((self.bank.get(k) % 65536) as u16)
+    }
+
+    /// The cell of kind `k` of a detector.
+    #[inline(always)]
+    pub(crate) fn cell(&self, k: usize, d: Detector) -> u32
+        requires { k < 3 }
+        ensures { result ≡ slice_index (cells_of self.now) (5 + 16 * k + d) }
+    {
+        self.bank.get(place(k, d))
+    }
+
+    /// The row of a detector.
+    #[inline(always)]
+    #[tactic(auto, unfolding(crate::specs::Rows::row_in))]
+    pub(crate) fn load(&self, d: Detector) -> DetectorRow
+        ensures { result ≡ row_in (cells_of self.now) d }
+    {
+        DetectorRow {
+            input: has(self.list(0), d),
+            output: has(self.list(1), d),
+            actuated: has(self.list(2), d),
+            inactive: has(self.list(3), d),
+            present: has(self.list(4), d),
+            erratic: has(self.list(5), d),
+            rises: self.cell(0, d),
+            change: self.cell(1, d),
+            extend: self.cell(2, d),
+        }
+    }
+
+    #[inline(always)]
+    pub(crate) fn put(&mut self, at: usize, value: u32)
+        requires in_range { at < 54 }
+        requires opened { is_open self.old ≡ true }
+        ensures here { slice_index (cells_of self.new) at ≡ value }
+        ensures others { (j : ℕ) → j ≢ at → slice_index (cells_of self.new) j ≡ slice_index (cells_of self.old) j }
+        ensures kept { kept_of self.new ≡ kept_of self.old }
+        ensures opened { is_open self.new ≡ true }
+    {
+        self.bank.put(at, value);
+    }
+
+    /// Makes list `k` that of a set.
+    #[inline(always)]
+    pub(crate) fn put_set(&mut self, k: usize, set: NumberSet)
+        requires in_range { k < 6 }
+        requires opened { is_open self.old ≡ true }
+        ensures told { (d : ℕ) → names (list_in (cells_of self.new) k) d ≡ has_number set d }
+        ensures small { slice_index (cells_of self.new) k < 65536 }
+        ensures others { (j : ℕ) → j ≢ k → slice_index (cells_of self.new) j ≡ slice_index (cells_of self.old) j }
+        ensures kept { kept_of self.new ≡ kept_of self.old }
+        ensures opened { is_open self.new ≡ true }
+    {
+        self.put(k, u32::from(set.list()));
+    }
+
+    /// Puts the detector into list `k`, or takes it out, where that is a change.
+    #[inline(always)]
+    pub(crate) fn put_list(&mut self, k: usize, d: Detector, was: bool, on: bool)
+        requires in_range { k < 6 }
+        requires opened { is_open self.old ≡ true }
+        requires was { was ≡ list_of_row k (row_in (cells_of self.old) d) }
+        ensures row { row_in (cells_of self.new) d ≡ with_list k on (row_in (cells_of self.old) d) }
+        ensures others { (e : ℕ) → 1 ≤ e → e ≤ 16 → e ≢ d → row_in (cells_of self.new) e ≡ row_in (cells_of self.old) e }
+        ensures lists { KeepsLists (cells_of self.old) (cells_of self.new) }
+        ensures kept { kept_of self.new ≡ kept_of self.old }
+        ensures opened { is_open self.new ≡ true }
+    {
+        if was != on {
+            known(d);
+            let list = with(self.list(k), d, on);
+            self.put_set(k, list);
+        }
+    }
+
+    /// Puts a value into the cell of kind `k` of a detector, where that is a change.
+    #[inline(always)]
+    pub(crate) fn put_cell(&mut self, k: usize, d: Detector, was: u32, value: u32)
+        requires in_range { k < 3 }
+        requires opened { is_open self.old ≡ true }
+        requires was { was ≡ cell_of_row k (row_in (cells_of self.old) d) }
+        ensures row { row_in (cells_of self.new) d ≡ with_cell k value (row_in (cells_of self.old) d) }
+        ensures others { (e : ℕ) → 1 ≤ e → e ≤ 16 → e ≢ d → row_in (cells_of self.new) e ≡ row_in (cells_of self.old) e }
+        ensures lists { KeepsLists (cells_of self.old) (cells_of self.new) }
+        ensures kept { kept_of self.new ≡ kept_of self.old }
+        ensures opened { is_open self.new ≡ true }
+    {
+        if was != value {
+            self.put(place(k, d), value);
+        }
+    }
+
+    /// Puts the row of a detector into the cells, where it differs from what it was.
+    #[inline(always)]
+    pub(crate) fn store(&mut self, d: Detector, was: &DetectorRow, row: &DetectorRow)
+        requires opened { is_open self.old ≡ true }
+        requires was { was.now ≡ row_in (cells_of self.old) d }
+        ensures row { row_in (cells_of self.new) d ≡ row.now }
+        ensures others { (e : ℕ) → 1 ≤ e → e ≤ 16 → e ≢ d → row_in (cells_of self.new) e ≡ row_in (cells_of self.old) e }
+        ensures lists { KeepsLists (cells_of self.old) (cells_of self.new) }
+        ensures kept { kept_of self.new ≡ kept_of self.old }
+        ensures opened { is_open self.new ≡ true }
+    {
+        self.put_list(0, d, was.input, row.input);
+        self.put_list(1, d, was.output, row.output);
+        self.put_list(2, d, was.actuated, row.actuated);
+        self.put_list(3, d, was.inactive, row.inactive);
+        self.put_list(4, d, was.present, row.present);
+        self.put_list(5, d, was.erratic, row.erratic);
+        self.put_cell(0, d, was.rises, row.rises);
+        self.put_cell(1, d, was.change, row.change);
+        self.put_cell(2, d, was.extend, row.extend);
+    }
+}

@@ -1,0 +1,129 @@
+//! A tick of detectors: those that may change are worked out, of all others it is proved that they stay.
+ghost use Rattle.std.specs.Prelude.{◌≡◌, ◌≢◌, ℕ, ◌+◌, ◌<◌, ◌≤◌, ◌^◌, true, false};
+ghost use Rattle.tsb_cells.specs.Timer.{timer_at};
+ghost use Rattle.tsb_plan.specs.PlanOf.{plan_of};
+ghost use Rattle.tsb_plan.specs.Parts.{call_phase, no_activity};
+ghost use Rattle.tsb_types.specs.Sets.{has_number};
+ghost use Rattle.tsb_detect.specs.Detector.{has_lasted};
+ghost use Rattle.tsb_detect.specs.Promises.{green_timer_of};
+ghost use Rattle.tsb_detect.specs.Rows.{row_in, IsRead, IsVisit, IsSettled, is_due, is_due_on};
+
+use crate::detectors::Detectors;
+use crate::diagnostics::{has_lasted, is_due_on};
+use crate::greens::Greens;
+use crate::output::{green_of, next_row};
+use crate::sets::{all, differing, has, joined, known, pop};
+use tsb_objects::{Detector, NumberSet, Plan};
+
+impl Detectors {
+    ghost use Rattle.tsb_detect.specs.Layer.{cells_of, kept_of, is_open, KeepsLists};
+
+    /// The detectors that the lists do not show to be as their inputs.
+    #[inline(always)]
+    #[tactic(auto, unfolding(crate::specs::Rows::row_in))]
+    fn unsettled(&self, inputs: NumberSet) -> NumberSet
+        ensures { (d : ℕ) → has_number result d ≡ false → IsSettled (has_number inputs d) (row_in (cells_of self.now) d) }
+    {
+        let changed = differing(inputs, self.list(0)).union(differing(inputs, self.list(1)));
+        let alarmed = self.list(3).union(self.list(4)).union(self.list(5));
+        changed.union(self.list(2)).union(alarmed)
+    }
+
+    /// The cell of a change timer.
+    #[inline(always)]
+    #[tactic(auto, unfolding(crate::specs::Rows::row_in))]
+    fn change(&self, now: u32, d: Detector) -> u32
+        requires read { (e : ℕ) → 1 ≤ e → e ≤ 16 → IsRead now (row_in (cells_of self.now) e) }
+        ensures value { result ≡ (row_in (cells_of self.now) d).change }
+        ensures range { result ≤ now + 1 }
+    {
+        known(d);
+        self.cell(1, d)
+    }
+
+    /// The detectors that have no activity where their input is off.
+    #[inline(always)]
+    fn idle(&self, now: u32, plan: &Plan) -> NumberSet
+        requires fits { now + 1 < 2 ^ 32 }
+        requires read { (d : ℕ) → 1 ≤ d → d ≤ 16 → IsRead now (row_in (cells_of self.now) d) }
+        ensures { (d : ℕ) → 1 ≤ d → d ≤ 16 → has_number result d ≡ has_lasted (timer_at now (row_in (cells_of self.now) d).change) (no_activity (plan_of plan.now) d) }
+    {
+        let mut found = NumberSet::empty();
+        for number in 1..17u8 {
+            let d = Detector::of(number);
+            let change = self.change(now, d);
+            found = joined(found, d, has_lasted(now, change, plan.no_activity(d)));
+        }
+        found
+    }
+
+    /// The detectors that a tick looks at where their input is on.
+    #[inline(always)]
+    fn held(&self, now: u32, plan: &Plan) -> NumberSet
+        requires fits { now + 1 < 2 ^ 32 }
+        requires read { (d : ℕ) → 1 ≤ d → d ≤ 16 → IsRead now (row_in (cells_of self.now) d) }
+        ensures { (d : ℕ) → 1 ≤ d → d ≤ 16 → has_number result d ≡ is_due_on now (plan_of plan.now) d (row_in (cells_of self.now) d).change }
+    {
+        let mut found = NumberSet::empty();
+        for number in 1..17u8 {
+            let d = Detector::of(number);
+            let change = self.change(now, d);
+            found = joined(found, d, is_due_on(now, plan, d, change));
+        }
+        found
+    }
+
+    /// The detectors that a tick looks at for their time.
+    #[inline(always)]
+    fn due_set(&self, now: u32, inputs: NumberSet, plan: &Plan) -> NumberSet
+        requires fits { now + 1 < 2 ^ 32 }
+        requires read { (d : ℕ) → 1 ≤ d → d ≤ 16 → IsRead now (row_in (cells_of self.now) d) }
+        ensures { (d : ℕ) → 1 ≤ d → d ≤ 16 →
+            has_number result d ≡ is_due now (plan_of plan.now) d (has_number inputs d) (row_in (cells_of self.now) d).change }
+    {
+        if now % 600 == 0 {
+            all()
+        } else {
+            self.idle(now, plan)
+                .difference(inputs)
+                .union(self.held(now, plan).intersection(inputs))
+        }
+    }
+
+    /// What a tick makes of a detector.
+    #[inline(always)]
+    fn visit(&mut self, now: u32, inputs: NumberSet, greens: &Greens, plan: &Plan, d: Detector)
+        requires fits { now + 1 < 2 ^ 32 }
+        requires opened { is_open self.old ≡ true }
+        requires read { IsRead now (row_in (cells_of self.old) d) }
+        ensures visit { IsVisit now (plan_of plan.now) d (has_number inputs d) (green_timer_of now greens.now (call_phase (plan_of plan.now) d)) (row_in (cells_of self.old) d) (row_in (cells_of self.new) d) }
+        ensures others { (e : ℕ) → 1 ≤ e → e ≤ 16 → e ≢ d → row_in (cells_of self.new) e ≡ row_in (cells_of self.old) e }
+        ensures lists { KeepsLists (cells_of self.old) (cells_of self.new) }
+        ensures kept { kept_of self.new ≡ kept_of self.old }
+        ensures opened { is_open self.new ≡ true }
+    {
+        let was = self.load(d);
+        let green = green_of(now, greens, plan, d);
+        let row = next_row(now, plan, d, has(inputs, d), green, &was);
+        self.store(d, &was, &row);
+    }
+
+    /// Works out the detectors that may change.
+    pub(crate) fn run(&mut self, now: u32, inputs: NumberSet, greens: &Greens, plan: &Plan)
+        requires fits { now + 1 < 2 ^ 32 }
+        requires opened { is_open self.old ≡ true }
+        requires read { (d : ℕ) → 1 ≤ d → d ≤ 16 → IsRead now (row_in (cells_of self.old) d) }
+        ensures each { (d : ℕ) → 1 ≤ d → d ≤ 16 →
+            IsVisit now (plan_of plan.now) d (has_number inputs d) (green_timer_of now greens.now (call_phase (plan_of plan.now) d)) (row_in (cells_of self.old) d) (row_in (cells_of self.new) d) }
+        ensures lists { KeepsLists (cells_of self.old) (cells_of self.new) }
+        ensures kept { kept_of self.new ≡ kept_of self.old }
+        ensures opened { is_open self.new ≡ true }
+    {
+        let mut rest = self
+            .unsettled(inputs)
+            .union(self.due_set(now, inputs, plan));
+        while let Some(d) = pop(&mut rest) {
+            self.visit(now, inputs, greens, plan, d);
+        }
+    }
+}
