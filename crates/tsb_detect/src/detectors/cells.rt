@@ -8,6 +8,26 @@ use crate::detectors::Detectors;
 use crate::sets::{has, known, with};
 use tsb_objects::{Detector, NumberSet};
 
+/// The lists, each in the cell of this number.
+pub(super) const INPUTS: usize = 0;
+
+pub(super) const OUTPUTS: usize = 1;
+
+pub(super) const ACTUATIONS: usize = 2;
+
+pub(super) const INACTIVE: usize = 3;
+
+pub(super) const PRESENT: usize = 4;
+
+pub(super) const ERRATIC: usize = 5;
+
+/// The kinds of cells, 16 of each after the lists.
+pub(super) const RISES: usize = 0;
+
+pub(super) const CHANGES: usize = 1;
+
+pub(super) const EXTENDS: usize = 2;
+
 /// The cell of kind `k` of a detector.
 #[inline(always)]
 fn place(k: usize, d: Detector) -> usize
@@ -24,7 +44,7 @@ impl Detectors {
 
     /// The detectors in list `k`.
     #[inline(always)]
-    pub(crate) fn list(&self, k: usize) -> NumberSet
+    pub(super) fn list(&self, k: usize) -> NumberSet
         requires { k < 6 }
         ensures { (d : ℕ) → has_number result d ≡ names (list_in (cells_of self.now) k) d }
     {
@@ -33,7 +53,7 @@ impl Detectors {
 
     /// The cell of kind `k` of a detector.
     #[inline(always)]
-    pub(crate) fn cell(&self, k: usize, d: Detector) -> u32
+    pub(super) fn cell(&self, k: usize, d: Detector) -> u32
         requires { k < 3 }
         ensures { result ≡ slice_index (cells_of self.now) (5 + 16 * k + d) }
     {
@@ -43,24 +63,24 @@ impl Detectors {
     /// The row of a detector.
     #[inline(always)]
     #[tactic(auto, unfolding(crate::specs::Rows::row_in))]
-    pub(crate) fn load(&self, d: Detector) -> DetectorRow
+    pub(super) fn load(&self, d: Detector) -> DetectorRow
         ensures { result ≡ row_in (cells_of self.now) d }
     {
         DetectorRow {
-            input: has(self.list(0), d),
-            output: has(self.list(1), d),
-            actuated: has(self.list(2), d),
-            inactive: has(self.list(3), d),
-            present: has(self.list(4), d),
-            erratic: has(self.list(5), d),
-            rises: self.cell(0, d),
-            change: self.cell(1, d),
-            extend: self.cell(2, d),
+            input: has(self.list(INPUTS), d),
+            output: has(self.list(OUTPUTS), d),
+            actuated: has(self.list(ACTUATIONS), d),
+            inactive: has(self.list(INACTIVE), d),
+            present: has(self.list(PRESENT), d),
+            erratic: has(self.list(ERRATIC), d),
+            rises: self.cell(RISES, d),
+            change: self.cell(CHANGES, d),
+            extend: self.cell(EXTENDS, d),
         }
     }
 
     #[inline(always)]
-    pub(crate) fn put(&mut self, at: usize, value: u32)
+    pub(super) fn put(&mut self, at: usize, value: u32)
         requires in_range { at < 54 }
         requires opened { is_open self.old ≡ true }
         ensures here { slice_index (cells_of self.new) at ≡ value }
@@ -73,7 +93,7 @@ impl Detectors {
 
     /// Makes list `k` that of a set.
     #[inline(always)]
-    pub(crate) fn put_set(&mut self, k: usize, set: NumberSet)
+    pub(super) fn put_set(&mut self, k: usize, set: NumberSet)
         requires in_range { k < 6 }
         requires opened { is_open self.old ≡ true }
         ensures told { (d : ℕ) → names (list_in (cells_of self.new) k) d ≡ has_number set d }
@@ -87,7 +107,7 @@ impl Detectors {
 
     /// Puts the detector into list `k`, or takes it out, where that is a change.
     #[inline(always)]
-    pub(crate) fn put_list(&mut self, k: usize, d: Detector, was: bool, on: bool)
+    pub(super) fn put_list(&mut self, k: usize, d: Detector, was: bool, on: bool)
         requires in_range { k < 6 }
         requires opened { is_open self.old ≡ true }
         requires was { was ≡ list_of_row k (row_in (cells_of self.old) d) }
@@ -106,7 +126,7 @@ impl Detectors {
 
     /// Puts a value into the cell of kind `k` of a detector, where that is a change.
     #[inline(always)]
-    pub(crate) fn put_cell(&mut self, k: usize, d: Detector, was: u32, value: u32)
+    pub(super) fn put_cell(&mut self, k: usize, d: Detector, was: u32, value: u32)
         requires in_range { k < 3 }
         requires opened { is_open self.old ≡ true }
         requires was { was ≡ cell_of_row k (row_in (cells_of self.old) d) }
@@ -123,7 +143,7 @@ impl Detectors {
 
     /// Puts the row of a detector into the cells, where it differs from what it was.
     #[inline(always)]
-    pub(crate) fn store(&mut self, d: Detector, was: &DetectorRow, row: &DetectorRow)
+    pub(super) fn store(&mut self, d: Detector, was: &DetectorRow, row: &DetectorRow)
         requires opened { is_open self.old ≡ true }
         requires was { was.now ≡ row_in (cells_of self.old) d }
         ensures row { row_in (cells_of self.new) d ≡ row.now }
@@ -132,14 +152,14 @@ impl Detectors {
         ensures kept { kept_of self.new ≡ kept_of self.old }
         ensures opened { is_open self.new ≡ true }
     {
-        self.put_list(0, d, was.input, row.input);
-        self.put_list(1, d, was.output, row.output);
-        self.put_list(2, d, was.actuated, row.actuated);
-        self.put_list(3, d, was.inactive, row.inactive);
-        self.put_list(4, d, was.present, row.present);
-        self.put_list(5, d, was.erratic, row.erratic);
-        self.put_cell(0, d, was.rises, row.rises);
-        self.put_cell(1, d, was.change, row.change);
-        self.put_cell(2, d, was.extend, row.extend);
+        self.put_list(INPUTS, d, was.input, row.input);
+        self.put_list(OUTPUTS, d, was.output, row.output);
+        self.put_list(ACTUATIONS, d, was.actuated, row.actuated);
+        self.put_list(INACTIVE, d, was.inactive, row.inactive);
+        self.put_list(PRESENT, d, was.present, row.present);
+        self.put_list(ERRATIC, d, was.erratic, row.erratic);
+        self.put_cell(RISES, d, was.rises, row.rises);
+        self.put_cell(CHANGES, d, was.change, row.change);
+        self.put_cell(EXTENDS, d, was.extend, row.extend);
     }
 }

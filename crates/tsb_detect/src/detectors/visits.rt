@@ -8,8 +8,9 @@ ghost use Rattle.tsb_detect.specs.Detector.{has_lasted};
 ghost use Rattle.tsb_detect.specs.Promises.{green_timer_of};
 ghost use Rattle.tsb_detect.specs.Rows.{row_in, IsRead, IsVisit, IsSettled, is_due, is_due_on};
 
+use super::cells::{ACTUATIONS, CHANGES, ERRATIC, INACTIVE, INPUTS, OUTPUTS, PRESENT};
 use crate::detectors::Detectors;
-use crate::diagnostics::{has_lasted, is_due_on};
+use crate::diagnostics::{MINUTE, has_lasted, is_due_on};
 use crate::greens::Greens;
 use crate::output::{green_of, next_row};
 use crate::sets::{all, differing, has, joined, known, pop};
@@ -24,9 +25,15 @@ impl Detectors {
     fn unsettled(&self, inputs: NumberSet) -> NumberSet
         ensures { (d : ℕ) → has_number result d ≡ false → IsSettled (has_number inputs d) (row_in (cells_of self.now) d) }
     {
-        let changed = differing(inputs, self.list(0)).union(differing(inputs, self.list(1)));
-        let alarmed = self.list(3).union(self.list(4)).union(self.list(5));
-        changed.union(self.list(2)).union(alarmed)
+        let changed = differing(inputs, self.list(INPUTS)).union(differing(
+            inputs,
+            self.list(OUTPUTS),
+        ));
+        let alarmed = self
+            .list(INACTIVE)
+            .union(self.list(PRESENT))
+            .union(self.list(ERRATIC));
+        changed.union(self.list(ACTUATIONS)).union(alarmed)
     }
 
     /// The cell of a change timer.
@@ -38,7 +45,7 @@ impl Detectors {
         ensures range { result ≤ now + 1 }
     {
         known(d);
-        self.cell(1, d)
+        self.cell(CHANGES, d)
     }
 
     /// The detectors that have no activity where their input is off.
@@ -81,7 +88,7 @@ impl Detectors {
         ensures { (d : ℕ) → 1 ≤ d → d ≤ 16 →
             has_number result d ≡ is_due now (plan_of plan.now) d (has_number inputs d) (row_in (cells_of self.now) d).change }
     {
-        if now % 600 == 0 {
+        if now % MINUTE == 0 {
             all()
         } else {
             self.idle(now, plan)
@@ -109,7 +116,7 @@ impl Detectors {
     }
 
     /// Works out the detectors that may change.
-    pub(crate) fn run(&mut self, now: u32, inputs: NumberSet, greens: &Greens, plan: &Plan)
+    pub(super) fn run(&mut self, now: u32, inputs: NumberSet, greens: &Greens, plan: &Plan)
         requires fits { now + 1 < 2 ^ 32 }
         requires opened { is_open self.old ≡ true }
         requires read { (d : ℕ) → 1 ≤ d → d ≤ 16 → IsRead now (row_in (cells_of self.old) d) }
