@@ -37,7 +37,7 @@ pub(crate) fn joined(set: NumberSet, d: Detector, on: bool) -> NumberSet
     ensures set { has_number result d ≡ on }
     ensures others { (e : ℕ) → e ≢ d → has_number result e ≡ has_number set e }
 {
-    if on { set.with(d.number(), true) } else { set }
+    set.joined(d.number(), on)
 }
 
 /// Takes the first detector out of a set.

@@ -1,12 +1,12 @@
 //! Cells of detectors: lists and timers are read, and written where they change.
 ghost use Rattle.std.specs.Prelude.{◌≡◌, ◌≢◌, ℕ, ◌+◌, ◌*◌, ◌<◌, ◌≤◌, true, slice_index};
-ghost use Rattle.tsb_types.specs.Sets.{has_number, names, list_in};
 ghost use Rattle.tsb_detect.specs.Rows.{row_in, list_of_row, cell_of_row, with_list, with_cell};
 
 use crate::detector_row::DetectorRow;
 use crate::detectors::Detectors;
 use crate::sets::{has, known, with};
-use tsb_objects::{Detector, NumberSet};
+use tsb_objects::Detector;
+use tsb_rows::{list, put};
 
 /// The lists, each in the cell of this number.
 pub(super) const INPUTS: usize = 0;
@@ -42,15 +42,6 @@ fn place(k: usize, d: Detector) -> usize
 impl Detectors {
     ghost use Rattle.tsb_detect.specs.Layer.{cells_of, kept_of, is_open, KeepsLists};
 
-    /// The detectors in list `k`.
-    #[inline(always)]
-    pub(super) fn list(&self, k: usize) -> NumberSet
-        requires { k < 6 }
-        ensures { (d : ℕ) → has_number result d ≡ names (list_in (cells_of self.now) k) d }
-    {
-        NumberSet::from_list((self.bank.get(k) % 65536) as u16)
-    }
-
     /// The cell of kind `k` of a detector.
     #[inline(always)]
     pub(super) fn cell(&self, k: usize, d: Detector) -> u32
@@ -67,42 +58,16 @@ impl Detectors {
         ensures { result ≡ row_in (cells_of self.now) d }
     {
         DetectorRow {
-            input: has(self.list(INPUTS), d),
-            output: has(self.list(OUTPUTS), d),
-            actuated: has(self.list(ACTUATIONS), d),
-            inactive: has(self.list(INACTIVE), d),
-            present: has(self.list(PRESENT), d),
-            erratic: has(self.list(ERRATIC), d),
+            input: has(list(&self.bank, INPUTS), d),
+            output: has(list(&self.bank, OUTPUTS), d),
+            actuated: has(list(&self.bank, ACTUATIONS), d),
+            inactive: has(list(&self.bank, INACTIVE), d),
+            present: has(list(&self.bank, PRESENT), d),
+            erratic: has(list(&self.bank, ERRATIC), d),
             rises: self.cell(RISES, d),
             change: self.cell(CHANGES, d),
             extend: self.cell(EXTENDS, d),
         }
-    }
-
-    #[inline(always)]
-    pub(super) fn put(&mut self, at: usize, value: u32)
-        requires in_range { at < 54 }
-        requires opened { is_open self.old ≡ true }
-        ensures here { slice_index (cells_of self.new) at ≡ value }
-        ensures others { (j : ℕ) → j ≢ at → slice_index (cells_of self.new) j ≡ slice_index (cells_of self.old) j }
-        ensures kept { kept_of self.new ≡ kept_of self.old }
-        ensures opened { is_open self.new ≡ true }
-    {
-        self.bank.put(at, value);
-    }
-
-    /// Makes list `k` that of a set.
-    #[inline(always)]
-    pub(super) fn put_set(&mut self, k: usize, set: NumberSet)
-        requires in_range { k < 6 }
-        requires opened { is_open self.old ≡ true }
-        ensures told { (d : ℕ) → names (list_in (cells_of self.new) k) d ≡ has_number set d }
-        ensures small { slice_index (cells_of self.new) k < 65536 }
-        ensures others { (j : ℕ) → j ≢ k → slice_index (cells_of self.new) j ≡ slice_index (cells_of self.old) j }
-        ensures kept { kept_of self.new ≡ kept_of self.old }
-        ensures opened { is_open self.new ≡ true }
-    {
-        self.put(k, u32::from(set.list()));
     }
 
     /// Puts the detector into list `k`, or takes it out, where that is a change.
@@ -119,8 +84,8 @@ impl Detectors {
     {
         if was != on {
             known(d);
-            let list = with(self.list(k), d, on);
-            self.put_set(k, list);
+            let changed = with(list(&self.bank, k), d, on);
+            tsb_rows::put_list(&mut self.bank, k, changed);
         }
     }
 
@@ -137,7 +102,7 @@ impl Detectors {
         ensures opened { is_open self.new ≡ true }
     {
         if was != value {
-            self.put(place(k, d), value);
+            put(&mut self.bank, place(k, d), value);
         }
     }
 

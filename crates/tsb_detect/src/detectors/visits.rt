@@ -15,6 +15,7 @@ use crate::greens::Greens;
 use crate::output::{green_of, next_row};
 use crate::sets::{all, differing, has, joined, known, pop};
 use tsb_objects::{Detector, NumberSet, Plan};
+use tsb_rows::list;
 
 impl Detectors {
     ghost use Rattle.tsb_detect.specs.Layer.{cells_of, kept_of, is_open, KeepsLists};
@@ -25,15 +26,14 @@ impl Detectors {
     fn unsettled(&self, inputs: NumberSet) -> NumberSet
         ensures { (d : ℕ) → has_number result d ≡ false → IsSettled (has_number inputs d) (row_in (cells_of self.now) d) }
     {
-        let changed = differing(inputs, self.list(INPUTS)).union(differing(
+        let changed = differing(inputs, list(&self.bank, INPUTS)).union(differing(
             inputs,
-            self.list(OUTPUTS),
+            list(&self.bank, OUTPUTS),
         ));
-        let alarmed = self
-            .list(INACTIVE)
-            .union(self.list(PRESENT))
-            .union(self.list(ERRATIC));
-        changed.union(self.list(ACTUATIONS)).union(alarmed)
+        let alarmed = list(&self.bank, INACTIVE)
+            .union(list(&self.bank, PRESENT))
+            .union(list(&self.bank, ERRATIC));
+        changed.union(list(&self.bank, ACTUATIONS)).union(alarmed)
     }
 
     /// The cell of a change timer.
