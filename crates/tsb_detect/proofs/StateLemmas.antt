@@ -1,0 +1,223 @@
+-- Laws of states: the table of detectors is read as they were, and a tick looks only at what is its own.
+use Rattle.std.proofs.Common.{zero, suc, ◌≡◌, ℕ, ◌+◌, ◌-◌, ◌<◌, ◌≤◌, ◌==◌, Bool, true, false, if◌then◌else◌, List, [], ◌∷◌, ◌++◌, length, slice_index, map, refl, sym, ap, ap₂, ◌∙◌, subst, arith, inl, inr, Option, Some, None, is_some}
+use Rattle.std.proofs.Math.Path.{fun_ext}
+use Rattle.std.proofs.lemmas.Bool.{cases_Bool}
+use Rattle.std.proofs.lemmas.Bool.Decides.{nat_tests}
+use Rattle.tsb_cells.specs.declared.timer.Timer.{Timer}
+use Rattle.tsb_cells.specs.declared.timer.Timer.TheVariants.{Off, On}
+use Rattle.tsb_cells.specs.Timer.{timer_at, timer_cell, is_on, IsWithin}
+use Rattle.tsb_cells.proofs.TimerLemmas.{timer_at-timer_cell, timer_cell-le}
+use Rattle.tsb_types.specs.declared.row.Row.{Row}
+use Rattle.tsb_types.specs.Clip.{Agree}
+use Rattle.tsb_types.specs.Lists.{run_from}
+use Rattle.tsb_types.specs.Sets.{names, list_of, list_in, is_phase, has_number}
+use Rattle.tsb_types.proofs.SetLemmas.{list_of-below}
+use Rattle.tsb_types.proofs.ClipLemmas.{IsAmong, among_16, is_phase_from}
+use Rattle.tsb_rows.proofs.TableLemmas.{front-read, column-read, length-column, list-read}
+use Rattle.tsb_plan.specs.Plan.{Plan}
+use Rattle.tsb_plan.specs.Parts.{call_phase, unless_zero}
+use Rattle.tsb_plan.specs.declared.object.Object.TheVariants.{VehicleDetectorCallPhase}
+use Rattle.tsb_detect.specs.declared.alarm.Alarm.{Alarm}
+use Rattle.tsb_detect.specs.declared.alarm.Alarm.TheVariants.{NoActivity, MaxPresence, Erratic}
+use Rattle.tsb_detect.specs.declared.greens.Greens.{Greens}
+use Rattle.tsb_detect.specs.Detector.{Detector, at_power_up, is_detector, is_erratic, of_called, all_after, next}
+use Rattle.tsb_detect.specs.Cells.{detector_in, detectors_cells, alarm_in, is_inactive, is_present, IsDetectorBy, IsBy}
+use Rattle.tsb_detect.specs.Laws.{IsStateBy, AreStatesBy, CallsPhases}
+use Rattle.tsb_detect.specs.Promises.{IsTicked, green_timer, green_timer_of}
+use Rattle.tsb_detect.proofs.ReadLemmas.{same_detector}
+
+-- ## The table is read
+
+alarm-read : (a : Option Alarm) →
+    (if is_inactive a then Some NoActivity else (if is_present a then Some MaxPresence else (if is_erratic a then Some Erratic else None))) ≡ a
+alarm-read None = refl
+alarm-read (Some NoActivity) = refl
+alarm-read (Some MaxPresence) = refl
+alarm-read (Some Erratic) = refl
+
+inactive-not_present : (a : Option Alarm) → is_inactive a ≡ true → is_present a ≡ false
+inactive-not_present None h = refl
+inactive-not_present (Some NoActivity) h = refl
+inactive-not_present (Some MaxPresence) h = absurd cc
+inactive-not_present (Some Erratic) h = refl
+
+inactive-not_erratic : (a : Option Alarm) → is_inactive a ≡ true → is_erratic a ≡ false
+inactive-not_erratic None h = refl
+inactive-not_erratic (Some NoActivity) h = refl
+inactive-not_erratic (Some MaxPresence) h = refl
+inactive-not_erratic (Some Erratic) h = absurd cc
+
+present-not_erratic : (a : Option Alarm) → is_present a ≡ true → is_erratic a ≡ false
+present-not_erratic None h = refl
+present-not_erratic (Some NoActivity) h = refl
+present-not_erratic (Some MaxPresence) h = refl
+present-not_erratic (Some Erratic) h = absurd cc
+
+runs-from_one : (now : ℕ) (x : Timer) → is_on x ≡ true → 1 ≤ timer_cell now x
+runs-from_one now Off on = absurd cc
+runs-from_one now (On n) on = omega arith
+
+off-cell : (now : ℕ) (x : Timer) → x ≡ Off → timer_cell now x ≡ 0
+off-cell now x e = rw e refl
+
+alarm-of : (a b c x y z : Bool) → a ≡ x → b ≡ y → c ≡ z →
+    (if a then Some NoActivity else (if b then Some MaxPresence else (if c then Some Erratic else None)))
+    ≡ (if x then Some NoActivity else (if y then Some MaxPresence else (if z then Some Erratic else None)))
+alarm-of a b c x y z p q r = rw (p, q, r) refl
+
+on_time-of : (input x : Bool) (t u : Timer) → input ≡ x → t ≡ u → (if input then t else Off) ≡ (if x then u else Off)
+on_time-of input x t u p q = rw (p, q) refl
+
+at-rest : (now : ℕ) (row : List ℕ) (d : ℕ) → is_detector d ≡ false → detector_in now row d ≡ at_power_up
+unfolding detector_in
+at-rest now row d out = rw out refl
+
+module _ (now : ℕ) (f : ℕ → Detector) where
+  abbrev lists : List ℕ
+  lists = list_of 16 (λ d. (f d).input) ∷ list_of 16 (λ d. (f d).output) ∷ list_of 16 (λ d. (f d).actuated) ∷
+      list_of 16 (λ d. is_inactive (f d).alarm) ∷ list_of 16 (λ d. is_present (f d).alarm) ∷ list_of 16 (λ d. is_erratic (f d).alarm) ∷ []
+
+  abbrev rises : List ℕ
+  rises = lists ++ map (λ d. (f d).rises) (run_from 1 16)
+
+  abbrev changes : List ℕ
+  changes = rises ++ map (λ d. timer_cell now (f d).change) (run_from 1 16)
+
+  length-rises : length rises ≡ 22
+  length-rises = length-column lists (λ d. (f d).rises)
+
+  length-changes : length changes ≡ 38
+  length-changes = length-column rises (λ d. timer_cell now (f d).change) ∙ ap (λ (n : ℕ). n + 16) length-rises
+
+  length-cells : length (detectors_cells now f) ≡ 54
+  length-cells = length-column changes (λ d. timer_cell now (f d).extend) ∙ ap (λ (n : ℕ). n + 16) length-changes
+
+  cell-at : (k : ℕ) → k < 6 → slice_index (detectors_cells now f) k ≡ slice_index lists k
+  cell-at k below =
+      front-read changes _ k (omega (arith, below, length-changes)) ∙ front-read rises _ k (omega (arith, below, length-rises))
+      ∙ front-read lists _ k below
+
+  list-at : (k : ℕ) (test : ℕ → Bool) (d : ℕ) → k < 6 → slice_index lists k ≡ list_of 16 test → 1 ≤ d → d ≤ 16 →
+      names (list_in (detectors_cells now f) k) d ≡ test d
+  list-at k test d below e from to = list-read (detectors_cells now f) k test d (cell-at k below ∙ e) from to
+
+  small : (k : ℕ) → k < 6 → slice_index lists k < 65536
+  small zero below = list_of-below 16 (λ d. (f d).input)
+  small (suc zero) below = list_of-below 16 (λ d. (f d).output)
+  small (suc (suc zero)) below = list_of-below 16 (λ d. (f d).actuated)
+  small (suc (suc (suc zero))) below = list_of-below 16 (λ d. is_inactive (f d).alarm)
+  small (suc (suc (suc (suc zero)))) below = list_of-below 16 (λ d. is_present (f d).alarm)
+  small (suc (suc (suc (suc (suc zero))))) below = list_of-below 16 (λ d. is_erratic (f d).alarm)
+  small (suc (suc (suc (suc (suc (suc k)))))) below = absurd (omega arith)
+
+  module _ (s : AreStatesBy now f) (d : ℕ) (from : 1 ≤ d) (to : d ≤ 16) where
+    rises-at : slice_index (detectors_cells now f) (5 + d) ≡ (f d).rises
+    rises-at =
+        front-read changes _ (5 + d) (omega (arith, to, length-changes)) ∙ front-read rises _ (5 + d) (omega (arith, to, length-rises))
+        ∙ column-read 6 lists (λ e. (f e).rises) d refl (omega arith) from to
+
+    change-at : slice_index (detectors_cells now f) (21 + d) ≡ timer_cell now (f d).change
+    change-at =
+        front-read changes _ (21 + d) (omega (arith, to, length-changes))
+        ∙ column-read 22 rises (λ e. timer_cell now (f e).change) d length-rises (omega arith) from to
+
+    extend-at : slice_index (detectors_cells now f) (37 + d) ≡ timer_cell now (f d).extend
+    extend-at = column-read 38 changes (λ e. timer_cell now (f e).extend) d length-changes (omega arith) from to
+
+    input-at : names (list_in (detectors_cells now f) 0) d ≡ (f d).input
+    input-at = list-at 0 (λ e. (f e).input) d (omega arith) refl from to
+
+    output-at : names (list_in (detectors_cells now f) 1) d ≡ (f d).output
+    output-at = list-at 1 (λ e. (f e).output) d (omega arith) refl from to
+
+    actuated-at : names (list_in (detectors_cells now f) 2) d ≡ (f d).actuated
+    actuated-at = list-at 2 (λ e. (f e).actuated) d (omega arith) refl from to
+
+    inactive-at : names (list_in (detectors_cells now f) 3) d ≡ is_inactive (f d).alarm
+    inactive-at = list-at 3 (λ e. is_inactive (f e).alarm) d (omega arith) refl from to
+
+    present-at : names (list_in (detectors_cells now f) 4) d ≡ is_present (f d).alarm
+    present-at = list-at 4 (λ e. is_present (f e).alarm) d (omega arith) refl from to
+
+    erratic-at : names (list_in (detectors_cells now f) 5) d ≡ is_erratic (f d).alarm
+    erratic-at = list-at 5 (λ e. is_erratic (f e).alarm) d (omega arith) refl from to
+
+    alarm-at : alarm_in (detectors_cells now f) d ≡ (f d).alarm
+    alarm-at = alarm-of _ _ _ _ _ _ inactive-at present-at erratic-at ∙ alarm-read (f d).alarm
+
+    change-read : timer_at now (slice_index (detectors_cells now f) (21 + d)) ≡ (f d).change
+    change-read = ap (λ (cell : ℕ). timer_at now cell) change-at ∙ timer_at-timer_cell now (f d).change (s.each d from to).change
+
+    extend-read : timer_at now (slice_index (detectors_cells now f) (37 + d)) ≡ (f d).extend
+    extend-read = ap (λ (cell : ℕ). timer_at now cell) extend-at ∙ timer_at-timer_cell now (f d).extend (s.each d from to).extend
+
+    detector-read : detector_in now (detectors_cells now f) d ≡ f d
+    unfolding detector_in
+    detector-read =
+        rw (is_phase_from d from to) (same_detector _ _ input-at output-at actuated-at alarm-at rises-at change-read
+        (on_time-of _ _ _ _ input-at change-read ∙ sym (s.each d from to).on_time) extend-read)
+
+    detector-by : IsDetectorBy now (detectors_cells now f) d
+    detector-by = record {
+      inactive_present = λ h. present-at ∙ inactive-not_present (f d).alarm (sym inactive-at ∙ h);
+      inactive_erratic = λ h. erratic-at ∙ inactive-not_erratic (f d).alarm (sym inactive-at ∙ h);
+      present_erratic = λ h. erratic-at ∙ present-not_erratic (f d).alarm (sym present-at ∙ h);
+      rises = omega (arith, rises-at, (s.each d from to).rises);
+      changed = omega (arith, change-at, runs-from_one now (f d).change (s.each d from to).changed);
+      change = omega (arith, change-at, timer_cell-le now (f d).change);
+      extend = omega (arith, extend-at, timer_cell-le now (f d).extend);
+      present = λ h. extend-at ∙ off-cell now (f d).extend ((s.each d from to).present (sym input-at ∙ h));
+      idle = λ h. extend-at ∙ off-cell now (f d).extend ((s.each d from to).idle (sym output-at ∙ h));
+      failed = λ h. extend-at ∙ off-cell now (f d).extend ((s.each d from to).failed (sym (ap is_some alarm-at) ∙ h));
+    }
+
+  pub states-read : AreStatesBy now f → detector_in now (detectors_cells now f) ≡ f
+  states-read s = fun_ext (λ d. at d)
+    where
+      at : (d : ℕ) → detector_in now (detectors_cells now f) d ≡ f d
+      at d = elim (cases_Bool (is_detector d)) [
+        | inl on ↦ (let i : IsAmong d = among_16 d on in detector-read s d i.from i.to)
+        | inr out ↦ at-rest now (detectors_cells now f) d out ∙ sym (s.others d out)
+      ]
+
+  pub states-by : AreStatesBy now f → IsBy now (detectors_cells now f)
+  states-by s = record {
+    full = length-cells;
+    lists = λ k below. omega (arith, cell-at k below, small k below);
+    each = λ d from to. detector-by s d from to;
+  }
+
+-- ## What a tick looks at
+
+called-same : (g h : ℕ → Timer) (n : ℕ) → n ≤ 16 → Agree g h → of_called g (unless_zero n) ≡ of_called h (unless_zero n)
+called-same g h n most same = elim (cases_Bool (n == 0)) [
+  | inl none ↦ rw none refl
+  | inr some ↦ rw some (same n (grind (arith, nat_tests, some)) most)
+]
+
+pub same-after : (plan : Plan) (t : ℕ) (x y : ℕ → Bool) (g h : ℕ → Timer) (v w : ℕ → Detector) → CallsPhases plan → Agree x y → Agree g h → Agree v w →
+    all_after plan t x (λ d. of_called g (call_phase plan d)) v ≡ all_after plan t y (λ d. of_called h (call_phase plan d)) w
+same-after plan t x y g h v w calls xs gs vs = fun_ext (λ d. at d)
+  where
+    at : (d : ℕ) → all_after plan t x (λ e. of_called g (call_phase plan e)) v d ≡ all_after plan t y (λ e. of_called h (call_phase plan e)) w d
+    at d = elim (cases_Bool (is_detector d)) [
+      | inl on ↦
+          (let i : IsAmong d = among_16 d on in
+          let green : of_called g (call_phase plan d) ≡ of_called h (call_phase plan d) =
+          called-same g h (plan.value VehicleDetectorCallPhase d) (calls d i.from i.to) gs in
+          rw on (ap (λ (b : Bool). next plan d t b (of_called g (call_phase plan d)) (v d)) (xs d i.from i.to)
+          ∙ ap₂ (λ (timer : Timer) (was : Detector). next plan d t (y d) timer was) green (vs d i.from i.to)))
+      | inr out ↦ rw out refl
+    ]
+
+pub ticks-all : (now : ℕ) (row : Row) (greens : Greens) (plan : Plan) (old new : List ℕ) → IsTicked now row greens plan old new →
+    detector_in now new
+    ≡ all_after plan now (has_number row.vehicles) (λ d. of_called (green_timer now greens) (call_phase plan d)) (detector_in (now - 1) old)
+ticks-all now row greens plan old new done = fun_ext (λ d. at d)
+  where
+    at : (d : ℕ) → detector_in now new d
+        ≡ all_after plan now (has_number row.vehicles) (λ e. of_called (green_timer now greens) (call_phase plan e)) (detector_in (now - 1) old) d
+    at d = elim (cases_Bool (is_detector d)) [
+      | inl on ↦ (let i : IsAmong d = among_16 d on in done d i.from i.to ∙ rw on refl)
+      | inr out ↦ at-rest now new d out ∙ rw out refl
+    ]
