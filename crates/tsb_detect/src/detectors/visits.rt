@@ -23,7 +23,7 @@ impl Detectors {
     /// The detectors that the lists do not show to be as their inputs.
     #[inline(always)]
     #[tactic(auto, unfolding(crate::specs::Rows::row_in))]
-    fn unsettled(&self, inputs: NumberSet) -> NumberSet
+    pub(super) fn unsettled(&self, inputs: NumberSet) -> NumberSet
         ensures { (d : ℕ) → has_number result d ≡ false → IsSettled (has_number inputs d) (row_in (cells_of self.now) d) }
     {
         let changed = differing(inputs, list(&self.bank, INPUTS)).union(differing(
@@ -39,8 +39,8 @@ impl Detectors {
     /// The cell of a change timer.
     #[inline(always)]
     #[tactic(auto, unfolding(crate::specs::Rows::row_in))]
-    fn change(&self, now: u32, d: Detector) -> u32
-        requires read { (e : ℕ) → 1 ≤ e → e ≤ 16 → IsRead now (row_in (cells_of self.now) e) }
+    pub(super) fn change(&self, now: u32, d: Detector) -> u32
+        requires range { (e : ℕ) → 1 ≤ e → e ≤ 16 → (row_in (cells_of self.now) e).change ≤ now + 1 }
         ensures value { result ≡ (row_in (cells_of self.now) d).change }
         ensures range { result ≤ now + 1 }
     {
