@@ -1,9 +1,10 @@
 //! The ten cells of the preempts: lists, delay timers and the service are read in them and put into them.
 //!
 //! A tick loads the service, computes on plain values, and stores what it found.
-ghost use Rattle.std.specs.Prelude.{◌≡◌, ◌≢◌, ℕ, ◌+◌, ◌<◌, ◌≤◌, ◌^◌, true, slice_index};
+ghost use Rattle.std.specs.Prelude.{◌≡◌, ◌≢◌, ℕ, ◌+◌, ◌<◌, ◌≤◌, ◌^◌, true, false, slice_index};
 ghost use Rattle.tsb_types.specs.Sets.{has_number, names, list_in};
 ghost use Rattle.tsb_preempt.specs.Cells.{IsBy, service_in, stage_in};
+ghost use Rattle.tsb_preempt.specs.Done.{IsIdle};
 ghost use Rattle.tsb_preempt.specs.Rows.{serving_of, delay_cell, IsStored, IsServingBy};
 
 use crate::preempts::Preempts;
@@ -31,6 +32,14 @@ const SERVICE_TIMER: usize = 8;
 /// The timer of Track.
 const STAGE_TIMER: usize = 9;
 
+/// Whether a set has the number of a preempt.
+#[inline(always)]
+fn names_preempt(set: NumberSet) -> bool
+    ensures { result ≡ false → (n : ℕ) → 1 ≤ n → n ≤ 4 → has_number set n ≡ false }
+{
+    set.list() % 16 != 0
+}
+
 impl Preempts {
     ghost use Rattle.tsb_preempt.specs.Layer.{cells_of, kept_of, is_open, AreDelayed};
 
@@ -51,6 +60,20 @@ impl Preempts {
         ensures { result ≡ slice_index (cells_of self.now) (1 + n) }
     {
         self.bank.get(DELAYS + usize::from(n))
+    }
+
+    /// Whether no input is on, no delay timer runs, none is spent and none in service: then a tick changes nothing.
+    #[inline(always)]
+    pub(crate) fn is_idle(&self, inputs: NumberSet) -> bool
+        ensures { result ≡ true → IsIdle inputs (cells_of self.now) }
+    {
+        !names_preempt(inputs)
+            && self.bank.get(SPENT) == 0
+            && self.bank.get(DELAYS + 1) == 0
+            && self.bank.get(DELAYS + 2) == 0
+            && self.bank.get(DELAYS + 3) == 0
+            && self.bank.get(DELAYS + 4) == 0
+            && self.bank.get(IN_SERVICE) == 0
     }
 
     /// Puts a value into a cell.

@@ -4,7 +4,7 @@ ghost use Rattle.std.specs.Prelude.{◌≡◌, ℕ, ◌+◌, ◌<◌, ◌≤◌,
 ghost use Rattle.tsb_plan.specs.PlanOf.{plan_of};
 ghost use Rattle.tsb_types.specs.Flow.{target_of};
 ghost use Rattle.tsb_types.specs.Lists.{first, run_from, is};
-ghost use Rattle.tsb_types.specs.Sets.{has, has_number};
+ghost use Rattle.tsb_types.specs.Sets.{has, has_number, names, list_in};
 ghost use Rattle.tsb_preempt.specs.Preempts.{wanted_by, is_outside};
 ghost use Rattle.tsb_preempt.specs.Cells.{IsBy};
 ghost use Rattle.tsb_preempt.specs.Promises.{given_by};
@@ -121,6 +121,14 @@ impl Preempts {
         )
     }
 
+    /// The preempts whose input is on, by the row or by a switch.
+    #[inline(always)]
+    pub(crate) fn inputs(&self, row: &Row) -> NumberSet
+        ensures { (n : ℕ) → has_number result n ≡ (has_number row.now.preempts n || names (list_in (cells_of self.now) 0) n) }
+    {
+        row.preempts.union(self.list(SWITCHES))
+    }
+
     /// What tick `now` makes of the preempts, and what they ask of the phases.
     pub(crate) fn run(
         &mut self,
@@ -136,12 +144,19 @@ impl Preempts {
         ensures kept { kept_of self.new ≡ kept_of self.old }
         ensures opened { is_open self.new ≡ true }
     {
+        let inputs = self.inputs(row);
+        if self.is_idle(inputs) {
+            return PreemptOrders {
+                target: None,
+                must_end: PhaseSet::empty(),
+                ended: false,
+            };
+        }
         let was = self.load();
-        let inputs = row.preempts.union(self.list(SWITCHES));
         let still = self.list(SPENT).intersection(inputs);
         self.put_delays(now, inputs);
         let asks = self.requesting(now, plan, inputs, still);
-        let begins = beginning(now, &was, asks);
+        let begins = beginning(&was, asks);
         let serving = served(now, plan, intervals, inputs, &was, &begins);
         let spender = spends(now, plan, inputs, &was, &begins);
         let spent = with_spent(still, &spender);

@@ -1,0 +1,76 @@
+-- A tick in which no input is on, no delay timer runs, none is spent and none is in service changes nothing.
+use Rattle.std.proofs.Common.{◌≡◌, ℕ, ◌+◌, ◌%◌, ◌≤◌, Bool, false, ◌&&◌, ◌||◌, if◌then◌else◌, List, slice_index, Option, Some, None, refl, sym, ◌∙◌, ap, subst, arith}
+use Rattle.tsb_types.specs.declared.flow.Intervals.{Intervals}
+use Rattle.tsb_types.specs.declared.number_set.NumberSet.{NumberSet}
+use Rattle.tsb_types.specs.declared.row.Row.{Row}
+use Rattle.tsb_types.specs.Lists.{run_from, first}
+use Rattle.tsb_types.specs.Sets.{names, has_number, list_in, set_of_list}
+use Rattle.tsb_types.proofs.SetLemmas.{names-zero}
+use Rattle.tsb_plan.specs.Plan.{Plan}
+use Rattle.tsb_preempt.specs.declared.orders.PreemptOrders.{PreemptOrders}
+use Rattle.tsb_preempt.specs.declared.serving.Serving.{Serving}
+use Rattle.tsb_preempt.specs.Cells.{service_in, IsBy}
+use Rattle.tsb_preempt.specs.Promises.{given_by}
+use Rattle.tsb_preempt.specs.Rows.{delay_cell, requests_by}
+use Rattle.tsb_preempt.specs.Layer.{AreDelayed}
+use Rattle.tsb_preempt.specs.Done.{IsDone, IsIdle}
+use Rattle.tsb_preempt.proofs.SetLemmas.{names-low}
+use Rattle.tsb_preempt.proofs.ServiceLemmas.{four}
+use Rattle.tsb_preempt.proofs.DoneLemmas.{IsFound, IsAsked, done-kept}
+
+-- numbers whose lowest four bits are 0 name none of four
+pub none-named : (w n : ℕ) → w % 16 ≡ 0 → 1 ≤ n → n ≤ 4 → names w n ≡ false
+none-named w n low from within = sym (names-low w n from within) ∙ ap (λ (x : ℕ). names (x % 65536) n) low ∙ names-zero n
+
+none-requests : (now : ℕ) (plan : Plan) (n cell : ℕ) (on : Bool) → on ≡ false → requests_by now plan n on false cell ≡ false
+none-requests now plan n cell on off = rw off (and-off _)
+  where
+    and-off : (b : Bool) → (b && false) ≡ false
+    and-off b = grind arith
+
+none-first : (test : ℕ → Bool) → ((n : ℕ) → 1 ≤ n → n ≤ 4 → test n ≡ false) → first test (run_from 1 4) ≡ None
+unfolding run_from
+none-first test never = rw (never 1 (omega arith) (omega arith), never 2 (omega arith) (omega arith), never 3 (omega arith) (omega arith), never 4 (omega arith) (omega arith)) refl
+
+still-off : (now cell : ℕ) (on : Bool) → on ≡ false → cell ≡ 0 → cell ≡ delay_cell now on cell
+still-off now cell on off blank = rw off blank
+
+none-serves : (now : ℕ) (cells : List ℕ) → slice_index cells 6 ≡ 0 → None ≡ service_in now cells
+unfolding service_in
+none-serves now cells blank = rw blank refl
+
+no-spent : (cells : List ℕ) (n : ℕ) → slice_index cells 1 ≡ 0 → names (list_in cells 1) n ≡ false
+no-spent cells n blank = ap (λ (x : ℕ). names (x % 65536) n) blank ∙ names-zero n
+
+pub idle-found : (now : ℕ) (plan : Plan) (row : Row) (intervals : Intervals) (cells : List ℕ) (inputs : NumberSet) →
+    ((n : ℕ) → has_number inputs n ≡ (has_number row.preempts n || names (list_in cells 0) n)) → IsIdle inputs cells →
+    IsFound now plan row intervals cells cells cells cells inputs (set_of_list 0) (set_of_list 0) None None None None None
+idle-found now plan row intervals cells inputs told idle = record {
+  inputs_are = told;
+  still_are = λ n. names-zero n ∙ sym (ap (λ (b : Bool). b && has_number inputs n) (no-spent cells n idle.spent));
+  was_is = none-serves now cells idle.serving;
+  delays = record {
+    one = still-off now _ _ (idle.off 1 (omega arith) (omega arith)) idle.one;
+    two = still-off now _ _ (idle.off 2 (omega arith) (omega arith)) idle.two;
+    three = still-off now _ _ (idle.off 3 (omega arith) (omega arith)) idle.three;
+    four = still-off now _ _ (idle.off 4 (omega arith) (omega arith)) idle.four;
+    before = λ j below. refl;
+    behind = λ j from. refl;
+  };
+  asks_is = sym (none-first _ (λ n from within. rw (names-zero n) (none-requests now plan n _ (has_number inputs n) (idle.off n from within))));
+  begins_is = refl;
+  serving_is = refl;
+  spender_is = λ n. refl;
+  spent_are = λ n. rw (names-zero n) refl;
+  listed = λ n from within. no-spent cells n idle.spent ∙ sym (names-zero n);
+  lists = λ j other. refl;
+  service_is = sym (none-serves now cells idle.serving);
+  kept = λ j below. refl;
+}
+
+pub idle-done : (now : ℕ) (plan : Plan) (row : Row) (intervals : Intervals) (cells : List ℕ) (inputs : NumberSet) (answer : PreemptOrders) → IsBy now cells →
+    ((n : ℕ) → has_number inputs n ≡ (has_number row.preempts n || names (list_in cells 0) n)) → IsIdle inputs cells →
+    IsAsked now plan None None answer → IsDone now plan (given_by row intervals) cells cells answer
+idle-done now plan row intervals cells inputs answer by told idle asked =
+    done-kept now plan row intervals cells cells cells cells inputs (set_of_list 0) (set_of_list 0) None None None None None
+    by (idle-found now plan row intervals cells inputs told idle) answer asked by
