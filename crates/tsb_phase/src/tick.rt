@@ -1,0 +1,119 @@
+//! A tick over the cells: each phase in service is visited, and what the tick tells of all phases is put together.
+ghost use Rattle.std.specs.Prelude.{◌≡◌, ◌≢◌, ℕ, ◌+◌, ◌<◌, ◌≤◌, ◌^◌, true, false};
+ghost use Rattle.tsb_plan.specs.PlanOf.{plan_of};
+ghost use Rattle.tsb_plan.specs.Plan.{red_revert};
+ghost use Rattle.tsb_types.specs.Intervals.{in_service};
+ghost use Rattle.tsb_types.specs.Sets.{has};
+ghost use Rattle.tsb_cells.specs.Timer.{timer_at};
+ghost use Rattle.tsb_phase.specs.Ready.{has_passed};
+ghost use Rattle.tsb_phase.specs.Promises.{given_of};
+ghost use Rattle.tsb_phase.specs.Rows.{row_in, interval_of_row, IsRowBy, IsVisit, IsFresh, IsToldAs, told};
+
+use crate::conditions::Conditions;
+use crate::phases::Phases;
+use crate::visit::{has_passed, visit_green, visit_red_clear, visit_yellow};
+use tsb_cells::Timer;
+use tsb_objects::{Phase, PhaseSet, Plan, Timing};
+
+/// The set with the phase where `on`, of a set that has it not.
+#[inline(always)]
+fn joined(set: PhaseSet, p: Phase, on: bool) -> PhaseSet
+    requires { has set p ≡ false }
+    ensures set { has result p ≡ on }
+    ensures others { (q : ℕ) → q ≢ p → has result q ≡ has set q }
+{
+    if on { set.with(p, true) } else { set }
+}
+
+impl Phases {
+    ghost use Rattle.tsb_phase.specs.Layer.{cells_of, kept_of, is_open, KeepsLists};
+
+    /// What a tick makes of a phase in service, and what it tells of it.
+    #[inline(always)]
+    fn visit(
+        &mut self,
+        now: u32,
+        plan: &Plan,
+        conditions: &Conditions,
+        p: Phase,
+        timing: &mut Timing,
+    )
+        requires fits { now + 1 < 2 ^ 32 }
+        requires opened { is_open self.old ≡ true }
+        requires by { IsRowBy now (row_in (cells_of self.old) p) }
+        requires service { in_service (interval_of_row (row_in (cells_of self.old) p)) ≡ true }
+        requires fresh { IsFresh now (plan_of plan.now) (row_in (cells_of self.old) p) timing.old p }
+        ensures visit { IsVisit now (plan_of plan.now) (given_of conditions.now) p (row_in (cells_of self.old) p) (told (row_in (cells_of self.new) p) timing.new p) }
+        ensures others { (q : ℕ) → 1 ≤ q → q ≤ 16 → q ≢ p → row_in (cells_of self.new) q ≡ row_in (cells_of self.old) q }
+        ensures told_others { (q : ℕ) → q ≢ p → IsToldAs timing.old timing.new q }
+        ensures lists { KeepsLists (cells_of self.old) (cells_of self.new) }
+        ensures kept { kept_of self.new ≡ kept_of self.old }
+        ensures opened { is_open self.new ≡ true }
+    {
+        let was = self.load(p);
+        if was.green {
+            let visit = visit_green(now, plan, conditions, p, &was);
+            self.store(p, &was, &visit.row);
+            timing.ready = joined(timing.ready, p, visit.ready);
+            timing.gapped = joined(timing.gapped, p, visit.gapped);
+            return;
+        }
+        if was.yellow {
+            let visit = visit_yellow(now, plan, conditions, p, &was);
+            self.store(p, &was, &visit.row);
+            timing.over = joined(timing.over, p, visit.over);
+            timing.red_revert_passed = timing.red_revert_passed.with(p, visit.reverted);
+            return;
+        }
+        let visit = visit_red_clear(now, plan, conditions, p, &was);
+        timing.over = joined(timing.over, p, visit.over);
+    }
+
+    /// The phases whose red revert timer is Off or has reached its time.
+    #[tactic(auto, unfolding(crate::specs::Rows::row_in))]
+    fn reverted(&self, now: u32, plan: &Plan) -> PhaseSet
+        requires { now + 1 < 2 ^ 32 }
+        ensures { (p : ℕ) → 1 ≤ p → p ≤ 16 →
+            has result p ≡ has_passed (timer_at now (row_in (cells_of self.now) p).red_revert) (red_revert (plan_of plan.now) p) }
+    {
+        let mut reverted = PhaseSet::empty();
+        for number in 1..17u8 {
+            let p = Phase::of(number);
+            let timer = Timer::at(now, self.cell(5, p));
+            reverted = joined(reverted, p, has_passed(timer, plan.red_revert(p)));
+        }
+        reverted
+    }
+
+    /// The phases in service.
+    #[tactic(auto, unfolding(crate::specs::Rows::row_in))]
+    fn in_service(&self) -> PhaseSet
+        ensures { (p : ℕ) → has result p ≡ in_service (interval_of_row (row_in (cells_of self.now) p)) }
+    {
+        self.list(0).union(self.list(1)).union(self.list(2))
+    }
+
+    /// The times of phases run.
+    pub(crate) fn run(&mut self, now: u32, conditions: &Conditions, plan: &Plan) -> Timing
+        requires opened { is_open self.old ≡ true }
+        requires fits { now + 1 < 2 ^ 32 }
+        requires by { (p : ℕ) → 1 ≤ p → p ≤ 16 → IsRowBy now (row_in (cells_of self.old) p) }
+        ensures each { (p : ℕ) → 1 ≤ p → p ≤ 16 →
+            IsVisit now (plan_of plan.now) (given_of conditions.now) p (row_in (cells_of self.old) p) (told (row_in (cells_of self.new) p) result p) }
+        ensures lists { KeepsLists (cells_of self.old) (cells_of self.new) }
+        ensures kept { kept_of self.new ≡ kept_of self.old }
+        ensures opened { is_open self.new ≡ true }
+    {
+        let mut timing = Timing {
+            ready: PhaseSet::empty(),
+            over: PhaseSet::empty(),
+            red_revert_passed: self.reverted(now, plan),
+            gapped: PhaseSet::empty(),
+        };
+        let mut rest = self.in_service();
+        while let Some(p) = rest.pop() {
+            self.visit(now, plan, conditions, p, &mut timing);
+        }
+        timing
+    }
+}
