@@ -15,16 +15,6 @@ use crate::visit::{has_passed, visit_green, visit_red_clear, visit_yellow};
 use tsb_cells::Timer;
 use tsb_objects::{Phase, PhaseSet, Plan, Timing};
 
-/// The set with the phase where `on`, of a set that has it not.
-#[inline(always)]
-fn joined(set: PhaseSet, p: Phase, on: bool) -> PhaseSet
-    requires { has set p ≡ false }
-    ensures set { has result p ≡ on }
-    ensures others { (q : ℕ) → q ≢ p → has result q ≡ has set q }
-{
-    if on { set.with(p, true) } else { set }
-}
-
 impl Phases {
     ghost use Rattle.tsb_phase.specs.Layer.{cells_of, kept_of, is_open, KeepsLists};
 
@@ -54,19 +44,19 @@ impl Phases {
         if was.green {
             let visit = visit_green(now, plan, conditions, p, &was);
             self.store(p, &was, &visit.row);
-            timing.ready = joined(timing.ready, p, visit.ready);
-            timing.gapped = joined(timing.gapped, p, visit.gapped);
+            timing.ready = timing.ready.joined(p, visit.ready);
+            timing.gapped = timing.gapped.joined(p, visit.gapped);
             return;
         }
         if was.yellow {
             let visit = visit_yellow(now, plan, conditions, p, &was);
             self.store(p, &was, &visit.row);
-            timing.over = joined(timing.over, p, visit.over);
+            timing.over = timing.over.joined(p, visit.over);
             timing.red_revert_passed = timing.red_revert_passed.with(p, visit.reverted);
             return;
         }
         let visit = visit_red_clear(now, plan, conditions, p, &was);
-        timing.over = joined(timing.over, p, visit.over);
+        timing.over = timing.over.joined(p, visit.over);
     }
 
     /// The phases whose red revert timer is Off or has reached its time.
@@ -80,7 +70,7 @@ impl Phases {
         for number in 1..17u8 {
             let p = Phase::of(number);
             let timer = Timer::at(now, self.cell(5, p));
-            reverted = joined(reverted, p, has_passed(timer, plan.red_revert(p)));
+            reverted = reverted.joined(p, has_passed(timer, plan.red_revert(p)));
         }
         reverted
     }

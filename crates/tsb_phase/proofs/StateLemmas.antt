@@ -1,0 +1,378 @@
+-- The table of phases in range is read as them, and is a row that the phases can hold.
+use Rattle.std.proofs.Common.{zero, suc, ◌≡◌, ℕ, ◌+◌, ◌-◌, ◌%◌, ◌<◌, ◌≤◌, ◌==◌, Bool, true, false, if◌then◌else◌, Option, Some, None, List, [], ◌∷◌, ◌++◌, length, get_or, slice_index, map, refl, sym, ap, subst, ◌∙◌, inl, inr, arith, length-append}
+use Rattle.std.proofs.Math.Path.{fun_ext}
+use Rattle.std.proofs.lemmas.List.{get_or_append_left, get_or-append_right}
+use Rattle.std.proofs.lemmas.Bool.{cases_Bool}
+use Rattle.std.proofs.lemmas.Bool.Decides.{nat_tests}
+use Rattle.tsb_cells.specs.declared.timer.Timer.{Timer}
+use Rattle.tsb_cells.specs.declared.timer.Timer.TheVariants.{Off, On}
+use Rattle.tsb_cells.specs.Timer.{timer_cell, is_on}
+use Rattle.tsb_cells.proofs.TimerLemmas.{timer_at-timer_cell, timer_cell-le}
+use Rattle.tsb_types.specs.declared.interval.Interval.{Interval}
+use Rattle.tsb_types.specs.declared.interval.Interval.TheVariants.{Red, Green, Yellow, RedClear}
+use Rattle.tsb_types.specs.declared.interval.PedestrianInterval.{PedestrianInterval}
+use Rattle.tsb_types.specs.declared.interval.PedestrianInterval.TheVariants.{DontWalk, Walk, PedestrianClear}
+use Rattle.tsb_types.specs.Intervals.{is_green, is_yellow, is_red_clear, is_walk, is_clearance, is_dont_walk, in_service}
+use Rattle.tsb_types.specs.Lists.{run_from}
+use Rattle.tsb_types.specs.Sets.{names, list_of, list_in, is_phase}
+use Rattle.tsb_types.proofs.SetLemmas.{names-list_of, list_of-below}
+use Rattle.tsb_types.proofs.ClipLemmas.{IsAmong, among_16}
+use Rattle.tsb_phase.specs.declared.ending.Ending.{Ending}
+use Rattle.tsb_phase.specs.declared.ending.Ending.TheVariants.{MaxOut, GapOut}
+use Rattle.tsb_phase.specs.declared.phase_row.PhaseRow.{PhaseRow}
+use Rattle.tsb_phase.specs.DynamicMaximum.{is_same}
+use Rattle.tsb_phase.specs.Phase.{Phase, at_power_up}
+use Rattle.tsb_phase.specs.Cells.{number_in, number_cell, phase_in, phases_cells, IsBy}
+use Rattle.tsb_phase.specs.Laws.{IsInRange, AreInRange, StatesAreRead}
+use Rattle.tsb_phase.specs.Rows.{row_in, phase_of, IsRowBy}
+use Rattle.tsb_phase.proofs.GreenLemmas.{part-told, same_phase}
+use Rattle.tsb_phase.proofs.RowLemmas.{same_values}
+use Rattle.tsb_phase.proofs.ReadLemmas.{phase_in-row, phase-by}
+
+-- ## One phase, and the row that keeps it
+
+row_of : ℕ → Phase → PhaseRow
+row_of now x = record {
+  green = is_green x.interval;
+  yellow = is_yellow x.interval;
+  red_clear = is_red_clear x.interval;
+  walk = is_walk x.pedestrian;
+  clearance = is_clearance x.pedestrian;
+  gapped = x.gapped;
+  forced = x.forced;
+  max_out = is_same MaxOut x.last_ending;
+  gap_out = is_same GapOut x.last_ending;
+  timer = timer_cell now x.timer;
+  pedestrian_timer = timer_cell now x.pedestrian_timer;
+  passage = timer_cell now x.passage;
+  conflict = timer_cell now x.conflict;
+  reduction = timer_cell now x.reduction;
+  red_revert = timer_cell now x.red_revert;
+  running_maximum = number_cell x.running_maximum;
+}
+
+interval-told : (i : Interval) → (if is_green i then Green else (if is_yellow i then Yellow else (if is_red_clear i then RedClear else Red))) ≡ i
+interval-told Red = refl
+interval-told Green = refl
+interval-told Yellow = refl
+interval-told RedClear = refl
+
+ending-told : (e : Option Ending) → (if is_same MaxOut e then Some MaxOut else (if is_same GapOut e then Some GapOut else None)) ≡ e
+ending-told None = refl
+ending-told (Some MaxOut) = refl
+ending-told (Some GapOut) = refl
+
+some-number : (n : ℕ) → number_in (n + 1) ≡ Some n
+some-number n = let none : (n + 1 == 0) ≡ false = grind (arith, nat_tests) in let e : n + 1 - 1 ≡ n = omega arith in rw (none, e) refl
+
+number-read : (n : Option ℕ) → number_in (number_cell n) ≡ n
+number-read None = refl
+number-read (Some n) = some-number n
+
+is-read : (now : ℕ) (x : Phase) → IsInRange now x → phase_of now (row_of now x) ≡ x
+unfolding row_of
+is-read now x is =
+    same_phase _ _ (interval-told x.interval) (timer_at-timer_cell now x.timer is.timer) (part-told x.pedestrian)
+    (timer_at-timer_cell now x.pedestrian_timer is.pedestrian_timer) (timer_at-timer_cell now x.passage is.passage)
+    (timer_at-timer_cell now x.conflict is.conflict) (timer_at-timer_cell now x.reduction is.reduction) refl refl
+    (timer_at-timer_cell now x.red_revert is.red_revert) (number-read x.running_maximum) (ending-told x.last_ending)
+
+-- ## What it holds
+
+green-alone : (i : Interval) → is_green i ≡ true → (is_yellow i ≡ false) × (is_red_clear i ≡ false)
+green-alone Red h = (refl, refl)
+green-alone Green h = (refl, refl)
+green-alone Yellow h = absurd (cc)
+green-alone RedClear h = absurd (cc)
+
+yellow-alone : (i : Interval) → is_yellow i ≡ true → is_red_clear i ≡ false
+yellow-alone Red h = refl
+yellow-alone Green h = refl
+yellow-alone Yellow h = refl
+yellow-alone RedClear h = absurd (cc)
+
+walk-alone : (i : PedestrianInterval) → is_walk i ≡ true → is_clearance i ≡ false
+walk-alone DontWalk h = refl
+walk-alone Walk h = refl
+walk-alone PedestrianClear h = absurd (cc)
+
+ending-alone : (e : Option Ending) → is_same MaxOut e ≡ true → is_same GapOut e ≡ false
+ending-alone None h = refl
+ending-alone (Some MaxOut) h = refl
+ending-alone (Some GapOut) h = absurd (cc)
+
+serves-green : (i : Interval) → is_green i ≡ true → in_service i ≡ true
+serves-green Red h = absurd (cc)
+serves-green Green h = refl
+serves-green Yellow h = refl
+serves-green RedClear h = refl
+
+serves-yellow : (i : Interval) → is_yellow i ≡ true → in_service i ≡ true
+serves-yellow Red h = absurd (cc)
+serves-yellow Green h = refl
+serves-yellow Yellow h = refl
+serves-yellow RedClear h = refl
+
+serves-red_clear : (i : Interval) → is_red_clear i ≡ true → in_service i ≡ true
+serves-red_clear Red h = absurd (cc)
+serves-red_clear Green h = refl
+serves-red_clear Yellow h = refl
+serves-red_clear RedClear h = refl
+
+walks-on : (i : PedestrianInterval) → is_walk i ≡ true → is_dont_walk i ≡ false
+walks-on DontWalk h = absurd (cc)
+walks-on Walk h = refl
+walks-on PedestrianClear h = refl
+
+clears-on : (i : PedestrianInterval) → is_clearance i ≡ true → is_dont_walk i ≡ false
+clears-on DontWalk h = absurd (cc)
+clears-on Walk h = refl
+clears-on PedestrianClear h = refl
+
+off-cell : (now : ℕ) (x : Timer) → x ≡ Off → timer_cell now x ≡ 0
+off-cell now x e = rw e refl
+
+on-cell : (now : ℕ) (x : Timer) → is_on x ≡ true → 1 ≤ timer_cell now x
+on-cell now Off h = absurd (cc)
+on-cell now (On n) h = omega arith
+
+not-walking : (x : PedestrianInterval) → x ≡ DontWalk → (is_walk x ≡ false) × (is_clearance x ≡ false)
+not-walking x e = rw e (refl, refl)
+
+is-held : (now : ℕ) (x : Phase) → IsInRange now x → IsRowBy now (row_of now x)
+unfolding row_of
+is-held now x is = record {
+  green_yellow = λ h. (green-alone x.interval h).0;
+  green_red_clear = λ h. (green-alone x.interval h).1;
+  yellow_red_clear = yellow-alone x.interval;
+  walk_clearance = walk-alone x.pedestrian;
+  endings = ending-alone x.last_ending;
+  timer = timer_cell-le now x.timer;
+  pedestrian_timer = timer_cell-le now x.pedestrian_timer;
+  passage = timer_cell-le now x.passage;
+  conflict = timer_cell-le now x.conflict;
+  reduction = timer_cell-le now x.reduction;
+  red_revert = timer_cell-le now x.red_revert;
+  running_maximum = is.running_maximum;
+  red = λ h. off-cell now x.timer (is.red (sym (interval-told x.interval) ∙ h));
+  green = λ h. on-cell now x.timer (is.served (serves-green x.interval h));
+  yellow = λ h. on-cell now x.timer (is.served (serves-yellow x.interval h));
+  red_clear = λ h. on-cell now x.timer (is.served (serves-red_clear x.interval h));
+  dont_walk = λ h. off-cell now x.pedestrian_timer (is.dont_walk (sym (part-told x.pedestrian) ∙ h));
+  walk = λ h. on-cell now x.pedestrian_timer (is.walks (walks-on x.pedestrian h));
+  clearance = λ h. on-cell now x.pedestrian_timer (is.walks (clears-on x.pedestrian h));
+  no_walk = λ h. (not-walking x.pedestrian (is.no_walk h)).0;
+  no_clearance = λ h. (not-walking x.pedestrian (is.no_walk h)).1;
+  not_gapped = is.not_gapped;
+  not_forced = is.not_forced;
+  no_passage = λ h. off-cell now x.passage (is.no_passage h);
+  no_conflict = λ h. off-cell now x.conflict (is.no_conflict h);
+  no_reduction = λ h. off-cell now x.reduction (is.no_reduction h);
+}
+
+-- ## Where the table has it
+
+-- a column of the table: a number of each phase
+column : (ℕ → ℕ) → List ℕ
+column f = map f (run_from 1 16)
+
+long-column : (f : ℕ → ℕ) → length (column f) ≡ 16
+unfolding column run_from
+long-column f = refl
+
+at-run : (f : ℕ → ℕ) (a n k : ℕ) → k < n → get_or (map f (run_from a n)) k 0 ≡ f (a + k)
+unfolding run_from
+at-run f a zero k below = absurd (omega arith)
+at-run f a (suc n) zero below = let e : a ≡ a + 0 = omega arith in ap f e
+at-run f a (suc n) (suc k) below = at-run f (a + 1) n k (omega arith) ∙ ap f (let e : a + 1 + k ≡ a + suc k = omega arith in e)
+
+-- the column behind the first n cells has in cell k what it has of phase p
+at-column : (xs : List ℕ) (f : ℕ → ℕ) (n k p : ℕ) → length xs ≡ n → k + 1 ≡ n + p → 1 ≤ p → p ≤ 16 → get_or (xs ++ column f) k 0 ≡ f p
+unfolding column
+at-column xs f n k p long place from to =
+    let behind : k - n ≡ p - 1 = omega (arith, from, place) in
+    let number : 1 + (p - 1) ≡ p = omega (arith, from) in
+    get_or-append_right xs (column f) n k 0 long (omega (arith, from, place))
+    ∙ ap (λ (j : ℕ). get_or (column f) j 0) behind ∙ at-run f 1 16 (p - 1) (omega (arith, from, to)) ∙ ap f number
+
+-- what stands before a column stays
+before : (xs : List ℕ) (f : ℕ → ℕ) (n k v : ℕ) → length xs ≡ n → k < n → get_or xs k 0 ≡ v → get_or (xs ++ column f) k 0 ≡ v
+before xs f n k v long below e = get_or_append_left xs (column f) 0 k (omega (arith, long, below)) ∙ e
+
+longer : (xs : List ℕ) (f : ℕ → ℕ) (n m : ℕ) → length xs ≡ n → n + 16 ≡ m → length (xs ++ column f) ≡ m
+longer xs f n m long e = omega (arith, length-append xs (column f), long-column f, long, e)
+
+-- nine cells and seven columns
+module _ (nine : List ℕ) (a b c d e f g : ℕ → ℕ) (long : length nine ≡ 9) where
+  long-1 : length (nine ++ column a) ≡ 25
+  long-1 = longer (nine) a 9 25 long refl
+
+  long-2 : length (nine ++ column a ++ column b) ≡ 41
+  long-2 = longer (nine ++ column a) b 25 41 long-1 refl
+
+  long-3 : length (nine ++ column a ++ column b ++ column c) ≡ 57
+  long-3 = longer (nine ++ column a ++ column b) c 41 57 long-2 refl
+
+  long-4 : length (nine ++ column a ++ column b ++ column c ++ column d) ≡ 73
+  long-4 = longer (nine ++ column a ++ column b ++ column c) d 57 73 long-3 refl
+
+  long-5 : length (nine ++ column a ++ column b ++ column c ++ column d ++ column e) ≡ 89
+  long-5 = longer (nine ++ column a ++ column b ++ column c ++ column d) e 73 89 long-4 refl
+
+  long-6 : length (nine ++ column a ++ column b ++ column c ++ column d ++ column e ++ column f) ≡ 105
+  long-6 = longer (nine ++ column a ++ column b ++ column c ++ column d ++ column e) f 89 105 long-5 refl
+
+  long-all : length (nine ++ column a ++ column b ++ column c ++ column d ++ column e ++ column f ++ column g) ≡ 121
+  long-all = longer (nine ++ column a ++ column b ++ column c ++ column d ++ column e ++ column f) g 105 121 long-6 refl
+
+  module _ (p : ℕ) (from : 1 ≤ p) (to : p ≤ 16) where
+    at-a : get_or (nine ++ column a ++ column b ++ column c ++ column d ++ column e ++ column f ++ column g) (8 + p) 0 ≡ a p
+    at-a =
+        before (nine ++ column a ++ column b ++ column c ++ column d ++ column e ++ column f) g 105 (8 + p) _ long-6 (omega (arith, to))
+        (before (nine ++ column a ++ column b ++ column c ++ column d ++ column e) f 89 (8 + p) _ long-5 (omega (arith, to))
+        (before (nine ++ column a ++ column b ++ column c ++ column d) e 73 (8 + p) _ long-4 (omega (arith, to))
+        (before (nine ++ column a ++ column b ++ column c) d 57 (8 + p) _ long-3 (omega (arith, to))
+        (before (nine ++ column a ++ column b) c 41 (8 + p) _ long-2 (omega (arith, to))
+        (before (nine ++ column a) b 25 (8 + p) _ long-1 (omega (arith, to))
+        (at-column (nine) a 9 (8 + p) p long (omega arith) from to))))))
+
+    at-b : get_or (nine ++ column a ++ column b ++ column c ++ column d ++ column e ++ column f ++ column g) (24 + p) 0 ≡ b p
+    at-b =
+        before (nine ++ column a ++ column b ++ column c ++ column d ++ column e ++ column f) g 105 (24 + p) _ long-6 (omega (arith, to))
+        (before (nine ++ column a ++ column b ++ column c ++ column d ++ column e) f 89 (24 + p) _ long-5 (omega (arith, to))
+        (before (nine ++ column a ++ column b ++ column c ++ column d) e 73 (24 + p) _ long-4 (omega (arith, to))
+        (before (nine ++ column a ++ column b ++ column c) d 57 (24 + p) _ long-3 (omega (arith, to))
+        (before (nine ++ column a ++ column b) c 41 (24 + p) _ long-2 (omega (arith, to))
+        (at-column (nine ++ column a) b 25 (24 + p) p long-1 (omega arith) from to)))))
+
+    at-c : get_or (nine ++ column a ++ column b ++ column c ++ column d ++ column e ++ column f ++ column g) (40 + p) 0 ≡ c p
+    at-c =
+        before (nine ++ column a ++ column b ++ column c ++ column d ++ column e ++ column f) g 105 (40 + p) _ long-6 (omega (arith, to))
+        (before (nine ++ column a ++ column b ++ column c ++ column d ++ column e) f 89 (40 + p) _ long-5 (omega (arith, to))
+        (before (nine ++ column a ++ column b ++ column c ++ column d) e 73 (40 + p) _ long-4 (omega (arith, to))
+        (before (nine ++ column a ++ column b ++ column c) d 57 (40 + p) _ long-3 (omega (arith, to))
+        (at-column (nine ++ column a ++ column b) c 41 (40 + p) p long-2 (omega arith) from to))))
+
+    at-d : get_or (nine ++ column a ++ column b ++ column c ++ column d ++ column e ++ column f ++ column g) (56 + p) 0 ≡ d p
+    at-d =
+        before (nine ++ column a ++ column b ++ column c ++ column d ++ column e ++ column f) g 105 (56 + p) _ long-6 (omega (arith, to))
+        (before (nine ++ column a ++ column b ++ column c ++ column d ++ column e) f 89 (56 + p) _ long-5 (omega (arith, to))
+        (before (nine ++ column a ++ column b ++ column c ++ column d) e 73 (56 + p) _ long-4 (omega (arith, to))
+        (at-column (nine ++ column a ++ column b ++ column c) d 57 (56 + p) p long-3 (omega arith) from to)))
+
+    at-e : get_or (nine ++ column a ++ column b ++ column c ++ column d ++ column e ++ column f ++ column g) (72 + p) 0 ≡ e p
+    at-e =
+        before (nine ++ column a ++ column b ++ column c ++ column d ++ column e ++ column f) g 105 (72 + p) _ long-6 (omega (arith, to))
+        (before (nine ++ column a ++ column b ++ column c ++ column d ++ column e) f 89 (72 + p) _ long-5 (omega (arith, to))
+        (at-column (nine ++ column a ++ column b ++ column c ++ column d) e 73 (72 + p) p long-4 (omega arith) from to))
+
+    at-f : get_or (nine ++ column a ++ column b ++ column c ++ column d ++ column e ++ column f ++ column g) (88 + p) 0 ≡ f p
+    at-f =
+        before (nine ++ column a ++ column b ++ column c ++ column d ++ column e ++ column f) g 105 (88 + p) _ long-6 (omega (arith, to))
+        (at-column (nine ++ column a ++ column b ++ column c ++ column d ++ column e) f 89 (88 + p) p long-5 (omega arith) from to)
+
+    at-g : get_or (nine ++ column a ++ column b ++ column c ++ column d ++ column e ++ column f ++ column g) (104 + p) 0 ≡ g p
+    at-g =
+        at-column (nine ++ column a ++ column b ++ column c ++ column d ++ column e ++ column f) g 105 (104 + p) p long-6 (omega arith) from to
+
+-- a list that is made of a test
+list-read : (cells : List ℕ) (k p : ℕ) (test : ℕ → Bool) → slice_index cells k ≡ list_of 16 test → 1 ≤ p → p ≤ 16 → names (list_in cells k) p ≡ test p
+list-read cells k p test e from to =
+    let small : list_of 16 test < 65536 = list_of-below 16 test in
+    let whole_list : list_of 16 test % 65536 ≡ list_of 16 test = omega (arith, small) in
+    ap (λ (n : ℕ). names (n % 65536) p) e ∙ ap (λ (n : ℕ). names n p) whole_list ∙ names-list_of 16 p test from to
+
+-- ## The table
+
+abbrev listed : (ℕ → Phase) → List ℕ
+listed f =
+    list_of 16 (λ p. is_green (f p).interval) ∷ list_of 16 (λ p. is_yellow (f p).interval) ∷
+    list_of 16 (λ p. is_red_clear (f p).interval) ∷
+    list_of 16 (λ p. is_walk (f p).pedestrian) ∷ list_of 16 (λ p. is_clearance (f p).pedestrian) ∷
+    list_of 16 (λ p. (f p).gapped) ∷ list_of 16 (λ p. (f p).forced) ∷
+    list_of 16 (λ p. is_same MaxOut (f p).last_ending) ∷ list_of 16 (λ p. is_same GapOut (f p).last_ending) ∷ []
+
+module _ (now : ℕ) (f : ℕ → Phase) where
+  abbrev timers : ℕ → ℕ
+  timers p = timer_cell now (f p).timer
+
+  abbrev pedestrian_timers : ℕ → ℕ
+  pedestrian_timers p = timer_cell now (f p).pedestrian_timer
+
+  abbrev passages : ℕ → ℕ
+  passages p = timer_cell now (f p).passage
+
+  abbrev conflicts : ℕ → ℕ
+  conflicts p = timer_cell now (f p).conflict
+
+  abbrev reductions : ℕ → ℕ
+  reductions p = timer_cell now (f p).reduction
+
+  abbrev red_reverts : ℕ → ℕ
+  red_reverts p = timer_cell now (f p).red_revert
+
+  abbrev maximums : ℕ → ℕ
+  maximums p = number_cell (f p).running_maximum
+
+  full : length (phases_cells now f) ≡ 121
+  unfolding column
+  full = long-all (listed f) timers pedestrian_timers passages conflicts reductions red_reverts maximums refl
+
+  row-read : (p : ℕ) → 1 ≤ p → p ≤ 16 → row_in (phases_cells now f) p ≡ row_of now (f p)
+  unfolding row_in row_of column
+  row-read p from to =
+      same_values _ _ _ _ _ _ _ _ _ _ _ _ _ _ _ _ _ _ _ _ _ _ _ _ _ _ _ _ _ _ _ _
+      (list-read (phases_cells now f) 0 p (λ q. is_green (f q).interval) refl from to)
+      (list-read (phases_cells now f) 1 p (λ q. is_yellow (f q).interval) refl from to)
+      (list-read (phases_cells now f) 2 p (λ q. is_red_clear (f q).interval) refl from to)
+      (list-read (phases_cells now f) 3 p (λ q. is_walk (f q).pedestrian) refl from to)
+      (list-read (phases_cells now f) 4 p (λ q. is_clearance (f q).pedestrian) refl from to)
+      (list-read (phases_cells now f) 5 p (λ q. (f q).gapped) refl from to)
+      (list-read (phases_cells now f) 6 p (λ q. (f q).forced) refl from to)
+      (list-read (phases_cells now f) 7 p (λ q. is_same MaxOut (f q).last_ending) refl from to)
+      (list-read (phases_cells now f) 8 p (λ q. is_same GapOut (f q).last_ending) refl from to)
+      (at-a (listed f) timers pedestrian_timers passages conflicts reductions red_reverts maximums refl p from to)
+      (at-b (listed f) timers pedestrian_timers passages conflicts reductions red_reverts maximums refl p from to)
+      (at-c (listed f) timers pedestrian_timers passages conflicts reductions red_reverts maximums refl p from to)
+      (at-d (listed f) timers pedestrian_timers passages conflicts reductions red_reverts maximums refl p from to)
+      (at-e (listed f) timers pedestrian_timers passages conflicts reductions red_reverts maximums refl p from to)
+      (at-f (listed f) timers pedestrian_timers passages conflicts reductions red_reverts maximums refl p from to)
+      (at-g (listed f) timers pedestrian_timers passages conflicts reductions red_reverts maximums refl p from to)
+
+lists-small : (now : ℕ) (f : ℕ → Phase) (k : ℕ) → k < 9 → slice_index (phases_cells now f) k < 65536
+lists-small now f zero below = list_of-below 16 (λ p. is_green (f p).interval)
+lists-small now f (suc zero) below = list_of-below 16 (λ p. is_yellow (f p).interval)
+lists-small now f (suc (suc zero)) below = list_of-below 16 (λ p. is_red_clear (f p).interval)
+lists-small now f (suc (suc (suc zero))) below = list_of-below 16 (λ p. is_walk (f p).pedestrian)
+lists-small now f (suc (suc (suc (suc zero)))) below = list_of-below 16 (λ p. is_clearance (f p).pedestrian)
+lists-small now f (suc (suc (suc (suc (suc zero))))) below = list_of-below 16 (λ p. (f p).gapped)
+lists-small now f (suc (suc (suc (suc (suc (suc zero)))))) below = list_of-below 16 (λ p. (f p).forced)
+lists-small now f (suc (suc (suc (suc (suc (suc (suc zero))))))) below = list_of-below 16 (λ p. is_same MaxOut (f p).last_ending)
+lists-small now f (suc (suc (suc (suc (suc (suc (suc (suc zero)))))))) below = list_of-below 16 (λ p. is_same GapOut (f p).last_ending)
+lists-small now f (suc (suc (suc (suc (suc (suc (suc (suc (suc k))))))))) below = absurd (omega (arith, below))
+
+state-by : (now : ℕ) (f : ℕ → Phase) → AreInRange now f → IsBy now (phases_cells now f)
+state-by now f are = record {
+  full = full now f;
+  lists = lists-small now f;
+  each = λ p from to.
+      phase-by now (phases_cells now f) p
+      (subst (λ (r : PhaseRow). IsRowBy now r) (sym (row-read now f p from to)) (is-held now (f p) (are.each p from to)));
+}
+
+outside : (now : ℕ) (row : List ℕ) (p : ℕ) → is_phase p ≡ false → phase_in now row p ≡ at_power_up
+unfolding phase_in
+outside now row p out = rw out refl
+
+read-at : (now : ℕ) (f : ℕ → Phase) → AreInRange now f → (p : ℕ) → phase_in now (phases_cells now f) p ≡ f p
+read-at now f are p =
+    elim (cases_Bool (is_phase p)) [
+      | inl is ↦
+          (let among : IsAmong p = among_16 p is in
+          phase_in-row now (phases_cells now f) p among.from among.to ∙ ap (phase_of now) (row-read now f p among.from among.to)
+          ∙ is-read now (f p) (are.each p among.from among.to))
+      | inr out ↦ outside now (phases_cells now f) p out ∙ sym (are.others p out)
+    ]
+
+pub states-read : StatesAreRead
+states-read now f are = record { same = fun_ext (λ p. read-at now f are p); by = state-by now f are }

@@ -1,0 +1,141 @@
+-- A row that the phases can hold at a tick is the table of what it says.
+use Rattle.std.proofs.Common.{◌≡◌, ℕ, ◌+◌, ◌-◌, ◌<◌, ◌≤◌, ◌==◌, Bool, true, false, if◌then◌else◌, List, [], ◌∷◌, ◌++◌, length, take, drop, get_or, slice_index, map, refl, sym, ap, ap₂, ◌∙◌, inl, inr, arith, Some, None, length-take-le, length-drop, get_or-take}
+use Rattle.std.proofs.Math.Seq.{take-add}
+use Rattle.std.proofs.lemmas.List.{get_or-drop}
+use Rattle.std.proofs.lemmas.Bool.{cases_Bool, eqb-true}
+use Rattle.std.proofs.lemmas.Bool.Decides.{nat_tests}
+use Rattle.tsb_cells.specs.Row.{row_at}
+use Rattle.tsb_cells.specs.Timer.{timer_cell}
+use Rattle.tsb_cells.proofs.TimerLemmas.{timer_cell-timer_at}
+use Rattle.tsb_cells.proofs.RowLemmas.{take-whole}
+use Rattle.tsb_types.specs.declared.interval.Interval.TheVariants.{Red, Green, Yellow, RedClear}
+use Rattle.tsb_types.specs.declared.interval.PedestrianInterval.TheVariants.{DontWalk, Walk, PedestrianClear}
+use Rattle.tsb_types.specs.Intervals.{is_green, is_yellow, is_red_clear, is_walk, is_clearance}
+use Rattle.tsb_types.specs.Lists.{run_from}
+use Rattle.tsb_types.specs.Sets.{names, list_of, list_in}
+use Rattle.tsb_types.proofs.RunLemmas.{map-run_from}
+use Rattle.tsb_types.proofs.SetLemmas.{list_of-names, same-list_of}
+use Rattle.tsb_types.proofs.ClipLemmas.{is_phase_from}
+use Rattle.tsb_phase.specs.declared.ending.Ending.TheVariants.{MaxOut, GapOut}
+use Rattle.tsb_phase.specs.DynamicMaximum.{is_same}
+use Rattle.tsb_phase.specs.Cells.{number_in, number_cell, phase_in, phases_cells, IsBy}
+use Rattle.tsb_phase.specs.Laws.{RowsAreTold}
+
+-- 16 cells of a row, one of each phase
+column : (row : List ℕ) (o : ℕ) (f : ℕ → ℕ) → o + 16 ≤ length row → ((p : ℕ) → 1 ≤ p → p ≤ 16 → f p ≡ slice_index row (o - 1 + p)) → 1 ≤ o → map f (run_from 1 16) ≡ row_at 16 row o
+column row o f full same from = sym (map-run_from f 1 16 (row_at 16 row o) long at)
+  where
+    long : length (row_at 16 row o) ≡ 16
+    long = length-take-le 16 (drop o row) (omega (arith, length-drop o row))
+
+    at : (k : ℕ) → k < 16 → get_or (row_at 16 row o) k 0 ≡ f (1 + k)
+    at k below =
+        let place : o - 1 + (1 + k) ≡ o + k = omega arith in
+        get_or-take 16 (drop o row) k 0 below ∙ get_or-drop o row k 0 ∙ ap (λ (n : ℕ). get_or row n 0) (sym place) ∙ sym (same (1 + k) (omega arith) (omega arith))
+
+-- a list of a row
+list-told : (row : List ℕ) (k : ℕ) (test : ℕ → Bool) → slice_index row k < 65536 → ((p : ℕ) → 1 ≤ p → p ≤ 16 → test p ≡ names (list_in row k) p) → list_of 16 test ≡ slice_index row k
+list-told row k test small same =
+    let whole_list : list_in row k ≡ slice_index row k = omega arith in
+    same-list_of 16 test (names (list_in row k)) same ∙ ap (λ (n : ℕ). list_of 16 (names n)) whole_list ∙ list_of-names (slice_index row k) small
+
+-- ## What the lists tell
+
+green-by : (g y r : Bool) → is_green (if g then Green else (if y then Yellow else (if r then RedClear else Red))) ≡ g
+green-by true y r = refl
+green-by false true r = refl
+green-by false false true = refl
+green-by false false false = refl
+
+yellow-by : (g y r : Bool) → (g ≡ true → y ≡ false) → is_yellow (if g then Green else (if y then Yellow else (if r then RedClear else Red))) ≡ y
+yellow-by true y r apart = sym (apart refl)
+yellow-by false true r apart = refl
+yellow-by false false true apart = refl
+yellow-by false false false apart = refl
+
+red_clear-by : (g y r : Bool) → (g ≡ true → r ≡ false) → (y ≡ true → r ≡ false) → is_red_clear (if g then Green else (if y then Yellow else (if r then RedClear else Red))) ≡ r
+red_clear-by true y r one two = sym (one refl)
+red_clear-by false true r one two = sym (two refl)
+red_clear-by false false true one two = refl
+red_clear-by false false false one two = refl
+
+walk-by : (w c : Bool) → is_walk (if w then Walk else (if c then PedestrianClear else DontWalk)) ≡ w
+walk-by true c = refl
+walk-by false true = refl
+walk-by false false = refl
+
+clear-by : (w c : Bool) → (w ≡ true → c ≡ false) → is_clearance (if w then Walk else (if c then PedestrianClear else DontWalk)) ≡ c
+clear-by true c apart = sym (apart refl)
+clear-by false true apart = refl
+clear-by false false apart = refl
+
+max-by : (m g : Bool) → is_same MaxOut (if m then Some MaxOut else (if g then Some GapOut else None)) ≡ m
+max-by true g = refl
+max-by false true = refl
+max-by false false = refl
+
+gap-by : (m g : Bool) → (m ≡ true → g ≡ false) → is_same GapOut (if m then Some MaxOut else (if g then Some GapOut else None)) ≡ g
+gap-by true g apart = sym (apart refl)
+gap-by false true apart = refl
+gap-by false false apart = refl
+
+-- ## The whole row
+
+number-told : (n : ℕ) → number_cell (number_in n) ≡ n
+number-told n = elim (cases_Bool (n == 0)) [
+  | inl none ↦ (let e : n ≡ 0 = eqb-true n 0 none in rw none (sym e))
+  | inr some ↦ (let e : n - 1 + 1 ≡ n = grind (arith, nat_tests, some) in rw some e)
+]
+
+nine : (row : List ℕ) → 9 ≤ length row → (slice_index row 0 ∷ slice_index row 1 ∷ slice_index row 2 ∷ slice_index row 3 ∷ slice_index row 4 ∷ slice_index row 5 ∷ slice_index row 6 ∷ slice_index row 7 ∷ slice_index row 8 ∷ []) ≡ take 9 row
+nine (a ∷ (b ∷ (c ∷ (d ∷ (e ∷ (f ∷ (g ∷ (h ∷ (i ∷ rest))))))))) full = refl
+nine row full = absurd (omega arith)
+
+more : (row : List ℕ) (o : ℕ) (f : ℕ → ℕ) (xs : List ℕ) → xs ≡ take o row → map f (run_from 1 16) ≡ row_at 16 row o → xs ++ map f (run_from 1 16) ≡ take (o + 16) row
+more row o f xs one two = ap₂ (λ (us vs : List ℕ). us ++ vs) one two ∙ sym (take-add o 16 row)
+
+module _ (now : ℕ) (row : List ℕ) (by : IsBy now row) where
+  full : length row ≡ 121
+  full = by.full
+
+  lists : (list_of 16 (λ p. is_green (phase_in now row p).interval) ∷ list_of 16 (λ p. is_yellow (phase_in now row p).interval) ∷
+      list_of 16 (λ p. is_red_clear (phase_in now row p).interval) ∷
+      list_of 16 (λ p. is_walk (phase_in now row p).pedestrian) ∷ list_of 16 (λ p. is_clearance (phase_in now row p).pedestrian) ∷
+      list_of 16 (λ p. (phase_in now row p).gapped) ∷ list_of 16 (λ p. (phase_in now row p).forced) ∷
+      list_of 16 (λ p. is_same MaxOut (phase_in now row p).last_ending) ∷ list_of 16 (λ p. is_same GapOut (phase_in now row p).last_ending) ∷ []) ≡ take 9 row
+  unfolding phase_in
+  lists =
+      rw (
+        list-told row 0 (λ p. is_green (phase_in now row p).interval) (by.lists 0 (omega arith)) (λ p from to. rw (is_phase_from p from to) (green-by _ _ _)),
+        list-told row 1 (λ p. is_yellow (phase_in now row p).interval) (by.lists 1 (omega arith)) (λ p from to. rw (is_phase_from p from to) (yellow-by _ _ _ (by.each p from to).green_yellow)),
+        list-told row 2 (λ p. is_red_clear (phase_in now row p).interval) (by.lists 2 (omega arith))
+            (λ p from to. rw (is_phase_from p from to) (red_clear-by _ _ _ (by.each p from to).green_red_clear (by.each p from to).yellow_red_clear)),
+        list-told row 3 (λ p. is_walk (phase_in now row p).pedestrian) (by.lists 3 (omega arith)) (λ p from to. rw (is_phase_from p from to) (walk-by _ _)),
+        list-told row 4 (λ p. is_clearance (phase_in now row p).pedestrian) (by.lists 4 (omega arith)) (λ p from to. rw (is_phase_from p from to) (clear-by _ _ (by.each p from to).walk_clearance)),
+        list-told row 5 (λ p. (phase_in now row p).gapped) (by.lists 5 (omega arith)) (λ p from to. rw (is_phase_from p from to) refl),
+        list-told row 6 (λ p. (phase_in now row p).forced) (by.lists 6 (omega arith)) (λ p from to. rw (is_phase_from p from to) refl),
+        list-told row 7 (λ p. is_same MaxOut (phase_in now row p).last_ending) (by.lists 7 (omega arith)) (λ p from to. rw (is_phase_from p from to) (max-by _ _)),
+        list-told row 8 (λ p. is_same GapOut (phase_in now row p).last_ending) (by.lists 8 (omega arith)) (λ p from to. rw (is_phase_from p from to) (gap-by _ _ (by.each p from to).endings)),
+      ) (nine row (omega (arith, full)))
+
+  phases-told : phases_cells now (phase_in now row) ≡ row
+  unfolding phase_in
+  phases-told =
+      more row 105 (λ p. number_cell (phase_in now row p).running_maximum) _
+      (more row 89 (λ p. timer_cell now (phase_in now row p).red_revert) _
+      (more row 73 (λ p. timer_cell now (phase_in now row p).reduction) _
+      (more row 57 (λ p. timer_cell now (phase_in now row p).conflict) _
+      (more row 41 (λ p. timer_cell now (phase_in now row p).passage) _
+      (more row 25 (λ p. timer_cell now (phase_in now row p).pedestrian_timer) _
+      (more row 9 (λ p. timer_cell now (phase_in now row p).timer) _ lists
+      (column row 9 _ (omega (arith, full)) (λ p from to. rw (is_phase_from p from to) (timer_cell-timer_at now _ (by.each p from to).timer)) (omega arith)))
+      (column row 25 _ (omega (arith, full)) (λ p from to. rw (is_phase_from p from to) (timer_cell-timer_at now _ (by.each p from to).pedestrian_timer)) (omega arith)))
+      (column row 41 _ (omega (arith, full)) (λ p from to. rw (is_phase_from p from to) (timer_cell-timer_at now _ (by.each p from to).passage)) (omega arith)))
+      (column row 57 _ (omega (arith, full)) (λ p from to. rw (is_phase_from p from to) (timer_cell-timer_at now _ (by.each p from to).conflict)) (omega arith)))
+      (column row 73 _ (omega (arith, full)) (λ p from to. rw (is_phase_from p from to) (timer_cell-timer_at now _ (by.each p from to).reduction)) (omega arith)))
+      (column row 89 _ (omega (arith, full)) (λ p from to. rw (is_phase_from p from to) (timer_cell-timer_at now _ (by.each p from to).red_revert)) (omega arith)))
+      (column row 105 _ (omega (arith, full)) (λ p from to. rw (is_phase_from p from to) (number-told _)) (omega arith))
+      ∙ take-whole row 121 full
+
+pub rows-told : RowsAreTold
+rows-told = phases-told
