@@ -1,7 +1,7 @@
 //! What a ring does in a tick by its want and its commitment: which phase it starts, ends and clears, and what it commits to.
 ghost use Rattle.std.specs.Prelude.{◌≡◌, ℕ, ◌≤◌, ◌&&◌, true, Some, None, is_some, if◌then◌else◌};
 ghost use Rattle.tsb_plan.specs.Plan.{is_enabled, side_of};
-ghost use Rattle.tsb_plan.specs.PlanOf.{plan_of};
+ghost use Rattle.tsb_objects.specs.Checked.{checked_plan};
 ghost use Rattle.tsb_types.specs.Intervals.{is_green};
 ghost use Rattle.tsb_types.specs.Flow.{interval_of};
 ghost use Rattle.tsb_ring.specs.Cells.{IsBy};
@@ -18,7 +18,7 @@ use crate::found::Found;
 use crate::rings::Rings;
 use crate::walk::again;
 use crate::want::Want;
-use tsb_objects::{Phase, Plan, Ring, RingMoves};
+use tsb_objects::{Checked, Phase, Ring, RingMoves};
 
 /// Whether the want ends the green of its ring.
 #[inline(always)]
@@ -46,8 +46,8 @@ fn leaves(want: Option<Want>) -> bool
 
 /// Whether the ring with this phase in service is idle or over.
 #[inline(always)]
-fn is_none_or_over(plan: &Plan, conditions: &Conditions, own: Option<Phase>) -> bool
-    ensures { result ≡ is_none_or_over (given_of (plan_of plan.now) conditions.now) own }
+fn is_none_or_over(plan: &Checked, conditions: &Conditions, own: Option<Phase>) -> bool
+    ensures { result ≡ is_none_or_over (given_of (checked_plan plan.now) conditions.now) own }
 {
     match own {
         None => true,
@@ -57,28 +57,28 @@ fn is_none_or_over(plan: &Plan, conditions: &Conditions, own: Option<Phase>) -> 
 
 /// Whether the other ring's phase in service makes way for `c`.
 #[inline(always)]
-fn makes_way(plan: &Plan, conditions: &Conditions, c: Phase, across: Option<Phase>) -> bool
-    ensures { result ≡ makes_way (plan_of plan.now) (given_of (plan_of plan.now) conditions.now) c across }
+fn makes_way(plan: &Checked, conditions: &Conditions, c: Phase, across: Option<Phase>) -> bool
+    ensures { result ≡ makes_way (checked_plan plan.now) (given_of (checked_plan plan.now) conditions.now) c across }
 {
     match across {
         None => true,
-        Some(q) => plan.concurrency(c).contains(q) || conditions.timing.over.contains(q),
+        Some(q) => plan.plan().concurrency(c).contains(q) || conditions.timing.over.contains(q),
     }
 }
 
 /// Whether a ring's commitment that was may start.
 #[inline(always)]
 pub(crate) fn may_start(
-    plan: &Plan,
+    plan: &Checked,
     conditions: &Conditions,
     r: Ring,
     own: Option<Phase>,
     across: Option<Phase>,
     commitment: Option<Phase>,
 ) -> bool
-    requires own { own ≡ serving (plan_of plan.now) (given_of (plan_of plan.now) conditions.now) (ring_numbered r) }
-    requires across { across ≡ serving (plan_of plan.now) (given_of (plan_of plan.now) conditions.now) (other (ring_numbered r)) }
-    ensures { result ≡ may_start (plan_of plan.now) (given_of (plan_of plan.now) conditions.now) (ring_numbered r) commitment }
+    requires own { own ≡ serving (checked_plan plan.now) (given_of (checked_plan plan.now) conditions.now) (ring_numbered r) }
+    requires across { across ≡ serving (checked_plan plan.now) (given_of (checked_plan plan.now) conditions.now) (other (ring_numbered r)) }
+    ensures { result ≡ may_start (checked_plan plan.now) (given_of (checked_plan plan.now) conditions.now) (ring_numbered r) commitment }
 {
     let free = is_none_or_over(plan, conditions, own);
     match commitment {
@@ -142,7 +142,7 @@ impl Rings {
     #[tactic(auto, unfolding(crate::specs::Crossings::committed))]
     fn committed(
         &self,
-        plan: &Plan,
+        plan: &Checked,
         conditions: &Conditions,
         r: Ring,
         own: Option<Phase>,
@@ -151,11 +151,11 @@ impl Rings {
         entered: Option<Phase>,
     ) -> Option<Phase>
         requires by { IsBy (cells_of self.now) }
-        requires own { own ≡ serving (plan_of plan.now) (given_of (plan_of plan.now) conditions.now) (ring_numbered r) }
-        requires picked { picked ≡ pick (plan_of plan.now) (state_of self.now) (given_of (plan_of plan.now) conditions.now) (ring_numbered r) }
-        requires begun { begun ≡ begins (plan_of plan.now) (state_of self.now) (given_of (plan_of plan.now) conditions.now) }
-        requires entered { begun ≡ true → entered ≡ entry (plan_of plan.now) (state_of self.now) (given_of (plan_of plan.now) conditions.now) (ring_numbered r) }
-        ensures { result ≡ committed (plan_of plan.now) (state_of self.now) (given_of (plan_of plan.now) conditions.now) (ring_numbered r) }
+        requires own { own ≡ serving (checked_plan plan.now) (given_of (checked_plan plan.now) conditions.now) (ring_numbered r) }
+        requires picked { picked ≡ pick (checked_plan plan.now) (state_of self.now) (given_of (checked_plan plan.now) conditions.now) (ring_numbered r) }
+        requires begun { begun ≡ begins (checked_plan plan.now) (state_of self.now) (given_of (checked_plan plan.now) conditions.now) }
+        requires entered { begun ≡ true → entered ≡ entry (checked_plan plan.now) (state_of self.now) (given_of (checked_plan plan.now) conditions.now) (ring_numbered r) }
+        ensures { result ≡ committed (checked_plan plan.now) (state_of self.now) (given_of (checked_plan plan.now) conditions.now) (ring_numbered r) }
     {
         if begun {
             entered
@@ -169,7 +169,7 @@ impl Rings {
     #[tactic(auto, unfolding(crate::specs::Next::starting))]
     fn starting(
         &self,
-        plan: &Plan,
+        plan: &Checked,
         conditions: &Conditions,
         r: Ring,
         own: Option<Phase>,
@@ -178,11 +178,11 @@ impl Rings {
         startable: bool,
     ) -> Option<Phase>
         requires by { IsBy (cells_of self.now) }
-        requires own { own ≡ serving (plan_of plan.now) (given_of (plan_of plan.now) conditions.now) (ring_numbered r) }
-        requires picked { picked ≡ pick (plan_of plan.now) (state_of self.now) (given_of (plan_of plan.now) conditions.now) (ring_numbered r) }
-        requires completed { completed ≡ completes (plan_of plan.now) (state_of self.now) (given_of (plan_of plan.now) conditions.now) }
-        requires startable { startable ≡ may_start (plan_of plan.now) (given_of (plan_of plan.now) conditions.now) (ring_numbered r) ((state_of self.now).commitment (ring_numbered r)) }
-        ensures { result ≡ starting (plan_of plan.now) (state_of self.now) (given_of (plan_of plan.now) conditions.now) (ring_numbered r) }
+        requires own { own ≡ serving (checked_plan plan.now) (given_of (checked_plan plan.now) conditions.now) (ring_numbered r) }
+        requires picked { picked ≡ pick (checked_plan plan.now) (state_of self.now) (given_of (checked_plan plan.now) conditions.now) (ring_numbered r) }
+        requires completed { completed ≡ completes (checked_plan plan.now) (state_of self.now) (given_of (checked_plan plan.now) conditions.now) }
+        requires startable { startable ≡ may_start (checked_plan plan.now) (given_of (checked_plan plan.now) conditions.now) (ring_numbered r) ((state_of self.now).commitment (ring_numbered r)) }
+        ensures { result ≡ starting (checked_plan plan.now) (state_of self.now) (given_of (checked_plan plan.now) conditions.now) (ring_numbered r) }
     {
         match self.commitment(r) {
             None => idle_pick(own, picked),
@@ -202,17 +202,17 @@ impl Rings {
     #[tactic(auto, unfolding(crate::specs::Next::ends))]
     fn does_end(
         &self,
-        plan: &Plan,
+        plan: &Checked,
         conditions: &Conditions,
         r: Ring,
         p: Phase,
         wanted: Option<Want>,
         begun: bool,
     ) -> bool
-        requires ring { own_ring (plan_of plan.now) p ≡ (ring_numbered r) }
-        requires wanted { wanted ≡ want_of (plan_of plan.now) (state_of self.now) (given_of (plan_of plan.now) conditions.now) (ring_numbered r) }
-        requires begun { begun ≡ begins (plan_of plan.now) (state_of self.now) (given_of (plan_of plan.now) conditions.now) }
-        ensures { result ≡ ends (plan_of plan.now) (state_of self.now) (given_of (plan_of plan.now) conditions.now) p }
+        requires ring { own_ring (checked_plan plan.now) p ≡ (ring_numbered r) }
+        requires wanted { wanted ≡ want_of (checked_plan plan.now) (state_of self.now) (given_of (checked_plan plan.now) conditions.now) (ring_numbered r) }
+        requires begun { begun ≡ begins (checked_plan plan.now) (state_of self.now) (given_of (checked_plan plan.now) conditions.now) }
+        ensures { result ≡ ends (checked_plan plan.now) (state_of self.now) (given_of (checked_plan plan.now) conditions.now) p }
     {
         let leaves = leaves(wanted);
         begun || (conditions.timing.ready.contains(p) && leaves)
@@ -223,17 +223,17 @@ impl Rings {
     #[tactic(auto, unfolding(crate::specs::Next::clears))]
     fn does_clear(
         &self,
-        plan: &Plan,
+        plan: &Checked,
         conditions: &Conditions,
         r: Ring,
         p: Phase,
         commits: Option<Phase>,
         starts: Option<Phase>,
     ) -> bool
-        requires ring { own_ring (plan_of plan.now) p ≡ (ring_numbered r) }
-        requires commits { commits ≡ committed (plan_of plan.now) (state_of self.now) (given_of (plan_of plan.now) conditions.now) (ring_numbered r) }
-        requires starts { starts ≡ starting (plan_of plan.now) (state_of self.now) (given_of (plan_of plan.now) conditions.now) (ring_numbered r) }
-        ensures { result ≡ clears (plan_of plan.now) (state_of self.now) (given_of (plan_of plan.now) conditions.now) p }
+        requires ring { own_ring (checked_plan plan.now) p ≡ (ring_numbered r) }
+        requires commits { commits ≡ committed (checked_plan plan.now) (state_of self.now) (given_of (checked_plan plan.now) conditions.now) (ring_numbered r) }
+        requires starts { starts ≡ starting (checked_plan plan.now) (state_of self.now) (given_of (checked_plan plan.now) conditions.now) (ring_numbered r) }
+        ensures { result ≡ clears (checked_plan plan.now) (state_of self.now) (given_of (checked_plan plan.now) conditions.now) p }
     {
         let goes = commits.is_none() || starts.is_some();
         conditions.timing.over.contains(p) && goes
@@ -244,17 +244,17 @@ impl Rings {
     #[tactic(auto, using(crate::proofs::OwnLemmas::own_serving))]
     fn ending(
         &self,
-        plan: &Plan,
+        plan: &Checked,
         conditions: &Conditions,
         r: Ring,
         own: Option<Phase>,
         wanted: Option<Want>,
         begun: bool,
     ) -> Option<Phase>
-        requires own { own ≡ serving (plan_of plan.now) (given_of (plan_of plan.now) conditions.now) (ring_numbered r) }
-        requires wanted { wanted ≡ want_of (plan_of plan.now) (state_of self.now) (given_of (plan_of plan.now) conditions.now) (ring_numbered r) }
-        requires begun { begun ≡ begins (plan_of plan.now) (state_of self.now) (given_of (plan_of plan.now) conditions.now) }
-        ensures { result ≡ if_passes (λ p. is_green (interval_of conditions.now.intervals p) && ends (plan_of plan.now) (state_of self.now) (given_of (plan_of plan.now) conditions.now) p) (serving (plan_of plan.now) (given_of (plan_of plan.now) conditions.now) (ring_numbered r)) }
+        requires own { own ≡ serving (checked_plan plan.now) (given_of (checked_plan plan.now) conditions.now) (ring_numbered r) }
+        requires wanted { wanted ≡ want_of (checked_plan plan.now) (state_of self.now) (given_of (checked_plan plan.now) conditions.now) (ring_numbered r) }
+        requires begun { begun ≡ begins (checked_plan plan.now) (state_of self.now) (given_of (checked_plan plan.now) conditions.now) }
+        ensures { result ≡ if_passes (λ p. is_green (interval_of conditions.now.intervals p) && ends (checked_plan plan.now) (state_of self.now) (given_of (checked_plan plan.now) conditions.now) p) (serving (checked_plan plan.now) (given_of (checked_plan plan.now) conditions.now) (ring_numbered r)) }
     {
         match own {
             None => None,
@@ -270,17 +270,17 @@ impl Rings {
     #[tactic(auto, using(crate::proofs::OwnLemmas::own_serving))]
     fn clearing(
         &self,
-        plan: &Plan,
+        plan: &Checked,
         conditions: &Conditions,
         r: Ring,
         own: Option<Phase>,
         commits: Option<Phase>,
         starts: Option<Phase>,
     ) -> Option<Phase>
-        requires own { own ≡ serving (plan_of plan.now) (given_of (plan_of plan.now) conditions.now) (ring_numbered r) }
-        requires commits { commits ≡ committed (plan_of plan.now) (state_of self.now) (given_of (plan_of plan.now) conditions.now) (ring_numbered r) }
-        requires starts { starts ≡ starting (plan_of plan.now) (state_of self.now) (given_of (plan_of plan.now) conditions.now) (ring_numbered r) }
-        ensures { result ≡ if_passes (clears (plan_of plan.now) (state_of self.now) (given_of (plan_of plan.now) conditions.now)) (serving (plan_of plan.now) (given_of (plan_of plan.now) conditions.now) (ring_numbered r)) }
+        requires own { own ≡ serving (checked_plan plan.now) (given_of (checked_plan plan.now) conditions.now) (ring_numbered r) }
+        requires commits { commits ≡ committed (checked_plan plan.now) (state_of self.now) (given_of (checked_plan plan.now) conditions.now) (ring_numbered r) }
+        requires starts { starts ≡ starting (checked_plan plan.now) (state_of self.now) (given_of (checked_plan plan.now) conditions.now) (ring_numbered r) }
+        ensures { result ≡ if_passes (clears (checked_plan plan.now) (state_of self.now) (given_of (checked_plan plan.now) conditions.now)) (serving (checked_plan plan.now) (given_of (checked_plan plan.now) conditions.now) (ring_numbered r)) }
     {
         match own {
             None => None,
@@ -292,7 +292,7 @@ impl Rings {
     #[inline(always)]
     pub(crate) fn ring_moves(
         &self,
-        plan: &Plan,
+        plan: &Checked,
         conditions: &Conditions,
         r: Ring,
         found: &Found,
@@ -302,12 +302,12 @@ impl Rings {
         entered: Option<Phase>,
     ) -> RingMoves
         requires by { IsBy (cells_of self.now) }
-        requires found { IsFound (plan_of plan.now) (state_of self.now) (given_of (plan_of plan.now) conditions.now) (ring_numbered r) found.now }
-        requires begun { begun ≡ begins (plan_of plan.now) (state_of self.now) (given_of (plan_of plan.now) conditions.now) }
-        requires completed { completed ≡ completes (plan_of plan.now) (state_of self.now) (given_of (plan_of plan.now) conditions.now) }
-        requires startable { startable ≡ may_start (plan_of plan.now) (given_of (plan_of plan.now) conditions.now) (ring_numbered r) ((state_of self.now).commitment (ring_numbered r)) }
-        requires entered { begun ≡ true → entered ≡ entry (plan_of plan.now) (state_of self.now) (given_of (plan_of plan.now) conditions.now) (ring_numbered r) }
-        ensures { result ≡ ring_moves (plan_of plan.now) (state_of self.now) (given_of (plan_of plan.now) conditions.now) (ring_numbered r) }
+        requires found { IsFound (checked_plan plan.now) (state_of self.now) (given_of (checked_plan plan.now) conditions.now) (ring_numbered r) found.now }
+        requires begun { begun ≡ begins (checked_plan plan.now) (state_of self.now) (given_of (checked_plan plan.now) conditions.now) }
+        requires completed { completed ≡ completes (checked_plan plan.now) (state_of self.now) (given_of (checked_plan plan.now) conditions.now) }
+        requires startable { startable ≡ may_start (checked_plan plan.now) (given_of (checked_plan plan.now) conditions.now) (ring_numbered r) ((state_of self.now).commitment (ring_numbered r)) }
+        requires entered { begun ≡ true → entered ≡ entry (checked_plan plan.now) (state_of self.now) (given_of (checked_plan plan.now) conditions.now) (ring_numbered r) }
+        ensures { result ≡ ring_moves (checked_plan plan.now) (state_of self.now) (given_of (checked_plan plan.now) conditions.now) (ring_numbered r) }
     {
         let commits = self.committed(
             plan,
