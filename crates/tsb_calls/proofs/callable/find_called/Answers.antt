@@ -1,0 +1,30 @@
+use Rattle.std.proofs.Common.{◌≡◌, ℕ, ◌≤◌, ◌&&◌, ◌||◌, not, Bool, ◌∙◌, ap, ap₂}
+use Rattle.tsb_plan.specs.Plan.{Plan, has_soft_recall}
+use Rattle.tsb_plan.specs.PlanOf.{plan_of}
+use Rattle.tsb_types.specs.Sets.{has}
+use Rattle.tsb_calls.specs.Memories.{Given}
+use Rattle.tsb_calls.specs.Callable.{has_pedestrian_call, is_called, is_callable_otherwise, some_is_callable_otherwise, is_callable, has_conflict}
+use Rattle.tsb_calls.specs.Promises.{given_of}
+use Rattle.tsb_calls.proofs.callable.find_called.Goals as goal
+
+pub returns : goal.returns
+unfolding is_callable has_conflict plan_of
+returns c = λ m are p from within.
+    let plan : Plan = plan_of c.args.plan.now in
+    let given : Given = given_of c.args.observed.now in
+    let walk : (q : ℕ) → 1 ≤ q → q ≤ 16 → has c.with_pedestrian_call-walk.result q ≡ has_pedestrian_call plan given m q =
+    λ q low high. c.with_pedestrian_call-walk.ensures m q low high (are.pedestrians q low high) in
+    let called : (q : ℕ) → 1 ≤ q → q ≤ 16 → has c.called-called.result q ≡ is_called plan given m q =
+    λ q low high. c.called-called.ensures m q low high (are.vehicles q low high) (walk q low high) in
+    let otherwise : (q : ℕ) → 1 ≤ q → q ≤ 16 → (has c.free.result q && has c.called-called.result q) ≡ is_callable_otherwise plan given m q =
+    λ q low high. ap₂ (λ (a b : Bool). a && b) (c.free.ensures q low high) (called q low high) in
+    let callable : (q : ℕ) → 1 ≤ q → q ≤ 16 → has c.callable-callable.result q ≡ is_callable plan given m q =
+    λ q low high.
+    c.callable-callable.ensures (is_callable_otherwise plan given m) otherwise q low high
+    ∙ ap (λ (free : Bool). is_callable_otherwise plan given m q || (free && (has_soft_recall plan q && not (some_is_callable_otherwise plan given m)))) (c.free.ensures q low high) in
+    record {
+      callable = callable p from within;
+      conflict = c.with_conflict.ensures (is_callable plan given m) callable p from within;
+      pedestrian = walk p from within;
+      output = c.requires p;
+    }

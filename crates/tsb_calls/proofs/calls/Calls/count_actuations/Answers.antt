@@ -1,0 +1,58 @@
+use Rattle.std.proofs.Common.{◌≡◌, ℕ, ◌+◌, ◌≤◌, true, if◌then◌else◌, slice_index, count_by, refl, sym, ◌∙◌, ap, inl, inr, subst}
+use Rattle.std.proofs.lemmas.Bool.Decides.{eqb_tells}
+use Rattle.tsb_plan.specs.PlanOf.{plan_of}
+use Rattle.tsb_types.specs.Lists.{run_from}
+use Rattle.tsb_types.specs.Sets.{has, has_number}
+use Rattle.tsb_calls.specs.Memories.{calls}
+use Rattle.tsb_calls.specs.Layer.{cells_of, counted_to}
+use Rattle.tsb_calls.proofs.CountLemmas.{taken, count-taken, count-all, count-begun, counted-twice, counted-none, counted-small}
+use Rattle.tsb_calls.proofs.calls.Calls.count_actuations.Goals as goal
+
+pub loop-d-preserved : goal.loop-d-preserved
+loop-d-preserved c =
+    let held = c.loop-d.invariant in
+    let made = c.count_one.ensures in
+    let d : ℕ = c.in-Some.d in
+    let had = held.within d c.in-Some.ensures.had in
+    record {
+      within = λ e is.
+          elim (eqb_tells e d) [
+            | inl same ↦ subst (λ (n : ℕ). has_number c.args.actuated n ≡ true) (sym same.1) had
+            | inr other ↦ held.within e (sym (c.in-Some.ensures.others e other.1) ∙ is)
+          ];
+      told = λ p from within.
+          let was : ℕ = slice_index (cells_of c.args.self.now) (1 + p) in
+          let one : ℕ = if calls (plan_of c.args.plan.now) d p then 1 else 0 in
+          let far : ℕ = count_by (taken (λ e. calls (plan_of c.args.plan.now) e p) (has_number c.args.actuated) (has_number c.loop-d.rest)) (run_from 1 16) in
+          made.counts p from within
+          ∙ ap (λ (n : ℕ). counted_to (has c.args.green p) n one) (held.told p from within)
+          ∙ counted-twice (has c.args.green p) was far one
+          ∙ ap (λ (n : ℕ). counted_to (has c.args.green p) was n)
+          (count-taken (λ e. calls (plan_of c.args.plan.now) e p) (has_number c.args.actuated) (has_number c.loop-d.rest) (has_number c.pop.new.set) d
+          c.in-Some.ensures.from c.in-Some.ensures.within had c.in-Some.ensures.had c.in-Some.ensures.taken c.in-Some.ensures.others);
+      small = λ p from within.
+          let one : ℕ = if calls (plan_of c.args.plan.now) d p then 1 else 0 in
+          subst (λ (n : ℕ). n ≤ 255) (sym (made.counts p from within)) (counted-small (has c.args.green p) _ one (held.small p from within));
+      lists = λ k below. made.lists k below ∙ held.lists k below;
+      kept = made.kept ∙ held.kept;
+      opened = made.opened;
+    }
+
+pub loop-d-init : goal.loop-d-init
+loop-d-init c = record {
+  within = λ d is. is;
+  told = λ p from within.
+      let was : ℕ = slice_index (cells_of c.args.self.now) (1 + p) in
+      counted-none (has c.args.green p) was (c.requires.small p from within)
+      ∙ ap (λ (n : ℕ). counted_to (has c.args.green p) was n) (sym (count-begun (λ d. calls (plan_of c.args.plan.now) d p) (has_number c.args.actuated)));
+  small = c.requires.small;
+  lists = λ k below. refl;
+  kept = refl;
+  opened = c.requires.opened;
+}
+
+pub returns-clause-counts : goal.returns-clause-counts
+returns-clause-counts c = λ p from within.
+    c.loop-d.invariant.told p from within
+    ∙ ap (λ (n : ℕ). counted_to (has c.args.green p) (slice_index (cells_of c.args.self.now) (1 + p)) n)
+    (count-all (λ d. calls (plan_of c.args.plan.now) d p) (has_number c.args.actuated) (has_number c.loop-d.rest) (λ d. c.in_default.ensures.none refl d))
