@@ -89,7 +89,7 @@ impl<'a> Reading<'a> {
     {
         self.plan
             .enabled()
-            .intersection(self.plan.recalled())
+            .intersection(self.plan.maximum_recall())
             .difference(self.controller.green())
     }
 

@@ -1,3 +1,4 @@
 pub mod CheckedLemmas
 pub mod RuleLemmas
 pub mod ConsistentLemmas
+mod TableLemmas

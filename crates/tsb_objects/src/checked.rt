@@ -1,28 +1,27 @@
 //! Plans that may be run.
 #![tactic(auto, unfolding(tsb_plan::specs::PlanOf::plan_of))]
 
-ghost use Rattle.std.specs.Prelude.{◌≡◌, ℕ, None};
-ghost use Rattle.tsb_plan.specs.Plan.{is_enabled, has_maximum_recall};
+ghost use Rattle.std.specs.Prelude.{◌≡◌, None};
 ghost use Rattle.tsb_plan.specs.PlanOf.{plan_of};
 ghost use Rattle.tsb_objects.specs.Rules.{first_broken};
-ghost use Rattle.tsb_types.specs.Sets.{has};
+ghost use Rattle.tsb_objects.specs.Tables.{ArePhaseTables};
+
+mod phases;
 
 use crate::rules::{Rule, check};
+use crate::tables::PhaseTables;
 use tsb_plan::Plan;
-use tsb_types::{Phase, PhaseSet};
 
-/// A plan that may be run, with sets of its phases at hand.
+/// A plan that may be run, with tables of what it says of all phases and detectors at once.
 ///
 /// Its plan meets the rules and stays as it is: a `Checked` is made by `Checked::new` and `Checked::known`
 /// alone, so who is handed one has nothing to check.
 #[derive(Clone, Copy, Debug, PartialEq, Eq)]
 pub struct Checked {
     plan: Plan,
-    enabled: PhaseSet,
-    recalled: PhaseSet,
+    phase_tables: PhaseTables,
     ghost passed: { first_broken (plan_of plan) ≡ None },
-    ghost enabled_are: { (p : ℕ) → has enabled p ≡ is_enabled (plan_of plan) p },
-    ghost recalled_are: { (p : ℕ) → has recalled p ≡ has_maximum_recall (plan_of plan) p },
+    ghost phases_are: { ArePhaseTables (plan_of plan) phase_tables },
 }
 
 impl Checked {
@@ -48,8 +47,7 @@ impl Checked {
     {
         Checked {
             plan,
-            enabled: enabled_phases(&plan),
-            recalled: recalled_phases(&plan),
+            phase_tables: PhaseTables::of(&plan),
         }
     }
 
@@ -61,42 +59,4 @@ impl Checked {
     {
         &self.plan
     }
-
-    /// The phases that are in use (`phaseEnabled`).
-    #[tactic(auto, unfolding(tsb_plan::specs::PlanOf::plan_of, crate::specs::Checked::checked_plan))]
-    pub fn enabled(&self) -> PhaseSet
-        ensures { (p : ℕ) → has result p ≡ is_enabled (checked_plan self.now) p }
-    {
-        self.enabled
-    }
-
-    /// The phases that have maximum recall (`phaseMaxRecall`), in use or not.
-    #[tactic(auto, unfolding(tsb_plan::specs::PlanOf::plan_of, crate::specs::Checked::checked_plan))]
-    pub fn recalled(&self) -> PhaseSet
-        ensures { (p : ℕ) → has result p ≡ has_maximum_recall (checked_plan self.now) p }
-    {
-        self.recalled
-    }
-}
-
-fn enabled_phases(plan: &Plan) -> PhaseSet
-    ensures { (p : ℕ) → has result p ≡ is_enabled (plan_of plan.now) p }
-{
-    let mut set = PhaseSet::empty();
-    for number in 1..17 {
-        let phase = Phase::of(number);
-        set = set.with(phase, plan.is_enabled(phase));
-    }
-    set
-}
-
-fn recalled_phases(plan: &Plan) -> PhaseSet
-    ensures { (p : ℕ) → has result p ≡ has_maximum_recall (plan_of plan.now) p }
-{
-    let mut set = PhaseSet::empty();
-    for number in 1..17 {
-        let phase = Phase::of(number);
-        set = set.with(phase, plan.has_maximum_recall(phase));
-    }
-    set
 }

@@ -9,6 +9,7 @@ pub mod built;
 pub mod checked;
 pub mod consistent;
 pub mod rules;
+mod tables;
 
 pub use built::is_built;
 pub use checked::Checked;

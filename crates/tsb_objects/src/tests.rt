@@ -139,7 +139,7 @@ fn plans_are_accepted(rt: HostRuntime) {
         Ok(two) => {
             assert_eq!(rt; *two.plan(), Plan::two());
             assert_eq!(rt; two.enabled().list(), 0x000A);
-            assert_eq!(rt; two.recalled().list(), 0x000A);
+            assert_eq!(rt; two.maximum_recall().list(), 0x000A);
         }
         Err(_) => assert!(rt; false, "two was refused"),
     }

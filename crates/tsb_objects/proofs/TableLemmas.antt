@@ -1,0 +1,47 @@
+-- What tables of a plan are read from: values at numbers from 1 on.
+use Rattle.std.proofs.Common.{◌≡◌, ℕ, zero, suc, ◌<◌, ◌≤◌, ◌==◌, Bool, true, false, List, None, refl, arith, sym, ◌∙◌, inl, inr}
+use Rattle.std.proofs.lemmas.Bool.{cases_lt}
+use Rattle.std.proofs.lemmas.Bool.Decides.{nat_tests}
+use Rattle.tsb_plan.specs.declared.object.Object.{Object}
+use Rattle.tsb_plan.specs.declared.object.Object.TheVariants.{PhaseConcurrency}
+use Rattle.tsb_plan.specs.Objects.{AreInRange, indices, has_index, value_in}
+use Rattle.tsb_plan.specs.Plan.{is_concurrent}
+use Rattle.tsb_plan.specs.PlanOf.{plan_in}
+use Rattle.tsb_objects.specs.Consistent.{IsPhase}
+use Rattle.tsb_objects.specs.Rules.{first_broken}
+use Rattle.tsb_types.specs.Sets.{names}
+use Rattle.tsb_types.proofs.SetLemmas.{names-zero, names-above}
+use Rattle.tsb_objects.proofs.ConsistentLemmas.{together}
+
+-- behind the last index an object has no value but 0
+pub none-behind : (cells : List ℕ) (o : Object) (n wanted : ℕ) → 1 ≤ wanted → indices o < n → (value_in cells o n == wanted) ≡ false
+none-behind cells o n wanted some behind =
+    let outside : has_index o n ≡ false = grind (arith, nat_tests, behind) in
+    rw outside (grind (arith, nat_tests, some))
+
+same-tests : (a b : Bool) → (a ≡ true → b ≡ true) → (b ≡ true → a ≡ true) → a ≡ b
+same-tests true b there back = sym (there refl)
+same-tests false true there back = back refl
+same-tests false false there back = refl
+
+-- a list of phases names none that is no phase
+named-outside : (list p : ℕ) → list ≤ 65535 → 16 < p → names list p ≡ false
+named-outside list p fits behind = names-above 16 p list (omega arith) behind
+
+-- in a plan that meets the rules a phase is named by the phases that it names
+pub named-back : (cells : List ℕ) → AreInRange cells → first_broken (plan_in cells) ≡ None → (q p : ℕ) → 1 ≤ q → q ≤ 16 →
+    is_concurrent (plan_in cells) q p ≡ is_concurrent (plan_in cells) p q
+named-back cells ranged none q zero from within = sym (names-zero q)
+named-back cells ranged none q (suc k) from within =
+    elim (cases_lt k 16) [
+      | inl below ↦
+          let one : IsPhase (plan_in cells) (suc k) = record { from_one = omega arith; within = omega arith } in
+          let other : IsPhase (plan_in cells) q = record { from_one = from; within = within } in
+          same-tests (is_concurrent (plan_in cells) q (suc k)) (is_concurrent (plan_in cells) (suc k) q)
+          (λ named. (together (plan_in cells) none q (suc k) other one named).back)
+          (λ named. (together (plan_in cells) none (suc k) q one other named).back)
+      | inr above ↦
+          let outside : has_index PhaseConcurrency (suc k) ≡ false = grind (arith, nat_tests) in
+          named-outside (value_in cells PhaseConcurrency q) (suc k) (ranged.each PhaseConcurrency q) (omega arith)
+          ∙ sym (rw outside (names-zero q))
+    ]

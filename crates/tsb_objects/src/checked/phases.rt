@@ -1,0 +1,122 @@
+//! What a checked plan says of all its phases and detectors at once.
+#![tactic(auto, unfolding(tsb_plan::specs::PlanOf::plan_of, crate::specs::Checked::checked_plan))]
+
+ghost use Rattle.std.specs.Prelude.{◌≡◌, ℕ, ◌==◌};
+ghost use Rattle.tsb_objects.specs.Checked.{checked_plan};
+ghost use Rattle.tsb_objects.specs.Rules.{has_walk};
+ghost use Rattle.tsb_plan.specs.Parts.{call_phase, pedestrian_call_phase};
+ghost use Rattle.tsb_plan.specs.Plan.{is_enabled, is_non_locking, has_minimum_recall, has_maximum_recall, has_pedestrian_recall, has_soft_recall, has_dual_entry, ring_of, side_of, is_concurrent};
+ghost use Rattle.tsb_types.specs.Lists.{is};
+ghost use Rattle.tsb_types.specs.Sets.{has, has_number};
+
+use crate::checked::Checked;
+use tsb_types::{NumberSet, Phase, PhaseSet, Ring, Side};
+
+impl Checked {
+    /// The phases that are in use (`phaseEnabled`).
+    #[inline(always)]
+    pub fn enabled(&self) -> PhaseSet
+        ensures { (p : ℕ) → has result p ≡ is_enabled (checked_plan self.now) p }
+    {
+        self.phase_tables.enabled
+    }
+
+    /// The phases that do not lock their calls (`phaseNonLock`), in use or not.
+    #[inline(always)]
+    pub fn non_locking(&self) -> PhaseSet
+        ensures { (p : ℕ) → has result p ≡ is_non_locking (checked_plan self.now) p }
+    {
+        self.phase_tables.non_locking
+    }
+
+    /// The phases with minimum recall (`phaseMinRecall`), in use or not.
+    #[inline(always)]
+    pub fn minimum_recall(&self) -> PhaseSet
+        ensures { (p : ℕ) → has result p ≡ has_minimum_recall (checked_plan self.now) p }
+    {
+        self.phase_tables.minimum_recall
+    }
+
+    /// The phases with maximum recall (`phaseMaxRecall`), in use or not.
+    #[inline(always)]
+    pub fn maximum_recall(&self) -> PhaseSet
+        ensures { (p : ℕ) → has result p ≡ has_maximum_recall (checked_plan self.now) p }
+    {
+        self.phase_tables.maximum_recall
+    }
+
+    /// The phases with pedestrian recall (`phasePedRecall`), in use or not.
+    #[inline(always)]
+    pub fn pedestrian_recall(&self) -> PhaseSet
+        ensures { (p : ℕ) → has result p ≡ has_pedestrian_recall (checked_plan self.now) p }
+    {
+        self.phase_tables.pedestrian_recall
+    }
+
+    /// The phases with soft recall (`phaseSoftRecall`), in use or not.
+    #[inline(always)]
+    pub fn soft_recall(&self) -> PhaseSet
+        ensures { (p : ℕ) → has result p ≡ has_soft_recall (checked_plan self.now) p }
+    {
+        self.phase_tables.soft_recall
+    }
+
+    /// The phases with dual entry (`phaseDualEntry`), in use or not.
+    #[inline(always)]
+    pub fn dual_entry(&self) -> PhaseSet
+        ensures { (p : ℕ) → has result p ≡ has_dual_entry (checked_plan self.now) p }
+    {
+        self.phase_tables.dual_entry
+    }
+
+    /// The phases with a walk (`phaseWalk` over 0), in use or not.
+    #[inline(always)]
+    pub fn with_walk(&self) -> PhaseSet
+        ensures { (p : ℕ) → has result p ≡ has_walk (checked_plan self.now) p }
+    {
+        self.phase_tables.with_walk
+    }
+
+    /// The phases of a ring (`phaseRing`), in use or not.
+    #[inline(always)]
+    pub fn ring(&self, r: Ring) -> PhaseSet
+        ensures { (p : ℕ) → has result p ≡ (ring_of (checked_plan self.now) p == r) }
+    {
+        PhaseSet::from_list(self.phase_tables.rings[usize::from(r.number()) - 1])
+    }
+
+    /// The phases on a side of the barriers (`phaseSide`), in use or not.
+    #[inline(always)]
+    pub fn side(&self, d: Side) -> PhaseSet
+        ensures { (p : ℕ) → has result p ≡ (side_of (checked_plan self.now) p == d) }
+    {
+        PhaseSet::from_list(self.phase_tables.sides[usize::from(d.number()) - 1])
+    }
+
+    /// The phases that name a phase as concurrent with them (`phaseConcurrency`): by rule K5 they are those
+    /// that it names.
+    #[inline(always)]
+    pub fn concurrent_to(&self, q: Phase) -> PhaseSet
+        ensures column { (p : ℕ) → has result p ≡ is_concurrent (checked_plan self.now) p q }
+        ensures row { (p : ℕ) → has result p ≡ is_concurrent (checked_plan self.now) q p }
+    {
+        let _number = q.number();
+        self.plan.concurrency(q)
+    }
+
+    /// The vehicle detectors that call a phase (`vehicleDetectorCallPhase`).
+    #[inline(always)]
+    pub fn detectors_of(&self, p: Phase) -> NumberSet
+        ensures { (d : ℕ) → has_number result d ≡ is p (call_phase (checked_plan self.now) d) }
+    {
+        NumberSet::from_list(self.phase_tables.detectors[usize::from(p.number()) - 1])
+    }
+
+    /// The pedestrian detectors that call a phase (`pedestrianDetectorCallPhase`).
+    #[inline(always)]
+    pub fn pedestrian_detectors_of(&self, p: Phase) -> NumberSet
+        ensures { (d : ℕ) → has_number result d ≡ is p (pedestrian_call_phase (checked_plan self.now) d) }
+    {
+        NumberSet::from_list(self.phase_tables.pedestrian_detectors[usize::from(p.number()) - 1])
+    }
+}

@@ -1,0 +1,111 @@
+//! What a plan says of all its phases and detectors at once, as sets.
+#![tactic(auto, unfolding(tsb_plan::specs::PlanOf::plan_of))]
+
+ghost use Rattle.std.specs.Prelude.{◌≡◌, ℕ, ◌+◌, ◌<◌, ◌≤◌, ◌==◌, length, slice_index};
+ghost use Rattle.tsb_objects.specs.Rules.{has_walk};
+ghost use Rattle.tsb_objects.specs.Tables.{ArePhaseTables};
+ghost use Rattle.tsb_plan.specs.Objects.{indices};
+ghost use Rattle.tsb_plan.specs.PlanOf.{plan_of};
+ghost use Rattle.tsb_types.specs.Sets.{names, has, has_number};
+
+use tsb_plan::{Object, Plan};
+use tsb_types::{NumberSet, Phase, PhaseSet};
+
+/// What a plan says of all its phases and detectors at once. Each word of an array is a list, as
+/// `phaseConcurrency` has it.
+#[derive(Clone, Copy, Debug, PartialEq, Eq)]
+pub struct PhaseTables {
+    /// The phases that are in use (`phaseEnabled`).
+    pub(crate) enabled: PhaseSet,
+    /// The phases that do not lock their calls (`phaseNonLock`).
+    pub(crate) non_locking: PhaseSet,
+    /// The phases with minimum recall (`phaseMinRecall`).
+    pub(crate) minimum_recall: PhaseSet,
+    /// The phases with maximum recall (`phaseMaxRecall`).
+    pub(crate) maximum_recall: PhaseSet,
+    /// The phases with pedestrian recall (`phasePedRecall`).
+    pub(crate) pedestrian_recall: PhaseSet,
+    /// The phases with soft recall (`phaseSoftRecall`).
+    pub(crate) soft_recall: PhaseSet,
+    /// The phases with dual entry (`phaseDualEntry`).
+    pub(crate) dual_entry: PhaseSet,
+    /// The phases with a walk (`phaseWalk`).
+    pub(crate) with_walk: PhaseSet,
+    /// Of each ring, its phases (`phaseRing`).
+    pub(crate) rings: [u16; 2],
+    /// Of each side, its phases (`phaseSide`).
+    pub(crate) sides: [u16; 4],
+    /// Of each phase, the vehicle detectors that call it (`vehicleDetectorCallPhase`).
+    pub(crate) detectors: [u16; 16],
+    /// Of each phase, the pedestrian detectors that call it (`pedestrianDetectorCallPhase`).
+    pub(crate) pedestrian_detectors: [u16; 16],
+}
+
+impl PhaseTables {
+    /// The tables of a plan.
+    pub(crate) fn of(plan: &Plan) -> PhaseTables
+        ensures { ArePhaseTables (plan_of plan.now) result }
+    {
+        PhaseTables {
+            enabled: phases_with(plan, Object::PhaseEnabled),
+            non_locking: phases_with(plan, Object::PhaseNonLock),
+            minimum_recall: phases_with(plan, Object::PhaseMinRecall),
+            maximum_recall: phases_with(plan, Object::PhaseMaxRecall),
+            pedestrian_recall: phases_with(plan, Object::PhasePedRecall),
+            soft_recall: phases_with(plan, Object::PhaseSoftRecall),
+            dual_entry: phases_with(plan, Object::PhaseDualEntry),
+            with_walk: phases_with_walk(plan),
+            rings: columns(plan, Object::PhaseRing),
+            sides: columns(plan, Object::PhaseSide),
+            detectors: columns(plan, Object::VehicleDetectorCallPhase),
+            pedestrian_detectors: columns(plan, Object::PedestrianDetectorCallPhase),
+        }
+    }
+}
+
+/// The numbers at which the object has that value, which is not 0.
+fn numbers_at(plan: &Plan, object: Object, wanted: u32) -> NumberSet
+    requires few { indices object ≤ 16 }
+    requires some { 1 ≤ wanted }
+    ensures { (n : ℕ) → has_number result n ≡ ((plan_of plan.now).value object n == wanted) }
+{
+    let mut set = NumberSet::empty();
+    for number in 1..object.indices() + 1 {
+        set = set.with(number as u8, plan.at(object, number) == wanted);
+    }
+    set
+}
+
+/// The phases of which an object says yes.
+fn phases_with(plan: &Plan, flag: Object) -> PhaseSet
+    requires { indices flag ≡ 16 }
+    ensures { (p : ℕ) → has result p ≡ ((plan_of plan.now).value flag p == 1) }
+{
+    PhaseSet::from_list(numbers_at(plan, flag, 1).list())
+}
+
+/// The phases with a walk.
+fn phases_with_walk(plan: &Plan) -> PhaseSet
+    ensures { (p : ℕ) → has result p ≡ has_walk (plan_of plan.now) p }
+{
+    let mut set = PhaseSet::empty();
+    for number in 1..17 {
+        let phase = Phase::of(number);
+        set = set.with(phase, plan.walk(phase) != 0);
+    }
+    set
+}
+
+/// For each value from 1 on, the numbers at which the object has it, as a list.
+fn columns<const N: usize>(plan: &Plan, object: Object) -> [u16; N]
+    requires few { indices object ≤ 16 }
+    requires within { N ≤ 16 }
+    ensures full { length result ≡ N }
+    ensures told { (k n : ℕ) → k < N → names (slice_index result k) n ≡ ((plan_of plan.now).value object n == k + 1) }
+{
+    let mut words = [0; N];
+    for k in 0..N {
+        words[k] = numbers_at(plan, object, k as u32 + 1).list();
+    }
+    words
+}
