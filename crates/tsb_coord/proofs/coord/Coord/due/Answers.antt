@@ -1,4 +1,4 @@
-use Rattle.std.proofs.Common.{◌≡◌, ℕ, ◌+◌, ◌%◌, false, Some, None, refl, sym, ap, subst, ◌∙◌}
+use Rattle.std.proofs.Common.{◌≡◌, ℕ, ◌+◌, ◌%◌, false, Some, refl, sym, ap, subst, ◌∙◌}
 use Rattle.tsb_plan.specs.Plan.{Plan}
 use Rattle.tsb_plan.specs.Parts.{is_used, cycle}
 use Rattle.tsb_plan.specs.PlanOf.{plan_of}
@@ -6,7 +6,7 @@ use Rattle.tsb_plan.specs.Running.{running}
 use Rattle.tsb_objects.specs.Checked.{checked_plan}
 use Rattle.tsb_objects.specs.Rules.{first_broken}
 use Rattle.tsb_coord.specs.Cells.{pattern_in}
-use Rattle.tsb_coord.specs.Coordinated.{counter, force_off, agree}
+use Rattle.tsb_coord.specs.Coordinated.{force_off, agree}
 use Rattle.tsb_coord.specs.Layer.{cells_of}
 use Rattle.tsb_coord.specs.Promises.{AreOrders}
 use Rattle.tsb_coord.proofs.WaitLemmas.{IsQuiet, same_orders}
