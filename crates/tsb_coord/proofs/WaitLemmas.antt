@@ -1,15 +1,22 @@
 -- How long the local counter takes to the next force-off instant, and that nothing is ordered anew until then.
-use Rattle.std.proofs.Common.{◌≡◌, ℕ, ◌+◌, ◌-◌, ◌*◌, ◌%◌, ◌<◌, ◌≤◌, ◌==◌, true, false, List, Option, Some, None, sym, ap, ◌∙◌, arith, inl, inr}
-use Rattle.std.proofs.Math.Nat.{mod-eq_of_lt, add-mul-mod_self_right}
+use Rattle.std.proofs.Common.{zero, suc, ◌≡◌, ◌≢◌, ℕ, ◌+◌, ◌-◌, ◌*◌, ◌%◌, ◌<◌, ◌≤◌, ◌==◌, ◌⊎◌, min, Bool, true, false, List, Option, Some, None, refl, sym, ap, subst, ◌∙◌, arith, inl, inr}
+use Rattle.std.proofs.Math.Nat.{mod-eq_of_lt, mod-lt, add-mul-mod_self_right}
 use Rattle.std.proofs.lemmas.Bool.{cases_lt, ne_eqb}
-use Rattle.tsb_plan.specs.Plan.{Plan}
+use Rattle.std.proofs.lemmas.Bool.Decides.{nat_tests}
+use Rattle.tsb_types.specs.Lists.{first, run_from}
+use Rattle.tsb_plan.specs.Plan.{Plan, is_enabled}
+use Rattle.tsb_plan.specs.declared.object.Object.TheVariants.{PatternCycleTime}
+use Rattle.tsb_plan.specs.declared.plan.Plan as memory
+use Rattle.tsb_plan.specs.PlanOf.{plan_of}
 use Rattle.tsb_plan.specs.Parts.{is_used, cycle, offset}
-use Rattle.tsb_plan.specs.Running.{running}
+use Rattle.tsb_plan.specs.Running.{running, coordinates_in, is_coordinated_now}
 use Rattle.tsb_objects.specs.Rules.{first_broken}
-use Rattle.tsb_objects.proofs.ConsistentLemmas.{whole}
+use Rattle.tsb_objects.specs.Consistent.{IsWhole, AreCoordinated}
+use Rattle.tsb_objects.proofs.ConsistentLemmas.{whole, coordinated}
 use Rattle.tsb_coord.specs.declared.coordination.Coordination.{Coordination}
 use Rattle.tsb_coord.specs.Cells.{pattern_in}
-use Rattle.tsb_coord.specs.Coordinated.{counter, local_in, force_off, agree, asks_force_off}
+use Rattle.tsb_coord.specs.Coordinated.{counter, local_in, instant_from, reference, force_off, agree, asks_force_off}
+use Rattle.tsb_coord.specs.Due.{ForcesOff, IsMet, IsExact}
 use Rattle.tsb_coord.specs.Promises.{AreOrders}
 use Rattle.tsb_coord.proofs.LocalLemmas.{counter_moves_on}
 
@@ -32,6 +39,47 @@ not_yet m local i k earlier below before =
           ap (λ x. x % m == i) turn
           ∙ ap (λ x. x == i) (add-mul-mod_self_right (local + k - m) 1 m ∙ mod-eq_of_lt rest)
           ∙ ne_eqb (local + k - m) i (λ e. omega (arith, e, before, over))
+    ]
+
+-- an instant is met: later in this cycle, and in the next
+same_number : (a b : ℕ) → a ≡ b → (a == b) ≡ true
+same_number a b e = grind (arith, nat_tests, e)
+
+pub met_later : (m local i : ℕ) → local < i → i < m → ((local + (i - local)) % m == i) ≡ true
+met_later m local i later below =
+    let at : local + (i - local) ≡ i = omega arith in
+    same_number _ _ (ap (λ x. x % m) at ∙ mod-eq_of_lt below)
+
+pub met_next : (m local i : ℕ) → i < local → local < m → ((local + (i + m - local)) % m == i) ≡ true
+met_next m local i earlier below =
+    let at : local + (i + m - local) ≡ i + 1 * m = omega arith in
+    let within : i < m = omega arith in
+    same_number _ _ (ap (λ x. x % m) at ∙ add-mul-mod_self_right i 1 m ∙ mod-eq_of_lt within)
+
+-- each instant is met within a cycle
+pub met_within : (m local i : ℕ) → local < m → i < m → (k : ℕ) × ((k < m) × (((local + k) % m == i) ≡ true))
+met_within m local i here below =
+    elim (cases_lt local i) [
+      | inl later ↦ (i - local, (omega arith, met_later m local i later below))
+      | inr from ↦ elim (cases_lt i local) [
+        | inl earlier ↦ (i + m - local, (omega (arith, earlier), met_next m local i earlier here))
+        | inr to ↦ (let at : local + 0 ≡ i = omega (arith, from, to) in
+            (0, (omega arith, same_number _ _ (ap (λ x. x % m) at ∙ mod-eq_of_lt below))))
+      ]
+    ]
+
+-- the lesser of two waits is met, where each is met or a whole cycle
+pub met_least : {A : Type 0} (test : A → Option ℕ) (m local ticks other : ℕ) (a : A) →
+    ((ticks ≡ m) ⊎ ((x : A) × IsMet m local (test x) ticks)) → ((other ≡ m) ⊎ IsMet m local (test a) other) →
+    ((min ticks other ≡ m) ⊎ ((x : A) × IsMet m local (test x) (min ticks other)))
+met_least test m local ticks other a one two =
+    elim (cases_lt other ticks) [
+      | inl less ↦
+          let e : min ticks other ≡ other = omega arith in
+          elim two [ inl whole ↦ inl (e ∙ whole) | inr met ↦ inr (a, subst (λ (x : ℕ). IsMet m local (test a) x) (sym e) met) ]
+      | inr more ↦
+          let e : min ticks other ≡ ticks = omega arith in
+          elim one [ inl whole ↦ inl (e ∙ whole) | inr met ↦ inr (met.0, subst (λ (x : ℕ). IsMet m local (test met.0) x) (sym e) met.1) ]
     ]
 
 -- ## Orders in the meantime
@@ -82,3 +130,104 @@ free_orders plan row now t orders free said = record {
   where
     unasked : (t p : ℕ) → asks_force_off plan t (pattern_in row) p ≡ false
     unasked t p = ap (λ o. agree (local_in plan t o) (force_off plan o p)) free
+
+-- ## Until the next force-off
+
+-- the first of a run that passes a test, where one does
+found : (test : ℕ → Bool) (a n c : ℕ) → a ≤ c → c < a + n → test c ≡ true → (d : ℕ) × (first test (run_from a n) ≡ Some d)
+unfolding run_from
+found test a zero c from below passes = absurd (omega arith)
+found test a (suc n) c from below passes =
+    go (test a) refl (λ other. found test (a + 1) n c (omega (arith, other)) (omega arith) passes)
+  where
+    both_ways : false ≡ true → ⊥
+    both_ways e = cc
+
+    step : test a ≡ false → ((d : ℕ) × (first test (run_from (a + 1) n) ≡ Some d)) → (d : ℕ) × (first test (run_from a (suc n)) ≡ Some d)
+    step e rest = (rest.0, rw e rest.1)
+
+    go : (b : Bool) → test a ≡ b → (a ≢ c → ((d : ℕ) × (first test (run_from (a + 1) n) ≡ Some d))) → (d : ℕ) × (first test (run_from a (suc n)) ≡ Some d)
+    go true e later = (a, rw e refl)
+    go false e later = step e (later (λ same. both_ways (sym e ∙ ap test same ∙ passes)))
+
+-- a pattern that runs has a force-off instant, that of a coordinated phase
+pub record HasInstant (plan : Plan) (n : ℕ) : Type 0 where
+  pub phase : ℕ
+  pub from_one : 1 ≤ phase
+  pub within : phase ≤ plan.phase_count
+  pub instant : ℕ
+  pub is : force_off plan (Some n) phase ≡ Some instant
+  pub below : instant < cycle plan n
+
+pub has_instant : (plan : Plan) → first_broken plan ≡ None → (n : ℕ) → 1 ≤ n → n ≤ 16 → is_used plan n ≡ true → HasInstant plan n
+unfolding force_off
+has_instant plan none n from_one within used =
+    let parts : IsWhole plan n = whole plan none n from_one within used in
+    let them : AreCoordinated plan parts.its_sequence parts.its_split = coordinated plan none n parts.its_sequence parts.its_split parts.in_use in
+    let named : is_coordinated_now plan (Some n) them.one ≡ true = ap (λ o. coordinates_in plan o them.one) parts.in_use.split ∙ them.is_one in
+    let enabled : is_enabled plan them.one ≡ true = them.enabled them.one them.is_phase them.is_one in
+    let counted : (d : ℕ) × (reference plan n ≡ Some d) =
+    found (is_coordinated_now plan (Some n)) 1 plan.phase_count them.one them.is_phase.from_one (let to : them.one ≤ plan.phase_count = them.is_phase.within in omega arith) named in
+    let offset_below : offset plan n < cycle plan n = parts.below in
+    record {
+      phase = them.one;
+      from_one = them.is_phase.from_one;
+      within = them.is_phase.within;
+      instant = instant_from plan n counted.0 them.one;
+      is = rw (enabled, counted.1) refl;
+      below = mod-lt _ (omega (arith, offset_below));
+    }
+
+-- so it is no whole cycle until one is met
+pub no_whole_cycle : (plan : Plan) → plan.phase_count ≤ 16 → first_broken plan ≡ None → (n now ticks : ℕ) → 1 ≤ n → n ≤ 16 → is_used plan n ≡ true →
+    counter plan n now < cycle plan n → IsQuiet plan n now ticks → 1 < cycle plan n → ticks ≡ cycle plan n → ⊥
+no_whole_cycle plan few none n now ticks from_one within used here quiet some whole_cycle =
+    let one : HasInstant plan n = has_instant plan none n from_one within used in
+    let met : (k : ℕ) × ((k < cycle plan n) × (((counter plan n now + k) % cycle plan n == one.instant) ≡ true)) =
+    met_within (cycle plan n) (counter plan n now) one.instant here one.below in
+    let to : one.phase ≤ plan.phase_count = one.within in
+    let never : agree (Some ((counter plan n now + met.0) % cycle plan n)) (force_off plan (Some n) one.phase) ≡ false =
+    quiet.at one.phase met.0 one.from_one (omega arith) (let less : met.0 < cycle plan n = met.1.0 in omega (arith, less, whole_cycle)) (omega (arith, some, whole_cycle)) in
+    both_ways (sym (ap (λ o. agree (Some ((counter plan n now + met.0) % cycle plan n)) o) one.is ∙ met.1.1) ∙ never)
+  where
+    both_ways : true ≡ false → ⊥
+    both_ways e = cc
+
+-- a phase whose instant is met is forced off then, or is now
+pub forces_off : (plan : Plan) → first_broken plan ≡ None → (n now ticks p : ℕ) → 1 ≤ n → n ≤ 16 → is_used plan n ≡ true →
+    (selected : Option ℕ) → running plan selected ≡ Some n → IsMet (cycle plan n) (counter plan n now) (force_off plan (Some n) p) ticks →
+    ForcesOff plan selected (now + ticks) ⊎ ((now + ticks ≡ now + 1) × ForcesOff plan selected now)
+forces_off plan none n now ticks p from_one within used selected runs met =
+    let below : offset plan n < cycle plan n = (whole plan none n from_one within used).below in
+    elim met [
+      | inl then ↦ inl (
+        p,
+        ap (λ o. agree (local_in plan (now + ticks) o) (force_off plan o p)) runs
+            ∙ ap (λ x. agree (Some x) (force_off plan (Some n) p)) (counter_moves_on plan n now ticks below) ∙ then,
+      )
+      | inr here ↦ inr (ap (λ (k : ℕ). now + k) here.0, (p, ap (λ o. agree (local_in plan now o) (force_off plan o p)) runs ∙ here.1))
+    ]
+
+some_cycle : (plan : Plan) (n : ℕ) → is_used plan n ≡ true → 1 < cycle plan n
+some_cycle plan n used = let some : 1 ≤ plan.value PatternCycleTime n = grind (arith, nat_tests, used) in omega arith
+
+-- a plan in memory has 16 phases
+pub few : (plan : memory.Plan) → (plan_of plan).phase_count ≤ 16
+unfolding plan_of
+few plan = omega arith
+
+pub is_exact : (plan : Plan) → plan.phase_count ≤ 16 → first_broken plan ≡ None → (n now ticks local : ℕ) → 1 ≤ n → n ≤ 16 → is_used plan n ≡ true →
+    (row : List ℕ) → running plan (pattern_in row) ≡ Some n → local ≡ counter plan n now → local < cycle plan n → IsQuiet plan n now ticks →
+    ((ticks ≡ cycle plan n) ⊎ ((p : ℕ) × IsMet (cycle plan n) local (force_off plan (Some n) p) ticks)) → IsExact now plan row (now + ticks)
+is_exact plan most none n now ticks local from_one within used row runs told below quiet met =
+    let here : counter plan n now < cycle plan n = subst (λ (x : ℕ). x < cycle plan n) told below in
+    let forces : ForcesOff plan (pattern_in row) (now + ticks) ⊎ ((now + ticks ≡ now + 1) × ForcesOff plan (pattern_in row) now) =
+    elim met [
+      | inl whole_cycle ↦ absurd (no_whole_cycle plan most none n now ticks from_one within used here quiet (some_cycle plan n used) whole_cycle)
+      | inr it ↦ forces_off plan none n now ticks it.0 from_one within used (pattern_in row) runs
+          (subst (λ (x : ℕ). IsMet (cycle plan n) x (force_off plan (Some n) it.0) ticks) told it.1)
+    ] in
+    record { runs = λ m is. forces; free = λ is. absurd (not_both (pattern_in row) n runs is) }
+  where
+    not_both : (selected : Option ℕ) (n : ℕ) → running plan selected ≡ Some n → running plan selected ≡ None → ⊥
+    not_both selected n one other = cc

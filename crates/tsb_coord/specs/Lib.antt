@@ -2,6 +2,7 @@ pub mod Coordinated
 pub mod Cells
 pub mod Promises
 pub mod Layer
+pub mod Due
 pub mod Laws
 pub mod Examples
 pub mod PatternExamples

@@ -9,7 +9,7 @@ ghost use Rattle.tsb_types.specs.declared.refusal.Refusal.{Refusal};
 ghost use Rattle.tsb_types.specs.Sets.{has};
 ghost use Rattle.tsb_coord.specs.Cells.{pattern_in, IsBy};
 ghost use Rattle.tsb_coord.specs.Coordinated.{refusal};
-ghost use Rattle.tsb_coord.specs.declared.coordination.Coordination.{Coordination};
+ghost use Rattle.tsb_coord.specs.Due.{KeepsOrders, IsExact};
 ghost use Rattle.tsb_coord.specs.Promises.{IsAtPowerUp, AreOrders, IsAnswered, IsSelected, TellsLocal, TellsPattern};
 
 use crate::CELLS;
@@ -173,9 +173,8 @@ impl Coord {
         requires by { IsBy (cells_of self.now) }
         requires in_time { now ≤ 6000000 }
         ensures later { now < result }
-        ensures quiet { (t : ℕ) → now < t → t < result → (orders : Coordination) →
-            AreOrders now (checked_plan plan.now) (cells_of self.now) orders →
-            AreOrders t (checked_plan plan.now) (cells_of self.now) orders }
+        ensures quiet { KeepsOrders now (checked_plan plan.now) (cells_of self.now) result }
+        ensures exact { IsExact now (checked_plan plan.now) (cells_of self.now) result }
     {
         match self.running(plan) {
             None => TICKS + 1,

@@ -1,8 +1,9 @@
 //! How long the local counter takes to the next force-off instant.
-ghost use Rattle.std.specs.Prelude.{◌≡◌, ◌≤◌, ◌<◌, ◌+◌, ◌%◌, ℕ, true, false, Some, IfSome};
+ghost use Rattle.std.specs.Prelude.{◌≡◌, ◌≤◌, ◌<◌, ◌+◌, ◌%◌, ◌⊎◌, ℕ, true, false, Some, IfSome};
 ghost use Rattle.tsb_plan.specs.Parts.{cycle, is_used};
 ghost use Rattle.tsb_plan.specs.PlanOf.{plan_of};
 ghost use Rattle.tsb_coord.specs.Coordinated.{force_off, agree};
+ghost use Rattle.tsb_coord.specs.Due.{IsMet};
 
 use crate::instants::{instant, reference};
 use crate::patterns::cycle_of;
@@ -17,6 +18,7 @@ fn ticks_to(cycle: u32, local: u32, instant: &Option<u32>) -> u32
     ensures from_one { 1 ≤ result }
     ensures within { result ≤ cycle }
     ensures quiet { (k : ℕ) → k < result → 1 < result → agree (Some ((local + k) % cycle)) instant.now ≡ false }
+    ensures met { (result ≡ cycle) ⊎ IsMet cycle local instant.now result }
 {
     match instant {
         None => cycle,
@@ -40,6 +42,8 @@ pub(crate) fn ticks_to_next(plan: &Plan, n: Pattern, local: u32) -> u32
     ensures within { result ≤ 2550 }
     ensures quiet { (p k : ℕ) → 1 ≤ p → p ≤ 16 → k < result → 1 < result →
         agree (Some ((local + k) % cycle (plan_of plan.now) n)) (force_off (plan_of plan.now) (Some n) p) ≡ false }
+    ensures met { (result ≡ cycle (plan_of plan.now) n)
+        ⊎ ((p : ℕ) × IsMet (cycle (plan_of plan.now) n) local (force_off (plan_of plan.now) (Some n) p) result) }
 {
     let cycle = cycle_of(plan, n);
     let from = reference(plan, n);

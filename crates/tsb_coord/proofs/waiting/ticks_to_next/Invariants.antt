@@ -1,7 +1,8 @@
-use Rattle.std.proofs.Common.{◌≡◌, ℕ, ◌+◌, ◌%◌, ◌<◌, ◌≤◌, false, Some}
+use Rattle.std.proofs.Common.{◌≡◌, ℕ, ◌+◌, ◌%◌, ◌<◌, ◌≤◌, ◌⊎◌, false, Some}
 use Rattle.tsb_plan.specs.PlanOf.{plan_of}
 use Rattle.tsb_plan.specs.Parts.{cycle}
 use Rattle.tsb_coord.specs.Coordinated.{force_off, agree}
+use Rattle.tsb_coord.specs.Due.{IsMet}
 use Rattle.tsb_coord.proofs.waiting.ticks_to_next.Given as goal
 
 -- no phase so far is forced off earlier
@@ -12,4 +13,5 @@ invariant-loop-number l = record {
   within : l.ticks ≤ l.cycle;
   quiet : (p k : ℕ) → 1 ≤ p → p < l.number → k < l.ticks → 1 < l.ticks →
       agree (Some ((l.local + k) % cycle (plan_of l.plan) l.n)) (force_off (plan_of l.plan) (Some l.n) p) ≡ false;
+  met : (l.ticks ≡ l.cycle) ⊎ ((p : ℕ) × IsMet l.cycle l.local (force_off (plan_of l.plan) (Some l.n) p) l.ticks);
 }

@@ -1,0 +1,29 @@
+-- When the orders of coordination may next be others: the clauses of `Coord::due`, over the cell `row` and a tick `now`.
+use Rattle.std.specs.Prelude.{◌≡◌, ℕ, ◌+◌, ◌%◌, ◌<◌, ◌⊎◌, true, List, Option, Some, None}
+use Rattle.tsb_plan.specs.Plan.{Plan}
+use Rattle.tsb_plan.specs.Running.{running}
+use Rattle.tsb_coord.specs.declared.coordination.Coordination.{Coordination}
+use Rattle.tsb_coord.specs.Cells.{pattern_in}
+use Rattle.tsb_coord.specs.Coordinated.{agree, asks_force_off}
+use Rattle.tsb_coord.specs.Promises.{AreOrders}
+
+-- clause `quiet`: the orders of `now` are those of each tick in between
+abbrev pub KeepsOrders : ℕ → Plan → List ℕ → ℕ → Type 0
+KeepsOrders now plan row result = (t : ℕ) → now < t → t < result →
+    (orders : Coordination) → AreOrders now plan row orders → AreOrders t plan row orders
+
+-- a phase is forced off in tick t
+abbrev pub ForcesOff : Plan → Option ℕ → ℕ → Type 0
+ForcesOff plan selected t = (p : ℕ) × (asks_force_off plan t selected p ≡ true)
+
+-- clause `exact`: while a pattern runs, a phase is forced off in that tick, or it is the next and a phase is forced off now;
+-- in free operation it is behind the last tick that there is
+pub record IsExact (now : ℕ) (plan : Plan) (row : List ℕ) (result : ℕ) : Type 0 where
+  pub runs : (n : ℕ) → running plan (pattern_in row) ≡ Some n →
+      ForcesOff plan (pattern_in row) result ⊎ ((result ≡ now + 1) × ForcesOff plan (pattern_in row) now)
+  pub free : running plan (pattern_in row) ≡ None → result ≡ 6000001
+
+-- the local counter is at the instant so many ticks later, or it is there now and it is one tick
+abbrev pub IsMet : ℕ → ℕ → Option ℕ → ℕ → Type 0
+IsMet cycle local instant ticks =
+    (agree (Some ((local + ticks) % cycle)) instant ≡ true) ⊎ ((ticks ≡ 1) × (agree (Some local) instant ≡ true))
