@@ -4,15 +4,18 @@
 ghost use Rattle.std.specs.Prelude.{◌≡◌, None};
 ghost use Rattle.tsb_plan.specs.PlanOf.{plan_of};
 ghost use Rattle.tsb_objects.specs.Rules.{first_broken};
+ghost use Rattle.tsb_objects.specs.PatternTables.{ArePatternTables};
 ghost use Rattle.tsb_objects.specs.Tables.{ArePhaseTables};
 
+mod patterns;
 mod phases;
 
+use crate::pattern_tables::PatternTables;
 use crate::rules::{Rule, check};
 use crate::tables::PhaseTables;
 use tsb_plan::Plan;
 
-/// A plan that may be run, with tables of what it says of all phases and detectors at once.
+/// A plan that may be run, with tables of what it says of all phases and detectors at once, also while a pattern runs.
 ///
 /// Its plan meets the rules and stays as it is: a `Checked` is made by `Checked::new` and `Checked::known`
 /// alone, so who is handed one has nothing to check.
@@ -20,8 +23,10 @@ use tsb_plan::Plan;
 pub struct Checked {
     plan: Plan,
     phase_tables: PhaseTables,
+    pattern_tables: PatternTables,
     ghost passed: { first_broken (plan_of plan) ≡ None },
     ghost phases_are: { ArePhaseTables (plan_of plan) phase_tables },
+    ghost patterns_are: { ArePatternTables (plan_of plan) pattern_tables },
 }
 
 impl Checked {
@@ -48,6 +53,7 @@ impl Checked {
         Checked {
             plan,
             phase_tables: PhaseTables::of(&plan),
+            pattern_tables: PatternTables::of(&plan),
         }
     }
 

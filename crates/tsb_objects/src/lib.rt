@@ -8,6 +8,8 @@
 pub mod built;
 pub mod checked;
 pub mod consistent;
+mod instants;
+mod pattern_tables;
 pub mod rules;
 mod tables;
 

@@ -10,6 +10,7 @@ mod overlaps;
 mod patterns;
 mod phases;
 mod preempts;
+mod running;
 
 use crate::object::{Object, ObjectId, range_of};
 pub use patterns::SplitMode;

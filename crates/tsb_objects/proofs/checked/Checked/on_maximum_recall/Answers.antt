@@ -1,0 +1,11 @@
+use Rattle.std.proofs.Common.{ℕ, ◌∙◌, ap, Option}
+use Rattle.tsb_objects.specs.Checked.{checked_plan}
+use Rattle.tsb_plan.specs.PlanOf.{plan_of}
+use Rattle.tsb_plan.specs.Running.{is_on_maximum_recall}
+use Rattle.tsb_objects.proofs.checked.Checked.on_maximum_recall.Goals as goal
+
+pub returns : goal.returns
+unfolding checked_plan plan_of
+returns c p from within =
+    c.from_list.ensures p ∙ c.args.self.now.patterns_are.maximum_recall c.word_of.result p c.word_of.ensures.within from within
+    ∙ ap (λ (runs : Option ℕ). is_on_maximum_recall (plan_of c.args.self.now.plan) runs p) c.word_of.ensures.runs

@@ -1,0 +1,44 @@
+-- The tables of a checked plan that are of a pattern that runs, or of free operation.
+use Rattle.std.specs.Prelude.{◌≡◌, ℕ, ◌+◌, ◌-◌, ◌*◌, ◌<◌, ◌≤◌, ◌==◌, Bool, true, if◌then◌else◌, List, Option, Some, None, slice_index}
+use Rattle.tsb_plan.specs.Parts.{is_used, unless_zero}
+use Rattle.tsb_plan.specs.Plan.{Plan}
+use Rattle.tsb_plan.specs.Running.{is_coordinated_now, is_omitted_now, is_on_minimum_recall, is_on_maximum_recall, is_on_pedestrian_recall}
+use Rattle.tsb_objects.specs.declared.pattern_tables.Asked.{Asked}
+use Rattle.tsb_objects.specs.declared.pattern_tables.Asked.TheVariants.{Coordinated, Omitted, MinimumRecall, MaximumRecall, PedestrianRecall}
+use Rattle.tsb_objects.specs.declared.pattern_tables.PatternTables.{PatternTables}
+use Rattle.tsb_objects.specs.Instants.{force_off}
+use Rattle.tsb_types.specs.Sets.{names}
+
+-- what is asked of phase p while a pattern runs, or in free operation
+abbrev pub is_so : Asked → Plan → Option ℕ → ℕ → Bool
+is_so Coordinated plan runs p = is_coordinated_now plan runs p
+is_so Omitted plan runs p = is_omitted_now plan runs p
+is_so MinimumRecall plan runs p = is_on_minimum_recall plan runs p
+is_so MaximumRecall plan runs p = is_on_maximum_recall plan runs p
+is_so PedestrianRecall plan runs p = is_on_pedestrian_recall plan runs p
+
+-- word 0 is of free operation, word n of pattern n; each is the list of the phases of which it is so
+abbrev pub AreInEffect : Plan → Asked → List ℕ → Type 0
+AreInEffect plan asked words =
+    (k p : ℕ) → k < 17 → 1 ≤ p → p ≤ 16 → names (slice_index words k) p ≡ is_so asked plan (unless_zero k) p
+
+-- an instant as a word has it: one that is no local counter stands for none
+abbrev pub never : ℕ
+never = 65535
+
+abbrev pub instant_in : ℕ → Option ℕ
+instant_in word = if word == never then None else Some word
+
+-- words 16 (n - 1) to 16 (n - 1) + 15 are of pattern n, one for each phase
+abbrev pub AreInstants : Plan → List ℕ → Type 0
+AreInstants plan words =
+    (n p : ℕ) → 1 ≤ n → n ≤ 16 → 1 ≤ p → p ≤ 16 → is_used plan n ≡ true →
+    instant_in (slice_index words (16 * (n - 1) + (p - 1))) ≡ force_off plan (Some n) p
+
+pub record ArePatternTables (plan : Plan) (tables : PatternTables) : Type 0 where
+  pub coordinated : AreInEffect plan Coordinated tables.coordinated
+  pub omitted : AreInEffect plan Omitted tables.omitted
+  pub minimum_recall : AreInEffect plan MinimumRecall tables.minimum_recall
+  pub maximum_recall : AreInEffect plan MaximumRecall tables.maximum_recall
+  pub pedestrian_recall : AreInEffect plan PedestrianRecall tables.pedestrian_recall
+  pub instants : AreInstants plan tables.instants

@@ -1,0 +1,98 @@
+//! What a checked plan says of all its phases while a pattern runs: `runs` is the pattern that runs, and `None`
+//! in free operation. Times are in tenths of a second.
+#![tactic(auto, unfolding(tsb_plan::specs::PlanOf::plan_of, crate::specs::Checked::checked_plan))]
+
+ghost use Rattle.std.specs.Prelude.{◌≡◌, ℕ, ◌<◌, ◌≤◌, true, Some, IfSome};
+ghost use Rattle.tsb_objects.specs.Checked.{checked_plan};
+ghost use Rattle.tsb_objects.specs.Instants.{force_off, agree};
+ghost use Rattle.tsb_plan.specs.Parts.{cycle, is_used, unless_zero};
+ghost use Rattle.tsb_plan.specs.Running.{sequence_in_effect, is_coordinated_now, is_omitted_now, is_on_minimum_recall, is_on_maximum_recall, is_on_pedestrian_recall};
+ghost use Rattle.tsb_types.specs.Sets.{has};
+
+use crate::checked::Checked;
+use crate::pattern_tables::{forced_in, instant_at};
+use tsb_types::{Pattern, Phase, PhaseSet, Sequence};
+
+/// Which word of a table is of the pattern that runs.
+#[inline(always)]
+fn word_of(runs: Option<Pattern>) -> usize
+    ensures runs { unless_zero result ≡ runs }
+    ensures within { result < 17 }
+{
+    match runs {
+        None => 0,
+        Some(n) => usize::from(n.number()),
+    }
+}
+
+impl Checked {
+    /// The sequence in effect: the pattern's, or sequence 1 in free operation.
+    #[inline(always)]
+    pub fn sequence_in_effect(&self, runs: Option<Pattern>) -> Sequence
+        ensures { result ≡ sequence_in_effect (checked_plan self.now) runs }
+    {
+        self.plan.sequence_in_effect(runs)
+    }
+
+    /// The coordinated phases of the pattern that runs (`splitCoordPhase`); none in free operation.
+    #[inline(always)]
+    pub fn coordinated(&self, runs: Option<Pattern>) -> PhaseSet
+        ensures { (p : ℕ) → 1 ≤ p → p ≤ 16 → has result p ≡ is_coordinated_now (checked_plan self.now) runs p }
+    {
+        PhaseSet::from_list(self.pattern_tables.coordinated[word_of(runs)])
+    }
+
+    /// The phases that the split mode in effect omits (`splitMode`); none in free operation.
+    #[inline(always)]
+    pub fn omitted(&self, runs: Option<Pattern>) -> PhaseSet
+        ensures { (p : ℕ) → 1 ≤ p → p ≤ 16 → has result p ≡ is_omitted_now (checked_plan self.now) runs p }
+    {
+        PhaseSet::from_list(self.pattern_tables.omitted[word_of(runs)])
+    }
+
+    /// The phases with minimum recall in effect: their own, that of their split mode, or as coordinated
+    /// phases.
+    #[inline(always)]
+    pub fn on_minimum_recall(&self, runs: Option<Pattern>) -> PhaseSet
+        ensures { (p : ℕ) → 1 ≤ p → p ≤ 16 → has result p ≡ is_on_minimum_recall (checked_plan self.now) runs p }
+    {
+        PhaseSet::from_list(self.pattern_tables.minimum_recall[word_of(runs)])
+    }
+
+    /// The phases with maximum recall in effect: their own, or that of their split mode.
+    #[inline(always)]
+    pub fn on_maximum_recall(&self, runs: Option<Pattern>) -> PhaseSet
+        ensures { (p : ℕ) → 1 ≤ p → p ≤ 16 → has result p ≡ is_on_maximum_recall (checked_plan self.now) runs p }
+    {
+        PhaseSet::from_list(self.pattern_tables.maximum_recall[word_of(runs)])
+    }
+
+    /// The phases with pedestrian recall in effect: their own, or that of their split mode.
+    #[inline(always)]
+    pub fn on_pedestrian_recall(&self, runs: Option<Pattern>) -> PhaseSet
+        ensures { (p : ℕ) → 1 ≤ p → p ≤ 16 → has result p ≡ is_on_pedestrian_recall (checked_plan self.now) runs p }
+    {
+        PhaseSet::from_list(self.pattern_tables.pedestrian_recall[word_of(runs)])
+    }
+
+    /// The force-off instant of a phase in a pattern that is used, on the local counter; none of a phase that is
+    /// not in use.
+    #[inline(always)]
+    pub fn force_off(&self, n: Pattern, p: Phase) -> Option<u32>
+        requires used { is_used (checked_plan self.now) n ≡ true }
+        ensures value { result ≡ force_off (checked_plan self.now) (Some n) p }
+        ensures below { IfSome result (λ i. i < cycle (checked_plan self.now) n) }
+    {
+        instant_at(&self.pattern_tables.instants, n, p)
+    }
+
+    /// The phases whose force-off instant in a pattern that is used is that local counter.
+    #[inline(always)]
+    pub fn forced_at(&self, n: Pattern, local: u32) -> PhaseSet
+        requires used { is_used (checked_plan self.now) n ≡ true }
+        ensures { (p : ℕ) → 1 ≤ p → p ≤ 16 →
+            has result p ≡ agree (Some local) (force_off (checked_plan self.now) (Some n) p) }
+    {
+        forced_in(&self.pattern_tables.instants, n, local)
+    }
+}

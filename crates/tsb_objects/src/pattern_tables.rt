@@ -1,0 +1,173 @@
+//! What a plan says of all its phases while a pattern runs, and in free operation.
+#![tactic(auto, unfolding(tsb_plan::specs::PlanOf::plan_of))]
+
+ghost use Rattle.std.specs.Prelude.{◌≡◌, ◌≢◌, ℕ, ◌+◌, ◌-◌, ◌*◌, ◌<◌, ◌≤◌, true, false, Some, length, slice_index};
+ghost use Rattle.tsb_objects.specs.PatternTables.{is_so, AreInEffect, AreInstants, ArePatternTables, instant_in};
+ghost use Rattle.tsb_objects.specs.Instants.{force_off, agree};
+ghost use Rattle.tsb_plan.specs.Parts.{is_used, unless_zero};
+ghost use Rattle.tsb_plan.specs.PlanOf.{plan_of};
+ghost use Rattle.tsb_types.specs.Sets.{has};
+
+use crate::instants::instant;
+use tsb_plan::Plan;
+use tsb_types::{Pattern, Phase, PhaseSet};
+
+/// The word that stands for no instant: no local counter is so much.
+pub(crate) const NEVER: u16 = 65535;
+
+/// What a table of the pattern that runs asks of a phase.
+#[derive(Clone, Copy)]
+enum Asked {
+    Coordinated,
+    Omitted,
+    MinimumRecall,
+    MaximumRecall,
+    PedestrianRecall,
+}
+
+/// What a plan says of all its phases while a pattern runs. Of an array of 17 words word 0 is of free
+/// operation and word `n` of pattern `n`, each a list of phases, as `phaseConcurrency` has it.
+#[derive(Clone, Copy, Debug, PartialEq, Eq)]
+pub struct PatternTables {
+    /// The coordinated phases (`splitCoordPhase`).
+    pub(crate) coordinated: [u16; 17],
+    /// The phases that are omitted (`splitMode`).
+    pub(crate) omitted: [u16; 17],
+    /// The phases with minimum recall in effect.
+    pub(crate) minimum_recall: [u16; 17],
+    /// The phases with maximum recall in effect.
+    pub(crate) maximum_recall: [u16; 17],
+    /// The phases with pedestrian recall in effect.
+    pub(crate) pedestrian_recall: [u16; 17],
+    /// The force-off instants of the phases, 16 of each pattern, or `NEVER`.
+    pub(crate) instants: [u16; 256],
+}
+
+impl PatternTables {
+    /// The tables of a plan.
+    pub(crate) fn of(plan: &Plan) -> PatternTables
+        ensures { ArePatternTables (plan_of plan.now) result }
+    {
+        PatternTables {
+            coordinated: in_effect(plan, Asked::Coordinated),
+            omitted: in_effect(plan, Asked::Omitted),
+            minimum_recall: in_effect(plan, Asked::MinimumRecall),
+            maximum_recall: in_effect(plan, Asked::MaximumRecall),
+            pedestrian_recall: in_effect(plan, Asked::PedestrianRecall),
+            instants: instants(plan),
+        }
+    }
+}
+
+/// The pattern that runs, of which word `k` is; none for word 0.
+fn runs_at(k: usize) -> Option<Pattern>
+    requires { k < 17 }
+    ensures { result ≡ unless_zero k }
+{
+    Pattern::new(k as u32)
+}
+
+/// Whether that is so of a phase while the pattern of word `k` runs.
+fn is_so(plan: &Plan, k: usize, asked: Asked, phase: Phase) -> bool
+    requires { k < 17 }
+    ensures { result ≡ is_so asked (plan_of plan.now) (unless_zero k) phase }
+{
+    match asked {
+        Asked::Coordinated => plan.is_coordinated_now(runs_at(k), phase),
+        Asked::Omitted => plan.is_omitted_now(runs_at(k), phase),
+        Asked::MinimumRecall => plan.is_on_minimum_recall(runs_at(k), phase),
+        Asked::MaximumRecall => plan.is_on_maximum_recall(runs_at(k), phase),
+        Asked::PedestrianRecall => plan.is_on_pedestrian_recall(runs_at(k), phase),
+    }
+}
+
+/// The phases of which that is so while the pattern of word `k` runs.
+fn phases_so(plan: &Plan, k: usize, asked: Asked) -> PhaseSet
+    requires { k < 17 }
+    ensures { (p : ℕ) → 1 ≤ p → p ≤ 16 → has result p ≡ is_so asked (plan_of plan.now) (unless_zero k) p }
+{
+    let mut set = PhaseSet::empty();
+    for number in 1..17 {
+        let phase = Phase::of(number);
+        set = set.with(phase, is_so(plan, k, asked, phase));
+    }
+    set
+}
+
+/// The phases of which that is so, in free operation and in each pattern.
+fn in_effect(plan: &Plan, asked: Asked) -> [u16; 17]
+    ensures full { length result ≡ 17 }
+    ensures told { AreInEffect (plan_of plan.now) asked result }
+{
+    let mut words = [0; 17];
+    for k in 0..17 {
+        words[k] = phases_so(plan, k, asked).list();
+    }
+    words
+}
+
+/// The force-off instant of a phase in a pattern, as a word; of a pattern that is not used it has no meaning.
+fn instant_word(plan: &Plan, n: Pattern, p: Phase) -> u16
+    ensures { is_used (plan_of plan.now) n ≡ true → instant_in result ≡ force_off (plan_of plan.now) (Some n) p }
+{
+    if !plan.is_used(n) {
+        return NEVER;
+    }
+    match instant(plan, n, p) {
+        Some(at) => at as u16,
+        None => NEVER,
+    }
+}
+
+/// The force-off instants of all phases in each pattern.
+fn instants(plan: &Plan) -> [u16; 256]
+    ensures full { length result ≡ 256 }
+    ensures told { AreInstants (plan_of plan.now) result }
+{
+    let mut words = [NEVER; 256];
+    for k in 0..256usize {
+        let pattern = Pattern::of((k / 16) as u8 + 1);
+        let phase = Phase::of((k % 16) as u8 + 1);
+        words[k] = instant_word(plan, pattern, phase);
+    }
+    words
+}
+
+/// The instant of a phase in a pattern, among the words of all.
+#[inline(always)]
+pub(crate) fn instant_at(words: &[u16; 256], n: Pattern, p: Phase) -> Option<u32>
+    ensures { result ≡ instant_in (slice_index words.now (16 * (n - 1) + (p - 1))) }
+{
+    let at = words[16 * (usize::from(n.number()) - 1) + (usize::from(p.number()) - 1)];
+    if at == NEVER {
+        None
+    } else {
+        Some(u32::from(at))
+    }
+}
+
+/// The set with the phase where `on`, of a set that has it not: it only adds.
+#[inline(always)]
+fn joined(set: PhaseSet, p: Phase, on: bool) -> PhaseSet
+    requires { has set p ≡ false }
+    ensures set { has result p ≡ on }
+    ensures others { (q : ℕ) → q ≢ p → has result q ≡ has set q }
+{
+    if on { set.with(p, true) } else { set }
+}
+
+/// The phases whose instant in a pattern, among the words of all, is that local counter.
+#[inline(always)]
+pub(crate) fn forced_in(words: &[u16; 256], n: Pattern, local: u32) -> PhaseSet
+    ensures { (p : ℕ) → 1 ≤ p → p ≤ 16 →
+        has result p ≡ agree (Some local) (instant_in (slice_index words.now (16 * (n - 1) + (p - 1)))) }
+{
+    let first = 16 * (usize::from(n.number()) - 1);
+    let mut set = PhaseSet::empty();
+    for number in 1..17u8 {
+        let at = words[first + (usize::from(number) - 1)];
+        let on = at != NEVER && local == u32::from(at);
+        set = joined(set, Phase::of(number), on);
+    }
+    set
+}
