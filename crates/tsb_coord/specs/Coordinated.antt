@@ -5,14 +5,14 @@
 --
 -- `t` is the number of this tick, and `selected` the pattern that the operator selected, if any. Times are in ticks, which
 -- are tenths of a second. All is found from these and the plan, so the only state is which pattern is selected.
-use Rattle.std.specs.Prelude.{◌≡◌, ℕ, ◌+◌, ◌-◌, ◌%◌, ◌==◌, nat_le, Bool, false, ◌&&◌, ◌||◌, if◌then◌else◌, List, Option, Some, None}
+use Rattle.std.specs.Prelude.{ℕ, ◌+◌, ◌-◌, ◌%◌, ◌==◌, nat_le, Bool, ◌&&◌, ◌||◌, if◌then◌else◌, List, Option, Some, None}
 use Rattle.tsb_types.specs.declared.refusal.Refusal.{Refusal}
 use Rattle.tsb_types.specs.declared.refusal.Refusal.TheVariants.{NoSuchPattern}
-use Rattle.tsb_types.specs.Lists.{first}
-use Rattle.tsb_plan.specs.Plan.{Plan, phases, is_enabled, yellow_change, red_clear, sequence}
-use Rattle.tsb_plan.specs.Parts.{is_used, cycle, offset, split_of, unless_zero}
+use Rattle.tsb_plan.specs.Plan.{Plan, sequence}
+use Rattle.tsb_plan.specs.Parts.{is_used, cycle, offset, unless_zero}
 use Rattle.tsb_plan.specs.Running.{running, sequence_in_effect, is_coordinated_now, is_omitted_now}
-use Rattle.tsb_objects.specs.PatternRules.{split_end}
+pub use Rattle.tsb_objects.specs.Instants.{residue_of_difference, end_in, end_of, instant_from, is_same_from_both, reference, instant_by, agree}
+unfoldable pub use Rattle.tsb_objects.specs.Instants.{force_off}
 
 -- ## The pattern that runs, and its local counter
 
@@ -32,53 +32,7 @@ local_in plan t (Some n) = Some (counter plan n t)
 abbrev pub local : Plan → ℕ → Option ℕ → Option ℕ
 local plan t selected = local_in plan t (running plan selected)
 
--- ## Force-off
-
--- the residue of a - b, never negative, also where b is greater than a, or than m
-abbrev pub residue_of_difference : ℕ → ℕ → ℕ → ℕ
-residue_of_difference m a b = (a + (m - b % m)) % m
-
--- when the split of p ends in pattern n, counted from the begin of side 1's first split. K17: a pattern that is used has a
--- split table and a sequence.
-abbrev pub end_in : Plan → ℕ → Option ℕ → ℕ → ℕ
-end_in plan n None p = 0
-end_in plan n (Some table) p = split_end plan (sequence_in_effect plan (Some n)) table p
-
-abbrev pub end_of : Plan → ℕ → ℕ → ℕ
-end_of plan n p = end_in plan n (split_of plan n) p
-
--- The force-off instant of p, on the local counter: its split's end less that of the coordinated phase c, and less its
--- yellow change and red clearance, within the cycle. Local 0 is thus the end of the coordinated split.
-abbrev pub instant_from : Plan → ℕ → ℕ → ℕ → ℕ
-instant_from plan n c p =
-    residue_of_difference (cycle plan n) (end_of plan n p) (end_of plan n c + yellow_change plan p + red_clear plan p)
-
--- it is the same from each of two phases whose splits end at one time
-pub is_same_from_both : (plan : Plan) (n c d p : ℕ) →
-    end_of plan n c ≡ end_of plan n d → instant_from plan n c p ≡ instant_from plan n d p
-is_same_from_both plan n c d p e = cc
-
--- The coordinated phase that instants are counted from is the first. Any other gives the same: by K20 a pattern that is used
--- has one at least, and the splits of all its coordinated phases end at one time.
-abbrev pub reference : Plan → ℕ → Option ℕ
-reference plan n = first (is_coordinated_now plan (Some n)) (phases plan)
-
-abbrev pub instant_by : Plan → ℕ → Option ℕ → ℕ → Option ℕ
-instant_by plan n None p = None
-instant_by plan n (Some c) p = Some (instant_from plan n c p)
-
--- the force-off instant of an enabled phase in a pattern that runs; no other phase has one
-unfoldable pub force_off : Plan → Option ℕ → ℕ → Option ℕ
-force_off plan None p = None
-force_off plan (Some n) p = if is_enabled plan p then instant_by plan n (reference plan n) p else None
-
--- ## The orders
-
--- both are numbers, and the same
-abbrev pub agree : Option ℕ → Option ℕ → Bool
-agree None instant = false
-agree (Some m) None = false
-agree (Some m) (Some n) = m == n
+-- ## The orders, by the instants of the plan
 
 -- force-off: the local counter is at the force-off instant of p in this tick
 abbrev pub asks_force_off : Plan → ℕ → Option ℕ → ℕ → Bool
