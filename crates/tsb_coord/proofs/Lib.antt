@@ -1,4 +1,3 @@
 pub mod LocalLemmas
-pub mod InstantLemmas
 pub mod CellLemmas
 pub mod WaitLemmas

@@ -6,7 +6,8 @@ use Rattle.std.proofs.lemmas.Bool.Decides.{nat_tests}
 use Rattle.tsb_types.specs.Lists.{first, run_from}
 use Rattle.tsb_plan.specs.Plan.{Plan, is_enabled}
 use Rattle.tsb_plan.specs.declared.object.Object.TheVariants.{PatternCycleTime}
-use Rattle.tsb_plan.specs.declared.plan.Plan as memory
+use Rattle.tsb_objects.specs.declared.checked.Checked.{Checked}
+use Rattle.tsb_objects.specs.Checked.{checked_plan}
 use Rattle.tsb_plan.specs.PlanOf.{plan_of}
 use Rattle.tsb_plan.specs.Parts.{is_used, cycle, offset}
 use Rattle.tsb_plan.specs.Running.{running, coordinates_in, is_coordinated_now}
@@ -88,6 +89,14 @@ met_least test m local ticks other a one two =
 pub record IsQuiet (plan : Plan) (n now wait : ℕ) : Type 0 where
   pub at : (p k : ℕ) → 1 ≤ p → p ≤ 16 → k < wait → 1 < wait →
       agree (Some ((counter plan n now + k) % cycle plan n)) (force_off plan (Some n) p) ≡ false
+
+-- as the code tells it
+pub quiet_from : (plan : Plan) (n now wait local : ℕ) → local ≡ counter plan n now →
+    ((p k : ℕ) → 1 ≤ p → p ≤ 16 → k < wait → 1 < wait → agree (Some ((local + k) % cycle plan n)) (force_off plan (Some n) p) ≡ false) → IsQuiet plan n now wait
+quiet_from plan n now wait local told each = record {
+  at = λ p k from to within some.
+      subst (λ (x : ℕ). agree (Some ((x + k) % cycle plan n)) (force_off plan (Some n) p) ≡ false) told (each p k from to within some);
+}
 
 module _ (plan : Plan) (none : first_broken plan ≡ None) (n now wait : ℕ) (from_one : 1 ≤ n) (within : n ≤ 16)
     (used : is_used plan n ≡ true) (quiet : IsQuiet plan n now wait) (selected : Option ℕ) (runs : running plan selected ≡ Some n) where
@@ -211,10 +220,10 @@ forces_off plan none n now ticks p from_one within used selected runs met =
 some_cycle : (plan : Plan) (n : ℕ) → is_used plan n ≡ true → 1 < cycle plan n
 some_cycle plan n used = let some : 1 ≤ plan.value PatternCycleTime n = grind (arith, nat_tests, used) in omega arith
 
--- a plan in memory has 16 phases
-pub few : (plan : memory.Plan) → (plan_of plan).phase_count ≤ 16
-unfolding plan_of
-few plan = omega arith
+-- a checked plan has 16 phases
+pub few : (checked : Checked) → (checked_plan checked).phase_count ≤ 16
+unfolding checked_plan plan_of
+few checked = omega arith
 
 pub is_exact : (plan : Plan) → plan.phase_count ≤ 16 → first_broken plan ≡ None → (n now ticks local : ℕ) → 1 ≤ n → n ≤ 16 → is_used plan n ≡ true →
     (row : List ℕ) → running plan (pattern_in row) ≡ Some n → local ≡ counter plan n now → local < cycle plan n → IsQuiet plan n now ticks →

@@ -4,6 +4,7 @@ ghost use Rattle.arrayvec.specs.ArrayVec.{array_vec_len};
 ghost use Rattle.tsb_cells.specs.Diff.{diff, shifted};
 ghost use Rattle.tsb_plan.specs.Parts.{is_used};
 ghost use Rattle.tsb_objects.specs.Checked.{checked_plan};
+ghost use Rattle.tsb_objects.specs.Rules.{first_broken};
 ghost use Rattle.tsb_plan.specs.Running.{running};
 ghost use Rattle.tsb_types.specs.declared.refusal.Refusal.{Refusal};
 ghost use Rattle.tsb_types.specs.Sets.{has};
@@ -13,14 +14,16 @@ ghost use Rattle.tsb_coord.specs.Due.{KeepsOrders, IsExact};
 ghost use Rattle.tsb_coord.specs.Promises.{IsAtPowerUp, AreOrders, IsAnswered, IsSelected, TellsLocal, TellsPattern};
 
 use crate::CELLS;
-use crate::asking::{forced, held, omitted};
 use crate::coordination::Coordination;
-use crate::patterns::{FREE_SEQUENCE, counter, sequence_in};
+use crate::counting::counter;
 use crate::waiting::ticks_to_next;
 use arrayvec::ArrayVec;
 use tsb_cells::{Bank, Diff, Reversible};
 use tsb_objects::limits::TICKS;
 use tsb_objects::{Checked, Pattern, PhaseSet, Refusal, Sequence};
+
+/// The sequence in free operation.
+const FREE_SEQUENCE: u8 = 1;
 
 /// Coordination: which pattern is selected. All else is found from this, the plan and the number of the tick.
 #[derive(Clone, Copy)]
@@ -28,13 +31,15 @@ pub struct Coord {
     bank: Bank<CELLS>,
 }
 
-/// A pattern has a number from 1 to 16.
+/// A pattern has a number from 1 to 16, and a checked plan breaks no rule.
 #[inline(always)]
-fn known(n: Pattern)
+fn known(n: Pattern, plan: &Checked)
     ensures from { 1 ≤ n }
     ensures within { n ≤ 16 }
+    ensures consistent { first_broken (checked_plan plan.now) ≡ None }
 {
     let _number = n.number();
+    let _plan = plan.plan();
 }
 
 /// What is asked in free operation: nothing.
@@ -154,16 +159,13 @@ impl Coord {
     {
         match self.running(plan) {
             None => free(),
-            Some(n) => {
-                let plan = plan.plan();
-                Coordination {
-                    runs: Some(n),
-                    sequence: sequence_in(plan, n),
-                    hold: held(plan, n),
-                    forced: forced(plan, n, counter(plan, n, now)),
-                    omit: omitted(plan, n),
-                }
-            }
+            Some(n) => Coordination {
+                runs: Some(n),
+                sequence: plan.sequence_in_effect(Some(n)),
+                hold: plan.coordinated(Some(n)),
+                forced: plan.forced_at(n, counter(plan, n, now)),
+                omit: plan.omitted(Some(n)),
+            },
         }
     }
 
@@ -179,8 +181,7 @@ impl Coord {
         match self.running(plan) {
             None => TICKS + 1,
             Some(n) => {
-                known(n);
-                let plan = plan.plan();
+                known(n, plan);
                 now + ticks_to_next(plan, n, counter(plan, n, now))
             }
         }
@@ -195,7 +196,7 @@ impl Coord {
     {
         match self.running(plan) {
             None => None,
-            Some(n) => Some(counter(plan.plan(), n, now)),
+            Some(n) => Some(counter(plan, n, now)),
         }
     }
 

@@ -1,13 +1,12 @@
 //! How long the local counter takes to the next force-off instant.
 ghost use Rattle.std.specs.Prelude.{◌≡◌, ◌≤◌, ◌<◌, ◌+◌, ◌%◌, ◌⊎◌, ℕ, true, false, Some, IfSome};
 ghost use Rattle.tsb_plan.specs.Parts.{cycle, is_used};
-ghost use Rattle.tsb_plan.specs.PlanOf.{plan_of};
+ghost use Rattle.tsb_objects.specs.Checked.{checked_plan};
 ghost use Rattle.tsb_coord.specs.Coordinated.{force_off, agree};
 ghost use Rattle.tsb_coord.specs.Due.{IsMet};
 
-use crate::instants::{instant, reference};
-use crate::patterns::cycle_of;
-use tsb_objects::{Pattern, Phase, Plan};
+use crate::counting::cycle_of;
+use tsb_objects::{Checked, Pattern, Phase};
 
 /// How many ticks the local counter takes to an instant, one at least; a cycle where there is none.
 #[inline(always)]
@@ -35,21 +34,20 @@ fn ticks_to(cycle: u32, local: u32, instant: &Option<u32>) -> u32
 }
 
 /// How many ticks the local counter takes to the next force-off instant of a phase, one at least.
-pub(crate) fn ticks_to_next(plan: &Plan, n: Pattern, local: u32) -> u32
-    requires used { is_used (plan_of plan.now) n ≡ true }
-    requires local { local < cycle (plan_of plan.now) n }
+pub(crate) fn ticks_to_next(plan: &Checked, n: Pattern, local: u32) -> u32
+    requires used { is_used (checked_plan plan.now) n ≡ true }
+    requires local { local < cycle (checked_plan plan.now) n }
     ensures from_one { 1 ≤ result }
     ensures within { result ≤ 2550 }
     ensures quiet { (p k : ℕ) → 1 ≤ p → p ≤ 16 → k < result → 1 < result →
-        agree (Some ((local + k) % cycle (plan_of plan.now) n)) (force_off (plan_of plan.now) (Some n) p) ≡ false }
-    ensures met { (result ≡ cycle (plan_of plan.now) n)
-        ⊎ ((p : ℕ) × IsMet (cycle (plan_of plan.now) n) local (force_off (plan_of plan.now) (Some n) p) result) }
+        agree (Some ((local + k) % cycle (checked_plan plan.now) n)) (force_off (checked_plan plan.now) (Some n) p) ≡ false }
+    ensures met { (result ≡ cycle (checked_plan plan.now) n)
+        ⊎ ((p : ℕ) × IsMet (cycle (checked_plan plan.now) n) local (force_off (checked_plan plan.now) (Some n) p) result) }
 {
     let cycle = cycle_of(plan, n);
-    let from = reference(plan, n);
     let mut ticks = cycle;
     for number in 1..17u8 {
-        let at = instant(plan, n, &from, Phase::of(number));
+        let at = plan.force_off(n, Phase::of(number));
         ticks = ticks.min(ticks_to(cycle, local, &at));
     }
     ticks

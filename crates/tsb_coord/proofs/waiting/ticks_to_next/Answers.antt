@@ -1,7 +1,7 @@
 use Rattle.std.proofs.Common.{◌≡◌, ℕ, ◌+◌, ◌%◌, ◌<◌, ◌≤◌, ◌⊎◌, min, Option, Some, inl, inr, sym, ap, subst, ◌∙◌, arith}
 use Rattle.std.proofs.lemmas.Bool.{cases_lt}
 use Rattle.tsb_plan.specs.Parts.{cycle}
-use Rattle.tsb_plan.specs.PlanOf.{plan_of}
+use Rattle.tsb_objects.specs.Checked.{checked_plan}
 use Rattle.tsb_coord.specs.Coordinated.{force_off, agree}
 use Rattle.tsb_coord.specs.Due.{IsMet}
 use Rattle.tsb_coord.proofs.WaitLemmas.{met_least}
@@ -21,14 +21,14 @@ loop-number-preserved c =
         | inl earlier ↦ c.loop-number.invariant.quiet p k from earlier (omega arith) (omega arith)
         | inr here ↦
             let same : p ≡ c.loop-number.number = omega arith in
-            let at : force_off (plan_of c.args.plan.now) (Some c.args.n) p ≡ c.instant-at.result =
-            ap (force_off (plan_of c.args.plan.now) (Some c.args.n)) (same ∙ sym c.of.ensures) ∙ sym c.instant-at.ensures.value in
-            ap (λ (m : ℕ). agree (Some ((c.args.local + k) % m)) (force_off (plan_of c.args.plan.now) (Some c.args.n) p)) (sym c.cycle_of-cycle.ensures.value)
+            let at : force_off (checked_plan c.args.plan.now) (Some c.args.n) p ≡ c.force_off-at.result =
+            ap (force_off (checked_plan c.args.plan.now) (Some c.args.n)) (same ∙ sym c.of.ensures) ∙ sym c.force_off-at.ensures.value in
+            ap (λ (m : ℕ). agree (Some ((c.args.local + k) % m)) (force_off (checked_plan c.args.plan.now) (Some c.args.n) p)) (sym c.cycle_of-cycle.ensures.value)
             ∙ ap (λ (o : Option ℕ). agree (Some ((c.args.local + k) % c.cycle_of-cycle.result)) o) at
             ∙ c.ticks_to.ensures.quiet k (omega arith) (omega arith)
       ];
-      met = subst (λ (x : ℕ). (x ≡ c.cycle_of-cycle.result) ⊎ ((p : ℕ) × IsMet c.cycle_of-cycle.result c.args.local (force_off (plan_of c.args.plan.now) (Some c.args.n) p) x)) (sym least)
-          (met_least (force_off (plan_of c.args.plan.now) (Some c.args.n)) c.cycle_of-cycle.result c.args.local c.loop-number.ticks c.ticks_to.result c.of.result
+      met = subst (λ (x : ℕ). (x ≡ c.cycle_of-cycle.result) ⊎ ((p : ℕ) × IsMet c.cycle_of-cycle.result c.args.local (force_off (checked_plan c.args.plan.now) (Some c.args.n) p) x)) (sym least)
+          (met_least (force_off (checked_plan c.args.plan.now) (Some c.args.n)) c.cycle_of-cycle.result c.args.local c.loop-number.ticks c.ticks_to.result c.of.result
           c.loop-number.invariant.met
-          (subst (λ (o : Option ℕ). (c.ticks_to.result ≡ c.cycle_of-cycle.result) ⊎ IsMet c.cycle_of-cycle.result c.args.local o c.ticks_to.result) c.instant-at.ensures.value c.ticks_to.ensures.met));
+          (subst (λ (o : Option ℕ). (c.ticks_to.result ≡ c.cycle_of-cycle.result) ⊎ IsMet c.cycle_of-cycle.result c.args.local o c.ticks_to.result) c.force_off-at.ensures.value c.ticks_to.ensures.met));
     }

@@ -1,5 +1,5 @@
 use Rattle.std.proofs.Common.{◌≡◌, ℕ, ◌+◌, ◌%◌, ◌<◌, ◌≤◌, ◌⊎◌, false, Some}
-use Rattle.tsb_plan.specs.PlanOf.{plan_of}
+use Rattle.tsb_objects.specs.Checked.{checked_plan}
 use Rattle.tsb_plan.specs.Parts.{cycle}
 use Rattle.tsb_coord.specs.Coordinated.{force_off, agree}
 use Rattle.tsb_coord.specs.Due.{IsMet}
@@ -12,6 +12,6 @@ invariant-loop-number l = record {
   some : 1 ≤ l.ticks;
   within : l.ticks ≤ l.cycle;
   quiet : (p k : ℕ) → 1 ≤ p → p < l.number → k < l.ticks → 1 < l.ticks →
-      agree (Some ((l.local + k) % cycle (plan_of l.plan) l.n)) (force_off (plan_of l.plan) (Some l.n) p) ≡ false;
-  met : (l.ticks ≡ l.cycle) ⊎ ((p : ℕ) × IsMet l.cycle l.local (force_off (plan_of l.plan) (Some l.n) p) l.ticks);
+      agree (Some ((l.local + k) % cycle (checked_plan l.plan) l.n)) (force_off (checked_plan l.plan) (Some l.n) p) ≡ false;
+  met : (l.ticks ≡ l.cycle) ⊎ ((p : ℕ) × IsMet l.cycle l.local (force_off (checked_plan l.plan) (Some l.n) p) l.ticks);
 }
