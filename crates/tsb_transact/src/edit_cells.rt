@@ -1,23 +1,37 @@
-//! Edits put into the cells and into the map that finds them.
+//! Edits put into the cells and into the map that finds them, and taken out again when the transaction is closed.
 //!
 //! The map has the place of each edit as its key and the value beside it, in the order of the edits. It is made with room
 //! for 64, so that no insertion takes memory.
-ghost use Rattle.std.specs.Prelude.{◌≡◌, ℕ, ◌+◌, ◌<◌, ◌≤◌, true, false, is_some, None, Some, slice_index, nat_eq};
+ghost use Rattle.std.specs.Prelude.{◌≡◌, ℕ, ◌+◌, ◌<◌, ◌≤◌, true, false, is_some, None, Some, [], slice_index, nat_eq};
 ghost use Rattle.indexmap.specs.IndexMap.{index_map_len, spare, get, insert_entry, index_of_by, IsUnique};
 ghost use Rattle.tsb_cells.specs.Bank.{cells_of, kept_of, is_open};
 ghost use Rattle.tsb_plan.specs.Objects.{greatest};
 ghost use Rattle.tsb_plan.specs.PlanOf.{put_refusal};
 ghost use Rattle.tsb_transact.specs.Calls.{has_no_room, with_set};
 ghost use Rattle.tsb_transact.specs.Cells.{IsBy, desk_in, id_at};
+ghost use Rattle.tsb_transact.specs.Desk.{closed};
+ghost use Rattle.tsb_transact.specs.Promises.{UnlessMemory};
 ghost use Rattle.tsb_transact.specs.Rows.{IsRow, Leaves, pairs_in};
 
-use crate::CELLS;
-use crate::cells::put;
+use crate::cells::{blank, put};
 use crate::head_cells::{COUNT, RULE, STATE, TRANSACTION};
 use crate::places::place;
+use crate::{CELLS, MOST_EDITS};
 use indexmap::IndexMap;
+use std::alloc::Global;
 use tsb_cells::Bank;
-use tsb_objects::ObjectId;
+use tsb_objects::{ObjectId, Refusal};
+
+/// A map without edits, with room for 64. E1 is its only refusal.
+pub fn empty_map(alloc: Global) -> Result<IndexMap<u32, u32>, Refusal>
+    ensures empty { UnlessMemory (λ edits. edits.entries ≡ []) result }
+    ensures room { UnlessMemory (λ edits. 64 ≤ index_map_len edits + spare edits) result }
+{
+    match IndexMap::with_capacity(alloc, MOST_EDITS) {
+        Ok(edits) => Ok(edits),
+        Err(_) => Err(Refusal::Memory),
+    }
+}
 
 /// Makes the map that of the cells' edits. Its room for 64 is kept, so no memory is taken.
 pub fn refill(edits: &mut IndexMap<u32, u32>, bank: &Bank<CELLS>)
@@ -140,4 +154,17 @@ pub fn edit_transaction(
     put(bank, STATE, TRANSACTION);
     put(bank, RULE, 0);
     let _len = edits.len();
+}
+
+/// Closes the transaction: no station owns the desk, and there are no edits.
+pub fn close_transaction(bank: &mut Bank<CELLS>, edits: &mut IndexMap<u32, u32>)
+    requires opened { is_open bank.old ≡ true }
+    requires room { 64 ≤ index_map_len edits.old + spare edits.old }
+    ensures leaves { Leaves closed edits.new.entries (cells_of bank.new) }
+    ensures room { 64 ≤ index_map_len edits.new + spare edits.new }
+    ensures kept { kept_of bank.new ≡ kept_of bank.old }
+    ensures opened { is_open bank.new ≡ true }
+{
+    blank(bank);
+    edits.clear();
 }

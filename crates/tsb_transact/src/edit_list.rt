@@ -47,7 +47,8 @@ pub fn laid(bank: &Bank<CELLS>, plan: &Plan) -> Plan
     ensures { plan_of result ≡ with_edits (plan_of plan.now) (desk_in (cells_of bank.now)).edits }
 {
     let mut laid = *plan;
-    for k in 1..bank.get(COUNT) as usize + 1 {
+    let count = bank.get(COUNT) as usize;
+    for k in 1..count + 1 {
         let edit = edit(bank, k);
         let _put = laid.put(edit.id, edit.value);
     }
