@@ -1,5 +1,5 @@
 -- Laws of the cells: a row that the desk can hold is the table of what it says, and a desk in range is read in its table.
-use Rattle.std.proofs.Common.{zero, suc, ◌≡◌, ℕ, ◌+◌, ◌-◌, ◌*◌, ◌==◌, ◌<◌, ◌≤◌, true, false, List, [], ◌∷◌, length, map, get_or, drop, slice_index, Option, None, Some, IfSome, refl, arith, sym, ◌∙◌, ap, subst, inl, inr}
+use Rattle.std.proofs.Common.{zero, suc, ◌≡◌, ◌≢◌, ℕ, ◌+◌, ◌-◌, ◌*◌, ◌==◌, ◌<◌, ◌≤◌, true, false, List, [], ◌∷◌, length, map, get_or, drop, slice_index, Option, None, Some, IfSome, refl, arith, sym, ◌∙◌, ap, subst, inl, inr}
 use Rattle.std.proofs.lemmas.Bool.{cases_lt}
 use Rattle.std.proofs.lemmas.Bool.Decides.{eqb_tells, nat_tests}
 use Rattle.std.proofs.lemmas.List.{drop_more, drop_all, same_lists, get_or_default}
@@ -81,7 +81,7 @@ AreNumbered (r ∷ rs) n = (rule_cell (Some r) ≡ n) × AreNumbered rs (n + 1)
 numbered : AreNumbered rules 1
 unfolding AreNumbered
 numbered =
-    (refl, (refl, (refl, (refl, (refl, (refl, (refl, (refl, (refl, (refl, (refl, (refl, (refl, (refl, (refl, (refl, (refl, (refl, (refl, (refl, (refl, (refl, (refl, tt)))))))))))))))))))))))
+    (refl, (refl, (refl, (refl, (refl, (refl, (refl, (refl, (refl, (refl, (refl, (refl, (refl, (refl, (refl, (refl, (refl, (refl, (refl, (refl, (refl, (refl, tt))))))))))))))))))))))
 
 number-told : (rs : List Rule) (a n : ℕ) → AreNumbered rs (a + 1) → 1 ≤ n → n ≤ length rs → rule_cell (nth_rule rs n) ≡ a + n
 unfolding AreNumbered
@@ -93,11 +93,11 @@ number-told (r ∷ rs) a n told from to =
       | inr o ↦ rw (some, o.0) (number-told rs (a + 1) (n - 1) told.1 (omega (arith, from, o.1)) (omega (arith, to)) ∙ omega (arith, from))
     ]
 
-rule-told : (n : ℕ) → n ≤ 23 → rule_cell (nth_rule rules n) ≡ n
+rule-told : (n : ℕ) → n ≤ 22 → rule_cell (nth_rule rules n) ≡ n
 rule-told n within =
     elim (cases_lt 0 n) [
       | inl some ↦ number-told rules 0 n numbered some (omega (arith, within)) ∙ omega arith
-      | inr none ↦ let e : n ≡ 0 = omega (arith, none) in rw e refl
+      | inr none ↦ let e : n ≡ 0 = omega (arith, none) in ap (λ (k : ℕ). rule_cell (nth_rule rules k)) e ∙ sym e
     ]
 
 head-apart : (row : List ℕ) → length row ≡ 132 →
@@ -167,36 +167,36 @@ table-value d k place value from c =
     let e : 2 * k + 3 ≡ suc (suc (suc (suc (2 * (k - 1) + 1)))) = omega (arith, from) in
     ap (λ (n : ℕ). slice_index (desk_cells d) n) e ∙ c.value
 
-rule-back : (r : Rule) → nth_rule rules (rule_cell (Some r)) ≡ Some r
-rule-back K1 = refl
-rule-back K2 = refl
-rule-back K3 = refl
-rule-back K4 = refl
-rule-back K5 = refl
-rule-back K6 = refl
-rule-back K7 = refl
-rule-back K8 = refl
-rule-back K9 = refl
-rule-back K10 = refl
-rule-back K11 = refl
-rule-back K12 = refl
-rule-back K13 = refl
-rule-back K14 = refl
-rule-back K15 = refl
-rule-back K16 = refl
-rule-back K17 = refl
-rule-back K18 = refl
-rule-back K19 = refl
-rule-back K20 = refl
-rule-back K21 = refl
-rule-back K22 = refl
-rule-back NotYet = refl
+rule-back : (r : Rule) → r ≢ NotYet → nth_rule rules (rule_cell (Some r)) ≡ Some r
+rule-back K1 h = refl
+rule-back K2 h = refl
+rule-back K3 h = refl
+rule-back K4 h = refl
+rule-back K5 h = refl
+rule-back K6 h = refl
+rule-back K7 h = refl
+rule-back K8 h = refl
+rule-back K9 h = refl
+rule-back K10 h = refl
+rule-back K11 h = refl
+rule-back K12 h = refl
+rule-back K13 h = refl
+rule-back K14 h = refl
+rule-back K15 h = refl
+rule-back K16 h = refl
+rule-back K17 h = refl
+rule-back K18 h = refl
+rule-back K19 h = refl
+rule-back K20 h = refl
+rule-back K21 h = refl
+rule-back K22 h = refl
+rule-back NotYet h = absurd (h refl)
 
-rule-read : (r : Option Rule) → nth_rule rules (rule_cell r) ≡ r
-rule-read None = refl
-rule-read (Some r) = rule-back r
+rule-read : (r : Option Rule) → r ≢ Some NotYet → nth_rule rules (rule_cell r) ≡ r
+rule-read None h = refl
+rule-read (Some r) h = rule-back r (λ e. h (ap Some e))
 
-rule-within : (r : Option Rule) → rule_cell r ≤ 23
+rule-within : (r : Option Rule) → rule_cell r ≤ 22
 rule-within None = omega arith
 rule-within (Some K1) = omega arith
 rule-within (Some K2) = omega arith
@@ -278,7 +278,7 @@ module _ (d : Desk) (r : IsInRange d) where
   read = λ j. record {
     owner = owner-read d.owner r.owner j;
     state = state-read d.state j;
-    rule = rule-read d.rule j;
+    rule = rule-read d.rule r.rule j;
     edits = edits-read j;
   }
 

@@ -1,11 +1,12 @@
 //! Edits as the cells have them: listed, laid over a plan, and what they would change there.
 ghost use Rattle.std.specs.Prelude.{◌≡◌, ◌&&◌, ◌≤◌, true, slice_index};
 ghost use Rattle.tsb_cells.specs.Bank.{cells_of};
-ghost use Rattle.tsb_plan.specs.Objects.{has_index, is_structural};
+ghost use Rattle.tsb_plan.specs.Objects.{has_index};
 ghost use Rattle.tsb_plan.specs.PlanOf.{plan_of};
 ghost use Rattle.tsb_transact.specs.Cells.{IsBy, desk_in, edit_in};
-ghost use Rattle.tsb_transact.specs.Commit.{changes, changes_structure, changes_preempt, is_preempt_list};
+ghost use Rattle.tsb_transact.specs.Commit.{changes, changes_some, is_preempt_list};
 ghost use Rattle.tsb_transact.specs.Desk.{with_edits};
+ghost use Rattle.tsb_transact.specs.Matters.{is_about};
 
 use crate::edit::Edit;
 use crate::head_cells::COUNT;
@@ -73,46 +74,42 @@ fn is_preempt_list(object: Object) -> bool
     )
 }
 
-/// Whether the edit changes which phases there are, where they stand, or which belong together.
-fn structural_change(plan: &Plan, edit: Edit) -> bool
-    requires { has_index edit.id.object edit.id.index ≡ true }
-    ensures { result ≡ (is_structural edit.id.object && changes (plan_of plan.now) edit) }
-{
-    is_structural(edit.id.object) && changes(plan, edit)
+/// What the change of an object is about, by which it is told what a commit has to wait for.
+#[derive(Clone, Copy)]
+pub enum Matter {
+    /// Which phases there are, where they stand, or which belong together.
+    Structure,
+    /// The lists of phases of preempts.
+    PreemptLists,
 }
 
-/// Whether the edits change which phases there are, where they stand, or which belong together.
-#[tactic(auto, unfolding(crate::specs::Cells::desk_in))]
-pub fn changes_structure(bank: &Bank<CELLS>, plan: &Plan) -> bool
-    requires { IsBy (cells_of bank.now) }
-    ensures { result ≡ changes_structure (plan_of plan.now) (desk_in (cells_of bank.now)).edits }
+/// Whether a change of the object is about the matter.
+fn is_about(matter: Matter, object: Object) -> bool
+    ensures { result ≡ is_about matter object }
 {
-    for k in 1..bank.get(COUNT) as usize + 1 {
-        let edit = edit(bank, k);
-        if structural_change(plan, edit) {
-            return true;
-        }
+    match matter {
+        Matter::Structure => is_structural(object),
+        Matter::PreemptLists => is_preempt_list(object),
     }
-    false
 }
 
-/// Whether the edit changes a list of phases of some preempt.
-fn preempt_change(plan: &Plan, edit: Edit) -> bool
+/// Whether the edit is a change about the matter.
+fn is_change_about(matter: Matter, plan: &Plan, edit: Edit) -> bool
     requires { has_index edit.id.object edit.id.index ≡ true }
-    ensures { result ≡ (is_preempt_list edit.id.object && changes (plan_of plan.now) edit) }
+    ensures { result ≡ (is_about matter edit.id.object && changes (plan_of plan.now) edit) }
 {
-    is_preempt_list(edit.id.object) && changes(plan, edit)
+    is_about(matter, edit.id.object) && changes(plan, edit)
 }
 
-/// Whether the edits change a list of phases of some preempt.
+/// Whether some edit is a change about the matter.
 #[tactic(auto, unfolding(crate::specs::Cells::desk_in))]
-pub fn changes_preempt(bank: &Bank<CELLS>, plan: &Plan) -> bool
+pub fn changes_some(bank: &Bank<CELLS>, plan: &Plan, matter: Matter) -> bool
     requires { IsBy (cells_of bank.now) }
-    ensures { result ≡ changes_preempt (plan_of plan.now) (desk_in (cells_of bank.now)).edits }
+    ensures { result ≡ changes_some (is_about matter) (plan_of plan.now) (desk_in (cells_of bank.now)).edits }
 {
     for k in 1..bank.get(COUNT) as usize + 1 {
         let edit = edit(bank, k);
-        if preempt_change(plan, edit) {
+        if is_change_about(matter, plan, edit) {
             return true;
         }
     }

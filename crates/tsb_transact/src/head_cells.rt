@@ -1,5 +1,6 @@
 //! The first cells of the desk: the owner, the state, the rule that a check found broken, and how many edits there are.
-ghost use Rattle.std.specs.Prelude.{◌≡◌, ◌≤◌, Some};
+ghost use Rattle.std.specs.Prelude.{◌≡◌, ◌≢◌, ◌≤◌, Some};
+ghost use Rattle.tsb_objects.specs.declared.rules.Rule.TheVariants.{NotYet};
 ghost use Rattle.tsb_transact.specs.Cells.{nth_rule, rules, rule_cell};
 
 use tsb_objects::Rule;
@@ -28,7 +29,7 @@ pub const DONE: u32 = 3;
 
 /// The rule of a number, 0 for none.
 pub fn rule_of(number: u32) -> Option<Rule>
-    requires { number ≤ 23 }
+    requires { number ≤ 22 }
     ensures { result ≡ nth_rule rules number }
 {
     match number {
@@ -54,16 +55,16 @@ pub fn rule_of(number: u32) -> Option<Rule>
         20 => Some(Rule::K20),
         21 => Some(Rule::K21),
         22 => Some(Rule::K22),
-        23 => Some(Rule::NotYet),
         _ => None,
     }
 }
 
-/// The number of a rule, 1 to 23.
+/// The number of a rule, 1 to 22. No check finds `NotYet`, and it has none.
 pub fn rule_number(rule: Rule) -> u32
+    requires { rule ≢ NotYet }
     ensures cell { result ≡ rule_cell (Some rule) }
     ensures back { nth_rule rules result ≡ Some rule }
-    ensures within { result ≤ 23 }
+    ensures within { result ≤ 22 }
 {
     match rule {
         Rule::K1 => 1,
@@ -88,6 +89,6 @@ pub fn rule_number(rule: Rule) -> u32
         Rule::K20 => 20,
         Rule::K21 => 21,
         Rule::K22 => 22,
-        Rule::NotYet => 23,
+        Rule::NotYet => unreachable!(),
     }
 }
