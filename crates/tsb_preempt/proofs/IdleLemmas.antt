@@ -1,5 +1,5 @@
 -- A tick in which no input is on, no delay timer runs, none is spent and none is in service changes nothing.
-use Rattle.std.proofs.Common.{◌≡◌, ℕ, ◌+◌, ◌%◌, ◌≤◌, Bool, false, ◌&&◌, ◌||◌, if◌then◌else◌, List, slice_index, Option, Some, None, refl, sym, ◌∙◌, ap, subst, arith}
+use Rattle.std.proofs.Common.{◌≡◌, ℕ, ◌%◌, ◌≤◌, Bool, false, ◌&&◌, ◌||◌, List, slice_index, None, refl, sym, ◌∙◌, ap, arith}
 use Rattle.tsb_types.specs.declared.flow.Intervals.{Intervals}
 use Rattle.tsb_types.specs.declared.number_set.NumberSet.{NumberSet}
 use Rattle.tsb_types.specs.declared.row.Row.{Row}
@@ -8,14 +8,11 @@ use Rattle.tsb_types.specs.Sets.{names, has_number, list_in, set_of_list}
 use Rattle.tsb_types.proofs.SetLemmas.{names-zero}
 use Rattle.tsb_plan.specs.Plan.{Plan}
 use Rattle.tsb_preempt.specs.declared.orders.PreemptOrders.{PreemptOrders}
-use Rattle.tsb_preempt.specs.declared.serving.Serving.{Serving}
 use Rattle.tsb_preempt.specs.Cells.{service_in, IsBy}
 use Rattle.tsb_preempt.specs.Promises.{given_by}
 use Rattle.tsb_preempt.specs.Rows.{delay_cell, requests_by}
-use Rattle.tsb_preempt.specs.Layer.{AreDelayed}
 use Rattle.tsb_preempt.specs.Done.{IsDone, IsIdle}
 use Rattle.tsb_preempt.proofs.SetLemmas.{names-low}
-use Rattle.tsb_preempt.proofs.ServiceLemmas.{four}
 use Rattle.tsb_preempt.proofs.DoneLemmas.{IsFound, IsAsked, done-kept}
 
 -- numbers whose lowest four bits are 0 name none of four

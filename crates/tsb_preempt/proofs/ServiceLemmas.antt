@@ -1,5 +1,5 @@
 -- The service in its cells, and facts of preempts 1 to 4.
-use Rattle.std.proofs.Common.{zero, suc, ◌≡◌, ◌≢◌, ℕ, ◌+◌, ◌≤◌, Bool, if◌then◌else◌, List, slice_index, Option, Some, None, refl, sym, ◌∙◌, subst, arith}
+use Rattle.std.proofs.Common.{zero, suc, ◌≡◌, ◌≢◌, ℕ, ◌+◌, ◌≤◌, Bool, List, slice_index, Option, Some, None, refl, sym, ◌∙◌, subst, arith}
 use Rattle.tsb_types.specs.declared.stage.Stage.{Stage}
 use Rattle.tsb_types.specs.declared.stage.Stage.TheVariants.{Track, Dwell, Exit}
 use Rattle.tsb_types.specs.Lists.{run_from, first}
