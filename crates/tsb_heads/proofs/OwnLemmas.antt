@@ -1,0 +1,212 @@
+-- Displays and fields look at phases 1 to 16, overlaps and commitments alone, the monitor at the vehicle and pedestrian heads of phases
+-- 1 to 16; and heads that stay are let pass again.
+use Rattle.std.proofs.Common.{zero, suc, ◌≡◌, ℕ, ◌+◌, ◌<◌, ◌≤◌, Bool, true, false, not, ◌&&◌, ◌||◌, if◌then◌else◌, Option, Some, None, is_some, refl, ap, ap₂, ◌∙◌, arith}
+use Rattle.std.specs.List.{list_any}
+use Rattle.std.specs.Option.{option_map, option_or}
+use Rattle.tsb_types.specs.declared.interval.Interval.{Interval}
+use Rattle.tsb_types.specs.declared.lamp.Lamp.TheVariants as lamps
+use Rattle.tsb_types.specs.declared.lamp.Aspect.{Aspect}
+use Rattle.tsb_types.specs.declared.lamp.Aspect.TheVariants.{Dark, Red, Yellow, Green, FlashingRed}
+use Rattle.tsb_types.specs.Intervals.{is_green, is_yellow, is_red_clear}
+use Rattle.tsb_types.specs.Lists.{first, run_from}
+use Rattle.tsb_plan.specs.Plan.{Plan, phases, ring_of}
+use Rattle.tsb_plan.specs.Parts.{is_included, is_modifier}
+use Rattle.tsb_objects.specs.PatternRules.{some_and}
+use Rattle.tsb_heads.specs.declared.monitor.Trip.{Trip}
+use Rattle.tsb_heads.specs.declared.monitor.Trip.TheVariants.{Conflict, GreenToRed}
+use Rattle.tsb_heads.specs.Heads.{Shown, Heads}
+use Rattle.tsb_heads.specs.Overlaps.{some_of, is_followed, keeps_green, is_kept_green, is_on_yellow, has_green_modifier, has_yellow_modifier, is_on_last_yellow, overlap_head}
+use Rattle.tsb_heads.specs.Displays.{ordered, flashing, flashed, field, laid_over}
+use Rattle.tsb_heads.specs.Monitoring as monitor
+use Rattle.tsb_heads.specs.Monitoring.{is_red, are_in_conflict, conflict_of, conflict_by, conflict, goes_red, green_to_red, judge}
+use Rattle.tsb_heads.specs.Reading.{shown_by, heads_of, heads_of_field}
+use Rattle.tsb_heads.specs.Promises.{IsSame}
+use Rattle.tsb_heads.specs.Laws.{AreAlike, ShowAlike, DisplaysLookOnlyAtTheirOwn, LampsLookOnlyAtTheirOwn, FieldsAreTold, MonitorsLookOnlyAtTheirOwn, StayingHeadsPass, PassedHeadsPassAgain}
+use Rattle.tsb_heads.proofs.SetLemmas.{first-never}
+
+-- ## Runs of phases
+
+any-agree : (n : ℕ) (f g : ℕ → Bool) → n ≤ 16 → ((p : ℕ) → 1 ≤ p → p ≤ 16 → f p ≡ g p) → list_any f (run_from 1 n) ≡ list_any g (run_from 1 n)
+unfolding run_from
+any-agree n f g most same = go 1 n (λ p from to. same p from (omega arith))
+  where
+    go : (a n : ℕ) → ((p : ℕ) → a ≤ p → p < a + n → f p ≡ g p) → list_any f (run_from a n) ≡ list_any g (run_from a n)
+    go a zero here = refl
+    go a (suc n) here =
+        let same_at : f a ≡ g a = here a (omega arith) (omega arith) in
+        rw (same_at, go (a + 1) n (λ p from to. here p (omega arith) (omega arith))) refl
+
+first-agree : (n : ℕ) (f g : ℕ → Bool) → n ≤ 16 → ((p : ℕ) → 1 ≤ p → p ≤ 16 → f p ≡ g p) → first f (run_from 1 n) ≡ first g (run_from 1 n)
+unfolding run_from
+first-agree n f g most same = go 1 n (λ p from to. same p from (omega arith))
+  where
+    go : (a n : ℕ) → ((p : ℕ) → a ≤ p → p < a + n → f p ≡ g p) → first f (run_from a n) ≡ first g (run_from a n)
+    go a zero here = refl
+    go a (suc n) here =
+        let same_at : f a ≡ g a = here a (omega arith) (omega arith) in
+        rw (same_at, go (a + 1) n (λ p from to. here p (omega arith) (omega arith))) refl
+
+-- what is found is one of the run
+found-range : (test : ℕ → Bool) (a n p : ℕ) → first test (run_from a n) ≡ Some p → (a ≤ p) × (p < a + n)
+unfolding run_from
+found-range test a zero p e = absurd (cc)
+found-range test a (suc n) p e = go (test a) e (λ (f : first test (run_from (a + 1) n) ≡ Some p). found-range test (a + 1) n p f)
+  where
+    go : (b : Bool) → (if b then Some a else first test (run_from (a + 1) n)) ≡ Some p → (first test (run_from (a + 1) n) ≡ Some p → (a + 1 ≤ p) × (p < a + 1 + n)) → (a ≤ p) × (p < a + suc n)
+    go true f later = let same : a ≡ p = cc in (omega arith, omega arith)
+    go false f later = let there : (a + 1 ≤ p) × (p < a + 1 + n) = later f in (omega (arith, there.0), omega (arith, there.1))
+
+-- ## Displays
+
+module _ (plan : Plan) (s t : Shown) (count : plan.phase_count ≤ 16) (alike : AreAlike s t) where
+  some-same : (list f g : ℕ → Bool) → ((p : ℕ) → 1 ≤ p → p ≤ 16 → f p ≡ g p) → some_of plan list f ≡ some_of plan list g
+  some-same list f g same = any-agree plan.phase_count (λ p. list p && f p) (λ p. list p && g p) count (λ p from to. ap (λ (b : Bool). list p && b) (same p from to))
+
+  followed-same : (o p : ℕ) → is_followed plan s o p ≡ is_followed plan t o p
+  followed-same o p = ap (some_and (is_included plan o)) (alike.commitment (ring_of plan p))
+
+  keeps-same : (o p : ℕ) → 1 ≤ p → p ≤ 16 → keeps_green plan s o p ≡ keeps_green plan t o p
+  keeps-same o p from to = ap₂ (λ (i : Interval) (b : Bool). is_green i || ((is_yellow i || is_red_clear i) && b)) (alike.interval p from to) (followed-same o p)
+
+  kept-same : (o : ℕ) → is_kept_green plan s o ≡ is_kept_green plan t o
+  unfolding is_kept_green
+  kept-same o = some-same (is_included plan o) (keeps_green plan s o) (keeps_green plan t o) (λ p from to. keeps-same o p from to)
+
+  yellow-same : (o : ℕ) → is_on_yellow plan s o ≡ is_on_yellow plan t o
+  unfolding is_on_yellow
+  yellow-same o = some-same (is_included plan o) (λ p. is_yellow (s.interval p)) (λ p. is_yellow (t.interval p)) (λ p from to. ap is_yellow (alike.interval p from to))
+
+  green_modifier-same : (o : ℕ) → has_green_modifier plan s o ≡ has_green_modifier plan t o
+  unfolding has_green_modifier
+  green_modifier-same o = some-same (is_modifier plan o) (λ p. is_green (s.interval p)) (λ p. is_green (t.interval p)) (λ p from to. ap is_green (alike.interval p from to))
+
+  yellow_modifier-same : (o : ℕ) → has_yellow_modifier plan s o ≡ has_yellow_modifier plan t o
+  unfolding has_yellow_modifier
+  yellow_modifier-same o = some-same (is_modifier plan o) (λ p. is_yellow (s.interval p)) (λ p. is_yellow (t.interval p)) (λ p from to. ap is_yellow (alike.interval p from to))
+
+  last-same : (o : ℕ) → is_on_last_yellow plan s o ≡ is_on_last_yellow plan t o
+  unfolding is_on_last_yellow
+  last-same o =
+      some-same (is_included plan o) (λ p. is_yellow (s.interval p) && not (is_followed plan s o p)) (λ p. is_yellow (t.interval p) && not (is_followed plan t o p))
+      (λ p from to. ap₂ (λ (i : Interval) (b : Bool). is_yellow i && not b) (alike.interval p from to) (followed-same o p))
+
+  overlap-same : (o : ℕ) → overlap_head plan s o ≡ overlap_head plan t o
+  overlap-same o = rw (kept-same o, yellow-same o, green_modifier-same o, yellow_modifier-same o, last-same o) refl
+
+  ordered-same : IsSame (ordered plan s) (ordered plan t)
+  ordered-same = record {
+    vehicle = λ p from to. (let here : s.interval p ≡ t.interval p = alike.interval p from to in rw here refl);
+    pedestrian = λ p from to. (let here : s.pedestrian p ≡ t.pedestrian p = alike.pedestrian p from to in rw here refl);
+    overlap = λ o from to. overlap-same o;
+  }
+
+flashing-same : (one other : Heads) → IsSame one other → IsSame (flashing one) (flashing other)
+flashing-same one other same = record {
+  vehicle = λ p from to. ap flashed (same.vehicle p from to);
+  pedestrian = λ p from to. refl;
+  overlap = λ o from to. ap flashed (same.overlap o from to);
+}
+
+pub displays-own : DisplaysLookOnlyAtTheirOwn
+displays-own plan s t count alike = go s.tripped t.tripped alike.tripped
+  where
+    go : (b c : Bool) → b ≡ c → IsSame (if b then flashing (ordered plan s) else ordered plan s) (if c then flashing (ordered plan t) else ordered plan t)
+    go true true e = flashing-same (ordered plan s) (ordered plan t) (ordered-same plan s t count alike)
+    go false false e = ordered-same plan s t count alike
+    go true false e = absurd (cc)
+    go false true e = absurd (cc)
+
+-- ## Fields
+
+pub lamps-own : LampsLookOnlyAtTheirOwn
+lamps-own None h g same = same
+lamps-own (Some (lamps.Phase n color)) h g same = record {
+  vehicle = λ p from to. (let here : h.vehicle p ≡ g.vehicle p = same.vehicle p from to in rw here refl);
+  pedestrian = same.pedestrian;
+  overlap = same.overlap;
+}
+lamps-own (Some (lamps.Pedestrian n color)) h g same = record {
+  vehicle = same.vehicle;
+  pedestrian = λ p from to. (let here : h.pedestrian p ≡ g.pedestrian p = same.pedestrian p from to in rw here refl);
+  overlap = same.overlap;
+}
+lamps-own (Some (lamps.Overlap n color)) h g same = record {
+  vehicle = same.vehicle;
+  pedestrian = same.pedestrian;
+  overlap = λ o from to. (let here : h.overlap o ≡ g.overlap o = same.overlap o from to in rw here refl);
+}
+
+both : (f g h : Heads) → IsSame f g → IsSame g h → IsSame f h
+both f g h one two = record {
+  vehicle = λ p from to. one.vehicle p from to ∙ two.vehicle p from to;
+  pedestrian = λ p from to. one.pedestrian p from to ∙ two.pedestrian p from to;
+  overlap = λ o from to. one.overlap o from to ∙ two.overlap o from to;
+}
+
+pub fields-told : FieldsAreTold
+fields-told plan intervals pedestrians ring_1 ring_2 lamp d f s count alike displayed laid =
+    both (heads_of_field f) (laid_over lamp (heads_of d)) (field plan s lamp) laid
+    (lamps-own lamp (heads_of d) (ordered plan s)
+    (both (heads_of d) (ordered plan (shown_by intervals pedestrians ring_1 ring_2 false)) (ordered plan s) displayed
+    (ordered-same plan (shown_by intervals pedestrians ring_1 ring_2 false) s count alike)))
+
+-- ## The monitor
+
+conflict_of-same : (plan : Plan) (h g : Heads) (p : ℕ) → plan.phase_count ≤ 16 → 1 ≤ p → p ≤ 16 → ShowAlike h g → conflict_of plan h p ≡ conflict_of plan g p
+unfolding conflict_of
+conflict_of-same plan h g p count from to same =
+    first-agree plan.phase_count (are_in_conflict plan h p) (are_in_conflict plan g p) count (λ q low high.
+    (let a : h.vehicle p ≡ g.vehicle p = same.vehicle p from to in
+    let b : h.pedestrian p ≡ g.pedestrian p = same.pedestrian p from to in
+    let c : h.vehicle q ≡ g.vehicle q = same.vehicle q low high in
+    let d : h.pedestrian q ≡ g.pedestrian q = same.pedestrian q low high in
+    rw (a, b, c, d) refl))
+
+conflict-same : (plan : Plan) (h g : Heads) → plan.phase_count ≤ 16 → ShowAlike h g → conflict plan h ≡ conflict plan g
+unfolding conflict
+conflict-same plan h g count same =
+    by-same (first (λ p. is_some (conflict_of plan h p)) (phases plan)) refl
+    ∙ ap (conflict_by plan g) (first-agree plan.phase_count (λ p. is_some (conflict_of plan h p)) (λ p. is_some (conflict_of plan g p)) count
+    (λ p from to. ap (λ (o : Option ℕ). is_some o) (conflict_of-same plan h g p count from to same)))
+  where
+    by-same : (o : Option ℕ) → first (λ p. is_some (conflict_of plan h p)) (phases plan) ≡ o → conflict_by plan h o ≡ conflict_by plan g o
+    by-same None e = refl
+    by-same (Some p) e =
+        let there : (1 ≤ p) × (p < 1 + plan.phase_count) = found-range (λ q. is_some (conflict_of plan h q)) 1 plan.phase_count p e in
+        ap (λ (o : Option ℕ). option_map (λ (q : ℕ). Conflict p q) o) (conflict_of-same plan h g p count there.0 (omega (arith, there.1, count)) same)
+
+red-same : (plan : Plan) (h g i j : Heads) → plan.phase_count ≤ 16 → ShowAlike h g → ShowAlike i j → green_to_red plan h i ≡ green_to_red plan g j
+unfolding green_to_red
+red-same plan h g i j count before after =
+    ap (λ (o : Option ℕ). option_map (λ (p : ℕ). GreenToRed p) o)
+    (first-agree plan.phase_count (goes_red h i) (goes_red g j) count (λ p from to.
+    (let a : h.vehicle p ≡ g.vehicle p = before.vehicle p from to in
+    let b : i.vehicle p ≡ j.vehicle p = after.vehicle p from to in
+    rw (a, b) refl)))
+
+pub judge-same : MonitorsLookOnlyAtTheirOwn
+judge-same plan h g i j count before after = ap₂ (λ (a b : Option Trip). option_or a b) (conflict-same plan i j count after) (red-same plan h g i j count before after)
+
+-- ## Quiet ticks
+
+none-first : (a b : Option Trip) → option_or a b ≡ None → a ≡ None
+none-first None b h = refl
+none-first (Some x) b h = absurd (cc)
+
+stays-red : (x : Aspect) → (monitor.is_green x && is_red x) ≡ false
+stays-red Dark = refl
+stays-red Red = refl
+stays-red Yellow = refl
+stays-red Green = refl
+stays-red FlashingRed = refl
+
+none-goes : (plan : Plan) (heads : Heads) → green_to_red plan heads heads ≡ None
+unfolding green_to_red
+none-goes plan heads =
+    ap (λ (o : Option ℕ). option_map (λ (p : ℕ). GreenToRed p) o) (first-never (goes_red heads heads) 1 plan.phase_count (λ p. stays-red (heads.vehicle p)))
+
+pub staying-pass : StayingHeadsPass
+staying-pass plan heads none = ap₂ (λ (a b : Option Trip). option_or a b) none (none-goes plan heads)
+
+pub passed-again : PassedHeadsPassAgain
+passed-again plan before heads passed = staying-pass plan heads (none-first (conflict plan heads) (green_to_red plan before heads) passed)

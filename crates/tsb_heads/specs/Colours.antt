@@ -1,0 +1,38 @@
+-- What heads show beside red and green, as tests.
+use Rattle.std.specs.Prelude.{Bool, true, false}
+use Rattle.tsb_types.specs.declared.lamp.Aspect.{Aspect}
+use Rattle.tsb_types.specs.declared.lamp.Aspect.TheVariants.{Dark, Red, Yellow, Green, FlashingRed}
+use Rattle.tsb_types.specs.declared.lamp.PedestrianAspect.{PedestrianAspect}
+use Rattle.tsb_types.specs.declared.lamp.PedestrianAspect.TheVariants as pedestrian_aspects
+
+abbrev pub is_yellow : Aspect → Bool
+is_yellow Yellow = true
+is_yellow Dark = false
+is_yellow Red = false
+is_yellow Green = false
+is_yellow FlashingRed = false
+
+abbrev pub is_flashing : Aspect → Bool
+is_flashing FlashingRed = true
+is_flashing Dark = false
+is_flashing Red = false
+is_flashing Yellow = false
+is_flashing Green = false
+
+abbrev pub shows_dont_walk : PedestrianAspect → Bool
+shows_dont_walk pedestrian_aspects.DontWalk = true
+shows_dont_walk pedestrian_aspects.Dark = false
+shows_dont_walk pedestrian_aspects.Clearance = false
+shows_dont_walk pedestrian_aspects.Walk = false
+
+abbrev pub shows_clearance : PedestrianAspect → Bool
+shows_clearance pedestrian_aspects.Clearance = true
+shows_clearance pedestrian_aspects.Dark = false
+shows_clearance pedestrian_aspects.DontWalk = false
+shows_clearance pedestrian_aspects.Walk = false
+
+abbrev pub shows_walk : PedestrianAspect → Bool
+shows_walk pedestrian_aspects.Walk = true
+shows_walk pedestrian_aspects.Dark = false
+shows_walk pedestrian_aspects.DontWalk = false
+shows_walk pedestrian_aspects.Clearance = false

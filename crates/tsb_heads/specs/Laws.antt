@@ -1,0 +1,68 @@
+-- Laws of displays and of the monitor. Each is the contract of a function in src/laws.rt, and proved there.
+use Rattle.std.specs.Prelude.{◌≡◌, ℕ, ◌≤◌, false, true, Option, None}
+use Rattle.tsb_types.specs.declared.flow.Intervals.{Intervals}
+use Rattle.tsb_types.specs.declared.flow.Pedestrians.{Pedestrians}
+use Rattle.tsb_types.specs.declared.lamp.Lamp.{Lamp}
+use Rattle.tsb_plan.specs.Plan.{Plan}
+use Rattle.tsb_objects.specs.Consistent.{IsPhase}
+use Rattle.tsb_objects.specs.Rules.{first_broken}
+use Rattle.tsb_heads.specs.declared.display.Display.{Display}
+use Rattle.tsb_heads.specs.declared.field.Field.{Field}
+use Rattle.tsb_heads.specs.Heads.{Shown, Heads}
+use Rattle.tsb_heads.specs.Displays.{display, field, laid_over}
+use Rattle.tsb_heads.specs.Monitoring.{has_right_of_way, IsSafe, conflict, judge}
+use Rattle.tsb_heads.specs.Reading.{shown_by, heads_of_field}
+use Rattle.tsb_heads.specs.Promises.{IsSame, IsDisplayed, IsLaidOver}
+
+-- ## Safe heads
+
+-- safe heads are in no conflict
+abbrev pub SafeHeadsDoNotConflict : Type 0
+SafeHeadsDoNotConflict = (plan : Plan) (heads : Heads) → IsSafe plan heads → conflict plan heads ≡ None
+
+-- and heads in no conflict are safe, in a plan that breaks no rule, where phases that it has not have no right of way
+abbrev pub HeadsWithoutConflictAreSafe : Type 0
+HeadsWithoutConflictAreSafe = (plan : Plan) (heads : Heads) → first_broken plan ≡ None →
+    ((p : ℕ) → has_right_of_way heads p ≡ true → IsPhase plan p) → conflict plan heads ≡ None → IsSafe plan heads
+
+-- ## What displays, fields and the monitor look at
+
+-- the same intervals and pedestrian parts of phases 1 to 16, and the same commitments
+pub record AreAlike (one : Shown) (other : Shown) : Type 0 where
+  pub interval : (p : ℕ) → 1 ≤ p → p ≤ 16 → one.interval p ≡ other.interval p
+  pub pedestrian : (p : ℕ) → 1 ≤ p → p ≤ 16 → one.pedestrian p ≡ other.pedestrian p
+  pub commitment : (r : ℕ) → one.commitment r ≡ other.commitment r
+  pub tripped : one.tripped ≡ other.tripped
+
+-- a display looks at nothing else
+abbrev pub DisplaysLookOnlyAtTheirOwn : Type 0
+DisplaysLookOnlyAtTheirOwn = (plan : Plan) (one other : Shown) → plan.phase_count ≤ 16 → AreAlike one other → IsSame (display plan one) (display plan other)
+
+-- a lamp over heads that show the same makes heads that show the same
+abbrev pub LampsLookOnlyAtTheirOwn : Type 0
+LampsLookOnlyAtTheirOwn = (lamp : Option Lamp) (one other : Heads) → IsSame one other → IsSame (laid_over lamp one) (laid_over lamp other)
+
+-- so the field that is laid over a display is that of the definitions, of all that is alike
+abbrev pub FieldsAreTold : Type 0
+FieldsAreTold = (plan : Plan) (intervals : Intervals) (pedestrians : Pedestrians) (ring_1 ring_2 : Option ℕ) (lamp : Option Lamp) (d : Display) (f : Field) (s : Shown) →
+    plan.phase_count ≤ 16 → AreAlike (shown_by intervals pedestrians ring_1 ring_2 false) s → IsDisplayed intervals pedestrians ring_1 ring_2 false plan d → IsLaidOver d lamp f →
+    IsSame (heads_of_field f) (field plan s lamp)
+
+-- the monitor looks at the vehicle and pedestrian heads of phases 1 to 16
+pub record ShowAlike (one : Heads) (other : Heads) : Type 0 where
+  pub vehicle : (p : ℕ) → 1 ≤ p → p ≤ 16 → one.vehicle p ≡ other.vehicle p
+  pub pedestrian : (p : ℕ) → 1 ≤ p → p ≤ 16 → one.pedestrian p ≡ other.pedestrian p
+
+abbrev pub MonitorsLookOnlyAtTheirOwn : Type 0
+MonitorsLookOnlyAtTheirOwn = (plan : Plan) (before before_too after after_too : Heads) → plan.phase_count ≤ 16 → ShowAlike before before_too → ShowAlike after after_too →
+    judge plan before after ≡ judge plan before_too after_too
+
+-- ## Quiet ticks
+
+-- heads in no conflict that stay trip nothing
+abbrev pub StayingHeadsPass : Type 0
+StayingHeadsPass = (plan : Plan) (heads : Heads) → conflict plan heads ≡ None → judge plan heads heads ≡ None
+
+-- nor do heads that stay once the monitor has let them pass
+abbrev pub PassedHeadsPassAgain : Type 0
+PassedHeadsPassAgain = (plan : Plan) (before heads : Heads) → judge plan before heads ≡ None → judge plan heads heads ≡ None

@@ -1,0 +1,73 @@
+//! What the heads of all overlaps show, as sets of overlaps.
+ghost use Rattle.std.specs.Prelude.{◌≡◌, ◌≢◌, ◌≤◌, ℕ, false};
+ghost use Rattle.tsb_types.specs.declared.lamp.Aspect.TheVariants.{FlashingRed};
+ghost use Rattle.tsb_types.specs.Sets.{has_number};
+ghost use Rattle.tsb_objects.specs.Checked.{checked_plan};
+ghost use Rattle.tsb_heads.specs.Heads.{Shown};
+ghost use Rattle.tsb_heads.specs.Overlaps.{overlap_head};
+ghost use Rattle.tsb_heads.specs.Served.{IsServed};
+ghost use Rattle.tsb_heads.specs.OverlapSets.{HasNone, IsInOne, IsSameAt, aspect_of_overlap};
+
+use crate::overlaps::{Served, overlap_head};
+use tsb_objects::{Aspect, Checked, NumberSet, Overlap};
+
+/// The sets of overlaps whose heads show each colour.
+#[derive(Clone, Copy)]
+pub(crate) struct Overlaps {
+    pub(crate) red: NumberSet,
+    pub(crate) yellow: NumberSet,
+    pub(crate) green: NumberSet,
+}
+
+/// No overlap has a head.
+#[inline(always)]
+fn no_overlaps() -> Overlaps
+    ensures { (n : ℕ) → HasNone result n }
+{
+    Overlaps {
+        red: NumberSet::empty(),
+        yellow: NumberSet::empty(),
+        green: NumberSet::empty(),
+    }
+}
+
+/// The set with the number where `on`, of a set that has it not.
+#[inline(always)]
+fn joined(set: NumberSet, o: Overlap, on: bool) -> NumberSet
+    requires { has_number set o ≡ false }
+    ensures set { has_number result o ≡ on }
+    ensures others { (n : ℕ) → n ≢ o → has_number result n ≡ has_number set n }
+{
+    if on { set.with(o.number(), true) } else { set }
+}
+
+/// The sets with an overlap more, which is in none of them.
+#[inline(always)]
+fn with_overlap(heads: Overlaps, o: Overlap, aspect: Aspect) -> Overlaps
+    requires fresh { HasNone heads o }
+    requires steady { aspect ≢ FlashingRed }
+    ensures here { aspect_of_overlap result o ≡ aspect }
+    ensures one { IsInOne result o }
+    ensures others { (n : ℕ) → n ≢ o → IsSameAt heads result n }
+{
+    Overlaps {
+        red: joined(heads.red, o, matches!(aspect, Aspect::Red)),
+        yellow: joined(heads.yellow, o, matches!(aspect, Aspect::Yellow)),
+        green: joined(heads.green, o, matches!(aspect, Aspect::Green)),
+    }
+}
+
+/// What the heads of overlaps show.
+#[inline(always)]
+pub(crate) fn overlaps_of(plan: &Checked, served: &Served) -> Overlaps
+    ensures heads { (s : Shown) → IsServed (checked_plan plan.now) s served.now → (o : ℕ) → 1 ≤ o → o ≤ 4 →
+        aspect_of_overlap result o ≡ overlap_head (checked_plan plan.now) s o }
+    ensures apart { (n : ℕ) → IsInOne result n }
+{
+    let mut heads = no_overlaps();
+    for number in 1..5u8 {
+        let o = Overlap::of(number);
+        heads = with_overlap(heads, o, overlap_head(plan, o, served));
+    }
+    heads
+}
