@@ -1,26 +1,13 @@
-use Rattle.std.proofs.Common.{◌≡◌, ◌<◌, true, arith, rules}
-use Rattle.tsb_plan.specs.PlanOf.{plan_of}
+use Rattle.std.proofs.Common.{subst}
+use Rattle.tsb_plan.specs.Plan.{Plan}
 use Rattle.tsb_preempt.specs.Layer.{cells_of}
-use Rattle.tsb_preempt.proofs.QuietLemmas.{IsStill, quiet, standing}
+use Rattle.tsb_preempt.specs.Due.{AreQuietUntil, OrdersStandUntil}
 use Rattle.tsb_preempt.proofs.preempts.Preempts.due.Goals as goal
 
-pub returns : goal.returns
-returns c =
-    let plan = plan_of c.args.plan.now in
-    let cells = cells_of c.args.self.now in
-    let inside : c.is_within.result ≡ true = search rules in
-    let following : c.has_delays.result ≡ true = search rules in
-    let still : IsStill plan c.args.row.now c.args.intervals.now cells c.inputs-inputs.result c.list-spent.result c.load-was.result c.min.result = record {
-      inputs_are = c.inputs-inputs.ensures;
-      spent_are = c.list-spent.ensures;
-      within = c.is_within.ensures inside;
-      delays = c.has_delays.ensures following;
-      was_is = c.load-was.ensures.state;
-      was_by = c.load-was.ensures.by;
-      waits = λ t begun before. (let early : t < c.requests_due-requests.result = omega arith in c.requests_due-requests.ensures t t begun early);
-      serves = λ t by before. (let early : t < c.service_due.result = omega arith in c.service_due.ensures t by early);
-    } in
-    record {
-      quiet = quiet c.args.now plan c.args.row.now c.args.intervals.now cells c.inputs-inputs.result c.list-spent.result c.load-was.result c.min.result c.requires.by still;
-      orders = standing c.args.now plan c.args.row.now c.args.intervals.now cells c.inputs-inputs.result c.list-spent.result c.load-was.result c.min.result c.requires.by still;
-    }
+pub returns-clause-quiet : goal.returns-clause-quiet
+returns-clause-quiet c =
+    subst (λ (plan : Plan). AreQuietUntil c.args.now c.args.row.now c.args.intervals.now plan (cells_of c.args.self.now) c.due_of.result) c.plan.ensures.plan c.due_of.ensures.quiet
+
+pub returns-clause-orders : goal.returns-clause-orders
+returns-clause-orders c =
+    subst (λ (plan : Plan). OrdersStandUntil c.args.now c.args.row.now c.args.intervals.now plan (cells_of c.args.self.now) c.due_of.result) c.plan.ensures.plan c.due_of.ensures.orders
