@@ -62,7 +62,7 @@ fn makes_way(plan: &Checked, conditions: &Conditions, c: Phase, across: Option<P
 {
     match across {
         None => true,
-        Some(q) => plan.plan().concurrency(c).contains(q) || conditions.timing.over.contains(q),
+        Some(q) => plan.concurrent_to(q).contains(c) || conditions.timing.over.contains(q),
     }
 }
 
