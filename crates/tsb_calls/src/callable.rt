@@ -11,8 +11,7 @@ ghost use Rattle.tsb_calls.specs.Layer.{AreMemories};
 
 use crate::observed::Observed;
 use crate::plan_sets::{
-    enabled, joined, non_locking, with_pedestrian_recall, with_pedestrians, with_recall,
-    with_soft_recall,
+    enabled, non_locking, with_pedestrian_recall, with_pedestrians, with_recall, with_soft_recall,
 };
 use tsb_objects::{Called, Phase, PhaseSet, Plan};
 
@@ -114,7 +113,7 @@ fn with_conflict(plan: &Plan, callable: PhaseSet) -> PhaseSet
     let mut set = PhaseSet::empty();
     for number in 1..17u8 {
         let p = Phase::of(number);
-        set = joined(set, p, yields(plan, callable, p));
+        set = set.joined(p, yields(plan, callable, p));
     }
     set
 }

@@ -1,5 +1,5 @@
 //! Sets of phases that a plan tells: enabled, non-locking, with a walk, on recall.
-ghost use Rattle.std.specs.Prelude.{◌≡◌, ◌≢◌, ℕ, ◌<◌, ◌≤◌, ◌||◌, true, false};
+ghost use Rattle.std.specs.Prelude.{◌≡◌, ℕ, ◌≤◌, ◌||◌};
 ghost use Rattle.tsb_types.specs.Sets.{has};
 ghost use Rattle.tsb_plan.specs.Plan.{is_enabled, is_non_locking, has_minimum_recall, has_maximum_recall, has_pedestrian_recall, has_soft_recall};
 ghost use Rattle.tsb_plan.specs.PlanOf.{plan_of};
@@ -7,16 +7,6 @@ ghost use Rattle.tsb_plan.specs.Running.{split_in_effect, mode_in, coordinates_i
 ghost use Rattle.tsb_objects.specs.Rules.{serves_pedestrians};
 
 use tsb_objects::{Pattern, Phase, PhaseSet, Plan, Split, SplitMode};
-
-/// The set with the phase where `on`, of a set that has it not.
-#[inline(always)]
-pub(crate) fn joined(set: PhaseSet, p: Phase, on: bool) -> PhaseSet
-    requires { has set p ≡ false }
-    ensures set { has result p ≡ on }
-    ensures others { (q : ℕ) → q ≢ p → has result q ≡ has set q }
-{
-    if on { set.with(p, true) } else { set }
-}
 
 /// The phases that are enabled.
 #[inline(always)]
@@ -26,7 +16,7 @@ pub(crate) fn enabled(plan: &Plan) -> PhaseSet
     let mut set = PhaseSet::empty();
     for number in 1..17u8 {
         let p = Phase::of(number);
-        set = joined(set, p, plan.is_enabled(p));
+        set = set.joined(p, plan.is_enabled(p));
     }
     set
 }
@@ -39,7 +29,7 @@ pub(crate) fn non_locking(plan: &Plan) -> PhaseSet
     let mut set = PhaseSet::empty();
     for number in 1..17u8 {
         let p = Phase::of(number);
-        set = joined(set, p, plan.is_non_locking(p));
+        set = set.joined(p, plan.is_non_locking(p));
     }
     set
 }
@@ -52,7 +42,7 @@ pub(crate) fn with_pedestrians(plan: &Plan) -> PhaseSet
     let mut set = PhaseSet::empty();
     for number in 1..17u8 {
         let p = Phase::of(number);
-        set = joined(set, p, plan.is_enabled(p) && plan.walk(p) > 0);
+        set = set.joined(p, plan.is_enabled(p) && plan.walk(p) > 0);
     }
     set
 }
@@ -65,7 +55,7 @@ pub(crate) fn with_soft_recall(plan: &Plan) -> PhaseSet
     let mut set = PhaseSet::empty();
     for number in 1..17u8 {
         let p = Phase::of(number);
-        set = joined(set, p, plan.has_soft_recall(p));
+        set = set.joined(p, plan.has_soft_recall(p));
     }
     set
 }
@@ -155,7 +145,7 @@ pub(crate) fn with_recall(plan: &Plan, runs: Option<Pattern>) -> PhaseSet
     let mut set = PhaseSet::empty();
     for number in 1..17u8 {
         let p = Phase::of(number);
-        set = joined(set, p, is_recalled(plan, split, p));
+        set = set.joined(p, is_recalled(plan, split, p));
     }
     set
 }
@@ -169,7 +159,7 @@ pub(crate) fn with_pedestrian_recall(plan: &Plan, runs: Option<Pattern>) -> Phas
     let mut set = PhaseSet::empty();
     for number in 1..17u8 {
         let p = Phase::of(number);
-        set = joined(set, p, has_pedestrian(plan, split, p));
+        set = set.joined(p, has_pedestrian(plan, split, p));
     }
     set
 }

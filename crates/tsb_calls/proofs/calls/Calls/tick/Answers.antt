@@ -10,6 +10,6 @@ returns-clause-called c = λ p from within.
     let old = memories_in (cells_of c.args.self.now) in
     c.find_called.ensures (as_set (plan_of c.args.plan.now) (given_of c.args.observed.now) old)
     (record {
-      vehicles = λ q low high. c.vehicle_memories-vehicle.ensures old q low high (c.list.ensures q);
-      pedestrians = λ q low high. c.pedestrian_memories-pedestrian.ensures old q low high (c.list-2.ensures q);
+      vehicles = λ q low high. c.vehicle_memories-vehicle.ensures old q low high (c.phases.ensures q);
+      pedestrians = λ q low high. c.pedestrian_memories-pedestrian.ensures old q low high (c.phases-2.ensures q);
     }) p from within
