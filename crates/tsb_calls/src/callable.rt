@@ -3,17 +3,15 @@ ghost use Rattle.std.specs.Prelude.{◌≡◌, ℕ, ◌≤◌, ◌==◌, ◌&&�
 ghost use Rattle.tsb_types.specs.Lists.{some_passes, run_from};
 ghost use Rattle.tsb_types.specs.Sets.{has};
 ghost use Rattle.tsb_plan.specs.Plan.{has_soft_recall, is_concurrent};
-ghost use Rattle.tsb_plan.specs.PlanOf.{plan_of};
+ghost use Rattle.tsb_objects.specs.Checked.{checked_plan};
 ghost use Rattle.tsb_calls.specs.Memories.{Memories, has_output};
 ghost use Rattle.tsb_calls.specs.Callable.{has_pedestrian_call, is_called, is_free, is_callable_otherwise, is_callable, has_conflict};
 ghost use Rattle.tsb_calls.specs.Promises.{given_of, IsCalledAs};
 ghost use Rattle.tsb_calls.specs.Layer.{AreMemories};
 
 use crate::observed::Observed;
-use crate::plan_sets::{
-    enabled, non_locking, with_pedestrian_recall, with_pedestrians, with_recall, with_soft_recall,
-};
-use tsb_objects::{Called, Phase, PhaseSet, Plan};
+use crate::recalls::{with_pedestrian_recall, with_pedestrians, with_recall};
+use tsb_objects::{Called, Checked, Phase, PhaseSet};
 
 /// A phase has a number from 1 to 16.
 #[inline(always)]
@@ -40,9 +38,9 @@ fn has_some(set: PhaseSet) -> bool
 
 /// The phases with a pedestrian call, by the pedestrian memories as set.
 #[inline(always)]
-fn with_pedestrian_call(plan: &Plan, observed: &Observed, pedestrian: PhaseSet) -> PhaseSet
+fn with_pedestrian_call(plan: &Checked, observed: &Observed, pedestrian: PhaseSet) -> PhaseSet
     ensures { (m : Memories) → (p : ℕ) → 1 ≤ p → p ≤ 16 → has pedestrian p ≡ m.pedestrian p →
-        has result p ≡ has_pedestrian_call (plan_of plan.now) (given_of observed.now) m p }
+        has result p ≡ has_pedestrian_call (checked_plan plan.now) (given_of observed.now) m p }
 {
     with_pedestrians(plan).intersection(pedestrian.union(with_pedestrian_recall(
         plan,
@@ -52,10 +50,10 @@ fn with_pedestrian_call(plan: &Plan, observed: &Observed, pedestrian: PhaseSet) 
 
 /// The phases that are free to be served.
 #[inline(always)]
-fn free(plan: &Plan, observed: &Observed) -> PhaseSet
-    ensures { (p : ℕ) → 1 ≤ p → p ≤ 16 → has result p ≡ is_free (plan_of plan.now) (given_of observed.now) p }
+fn free(plan: &Checked, observed: &Observed) -> PhaseSet
+    ensures { (p : ℕ) → 1 ≤ p → p ≤ 16 → has result p ≡ is_free (checked_plan plan.now) (given_of observed.now) p }
 {
-    enabled(plan)
+    plan.enabled()
         .difference(observed.omit)
         .difference(observed.intervals.green)
 }
@@ -63,18 +61,18 @@ fn free(plan: &Plan, observed: &Observed) -> PhaseSet
 /// The phases that are called, by the vehicle memories as set, the pedestrian calls and the outputs.
 #[inline(always)]
 fn called(
-    plan: &Plan,
+    plan: &Checked,
     observed: &Observed,
     vehicle: PhaseSet,
     walk: PhaseSet,
     output: PhaseSet,
 ) -> PhaseSet
-    requires { (p : ℕ) → has output p ≡ has_output (plan_of plan.now) (given_of observed.now) p }
+    requires { (p : ℕ) → 1 ≤ p → p ≤ 16 → has output p ≡ has_output (checked_plan plan.now) (given_of observed.now) p }
     ensures { (m : Memories) → (p : ℕ) → 1 ≤ p → p ≤ 16 → has vehicle p ≡ m.vehicle p →
-        has walk p ≡ has_pedestrian_call (plan_of plan.now) (given_of observed.now) m p →
-        has result p ≡ is_called (plan_of plan.now) (given_of observed.now) m p }
+        has walk p ≡ has_pedestrian_call (checked_plan plan.now) (given_of observed.now) m p →
+        has result p ≡ is_called (checked_plan plan.now) (given_of observed.now) m p }
 {
-    let passing = non_locking(plan).intersection(output);
+    let passing = plan.non_locking().intersection(output);
     vehicle
         .union(walk)
         .union(passing)
@@ -83,37 +81,39 @@ fn called(
 
 /// The callable phases, of those that are free and those that are called: where none is both, soft recall counts.
 #[inline(always)]
-fn callable(plan: &Plan, free: PhaseSet, called: PhaseSet) -> PhaseSet
+fn callable(plan: &Checked, free: PhaseSet, called: PhaseSet) -> PhaseSet
     ensures { (test : ℕ → Bool) → ((p : ℕ) → 1 ≤ p → p ≤ 16 → (has free p && has called p) ≡ test p) →
-        (p : ℕ) → 1 ≤ p → p ≤ 16 → has result p ≡ (test p || (has free p && (has_soft_recall (plan_of plan.now) p && not (some_passes test (run_from 1 16))))) }
+        (p : ℕ) → 1 ≤ p → p ≤ 16 → has result p ≡ (test p || (has free p && (has_soft_recall (checked_plan plan.now) p && not (some_passes test (run_from 1 16))))) }
 {
     let otherwise = free.intersection(called);
     if has_some(otherwise) {
         otherwise
     } else {
-        free.intersection(with_soft_recall(plan))
+        free.intersection(plan.soft_recall())
     }
 }
 
-/// Whether a callable phase other than this one is not concurrent with it.
+/// The phases that have to yield to a callable phase: the others that are not concurrent with it.
 #[inline(always)]
-fn yields(plan: &Plan, callable: PhaseSet, p: Phase) -> bool
-    ensures { (test : ℕ → Bool) → ((q : ℕ) → 1 ≤ q → q ≤ 16 → has callable q ≡ test q) →
-        result ≡ some_passes (λ q. test q && (not (q == p) && not (is_concurrent (plan_of plan.now) p q))) (run_from 1 16) }
+fn yielding_to(plan: &Checked, q: Phase) -> PhaseSet
+    ensures { (p : ℕ) → 1 ≤ p → p ≤ 16 → has result p ≡ (not (q == p) && not (is_concurrent (checked_plan plan.now) p q)) }
 {
-    has_some(callable.with(p, false).difference(plan.concurrency(p)))
+    PhaseSet::from_list(u16::MAX)
+        .difference(plan.concurrent_to(q))
+        .with(q, false)
 }
 
 /// The phases for which another callable phase waits that is not concurrent with them.
 #[inline(always)]
-fn with_conflict(plan: &Plan, callable: PhaseSet) -> PhaseSet
-    ensures { (test : ℕ → Bool) → ((q : ℕ) → 1 ≤ q → q ≤ 16 → has callable q ≡ test q) → (p : ℕ) → 1 ≤ p → p ≤ 16 →
-        has result p ≡ some_passes (λ q. test q && (not (q == p) && not (is_concurrent (plan_of plan.now) p q))) (run_from 1 16) }
+fn with_conflict(plan: &Checked, callable: PhaseSet) -> PhaseSet
+    ensures { (p : ℕ) → 1 ≤ p → p ≤ 16 → has result p
+        ≡ some_passes (λ q. has callable q && (not (q == p) && not (is_concurrent (checked_plan plan.now) p q))) (run_from 1 16) }
 {
     let mut set = PhaseSet::empty();
-    for number in 1..17u8 {
-        let p = Phase::of(number);
-        set = set.joined(p, yields(plan, callable, p));
+    let mut rest = callable;
+    while let Some(q) = rest.pop() {
+        known(q);
+        set = set.union(yielding_to(plan, q));
     }
     set
 }
@@ -122,15 +122,15 @@ fn with_conflict(plan: &Plan, callable: PhaseSet) -> PhaseSet
 #[inline(always)]
 #[tactic(auto, unfolding(crate::specs::Callable::is_callable, crate::specs::Callable::has_conflict))]
 pub(crate) fn find_called(
-    plan: &Plan,
+    plan: &Checked,
     observed: &Observed,
     vehicle: PhaseSet,
     pedestrian: PhaseSet,
     output: PhaseSet,
 ) -> Called
-    requires { (p : ℕ) → has output p ≡ has_output (plan_of plan.now) (given_of observed.now) p }
+    requires { (p : ℕ) → 1 ≤ p → p ≤ 16 → has output p ≡ has_output (checked_plan plan.now) (given_of observed.now) p }
     ensures { (m : Memories) → AreMemories vehicle pedestrian m → (p : ℕ) → 1 ≤ p → p ≤ 16 →
-        IsCalledAs (plan_of plan.now) (given_of observed.now) m result p }
+        IsCalledAs (checked_plan plan.now) (given_of observed.now) m result p }
 {
     let walk = with_pedestrian_call(plan, observed, pedestrian);
     let called = called(plan, observed, vehicle, walk, output);

@@ -3,10 +3,11 @@ ghost use Rattle.std.specs.Prelude.{◌≡◌, ◌≢◌, ℕ, ◌<◌, ◌≤�
 ghost use Rattle.tsb_types.specs.Sets.{has, has_number, size_of_numbers};
 ghost use Rattle.tsb_types.specs.Lists.{is, some_passes};
 ghost use Rattle.tsb_plan.specs.PlanOf.{plan_of};
+ghost use Rattle.tsb_objects.specs.Checked.{checked_plan};
 ghost use Rattle.tsb_plan.specs.Parts.{pedestrian_call_phase};
 ghost use Rattle.tsb_calls.specs.Memories.{calls, calls_walk, vehicle_detectors, pedestrian_detectors};
 
-use tsb_objects::{Detector, NumberSet, PedestrianDetector, Phase, PhaseSet, Plan};
+use tsb_objects::{Checked, Detector, NumberSet, PedestrianDetector, Phase, PhaseSet, Plan};
 
 /// Takes the least detector out of a set.
 #[inline(always)]
@@ -40,15 +41,23 @@ fn with_some(set: PhaseSet, p: Option<Phase>) -> PhaseSet
     }
 }
 
+/// Whether an output of the phase is on.
+#[inline(always)]
+fn has_output(plan: &Checked, p: Phase, on: NumberSet) -> bool
+    ensures { result ≡ some_passes (λ d. calls (checked_plan plan.now) d p && has_number on d) vehicle_detectors }
+{
+    plan.detectors_of(p).intersection(on).first().is_some()
+}
+
 /// The phases of which an output is on.
 #[inline(always)]
-pub(crate) fn outputs(plan: &Plan, on: NumberSet) -> PhaseSet
-    ensures { (p : ℕ) → has result p ≡ some_passes (λ d. calls (plan_of plan.now) d p && has_number on d) vehicle_detectors }
+pub(crate) fn outputs(plan: &Checked, on: NumberSet) -> PhaseSet
+    ensures { (p : ℕ) → 1 ≤ p → p ≤ 16 → has result p ≡ some_passes (λ d. calls (checked_plan plan.now) d p && has_number on d) vehicle_detectors }
 {
     let mut set = PhaseSet::empty();
-    let mut rest = on;
-    while let Some(d) = pop(&mut rest) {
-        set = with_some(set, plan.call_phase(d));
+    for number in 1..17u8 {
+        let p = Phase::of(number);
+        set = set.joined(p, has_output(plan, p, on));
     }
     set
 }
@@ -66,13 +75,13 @@ fn walk_called(plan: &Plan, d: Detector) -> Option<Phase>
 
 /// The phases of which a button is pressed.
 #[inline(always)]
-pub(crate) fn buttons(plan: &Plan, on: NumberSet) -> PhaseSet
-    ensures { (p : ℕ) → has result p ≡ some_passes (λ d. calls_walk (plan_of plan.now) d p && has_number on d) pedestrian_detectors }
+pub(crate) fn buttons(plan: &Checked, on: NumberSet) -> PhaseSet
+    ensures { (p : ℕ) → has result p ≡ some_passes (λ d. calls_walk (checked_plan plan.now) d p && has_number on d) pedestrian_detectors }
 {
     let mut set = PhaseSet::empty();
     let mut rest = on;
     while let Some(d) = pop(&mut rest) {
-        set = with_some(set, walk_called(plan, d));
+        set = with_some(set, walk_called(plan.plan(), d));
     }
     set
 }

@@ -1,33 +1,33 @@
 //! What detectors put into the memories.
 ghost use Rattle.std.specs.Prelude.{◌≡◌, ℕ, ◌≤◌};
 ghost use Rattle.tsb_types.specs.Sets.{has};
-ghost use Rattle.tsb_plan.specs.PlanOf.{plan_of};
+ghost use Rattle.tsb_objects.specs.Checked.{checked_plan};
 ghost use Rattle.tsb_calls.specs.Memories.{Memories, has_output, vehicle_memory, pedestrian_memory};
 ghost use Rattle.tsb_calls.specs.Promises.{given_of};
 
 use crate::detected::buttons;
 use crate::observed::Observed;
-use crate::plan_sets::{enabled, non_locking, with_pedestrians};
-use tsb_objects::{PhaseSet, Plan};
+use crate::recalls::with_pedestrians;
+use tsb_objects::{Checked, PhaseSet};
 
 /// The vehicle memories as set.
 #[inline(always)]
 #[tactic(auto, unfolding(crate::specs::Memories::vehicle_memory))]
 pub(crate) fn vehicle_memories(
-    plan: &Plan,
+    plan: &Checked,
     observed: &Observed,
     old: PhaseSet,
     output: PhaseSet,
 ) -> PhaseSet
-    requires { (p : ℕ) → has output p ≡ has_output (plan_of plan.now) (given_of observed.now) p }
+    requires { (p : ℕ) → 1 ≤ p → p ≤ 16 → has output p ≡ has_output (checked_plan plan.now) (given_of observed.now) p }
     ensures { (m : Memories) → (p : ℕ) → 1 ≤ p → p ≤ 16 → has old p ≡ m.vehicle p →
-        has result p ≡ vehicle_memory (plan_of plan.now) (given_of observed.now) m p }
+        has result p ≡ vehicle_memory (checked_plan plan.now) (given_of observed.now) m p }
 {
-    let on = enabled(plan);
+    let on = plan.enabled();
     let called = if observed.service_ended {
         on
     } else {
-        on.intersection(output.difference(non_locking(plan)))
+        on.intersection(output.difference(plan.non_locking()))
     };
     old.union(called.difference(observed.intervals.green))
 }
@@ -35,9 +35,9 @@ pub(crate) fn vehicle_memories(
 /// The pedestrian memories as set.
 #[inline(always)]
 #[tactic(auto, unfolding(crate::specs::Memories::pedestrian_memory, crate::specs::Memories::has_button))]
-pub(crate) fn pedestrian_memories(plan: &Plan, observed: &Observed, old: PhaseSet) -> PhaseSet
+pub(crate) fn pedestrian_memories(plan: &Checked, observed: &Observed, old: PhaseSet) -> PhaseSet
     ensures { (m : Memories) → (p : ℕ) → 1 ≤ p → p ≤ 16 → has old p ≡ m.pedestrian p →
-        has result p ≡ pedestrian_memory (plan_of plan.now) (given_of observed.now) m p }
+        has result p ≡ pedestrian_memory (checked_plan plan.now) (given_of observed.now) m p }
 {
     let pressed = buttons(plan, observed.buttons).intersection(with_pedestrians(plan));
     old.union(pressed.difference(observed.pedestrians.walk))

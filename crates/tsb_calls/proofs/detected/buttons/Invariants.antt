@@ -1,5 +1,5 @@
 use Rattle.std.proofs.Common.{◌≡◌, ℕ, ◌≤◌, ◌&&◌, true, false}
-use Rattle.tsb_plan.specs.PlanOf.{plan_of}
+use Rattle.tsb_objects.specs.Checked.{checked_plan}
 use Rattle.tsb_types.specs.Sets.{has, has_number, size_of_numbers}
 use Rattle.tsb_types.specs.Lists.{some_passes}
 use Rattle.tsb_calls.specs.Memories.{calls_walk, pedestrian_detectors}
@@ -12,6 +12,6 @@ decreases-loop-d l = size_of_numbers l.rest
 abbrev pub invariant-loop-d : goal.invariant-loop-d
 invariant-loop-d l = record {
   within : (d : ℕ) → has_number l.rest d ≡ true → has_number l.initial.rest d ≡ true;
-  complete : (p d : ℕ) → has_number l.initial.rest d ≡ true → has_number l.rest d ≡ false → d ≤ 8 → calls_walk (plan_of l.plan) d p ≡ true → has l.set p ≡ true;
-  sound : (p : ℕ) → has l.set p ≡ true → some_passes (λ d. calls_walk (plan_of l.plan) d p && has_number l.initial.rest d) pedestrian_detectors ≡ true;
+  complete : (p d : ℕ) → has_number l.initial.rest d ≡ true → has_number l.rest d ≡ false → d ≤ 8 → calls_walk (checked_plan l.plan) d p ≡ true → has l.set p ≡ true;
+  sound : (p : ℕ) → has l.set p ≡ true → some_passes (λ d. calls_walk (checked_plan l.plan) d p && has_number l.initial.rest d) pedestrian_detectors ≡ true;
 }

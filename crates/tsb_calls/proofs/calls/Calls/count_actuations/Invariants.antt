@@ -1,5 +1,5 @@
 use Rattle.std.proofs.Common.{◌≡◌, ℕ, ◌+◌, ◌≤◌, true, slice_index, count_by}
-use Rattle.tsb_plan.specs.PlanOf.{plan_of}
+use Rattle.tsb_objects.specs.Checked.{checked_plan}
 use Rattle.tsb_types.specs.Lists.{run_from}
 use Rattle.tsb_types.specs.Sets.{has, has_number, size_of_numbers}
 use Rattle.tsb_calls.specs.Memories.{calls}
@@ -16,7 +16,7 @@ invariant-loop-d l = record {
   within : (d : ℕ) → has_number l.rest d ≡ true → has_number l.initial.rest d ≡ true;
   told : (p : ℕ) → 1 ≤ p → p ≤ 16 → slice_index (cells_of l.self) (1 + p)
       ≡ counted_to (has l.green p) (slice_index (cells_of l.initial.self) (1 + p))
-      (count_by (taken (λ d. calls (plan_of l.plan) d p) (has_number l.initial.rest) (has_number l.rest)) (run_from 1 16));
+      (count_by (taken (λ d. calls (checked_plan l.plan) d p) (has_number l.initial.rest) (has_number l.rest)) (run_from 1 16));
   small : AreSmall (cells_of l.self);
   lists : KeepsLists (cells_of l.initial.self) (cells_of l.self);
   kept : kept_of l.self ≡ kept_of l.initial.self;

@@ -1,10 +1,11 @@
-use Rattle.std.proofs.Common.{◌≡◌, ◌≢◌, ℕ, ◌||◌, Bool, Option, arith, sym, ◌∙◌, ap, inl, inr, subst}
+use Rattle.std.proofs.Common.{◌≡◌, ◌≢◌, ℕ, ◌||◌, Bool, arith, sym, ◌∙◌, inl, inr, subst}
 use Rattle.std.proofs.lemmas.Bool.Decides.{eqb_tells}
+use Rattle.tsb_plan.specs.Parts.{split_mode, is_coordinated}
 use Rattle.tsb_plan.specs.PlanOf.{plan_of}
-use Rattle.tsb_plan.specs.Plan.{Plan, has_minimum_recall, has_maximum_recall}
-use Rattle.tsb_plan.specs.Running.{mode_in, coordinates_in, recalls_minimum, recalls_maximum, is_on_minimum_recall, is_on_maximum_recall}
+use Rattle.tsb_plan.specs.Plan.{Plan}
+use Rattle.tsb_plan.specs.Running.{recalls_minimum, recalls_maximum}
 use Rattle.tsb_types.specs.Sets.{has}
-use Rattle.tsb_calls.proofs.plan_sets.with_recall.Goals as goal
+use Rattle.tsb_calls.proofs.recalls.recalled_by.Goals as goal
 
 pub loop-number-preserved : goal.loop-number-preserved
 loop-number-preserved c =
@@ -13,9 +14,8 @@ loop-number-preserved c =
     let made = c.joined-set.ensures in
     let at : c.of-p.result ≡ k = c.of-p.ensures in
     let plan : Plan = plan_of c.args.plan.now in
-    let by : Option ℕ → ℕ → Bool = λ split n.
-    (has_minimum_recall plan n || recalls_minimum (mode_in plan split n) || coordinates_in plan split n)
-    || (has_maximum_recall plan n || recalls_maximum (mode_in plan split n)) in
+    let by : ℕ → Bool = λ n.
+    (recalls_minimum (split_mode plan c.args.split n) || is_coordinated plan c.args.split n) || recalls_maximum (split_mode plan c.args.split n) in
     record {
       from = omega arith;
       rest = λ p above.
@@ -23,8 +23,7 @@ loop-number-preserved c =
           made.others p other ∙ held.rest p (omega (arith, above));
       told = λ p from below.
           elim (eqb_tells p k) [
-            | inl here ↦ subst (λ (n : ℕ). has c.joined-set.result n ≡ (is_on_minimum_recall plan c.args.runs n || is_on_maximum_recall plan c.args.runs n))
-                (at ∙ sym here.1) (made.set ∙ c.is_recalled.ensures ∙ ap (λ (split : Option ℕ). by split c.of-p.result) c.split_in_effect.ensures)
+            | inl here ↦ subst (λ (n : ℕ). has c.joined-set.result n ≡ by n) (at ∙ sym here.1) (made.set ∙ c.recalls.ensures)
             | inr other ↦
                 let apart : p ≢ k = other.1 in
                 let away : p ≢ c.of-p.result = λ e. apart (e ∙ at) in
