@@ -86,10 +86,11 @@ fn callable(plan: &Checked, free: PhaseSet, called: PhaseSet) -> PhaseSet
         (p : ℕ) → 1 ≤ p → p ≤ 16 → has result p ≡ (test p || (has free p && (has_soft_recall (checked_plan plan.now) p && not (some_passes test (run_from 1 16))))) }
 {
     let otherwise = free.intersection(called);
+    let softly = free.intersection(plan.soft_recall());
     if has_some(otherwise) {
         otherwise
     } else {
-        free.intersection(plan.soft_recall())
+        softly
     }
 }
 

@@ -16,6 +16,6 @@ pub returns-else-has_some : goal.returns-else-has_some
 returns-else-has_some c = λ test same p from within.
     let none : some_passes test (run_from 1 16) ≡ false =
     sym (c.has_some.ensures test (λ q low high. c.intersection-otherwise.ensures q ∙ same q low high)) ∙ c.if-has_some.false in
-    c.intersection.ensures p
+    c.intersection-softly.ensures p
     ∙ ap (λ (b : Bool). has c.args.free p && b) (c.soft_recall.ensures p)
     ∙ soft (test p) (has c.args.free p) _ _ (passes-not test p none from within) none
