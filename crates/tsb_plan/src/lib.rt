@@ -14,10 +14,3 @@ pub mod version_laws;
 pub use object::{Object, ObjectId, Range, is_structural, range_of};
 pub use plan::{Plan, SplitMode};
 pub use version::Version;
-
-#[cfg(test)]
-mod plan_tests;
-#[cfg(test)]
-mod tests;
-#[cfg(test)]
-mod version_tests;

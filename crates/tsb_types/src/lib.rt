@@ -30,6 +30,3 @@ pub use refusal::Refusal;
 pub use row::Row;
 pub use stage::Stage;
 pub use watch::Watch;
-
-#[cfg(test)]
-mod tests;

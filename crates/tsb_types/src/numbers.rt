@@ -304,26 +304,3 @@ impl Station {
         self.number
     }
 }
-
-#[cfg(test)]
-mod tests {
-    use super::*;
-
-    #[test]
-    fn numbers_hold_their_range(rt: HostRuntime) {
-        for number in 0..20u32 {
-            let small = (1 <= number && number <= 4).then_some(number as u8);
-            let large = (1 <= number && number <= 16).then_some(number as u8);
-            assert_eq!(rt; Phase::new(number).map(Phase::number), large);
-            assert_eq!(rt; Detector::new(number).map(Detector::number), large);
-            assert_eq!(rt; Side::new(number).map(Side::number), small);
-            assert_eq!(rt; Overlap::new(number).map(Overlap::number), small);
-            assert_eq!(rt; Station::new(number).map(Station::number), small);
-        }
-        assert_eq!(rt; Phase::new(16), Some(Phase::of(16)));
-        assert_eq!(rt; Detector::new(16), Some(Detector::of(16)));
-        assert_eq!(rt; Side::new(4), Some(Side::of(4)));
-        assert_eq!(rt; Overlap::new(4), Some(Overlap::of(4)));
-        assert_eq!(rt; Station::new(4), Some(Station::of(4)));
-    }
-}

@@ -1,4 +1,6 @@
-use super::*;
+//! What plans say.
+
+use tsb_plan::*;
 use tsb_types::{Detector, Overlap, Pattern, PedestrianDetector, Phase, Preempt, Sequence, Split};
 
 fn id(object: Object, index: u32) -> ObjectId {

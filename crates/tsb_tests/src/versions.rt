@@ -1,4 +1,6 @@
-use super::*;
+//! Versions of plan texts.
+
+use tsb_plan::*;
 
 /// The indices and the greatest value of the object in the version.
 fn range(version: Version, object: Object) -> Option<(u32, u32)> {

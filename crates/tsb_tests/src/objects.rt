@@ -1,4 +1,6 @@
-use super::*;
+//! Objects and their ranges, and plans by objects.
+
+use tsb_plan::*;
 use tsb_types::{Phase, Refusal, Ring, Sequence};
 
 /// An object, an index and a value.

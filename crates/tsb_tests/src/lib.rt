@@ -1,0 +1,11 @@
+//! Tests of the crates below that need not stand beside their code: a crate with tests is proved twice.
+#![tactic(auto)]
+
+#[cfg(test)]
+mod objects;
+#[cfg(test)]
+mod plans;
+#[cfg(test)]
+mod types;
+#[cfg(test)]
+mod versions;
