@@ -23,6 +23,3 @@ pub use tsb_types::{
     Pedestrians, Phase, PhaseSet, Preempt, Refusal, Ring, RingMoves, Row, Sequence, Side,
     SignalColor, Split, Stage, Station, Timing, Watch, limits,
 };
-
-#[cfg(test)]
-mod tests;

@@ -2,9 +2,13 @@
 #![tactic(auto)]
 
 #[cfg(test)]
+mod desk;
+#[cfg(test)]
 mod objects;
 #[cfg(test)]
 mod plans;
+#[cfg(test)]
+mod rules;
 #[cfg(test)]
 mod types;
 #[cfg(test)]

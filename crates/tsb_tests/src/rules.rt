@@ -1,4 +1,6 @@
-use super::*;
+//! Rules of plans, and checked plans.
+
+use tsb_objects::*;
 
 /// An object, an index and a value.
 type Value = (Object, u32, u32);

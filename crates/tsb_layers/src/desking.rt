@@ -1,0 +1,152 @@
+//! The desk alone, over the plan that its commits put into effect.
+ghost use Rattle.std.specs.Prelude.{◌≡◌, false};
+ghost use Rattle.tsb_objects.specs.Checked.{checked_plan};
+ghost use Rattle.tsb_transact.specs.Cells.{desk_in};
+ghost use Rattle.tsb_transact.specs.Desk.{IsPromised};
+ghost use Rattle.tsb_transact.specs.Layer.{cells_of, is_open};
+
+use crate::driven::Driven;
+use crate::fault::Fault;
+use crate::numbers::Numbers;
+use std::alloc::Global;
+use tsb_cells::Reversible;
+use tsb_objects::{Checked, Object, ObjectId, Refusal, Rule, Station, Version};
+use tsb_transact::{Desk, DeskState};
+
+/// The desk, and the plan in effect.
+#[derive(Drop)]
+pub struct Desking {
+    plan: Checked,
+    desk: Desk,
+    ghost promised: { IsPromised (checked_plan plan) (desk_in (cells_of desk)) },
+    ghost closed: { is_open desk ≡ false },
+}
+
+impl Desking {
+    fn begin(&mut self, station: Station) -> Option<Refusal> {
+        self.desk.open();
+        let answer = self.desk.begin(station);
+        let _changes = self.desk.close();
+        answer.err()
+    }
+
+    fn set(&mut self, station: Station, numbers: &mut Numbers) -> Result<Option<Refusal>, Fault> {
+        let name = str::from_utf8(numbers.word()?).map_err(|_| Fault::Malformed)?;
+        let object = Object::named(Version::Two, name).ok_or(Fault::Malformed)?;
+        let index = numbers.number()?;
+        let value = numbers.number()?;
+        self.desk.open();
+        let answer = self.desk.set(station, ObjectId { object, index }, value);
+        let _changes = self.desk.close();
+        Ok(answer.err())
+    }
+
+    fn verify(&mut self, station: Station) -> Option<Refusal> {
+        self.desk.open();
+        let plan = self.plan;
+        let answer = self.desk.verify(station, &plan);
+        let _changes = self.desk.close();
+        answer.err()
+    }
+
+    fn commit(&mut self, station: Station, in_service: bool, preempted: bool) -> Option<Refusal> {
+        self.desk.open();
+        let plan = self.plan;
+        let answer = self.desk.commit(station, &plan, in_service, preempted);
+        let _changes = self.desk.close();
+        match answer {
+            Ok(plan) => {
+                self.plan = plan;
+                None
+            }
+            Err(refusal) => Some(refusal),
+        }
+    }
+
+    fn abort(&mut self, station: Station) -> Option<Refusal> {
+        self.desk.open();
+        let answer = self.desk.abort(station);
+        let _changes = self.desk.close();
+        answer.err()
+    }
+
+    /// Whether the next numbers are the owner, 0 for none, the state, the rule that was kept, 0 for none, and how many
+    /// edits there are.
+    fn tells(&self, numbers: &mut Numbers) -> Result<(), Fault> {
+        match self.desk.owner() {
+            Some(station) => numbers.tells(u32::from(station.number()))?,
+            None => numbers.tells(0)?,
+        }
+        numbers.tells(match self.desk.state() {
+            DeskState::Normal => 0,
+            DeskState::Transaction => 1,
+            DeskState::Verify => 2,
+            DeskState::Done => 3,
+        })?;
+        match self.desk.rule() {
+            Some(rule) => numbers.tells(number_of(rule))?,
+            None => numbers.tells(0)?,
+        }
+        numbers.tells(self.desk.edits().len().min(64) as u32)
+    }
+}
+
+fn number_of(rule: Rule) -> u32 {
+    match rule {
+        Rule::K1 => 1,
+        Rule::K2 => 2,
+        Rule::K3 => 3,
+        Rule::K4 => 4,
+        Rule::K5 => 5,
+        Rule::K6 => 6,
+        Rule::K7 => 7,
+        Rule::K8 => 8,
+        Rule::K9 => 9,
+        Rule::K10 => 10,
+        Rule::K11 => 11,
+        Rule::K12 => 12,
+        Rule::K13 => 13,
+        Rule::K14 => 14,
+        Rule::K15 => 15,
+        Rule::K16 => 16,
+        Rule::K17 => 17,
+        Rule::K18 => 18,
+        Rule::K19 => 19,
+        Rule::K20 => 20,
+        Rule::K21 => 21,
+        Rule::K22 => 22,
+        Rule::NotYet => 23,
+    }
+}
+
+impl Driven for Desking {
+    fn power_up(alloc: Global, plan: &Checked) -> Result<Desking, Fault> {
+        match Desk::new(alloc) {
+            Ok(desk) => Ok(Desking { plan: *plan, desk }),
+            Err(_) => Err(Fault::Memory),
+        }
+    }
+
+    /// A line `begin`, `set`, `verify`, `commit` or `abort`: the station, of a set the object, the index and the value,
+    /// of a commit whether something is in service and whether a preempt is; the refusal, and what the desk then says.
+    fn take(&mut self, kind: &[u8], numbers: Numbers) -> Result<u32, Fault> {
+        let mut numbers = numbers;
+        let station = Station::new(numbers.number()?).ok_or(Fault::Malformed)?;
+        let refusal = if kind == b"begin".as_slice() {
+            self.begin(station)
+        } else if kind == b"set".as_slice() {
+            self.set(station, &mut numbers)?
+        } else if kind == b"verify".as_slice() {
+            self.verify(station)
+        } else if kind == b"commit".as_slice() {
+            let in_service = numbers.is_one()?;
+            let preempted = numbers.is_one()?;
+            self.commit(station, in_service, preempted)
+        } else {
+            self.abort(station)
+        };
+        numbers.tells_refusal(refusal)?;
+        self.tells(&mut numbers)?;
+        Ok(1)
+    }
+}
