@@ -8,8 +8,8 @@ use crate::display::Display;
 use tsb_objects::{NumberSet, PhaseSet};
 
 impl Display {
-    /// Whether the display is that of a controller that has tripped: each vehicle head, a phase's or an overlap's, that is
-    /// not dark flashes red.
+    /// Whether the display is that of a controller that has tripped: each vehicle head, a phase's or an overlap's, that
+    /// is not dark flashes red (profile).
     pub fn is_flashing(&self) -> bool
         ensures { Flashes result self.now }
     {

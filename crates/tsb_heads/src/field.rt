@@ -95,8 +95,8 @@ impl Display {
 }
 
 impl Field {
-    /// The lamps of a display that does not flash, with an injected lamp, if there is one, laid over its head, also over one
-    /// that is dark.
+    /// The lamps of a display that does not flash, with an injected lamp, if there is one, laid over its head, also over
+    /// one that is dark (profile).
     pub fn new(display: Display, lamp: Option<Lamp>) -> Field
         requires steady { Flashes false display }
         requires apart { AreApart display }
