@@ -1,5 +1,5 @@
--- What the calls look at: nothing but phases and vehicle detectors 1 to 16 and pedestrian detectors 1 to 8. LooksOnlyAtItsOwn
--- and TicksGiveNext are the contract of a function in src/laws.rt that does nothing.
+-- What the calls look at: nothing but phases and vehicle detectors 1 to 16 and pedestrian detectors 1 to 8.
+-- LooksOnlyAtItsOwn and TicksGiveNext are the contract of a function in src/laws.rt that does nothing.
 use Rattle.std.specs.Prelude.{◌≡◌, ℕ, ◌≤◌, Bool, false, List}
 use Rattle.tsb_types.specs.Clip.{Agree}
 use Rattle.tsb_types.specs.Sets.{has, is_phase}

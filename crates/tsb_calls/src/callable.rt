@@ -10,7 +10,7 @@ ghost use Rattle.tsb_calls.specs.Promises.{given_of, IsCalledAs};
 ghost use Rattle.tsb_calls.specs.Layer.{AreMemories};
 
 use crate::observed::Observed;
-use crate::recalls::{with_pedestrian_recall, with_pedestrians, with_recall};
+use crate::recalls::{with_pedestrians, with_recall};
 use tsb_objects::{Called, Checked, Phase, PhaseSet};
 
 /// A phase has a number from 1 to 16.
@@ -42,10 +42,8 @@ fn with_pedestrian_call(plan: &Checked, observed: &Observed, pedestrian: PhaseSe
     ensures { (m : Memories) → (p : ℕ) → 1 ≤ p → p ≤ 16 → has pedestrian p ≡ m.pedestrian p →
         has result p ≡ has_pedestrian_call (checked_plan plan.now) (given_of observed.now) m p }
 {
-    with_pedestrians(plan).intersection(pedestrian.union(with_pedestrian_recall(
-        plan,
-        observed.runs,
-    )))
+    let recalled = plan.on_pedestrian_recall(observed.runs);
+    with_pedestrians(plan).intersection(pedestrian.union(recalled))
 }
 
 /// The phases that are free to be served.
@@ -76,7 +74,7 @@ fn called(
     vehicle
         .union(walk)
         .union(passing)
-        .union(with_recall(plan, observed.runs))
+        .union(with_recall(plan, observed))
 }
 
 /// The callable phases, of those that are free and those that are called: where none is both, soft recall counts.
