@@ -1,8 +1,8 @@
 -- A tick and what the rings then did give the memories after a tick, of all numbers.
-use Rattle.std.proofs.Common.{List, ◌≡◌, ℕ, ◌+◌, ◌≤◌, ◌==◌, Bool, true, false, not, ◌&&◌, if◌then◌else◌, min, refl, sym, ◌∙◌, arith, inl, inr, count_by}
+use Rattle.std.proofs.Common.{List, ◌≡◌, ℕ, ◌+◌, ◌≤◌, ◌==◌, Bool, true, false, ◌&&◌, if◌then◌else◌, min, refl, ◌∙◌, arith, inl, inr}
 use Rattle.std.proofs.lemmas.Bool.{cases_Bool}
 use Rattle.std.proofs.lemmas.Bool.Decides.{nat_tests}
-use Rattle.tsb_types.specs.Lists.{is, run_from}
+use Rattle.tsb_types.specs.Lists.{is}
 use Rattle.tsb_types.specs.Sets.{has, is_phase}
 use Rattle.tsb_types.specs.Clip.{Agree}
 use Rattle.tsb_plan.specs.Plan.{Plan}

@@ -41,23 +41,15 @@ fn with_some(set: PhaseSet, p: Option<Phase>) -> PhaseSet
     }
 }
 
-/// Whether an output of the phase is on.
-#[inline(always)]
-fn has_output(plan: &Checked, p: Phase, on: NumberSet) -> bool
-    ensures { result ≡ some_passes (λ d. calls (checked_plan plan.now) d p && has_number on d) vehicle_detectors }
-{
-    plan.detectors_of(p).intersection(on).first().is_some()
-}
-
 /// The phases of which an output is on.
 #[inline(always)]
 pub(crate) fn outputs(plan: &Checked, on: NumberSet) -> PhaseSet
-    ensures { (p : ℕ) → 1 ≤ p → p ≤ 16 → has result p ≡ some_passes (λ d. calls (checked_plan plan.now) d p && has_number on d) vehicle_detectors }
+    ensures { (p : ℕ) → has result p ≡ some_passes (λ d. calls (checked_plan plan.now) d p && has_number on d) vehicle_detectors }
 {
     let mut set = PhaseSet::empty();
-    for number in 1..17u8 {
-        let p = Phase::of(number);
-        set = set.joined(p, has_output(plan, p, on));
+    let mut rest = on;
+    while let Some(d) = pop(&mut rest) {
+        set = with_some(set, plan.plan().call_phase(d));
     }
     set
 }
