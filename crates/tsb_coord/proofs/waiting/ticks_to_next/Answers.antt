@@ -1,6 +1,5 @@
-use Rattle.std.proofs.Common.{◌≡◌, ℕ, ◌+◌, ◌%◌, ◌<◌, ◌≤◌, ◌⊎◌, min, Option, Some, inl, inr, sym, ap, subst, ◌∙◌, arith}
+use Rattle.std.proofs.Common.{◌≡◌, ℕ, ◌+◌, ◌%◌, ◌≤◌, ◌⊎◌, min, Option, Some, inl, inr, sym, ap, subst, ◌∙◌, arith}
 use Rattle.std.proofs.lemmas.Bool.{cases_lt}
-use Rattle.tsb_plan.specs.Parts.{cycle}
 use Rattle.tsb_objects.specs.Checked.{checked_plan}
 use Rattle.tsb_coord.specs.Coordinated.{force_off, agree}
 use Rattle.tsb_coord.specs.Due.{IsMet}
