@@ -235,3 +235,76 @@ fn quad_meets_the_rules(rt: HostRuntime) {
     assert_eq!(rt; accepted(Plan::quad()), Ok(()));
     assert!(rt; !is_built(&Plan::quad()));
 }
+
+#[test]
+fn tables_of_quad_are_its_sets(rt: HostRuntime) {
+    let Ok(quad) = Checked::new(Plan::quad()) else {
+        assert!(rt; false, "quad was refused");
+        return;
+    };
+    assert_eq!(rt; quad.enabled().list(), 0x00FF);
+    assert_eq!(rt; quad.non_locking().list(), 0);
+    assert_eq!(rt;
+        (quad.minimum_recall().list(), quad.maximum_recall().list()),
+        (0x0022, 0)
+    );
+    assert_eq!(rt;
+        (quad.pedestrian_recall().list(), quad.soft_recall().list()),
+        (0, 0)
+    );
+    assert_eq!(rt;
+        (quad.dual_entry().list(), quad.with_walk().list()),
+        (0x00AA, 0x0002)
+    );
+    assert_eq!(rt;
+        (quad.ring(Ring::of(1)).list(), quad.ring(Ring::of(2)).list()),
+        (0x000F, 0x00F0)
+    );
+    assert_eq!(rt;
+        (quad.side(Side::of(1)).list(), quad.side(Side::of(2)).list()),
+        (0x0033, 0x00CC)
+    );
+    assert_eq!(rt; quad.side(Side::of(4)).list(), 0);
+    assert_eq!(rt; quad.concurrent_to(Phase::of(1)).list(), 0x0030);
+    assert_eq!(rt; quad.detectors_of(Phase::of(3)).list(), 0x0004);
+    assert_eq!(rt; quad.pedestrian_detectors_of(Phase::of(2)).list(), 0x0002);
+}
+
+#[test]
+fn tables_of_quad_are_of_its_patterns(rt: HostRuntime) {
+    let Ok(quad) = Checked::new(Plan::quad()) else {
+        assert!(rt; false, "quad was refused");
+        return;
+    };
+    let n = Pattern::of(2);
+    assert_eq!(rt;
+        (
+            quad.coordinated(None).list(),
+            quad.coordinated(Some(n)).list()
+        ),
+        (0, 0x0022)
+    );
+    assert_eq!(rt;
+        (
+            quad.omitted(Some(n)).list(),
+            quad.on_minimum_recall(Some(n)).list()
+        ),
+        (0, 0x0022)
+    );
+    assert_eq!(rt; quad.on_minimum_recall(None).list(), 0x0022);
+    assert_eq!(rt;
+        (
+            quad.on_maximum_recall(Some(n)).list(),
+            quad.on_pedestrian_recall(Some(n)).list()
+        ),
+        (0, 0)
+    );
+    assert_eq!(rt; quad.sequence_in_effect(Some(n)), Sequence::of(1));
+    assert!(rt; quad.plan().is_used(n));
+    if quad.plan().is_used(n) {
+        assert_eq!(rt; quad.force_off(n, Phase::of(1)), Some(510));
+        assert_eq!(rt; quad.force_off(n, Phase::of(9)), None);
+        assert_eq!(rt; quad.forced_at(n, 760).list(), 0x0022);
+        assert_eq!(rt; quad.forced_at(n, 759).list(), 0);
+    }
+}
