@@ -1,16 +1,16 @@
 -- Laws of states: the table of detectors is read as they were, and a tick looks only at what is its own.
-use Rattle.std.proofs.Common.{zero, suc, ◌≡◌, ℕ, ◌+◌, ◌-◌, ◌<◌, ◌≤◌, ◌==◌, Bool, true, false, if◌then◌else◌, List, [], ◌∷◌, ◌++◌, length, slice_index, map, refl, sym, ap, ap₂, ◌∙◌, subst, arith, inl, inr, Option, Some, None, is_some}
+use Rattle.std.proofs.Common.{zero, suc, ◌≡◌, ℕ, ◌+◌, ◌-◌, ◌<◌, ◌≤◌, ◌==◌, Bool, true, false, if◌then◌else◌, List, [], ◌∷◌, ◌++◌, length, slice_index, map, refl, sym, ap, ap₂, ◌∙◌, arith, inl, inr, Option, Some, None, is_some}
 use Rattle.std.proofs.Math.Path.{fun_ext}
 use Rattle.std.proofs.lemmas.Bool.{cases_Bool}
 use Rattle.std.proofs.lemmas.Bool.Decides.{nat_tests}
 use Rattle.tsb_cells.specs.declared.timer.Timer.{Timer}
 use Rattle.tsb_cells.specs.declared.timer.Timer.TheVariants.{Off, On}
-use Rattle.tsb_cells.specs.Timer.{timer_at, timer_cell, is_on, IsWithin}
+use Rattle.tsb_cells.specs.Timer.{timer_at, timer_cell, is_on}
 use Rattle.tsb_cells.proofs.TimerLemmas.{timer_at-timer_cell, timer_cell-le}
 use Rattle.tsb_types.specs.declared.row.Row.{Row}
 use Rattle.tsb_types.specs.Clip.{Agree}
 use Rattle.tsb_types.specs.Lists.{run_from}
-use Rattle.tsb_types.specs.Sets.{names, list_of, list_in, is_phase, has_number}
+use Rattle.tsb_types.specs.Sets.{names, list_of, list_in, has_number}
 use Rattle.tsb_types.proofs.SetLemmas.{list_of-below}
 use Rattle.tsb_types.proofs.ClipLemmas.{IsAmong, among_16, is_phase_from}
 use Rattle.tsb_rows.proofs.TableLemmas.{front-read, column-read, length-column, list-read}
@@ -22,8 +22,8 @@ use Rattle.tsb_detect.specs.declared.alarm.Alarm.TheVariants.{NoActivity, MaxPre
 use Rattle.tsb_detect.specs.declared.greens.Greens.{Greens}
 use Rattle.tsb_detect.specs.Detector.{Detector, at_power_up, is_detector, is_erratic, of_called, all_after, next}
 use Rattle.tsb_detect.specs.Cells.{detector_in, detectors_cells, alarm_in, is_inactive, is_present, IsDetectorBy, IsBy}
-use Rattle.tsb_detect.specs.Laws.{IsStateBy, AreStatesBy, CallsPhases}
-use Rattle.tsb_detect.specs.Promises.{IsTicked, green_timer, green_timer_of}
+use Rattle.tsb_detect.specs.Laws.{AreStatesBy, CallsPhases}
+use Rattle.tsb_detect.specs.Promises.{IsTicked, green_timer}
 use Rattle.tsb_detect.proofs.ReadLemmas.{same_detector}
 
 -- ## The table is read
