@@ -42,7 +42,11 @@ pub fn answer(bench: &mut Bench, command: Cmd) -> Answer
 
 /// Runs commands from power-up, and gives the bench then with the answer to each command. The only `Err` is
 /// `Refusal::Memory`: there was no memory for the answers.
-pub fn play(alloc: Global, plan: Runnable, commands: &[Cmd]) -> Result<(Bench, Vec<Answer>), Refusal>
+pub fn play(
+    alloc: Global,
+    plan: Runnable,
+    commands: &[Cmd],
+) -> Result<(Bench, Vec<Answer>), Refusal>
     ensures memory { IfErr result (λ e. e ≡ Memory) }
     // There are as many answers as commands, and each is right where it stands.
     ensures answers { IfOk result (λ r. AreRight (runnable_plan plan) commands.now r.1.items) }

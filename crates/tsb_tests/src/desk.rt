@@ -1,9 +1,9 @@
 //! The desk, with ample memory and with none.
 
-use tsb_transact::*;
+use std::test::Fail;
 use tsb_cells::{Reversible, abandon};
 use tsb_objects::{Object, ObjectId, Refusal, Station};
-use std::test::Fail;
+use tsb_transact::*;
 
 #[test]
 fn keeps_its_room_through_undo(rt: HostRuntime) -> Result<(), Fail> {
@@ -18,12 +18,21 @@ fn keeps_its_room_through_undo(rt: HostRuntime) -> Result<(), Fail> {
             let _ = desk.close();
             desk.open();
             for index in 1..65u32 {
-                let id = ObjectId { object: Object::SplitTime, index };
+                let id = ObjectId {
+                    object: Object::SplitTime,
+                    index,
+                };
                 assert_eq!(rt; desk.set(s, id, index), Ok(()));
             }
             let _ = desk.close();
-            let next = ObjectId { object: Object::SplitTime, index: 65 };
-            let first = ObjectId { object: Object::SplitTime, index: 1 };
+            let next = ObjectId {
+                object: Object::SplitTime,
+                index: 65,
+            };
+            let first = ObjectId {
+                object: Object::SplitTime,
+                index: 1,
+            };
             assert_eq!(rt; desk.set_refusal(s, next, 1), Some(Refusal::TooManyEdits));
             assert_eq!(rt; desk.set_refusal(s, first, 9), None);
             assert_eq!(rt; desk.edits().len(), 64);
