@@ -77,7 +77,7 @@ impl Phases {
 
     /// The phases in service.
     #[tactic(auto, unfolding(crate::specs::Rows::row_in))]
-    fn in_service(&self) -> PhaseSet
+    pub(crate) fn in_service(&self) -> PhaseSet
         ensures { (p : ℕ) → has result p ≡ in_service (interval_of_row (row_in (cells_of self.now) p)) }
     {
         self.list(0).union(self.list(1)).union(self.list(2))

@@ -1,0 +1,35 @@
+use Rattle.std.proofs.Common.{ℕ, ◌-◌, ◌<◌, arith}
+use Rattle.tsb_plan.specs.PlanOf.{plan_of}
+use Rattle.tsb_phase.specs.Layer.{cells_of}
+use Rattle.tsb_phase.proofs.ReadLemmas.{row-by, later}
+use Rattle.tsb_phase.proofs.QuietLemmas.{ticked-still, ready-still, over-still, reverted-still, gapped-still}
+use Rattle.tsb_phase.proofs.phases.Phases.due.Goals as goal
+
+pub still_until-requires-clause-by : goal.still_until-requires-clause-by
+still_until-requires-clause-by c = λ p from within.
+    later (c.args.now - 1) c.args.now _ (omega arith) (row-by (c.args.now - 1) (cells_of c.args.self.now) p (c.requires.by.each p from within))
+
+pub returns-clause-quiet : goal.returns-clause-quiet
+returns-clause-quiet c = λ t after soon.
+    ticked-still c.args.now t c.args.conditions.now (plan_of c.args.plan.now) (cells_of c.args.self.now) c.requires.begun c.requires.by after
+    (λ p from within. c.still_until.ensures t p after (omega (arith, after, soon)) from within)
+
+pub returns-clause-ready : goal.returns-clause-ready
+returns-clause-ready c = λ t after soon.
+    ready-still c.args.now t c.args.conditions.now (plan_of c.args.plan.now) (cells_of c.args.self.now) c.requires.begun c.requires.by after
+    (λ p from within. c.still_until.ensures t p after (omega (arith, after, soon)) from within)
+
+pub returns-clause-over : goal.returns-clause-over
+returns-clause-over c = λ t after soon.
+    over-still c.args.now t c.args.conditions.now (plan_of c.args.plan.now) (cells_of c.args.self.now) c.requires.begun c.requires.by after
+    (λ p from within. c.still_until.ensures t p after (omega (arith, after, soon)) from within)
+
+pub returns-clause-red_revert_passed : goal.returns-clause-red_revert_passed
+returns-clause-red_revert_passed c = λ t after soon.
+    reverted-still c.args.now t c.args.conditions.now (plan_of c.args.plan.now) (cells_of c.args.self.now) c.requires.begun c.requires.by after
+    (λ p from within. c.still_until.ensures t p after (omega (arith, after, soon)) from within)
+
+pub returns-clause-gapped : goal.returns-clause-gapped
+returns-clause-gapped c = λ t after soon.
+    gapped-still c.args.now t c.args.conditions.now (plan_of c.args.plan.now) (cells_of c.args.self.now) c.requires.begun c.requires.by after
+    (λ p from within. c.still_until.ensures t p after (omega (arith, after, soon)) from within)

@@ -1,0 +1,16 @@
+use Rattle.std.proofs.Common.{◌≡◌, ℕ, ◌<◌, ◌≤◌, false}
+use Rattle.tsb_plan.specs.PlanOf.{plan_of}
+use Rattle.tsb_types.specs.Sets.{has, size}
+use Rattle.tsb_phase.specs.Promises.{given_of}
+use Rattle.tsb_phase.specs.Rows.{row_in}
+use Rattle.tsb_phase.specs.Due.{IsStill}
+use Rattle.tsb_phase.specs.Layer.{cells_of}
+use Rattle.tsb_phase.proofs.phases.Phases.still_until.Given as goal
+
+abbrev pub decreases-loop-p : goal.decreases-loop-p
+decreases-loop-p l = size l.rest
+
+-- each phase that is not to be visited is still up to then
+abbrev pub invariant-loop-p : goal.invariant-loop-p
+invariant-loop-p l = (t q : ℕ) → l.now < t → t < l.due → 1 ≤ q → q ≤ 16 → has l.rest q ≡ false →
+    IsStill (plan_of l.plan) (given_of l.conditions) q (row_in (cells_of l.self) q) l.now t

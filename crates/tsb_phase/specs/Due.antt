@@ -1,0 +1,38 @@
+-- Rows of phases that later ticks find and leave as tick `now` did, while what a tick tells phase timing stays the same.
+use Rattle.std.specs.Prelude.{◌≡◌, ℕ, ◌+◌, ◌≤◌, ◌==◌, false, min, List, Option, Some, None}
+use Rattle.tsb_cells.specs.Timer.{timer_at, has_reached}
+use Rattle.tsb_plan.specs.Plan.{Plan, red_revert}
+use Rattle.tsb_plan.specs.Parts.{preempt_minimum_green}
+use Rattle.tsb_phase.specs.declared.phase_row.PhaseRow.{PhaseRow}
+use Rattle.tsb_phase.specs.Phase.{Given, none_moved}
+use Rattle.tsb_phase.specs.Green.{initial}
+use Rattle.tsb_phase.specs.Ready.{is_ready, is_over, is_gapped_now, red_revert_passed}
+use Rattle.tsb_phase.specs.Next.{next_from_read}
+use Rattle.tsb_phase.specs.Rows.{phase_of, row_in}
+
+-- tick t makes of the row what it was, and tells of it what tick `now` tells
+pub record IsStill (plan : Plan) (given : Given) (p : ℕ) (r : PhaseRow) (now t : ℕ) : Type 0 where
+  pub state : phase_of t r ≡ next_from_read plan given none_moved p (phase_of t r)
+  pub ready : is_ready plan given p (phase_of t r) ≡ is_ready plan given p (phase_of now r)
+  pub over : is_over plan p (phase_of t r) ≡ is_over plan p (phase_of now r)
+  pub gapped : is_gapped_now plan given p (phase_of t r) ≡ is_gapped_now plan given p (phase_of now r)
+  pub reverted : red_revert_passed plan p (phase_of t r) ≡ red_revert_passed plan p (phase_of now r)
+
+-- the least time of a green: its initial time, under a preempt that ends it at most the preempt's minimum green
+abbrev pub least_of : Plan → Given → ℕ → Option ℕ → ℕ
+least_of plan given p None = initial plan p (given.count p)
+least_of plan given p (Some n) = min (initial plan p (given.count p)) (preempt_minimum_green plan n)
+
+-- a green without conflict, whose row is as such a green has it
+pub record IsAtRest (given : Given) (p : ℕ) (r : PhaseRow) : Type 0 where
+  pub alone : given.conflict p ≡ false
+  pub gapped : r.gapped ≡ false
+  pub forced : r.forced ≡ false
+  pub conflict : r.conflict ≡ 0
+  pub reduction : r.reduction ≡ 0
+  pub passage : (r.passage == 0) ≡ given.output p
+
+-- at tick t the red revert timer of phase p has reached its time just where it has at tick `now`
+abbrev pub StaysReverted : Plan → List ℕ → ℕ → ℕ → ℕ → Type 0
+StaysReverted plan cells now t p = now ≤ t → (row_in cells p).red_revert ≤ now + 1 →
+    has_reached (timer_at t (row_in cells p).red_revert) (red_revert plan p) ≡ has_reached (timer_at now (row_in cells p).red_revert) (red_revert plan p)

@@ -1,0 +1,215 @@
+//! When a test of phase timing next turns, while what a tick tells it stays the same. `u32::MAX` stands for no tick.
+ghost use Rattle.std.specs.Prelude.{◌≡◌, ℕ, ◌+◌, ◌-◌, ◌<◌, ◌≤◌, ◌^◌, true, false};
+ghost use Rattle.tsb_cells.specs.Timer.{timer_at, has_reached};
+ghost use Rattle.tsb_types.specs.declared.interval.Interval.TheVariants.{RedClear};
+ghost use Rattle.tsb_types.specs.declared.interval.PedestrianInterval.TheVariants.{Walk, PedestrianClear};
+ghost use Rattle.tsb_plan.specs.PlanOf.{plan_of};
+ghost use Rattle.tsb_phase.specs.Phase.{Given};
+ghost use Rattle.tsb_phase.specs.Pedestrian.{ended_by, pedestrian_now};
+ghost use Rattle.tsb_phase.specs.Promises.{given_of};
+ghost use Rattle.tsb_phase.specs.Rows.{row_in, phase_of, interval_of_row, pedestrian_of_row, IsRowBy};
+ghost use Rattle.tsb_phase.specs.Due.{least_of, IsAtRest, IsStill, StaysReverted};
+
+use crate::conditions::Conditions;
+use crate::green::count;
+use crate::pedestrian::{clearance_time, ended_by, is_resting_in_walk, pedestrian_of, walk_time};
+use crate::phase_row::PhaseRow;
+use crate::phases::Phases;
+use crate::times::initial;
+use tsb_objects::{PedestrianInterval, Phase, Plan};
+
+/// The tick up to which the timer of a cell has not reached a limit.
+#[inline(always)]
+fn until(cell: u32, limit: u32) -> u32
+    ensures before { (t : ℕ) → cell ≤ t + 1 → t < result → has_reached (timer_at t cell) limit ≡ false }
+    ensures from { (t : ℕ) → cell ≤ t + 1 → result ≤ t → t < 2 ^ 32 - 1 → has_reached (timer_at t cell) limit ≡ true }
+{
+    if cell == 0 {
+        u32::MAX
+    } else {
+        (cell - 1).saturating_add(limit)
+    }
+}
+
+/// The tick up to which the timer of a cell has reached a limit just where it has at tick `now`.
+#[inline(always)]
+fn turn(now: u32, cell: u32, limit: u32) -> u32
+    requires fits { now + 1 < 2 ^ 32 }
+    ensures { (t : ℕ) → cell ≤ now + 1 → now ≤ t → t < result → has_reached (timer_at t cell) limit ≡ has_reached (timer_at now cell) limit }
+{
+    let at = until(cell, limit);
+    if at <= now { u32::MAX } else { at }
+}
+
+/// The tick up to which a walk stays.
+fn due_walk(plan: &Plan, conditions: &Conditions, p: Phase, was: &PhaseRow) -> u32
+    requires { pedestrian_of_row was.now ≡ Walk }
+    ensures { (t : ℕ) → IsRowBy t was.now → t < result →
+        pedestrian_now (plan_of plan.now) (given_of conditions.now) p (phase_of t was.now) ≡ pedestrian_of_row was.now }
+{
+    if is_resting_in_walk(plan, conditions, p) {
+        return u32::MAX;
+    }
+    let time = walk_time(plan, conditions, p);
+    until(was.pedestrian_timer, time)
+}
+
+/// The tick up to which a pedestrian clearance stays.
+fn due_clearance(plan: &Plan, conditions: &Conditions, p: Phase, was: &PhaseRow) -> u32
+    requires { pedestrian_of_row was.now ≡ PedestrianClear }
+    ensures { (t : ℕ) → IsRowBy t was.now → t < result →
+        pedestrian_now (plan_of plan.now) (given_of conditions.now) p (phase_of t was.now) ≡ pedestrian_of_row was.now }
+{
+    let time = clearance_time(plan, conditions, p);
+    until(was.pedestrian_timer, time)
+}
+
+/// The tick up to which the pedestrian part of a green stays.
+#[tactic(auto, using(crate::proofs::DueLemmas::part_dont_walk))]
+fn due_pedestrian(plan: &Plan, conditions: &Conditions, p: Phase, was: &PhaseRow) -> u32
+    ensures { (t : ℕ) → IsRowBy t was.now → t < result →
+        pedestrian_now (plan_of plan.now) (given_of conditions.now) p (phase_of t was.now) ≡ pedestrian_of_row was.now }
+{
+    match pedestrian_of(was) {
+        PedestrianInterval::DontWalk => u32::MAX,
+        PedestrianInterval::Walk => due_walk(plan, conditions, p, was),
+        PedestrianInterval::PedestrianClear => due_clearance(plan, conditions, p, was),
+    }
+}
+
+/// The time that the green lasts at least: the initial time, shorter under a preempt that ends it.
+fn least_of(plan: &Plan, conditions: &Conditions, p: Phase) -> u32
+    ensures { result ≡ least_of (plan_of plan.now) (given_of conditions.now) p (ended_by (given_of conditions.now) p) }
+{
+    let initial = initial(plan, p, count(conditions, p));
+    match ended_by(conditions, p) {
+        None => initial,
+        Some(n) => initial.min(plan.preempt_minimum_green(n)),
+    }
+}
+
+/// Whether no timer of a green runs toward its end but that of its passage: there is no conflict.
+fn is_at_rest(conditions: &Conditions, p: Phase, was: &PhaseRow) -> bool
+    ensures { result ≡ true → IsAtRest (given_of conditions.now) p was.now }
+{
+    if conditions.called.conflict.contains(p) || was.gapped || was.forced {
+        return false;
+    }
+    let off = was.passage == 0;
+    was.conflict == 0 && was.reduction == 0 && off == conditions.called.output.contains(p)
+}
+
+/// The tick up to which a green without conflict is still.
+#[inline(always)]
+fn due_at_rest(now: u32, plan: &Plan, conditions: &Conditions, p: Phase, was: &PhaseRow) -> u32
+    requires fits { now + 1 < 2 ^ 32 }
+    requires green { was.now.green ≡ true }
+    requires rest { IsAtRest (given_of conditions.now) p was.now }
+    ensures { (t : ℕ) → IsRowBy now was.now → now < t → t < result → IsStill (plan_of plan.now) (given_of conditions.now) p was.now now t }
+{
+    let part = due_pedestrian(plan, conditions, p, was);
+    let limit = least_of(plan, conditions, p);
+    let least = turn(now, was.timer, limit);
+    let passage = plan.passage(p);
+    let gap = turn(now, was.passage, passage);
+    let time = plan.red_revert(p);
+    let revert = turn(now, was.red_revert, time);
+    part.min(least).min(gap.min(revert))
+}
+
+/// The tick up to which a Green phase is still: no further tick, where there is a conflict.
+#[inline(always)]
+fn due_green(now: u32, plan: &Plan, conditions: &Conditions, p: Phase, was: &PhaseRow) -> u32
+    requires fits { now + 1 < 2 ^ 32 }
+    requires green { was.now.green ≡ true }
+    ensures { (t : ℕ) → IsRowBy now was.now → now < t → t < result → IsStill (plan_of plan.now) (given_of conditions.now) p was.now now t }
+{
+    if is_at_rest(conditions, p, was) {
+        return due_at_rest(now, plan, conditions, p, was);
+    }
+    now
+}
+
+/// The tick up to which a Yellow phase is still.
+#[inline(always)]
+fn due_yellow(now: u32, plan: &Plan, p: Phase, was: &PhaseRow) -> u32
+    requires fits { now + 1 < 2 ^ 32 }
+    requires green { was.now.green ≡ false }
+    requires yellow { was.now.yellow ≡ true }
+    ensures { (given : Given) (t : ℕ) → IsRowBy now was.now → now < t → t < result → IsStill (plan_of plan.now) given p was.now now t }
+{
+    let change = plan.yellow_change(p);
+    let done = until(was.timer, change);
+    let time = plan.red_revert(p);
+    let revert = turn(now, was.red_revert, time);
+    done.min(revert)
+}
+
+/// The tick up to which a phase in red clearance is still.
+#[inline(always)]
+fn due_red_clear(now: u32, plan: &Plan, p: Phase, was: &PhaseRow) -> u32
+    requires fits { now + 1 < 2 ^ 32 }
+    requires is { interval_of_row was.now ≡ RedClear }
+    ensures { (given : Given) (t : ℕ) → IsRowBy now was.now → now < t → t < result → IsStill (plan_of plan.now) given p was.now now t }
+{
+    let clear = plan.red_clear(p);
+    let over = turn(now, was.timer, clear);
+    let time = plan.red_revert(p);
+    let revert = turn(now, was.red_revert, time);
+    over.min(revert)
+}
+
+/// The tick up to which a phase in service is still.
+#[inline(always)]
+fn due_of(now: u32, plan: &Plan, conditions: &Conditions, p: Phase, was: &PhaseRow) -> u32
+    requires fits { now + 1 < 2 ^ 32 }
+    ensures { (t : ℕ) → IsRowBy now was.now → now < t → t < result → IsStill (plan_of plan.now) (given_of conditions.now) p was.now now t }
+{
+    if was.green {
+        return due_green(now, plan, conditions, p, was);
+    }
+    if was.yellow {
+        return due_yellow(now, plan, p, was);
+    }
+    if was.red_clear {
+        return due_red_clear(now, plan, p, was);
+    }
+    now
+}
+
+impl Phases {
+    ghost use Rattle.tsb_phase.specs.Layer.{cells_of};
+
+    /// The tick up to which what is told of red revert timers stays.
+    fn due_to_revert(&self, now: u32, plan: &Plan) -> u32
+        requires fits { now + 1 < 2 ^ 32 }
+        ensures { (t p : ℕ) → t < result → 1 ≤ p → p ≤ 16 → StaysReverted (plan_of plan.now) (cells_of self.now) now t p }
+    {
+        let mut due = u32::MAX;
+        for number in 1..17u8 {
+            let p = Phase::of(number);
+            let cell = self.cell(5, p);
+            let time = plan.red_revert(p);
+            let revert = turn(now, cell, time);
+            due = due.min(revert);
+        }
+        due
+    }
+
+    /// The tick up to which all phases are still.
+    pub(crate) fn still_until(&self, now: u32, conditions: &Conditions, plan: &Plan) -> u32
+        requires fits { now + 1 < 2 ^ 32 }
+        requires by { (p : ℕ) → 1 ≤ p → p ≤ 16 → IsRowBy now (row_in (cells_of self.now) p) }
+        ensures { (t p : ℕ) → now < t → t < result → 1 ≤ p → p ≤ 16 →
+            IsStill (plan_of plan.now) (given_of conditions.now) p (row_in (cells_of self.now) p) now t }
+    {
+        let mut due = self.due_to_revert(now, plan);
+        let mut rest = self.in_service();
+        while let Some(p) = rest.pop() {
+            let was = self.load(p);
+            let turns = due_of(now, plan, conditions, p, &was);
+            due = due.min(turns);
+        }
+        due
+    }
+}
