@@ -1,5 +1,7 @@
-use Rattle.std.proofs.Common.{ℕ, ◌-◌, ◌<◌, arith}
+use Rattle.std.proofs.Common.{ℕ, ◌-◌, ◌<◌, subst, arith}
+use Rattle.tsb_plan.specs.Plan.{Plan}
 use Rattle.tsb_plan.specs.PlanOf.{plan_of}
+use Rattle.tsb_phase.specs.Promises.{IsQuiet, KeepsReady, KeepsOver, KeepsRedRevertPassed, KeepsGapped}
 use Rattle.tsb_phase.specs.Layer.{cells_of}
 use Rattle.tsb_phase.proofs.ReadLemmas.{row-by, later}
 use Rattle.tsb_phase.proofs.QuietLemmas.{ticked-still, ready-still, over-still, reverted-still, gapped-still}
@@ -10,26 +12,31 @@ still_until-requires-clause-by c = λ p from within.
     later (c.args.now - 1) c.args.now _ (omega arith) (row-by (c.args.now - 1) (cells_of c.args.self.now) p (c.requires.by.each p from within))
 
 pub returns-clause-quiet : goal.returns-clause-quiet
-returns-clause-quiet c = λ t after soon.
-    ticked-still c.args.now t c.args.conditions.now (plan_of c.args.plan.now) (cells_of c.args.self.now) c.requires.begun c.requires.by after
-    (λ p from within. c.still_until.ensures t p after (omega (arith, after, soon)) from within)
+returns-clause-quiet c =
+    subst (λ (q : Plan). IsQuiet c.args.now c.args.conditions.now q (cells_of c.args.self.now) c.max.result) c.plan.ensures.plan (λ t after soon.
+    ticked-still c.args.now t c.args.conditions.now (plan_of c.plan.result.now) (cells_of c.args.self.now) c.requires.begun c.requires.by after
+    (λ p from within. c.still_until.ensures t p after (omega (arith, after, soon)) from within))
 
 pub returns-clause-ready : goal.returns-clause-ready
-returns-clause-ready c = λ t after soon.
-    ready-still c.args.now t c.args.conditions.now (plan_of c.args.plan.now) (cells_of c.args.self.now) c.requires.begun c.requires.by after
-    (λ p from within. c.still_until.ensures t p after (omega (arith, after, soon)) from within)
+returns-clause-ready c =
+    subst (λ (q : Plan). KeepsReady c.args.now c.args.conditions.now q (cells_of c.args.self.now) c.max.result) c.plan.ensures.plan (λ t after soon.
+    ready-still c.args.now t c.args.conditions.now (plan_of c.plan.result.now) (cells_of c.args.self.now) c.requires.begun c.requires.by after
+    (λ p from within. c.still_until.ensures t p after (omega (arith, after, soon)) from within))
 
 pub returns-clause-over : goal.returns-clause-over
-returns-clause-over c = λ t after soon.
-    over-still c.args.now t c.args.conditions.now (plan_of c.args.plan.now) (cells_of c.args.self.now) c.requires.begun c.requires.by after
-    (λ p from within. c.still_until.ensures t p after (omega (arith, after, soon)) from within)
+returns-clause-over c =
+    subst (λ (q : Plan). KeepsOver c.args.now q (cells_of c.args.self.now) c.max.result) c.plan.ensures.plan (λ t after soon.
+    over-still c.args.now t c.args.conditions.now (plan_of c.plan.result.now) (cells_of c.args.self.now) c.requires.begun c.requires.by after
+    (λ p from within. c.still_until.ensures t p after (omega (arith, after, soon)) from within))
 
 pub returns-clause-red_revert_passed : goal.returns-clause-red_revert_passed
-returns-clause-red_revert_passed c = λ t after soon.
-    reverted-still c.args.now t c.args.conditions.now (plan_of c.args.plan.now) (cells_of c.args.self.now) c.requires.begun c.requires.by after
-    (λ p from within. c.still_until.ensures t p after (omega (arith, after, soon)) from within)
+returns-clause-red_revert_passed c =
+    subst (λ (q : Plan). KeepsRedRevertPassed c.args.now q (cells_of c.args.self.now) c.max.result) c.plan.ensures.plan (λ t after soon.
+    reverted-still c.args.now t c.args.conditions.now (plan_of c.plan.result.now) (cells_of c.args.self.now) c.requires.begun c.requires.by after
+    (λ p from within. c.still_until.ensures t p after (omega (arith, after, soon)) from within))
 
 pub returns-clause-gapped : goal.returns-clause-gapped
-returns-clause-gapped c = λ t after soon.
-    gapped-still c.args.now t c.args.conditions.now (plan_of c.args.plan.now) (cells_of c.args.self.now) c.requires.begun c.requires.by after
-    (λ p from within. c.still_until.ensures t p after (omega (arith, after, soon)) from within)
+returns-clause-gapped c =
+    subst (λ (q : Plan). KeepsGapped c.args.now c.args.conditions.now q (cells_of c.args.self.now) c.max.result) c.plan.ensures.plan (λ t after soon.
+    gapped-still c.args.now t c.args.conditions.now (plan_of c.plan.result.now) (cells_of c.args.self.now) c.requires.begun c.requires.by after
+    (λ p from within. c.still_until.ensures t p after (omega (arith, after, soon)) from within))

@@ -1,0 +1,7 @@
+use Rattle.std.proofs.Common.{◌∙◌, ap}
+use Rattle.tsb_plan.specs.Plan.{Plan}
+use Rattle.tsb_phase.specs.Green.{initial}
+use Rattle.tsb_phase.proofs.phases.Phases.initial.Goals as goal
+
+pub returns : goal.returns
+returns c = c.initial.ensures ∙ ap (λ (q : Plan). initial q c.args.p c.args.cars) c.plan.ensures.plan
