@@ -27,7 +27,7 @@ impl Phases {
         requires { k < 9 }
         ensures { (p : ℕ) → has result p ≡ names (list_in (cells_of self.now) k) p }
     {
-        PhaseSet::from_list((self.get(k) % 65536) as u16)
+        PhaseSet::from_list((self.bank.get(k) % 65536) as u16)
     }
 
     /// The cell of kind `k` of a phase.
@@ -36,7 +36,7 @@ impl Phases {
         requires { k < 7 }
         ensures { result ≡ slice_index (cells_of self.now) (8 + 16 * k + p) }
     {
-        self.get(place(k, p))
+        self.bank.get(place(k, p))
     }
 
     /// The row of a phase.
