@@ -8,7 +8,7 @@ use crate::fault::Fault;
 use crate::numbers::{Numbers, none_changed};
 use std::alloc::Global;
 use tsb_cells::Reversible;
-use tsb_objects::{Called, Checked, Counts, Interval, Orders, Phase, PhaseSet, Plan, Timing};
+use tsb_objects::{Called, Checked, Counts, Interval, Orders, Phase, PhaseSet, Timing};
 use tsb_phase::{Conditions, Phases};
 use tsb_types::limits;
 
@@ -64,7 +64,7 @@ impl Phasing {
         let mut answers = answers;
         let mut phases = self.phases;
         phases.open();
-        let timing = phases.tick(now, conditions, self.plan.plan());
+        let timing = phases.tick(now, conditions, &self.plan);
         let told = tells_timing(&mut answers, &timing);
         let first = moved(
             &mut phases,
@@ -72,7 +72,7 @@ impl Phasing {
             now,
             &timing,
             conditions,
-            self.plan.plan(),
+            &self.plan,
         );
         let second = moved(
             &mut phases,
@@ -80,7 +80,7 @@ impl Phasing {
             now,
             &timing,
             conditions,
-            self.plan.plan(),
+            &self.plan,
         );
         let changes = phases.close();
         self.phases = phases;
@@ -115,7 +115,7 @@ fn moved(
     now: u32,
     timing: &Timing,
     conditions: &Conditions,
-    plan: &Plan,
+    plan: &Checked,
 ) -> Result<(), Fault>
     requires fits { now + 1 < 2 ^ 32 }
     requires opened { is_open phases.old ≡ true }
@@ -132,10 +132,27 @@ fn moved(
     if let Some(p) = clears {
         cleared(phases, now, p)?;
     }
+    started(phases, now, starts, conditions, plan);
+    Ok(())
+}
+
+/// Starts a phase, if there is one.
+fn started(
+    phases: &mut Phases,
+    now: u32,
+    starts: Option<Phase>,
+    conditions: &Conditions,
+    plan: &Checked,
+)
+    requires fits { now + 1 < 2 ^ 32 }
+    requires opened { is_open phases.old ≡ true }
+    requires by { IsBy now (cells_of phases.old) }
+    ensures by { IsBy now (cells_of phases.new) }
+    ensures opened { is_open phases.new ≡ true }
+{
     if let Some(p) = starts {
         phases.start(p, now, conditions, plan);
     }
-    Ok(())
 }
 
 /// Takes the forced latches off.
