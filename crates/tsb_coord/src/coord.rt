@@ -72,8 +72,9 @@ impl Coord {
         Coord { bank: Bank::new() }
     }
 
-    /// Coordination as at power-up: no pattern is selected.
-    pub fn reset(&mut self)
+    /// Coordination as at power-up: no pattern is selected. The tick is that of every layer's `reset`; coordination has no
+    /// timer.
+    pub fn reset(&mut self, _now: u32)
         requires opened { is_open self.old ≡ true }
         ensures each { IsAtPowerUp (cells_of self.new) }
         ensures by { IsBy (cells_of self.new) }
