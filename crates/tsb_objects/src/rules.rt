@@ -67,7 +67,6 @@ pub enum Rule {
     /// concurrent, one of each ring that has phases there, and their splits end at one time.
     K20,
     /// An overlap's list of modifier phases names only enabled phases, and is empty where its type is 0.
-    ///
     K21,
     /// `phaseDynamicMaxLimit` of a phase is 0 or at least its `phaseMinimumGreen`.
     K22,

@@ -173,8 +173,8 @@ impl Plan {
         10 * self.of_phase(Object::PhaseTimeBeforeReduction, phase)
     }
 
-    /// How many waiting vehicles begin the reduction of the phase, 0 for any number
-    /// (`phaseCarsBeforeReduction`).
+    /// How many waiting vehicles begin the reduction of the gap of the phase, 0 where vehicles do not and the time
+    /// before reduction alone does (`phaseCarsBeforeReduction`).
     pub fn cars_before_reduction(&self, phase: Phase) -> u32
         ensures { result ≡ cars_before_reduction (plan_of self.now) phase }
     {
