@@ -93,7 +93,11 @@ impl Driven for Calling {
         })
     }
 
-    fn take(&mut self, _kind: &[u8], numbers: Numbers) -> Result<u32, Fault> {
-        self.ticks(numbers)
+    fn take(&mut self, kind: &[u8], numbers: Numbers) -> Result<u32, Fault> {
+        if kind == b"t".as_slice() {
+            self.ticks(numbers)
+        } else {
+            Err(Fault::Malformed)
+        }
     }
 }

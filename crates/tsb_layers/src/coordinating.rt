@@ -40,6 +40,7 @@ impl Coordinating {
             Some(local) => numbers.tells(local.saturating_add(1))?,
             None => numbers.tells(0)?,
         }
+        numbers.ends()?;
         Ok(1)
     }
 
@@ -69,8 +70,10 @@ impl Driven for Coordinating {
     fn take(&mut self, kind: &[u8], numbers: Numbers) -> Result<u32, Fault> {
         if kind == b"o".as_slice() {
             self.tell(numbers)
-        } else {
+        } else if kind == b"p".as_slice() {
             self.select(numbers)
+        } else {
+            Err(Fault::Malformed)
         }
     }
 }

@@ -9,9 +9,12 @@ use crate::driven::Driven;
 use crate::fault::Fault;
 use crate::numbers::Numbers;
 use std::alloc::Global;
-use tsb_cells::Reversible;
+use tsb_cells::{Diff, Reversible};
 use tsb_objects::{Checked, Object, ObjectId, Refusal, Rule, Station, Version};
-use tsb_transact::{Desk, DeskState};
+use tsb_transact::{CELLS, Desk, DeskState};
+
+/// Why a call was refused, if it was, and what it changed.
+type Told = (Option<Refusal>, Diff<CELLS>);
 
 /// The desk, and the plan in effect.
 #[derive(Drop)]
@@ -23,51 +26,47 @@ pub struct Desking {
 }
 
 impl Desking {
-    fn begin(&mut self, station: Station) -> Option<Refusal> {
+    fn begin(&mut self, station: Station) -> Told {
         self.desk.open();
         let answer = self.desk.begin(station);
-        let _changes = self.desk.close();
-        answer.err()
+        (answer.err(), self.desk.close())
     }
 
-    fn set(&mut self, station: Station, numbers: &mut Numbers) -> Result<Option<Refusal>, Fault> {
+    fn set(&mut self, station: Station, numbers: &mut Numbers) -> Result<Told, Fault> {
         let name = str::from_utf8(numbers.word()?).map_err(|_| Fault::Malformed)?;
         let object = Object::named(Version::Two, name).ok_or(Fault::Malformed)?;
         let index = numbers.number()?;
         let value = numbers.number()?;
         self.desk.open();
         let answer = self.desk.set(station, ObjectId { object, index }, value);
-        let _changes = self.desk.close();
-        Ok(answer.err())
+        Ok((answer.err(), self.desk.close()))
     }
 
-    fn verify(&mut self, station: Station) -> Option<Refusal> {
+    fn verify(&mut self, station: Station) -> Told {
         self.desk.open();
         let plan = self.plan;
         let answer = self.desk.verify(station, &plan);
-        let _changes = self.desk.close();
-        answer.err()
+        (answer.err(), self.desk.close())
     }
 
-    fn commit(&mut self, station: Station, in_service: bool, preempted: bool) -> Option<Refusal> {
+    fn commit(&mut self, station: Station, in_service: bool, preempted: bool) -> Told {
         self.desk.open();
         let plan = self.plan;
         let answer = self.desk.commit(station, &plan, in_service, preempted);
-        let _changes = self.desk.close();
+        let changes = self.desk.close();
         match answer {
             Ok(plan) => {
                 self.plan = plan;
-                None
+                (None, changes)
             }
-            Err(refusal) => Some(refusal),
+            Err(refusal) => (Some(refusal), changes),
         }
     }
 
-    fn abort(&mut self, station: Station) -> Option<Refusal> {
+    fn abort(&mut self, station: Station) -> Told {
         self.desk.open();
         let answer = self.desk.abort(station);
-        let _changes = self.desk.close();
-        answer.err()
+        (answer.err(), self.desk.close())
     }
 
     /// Whether the next numbers are the owner, 0 for none, the state, the rule that was kept, 0 for none, and how many
@@ -128,11 +127,11 @@ impl Driven for Desking {
     }
 
     /// A line `begin`, `set`, `verify`, `commit` or `abort`: the station, of a set the object, the index and the value,
-    /// of a commit whether something is in service and whether a preempt is; the refusal, and what the desk then says.
+    /// of a commit whether something is in service and whether a preempt is; the refusal, what the desk then says, and what changes.
     fn take(&mut self, kind: &[u8], numbers: Numbers) -> Result<u32, Fault> {
         let mut numbers = numbers;
         let station = Station::new(numbers.number()?).ok_or(Fault::Malformed)?;
-        let refusal = if kind == b"begin".as_slice() {
+        let (refusal, changes) = if kind == b"begin".as_slice() {
             self.begin(station)
         } else if kind == b"set".as_slice() {
             self.set(station, &mut numbers)?
@@ -142,11 +141,14 @@ impl Driven for Desking {
             let in_service = numbers.is_one()?;
             let preempted = numbers.is_one()?;
             self.commit(station, in_service, preempted)
-        } else {
+        } else if kind == b"abort".as_slice() {
             self.abort(station)
+        } else {
+            return Err(Fault::Malformed);
         };
         numbers.tells_refusal(refusal)?;
         self.tells(&mut numbers)?;
+        numbers.tells_changes(changes.as_slice())?;
         Ok(1)
     }
 }

@@ -77,7 +77,10 @@ impl Driven for Detecting {
 
     /// A line `t`: how many ticks, the inputs, the phases that are Green and the cells of their timers; outputs,
     /// actuations and alarms of each kind, and what changes.
-    fn take(&mut self, _kind: &[u8], numbers: Numbers) -> Result<u32, Fault> {
+    fn take(&mut self, kind: &[u8], numbers: Numbers) -> Result<u32, Fault> {
+        if kind != b"t".as_slice() {
+            return Err(Fault::Malformed);
+        }
         let mut numbers = numbers;
         let times = numbers.number()?;
         let row = Row {

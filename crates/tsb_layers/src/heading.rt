@@ -54,6 +54,7 @@ impl Heading {
         numbers.tells(u32::from(display.overlap_reds().list()))?;
         numbers.tells(u32::from(display.overlap_yellows().list()))?;
         numbers.tells(u32::from(display.overlap_greens().list()))?;
+        numbers.ends()?;
         Ok(1)
     }
 
@@ -68,6 +69,7 @@ impl Heading {
             None => tells_three(&mut numbers, 0, 0, 0)?,
             Some(trip) => tells_trip(&mut numbers, &trip)?,
         }
+        numbers.ends()?;
         Ok(1)
     }
 }
@@ -143,8 +145,10 @@ impl Driven for Heading {
     fn take(&mut self, kind: &[u8], numbers: Numbers) -> Result<u32, Fault> {
         if kind == b"d".as_slice() {
             self.show(numbers)
-        } else {
+        } else if kind == b"j".as_slice() {
             self.judge(numbers)
+        } else {
+            Err(Fault::Malformed)
         }
     }
 }

@@ -129,14 +129,22 @@ impl<'a> Numbers<'a> {
         }
     }
 
-    /// Whether the next numbers are these changes: how many there are, and of each the cell and what it held.
+    /// Whether the line ends here.
+    pub fn ends(&self) -> Result<(), Fault> {
+        match next_word(self.rest) {
+            Some(_) => Err(Fault::Malformed),
+            None => Ok(()),
+        }
+    }
+
+    /// Whether the rest of the line are these changes: how many there are, and of each the cell and what it held.
     pub fn tells_changes(&mut self, changes: &[(u16, u32)]) -> Result<(), Fault> {
         self.tells(changes.len().min(65_535) as u32)?;
         for (cell, held) in changes {
             self.tells(u32::from(*cell))?;
             self.tells(*held)?;
         }
-        Ok(())
+        self.ends()
     }
 }
 

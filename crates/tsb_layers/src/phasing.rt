@@ -235,8 +235,10 @@ impl Driven for Phasing {
     fn take(&mut self, kind: &[u8], numbers: Numbers) -> Result<u32, Fault> {
         if kind == b"t".as_slice() {
             self.ticks(numbers)
-        } else {
+        } else if kind == b"u".as_slice() {
             self.unforce(numbers)
+        } else {
+            Err(Fault::Malformed)
         }
     }
 }

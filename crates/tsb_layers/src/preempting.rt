@@ -148,8 +148,10 @@ impl Driven for Preempting {
     fn take(&mut self, kind: &[u8], numbers: Numbers) -> Result<u32, Fault> {
         if kind == b"t".as_slice() {
             self.ticks(numbers)
-        } else {
+        } else if kind == b"s".as_slice() {
             self.switch(numbers)
+        } else {
+            Err(Fault::Malformed)
         }
     }
 }
