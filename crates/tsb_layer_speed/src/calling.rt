@@ -1,0 +1,114 @@
+//! Memories and counts of calls, timed.
+ghost use Rattle.std.specs.Prelude.{◌≡◌, ◌<◌, ◌+◌, ◌^◌, true, false};
+ghost use Rattle.arrayvec.specs.ArrayVec.{array_vec_len};
+ghost use Rattle.tsb_calls.specs.Cells.{IsBy};
+ghost use Rattle.tsb_calls.specs.Layer.{cells_of, is_open};
+
+use crate::fault::Fault;
+use crate::numbers::Numbers;
+use crate::timed::{Changes, Timed};
+use tsb_calls::{Calls, Decided, Observed};
+use tsb_cells::Reversible;
+use tsb_objects::{Checked, Intervals, NumberSet, Pedestrians, PhaseSet, Preempt};
+use tsb_types::limits;
+
+/// What a tick gives.
+#[derive(Clone, Copy, Drop)]
+pub struct Given {
+    outputs: NumberSet,
+    actuated: NumberSet,
+    buttons: NumberSet,
+    intervals: Intervals,
+    pedestrians: Pedestrians,
+    omit: PhaseSet,
+    service_ended: bool,
+    starts: PhaseSet,
+    ends: PhaseSet,
+    gapped: PhaseSet,
+    service: u32,
+}
+
+/// The layer, at a tick.
+#[derive(Drop)]
+pub struct Calling {
+    layer: Calls,
+    now: u32,
+    ghost by: { IsBy (cells_of layer) },
+    ghost counted: { now < 2 ^ 31 },
+    ghost closed: { is_open layer ≡ false },
+}
+
+impl Timed for Calling {
+    type Given = Given;
+
+    fn power_up() -> Calling {
+        Calling {
+            layer: at_power_up(),
+            now: 0,
+        }
+    }
+
+    fn read(numbers: &mut Numbers) -> Result<Given, Fault> {
+        let outputs = numbers.set()?;
+        let actuated = numbers.set()?;
+        let buttons = numbers.set()?;
+        let intervals = numbers.intervals()?;
+        let pedestrians = numbers.pedestrians()?;
+        let _runs = numbers.number()?;
+        let omit = numbers.phases()?;
+        let service_ended = numbers.is_one()?;
+        for _k in 0..4 {
+            let _set = numbers.phases()?;
+        }
+        Ok(Given {
+            outputs,
+            actuated,
+            buttons,
+            intervals,
+            pedestrians,
+            omit,
+            service_ended,
+            starts: numbers.phases()?,
+            ends: numbers.phases()?,
+            gapped: numbers.phases()?,
+            service: numbers.number()?,
+        })
+    }
+
+    #[inline(always)]
+    fn tick(&mut self, given: &Given, plan: &Checked, out: &mut Changes) {
+        if self.now >= limits::TICKS {
+            return;
+        }
+        let now = self.now + 1;
+        self.layer.open();
+        let observed = Observed {
+            outputs: given.outputs,
+            actuated: given.actuated,
+            buttons: given.buttons,
+            intervals: given.intervals,
+            pedestrians: given.pedestrians,
+            runs: None,
+            omit: given.omit,
+            service_ended: given.service_ended,
+        };
+        let called = self.layer.tick(&observed, plan);
+        let decided = Decided {
+            starts: given.starts,
+            ends: given.ends,
+            gapped: given.gapped,
+            pedestrian: called.pedestrian,
+            service: Preempt::new(given.service),
+        };
+        self.layer.settle(&decided);
+        self.layer.close_onto(out, 0);
+        self.now = now;
+    }
+}
+
+fn at_power_up() -> Calls
+    ensures by { IsBy (cells_of result) }
+    ensures closed { is_open result ≡ false }
+{
+    Calls::new()
+}

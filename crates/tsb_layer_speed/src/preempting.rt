@@ -1,0 +1,72 @@
+//! Preempts, timed.
+ghost use Rattle.std.specs.Prelude.{◌≡◌, ◌<◌, ◌+◌, ◌^◌, true, false};
+ghost use Rattle.arrayvec.specs.ArrayVec.{array_vec_len};
+ghost use Rattle.tsb_preempt.specs.Cells.{IsBy};
+ghost use Rattle.tsb_preempt.specs.Layer.{cells_of, is_open};
+
+use crate::fault::Fault;
+use crate::numbers::Numbers;
+use crate::timed::{Changes, Timed};
+use tsb_cells::Reversible;
+use tsb_objects::{Checked, Intervals, NumberSet, Row};
+use tsb_preempt::Preempts;
+use tsb_types::limits;
+
+/// What a tick gives.
+#[derive(Clone, Copy, Drop)]
+pub struct Given {
+    row: Row,
+    intervals: Intervals,
+}
+
+/// The layer, at a tick.
+#[derive(Drop)]
+pub struct Preempting {
+    layer: Preempts,
+    now: u32,
+    ghost by: { IsBy now (cells_of layer) },
+    ghost counted: { now < 2 ^ 31 },
+    ghost closed: { is_open layer ≡ false },
+}
+
+impl Timed for Preempting {
+    type Given = Given;
+
+    fn power_up() -> Preempting {
+        Preempting {
+            layer: at_power_up(),
+            now: 0,
+        }
+    }
+
+    fn read(numbers: &mut Numbers) -> Result<Given, Fault> {
+        let row = Row {
+            vehicles: NumberSet::empty(),
+            pedestrians: NumberSet::empty(),
+            preempts: numbers.set()?,
+        };
+        Ok(Given {
+            row,
+            intervals: numbers.intervals()?,
+        })
+    }
+
+    #[inline(always)]
+    fn tick(&mut self, given: &Given, plan: &Checked, out: &mut Changes) {
+        if self.now >= limits::TICKS {
+            return;
+        }
+        let now = self.now + 1;
+        self.layer.open();
+        let _orders = self.layer.tick(now, &given.row, &given.intervals, plan);
+        self.layer.close_onto(out, 0);
+        self.now = now;
+    }
+}
+
+fn at_power_up() -> Preempts
+    ensures by { IsBy 0 (cells_of result) }
+    ensures closed { is_open result ≡ false }
+{
+    Preempts::new()
+}

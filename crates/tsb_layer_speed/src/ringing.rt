@@ -1,0 +1,101 @@
+//! The rings, timed.
+ghost use Rattle.std.specs.Prelude.{◌≡◌, ◌<◌, ◌+◌, ◌^◌, true, false};
+ghost use Rattle.arrayvec.specs.ArrayVec.{array_vec_len};
+ghost use Rattle.tsb_ring.specs.Cells.{IsBy};
+ghost use Rattle.tsb_ring.specs.Layer.{cells_of, is_open};
+
+use crate::fault::Fault;
+use crate::numbers::Numbers;
+use crate::timed::{Changes, Timed};
+use tsb_cells::Reversible;
+use tsb_objects::{Called, Checked, Orders, PhaseSet, Sequence, Timing};
+use tsb_ring::{Conditions, RingOrder, Rings};
+use tsb_types::limits;
+
+/// What a tick gives.
+#[derive(Clone, Copy, Drop)]
+pub struct Given {
+    conditions: Conditions,
+}
+
+/// The layer, at a tick.
+#[derive(Drop)]
+pub struct Ringing {
+    layer: Rings,
+    now: u32,
+    ghost by: { IsBy (cells_of layer) },
+    ghost counted: { now < 2 ^ 31 },
+    ghost closed: { is_open layer ≡ false },
+}
+
+impl Timed for Ringing {
+    type Given = Given;
+
+    fn power_up() -> Ringing {
+        Ringing {
+            layer: at_power_up(),
+            now: 0,
+        }
+    }
+
+    fn read(numbers: &mut Numbers) -> Result<Given, Fault> {
+        Ok(Given {
+            conditions: conditions(numbers)?,
+        })
+    }
+
+    #[inline(always)]
+    fn tick(&mut self, given: &Given, plan: &Checked, out: &mut Changes) {
+        if self.now >= limits::TICKS {
+            return;
+        }
+        let now = self.now + 1;
+        self.layer.open();
+        let moves = self.layer.decide(&given.conditions, plan);
+        self.layer.act(&moves, RingOrder::Ring1First);
+        self.layer.close_onto(out, 0);
+        self.now = now;
+    }
+}
+
+fn at_power_up() -> Rings
+    ensures by { IsBy (cells_of result) }
+    ensures closed { is_open result ≡ false }
+{
+    Rings::new()
+}
+
+fn conditions(numbers: &mut Numbers) -> Result<Conditions, Fault> {
+    let intervals = numbers.intervals()?;
+    let none = PhaseSet::empty();
+    let sequence = Sequence::new(numbers.number()?).ok_or(Fault::Malformed)?;
+    let called = Called {
+        callable: numbers.phases()?,
+        conflict: none,
+        pedestrian: none,
+        output: none,
+    };
+    let timing = Timing {
+        ready: numbers.phases()?,
+        over: numbers.phases()?,
+        red_revert_passed: numbers.phases()?,
+        gapped: none,
+    };
+    let omit = numbers.phases()?;
+    let has_target = numbers.is_one()?;
+    let phases = numbers.phases()?;
+    let orders = Orders {
+        hold: none,
+        must_end: none,
+        forced: none,
+        omit,
+        target: if has_target { Some(phases) } else { None },
+    };
+    Ok(Conditions {
+        intervals,
+        sequence,
+        called,
+        timing,
+        orders,
+    })
+}
