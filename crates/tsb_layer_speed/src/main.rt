@@ -4,10 +4,7 @@
 
 mod calling;
 mod detecting;
-mod fault;
-mod numbers;
 mod phasing;
-mod plans;
 mod preempting;
 mod ringing;
 mod timed;
@@ -15,7 +12,6 @@ mod timed;
 use crate::calling::Calling;
 use crate::detecting::Detecting;
 use crate::phasing::Phasing;
-use crate::plans::Plans;
 use crate::preempting::Preempting;
 use crate::ringing::Ringing;
 use crate::timed::{Timed, read, run};
@@ -24,6 +20,7 @@ use std::time::Instant;
 use std::{env, fs};
 use tsb_lines::number;
 use tsb_objects::Checked;
+use tsb_runs::Plans;
 
 fn main(rt: HostRuntime) -> Result<()> {
     let mut rounds = None;

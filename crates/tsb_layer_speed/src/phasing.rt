@@ -4,12 +4,11 @@ ghost use Rattle.arrayvec.specs.ArrayVec.{array_vec_len};
 ghost use Rattle.tsb_phase.specs.Cells.{IsBy};
 ghost use Rattle.tsb_phase.specs.Layer.{cells_of, is_open};
 
-use crate::fault::Fault;
-use crate::numbers::Numbers;
 use crate::timed::{Changes, Timed};
 use tsb_cells::Reversible;
 use tsb_objects::{Called, Checked, Counts, Interval, Orders, Phase, PhaseSet, Preempt, Timing};
 use tsb_phase::{Conditions, Phases};
+use tsb_runs::{Fault, Numbers};
 use tsb_types::limits;
 
 /// What a tick gives.

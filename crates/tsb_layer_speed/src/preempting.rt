@@ -4,12 +4,11 @@ ghost use Rattle.arrayvec.specs.ArrayVec.{array_vec_len};
 ghost use Rattle.tsb_preempt.specs.Cells.{IsBy};
 ghost use Rattle.tsb_preempt.specs.Layer.{cells_of, is_open};
 
-use crate::fault::Fault;
-use crate::numbers::Numbers;
 use crate::timed::{Changes, Timed};
 use tsb_cells::Reversible;
 use tsb_objects::{Checked, Intervals, NumberSet, Row};
 use tsb_preempt::Preempts;
+use tsb_runs::{Fault, Numbers};
 use tsb_types::limits;
 
 /// What a tick gives.

@@ -2,13 +2,12 @@
 ghost use Rattle.std.specs.Prelude.{◌≡◌};
 ghost use Rattle.arrayvec.specs.ArrayVec.{array_vec_len};
 
-use crate::fault::Fault;
-use crate::numbers::Numbers;
 use anyhow::Result as Anyhow;
 use arrayvec::ArrayVec;
 use std::alloc::Global;
 use tsb_lines::{next_line, next_word};
 use tsb_objects::Checked;
+use tsb_runs::{Fault, Numbers};
 
 /// The cells that a tick changes, with what they held.
 pub type Changes = ArrayVec<(u16, u32), 256>;

@@ -4,12 +4,11 @@ ghost use Rattle.tsb_calls.specs.Cells.{IsBy};
 ghost use Rattle.tsb_calls.specs.Layer.{cells_of, is_open};
 
 use crate::driven::Driven;
-use crate::fault::Fault;
-use crate::numbers::{Numbers, none_changed};
 use std::alloc::Global;
 use tsb_calls::{Calls, Decided, Observed};
 use tsb_cells::Reversible;
 use tsb_objects::{Called, Checked};
+use tsb_runs::{Fault, Numbers, none_changed};
 
 /// Memories and counts, and the plan.
 #[derive(Drop)]

@@ -4,12 +4,11 @@ ghost use Rattle.tsb_coord.specs.Cells.{IsBy};
 ghost use Rattle.tsb_coord.specs.Layer.{cells_of, is_open};
 
 use crate::driven::Driven;
-use crate::fault::Fault;
-use crate::numbers::Numbers;
 use std::alloc::Global;
 use tsb_cells::Reversible;
 use tsb_coord::Coord;
 use tsb_objects::Checked;
+use tsb_runs::{Fault, Numbers};
 use tsb_types::limits;
 
 /// Coordination, and the plan.

@@ -6,11 +6,10 @@ ghost use Rattle.tsb_transact.specs.Desk.{IsPromised};
 ghost use Rattle.tsb_transact.specs.Layer.{cells_of, is_open};
 
 use crate::driven::Driven;
-use crate::fault::Fault;
-use crate::numbers::Numbers;
 use std::alloc::Global;
 use tsb_cells::{Diff, Reversible};
 use tsb_objects::{Checked, Object, ObjectId, Refusal, Rule, Station, Version};
+use tsb_runs::{Fault, Numbers};
 use tsb_transact::{CELLS, Desk, DeskState};
 
 /// Why a call was refused, if it was, and what it changed.

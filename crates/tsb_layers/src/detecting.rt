@@ -4,12 +4,11 @@ ghost use Rattle.tsb_detect.specs.Cells.{IsBy};
 ghost use Rattle.tsb_detect.specs.Layer.{cells_of, is_open};
 
 use crate::driven::Driven;
-use crate::fault::Fault;
-use crate::numbers::{Numbers, none_changed};
 use std::alloc::Global;
 use tsb_cells::Reversible;
 use tsb_detect::{Alarm, Detectors, Greens};
 use tsb_objects::{Checked, Detector, NumberSet, Row};
+use tsb_runs::{Fault, Numbers, none_changed};
 use tsb_types::limits;
 
 /// Detectors at a tick.

@@ -1,12 +1,10 @@
 //! A layer that is driven by the lines of a file.
 
-use crate::fault::Fault;
-use crate::numbers::Numbers;
-use crate::plans::Plans;
 use std::alloc::Global;
 use std::io::{self, Write};
 use tsb_lines::{next_line, next_word};
 use tsb_objects::Checked;
+use tsb_runs::{Fault, Numbers, Plans};
 
 /// A layer alone, driven by lines that say what it is given and what comes of it.
 pub trait Driven: Drop {

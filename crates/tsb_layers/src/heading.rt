@@ -3,14 +3,13 @@ ghost use Rattle.std.specs.Prelude.{false};
 ghost use Rattle.tsb_heads.specs.Promises.{AreApart, Flashes};
 
 use crate::driven::Driven;
-use crate::fault::Fault;
-use crate::numbers::Numbers;
 use std::alloc::Global;
 use tsb_heads::{Display, Field, Monitor, Trip};
 use tsb_objects::{
     Checked, Intervals, Lamp, NumberSet, Overlap, PedestrianColor, Pedestrians, Phase, PhaseSet,
     SignalColor,
 };
+use tsb_runs::{Fault, Numbers};
 
 /// What the heads were last told.
 #[derive(Drop)]

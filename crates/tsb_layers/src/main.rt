@@ -7,11 +7,8 @@ mod coordinating;
 mod desking;
 mod detecting;
 mod driven;
-mod fault;
 mod heading;
-mod numbers;
 mod phasing;
-mod plans;
 mod preempting;
 mod ringing;
 
@@ -22,12 +19,12 @@ use crate::detecting::Detecting;
 use crate::driven::run;
 use crate::heading::Heading;
 use crate::phasing::Phasing;
-use crate::plans::Plans;
 use crate::preempting::Preempting;
 use crate::ringing::Ringing;
 use anyhow::{Context, Result};
 use std::fs;
 use std::io::{self, BufWriter, Write};
+use tsb_runs::Plans;
 
 fn main(rt: HostRuntime) -> Result<()> {
     let mut output = BufWriter::new(rt.alloc(), io::writer(&rt))?;

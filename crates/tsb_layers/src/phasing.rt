@@ -4,12 +4,11 @@ ghost use Rattle.tsb_phase.specs.Cells.{IsBy};
 ghost use Rattle.tsb_phase.specs.Layer.{cells_of, is_open};
 
 use crate::driven::Driven;
-use crate::fault::Fault;
-use crate::numbers::{Numbers, none_changed};
 use std::alloc::Global;
 use tsb_cells::Reversible;
 use tsb_objects::{Called, Checked, Counts, Interval, Orders, Phase, PhaseSet, Timing};
 use tsb_phase::{Conditions, Phases};
+use tsb_runs::{Fault, Numbers, none_changed};
 use tsb_types::limits;
 
 /// Phases at a tick.

@@ -4,12 +4,11 @@ ghost use Rattle.tsb_preempt.specs.Cells.{IsBy};
 ghost use Rattle.tsb_preempt.specs.Layer.{cells_of, is_open};
 
 use crate::driven::Driven;
-use crate::fault::Fault;
-use crate::numbers::{Numbers, none_changed};
 use std::alloc::Global;
 use tsb_cells::Reversible;
 use tsb_objects::{Checked, Intervals, NumberSet, Preempt, Refusal, Row, Stage};
 use tsb_preempt::{PreemptOrders, Preempts};
+use tsb_runs::{Fault, Numbers, none_changed};
 use tsb_types::limits;
 
 /// Preempts at a tick.

@@ -4,12 +4,11 @@ ghost use Rattle.tsb_ring.specs.Cells.{IsBy};
 ghost use Rattle.tsb_ring.specs.Layer.{cells_of, is_open};
 
 use crate::driven::Driven;
-use crate::fault::Fault;
-use crate::numbers::{Numbers, none_changed};
 use std::alloc::Global;
 use tsb_cells::Reversible;
 use tsb_objects::{Called, Checked, Moves, Orders, PhaseSet, RingMoves, Sequence, Timing};
 use tsb_ring::{Conditions, RingOrder, Rings};
+use tsb_runs::{Fault, Numbers, none_changed};
 
 /// The rings.
 #[derive(Drop)]

@@ -1,0 +1,10 @@
+//! Stored runs of layers: the numbers of their lines, their plans, and why a line does not pass.
+#![tactic(auto)]
+
+pub mod fault;
+pub mod numbers;
+pub mod plans;
+
+pub use fault::Fault;
+pub use numbers::{Numbers, none_changed};
+pub use plans::Plans;
