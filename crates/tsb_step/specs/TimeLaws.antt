@@ -76,7 +76,7 @@ pub record EndsInTime (s : State) (row : Row) (p : ℕ) : Type 0 where
 abbrev pub TicksEndInTime : Type 0
 TicksEndInTime = OfEveryRun (λ s. (row : Row) (p : ℕ) → EndsInTime s row p)
 
--- no other input but a reset of a tripped controller changes an interval, a part or a timer
+-- no input but a tick and a reset changes an interval, a part or a timer
 abbrev pub is_tick : Input → Bool
 is_tick (Tick row) = true
 is_tick i = false
