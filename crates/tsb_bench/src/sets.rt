@@ -55,8 +55,8 @@ pub(crate) fn first_later(plan: &Checked, last: Option<Phase>, set: PhaseSet) ->
     }
     let places = plan.plan().sequence(Sequence::of(1), Ring::of(1));
     match last {
-        Some(last) => first_listed(after(&places, last.number()), set),
-        None => first_listed(&places, set),
+        Some(last) => first_listed(after(places, u16::from(last.number())), set),
+        None => first_listed(places, set),
     }
 }
 
@@ -69,7 +69,7 @@ pub(crate) fn first_not_later(plan: &Checked, last: Option<Phase>, set: PhaseSet
     }
     let places = plan.plan().sequence(Sequence::of(1), Ring::of(1));
     match last {
-        Some(last) => first_listed(up_to(&places, last.number()), set),
+        Some(last) => first_listed(up_to(places, u16::from(last.number())), set),
         None => None,
     }
 }
@@ -78,11 +78,11 @@ pub(crate) fn first_not_later(plan: &Checked, last: Option<Phase>, set: PhaseSet
 pub(crate) fn first_in_order(plan: &Checked, set: PhaseSet) -> Option<Phase>
     ensures { result ≡ first (has set) (order (checked_plan plan.now)) }
 {
-    first_listed(&plan.plan().sequence(Sequence::of(1), Ring::of(1)), set)
+    first_listed(plan.plan().sequence(Sequence::of(1), Ring::of(1)), set)
 }
 
 /// The first number in a list that is of a phase of the set.
-fn first_listed(places: &[u8], set: PhaseSet) -> Option<Phase>
+fn first_listed(places: &[u16], set: PhaseSet) -> Option<Phase>
     ensures { result ≡ first (has set) places.now }
 {
     for number in places {
@@ -94,7 +94,7 @@ fn first_listed(places: &[u8], set: PhaseSet) -> Option<Phase>
 }
 
 /// The phase of this number, if the set has it.
-fn phase_of(set: PhaseSet, number: u8) -> Option<Phase>
+fn phase_of(set: PhaseSet, number: u16) -> Option<Phase>
     ensures { result ≡ (if has set number then Some number else None) }
 {
     let phase = Phase::new(u32::from(number))?;
@@ -106,7 +106,7 @@ fn phase_of(set: PhaseSet, number: u8) -> Option<Phase>
 }
 
 /// What comes after a number in a list.
-fn after(places: &[u8], number: u8) -> &[u8]
+fn after(places: &[u16], number: u16) -> &[u16]
     ensures { result.now ≡ after number places.now }
 {
     for place in 0..places.len() {
@@ -118,7 +118,7 @@ fn after(places: &[u8], number: u8) -> &[u8]
 }
 
 /// What comes up to a number in a list.
-fn up_to(places: &[u8], number: u8) -> &[u8]
+fn up_to(places: &[u16], number: u16) -> &[u16]
     ensures { result.now ≡ up_to number places.now }
 {
     for place in 0..places.len() {

@@ -1,14 +1,16 @@
 -- What tables of a plan are read from: values at numbers from 1 on.
-use Rattle.std.proofs.Common.{◌≡◌, ℕ, zero, suc, ◌<◌, ◌≤◌, ◌==◌, Bool, true, false, List, None, refl, arith, sym, ◌∙◌, inl, inr}
+use Rattle.std.proofs.Common.{◌≡◌, ℕ, zero, suc, ◌<◌, ◌≤◌, ◌==◌, nat_le, Bool, true, false, List, None, refl, arith, sym, ◌∙◌, inl, inr}
 use Rattle.std.proofs.lemmas.Bool.{cases_lt}
 use Rattle.std.proofs.lemmas.Bool.Decides.{nat_tests}
 use Rattle.tsb_plan.specs.declared.object.Object.{Object}
 use Rattle.tsb_plan.specs.declared.object.Object.TheVariants.{PhaseConcurrency}
 use Rattle.tsb_plan.specs.Objects.{AreInRange, indices, has_index, value_in}
+use Rattle.tsb_plan.specs.Parts.{unless_zero}
 use Rattle.tsb_plan.specs.Plan.{is_concurrent}
 use Rattle.tsb_plan.specs.PlanOf.{plan_in}
 use Rattle.tsb_objects.specs.Consistent.{IsPhase}
 use Rattle.tsb_objects.specs.Rules.{first_broken}
+use Rattle.tsb_types.specs.Lists.{is}
 use Rattle.tsb_types.specs.Sets.{names}
 use Rattle.tsb_types.proofs.SetLemmas.{names-zero, names-above}
 use Rattle.tsb_objects.proofs.ConsistentLemmas.{together}
@@ -18,6 +20,11 @@ pub none-behind : (cells : List ℕ) (o : Object) (n wanted : ℕ) → 1 ≤ wan
 none-behind cells o n wanted some behind =
     let outside : has_index o n ≡ false = grind (arith, nat_tests, behind) in
     rw outside (grind (arith, nat_tests, some))
+
+pub no-value-behind : (cells : List ℕ) (o : Object) (n : ℕ) → indices o < n → nat_le 1 (value_in cells o n) ≡ false
+no-value-behind cells o n behind =
+    let outside : has_index o n ≡ false = grind (arith, nat_tests, behind) in
+    rw outside (grind (arith, nat_tests))
 
 same-tests : (a b : Bool) → (a ≡ true → b ≡ true) → (b ≡ true → a ≡ true) → a ≡ b
 same-tests true b there back = sym (there refl)
@@ -45,3 +52,9 @@ named-back cells ranged none q (suc k) from within =
           named-outside (value_in cells PhaseConcurrency q) (suc k) (ranged.each PhaseConcurrency q) (omega arith)
           ∙ sym (rw outside (names-zero q))
     ]
+
+-- a number that is not 0 is the one that a value names exactly when it is that value
+pub is-unless_zero : (n p : ℕ) → 1 ≤ p → (n == p) ≡ is p (unless_zero n)
+is-unless_zero n zero from = absurd (omega arith)
+is-unless_zero zero (suc p) from = let other : (0 == suc p) ≡ false = grind (arith, nat_tests) in other
+is-unless_zero (suc n) (suc p) from = let some : (suc n == 0) ≡ false = grind (arith, nat_tests) in rw some refl

@@ -1,12 +1,13 @@
 -- The tables of a checked plan: what the plan says of all its phases at once, as sets.
-use Rattle.std.specs.Prelude.{◌≡◌, ℕ, ◌+◌, ◌<◌, ◌==◌, slice_index}
-use Rattle.tsb_plan.specs.declared.object.Object.TheVariants.{VehicleDetectorCallPhase, PedestrianDetectorCallPhase}
+use Rattle.std.specs.Prelude.{◌≡◌, ℕ, ◌+◌, ◌<◌, ◌==◌, nat_le, slice_index}
+use Rattle.tsb_plan.specs.declared.object.Object.TheVariants.{VehicleDetectorCallPhase, PedestrianDetectorCallPhase, VehicleDetectorDelay, VehicleDetectorNoActivity, VehicleDetectorMaxPresence}
 use Rattle.tsb_plan.specs.Plan.{Plan, is_enabled, is_non_locking, has_minimum_recall, has_maximum_recall, has_pedestrian_recall, has_soft_recall, has_dual_entry, ring_of, side_of}
+use Rattle.tsb_objects.specs.declared.detector_tables.DetectorTables.{DetectorTables}
 use Rattle.tsb_objects.specs.declared.tables.PhaseTables.{PhaseTables}
 use Rattle.tsb_objects.specs.Rules.{has_walk}
-use Rattle.tsb_types.specs.Sets.{names, has}
+use Rattle.tsb_types.specs.Sets.{names, has, has_number}
 
--- what the tables of phases and detectors say; in an array the first word is of ring, side or phase 1
+-- what the tables of phases say; in an array the first word is of ring 1 or side 1
 pub record ArePhaseTables (plan : Plan) (tables : PhaseTables) : Type 0 where
   pub enabled : (p : ℕ) → has tables.enabled p ≡ is_enabled plan p
   pub non_locking : (p : ℕ) → has tables.non_locking p ≡ is_non_locking plan p
@@ -18,6 +19,12 @@ pub record ArePhaseTables (plan : Plan) (tables : PhaseTables) : Type 0 where
   pub walk : (p : ℕ) → has tables.with_walk p ≡ has_walk plan p
   pub rings : (k p : ℕ) → k < 2 → names (slice_index tables.rings k) p ≡ (ring_of plan p == k + 1)
   pub sides : (k p : ℕ) → k < 4 → names (slice_index tables.sides k) p ≡ (side_of plan p == k + 1)
+
+-- what the tables of detectors say; in an array the first word is of phase 1
+pub record AreDetectorTables (plan : Plan) (tables : DetectorTables) : Type 0 where
   pub detectors : (k d : ℕ) → k < 16 → names (slice_index tables.detectors k) d ≡ (plan.value VehicleDetectorCallPhase d == k + 1)
   pub pedestrian_detectors : (k d : ℕ) → k < 16 →
       names (slice_index tables.pedestrian_detectors k) d ≡ (plan.value PedestrianDetectorCallPhase d == k + 1)
+  pub delay : (d : ℕ) → has_number tables.with_delay d ≡ nat_le 1 (plan.value VehicleDetectorDelay d)
+  pub no_activity : (d : ℕ) → has_number tables.with_no_activity d ≡ nat_le 1 (plan.value VehicleDetectorNoActivity d)
+  pub maximum_presence : (d : ℕ) → has_number tables.with_maximum_presence d ≡ nat_le 1 (plan.value VehicleDetectorMaxPresence d)

@@ -5,11 +5,13 @@ ghost use Rattle.std.specs.Prelude.{◌≡◌, None};
 ghost use Rattle.tsb_plan.specs.PlanOf.{plan_of};
 ghost use Rattle.tsb_objects.specs.Rules.{first_broken};
 ghost use Rattle.tsb_objects.specs.PatternTables.{ArePatternTables};
-ghost use Rattle.tsb_objects.specs.Tables.{ArePhaseTables};
+ghost use Rattle.tsb_objects.specs.Tables.{ArePhaseTables, AreDetectorTables};
 
+mod detectors;
 mod patterns;
 mod phases;
 
+use crate::detector_tables::DetectorTables;
 use crate::pattern_tables::PatternTables;
 use crate::rules::{Rule, check};
 use crate::tables::PhaseTables;
@@ -23,9 +25,11 @@ use tsb_plan::Plan;
 pub struct Checked {
     plan: Plan,
     phase_tables: PhaseTables,
+    detector_tables: DetectorTables,
     pattern_tables: PatternTables,
     ghost passed: { first_broken (plan_of plan) ≡ None },
     ghost phases_are: { ArePhaseTables (plan_of plan) phase_tables },
+    ghost detectors_are: { AreDetectorTables (plan_of plan) detector_tables },
     ghost patterns_are: { ArePatternTables (plan_of plan) pattern_tables },
 }
 
@@ -53,6 +57,7 @@ impl Checked {
         Checked {
             plan,
             phase_tables: PhaseTables::of(&plan),
+            detector_tables: DetectorTables::of(&plan),
             pattern_tables: PatternTables::of(&plan),
         }
     }

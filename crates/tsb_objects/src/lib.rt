@@ -8,6 +8,7 @@
 pub mod built;
 pub mod checked;
 pub mod consistent;
+mod detector_tables;
 mod instants;
 mod pattern_tables;
 pub mod rules;

@@ -1,17 +1,16 @@
-//! What a plan says of all its phases and detectors at once, as sets.
+//! What a plan says of all its phases at once, as sets.
 #![tactic(auto, unfolding(tsb_plan::specs::PlanOf::plan_of))]
 
-ghost use Rattle.std.specs.Prelude.{◌≡◌, ℕ, ◌+◌, ◌<◌, ◌≤◌, ◌==◌, length, slice_index};
-ghost use Rattle.tsb_objects.specs.Rules.{has_walk};
+ghost use Rattle.std.specs.Prelude.{◌≡◌, ℕ, ◌+◌, ◌<◌, ◌≤◌, ◌==◌, length, slice_index, nat_le};
 ghost use Rattle.tsb_objects.specs.Tables.{ArePhaseTables};
 ghost use Rattle.tsb_plan.specs.Objects.{indices};
 ghost use Rattle.tsb_plan.specs.PlanOf.{plan_of};
 ghost use Rattle.tsb_types.specs.Sets.{names, has, has_number};
 
 use tsb_plan::{Object, Plan};
-use tsb_types::{NumberSet, Phase, PhaseSet};
+use tsb_types::{NumberSet, PhaseSet};
 
-/// What a plan says of all its phases and detectors at once. Each word of an array is a list, as
+/// What a plan says of all its phases at once. Each word of an array is a list, as
 /// `phaseConcurrency` has it.
 #[derive(Clone, Copy, Debug, PartialEq, Eq)]
 pub struct PhaseTables {
@@ -35,10 +34,6 @@ pub struct PhaseTables {
     pub(crate) rings: [u16; 2],
     /// Of each side, its phases (`phaseSide`).
     pub(crate) sides: [u16; 4],
-    /// Of each phase, the vehicle detectors that call it (`vehicleDetectorCallPhase`).
-    pub(crate) detectors: [u16; 16],
-    /// Of each phase, the pedestrian detectors that call it (`pedestrianDetectorCallPhase`).
-    pub(crate) pedestrian_detectors: [u16; 16],
 }
 
 impl PhaseTables {
@@ -54,11 +49,9 @@ impl PhaseTables {
             pedestrian_recall: phases_with(plan, Object::PhasePedRecall),
             soft_recall: phases_with(plan, Object::PhaseSoftRecall),
             dual_entry: phases_with(plan, Object::PhaseDualEntry),
-            with_walk: phases_with_walk(plan),
+            with_walk: PhaseSet::from_list(numbers_with(plan, Object::PhaseWalk).list()),
             rings: columns(plan, Object::PhaseRing),
             sides: columns(plan, Object::PhaseSide),
-            detectors: columns(plan, Object::VehicleDetectorCallPhase),
-            pedestrian_detectors: columns(plan, Object::PedestrianDetectorCallPhase),
         }
     }
 }
@@ -84,20 +77,20 @@ fn phases_with(plan: &Plan, flag: Object) -> PhaseSet
     PhaseSet::from_list(numbers_at(plan, flag, 1).list())
 }
 
-/// The phases with a walk.
-fn phases_with_walk(plan: &Plan) -> PhaseSet
-    ensures { (p : ℕ) → has result p ≡ has_walk (plan_of plan.now) p }
+/// The numbers at which the object has a value over 0.
+pub(crate) fn numbers_with(plan: &Plan, object: Object) -> NumberSet
+    requires few { indices object ≤ 16 }
+    ensures { (n : ℕ) → has_number result n ≡ nat_le 1 ((plan_of plan.now).value object n) }
 {
-    let mut set = PhaseSet::empty();
-    for number in 1..17 {
-        let phase = Phase::of(number);
-        set = set.with(phase, plan.walk(phase) != 0);
+    let mut set = NumberSet::empty();
+    for number in 1..object.indices() + 1 {
+        set = set.with(number as u8, plan.at(object, number) != 0);
     }
     set
 }
 
 /// For each value from 1 on, the numbers at which the object has it, as a list.
-fn columns<const N: usize>(plan: &Plan, object: Object) -> [u16; N]
+pub(crate) fn columns<const N: usize>(plan: &Plan, object: Object) -> [u16; N]
     requires few { indices object ≤ 16 }
     requires within { N ≤ 16 }
     ensures full { length result ≡ N }

@@ -1,16 +1,14 @@
-//! What a checked plan says of all its phases and detectors at once.
+//! What a checked plan says of all its phases at once.
 #![tactic(auto, unfolding(tsb_plan::specs::PlanOf::plan_of, crate::specs::Checked::checked_plan))]
 
 ghost use Rattle.std.specs.Prelude.{◌≡◌, ℕ, ◌==◌};
 ghost use Rattle.tsb_objects.specs.Checked.{checked_plan};
 ghost use Rattle.tsb_objects.specs.Rules.{has_walk};
-ghost use Rattle.tsb_plan.specs.Parts.{call_phase, pedestrian_call_phase};
 ghost use Rattle.tsb_plan.specs.Plan.{is_enabled, is_non_locking, has_minimum_recall, has_maximum_recall, has_pedestrian_recall, has_soft_recall, has_dual_entry, ring_of, side_of, is_concurrent};
-ghost use Rattle.tsb_types.specs.Lists.{is};
-ghost use Rattle.tsb_types.specs.Sets.{has, has_number};
+ghost use Rattle.tsb_types.specs.Sets.{has};
 
 use crate::checked::Checked;
-use tsb_types::{NumberSet, Phase, PhaseSet, Ring, Side};
+use tsb_types::{Phase, PhaseSet, Ring, Side};
 
 impl Checked {
     /// The phases that are in use (`phaseEnabled`).
@@ -102,21 +100,5 @@ impl Checked {
     {
         let _number = q.number();
         self.plan.concurrency(q)
-    }
-
-    /// The vehicle detectors that call a phase (`vehicleDetectorCallPhase`).
-    #[inline(always)]
-    pub fn detectors_of(&self, p: Phase) -> NumberSet
-        ensures { (d : ℕ) → has_number result d ≡ is p (call_phase (checked_plan self.now) d) }
-    {
-        NumberSet::from_list(self.phase_tables.detectors[usize::from(p.number()) - 1])
-    }
-
-    /// The pedestrian detectors that call a phase (`pedestrianDetectorCallPhase`).
-    #[inline(always)]
-    pub fn pedestrian_detectors_of(&self, p: Phase) -> NumberSet
-        ensures { (d : ℕ) → has_number result d ≡ is p (pedestrian_call_phase (checked_plan self.now) d) }
-    {
-        NumberSet::from_list(self.phase_tables.pedestrian_detectors[usize::from(p.number()) - 1])
     }
 }

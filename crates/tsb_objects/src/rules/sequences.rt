@@ -37,20 +37,20 @@ fn is_blank_or_ordered(plan: &Plan, sequence: Sequence) -> bool
 pub(super) fn is_blank(plan: &Plan, sequence: Sequence) -> bool
     ensures { result ≡ is_blank (plan_of plan.now) sequence }
 {
-    are_zeros(&plan.sequence(sequence, Ring::of(1)))
-        && are_zeros(&plan.sequence(sequence, Ring::of(2)))
+    are_zeros(plan.sequence(sequence, Ring::of(1)))
+        && are_zeros(plan.sequence(sequence, Ring::of(2)))
 }
 
 fn sequence_is_ordered(plan: &Plan, sequence: Sequence) -> bool
     ensures { result ≡ sequence_is_ordered (plan_of plan.now) sequence }
 {
-    is_ordered(plan, Ring::of(1), &plan.sequence(sequence, Ring::of(1)))
-        && is_ordered(plan, Ring::of(2), &plan.sequence(sequence, Ring::of(2)))
+    is_ordered(plan, Ring::of(1), plan.sequence(sequence, Ring::of(1)))
+        && is_ordered(plan, Ring::of(2), plan.sequence(sequence, Ring::of(2)))
 }
 
 /// Whether this lists each phase of the ring once and no other, sides in rising order, with zeros only
 /// after the last.
-fn is_ordered(plan: &Plan, ring: Ring, places: &[u8]) -> bool
+fn is_ordered(plan: &Plan, ring: Ring, places: &[u16]) -> bool
     ensures { result ≡ is_ordered (plan_of plan.now) ring places.now }
 {
     lists_only(plan, ring, places)
@@ -60,7 +60,7 @@ fn is_ordered(plan: &Plan, ring: Ring, places: &[u8]) -> bool
         && zeros_last(places)
 }
 
-fn lists_only(plan: &Plan, ring: Ring, places: &[u8]) -> bool
+fn lists_only(plan: &Plan, ring: Ring, places: &[u16]) -> bool
     ensures { result ≡ lists_only (plan_of plan.now) ring places.now }
 {
     places
@@ -69,7 +69,7 @@ fn lists_only(plan: &Plan, ring: Ring, places: &[u8]) -> bool
 }
 
 /// Whether this is the number of an enabled phase of the ring.
-fn is_of_ring(plan: &Plan, ring: Ring, number: u8) -> bool
+fn is_of_ring(plan: &Plan, ring: Ring, number: u16) -> bool
     ensures { result ≡ (is_enabled (plan_of plan.now) number && ring_of (plan_of plan.now) number == ring) }
 {
     match Phase::new(u32::from(number)) {
@@ -78,23 +78,23 @@ fn is_of_ring(plan: &Plan, ring: Ring, number: u8) -> bool
     }
 }
 
-fn lists_each(plan: &Plan, ring: Ring, places: &[u8]) -> bool
+fn lists_each(plan: &Plan, ring: Ring, places: &[u16]) -> bool
     ensures { result ≡ lists_each (plan_of plan.now) ring places.now }
 {
     Phase::all().iter().all(|phase| {
         !plan.is_enabled(*phase)
             || plan.ring(*phase) != u32::from(ring.number())
-            || is_among(phase.number(), places)
+            || is_among(u16::from(phase.number()), places)
     })
 }
 
-fn is_among(number: u8, places: &[u8]) -> bool
+fn is_among(number: u16, places: &[u16]) -> bool
     ensures { result ≡ among number places.now }
 {
     places.iter().any(|other| *other == number)
 }
 
-fn lists_once(places: &[u8]) -> bool
+fn lists_once(places: &[u16]) -> bool
     ensures { result ≡ lists_once places.now }
 {
     for place in 0..places.len() {
@@ -105,7 +105,7 @@ fn lists_once(places: &[u8]) -> bool
     true
 }
 
-fn rises(plan: &Plan, places: &[u8]) -> bool
+fn rises(plan: &Plan, places: &[u16]) -> bool
     ensures { result ≡ rises (plan_of plan.now) places.now }
 {
     for place in 0..places.len() {
@@ -118,7 +118,7 @@ fn rises(plan: &Plan, places: &[u8]) -> bool
 }
 
 /// The side of the phase of this number; 0 where no phase has it.
-fn side_of_number(plan: &Plan, number: u8) -> u32
+fn side_of_number(plan: &Plan, number: u16) -> u32
     ensures { result ≡ side_of (plan_of plan.now) number }
 {
     match Phase::new(u32::from(number)) {
@@ -128,13 +128,13 @@ fn side_of_number(plan: &Plan, number: u8) -> u32
 }
 
 /// Whether each phase that is listed is of this side or a higher one.
-fn are_from_side(plan: &Plan, side: u32, places: &[u8]) -> bool
+fn are_from_side(plan: &Plan, side: u32, places: &[u16]) -> bool
     ensures { result ≡ list_all (λ q. q == 0 || nat_le side (side_of (plan_of plan.now) q)) places.now }
 {
     places.iter().all(|number| *number == 0 || side <= side_of_number(plan, *number))
 }
 
-fn zeros_last(places: &[u8]) -> bool
+fn zeros_last(places: &[u16]) -> bool
     ensures { result ≡ zeros_last places.now }
 {
     for place in 0..places.len() {
@@ -145,7 +145,7 @@ fn zeros_last(places: &[u8]) -> bool
     true
 }
 
-fn are_zeros(places: &[u8]) -> bool
+fn are_zeros(places: &[u16]) -> bool
     ensures { result ≡ is_zeros places.now }
 {
     places.iter().all(|number| *number == 0)

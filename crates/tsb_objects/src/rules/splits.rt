@@ -90,7 +90,7 @@ pub(super) fn rings_agree(plan: &Plan, split: Split, side: Side) -> bool
 }
 
 /// What a listed phase adds to the splits on the side.
-fn split_before(plan: &Plan, split: Split, side: u32, number: u8) -> u32
+fn split_before(plan: &Plan, split: Split, side: u32, number: u16) -> u32
     ensures value { result ≡ split_before (plan_of plan.now) split side number }
     ensures range { result ≤ 2550 }
 {
@@ -107,7 +107,7 @@ fn split_before(plan: &Plan, split: Split, side: u32, number: u8) -> u32
 }
 
 /// The splits on the side of the phases that are listed, from the first to this one.
-fn splits_up_to(plan: &Plan, split: Split, side: u32, phase: Phase, places: &[u8]) -> u32
+fn splits_up_to(plan: &Plan, split: Split, side: u32, phase: Phase, places: &[u16]) -> u32
     requires { length places.now ≤ 16 }
     ensures sum { result ≡ sum_by (split_before (plan_of plan.now) split side) (up_to phase places.now) }
     ensures range { result ≤ 40800 }
@@ -115,7 +115,7 @@ fn splits_up_to(plan: &Plan, split: Split, side: u32, phase: Phase, places: &[u8
     let mut sum = 0;
     for number in places {
         sum += split_before(plan, split, side, *number);
-        if *number == phase.number() {
+        if *number == u16::from(phase.number()) {
             return sum;
         }
     }
@@ -131,7 +131,7 @@ pub fn split_end(plan: &Plan, sequence: Sequence, split: Split, phase: Phase) ->
 {
     let side = plan.side(phase);
     let listed = match Ring::new(plan.ring(phase)) {
-        Some(ring) => splits_up_to(plan, split, side, phase, &plan.sequence(sequence, ring)),
+        Some(ring) => splits_up_to(plan, split, side, phase, plan.sequence(sequence, ring)),
         None => 0,
     };
     listed + sides_sum(plan, split, side.saturating_sub(1))

@@ -1,10 +1,10 @@
 //! What a plan says of coordination: patterns, splits and sequences. Times are in tenths of a second.
 #![tactic(auto, unfolding(crate::specs::PlanOf::plan_of))]
 
-ghost use Rattle.std.specs.Prelude.{◌≡◌, ℕ, ◌+◌, ◌-◌, ◌*◌, ◌≤◌};
+ghost use Rattle.std.specs.Prelude.{◌≡◌, ℕ, ◌+◌, ◌-◌, ◌*◌, ◌≤◌, length};
 
 use crate::object::Object;
-use crate::plan::Plan;
+use crate::plan::{Plan, cell};
 use tsb_types::limits::PHASES;
 use tsb_types::{Pattern, Phase, Ring, Sequence, Split};
 
@@ -35,6 +35,14 @@ fn split_index(split: Split, phase: Phase) -> u32
     ensures has { has_index SplitTime result ≡ true }
 {
     16 * (u32::from(split.number()) - 1) + u32::from(phase.number())
+}
+
+/// How many places of `sequenceData` stand before those of a sequence for a ring.
+fn places_before(sequence: Sequence, ring: Ring) -> u32
+    ensures same { result ≡ 32 * (sequence - 1) + 16 * (ring - 1) }
+    ensures within { result ≤ 112 }
+{
+    32 * (u32::from(sequence.number()) - 1) + 16 * (u32::from(ring.number()) - 1)
 }
 
 impl Plan {
@@ -113,16 +121,14 @@ impl Plan {
         self.value(Object::SplitCoordPhase, split_index(split, phase)) == 1
     }
 
-    /// What a sequence has for a ring, place by place: a phase's number, or 0 for none (`sequenceData`).
-    pub fn sequence(&self, sequence: Sequence, ring: Ring) -> [u8; PHASES]
-        ensures { result ≡ sequence_places (plan_of self.now) sequence ring }
+    /// What a sequence has for a ring, place by place, lent: a phase's number, or 0 for none (`sequenceData`).
+    #[inline(always)]
+    pub fn sequence(&self, sequence: Sequence, ring: Ring) -> &[u16]
+        ensures places { result.now ≡ sequence_places (plan_of self.now) sequence ring }
+        ensures full { length result.now ≡ 16 }
     {
-        let before = 32 * (u32::from(sequence.number()) - 1) + 16 * (u32::from(ring.number()) - 1);
-        let mut places = [0; PHASES];
-        for place in 0..PHASES {
-            let value = self.value(Object::SequenceData, before + place as u32 + 1);
-            places[place] = value as u8;
-        }
-        places
+        let end = cell(Object::SequenceData, places_before(sequence, ring) + 16) + 1;
+        let values = &self.values[..];
+        &values[end - PHASES..end]
     }
 }

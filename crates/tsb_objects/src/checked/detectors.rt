@@ -1,0 +1,53 @@
+//! What a checked plan says of all its detectors at once.
+#![tactic(auto, unfolding(tsb_plan::specs::PlanOf::plan_of, crate::specs::Checked::checked_plan))]
+
+ghost use Rattle.std.specs.Prelude.{◌≡◌, ℕ, nat_le};
+ghost use Rattle.tsb_objects.specs.Checked.{checked_plan};
+ghost use Rattle.tsb_plan.specs.Parts.{call_phase, pedestrian_call_phase, detector_delay, no_activity, maximum_presence};
+ghost use Rattle.tsb_types.specs.Lists.{is};
+ghost use Rattle.tsb_types.specs.Sets.{has_number};
+
+use crate::checked::Checked;
+use tsb_types::{NumberSet, Phase};
+
+impl Checked {
+    /// The vehicle detectors that call a phase (`vehicleDetectorCallPhase`).
+    #[inline(always)]
+    pub fn detectors_of(&self, p: Phase) -> NumberSet
+        ensures { (d : ℕ) → has_number result d ≡ is p (call_phase (checked_plan self.now) d) }
+    {
+        NumberSet::from_list(self.detector_tables.detectors[usize::from(p.number()) - 1])
+    }
+
+    /// The pedestrian detectors that call a phase (`pedestrianDetectorCallPhase`).
+    #[inline(always)]
+    pub fn pedestrian_detectors_of(&self, p: Phase) -> NumberSet
+        ensures { (d : ℕ) → has_number result d ≡ is p (pedestrian_call_phase (checked_plan self.now) d) }
+    {
+        NumberSet::from_list(self.detector_tables.pedestrian_detectors[usize::from(p.number()) - 1])
+    }
+
+    /// The vehicle detectors with a delay (`vehicleDetectorDelay` over 0).
+    #[inline(always)]
+    pub fn detectors_with_delay(&self) -> NumberSet
+        ensures { (d : ℕ) → has_number result d ≡ nat_le 1 (detector_delay (checked_plan self.now) d) }
+    {
+        self.detector_tables.with_delay
+    }
+
+    /// The vehicle detectors that fail by no activity (`vehicleDetectorNoActivity` over 0).
+    #[inline(always)]
+    pub fn detectors_with_no_activity(&self) -> NumberSet
+        ensures { (d : ℕ) → has_number result d ≡ nat_le 1 (no_activity (checked_plan self.now) d) }
+    {
+        self.detector_tables.with_no_activity
+    }
+
+    /// The vehicle detectors that fail by maximum presence (`vehicleDetectorMaxPresence` over 0).
+    #[inline(always)]
+    pub fn detectors_with_maximum_presence(&self) -> NumberSet
+        ensures { (d : ℕ) → has_number result d ≡ nat_le 1 (maximum_presence (checked_plan self.now) d) }
+    {
+        self.detector_tables.with_maximum_presence
+    }
+}
