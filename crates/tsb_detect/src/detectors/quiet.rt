@@ -1,13 +1,14 @@
 //! For how many ticks a tick has nothing to look at.
 ghost use Rattle.std.specs.Prelude.{◌≡◌, ℕ, ◌+◌, ◌-◌, ◌%◌, ◌<◌, ◌≤◌, ◌^◌, false};
+ghost use Rattle.tsb_objects.specs.Checked.{checked_plan};
 ghost use Rattle.tsb_plan.specs.PlanOf.{plan_of};
 ghost use Rattle.tsb_types.specs.Sets.{has_number};
 ghost use Rattle.tsb_detect.specs.Rows.{row_in, is_tested};
 
 use crate::detectors::Detectors;
-use crate::diagnostics::{MINUTE, steady_limit};
-use crate::sets::has;
-use tsb_objects::{Detector, NumberSet, Plan};
+use crate::diagnostics::{MINUTE, steady_limit, timed};
+use crate::sets::{has, pop};
+use tsb_objects::{Checked, Detector, NumberSet, Plan};
 
 /// How many ticks after `now` a detector is looked at for its time, where that is within a minute: its input has been on or off
 /// for long enough then, or has not been on for the delay.
@@ -36,19 +37,19 @@ impl Detectors {
     ghost use Rattle.tsb_detect.specs.Layer.{cells_of};
 
     /// How many ticks after `now` the first detector is looked at for its time, or all as the minute is whole.
-    pub(super) fn soonest(&self, now: u32, inputs: NumberSet, plan: &Plan) -> u32
+    pub(super) fn soonest(&self, now: u32, inputs: NumberSet, plan: &Checked) -> u32
         requires fits { now + 600 < 2 ^ 32 }
         requires range { (d : ℕ) → 1 ≤ d → d ≤ 16 → (row_in (cells_of self.now) d).change ≤ now + 1 }
         ensures later { 1 ≤ result }
         ensures within { result ≤ 600 - now % 600 }
         ensures quiet { (t d : ℕ) → now < t → t < now + result → 1 ≤ d → d ≤ 16 →
-            is_tested t (plan_of plan.now) d (has_number inputs d) (row_in (cells_of self.now) d).change ≡ false }
+            is_tested t (checked_plan plan.now) d (has_number inputs d) (row_in (cells_of self.now) d).change ≡ false }
     {
         let mut soonest = MINUTE - now % MINUTE;
-        for number in 1..17u8 {
-            let d = Detector::of(number);
+        let mut rest = timed(inputs, plan);
+        while let Some(d) = pop(&mut rest) {
             let change = self.change(now, d);
-            soonest = soonest.min(wait(now, plan, d, has(inputs, d), change));
+            soonest = soonest.min(wait(now, plan.plan(), d, has(inputs, d), change));
         }
         soonest
     }

@@ -1,20 +1,19 @@
 //! A tick of detectors: those that may change are worked out, of all others it is proved that they stay.
 ghost use Rattle.std.specs.Prelude.{◌≡◌, ◌≢◌, ℕ, ◌+◌, ◌<◌, ◌≤◌, ◌^◌, true, false};
-ghost use Rattle.tsb_cells.specs.Timer.{timer_at};
+ghost use Rattle.tsb_objects.specs.Checked.{checked_plan};
 ghost use Rattle.tsb_plan.specs.PlanOf.{plan_of};
-ghost use Rattle.tsb_plan.specs.Parts.{call_phase, no_activity};
+ghost use Rattle.tsb_plan.specs.Parts.{call_phase};
 ghost use Rattle.tsb_types.specs.Sets.{has_number};
-ghost use Rattle.tsb_detect.specs.Detector.{has_lasted};
 ghost use Rattle.tsb_detect.specs.Promises.{green_timer_of};
-ghost use Rattle.tsb_detect.specs.Rows.{row_in, IsRead, IsVisit, IsSettled, is_due, is_due_on};
+ghost use Rattle.tsb_detect.specs.Rows.{row_in, IsRead, IsVisit, IsSettled, is_due, is_tested};
 
 use super::cells::{ACTUATIONS, CHANGES, ERRATIC, INACTIVE, INPUTS, OUTPUTS, PRESENT};
 use crate::detectors::Detectors;
-use crate::diagnostics::{MINUTE, has_lasted, is_due_on};
+use crate::diagnostics::{MINUTE, is_tested, timed};
 use crate::greens::Greens;
 use crate::output::{green_of, next_row};
 use crate::sets::{all, differing, has, joined, known, pop};
-use tsb_objects::{Detector, NumberSet, Plan};
+use tsb_objects::{Checked, Detector, NumberSet, Plan};
 use tsb_rows::list;
 
 impl Detectors {
@@ -48,52 +47,36 @@ impl Detectors {
         self.cell(CHANGES, d)
     }
 
-    /// The detectors that have no activity where their input is off.
+    /// The detectors that a tick that is no whole minute looks at for their time.
     #[inline(always)]
-    fn idle(&self, now: u32, plan: &Plan) -> NumberSet
+    fn tested(&self, now: u32, inputs: NumberSet, plan: &Checked) -> NumberSet
         requires fits { now + 1 < 2 ^ 32 }
         requires read { (d : ℕ) → 1 ≤ d → d ≤ 16 → IsRead now (row_in (cells_of self.now) d) }
-        ensures { (d : ℕ) → 1 ≤ d → d ≤ 16 → has_number result d ≡ has_lasted (timer_at now (row_in (cells_of self.now) d).change) (no_activity (plan_of plan.now) d) }
+        ensures { (d : ℕ) → 1 ≤ d → d ≤ 16 →
+            has_number result d ≡ is_tested now (checked_plan plan.now) d (has_number inputs d) (row_in (cells_of self.now) d).change }
     {
         let mut found = NumberSet::empty();
-        for number in 1..17u8 {
-            let d = Detector::of(number);
+        let mut rest = timed(inputs, plan);
+        while let Some(d) = pop(&mut rest) {
             let change = self.change(now, d);
-            found = joined(found, d, has_lasted(now, change, plan.no_activity(d)));
-        }
-        found
-    }
-
-    /// The detectors that a tick looks at where their input is on.
-    #[inline(always)]
-    fn held(&self, now: u32, plan: &Plan) -> NumberSet
-        requires fits { now + 1 < 2 ^ 32 }
-        requires read { (d : ℕ) → 1 ≤ d → d ≤ 16 → IsRead now (row_in (cells_of self.now) d) }
-        ensures { (d : ℕ) → 1 ≤ d → d ≤ 16 → has_number result d ≡ is_due_on now (plan_of plan.now) d (row_in (cells_of self.now) d).change }
-    {
-        let mut found = NumberSet::empty();
-        for number in 1..17u8 {
-            let d = Detector::of(number);
-            let change = self.change(now, d);
-            found = joined(found, d, is_due_on(now, plan, d, change));
+            let on = is_tested(now, plan.plan(), d, has(inputs, d), change);
+            found = joined(found, d, on);
         }
         found
     }
 
     /// The detectors that a tick looks at for their time.
     #[inline(always)]
-    fn due_set(&self, now: u32, inputs: NumberSet, plan: &Plan) -> NumberSet
+    fn due_set(&self, now: u32, inputs: NumberSet, plan: &Checked) -> NumberSet
         requires fits { now + 1 < 2 ^ 32 }
         requires read { (d : ℕ) → 1 ≤ d → d ≤ 16 → IsRead now (row_in (cells_of self.now) d) }
         ensures { (d : ℕ) → 1 ≤ d → d ≤ 16 →
-            has_number result d ≡ is_due now (plan_of plan.now) d (has_number inputs d) (row_in (cells_of self.now) d).change }
+            has_number result d ≡ is_due now (checked_plan plan.now) d (has_number inputs d) (row_in (cells_of self.now) d).change }
     {
         if now % MINUTE == 0 {
             all()
         } else {
-            self.idle(now, plan)
-                .difference(inputs)
-                .union(self.held(now, plan).intersection(inputs))
+            self.tested(now, inputs, plan)
         }
     }
 
@@ -116,12 +99,12 @@ impl Detectors {
     }
 
     /// Works out the detectors that may change.
-    pub(super) fn run(&mut self, now: u32, inputs: NumberSet, greens: &Greens, plan: &Plan)
+    pub(super) fn run(&mut self, now: u32, inputs: NumberSet, greens: &Greens, plan: &Checked)
         requires fits { now + 1 < 2 ^ 32 }
         requires opened { is_open self.old ≡ true }
         requires read { (d : ℕ) → 1 ≤ d → d ≤ 16 → IsRead now (row_in (cells_of self.old) d) }
         ensures each { (d : ℕ) → 1 ≤ d → d ≤ 16 →
-            IsVisit now (plan_of plan.now) d (has_number inputs d) (green_timer_of now greens.now (call_phase (plan_of plan.now) d)) (row_in (cells_of self.old) d) (row_in (cells_of self.new) d) }
+            IsVisit now (checked_plan plan.now) d (has_number inputs d) (green_timer_of now greens.now (call_phase (checked_plan plan.now) d)) (row_in (cells_of self.old) d) (row_in (cells_of self.new) d) }
         ensures lists { KeepsLists (cells_of self.old) (cells_of self.new) }
         ensures kept { kept_of self.new ≡ kept_of self.old }
         ensures opened { is_open self.new ≡ true }
@@ -129,8 +112,9 @@ impl Detectors {
         let mut rest = self
             .unsettled(inputs)
             .union(self.due_set(now, inputs, plan));
+        let values = plan.plan();
         while let Some(d) = pop(&mut rest) {
-            self.visit(now, inputs, greens, plan, d);
+            self.visit(now, inputs, greens, values, d);
         }
     }
 }

@@ -1,7 +1,4 @@
-use Rattle.std.proofs.Common.{◌+◌, subst}
-use Rattle.tsb_plan.specs.Plan.{Plan}
-use Rattle.tsb_plan.specs.PlanOf.{plan_of}
-use Rattle.tsb_detect.specs.Promises.{IsQuiet}
+use Rattle.tsb_objects.specs.Checked.{checked_plan}
 use Rattle.tsb_detect.specs.Layer.{cells_of}
 use Rattle.tsb_detect.proofs.QuietLemmas.{rows-range, quiet-ticks}
 use Rattle.tsb_detect.proofs.detectors.Detectors.due.Goals as goal
@@ -11,6 +8,5 @@ soonest-requires-clause-range c = rows-range c.args.now (cells_of c.args.self.no
 
 pub returns-then-is_empty-clause-quiet : goal.returns-then-is_empty-clause-quiet
 returns-then-is_empty-clause-quiet c =
-    subst (λ (plan : Plan). IsQuiet c.args.now (c.args.now + c.soonest.result) c.args.row.now plan (cells_of c.args.self.now)) c.plan.ensures.plan
-    (quiet-ticks c.args.now c.soonest.result c.args.row.now (plan_of c.plan.result.now) (cells_of c.args.self.now) c.requires.by c.soonest.ensures.within
-    (λ d. c.unsettled.ensures d (c.is_empty.ensures.none c.if-is_empty.true d)) c.soonest.ensures.quiet)
+    quiet-ticks c.args.now c.soonest.result c.args.row.now (checked_plan c.args.plan.now) (cells_of c.args.self.now) c.requires.by c.soonest.ensures.within
+    (λ d. c.unsettled.ensures d (c.is_empty.ensures.none c.if-is_empty.true d)) c.soonest.ensures.quiet
