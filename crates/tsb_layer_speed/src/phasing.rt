@@ -1,12 +1,13 @@
 //! Phase timing, with the moves of the rings, timed.
-ghost use Rattle.std.specs.Prelude.{◌≡◌, ◌<◌, ◌+◌, ◌^◌, true, false};
+ghost use Rattle.std.specs.Prelude.{◌≡◌, ◌<◌, ◌+◌, ◌^◌, true, false, IfOk};
 ghost use Rattle.arrayvec.specs.ArrayVec.{array_vec_len};
 ghost use Rattle.tsb_phase.specs.Cells.{IsBy};
+ghost use Rattle.tsb_phase.specs.Counts.{AreCounts};
 ghost use Rattle.tsb_phase.specs.Layer.{cells_of, is_open};
 
 use crate::timed::{Changes, Timed};
 use tsb_cells::Reversible;
-use tsb_objects::{Called, Checked, Counts, Interval, Orders, Phase, PhaseSet, Preempt, Timing};
+use tsb_objects::{Called, Checked, Interval, Orders, Phase, PhaseSet, Preempt, Timing};
 use tsb_phase::{Conditions, Phases};
 use tsb_runs::{Fault, Numbers};
 use tsb_types::limits;
@@ -15,12 +16,13 @@ use tsb_types::limits;
 #[derive(Clone, Copy, Drop)]
 pub struct Given {
     called: Called,
-    counts: Counts,
+    counts: [u32; 16],
     service: u32,
     hold: PhaseSet,
     must_end: PhaseSet,
     forced: PhaseSet,
     moves: [u32; 6],
+    ghost small: { AreCounts counts },
 }
 
 /// The layer, at a tick.
@@ -78,7 +80,7 @@ impl Timed for Phasing {
         self.layer.open();
         let conditions = Conditions {
             called: given.called,
-            counts: given.counts,
+            counts: &given.counts,
             runs: None,
             service: Preempt::new(given.service),
             orders: Orders {
@@ -204,10 +206,13 @@ fn called(numbers: &mut Numbers) -> Result<Called, Fault> {
     })
 }
 
-fn counts(numbers: &mut Numbers) -> Result<Counts, Fault> {
+/// The vehicles that phases 1 to 16 have counted, in turn, 0 to 255 each.
+fn counts(numbers: &mut Numbers) -> Result<[u32; 16], Fault>
+    ensures { IfOk result AreCounts }
+{
     let mut vehicles = [0; 16];
     for k in 0..16 {
-        vehicles[k] = (numbers.number()? % 256) as u8;
+        vehicles[k] = numbers.number()? % 256;
     }
-    Ok(Counts { vehicles })
+    Ok(vehicles)
 }

@@ -1,12 +1,13 @@
 //! Phase timing alone, with the moves that the rings make of it.
-ghost use Rattle.std.specs.Prelude.{◌≡◌, ◌<◌, ◌+◌, ◌^◌, true, false};
+ghost use Rattle.std.specs.Prelude.{◌≡◌, ◌<◌, ◌+◌, ◌^◌, true, false, IfOk};
 ghost use Rattle.tsb_phase.specs.Cells.{IsBy};
+ghost use Rattle.tsb_phase.specs.Counts.{AreCounts};
 ghost use Rattle.tsb_phase.specs.Layer.{cells_of, is_open};
 
 use crate::driven::Driven;
 use std::alloc::Global;
 use tsb_cells::Reversible;
-use tsb_objects::{Called, Checked, Counts, Interval, Orders, Phase, PhaseSet, Timing};
+use tsb_objects::{Called, Checked, Interval, Orders, Phase, PhaseSet, Timing};
 use tsb_phase::{Conditions, Phases};
 use tsb_runs::{Fault, Numbers, none_changed};
 use tsb_types::limits;
@@ -27,9 +28,11 @@ impl Phasing {
     fn ticks(&mut self, numbers: Numbers) -> Result<u32, Fault> {
         let mut numbers = numbers;
         let times = numbers.number()?;
+        let called = called(&mut numbers)?;
+        let counts = counts(&mut numbers)?;
         let conditions = Conditions {
-            called: called(&mut numbers)?,
-            counts: counts(&mut numbers)?,
+            called,
+            counts: &counts,
             runs: numbers.pattern()?,
             service: numbers.preempt()?,
             orders: orders(&mut numbers)?,
@@ -125,14 +128,30 @@ fn moved(
     let ends = moves.phase()?;
     let clears = moves.phase()?;
     let starts = moves.phase()?;
+    ended(phases, now, ends, timing, conditions, plan);
+    cleared(phases, now, clears)?;
+    started(phases, now, starts, conditions, plan);
+    Ok(())
+}
+
+/// Ends the green of a phase, if there is one.
+fn ended(
+    phases: &mut Phases,
+    now: u32,
+    ends: Option<Phase>,
+    timing: &Timing,
+    conditions: &Conditions,
+    plan: &Checked,
+)
+    requires fits { now + 1 < 2 ^ 32 }
+    requires opened { is_open phases.old ≡ true }
+    requires by { IsBy now (cells_of phases.old) }
+    ensures by { IsBy now (cells_of phases.new) }
+    ensures opened { is_open phases.new ≡ true }
+{
     if let Some(p) = ends {
         phases.end(p, now, timing, conditions, plan);
     }
-    if let Some(p) = clears {
-        cleared(phases, now, p)?;
-    }
-    started(phases, now, starts, conditions, plan);
-    Ok(())
 }
 
 /// Starts a phase, if there is one.
@@ -164,8 +183,21 @@ fn unforced(phases: &mut Phases, now: u32)
     phases.unforce();
 }
 
+/// Clears a phase, if there is one.
+fn cleared(phases: &mut Phases, now: u32, clears: Option<Phase>) -> Result<(), Fault>
+    requires opened { is_open phases.old ≡ true }
+    requires by { IsBy now (cells_of phases.old) }
+    ensures by { IsBy now (cells_of phases.new) }
+    ensures opened { is_open phases.new ≡ true }
+{
+    match clears {
+        Some(p) => clear(phases, now, p),
+        None => Ok(()),
+    }
+}
+
 /// Clears a phase that is in yellow change or red clearance.
-fn cleared(phases: &mut Phases, now: u32, p: Phase) -> Result<(), Fault>
+fn clear(phases: &mut Phases, now: u32, p: Phase) -> Result<(), Fault>
     requires opened { is_open phases.old ≡ true }
     requires by { IsBy now (cells_of phases.old) }
     ensures by { IsBy now (cells_of phases.new) }
@@ -188,12 +220,15 @@ fn called(numbers: &mut Numbers) -> Result<Called, Fault> {
     })
 }
 
-fn counts(numbers: &mut Numbers) -> Result<Counts, Fault> {
+/// The vehicles that phases 1 to 16 have counted, in turn, 0 to 255 each.
+fn counts(numbers: &mut Numbers) -> Result<[u32; 16], Fault>
+    ensures { IfOk result AreCounts }
+{
     let mut vehicles = [0; 16];
     for k in 0..16 {
-        vehicles[k] = (numbers.number()? % 256) as u8;
+        vehicles[k] = numbers.number()? % 256;
     }
-    Ok(Counts { vehicles })
+    Ok(vehicles)
 }
 
 /// What is asked of phases; they read nothing of omitted phases and of a target.

@@ -1,4 +1,4 @@
-use Rattle.tsb_layers.proofs.phasing.cleared.Goals as goal
+use Rattle.tsb_layers.proofs.phasing.clear.Goals as goal
 
 pub returns-in-Yellow-clause-by : goal.returns-in-Yellow-clause-by
 returns-in-Yellow-clause-by c = c.clear.ensures.by c.args.now c.requires.by
