@@ -13,6 +13,6 @@ returns-clause-zeros c =
     let r_same = c.number-number.ensures.same in
     let r_from = c.number-number.ensures.from_one in
     let r_to = c.number-number.ensures.within in
-    ap zeros_last (c.sequence.ensures ∙ ap (λ (plan : Plan). sequence plan c.args.s c.args.r) c.plan.ensures.plan)
+    ap zeros_last (c.sequence.ensures.places ∙ ap (λ (plan : Plan). sequence plan c.args.s c.args.r) c.plan.ensures.plan)
     ∙ sequence-zeros (checked_plan c.args.plan.now) c.plan.ensures.consistent c.args.s c.args.r
     (omega (arith, s_same, s_from)) (omega (arith, s_same, s_to)) (omega (arith, r_same, r_from)) (omega (arith, r_same, r_to))
