@@ -10,6 +10,7 @@ ghost use Rattle.tsb_preempt.specs.Rows.{serving_of, delay_cell, IsStored, IsSer
 use crate::preempts::Preempts;
 use crate::serving::{Serving, delay_cell};
 use tsb_objects::{NumberSet, Preempt, Stage};
+use tsb_rows::put;
 
 /// The list of switches that are on.
 pub(crate) const SWITCHES: usize = 0;
@@ -32,25 +33,19 @@ const SERVICE_TIMER: usize = 8;
 /// The timer of Track.
 const STAGE_TIMER: usize = 9;
 
+/// How many lists there are of 4 numbers.
+const LISTS: u32 = 16;
+
 /// Whether a set has the number of a preempt.
 #[inline(always)]
 fn names_preempt(set: NumberSet) -> bool
     ensures { result ≡ false → (n : ℕ) → 1 ≤ n → n ≤ 4 → has_number set n ≡ false }
 {
-    set.list() % 16 != 0
+    u32::from(set.list()) % LISTS != 0
 }
 
 impl Preempts {
     ghost use Rattle.tsb_preempt.specs.Layer.{cells_of, kept_of, is_open, AreDelayed};
-
-    /// The numbers in list `k`.
-    #[inline(always)]
-    pub(crate) fn list(&self, k: usize) -> NumberSet
-        requires { k < 2 }
-        ensures { (n : ℕ) → has_number result n ≡ names (list_in (cells_of self.now) k) n }
-    {
-        NumberSet::from_list((self.bank.get(k) % 65536) as u16)
-    }
 
     /// The cell of the delay timer of a preempt.
     #[inline(always)]
@@ -76,19 +71,6 @@ impl Preempts {
             && self.bank.get(IN_SERVICE) == 0
     }
 
-    /// Puts a value into a cell.
-    #[inline(always)]
-    pub(crate) fn put(&mut self, at: usize, value: u32)
-        requires in_range { at < 10 }
-        requires opened { is_open self.old ≡ true }
-        ensures here { slice_index (cells_of self.new) at ≡ value }
-        ensures others { (j : ℕ) → j ≢ at → slice_index (cells_of self.new) j ≡ slice_index (cells_of self.old) j }
-        ensures kept { kept_of self.new ≡ kept_of self.old }
-        ensures opened { is_open self.new ≡ true }
-    {
-        self.bank.put(at, value);
-    }
-
     /// Makes list `k` that of the preempts of a set.
     #[inline(always)]
     pub(crate) fn put_set(&mut self, k: usize, set: NumberSet)
@@ -100,7 +82,7 @@ impl Preempts {
         ensures kept { kept_of self.new ≡ kept_of self.old }
         ensures opened { is_open self.new ≡ true }
     {
-        self.put(k, u32::from(set.list()) % 16);
+        put(&mut self.bank, k, u32::from(set.list()) % LISTS);
     }
 
     /// The delay timer of a preempt runs, begins or is Off.
@@ -116,7 +98,7 @@ impl Preempts {
         ensures opened { is_open self.new ≡ true }
     {
         let cell = delay_cell(now, inputs.contains(n), self.delay(n));
-        self.put(DELAYS + usize::from(n), cell);
+        put(&mut self.bank, DELAYS + usize::from(n), cell);
     }
 
     /// The delay timers run, begin or are Off.
@@ -176,10 +158,10 @@ impl Preempts {
         ensures kept { kept_of self.new ≡ kept_of self.old }
         ensures opened { is_open self.new ≡ true }
     {
-        self.put(IN_SERVICE, preempt);
-        self.put(STAGE_IN_SERVICE, stage);
-        self.put(SERVICE_TIMER, timer);
-        self.put(STAGE_TIMER, stage_timer);
+        put(&mut self.bank, IN_SERVICE, preempt);
+        put(&mut self.bank, STAGE_IN_SERVICE, stage);
+        put(&mut self.bank, SERVICE_TIMER, timer);
+        put(&mut self.bank, STAGE_TIMER, stage_timer);
     }
 
     /// Puts the service into its cells.

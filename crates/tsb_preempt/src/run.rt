@@ -16,6 +16,7 @@ use crate::orders::PreemptOrders;
 use crate::preempts::Preempts;
 use crate::serving::{Serving, beginning, requests, served, spends, stage_phases};
 use tsb_objects::{Intervals, NumberSet, PhaseSet, Plan, Preempt, Row};
+use tsb_rows::list;
 
 /// The list that names phases 1 to 16.
 const ALL_PHASES: u16 = 65535;
@@ -126,7 +127,7 @@ impl Preempts {
     pub(crate) fn inputs(&self, row: &Row) -> NumberSet
         ensures { (n : ℕ) → has_number result n ≡ (has_number row.now.preempts n || names (list_in (cells_of self.now) 0) n) }
     {
-        row.preempts.union(self.list(SWITCHES))
+        row.preempts.union(list(&self.bank, SWITCHES))
     }
 
     /// What tick `now` makes of the preempts, and what they ask of the phases.
@@ -153,7 +154,7 @@ impl Preempts {
             };
         }
         let was = self.load();
-        let still = self.list(SPENT).intersection(inputs);
+        let still = list(&self.bank, SPENT).intersection(inputs);
         self.put_delays(now, inputs);
         let asks = self.requesting(now, plan, inputs, still);
         let begins = beginning(&was, asks);
