@@ -13,7 +13,6 @@ pub mod limits;
 pub mod number_set;
 pub mod numbers;
 pub mod phase_set;
-pub mod plan_numbers;
 pub mod refusal;
 pub mod row;
 pub mod stage;
@@ -23,9 +22,11 @@ pub use flow::{Called, Counts, Intervals, Moves, Orders, Pedestrians, RingMoves,
 pub use interval::{Interval, PedestrianInterval};
 pub use lamp::{Aspect, Lamp, PedestrianAspect, PedestrianColor, SignalColor};
 pub use number_set::NumberSet;
-pub use numbers::{Detector, Overlap, Phase, Side, Station};
+pub use numbers::{
+    Detector, Number, Overlap, Pattern, PedestrianDetector, Phase, Preempt, Ring, Sequence, Side,
+    Split, Station,
+};
 pub use phase_set::PhaseSet;
-pub use plan_numbers::{Pattern, PedestrianDetector, Preempt, Ring, Sequence, Split};
 pub use refusal::Refusal;
 pub use row::Row;
 pub use stage::Stage;
