@@ -1,7 +1,7 @@
--- Where nothing is asked of the rings, and none serves a phase that is over, both rest and no move is made.
+-- Where nothing is asked of the rings, both rest and no move is made.
 use Rattle.std.proofs.Common.{◌≡◌, ◌⊎◌, ℕ, Bool, true, false, not, cond, ◌&&◌, ◌||◌, Option, Some, None, is_some, refl, sym, ap, inl, inr}
 use Rattle.std.proofs.lemmas.Bool.{cases_Bool}
-use Rattle.tsb_types.specs.Intervals.{is_green}
+use Rattle.tsb_types.specs.Intervals.{is_green, in_service}
 use Rattle.tsb_types.specs.Lists.{later, not_later}
 use Rattle.tsb_plan.specs.Plan.{Plan, phases}
 use Rattle.tsb_ring.specs.declared.want.Want.{Want}
@@ -11,8 +11,9 @@ use Rattle.tsb_ring.specs.Wants.{fits, is_on_side, is_candidate, is_called_elsew
 use Rattle.tsb_ring.specs.Crossings.{wants_cross, ring_joins, begins, own_commitment, committed}
 use Rattle.tsb_ring.specs.Next.{idle_pick, completes, starting, leaves, ends, clears}
 use Rattle.tsb_ring.specs.Moves.{if_passes, ring_moves, moves}
-use Rattle.tsb_ring.specs.Layer.{is_unfinished, IsUnasked, no_move, no_moves}
+use Rattle.tsb_ring.specs.Layer.{IsUnasked, no_move, no_moves}
 use Rattle.tsb_ring.proofs.FindLemmas.{none-first}
+use Rattle.tsb_ring.proofs.WaitLemmas.{first-passes}
 
 uncommitted : (s : State) (given : Given) → IsUnasked s given → (r : Ring) → s.commitment r ≡ None
 uncommitted s given u Ring1 = u.first
@@ -42,7 +43,7 @@ rest_by_calls plan s given r picked u =
     ) refl
 
 -- no want was found, or it is to rest
-abbrev Rests : Option Want → Type 0
+abbrev pub Rests : Option Want → Type 0
 Rests w = (w ≡ None) ⊎ (w ≡ Some Rest)
 
 rests : (plan : Plan) (s : State) (given : Given) (r : Ring) (picked : Option ℕ) → IsUnasked s given → Rests (want plan s given r picked)
@@ -57,15 +58,15 @@ rests_of : (plan : Plan) (s : State) (given : Given) (r : Ring) → IsUnasked s 
 unfolding want_of
 rests_of plan s given r u = rests plan s given r (picked_before plan s given r) u
 
-taken-rest : (given : Given) (o : Option ℕ) (w : Option Want) → Rests w → taken given o w ≡ None
+pub taken-rest : (given : Given) (o : Option ℕ) (w : Option Want) → Rests w → taken given o w ≡ None
 taken-rest given o w (inl e) = rw e refl
 taken-rest given o w (inr e) = rw e refl
 
-cross-rest : (w : Option Want) → Rests w → wants_cross w ≡ false
+pub cross-rest : (w : Option Want) → Rests w → wants_cross w ≡ false
 cross-rest w (inl e) = rw e refl
 cross-rest w (inr e) = rw e refl
 
-leaves-rest : (w : Option Want) → Rests w → leaves w ≡ false
+pub leaves-rest : (w : Option Want) → Rests w → leaves w ≡ false
 leaves-rest w (inl e) = rw e refl
 leaves-rest w (inr e) = rw e refl
 
@@ -107,7 +108,7 @@ no_commit : (plan : Plan) (s : State) (given : Given) (r : Ring) → IsUnasked s
 unfolding committed
 no_commit plan s given r u = rw (uncommitted s given u r, no_begin plan s given u, no_pick plan s given r u) (own_none (serving plan given r))
 
-two_false : (a b : Bool) → (a && (false || (b && false))) ≡ false
+pub two_false : (a b : Bool) → (a && (false || (b && false))) ≡ false
 two_false true true = refl
 two_false true false = refl
 two_false false b = refl
@@ -127,26 +128,33 @@ no_clear : (plan : Plan) (s : State) (given : Given) (p : ℕ) → given.over p 
 unfolding clears
 no_clear plan s given p e = rw e refl
 
-off : (a : Bool) → not a ≡ true → a ≡ false
-off true h = absurd (cc)
-off false h = refl
+-- a phase in service is not over
+unfinished : (a b c : Bool) → (a && b) ≡ true → (b && c) ≡ false → c ≡ false
+unfinished true true c h k = k
+unfinished true false c h k = absurd (cc)
+unfinished false b c h k = absurd (cc)
 
-none-clears : (plan : Plan) (s : State) (given : Given) (o : Option ℕ) → is_unfinished given o ≡ true → if_passes (clears plan s given) o ≡ None
+not_over : (plan : Plan) (s : State) (given : Given) (r : Ring) (p : ℕ) → IsUnasked s given → serving plan given r ≡ Some p → given.over p ≡ false
+unfolding serving
+not_over plan s given r p u h =
+    unfinished (in_ring plan r p) (in_service (given.interval p)) (given.over p)
+    (first-passes (λ q. in_ring plan r q && in_service (given.interval q)) (phases plan) p h) (u.over p)
+
+none-clears : (plan : Plan) (s : State) (given : Given) (o : Option ℕ) → ((p : ℕ) → o ≡ Some p → given.over p ≡ false) →
+    if_passes (clears plan s given) o ≡ None
 none-clears plan s given None h = refl
-none-clears plan s given (Some p) h = rw (no_clear plan s given p (off (given.over p) h)) refl
+none-clears plan s given (Some p) h = rw (no_clear plan s given p (h p refl)) refl
 
-rested : (plan : Plan) (s : State) (given : Given) (r : Ring) → IsUnasked s given → is_unfinished given (serving plan given r) ≡ true →
-    ring_moves plan s given r ≡ no_move
-rested plan s given r u h =
+rested : (plan : Plan) (s : State) (given : Given) (r : Ring) → IsUnasked s given → ring_moves plan s given r ≡ no_move
+rested plan s given r u =
     rw (
       none-ends plan s given (serving plan given r) u,
-      none-clears plan s given (serving plan given r) h,
+      none-clears plan s given (serving plan given r) (λ p e. not_over plan s given r p u e),
       no_starting plan s given r u,
       no_commit plan s given r u,
     ) refl
 
-pub rest-moves : (plan : Plan) (s : State) (given : Given) (one two : Option ℕ) → one ≡ serving plan given Ring1 → two ≡ serving plan given Ring2 →
-    IsUnasked s given → is_unfinished given one ≡ true → is_unfinished given two ≡ true → no_moves ≡ moves plan s given
+pub rest_moves : (plan : Plan) (s : State) (given : Given) → IsUnasked s given → no_moves ≡ moves plan s given
 unfolding moves
-rest-moves plan s given one two e f u h k =
-    sym (rw (rested plan s given Ring1 u (rw e at h), rested plan s given Ring2 u (rw f at k), no_begin plan s given u, no_complete plan s given u) refl)
+rest_moves plan s given u =
+    sym (rw (rested plan s given Ring1 u, rested plan s given Ring2 u, no_begin plan s given u, no_complete plan s given u) refl)

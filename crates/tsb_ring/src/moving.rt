@@ -5,7 +5,7 @@ ghost use Rattle.tsb_objects.specs.Checked.{checked_plan};
 ghost use Rattle.tsb_types.specs.Intervals.{is_green};
 ghost use Rattle.tsb_types.specs.Flow.{interval_of};
 ghost use Rattle.tsb_ring.specs.Cells.{IsBy};
-ghost use Rattle.tsb_ring.specs.Layer.{cells_of, state_of, IsFound, is_still};
+ghost use Rattle.tsb_ring.specs.Layer.{cells_of, state_of, IsFound};
 ghost use Rattle.tsb_ring.specs.Promises.{given_of, IsDecided};
 ghost use Rattle.tsb_ring.specs.Rings.{Ring1, Ring2, ring_numbered, own_ring, other, serving};
 ghost use Rattle.tsb_ring.specs.Wants.{want_of, pick, pick_of_ring_1};
