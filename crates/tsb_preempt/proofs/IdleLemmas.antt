@@ -1,17 +1,22 @@
 -- A tick in which no input is on, no delay timer runs, none is spent and none is in service changes nothing.
-use Rattle.std.proofs.Common.{◌≡◌, ℕ, ◌%◌, ◌≤◌, Bool, false, ◌&&◌, ◌||◌, List, slice_index, None, refl, sym, ◌∙◌, ap, arith}
+use Rattle.std.proofs.Common.{◌≡◌, ℕ, ◌+◌, ◌-◌, ◌%◌, ◌≤◌, Bool, false, ◌&&◌, ◌||◌, List, slice_index, None, refl, sym, ◌∙◌, ap, subst, inl, inr, arith}
+use Rattle.std.proofs.lemmas.Bool.{cases_Bool}
 use Rattle.tsb_types.specs.declared.flow.Intervals.{Intervals}
 use Rattle.tsb_types.specs.declared.number_set.NumberSet.{NumberSet}
 use Rattle.tsb_types.specs.declared.row.Row.{Row}
 use Rattle.tsb_types.specs.Lists.{run_from, first}
+use Rattle.tsb_types.specs.Sets as sets
 use Rattle.tsb_types.specs.Sets.{names, has_number, list_in, set_of_list}
-use Rattle.tsb_types.proofs.SetLemmas.{names-zero}
+use Rattle.tsb_types.proofs.SetLemmas.{names-zero, same-list_of}
 use Rattle.tsb_plan.specs.Plan.{Plan}
 use Rattle.tsb_preempt.specs.declared.orders.PreemptOrders.{PreemptOrders}
-use Rattle.tsb_preempt.specs.Cells.{service_in, IsBy}
-use Rattle.tsb_preempt.specs.Promises.{given_by}
+use Rattle.tsb_preempt.specs.Preempts.{Preempts, next_from_read}
+use Rattle.tsb_preempt.specs.Cells.{service_in, preempts_in, IsBy}
+use Rattle.tsb_preempt.specs.Promises.{given_by, IsSame, IsTicked, AreOrders, AreOrdered}
 use Rattle.tsb_preempt.specs.Rows.{delay_cell, requests_by}
 use Rattle.tsb_preempt.specs.Done.{IsDone, IsIdle}
+use Rattle.tsb_preempt.proofs.ReadLemmas.{switches-told, stays-by, read}
+use Rattle.tsb_preempt.proofs.ServiceLemmas.{four}
 use Rattle.tsb_preempt.proofs.SetLemmas.{names-low}
 use Rattle.tsb_preempt.proofs.DoneLemmas.{IsFound, IsAsked, done-kept}
 
@@ -39,12 +44,33 @@ none-serves now cells blank = rw blank refl
 no-spent : (cells : List ℕ) (n : ℕ) → slice_index cells 1 ≡ 0 → names (list_in cells 1) n ≡ false
 no-spent cells n blank = ap (λ (x : ℕ). names (x % 65536) n) blank ∙ names-zero n
 
-pub idle-found : (now : ℕ) (plan : Plan) (row : Row) (intervals : Intervals) (cells : List ℕ) (inputs : NumberSet) →
+-- a preempt whose delay timer is Off is not spent
+none-spent : (now : ℕ) (cells : List ℕ) (n : ℕ) → IsBy now cells → 1 ≤ n → n ≤ 4 → slice_index cells (1 + n) ≡ 0 → names (list_in cells 1) n ≡ false
+none-spent now cells n by from within off = elim (cases_Bool (names (list_in cells 1) n)) [
+  | inl on ↦ absurd (not_from (slice_index cells (1 + n)) off ((by.each n from within).spent on))
+  | inr none ↦ none
+]
+  where
+    not_from : (cell : ℕ) → cell ≡ 0 → 1 ≤ cell → ⊥
+    not_from cell off from = omega (arith, off, from)
+
+spent-zero : (now : ℕ) (cells : List ℕ) (inputs : NumberSet) → IsBy now cells → IsIdle inputs cells → slice_index cells 1 ≡ 0
+unfolding sets.number_of_bits
+spent-zero now cells inputs by idle =
+    sym (switches-told cells 1 by.spent)
+    ∙ same-list_of 4 (names (list_in cells 1)) (λ n. false)
+    (four (λ n. names (list_in cells 1) n ≡ false)
+    (none-spent now cells 1 by (omega arith) (omega arith) idle.one)
+    (none-spent now cells 2 by (omega arith) (omega arith) idle.two)
+    (none-spent now cells 3 by (omega arith) (omega arith) idle.three)
+    (none-spent now cells 4 by (omega arith) (omega arith) idle.four))
+
+pub idle-found : (now : ℕ) (plan : Plan) (row : Row) (intervals : Intervals) (cells : List ℕ) (inputs : NumberSet) → slice_index cells 1 ≡ 0 →
     ((n : ℕ) → has_number inputs n ≡ (has_number row.preempts n || names (list_in cells 0) n)) → IsIdle inputs cells →
     IsFound now plan row intervals cells cells cells cells inputs (set_of_list 0) (set_of_list 0) None None None None None
-idle-found now plan row intervals cells inputs told idle = record {
+idle-found now plan row intervals cells inputs none told idle = record {
   inputs_are = told;
-  still_are = λ n. names-zero n ∙ sym (ap (λ (b : Bool). b && has_number inputs n) (no-spent cells n idle.spent));
+  still_are = λ n. names-zero n ∙ sym (ap (λ (b : Bool). b && has_number inputs n) (no-spent cells n none));
   was_is = none-serves now cells idle.serving;
   delays = record {
     one = still-off now _ _ (idle.off 1 (omega arith) (omega arith)) idle.one;
@@ -59,7 +85,7 @@ idle-found now plan row intervals cells inputs told idle = record {
   serving_is = refl;
   spender_is = λ n. refl;
   spent_are = λ n. rw (names-zero n) refl;
-  listed = λ n from within. no-spent cells n idle.spent ∙ sym (names-zero n);
+  listed = λ n from within. no-spent cells n none ∙ sym (names-zero n);
   lists = λ j other. refl;
   service_is = sym (none-serves now cells idle.serving);
   kept = λ j below. refl;
@@ -70,4 +96,26 @@ pub idle-done : (now : ℕ) (plan : Plan) (row : Row) (intervals : Intervals) (c
     IsAsked now plan None None answer → IsDone now plan (given_by row intervals) cells cells answer
 idle-done now plan row intervals cells inputs answer by told idle asked =
     done-kept now plan row intervals cells cells cells cells inputs (set_of_list 0) (set_of_list 0) None None None None None
-    by (idle-found now plan row intervals cells inputs told idle) answer asked by
+    by (idle-found now plan row intervals cells inputs (spent-zero now cells inputs by idle) told idle) answer asked by
+
+-- ## As a tick reads them
+
+module _ (now : ℕ) (plan : Plan) (row : Row) (intervals : Intervals) (cells : List ℕ) (inputs : NumberSet) (begun : 1 ≤ now)
+    (by : IsBy (now - 1) cells) (told : (n : ℕ) → has_number inputs n ≡ (has_number row.preempts n || names (list_in cells 0) n))
+    (idle : IsIdle inputs cells) where
+  late : IsBy now cells
+  late = stays-by (now - 1) now cells (omega arith) by
+
+  nothing : PreemptOrders
+  nothing = record { target = None; must_end = record { numbers = set_of_list 0 }; ended = false }
+
+  pub idle-ordered : (answer : PreemptOrders) → IsAsked now plan None None answer → AreOrdered now row intervals plan cells answer
+  idle-ordered answer asked =
+      subst (λ (w : Preempts). AreOrders plan (given_by row intervals) w answer) (sym (read now cells begun by))
+      (idle-done now plan row intervals cells inputs answer late told idle asked).orders
+
+  pub idle-ticked : IsTicked now row intervals plan cells cells
+  unfolding nothing
+  idle-ticked =
+      subst (λ (w : Preempts). IsSame (preempts_in now cells) (next_from_read plan (given_by row intervals) w)) (sym (read now cells begun by))
+      (idle-done now plan row intervals cells inputs nothing late told idle (record { target_is = refl; must_end_is = λ p from within. names-zero p; ended_is = refl })).state

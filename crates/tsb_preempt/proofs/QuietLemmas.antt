@@ -6,7 +6,7 @@ use Rattle.tsb_types.specs.declared.number_set.NumberSet.{NumberSet}
 use Rattle.tsb_types.specs.declared.row.Row.{Row}
 use Rattle.tsb_types.specs.Flow.{interval_of}
 use Rattle.tsb_types.specs.Lists.{run_from, first, is}
-use Rattle.tsb_types.specs.Sets.{names, has_number, list_in}
+use Rattle.tsb_types.specs.Sets.{names, has_number, list_in, set_of_list}
 use Rattle.tsb_plan.specs.Plan.{Plan}
 use Rattle.tsb_preempt.specs.declared.orders.PreemptOrders.{PreemptOrders}
 use Rattle.tsb_preempt.specs.declared.serving.Serving.{Serving}
@@ -16,12 +16,13 @@ use Rattle.tsb_preempt.specs.Cells.{service_in, preempts_in, IsBy}
 use Rattle.tsb_preempt.specs.Promises.{given_by, IsSame, AreOrders, IsTicked, AreOrdered}
 use Rattle.tsb_preempt.specs.Rows.{serving_of, IsServingBy, requests_by, served, spends}
 use Rattle.tsb_preempt.specs.Layer.{AreDelayed}
+use Rattle.tsb_preempt.specs.Done.{IsDone, IsStill}
 use Rattle.tsb_preempt.specs.Due.{StaysInService, IsWaiting, AreStanding}
 use Rattle.tsb_preempt.proofs.ReadLemmas.{stays-by, read}
-use Rattle.tsb_preempt.proofs.DoneLemmas.{IsFound, IsAsked, state, orders}
+use Rattle.tsb_preempt.proofs.DoneLemmas.{IsFound, IsAsked, state, orders, done-kept}
 
 -- what is found before `due`
-pub record IsStill (plan : Plan) (row : Row) (intervals : Intervals) (cells : List ℕ) (inputs spent : NumberSet) (was : Option Serving) (due : ℕ) : Type 0 where
+pub record IsQuiet (plan : Plan) (row : Row) (intervals : Intervals) (cells : List ℕ) (inputs spent : NumberSet) (was : Option Serving) (due : ℕ) : Type 0 where
   pub inputs_are : (n : ℕ) → has_number inputs n ≡ (has_number row.preempts n || names (list_in cells 0) n)
   pub spent_are : (n : ℕ) → has_number spent n ≡ names (list_in cells 1) n
   pub within : (n : ℕ) → (has_number spent n && not (has_number inputs n)) ≡ false
@@ -76,37 +77,56 @@ wanted-still : (now t : ℕ) (plan : Plan) (s : Option Serving) → wanted_by pl
 wanted-still now t plan None = refl
 wanted-still now t plan (Some s) = refl
 
-none-ends : (s : Option Service) → false ≡ (is_some s && is_none s)
+pub none-ends : (s : Option Service) → false ≡ (is_some s && is_none s)
 none-ends None = refl
 none-ends (Some s) = refl
+
+-- ## Of one tick
+
+abbrev asks_at : ℕ → Plan → List ℕ → NumberSet → NumberSet → Option ℕ
+asks_at t plan cells inputs spent = first (λ n. requests_by t plan n (has_number inputs n) (has_number spent n) (slice_index cells (1 + n))) (run_from 1 4)
+
+found-still : (t : ℕ) (plan : Plan) (row : Row) (intervals : Intervals) (cells : List ℕ) (inputs spent : NumberSet) (was : Option Serving) →
+    ((n : ℕ) → has_number inputs n ≡ (has_number row.preempts n || names (list_in cells 0) n)) → ((n : ℕ) → has_number spent n ≡ names (list_in cells 1) n) →
+    ((n : ℕ) → (has_number spent n && not (has_number inputs n)) ≡ false) → AreDelayed t inputs cells cells → serving_of t was ≡ service_in t cells →
+    ((n : ℕ) → 1 ≤ n → n ≤ 4 → IsWaiting t t plan cells inputs spent was n) → StaysInService plan (interval_of intervals) (has_number inputs) (serving_of t was) →
+    IsFound t plan row intervals cells cells cells cells inputs spent spent was was (asks_at t plan cells inputs spent) None None
+found-still t plan row intervals cells inputs spent was inputs_are spent_are within delays was_is waits stays = record {
+  inputs_are = inputs_are;
+  still_are = λ n. and-not (has_number spent n) (has_number inputs n) (within n) ∙ ap (λ (b : Bool). b && has_number inputs n) (spent_are n);
+  was_is = was_is;
+  delays = delays;
+  asks_is = refl;
+  begins_is = none-begins (serving_of t was) (λ n. requests_by t plan n (has_number inputs n) (has_number spent n) (slice_index cells (1 + n))) waits;
+  serving_is = still-served plan (interval_of intervals) (has_number inputs) (serving_of t was) stays;
+  spender_is = λ n. still-spends plan (interval_of intervals) (has_number inputs) (serving_of t was) n stays;
+  spent_are = λ n. or-off (has_number spent n);
+  listed = λ n from to. sym (spent_are n);
+  lists = λ j other. refl;
+  service_is = sym was_is;
+  kept = λ j below. refl;
+}
+
+-- a tick that finds nothing to change
+pub still-done : (t : ℕ) (plan : Plan) (row : Row) (intervals : Intervals) (cells : List ℕ) (inputs : NumberSet) (was : Option Serving) (answer : PreemptOrders) → IsBy t cells →
+    ((n : ℕ) → has_number inputs n ≡ (has_number row.preempts n || names (list_in cells 0) n)) → serving_of t was ≡ service_in t cells →
+    IsStill t plan intervals inputs cells was → IsAsked t plan was was answer → IsDone t plan (given_by row intervals) cells cells answer
+still-done t plan row intervals cells inputs was answer by told was_is still asked =
+    let spent : NumberSet = set_of_list (list_in cells 1) in
+    done-kept t plan row intervals cells cells cells cells inputs spent spent was was (asks_at t plan cells inputs spent) None None by
+    (found-still t plan row intervals cells inputs spent was told (λ n. refl) still.spent still.delays was_is still.waits still.stays) answer asked by
 
 -- ## Of ticks
 
 module _ (now : ℕ) (plan : Plan) (row : Row) (intervals : Intervals) (cells : List ℕ) (inputs spent : NumberSet) (was : Option Serving) (due : ℕ)
-    (by : IsBy now cells) (s : IsStill plan row intervals cells inputs spent was due) where
+    (by : IsBy now cells) (s : IsQuiet plan row intervals cells inputs spent was due) where
   abbrev asks : ℕ → Option ℕ
-  asks t = first (λ n. requests_by t plan n (has_number inputs n) (has_number spent n) (slice_index cells (1 + n))) (run_from 1 4)
+  asks t = asks_at t plan cells inputs spent
 
   found : (t : ℕ) → IsBy t cells → t < due → IsFound t plan row intervals cells cells cells cells inputs spent spent was was (asks t) None None
   found t late before =
-      let stays : StaysInService plan (interval_of intervals) (has_number inputs) (serving_of t was) = s.serves t (s.was_by t late) before in
-      record {
-        inputs_are = s.inputs_are;
-        still_are = λ n. and-not (has_number spent n) (has_number inputs n) (s.within n) ∙ ap (λ (b : Bool). b && has_number inputs n) (s.spent_are n);
-        was_is = s.was_is t;
-        delays = s.delays t;
-        asks_is = refl;
-        begins_is =
-            none-begins (serving_of t was) (λ n. requests_by t plan n (has_number inputs n) (has_number spent n) (slice_index cells (1 + n)))
-            (s.waits t (λ n from to. (late.each n from to).delay) before);
-        serving_is = still-served plan (interval_of intervals) (has_number inputs) (serving_of t was) stays;
-        spender_is = λ n. still-spends plan (interval_of intervals) (has_number inputs) (serving_of t was) n stays;
-        spent_are = λ n. or-off (has_number spent n);
-        listed = λ n from to. sym (s.spent_are n);
-        lists = λ j other. refl;
-        service_is = sym (s.was_is t);
-        kept = λ j below. refl;
-      }
+      found-still t plan row intervals cells inputs spent was s.inputs_are s.spent_are s.within (s.delays t) (s.was_is t)
+      (s.waits t (λ n from to. (late.each n from to).delay) before) (s.serves t (s.was_by t late) before)
 
   pub quiet : (t : ℕ) → now < t → t < due → IsTicked t row intervals plan cells cells
   quiet t after before =

@@ -1,11 +1,16 @@
 -- The service in its cells, and facts of preempts 1 to 4.
-use Rattle.std.proofs.Common.{zero, suc, ◌≡◌, ◌≢◌, ℕ, ◌+◌, ◌≤◌, Bool, List, slice_index, Option, Some, None, refl, sym, ◌∙◌, subst, arith}
+use Rattle.std.proofs.Common.{zero, suc, ◌≡◌, ◌≢◌, ℕ, ◌+◌, ◌≤◌, Bool, true, false, not, ◌&&◌, List, slice_index, Option, Some, None, refl, sym, ◌∙◌, ap, subst, arith}
+use Rattle.tsb_cells.specs.Timer.{timer_at, has_reached}
 use Rattle.tsb_types.specs.declared.stage.Stage.{Stage}
 use Rattle.tsb_types.specs.declared.stage.Stage.TheVariants.{Track, Dwell, Exit}
 use Rattle.tsb_types.specs.Lists.{run_from, first}
+use Rattle.tsb_plan.specs.Plan.{Plan}
+use Rattle.tsb_plan.specs.Parts.{preempt_delay}
 use Rattle.tsb_preempt.specs.declared.serving.Serving.{Serving}
 use Rattle.tsb_preempt.specs.Cells.{stage_in, stage_cell, service_in}
-use Rattle.tsb_preempt.specs.Rows.{serving_of, IsServingBy, IsStored}
+use Rattle.tsb_preempt.specs.Service.{has_dwell}
+use Rattle.tsb_preempt.specs.Preempts.{may_begin}
+use Rattle.tsb_preempt.specs.Rows.{serving_of, IsServingBy, IsStored, requests_by}
 use Rattle.tsb_preempt.proofs.ResetLemmas.{is_preempt-from}
 
 -- ## Of four
@@ -21,6 +26,24 @@ four P a b c d (suc (suc zero)) from within = b
 four P a b c d (suc (suc (suc zero))) from within = c
 four P a b c d (suc (suc (suc (suc zero)))) from within = d
 four P a b c d (suc (suc (suc (suc (suc n))))) from within = absurd (omega (arith, within))
+
+-- ## Requests
+
+-- one asks whose input is on, and which is not spent
+waits-same : (m d r on s : Bool) → ((on && not s) && (m && (d && ((on && not s) && (r && not false))))) ≡ false → (m && (d && (on && (r && not s)))) ≡ false
+waits-same false d r on s h = refl
+waits-same true false r on s h = refl
+waits-same true true r false s h = refl
+waits-same true true r true false h = h
+waits-same true true true true true h = refl
+waits-same true true false true true h = refl
+
+pub waits : (now : ℕ) (plan : Plan) (cells : List ℕ) (was : Option Serving) (n : ℕ) (on spent asks : Bool) → asks ≡ (on && not spent) →
+    (asks && (may_begin (serving_of now was) n && requests_by now plan n asks false (slice_index cells (1 + n)))) ≡ false →
+    (may_begin (serving_of now was) n && requests_by now plan n on spent (slice_index cells (1 + n))) ≡ false
+waits now plan cells was n on spent asks e h =
+    waits-same (may_begin (serving_of now was) n) (has_dwell plan n) (has_reached (timer_at now (slice_index cells (1 + n))) (preempt_delay plan n)) on spent
+    (ap (λ (a : Bool). a && (may_begin (serving_of now was) n && requests_by now plan n a false (slice_index cells (1 + n)))) (sym e) ∙ h)
 
 -- ## The service in its cells
 

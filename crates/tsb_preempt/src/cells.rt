@@ -36,6 +36,15 @@ const STAGE_TIMER: usize = 9;
 /// How many lists there are of 4 numbers.
 const LISTS: u32 = 16;
 
+/// A number that is 0 only where both are.
+#[inline(always)]
+fn either(one: u32, other: u32) -> u32
+    ensures one { result ≡ 0 → one ≡ 0 }
+    ensures other { result ≡ 0 → other ≡ 0 }
+{
+    one | other
+}
+
 /// Whether a set has the number of a preempt.
 #[inline(always)]
 fn names_preempt(set: NumberSet) -> bool
@@ -57,18 +66,17 @@ impl Preempts {
         self.bank.get(DELAYS + usize::from(n))
     }
 
-    /// Whether no input is on, no delay timer runs, none is spent and none in service: then a tick changes nothing.
+    /// Whether no input is on, no delay timer runs and none is in service: then a tick changes nothing.
     #[inline(always)]
     pub(crate) fn is_idle(&self, inputs: NumberSet) -> bool
         ensures { result ≡ true → IsIdle inputs (cells_of self.now) }
     {
-        !names_preempt(inputs)
-            && self.bank.get(SPENT) == 0
-            && self.bank.get(DELAYS + 1) == 0
-            && self.bank.get(DELAYS + 2) == 0
-            && self.bank.get(DELAYS + 3) == 0
-            && self.bank.get(DELAYS + 4) == 0
-            && self.bank.get(IN_SERVICE) == 0
+        let delays = either(
+            either(self.delay(1), self.delay(2)),
+            either(self.delay(3), self.delay(4)),
+        );
+        let cells = either(delays, self.bank.get(IN_SERVICE));
+        cells == 0 && !names_preempt(inputs)
     }
 
     /// Makes list `k` that of the preempts of a set.

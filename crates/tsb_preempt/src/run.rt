@@ -1,6 +1,6 @@
 //! What a tick makes of the preempts and asks of the phases, in the order in which it is found: inputs, delays, the
 //! request, the service that begins or moves on, and what is spent.
-ghost use Rattle.std.specs.Prelude.{◌≡◌, ℕ, ◌+◌, ◌<◌, ◌≤◌, ◌^◌, ◌||◌, ◌&&◌, is_some, is_none, Bool, true, slice_index};
+ghost use Rattle.std.specs.Prelude.{◌≡◌, ℕ, ◌+◌, ◌<◌, ◌≤◌, ◌^◌, ◌||◌, ◌&&◌, is_some, is_none, Bool, true, false, None, slice_index};
 ghost use Rattle.tsb_plan.specs.PlanOf.{plan_of};
 ghost use Rattle.tsb_types.specs.Flow.{target_of};
 ghost use Rattle.tsb_types.specs.Lists.{first, run_from, is};
@@ -81,6 +81,35 @@ fn has_ended(was: &Option<Serving>, serving: &Option<Serving>) -> bool
     was.is_some() && serving.is_none()
 }
 
+/// What the stage in service asks, and whether service ended.
+#[inline(always)]
+fn orders(plan: &Plan, serving: &Option<Serving>, ended: bool) -> PreemptOrders
+    ensures target { (now : ℕ) → target_of result.target ≡ wanted_by (plan_of plan.now) (serving_of now serving.now) }
+    ensures must_end { (p : ℕ) → 1 ≤ p → p ≤ 16 → has result.must_end p ≡ is_outside (target_of result.target) p }
+    ensures ended { result.ended ≡ ended }
+{
+    let target = target(plan, serving);
+    PreemptOrders {
+        target,
+        must_end: outside(&target),
+        ended,
+    }
+}
+
+/// What is asked where none is in service.
+#[inline(always)]
+pub(crate) fn none_asked() -> PreemptOrders
+    ensures target { result.target ≡ None }
+    ensures must_end { (p : ℕ) → has result.must_end p ≡ false }
+    ensures ended { result.ended ≡ false }
+{
+    PreemptOrders {
+        target: None,
+        must_end: PhaseSet::empty(),
+        ended: false,
+    }
+}
+
 impl Preempts {
     ghost use Rattle.tsb_preempt.specs.Layer.{cells_of, kept_of, is_open};
 
@@ -130,7 +159,8 @@ impl Preempts {
         row.preempts.union(list(&self.bank, SWITCHES))
     }
 
-    /// What tick `now` makes of the preempts, and what they ask of the phases.
+    /// What tick `now` makes of the preempts, and what they ask of the phases. Most ticks change nothing.
+    #[inline(never)]
     pub(crate) fn run(
         &mut self,
         now: u32,
@@ -146,13 +176,24 @@ impl Preempts {
         ensures opened { is_open self.new ≡ true }
     {
         let inputs = self.inputs(row);
-        if self.is_idle(inputs) {
-            return PreemptOrders {
-                target: None,
-                must_end: PhaseSet::empty(),
-                ended: false,
-            };
+        let was = self.load();
+        if self.is_still(now, plan, intervals, inputs, &was) {
+            return orders(plan, &was, false);
         }
+        self.change(now, row, intervals, plan)
+    }
+
+    /// `run` where something changes.
+    #[inline(never)]
+    fn change(&mut self, now: u32, row: &Row, intervals: &Intervals, plan: &Plan) -> PreemptOrders
+        requires opened { is_open self.old ≡ true }
+        requires fits { now + 1 < 2 ^ 32 }
+        requires by { IsBy now (cells_of self.old) }
+        ensures done { IsDone now (plan_of plan.now) (given_by row.now intervals.now) (cells_of self.old) (cells_of self.new) result }
+        ensures kept { kept_of self.new ≡ kept_of self.old }
+        ensures opened { is_open self.new ≡ true }
+    {
+        let inputs = self.inputs(row);
         let was = self.load();
         let still = list(&self.bank, SPENT).intersection(inputs);
         self.put_delays(now, inputs);
@@ -163,12 +204,6 @@ impl Preempts {
         let spent = with_spent(still, &spender);
         self.put_set(SPENT, spent);
         self.store(&serving);
-        let target = target(plan, &serving);
-        let must_end = outside(&target);
-        PreemptOrders {
-            target,
-            must_end,
-            ended: has_ended(&was, &serving),
-        }
+        orders(plan, &serving, has_ended(&was, &serving))
     }
 }

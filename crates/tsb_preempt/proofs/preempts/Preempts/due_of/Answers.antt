@@ -1,7 +1,7 @@
 use Rattle.std.proofs.Common.{◌≡◌, ◌<◌, true, arith, rules}
 use Rattle.tsb_plan.specs.PlanOf.{plan_of}
 use Rattle.tsb_preempt.specs.Layer.{cells_of}
-use Rattle.tsb_preempt.proofs.QuietLemmas.{IsStill, quiet, standing}
+use Rattle.tsb_preempt.proofs.QuietLemmas.{IsQuiet, quiet, standing}
 use Rattle.tsb_preempt.proofs.preempts.Preempts.due_of.Goals as goal
 
 pub returns : goal.returns
@@ -10,7 +10,7 @@ returns c =
     let cells = cells_of c.args.self.now in
     let inside : c.is_within.result ≡ true = search rules in
     let following : c.has_delays.result ≡ true = search rules in
-    let still : IsStill plan c.args.row.now c.args.intervals.now cells c.inputs-inputs.result c.list-spent.result c.load-was.result c.min.result = record {
+    let nothing : IsQuiet plan c.args.row.now c.args.intervals.now cells c.inputs-inputs.result c.list-spent.result c.load-was.result c.min.result = record {
       inputs_are = c.inputs-inputs.ensures;
       spent_are = c.list-spent.ensures;
       within = c.is_within.ensures inside;
@@ -21,6 +21,6 @@ returns c =
       serves = λ t by before. (let early : t < c.service_due.result = omega arith in c.service_due.ensures t by early);
     } in
     record {
-      quiet = quiet c.args.now plan c.args.row.now c.args.intervals.now cells c.inputs-inputs.result c.list-spent.result c.load-was.result c.min.result c.requires.by still;
-      orders = standing c.args.now plan c.args.row.now c.args.intervals.now cells c.inputs-inputs.result c.list-spent.result c.load-was.result c.min.result c.requires.by still;
+      quiet = quiet c.args.now plan c.args.row.now c.args.intervals.now cells c.inputs-inputs.result c.list-spent.result c.load-was.result c.min.result c.requires.by nothing;
+      orders = standing c.args.now plan c.args.row.now c.args.intervals.now cells c.inputs-inputs.result c.list-spent.result c.load-was.result c.min.result c.requires.by nothing;
     }
