@@ -19,7 +19,7 @@ pub use checked::Checked;
 pub use rules::{Rule, check, split_end};
 pub use tsb_plan::{Object, ObjectId, Plan, Range, SplitMode, Version, is_structural, range_of};
 pub use tsb_types::{
-    Aspect, Called, Counts, Detector, Interval, Intervals, Lamp, Moves, NumberSet, Orders, Overlap,
+    Aspect, Called, Detector, Interval, Intervals, Lamp, Moves, NumberSet, Orders, Overlap,
     Pattern, PedestrianAspect, PedestrianColor, PedestrianDetector, PedestrianInterval,
     Pedestrians, Phase, PhaseSet, Preempt, Refusal, Ring, RingMoves, Row, Sequence, Side,
     SignalColor, Split, Stage, Station, Timing, Watch, limits,

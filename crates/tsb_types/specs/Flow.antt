@@ -6,7 +6,6 @@ use Rattle.tsb_types.specs.declared.interval.PedestrianInterval.{PedestrianInter
 use Rattle.tsb_types.specs.declared.interval.PedestrianInterval.TheVariants.{DontWalk, Walk, PedestrianClear}
 use Rattle.tsb_types.specs.declared.flow.Intervals.{Intervals}
 use Rattle.tsb_types.specs.declared.flow.Pedestrians.{Pedestrians}
-use Rattle.tsb_types.specs.declared.flow.Counts.{Counts}
 use Rattle.tsb_types.specs.declared.phase_set.PhaseSet.{PhaseSet}
 use Rattle.tsb_types.specs.declared.refusal.Refusal.{Refusal}
 use Rattle.tsb_types.specs.Sets.{has}
@@ -18,10 +17,6 @@ interval_of i p = if has i.green p then Green else (if has i.yellow p then Yello
 -- the pedestrian part of phase p
 abbrev pub pedestrian_of : Pedestrians → ℕ → PedestrianInterval
 pedestrian_of i p = if has i.walk p then Walk else (if has i.clearance p then PedestrianClear else DontWalk)
-
--- how many vehicles phase p has counted, of phases 1 to 16
-abbrev pub count_of : Counts → ℕ → ℕ
-count_of counts p = slice_index counts.vehicles (p - 1)
 
 -- the phases that a set has, if there is a set
 abbrev pub target_of : Option PhaseSet → Option (ℕ → Bool)

@@ -55,13 +55,6 @@ pub struct Called {
     pub output: PhaseSet,
 }
 
-/// The actuations that each phase has counted while it was not Green.
-#[derive(Clone, Copy, Debug, PartialEq, Eq)]
-pub struct Counts {
-    /// Vehicles, 0 to 255, of phases 1 to 16 in turn.
-    pub vehicles: [u8; 16],
-}
-
 /// Which times of phases have passed in a tick.
 #[derive(Clone, Copy, Debug, PartialEq, Eq)]
 pub struct Timing {

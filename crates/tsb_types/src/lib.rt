@@ -18,7 +18,7 @@ pub mod row;
 pub mod stage;
 pub mod watch;
 
-pub use flow::{Called, Counts, Intervals, Moves, Orders, Pedestrians, RingMoves, Timing};
+pub use flow::{Called, Intervals, Moves, Orders, Pedestrians, RingMoves, Timing};
 pub use interval::{Interval, PedestrianInterval};
 pub use lamp::{Aspect, Lamp, PedestrianAspect, PedestrianColor, SignalColor};
 pub use number_set::NumberSet;
