@@ -4,7 +4,7 @@ use Rattle.std.specs.Io.KnownBytes.{Appends}
 use Rattle.tsb.specs.declared.asked.Asked.{Asked}
 use Rattle.tsb.specs.declared.asked.Asked.TheVariants as asks
 use Rattle.tsb.specs.declared.asked.WordsFault.{WordsFault}
-use Rattle.tsb_objects.specs.declared.rules.Rule.{Rule}
+use Rattle.tsb_rules.specs.declared.rules.Rule.{Rule}
 use Rattle.tsb_objects.specs.Built.{objection}
 use Rattle.tsb_plan.specs.Two.{two}
 use Rattle.tsb_text.specs.declared.fault.SessionFault.{SessionFault}

@@ -7,11 +7,11 @@ use Rattle.tsb_types.specs.Lists.{run_from, first, or_number}
 use Rattle.tsb_plan.specs.Plan.{Plan, is_enabled, yellow_change, red_clear}
 use Rattle.tsb_plan.specs.Parts.{is_used, cycle, offset, split_of, is_coordinated}
 use Rattle.tsb_plan.specs.Running.{is_coordinated_now, coordinates_in}
-use Rattle.tsb_objects.specs.Consistent.{IsPhase, IsWhole}
-use Rattle.tsb_objects.specs.PatternRules.{split_end}
-use Rattle.tsb_objects.specs.Rules.{first_broken}
-use Rattle.tsb_objects.proofs.ConsistentLemmas.{whole, coordinated}
-use Rattle.tsb_objects.proofs.RuleLemmas.{both}
+use Rattle.tsb_rules.specs.Consistent.{IsPhase, IsWhole}
+use Rattle.tsb_rules.specs.PatternRules.{split_end}
+use Rattle.tsb_rules.specs.Rules.{first_broken}
+use Rattle.tsb_rules.proofs.ConsistentLemmas.{whole, coordinated}
+use Rattle.tsb_rules.proofs.RuleLemmas.{both}
 use Rattle.tsb_coord.specs.Coordinated.{counter, local, residue_of_difference, end_in, end_of, instant_from, reference, instant_by, force_off, agree, asks_force_off, is_pattern}
 use Rattle.tsb_coord.specs.Laws.{clear_of}
 

@@ -11,9 +11,9 @@ use Rattle.tsb_objects.specs.Checked.{checked_plan}
 use Rattle.tsb_plan.specs.PlanOf.{plan_of}
 use Rattle.tsb_plan.specs.Parts.{is_used, cycle, offset}
 use Rattle.tsb_plan.specs.Running.{running, coordinates_in, is_coordinated_now}
-use Rattle.tsb_objects.specs.Rules.{first_broken}
-use Rattle.tsb_objects.specs.Consistent.{IsWhole, AreCoordinated}
-use Rattle.tsb_objects.proofs.ConsistentLemmas.{whole, coordinated}
+use Rattle.tsb_rules.specs.Rules.{first_broken}
+use Rattle.tsb_rules.specs.Consistent.{IsWhole, AreCoordinated}
+use Rattle.tsb_rules.proofs.ConsistentLemmas.{whole, coordinated}
 use Rattle.tsb_coord.specs.declared.coordination.Coordination.{Coordination}
 use Rattle.tsb_coord.specs.Cells.{pattern_in}
 use Rattle.tsb_coord.specs.Coordinated.{counter, local_in, instant_from, reference, force_off, agree, asks_force_off}

@@ -6,8 +6,8 @@ use Rattle.tsb_types.specs.Lists.{run_from}
 use Rattle.tsb_plan.specs.declared.object.Object.TheVariants.{PhaseEnabled, PhaseRing, PhaseSide, PhaseConcurrency, PhaseYellowChange, PhaseRedClear, SequenceData, PatternCycleTime, PatternSplitNumber, PatternSequenceNumber, SplitTime, SplitMode, SplitCoordPhase}
 use Rattle.tsb_plan.specs.Plan.{Plan, empty, with_value, with_values}
 use Rattle.tsb_plan.specs.Quad.{quad, with_rows}
-use Rattle.tsb_objects.specs.PatternRules.{split_sum, side_sum, split_end, coordinated_count}
-use Rattle.tsb_objects.specs.Rules.{first_broken, broken_by_rings, broken_by_phases, broken_by_parts, broken_by_extensions}
+use Rattle.tsb_rules.specs.PatternRules.{split_sum, side_sum, split_end, coordinated_count}
+use Rattle.tsb_rules.specs.Rules.{first_broken, broken_by_rings, broken_by_phases, broken_by_parts, broken_by_extensions}
 use Rattle.tsb_coord.specs.Coordinated.{local, residue_of_difference, end_of, instant_from, force_off, asks_force_off, asks_hold, asks_omit, refusal, selects}
 use Rattle.tsb_coord.specs.Cells.{pattern_in, pattern_cells}
 

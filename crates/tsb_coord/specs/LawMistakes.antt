@@ -6,7 +6,7 @@ use Rattle.tsb_types.specs.Lists.{run_from}
 use Rattle.tsb_plan.specs.Plan.{Plan, yellow_change, red_clear}
 use Rattle.tsb_plan.specs.Parts.{cycle}
 use Rattle.tsb_plan.specs.Quad.{quad}
-use Rattle.tsb_objects.specs.PatternRules.{split_sum, side_sum, split_end}
+use Rattle.tsb_rules.specs.PatternRules.{split_sum, side_sum, split_end}
 use Rattle.tsb_coord.specs.Coordinated.{local, residue_of_difference, end_of, force_off, asks_force_off}
 use Rattle.tsb_coord.specs.Laws.{clear_of}
 

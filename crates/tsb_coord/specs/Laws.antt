@@ -5,7 +5,7 @@ use Rattle.std.specs.Prelude.{◌≡◌, ℕ, ◌+◌, ◌≤◌, true, List, Op
 use Rattle.tsb_plan.specs.Plan.{Plan, yellow_change, red_clear}
 use Rattle.tsb_plan.specs.Parts.{cycle}
 use Rattle.tsb_plan.specs.Running.{is_coordinated_now}
-use Rattle.tsb_objects.specs.Consistent.{IsPhase}
+use Rattle.tsb_rules.specs.Consistent.{IsPhase}
 use Rattle.tsb_coord.specs.Cells.{pattern_in, pattern_cells, IsBy}
 use Rattle.tsb_coord.specs.Coordinated.{local, residue_of_difference, end_of, asks_force_off, is_pattern}
 

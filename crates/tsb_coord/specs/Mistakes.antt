@@ -8,7 +8,7 @@ use Rattle.tsb_plan.specs.Plan.{Plan, is_enabled, ring_of, side_of, yellow_chang
 use Rattle.tsb_plan.specs.Parts.{is_omitted, split_time, cycle, offset}
 use Rattle.tsb_plan.specs.Running.{is_coordinated_now}
 use Rattle.tsb_plan.specs.Quad.{quad}
-use Rattle.tsb_objects.specs.PatternRules.{split_before, split_sum, side_sum, split_end}
+use Rattle.tsb_rules.specs.PatternRules.{split_before, split_sum, side_sum, split_end}
 use Rattle.tsb_coord.specs.Coordinated.{counter, end_of, instant_from, residue_of_difference, asks_hold, refusal, is_pattern}
 use Rattle.tsb_coord.specs.Examples.{four}
 use Rattle.tsb_coord.specs.PatternExamples.{lagging}

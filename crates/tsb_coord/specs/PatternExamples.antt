@@ -6,8 +6,8 @@ use Rattle.tsb_plan.specs.declared.object.Object.TheVariants.{SequenceData, Patt
 use Rattle.tsb_plan.specs.Plan.{Plan, with_value, with_values}
 use Rattle.tsb_plan.specs.Running.{is_on_minimum_recall, is_on_maximum_recall, is_on_pedestrian_recall, is_omitted_now}
 use Rattle.tsb_plan.specs.Quad.{quad}
-use Rattle.tsb_objects.specs.PatternRules.{split_sum, side_sum, split_end, coordinated_count}
-use Rattle.tsb_objects.specs.Rules.{first_broken, broken_by_rings, broken_by_phases, broken_by_parts, broken_by_extensions}
+use Rattle.tsb_rules.specs.PatternRules.{split_sum, side_sum, split_end, coordinated_count}
+use Rattle.tsb_rules.specs.Rules.{first_broken, broken_by_rings, broken_by_phases, broken_by_parts, broken_by_extensions}
 use Rattle.tsb_coord.specs.Coordinated.{force_off, serving_order}
 use Rattle.tsb_coord.specs.Examples.{instants, quad_instants}
 

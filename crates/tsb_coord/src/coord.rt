@@ -4,7 +4,7 @@ ghost use Rattle.arrayvec.specs.ArrayVec.{array_vec_len};
 ghost use Rattle.tsb_cells.specs.Diff.{diff, shifted};
 ghost use Rattle.tsb_plan.specs.Parts.{is_used};
 ghost use Rattle.tsb_objects.specs.Checked.{checked_plan};
-ghost use Rattle.tsb_objects.specs.Rules.{first_broken};
+ghost use Rattle.tsb_rules.specs.Rules.{first_broken};
 ghost use Rattle.tsb_plan.specs.Running.{running};
 ghost use Rattle.tsb_types.specs.declared.refusal.Refusal.{Refusal};
 ghost use Rattle.tsb_types.specs.Sets.{has};

@@ -4,7 +4,7 @@ use Rattle.std.proofs.Math.Path.{fun_ext}
 use Rattle.std.proofs.lemmas.Bool.{cases_Bool}
 use Rattle.tsb_types.specs.Intervals.{is_green}
 use Rattle.tsb_plan.specs.Plan.{Plan, phases, is_enabled, is_non_locking, has_maximum_recall, is_concurrent}
-use Rattle.tsb_objects.specs.Rules.{serves_pedestrians}
+use Rattle.tsb_rules.specs.Rules.{serves_pedestrians}
 use Rattle.tsb_calls.specs.Memories.{Memories, Given, at_power_up, vehicle_memory, pedestrian_memory, counted, as_set, was_green}
 use Rattle.tsb_calls.specs.Callable as callable
 use Rattle.tsb_calls.specs.Callable.{is_callable_otherwise, some_is_callable_otherwise, is_callable, has_conflict, has_pedestrian_call}

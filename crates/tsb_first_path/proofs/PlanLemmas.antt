@@ -10,13 +10,13 @@ use Rattle.tsb_plan.specs.Objects.{objects, order, indices, has_index}
 use Rattle.tsb_plan.specs.Plan.{Plan, is_enabled, has_maximum_recall, ring_of}
 use Rattle.tsb_plan.specs.PlanOf.{plan_in}
 use Rattle.tsb_plan.proofs.TableLemmas.{at-order, order-below, length-objects}
-use Rattle.tsb_objects.specs.declared.rules.Rule.{Rule}
+use Rattle.tsb_rules.specs.declared.rules.Rule.{Rule}
 use Rattle.tsb_objects.specs.Built.{is_released, keeps_zeros, uses_released_only, is_of_one_ring, are_alone_on_sides, are_on_maximum_recall, is_built, objection_in}
-use Rattle.tsb_objects.specs.Consistent.{IsPhase, IsPlaced, ListsRings}
-use Rattle.tsb_objects.specs.Rules.{first_broken}
-use Rattle.tsb_objects.specs.SequenceRules.{each_phase}
-use Rattle.tsb_objects.proofs.ConsistentLemmas.{placed, first_lists}
-use Rattle.tsb_objects.proofs.RuleLemmas.{both, under, at-run_from}
+use Rattle.tsb_rules.specs.Consistent.{IsPhase, IsPlaced, ListsRings}
+use Rattle.tsb_rules.specs.Rules.{first_broken}
+use Rattle.tsb_rules.specs.SequenceRules.{each_phase}
+use Rattle.tsb_rules.proofs.ConsistentLemmas.{placed, first_lists}
+use Rattle.tsb_rules.proofs.RuleLemmas.{both, under, at-run_from}
 use Rattle.tsb_first_path.specs.Plans.{IsInTable, IsAccepted, IsUnused, IsOfFirstPath, IsFirst}
 
 -- ## The tests that the plan passes

@@ -11,9 +11,9 @@ use Rattle.tsb_plan.specs.declared.object.Object.TheVariants.{PhaseMinRecall, Ph
 use Rattle.tsb_plan.specs.Objects.{objects}
 use Rattle.tsb_plan.specs.Plan.{Plan, with_values}
 use Rattle.tsb_plan.specs.Two.{two}
-use Rattle.tsb_objects.specs.declared.rules.Rule.TheVariants.{NotYet}
+use Rattle.tsb_rules.specs.declared.rules.Rule.TheVariants.{NotYet}
 use Rattle.tsb_objects.specs.Built.{objection, is_alone, is_built}
-use Rattle.tsb_objects.specs.Rules.{first_broken, broken_by_rings, broken_by_phases, broken_by_parts, broken_by_extensions}
+use Rattle.tsb_rules.specs.Rules.{first_broken, broken_by_rings, broken_by_phases, broken_by_parts, broken_by_extensions}
 use Rattle.tsb_calls.specs.Memories as calls
 use Rattle.tsb_calls.specs.Callable as callable
 use Rattle.tsb_phase.specs.DynamicMaximum as maximum

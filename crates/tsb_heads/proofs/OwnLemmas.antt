@@ -11,7 +11,7 @@ use Rattle.tsb_types.specs.Intervals.{is_green, is_yellow, is_red_clear}
 use Rattle.tsb_types.specs.Lists.{first, run_from}
 use Rattle.tsb_plan.specs.Plan.{Plan, phases, ring_of}
 use Rattle.tsb_plan.specs.Parts.{is_included, is_modifier}
-use Rattle.tsb_objects.specs.PatternRules.{some_and}
+use Rattle.tsb_rules.specs.PatternRules.{some_and}
 use Rattle.tsb_heads.specs.declared.monitor.Trip.{Trip}
 use Rattle.tsb_heads.specs.declared.monitor.Trip.TheVariants.{Conflict, GreenToRed}
 use Rattle.tsb_heads.specs.Heads.{Shown, Heads}

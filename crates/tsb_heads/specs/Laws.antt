@@ -4,8 +4,8 @@ use Rattle.tsb_types.specs.declared.flow.Intervals.{Intervals}
 use Rattle.tsb_types.specs.declared.flow.Pedestrians.{Pedestrians}
 use Rattle.tsb_types.specs.declared.lamp.Lamp.{Lamp}
 use Rattle.tsb_plan.specs.Plan.{Plan}
-use Rattle.tsb_objects.specs.Consistent.{IsPhase}
-use Rattle.tsb_objects.specs.Rules.{first_broken}
+use Rattle.tsb_rules.specs.Consistent.{IsPhase}
+use Rattle.tsb_rules.specs.Rules.{first_broken}
 use Rattle.tsb_heads.specs.declared.display.Display.{Display}
 use Rattle.tsb_heads.specs.declared.field.Field.{Field}
 use Rattle.tsb_heads.specs.Heads.{Shown, Heads}

@@ -1,5 +1,3 @@
 pub mod CheckedLemmas
-pub mod RuleLemmas
-pub mod ConsistentLemmas
 mod TableLemmas
 mod InstantLemmas

@@ -8,12 +8,12 @@ use Rattle.tsb_plan.specs.Objects.{AreInRange, indices, has_index, value_in}
 use Rattle.tsb_plan.specs.Parts.{unless_zero}
 use Rattle.tsb_plan.specs.Plan.{is_concurrent}
 use Rattle.tsb_plan.specs.PlanOf.{plan_in}
-use Rattle.tsb_objects.specs.Consistent.{IsPhase}
-use Rattle.tsb_objects.specs.Rules.{first_broken}
+use Rattle.tsb_rules.specs.Consistent.{IsPhase}
+use Rattle.tsb_rules.specs.Rules.{first_broken}
 use Rattle.tsb_types.specs.Lists.{is}
 use Rattle.tsb_types.specs.Sets.{names}
 use Rattle.tsb_types.proofs.SetLemmas.{names-zero, names-above}
-use Rattle.tsb_objects.proofs.ConsistentLemmas.{together}
+use Rattle.tsb_rules.proofs.ConsistentLemmas.{together}
 
 -- behind the last index an object has no value but 0
 pub none-behind : (cells : List ℕ) (o : Object) (n wanted : ℕ) → 1 ≤ wanted → indices o < n → (value_in cells o n == wanted) ≡ false

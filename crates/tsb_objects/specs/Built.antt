@@ -3,13 +3,13 @@ use Rattle.std.specs.Prelude.{ℕ, ◌==◌, nat_le, Bool, true, false, not, ◌
 use Rattle.std.specs.List.{list_all}
 use Rattle.tsb_plan.specs.declared.object.Object.{Object}
 use Rattle.tsb_plan.specs.declared.object.Object.TheVariants.{PhaseEnabled, PhaseRing, PhaseSide, PhaseMinimumGreen, PhaseMaximum1, PhaseMaximum2, PhaseYellowChange, PhaseRedClear, PhaseMaxRecall, SequenceData}
-use Rattle.tsb_objects.specs.declared.rules.Rule.{Rule}
-use Rattle.tsb_objects.specs.declared.rules.Rule.TheVariants.{NotYet}
+use Rattle.tsb_rules.specs.declared.rules.Rule.{Rule}
+use Rattle.tsb_rules.specs.declared.rules.Rule.TheVariants.{NotYet}
 use Rattle.tsb_types.specs.Lists.{run_from}
 use Rattle.tsb_plan.specs.Objects.{objects, indices}
 use Rattle.tsb_plan.specs.Plan.{Plan, ring_of, side_of, has_maximum_recall}
-use Rattle.tsb_objects.specs.Rules.{first_broken}
-use Rattle.tsb_objects.specs.SequenceRules.{each_phase}
+use Rattle.tsb_rules.specs.Rules.{first_broken}
+use Rattle.tsb_rules.specs.SequenceRules.{each_phase}
 
 -- THE LIST OF RELEASED OBJECTS: an object at an index that may be other than 0
 abbrev pub is_released : Object → ℕ → Bool

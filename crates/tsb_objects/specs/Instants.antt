@@ -7,7 +7,7 @@ use Rattle.tsb_types.specs.Lists.{first}
 use Rattle.tsb_plan.specs.Plan.{Plan, phases, is_enabled, yellow_change, red_clear}
 use Rattle.tsb_plan.specs.Parts.{cycle, split_of}
 use Rattle.tsb_plan.specs.Running.{sequence_in_effect, is_coordinated_now}
-use Rattle.tsb_objects.specs.PatternRules.{split_end}
+use Rattle.tsb_rules.specs.PatternRules.{split_end}
 
 -- the residue of a - b, never negative, also where b is greater than a, or than m
 abbrev pub residue_of_difference : ℕ → ℕ → ℕ → ℕ

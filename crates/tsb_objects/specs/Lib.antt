@@ -1,9 +1,5 @@
-pub mod SequenceRules
-pub mod PatternRules
-pub mod Rules
 pub mod Built
 pub mod Instants
 pub mod Tables
 pub mod PatternTables
 pub mod Checked
-pub mod Consistent

@@ -4,7 +4,7 @@ use Rattle.tsb_plan.specs.declared.object.Object.TheVariants.{VehicleDetectorCal
 use Rattle.tsb_plan.specs.Plan.{Plan, is_enabled, is_non_locking, has_minimum_recall, has_maximum_recall, has_pedestrian_recall, has_soft_recall, has_dual_entry, ring_of, side_of}
 use Rattle.tsb_objects.specs.declared.detector_tables.DetectorTables.{DetectorTables}
 use Rattle.tsb_objects.specs.declared.tables.PhaseTables.{PhaseTables}
-use Rattle.tsb_objects.specs.Rules.{has_walk}
+use Rattle.tsb_rules.specs.Rules.{has_walk}
 use Rattle.tsb_types.specs.Sets.{names, has, has_number}
 
 -- what the tables of phases say; in an array the first word is of ring 1 or side 1

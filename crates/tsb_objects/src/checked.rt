@@ -3,7 +3,7 @@
 
 ghost use Rattle.std.specs.Prelude.{◌≡◌, None};
 ghost use Rattle.tsb_plan.specs.PlanOf.{plan_of};
-ghost use Rattle.tsb_objects.specs.Rules.{first_broken};
+ghost use Rattle.tsb_rules.specs.Rules.{first_broken};
 ghost use Rattle.tsb_objects.specs.PatternTables.{ArePatternTables};
 ghost use Rattle.tsb_objects.specs.Tables.{ArePhaseTables, AreDetectorTables};
 
@@ -13,9 +13,9 @@ mod phases;
 
 use crate::detector_tables::DetectorTables;
 use crate::pattern_tables::PatternTables;
-use crate::rules::{Rule, check};
 use crate::tables::PhaseTables;
 use tsb_plan::Plan;
+use tsb_rules::{Rule, check};
 
 /// A plan that may be run, with tables of what it says of all phases and detectors at once, also while a pattern runs.
 ///

@@ -8,8 +8,8 @@ ghost use Rattle.tsb_plan.specs.Plan.{yellow_change, red_clear};
 ghost use Rattle.tsb_plan.specs.PlanOf.{plan_of};
 ghost use Rattle.tsb_objects.specs.Instants.{end_of, instant_from, reference, force_off};
 
-use crate::rules::split_end;
 use tsb_plan::{Object, Plan};
+use tsb_rules::split_end;
 use tsb_types::{Pattern, Phase};
 
 /// The value of an object of 16 patterns or phases that is at most 255.

@@ -1,5 +1,5 @@
-//! The rules that a timing plan must meet, and plans that were checked; with them the objects of plans and
-//! the plain types that layers name, given out again.
+//! Plans that were checked, with tables of what they say; with them the rules, the objects of plans and the
+//! plain types that layers name, re-exported.
 //!
 //! Names and units of objects are those of NTCIP 1202. What is marked "profile" is this project's own
 //! choice. Nothing here takes memory.
@@ -7,17 +7,15 @@
 
 pub mod built;
 pub mod checked;
-pub mod consistent;
 mod detector_tables;
 mod instants;
 mod pattern_tables;
-pub mod rules;
 mod tables;
 
 pub use built::is_built;
 pub use checked::Checked;
-pub use rules::{Rule, check, split_end};
 pub use tsb_plan::{Object, ObjectId, Plan, Range, SplitMode, Version, is_structural, range_of};
+pub use tsb_rules::{Rule, check, split_end};
 pub use tsb_types::{
     Aspect, Called, Detector, Interval, Intervals, Lamp, Moves, NumberSet, Orders, Overlap,
     Pattern, PedestrianAspect, PedestrianColor, PedestrianDetector, PedestrianInterval,

@@ -7,8 +7,8 @@ use Rattle.std.specs.Str.{is_utf8}
 use Rattle.serde_json.specs.Data.{Data, Members, no_members, member}
 use Rattle.serde_json.specs.Find.{get_member, as_number, as_object, as_u64}
 use Rattle.serde_json.specs.Read.{read}
-use Rattle.tsb_objects.specs.Rules.{first_broken}
-use Rattle.tsb_objects.specs.declared.rules.Rule.{Rule}
+use Rattle.tsb_rules.specs.Rules.{first_broken}
+use Rattle.tsb_rules.specs.declared.rules.Rule.{Rule}
 use Rattle.tsb_plan.specs.declared.object.Object.{Object}
 use Rattle.tsb_plan.specs.declared.version.Version.{Version}
 use Rattle.tsb_plan.specs.declared.version.Version.TheVariants.{One, Two}

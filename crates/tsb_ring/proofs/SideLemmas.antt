@@ -1,8 +1,8 @@
 -- The side of a target's first phase: a plan that breaks no rule has each enabled phase on one.
 use Rattle.std.proofs.Common.{◌≡◌, ℕ, zero, suc, ◌+◌, ◌<◌, ◌≤◌, Bool, Option, Some, None, IfSome, sym, arith, inl, inr}
 use Rattle.std.proofs.lemmas.Bool.{and_parts}
-use Rattle.tsb_objects.specs.Rules.{first_broken}
-use Rattle.tsb_objects.proofs.ConsistentLemmas.{placed}
+use Rattle.tsb_rules.specs.Rules.{first_broken}
+use Rattle.tsb_rules.proofs.ConsistentLemmas.{placed}
 use Rattle.tsb_plan.specs.Plan.{Plan, phases, is_enabled, side_of}
 use Rattle.tsb_types.specs.Lists.{first, run_from}
 use Rattle.tsb_ring.specs.Wants.{is_targeted}

@@ -12,7 +12,7 @@ use Rattle.tsb_plan.specs.declared.object.ObjectId.{ObjectId}
 use Rattle.tsb_plan.specs.Plan.{Plan}
 use Rattle.tsb_plan.specs.PlanOf.{plan_of, put_refusal}
 use Rattle.tsb_plan.proofs.TableLemmas.{at-order, order-below, length-objects}
-use Rattle.tsb_objects.specs.Rules.{first_broken}
+use Rattle.tsb_rules.specs.Rules.{first_broken}
 use Rattle.tsb_step.specs.Tables.{indices_for, greatest_for, place_refusal, is_as_in_table, all_as_in_table}
 use Rattle.tsb_step.specs.Laws.{IsConsistent}
 

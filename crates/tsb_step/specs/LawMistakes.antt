@@ -12,8 +12,8 @@ use Rattle.tsb_plan.specs.declared.object.Object.{Object}
 use Rattle.tsb_plan.specs.declared.object.Object.TheVariants.{PhaseConcurrency, PhaseMinRecall, PreemptDwellPhase}
 use Rattle.tsb_plan.specs.Plan.{Plan, is_concurrent, with_values}
 use Rattle.tsb_plan.specs.Quad.{quad}
-use Rattle.tsb_objects.specs.declared.rules.Rule.TheVariants.{K5, K15}
-use Rattle.tsb_objects.specs.Rules.{first_broken}
+use Rattle.tsb_rules.specs.declared.rules.Rule.TheVariants.{K5, K15}
+use Rattle.tsb_rules.specs.Rules.{first_broken}
 use Rattle.tsb_heads.specs.declared.monitor.Trip.TheVariants.{Conflict}
 use Rattle.tsb_heads.specs.Displays.{ordered}
 use Rattle.tsb_preempt.specs.Preempts as preempts

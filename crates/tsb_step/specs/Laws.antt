@@ -12,8 +12,8 @@ use Rattle.tsb_plan.specs.declared.plan.Plan as memory
 use Rattle.tsb_plan.specs.Plan.{Plan, is_concurrent}
 use Rattle.tsb_plan.specs.declared.object.ObjectId.{ObjectId}
 use Rattle.tsb_plan.specs.PlanOf.{plan_of, put_refusal}
-use Rattle.tsb_objects.specs.Consistent.{AreCompatible}
-use Rattle.tsb_objects.specs.Rules.{first_broken}
+use Rattle.tsb_rules.specs.Consistent.{AreCompatible}
+use Rattle.tsb_rules.specs.Rules.{first_broken}
 use Rattle.tsb_ring.specs.declared.ring_order.RingOrder.{RingOrder}
 use Rattle.tsb_ring.specs.Laws.{Agree}
 use Rattle.tsb_ring.specs.Moves.{acted, is_started}

@@ -8,8 +8,8 @@ use Rattle.tsb_types.specs.declared.refusal.Refusal.TheVariants.{TickLimit, TooM
 use Rattle.tsb_types.specs.declared.row.Row.{Row}
 use Rattle.tsb_plan.specs.declared.object.ObjectId.{ObjectId}
 use Rattle.tsb_plan.specs.Plan.{Plan}
-use Rattle.tsb_objects.specs.declared.rules.Rule.{Rule}
-use Rattle.tsb_objects.specs.Rules.{first_broken}
+use Rattle.tsb_rules.specs.declared.rules.Rule.{Rule}
+use Rattle.tsb_rules.specs.Rules.{first_broken}
 use Rattle.tsb_phase.specs.Moves.{unforced}
 use Rattle.tsb_ring.specs.Rings as rings
 use Rattle.tsb_coord.specs.Coordinated as coordination

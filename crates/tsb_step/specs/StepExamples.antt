@@ -8,7 +8,7 @@ use Rattle.tsb_plan.specs.declared.object.Object.TheVariants.{PhaseConcurrency, 
 use Rattle.tsb_plan.specs.declared.object.ObjectId.{ObjectId}
 use Rattle.tsb_plan.specs.Plan.{with_value}
 use Rattle.tsb_plan.specs.Quad.{quad}
-use Rattle.tsb_objects.specs.declared.rules.Rule.TheVariants.{K5}
+use Rattle.tsb_rules.specs.declared.rules.Rule.TheVariants.{K5}
 use Rattle.tsb_preempt.specs.Preempts as preempts
 use Rattle.tsb_ring.specs.Rings.{Ring1, Ring2}
 use Rattle.tsb_transact.specs.Desk.{closed}

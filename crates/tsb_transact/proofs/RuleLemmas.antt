@@ -1,10 +1,10 @@
 -- No check finds `NotYet`: the first rule that a plan breaks is one of K1 to K22.
 use Rattle.std.proofs.Common.{◌≡◌, ◌≢◌, Bool, true, false, true≢false, Option, None, Some, refl, sym, ◌∙◌, ap}
-use Rattle.tsb_objects.specs.declared.rules.Rule.{Rule}
-use Rattle.tsb_objects.specs.declared.rules.Rule.TheVariants.{K1, K2, K3, K4, K5, K6, K7, K8, K9, K10, K11, K12, K13, K14, K15, K16, K17, K18, K19, K20, K21, K22, NotYet}
-use Rattle.tsb_objects.specs.SequenceRules.{first_sequence_is_ordered, other_sequences_are_ordered}
-use Rattle.tsb_objects.specs.PatternRules.{patterns_are_whole, splits_hold_phases, splits_fill_cycles, coordinated_phases_agree}
-use Rattle.tsb_objects.specs.Rules.{some_enabled, are_placed, unused_lists_are_empty, lists_name_across_rings, concurrency_is_symmetric, yellows_are_long, gaps_can_reduce, maximums_reach_minimums, recalled_pedestrians_walk, detectors_call_phases, pedestrian_detectors_call_walks, included_phases_are_enabled, preempts_are_concurrent, preempts_dwell, modifiers_are_right, limits_reach_minimums, unless, or_rule, first_broken, broken_by_rings, broken_by_phases, broken_by_parts, broken_by_extensions}
+use Rattle.tsb_rules.specs.declared.rules.Rule.{Rule}
+use Rattle.tsb_rules.specs.declared.rules.Rule.TheVariants.{K1, K2, K3, K4, K5, K6, K7, K8, K9, K10, K11, K12, K13, K14, K15, K16, K17, K18, K19, K20, K21, K22, NotYet}
+use Rattle.tsb_rules.specs.SequenceRules.{first_sequence_is_ordered, other_sequences_are_ordered}
+use Rattle.tsb_rules.specs.PatternRules.{patterns_are_whole, splits_hold_phases, splits_fill_cycles, coordinated_phases_agree}
+use Rattle.tsb_rules.specs.Rules.{some_enabled, are_placed, unused_lists_are_empty, lists_name_across_rings, concurrency_is_symmetric, yellows_are_long, gaps_can_reduce, maximums_reach_minimums, recalled_pedestrians_walk, detectors_call_phases, pedestrian_detectors_call_walks, included_phases_are_enabled, preempts_are_concurrent, preempts_dwell, modifiers_are_right, limits_reach_minimums, unless, or_rule, first_broken, broken_by_rings, broken_by_phases, broken_by_parts, broken_by_extensions}
 use Rattle.tsb_plan.specs.Plan.{Plan}
 
 -- none, or one of K1 to K22

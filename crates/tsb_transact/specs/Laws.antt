@@ -1,6 +1,6 @@
 -- What holds of the cells of the desk. Each law here is the contract of a function in src/laws.rt, and proved there.
 use Rattle.std.specs.Prelude.{◌≡◌, ◌≢◌, ℕ, ◌≤◌, List, Some, IfSome}
-use Rattle.tsb_objects.specs.declared.rules.Rule.TheVariants.{NotYet}
+use Rattle.tsb_rules.specs.declared.rules.Rule.TheVariants.{NotYet}
 use Rattle.tsb_transact.specs.Desk.{Desk, IsSound}
 use Rattle.tsb_transact.specs.Cells.{desk_in, desk_cells, IsBy}
 use Rattle.tsb_transact.specs.Rows.{IsRow}

@@ -1,6 +1,6 @@
 //! The first cells of the desk: the owner, the state, the rule that a check found broken, and how many edits there are.
 ghost use Rattle.std.specs.Prelude.{◌≡◌, ◌≢◌, ◌≤◌, Some};
-ghost use Rattle.tsb_objects.specs.declared.rules.Rule.TheVariants.{NotYet};
+ghost use Rattle.tsb_rules.specs.declared.rules.Rule.TheVariants.{NotYet};
 ghost use Rattle.tsb_transact.specs.Cells.{nth_rule, rules, rule_cell};
 
 use tsb_objects::Rule;

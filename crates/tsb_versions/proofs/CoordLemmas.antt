@@ -6,7 +6,7 @@ use Rattle.tsb_types.specs.Lists.{run_from, up_to}
 use Rattle.tsb_plan.specs.Plan.{Plan, is_enabled, ring_of, side_of, sequence}
 use Rattle.tsb_plan.specs.Parts.{split_of}
 use Rattle.tsb_plan.specs.Running.{running, split_in_effect, sequence_in_effect, mode_in, mode_in_effect, coordinates_in, is_coordinated_now, is_omitted_now, is_on_minimum_recall, is_on_maximum_recall, is_on_pedestrian_recall}
-use Rattle.tsb_objects.specs.PatternRules.{is_on, has_phases, split_on, split_sum, side_sum, split_before, ring_sequence, split_end}
+use Rattle.tsb_rules.specs.PatternRules.{is_on, has_phases, split_on, split_sum, side_sum, split_before, ring_sequence, split_end}
 use Rattle.tsb_coord.specs.Coordinated.{local_in, local, end_in, instant_from, reference, instant_by, force_off, asks_force_off, asks_hold, asks_omit, sequence_now, serving_order}
 use Rattle.tsb_versions.specs.Widened.{IsNarrow, widened}
 use Rattle.tsb_versions.proofs.ListLemmas.{is_narrow, is_beyond, sum-up_to}

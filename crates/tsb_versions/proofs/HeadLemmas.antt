@@ -12,7 +12,7 @@ use Rattle.tsb_types.specs.Lists.{first}
 use Rattle.tsb_plan.specs.declared.object.Object.TheVariants.{OverlapIncludedPhases, OverlapModifierPhases}
 use Rattle.tsb_plan.specs.Plan.{Plan, phases, ring_of}
 use Rattle.tsb_plan.specs.Parts.{is_included, is_modifier}
-use Rattle.tsb_objects.specs.PatternRules.{some_and}
+use Rattle.tsb_rules.specs.PatternRules.{some_and}
 use Rattle.tsb_heads.specs.declared.monitor.Trip.TheVariants.{GreenToRed}
 use Rattle.tsb_heads.specs.Heads.{Shown, Heads}
 use Rattle.tsb_heads.specs.Overlaps.{some_of, is_followed, keeps_green, is_kept_green, is_on_yellow, has_green_modifier, has_yellow_modifier, is_on_last_yellow, overlap_head}

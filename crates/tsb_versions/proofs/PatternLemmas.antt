@@ -8,7 +8,7 @@ use Rattle.tsb_types.specs.Lists.{run_from}
 use Rattle.tsb_plan.specs.declared.object.Object.TheVariants.{PhaseSide}
 use Rattle.tsb_plan.specs.Parts.{is_used, split_of, sequence_of, is_coordinated, cycle}
 use Rattle.tsb_plan.specs.Plan.{Plan, phases, is_enabled, ring_of, side_of}
-use Rattle.tsb_objects.specs.PatternRules.{some_and, each_pattern, names_sequence, is_whole, patterns_are_whole, holds_phase, holds_phases, splits_hold_phases, is_on, has_phases, split_on, split_sum, side_sum, rings_agree, rings_agree_on_sides, fills, splits_fill_cycles, ends_with, agrees_with_all, is_coordinated_in, coordinated_count, has_one_in_each_ring, coordinates, has_coordinated, all_coordinate, coordinated_agree, coordinated_phases_agree}
+use Rattle.tsb_rules.specs.PatternRules.{some_and, each_pattern, names_sequence, is_whole, patterns_are_whole, holds_phase, holds_phases, splits_hold_phases, is_on, has_phases, split_on, split_sum, side_sum, rings_agree, rings_agree_on_sides, fills, splits_fill_cycles, ends_with, agrees_with_all, is_coordinated_in, coordinated_count, has_one_in_each_ring, coordinates, has_coordinated, all_coordinate, coordinated_agree, coordinated_phases_agree}
 use Rattle.tsb_versions.specs.Widened.{IsNarrow, widened}
 use Rattle.tsb_versions.proofs.ListLemmas.{is_narrow}
 use Rattle.tsb_versions.proofs.PlanLemmas.{any-same, all-same, sum-same, split_time-same, is_omitted-same, is_coordinated-same, not-coordinated}

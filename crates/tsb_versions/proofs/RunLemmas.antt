@@ -7,7 +7,7 @@ use Rattle.tsb_plan.specs.declared.object.Object.{Object}
 use Rattle.tsb_plan.specs.declared.version.Version.TheVariants.{One}
 use Rattle.tsb_plan.specs.Plan.{Plan, is_enabled}
 use Rattle.tsb_plan.specs.Versions.{is_in_rows, has_index_in, translated}
-use Rattle.tsb_objects.specs.Rules.{first_broken}
+use Rattle.tsb_rules.specs.Rules.{first_broken}
 use Rattle.tsb_step.specs.declared.inputs.Input.{Input}
 use Rattle.tsb_step.specs.State.{State}
 use Rattle.tsb_step.specs.Runs.{replay, AreTaken}

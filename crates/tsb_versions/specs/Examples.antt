@@ -11,8 +11,8 @@ use Rattle.tsb_cells.specs.declared.timer.Timer.TheVariants.{On}
 use Rattle.tsb_plan.specs.Plan.{Plan}
 use Rattle.tsb_plan.specs.Quad.{quad}
 use Rattle.tsb_plan.specs.Two.{two}
-use Rattle.tsb_objects.specs.PatternRules.{split_sum, side_sum, split_end, coordinated_count}
-use Rattle.tsb_objects.specs.Rules.{first_broken, broken_by_rings, broken_by_phases, broken_by_parts, broken_by_extensions}
+use Rattle.tsb_rules.specs.PatternRules.{split_sum, side_sum, split_end, coordinated_count}
+use Rattle.tsb_rules.specs.Rules.{first_broken, broken_by_rings, broken_by_phases, broken_by_parts, broken_by_extensions}
 use Rattle.tsb_heads.specs.Overlaps.{is_kept_green, is_on_yellow}
 use Rattle.tsb_heads.specs.Monitoring.{conflict_of, conflict, green_to_red}
 use Rattle.tsb_calls.specs.Memories.{has_output, actuations, has_button, vehicle_memory, pedestrian_memory, counted}

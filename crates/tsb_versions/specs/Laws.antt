@@ -9,7 +9,7 @@ use Rattle.tsb_plan.specs.Plan.{Plan, empty, with_values, is_enabled}
 use Rattle.tsb_plan.specs.Quad.{quad}
 use Rattle.tsb_plan.specs.Two.{two}
 use Rattle.tsb_plan.specs.Versions.{has_index_in, translated}
-use Rattle.tsb_objects.specs.Rules.{first_broken}
+use Rattle.tsb_rules.specs.Rules.{first_broken}
 use Rattle.tsb_phase.specs.Phase as phase
 use Rattle.tsb_step.specs.declared.inputs.Input.{Input}
 use Rattle.tsb_step.specs.Runs.{replay, AreTaken}

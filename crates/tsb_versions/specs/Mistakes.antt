@@ -8,8 +8,8 @@ use Rattle.tsb_plan.specs.declared.object.Object.{Object}
 use Rattle.tsb_plan.specs.declared.object.Object.TheVariants.{PhaseMinRecall, PatternSplitNumber, SplitTime, SplitCoordPhase}
 use Rattle.tsb_plan.specs.Plan.{Plan, with_values}
 use Rattle.tsb_plan.specs.Quad.{quad}
-use Rattle.tsb_objects.specs.declared.rules.Rule.TheVariants.{K18}
-use Rattle.tsb_objects.specs.Rules.{first_broken}
+use Rattle.tsb_rules.specs.declared.rules.Rule.TheVariants.{K18}
+use Rattle.tsb_rules.specs.Rules.{first_broken}
 use Rattle.tsb_heads.specs.declared.monitor.Trip.TheVariants.{Conflict}
 use Rattle.tsb_coord.specs.Coordinated.{force_off, asks_hold}
 use Rattle.tsb_step.specs.declared.inputs.Input.{Input}

@@ -3,7 +3,7 @@
 
 ghost use Rattle.std.specs.Prelude.{◌≡◌, ℕ, ◌==◌};
 ghost use Rattle.tsb_objects.specs.Checked.{checked_plan};
-ghost use Rattle.tsb_objects.specs.Rules.{has_walk};
+ghost use Rattle.tsb_rules.specs.Rules.{has_walk};
 ghost use Rattle.tsb_plan.specs.Plan.{is_enabled, is_non_locking, has_minimum_recall, has_maximum_recall, has_pedestrian_recall, has_soft_recall, has_dual_entry, ring_of, side_of, is_concurrent};
 ghost use Rattle.tsb_types.specs.Sets.{has};
 

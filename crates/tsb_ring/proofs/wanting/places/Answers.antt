@@ -1,6 +1,6 @@
 use Rattle.std.proofs.Common.{◌∙◌, ap, arith}
 use Rattle.tsb_objects.specs.Checked.{checked_plan}
-use Rattle.tsb_objects.specs.SequenceRules.{zeros_last}
+use Rattle.tsb_rules.specs.SequenceRules.{zeros_last}
 use Rattle.tsb_plan.specs.Plan.{Plan, sequence}
 use Rattle.tsb_ring.proofs.PlaceLemmas.{sequence-zeros}
 use Rattle.tsb_ring.proofs.wanting.places.Goals as goal

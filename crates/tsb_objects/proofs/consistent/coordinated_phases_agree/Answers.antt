@@ -1,8 +1,0 @@
-use Rattle.tsb_objects.proofs.ConsistentLemmas.{whole, coordinated}
-use Rattle.tsb_objects.proofs.consistent.coordinated_phases_agree.Goals as goal
-
-pub returns-clause-whole : goal.returns-clause-whole
-returns-clause-whole c = whole
-
-pub returns-clause-coordinated : goal.returns-clause-coordinated
-returns-clause-coordinated c = coordinated

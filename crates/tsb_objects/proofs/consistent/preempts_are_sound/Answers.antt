@@ -1,5 +1,0 @@
-use Rattle.tsb_objects.proofs.ConsistentLemmas.{preempt_sound}
-use Rattle.tsb_objects.proofs.consistent.preempts_are_sound.Goals as goal
-
-pub returns : goal.returns
-returns c = preempt_sound

@@ -1,8 +1,0 @@
-use Rattle.tsb_objects.proofs.ConsistentLemmas.{first_lists, used_lists}
-use Rattle.tsb_objects.proofs.consistent.sequences_list_rings.Goals as goal
-
-pub returns-clause-first : goal.returns-clause-first
-returns-clause-first c = first_lists
-
-pub returns-clause-used : goal.returns-clause-used
-returns-clause-used c = used_lists

@@ -1,7 +1,0 @@
-use Rattle.std.proofs.Common.{◌≡◌, drop}
-use Rattle.tsb_objects.specs.SequenceRules.{lists_once}
-use Rattle.tsb_objects.proofs.rules.sequences.lists_once.Given as goal
-
-abbrev pub invariant-loop-place : goal.invariant-loop-place
-invariant-loop-place l =
-    lists_once (drop l.place l.places) ≡ lists_once l.places

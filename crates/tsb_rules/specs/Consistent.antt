@@ -1,0 +1,117 @@
+-- What every plan that meets the rules is like, in facts that the layers of the controller stand on. Each is the contract
+-- of a function in src/consistent.rt.
+use Rattle.std.specs.Prelude.{◌≡◌, ◌≢◌, ℕ, ◌<◌, ◌≤◌, Bool, true, false, List, Some, None}
+use Rattle.tsb_plan.specs.declared.object.Object.TheVariants.{PreemptTrackPhase, PreemptDwellPhase, PreemptExitPhase}
+use Rattle.tsb_types.specs.Lists.{among}
+use Rattle.tsb_plan.specs.Parts.{is_used, cycle, offset, split_of, sequence_of, is_omitted, is_coordinated, is_track_phase, is_dwell_phase, is_exit_phase}
+use Rattle.tsb_rules.specs.PatternRules.{split_end, coordinated_count, has_phases}
+use Rattle.tsb_plan.specs.Plan.{Plan, is_enabled, ring_of, side_of, is_concurrent, sequence}
+use Rattle.tsb_rules.specs.Rules.{first_broken}
+use Rattle.tsb_rules.specs.SequenceRules.{lists_once, rises, zeros_last}
+
+-- p is the number of a phase
+pub record IsPhase (plan : Plan) (p : ℕ) : Type 0 where
+  pub from_one : 1 ≤ p
+  pub within : p ≤ plan.phase_count
+
+-- an enabled phase is of ring 1 or 2, and on one of the sides
+pub record IsPlaced (plan : Plan) (p : ℕ) : Type 0 where
+  pub ring_from : 1 ≤ ring_of plan p
+  pub ring_to : ring_of plan p ≤ 2
+  pub side_from : 1 ≤ side_of plan p
+  pub side_to : side_of plan p ≤ plan.side_count
+
+abbrev pub PhasesArePlaced : Plan → Type 0
+PhasesArePlaced plan = (p : ℕ) → IsPhase plan p → is_enabled plan p ≡ true → IsPlaced plan p
+
+-- two concurrent phases are enabled, of the two rings and of one side, and concurrent the other way round
+pub record GoTogether (plan : Plan) (p q : ℕ) : Type 0 where
+  pub first_enabled : is_enabled plan p ≡ true
+  pub second_enabled : is_enabled plan q ≡ true
+  pub rings : ring_of plan p ≢ ring_of plan q
+  pub sides : side_of plan p ≡ side_of plan q
+  pub back : is_concurrent plan q p ≡ true
+
+abbrev pub ConcurrentGoTogether : Plan → Type 0
+ConcurrentGoTogether plan = (p q : ℕ) → IsPhase plan p → IsPhase plan q → is_concurrent plan p q ≡ true → GoTogether plan p q
+
+-- a pattern that is used, with its sequence s and its split table t
+pub record IsInUse (plan : Plan) (n s t : ℕ) : Type 0 where
+  pub from_one : 1 ≤ n
+  pub within : n ≤ 16
+  pub used : is_used plan n ≡ true
+  pub sequence : sequence_of plan n ≡ Some s
+  pub split : split_of plan n ≡ Some t
+
+-- a list has the phases of a ring, each once and no other, sides in rising order, with zeros only behind them
+pub record ListsRing (plan : Plan) (r : ℕ) (ps : List ℕ) : Type 0 where
+  pub only_enabled : (p : ℕ) → among p ps ≡ true → p ≢ 0 → is_enabled plan p ≡ true
+  pub only_ring : (p : ℕ) → among p ps ≡ true → p ≢ 0 → ring_of plan p ≡ r
+  pub each : (p : ℕ) → IsPhase plan p → is_enabled plan p ≡ true → ring_of plan p ≡ r → among p ps ≡ true
+  pub once : lists_once ps ≡ true
+  pub sides : rises plan ps ≡ true
+  pub last : zeros_last ps ≡ true
+
+pub record ListsRings (plan : Plan) (s : ℕ) : Type 0 where
+  pub first : ListsRing plan 1 (sequence plan s 1)
+  pub second : ListsRing plan 2 (sequence plan s 2)
+
+-- sequence 1 lists the rings, and so does that of each used pattern
+abbrev pub FirstSequenceListsRings : Plan → Type 0
+FirstSequenceListsRings plan = ListsRings plan 1
+
+abbrev pub SequencesInUseListRings : Plan → Type 0
+SequencesInUseListRings plan = (n s t : ℕ) → IsInUse plan n s t → ListsRings plan s
+
+-- the phases that pass a test are enabled and pairwise concurrent
+pub record AreCompatible (plan : Plan) (test : ℕ → Bool) : Type 0 where
+  pub enabled : (p : ℕ) → IsPhase plan p → test p ≡ true → is_enabled plan p ≡ true
+  pub concurrent : (p q : ℕ) → IsPhase plan p → IsPhase plan q → test p ≡ true → test q ≡ true → p ≢ q → is_concurrent plan p q ≡ true
+
+-- what a preempt wants is compatible, and one that does not dwell wants nothing
+pub record IsPreemptSound (plan : Plan) (n : ℕ) : Type 0 where
+  pub track : AreCompatible plan (is_track_phase plan n)
+  pub dwell : AreCompatible plan (is_dwell_phase plan n)
+  pub exit : AreCompatible plan (is_exit_phase plan n)
+  pub no_track : plan.value PreemptDwellPhase n ≡ 0 → plan.value PreemptTrackPhase n ≡ 0
+  pub no_exit : plan.value PreemptDwellPhase n ≡ 0 → plan.value PreemptExitPhase n ≡ 0
+
+abbrev pub PreemptsAreSound : Plan → Type 0
+PreemptsAreSound plan = (n : ℕ) → 1 ≤ n → n ≤ 4 → IsPreemptSound plan n
+
+-- a used pattern has a sequence and a split table, and an offset below its cycle
+pub record IsWhole (plan : Plan) (n : ℕ) : Type 0 where
+  pub its_sequence : ℕ
+  pub its_split : ℕ
+  pub in_use : IsInUse plan n its_sequence its_split
+  pub sequence_to : its_sequence ≤ 4
+  pub split_to : its_split ≤ 8
+  pub below : offset plan n < cycle plan n
+
+abbrev pub PatternsAreWhole : Plan → Type 0
+PatternsAreWhole plan = (n : ℕ) → 1 ≤ n → n ≤ 16 → is_used plan n ≡ true → IsWhole plan n
+
+-- two coordinated phases are on one side, the same or concurrent, and their splits end at one time
+pub record EndTogether (plan : Plan) (s t p q : ℕ) : Type 0 where
+  pub side : side_of plan p ≡ side_of plan q
+  pub concurrent : p ≢ q → is_concurrent plan p q ≡ true
+  pub ends : split_end plan s t p ≡ split_end plan s t q
+
+-- the coordinated phases of a pattern: some, enabled, not omitted, ending together, one of each ring that has phases on
+-- their side
+pub record AreCoordinated (plan : Plan) (s t : ℕ) : Type 0 where
+  pub one : ℕ
+  pub is_phase : IsPhase plan one
+  pub is_one : is_coordinated plan t one ≡ true
+  pub enabled : (p : ℕ) → IsPhase plan p → is_coordinated plan t p ≡ true → is_enabled plan p ≡ true
+  pub served : (p : ℕ) → IsPhase plan p → is_coordinated plan t p ≡ true → is_omitted plan t p ≡ false
+  pub together : (p q : ℕ) → IsPhase plan p → IsPhase plan q → is_coordinated plan t p ≡ true → is_coordinated plan t q ≡ true → EndTogether plan s t p q
+  pub in_each_ring : (p r : ℕ) → IsPhase plan p → is_coordinated plan t p ≡ true → 1 ≤ r → r ≤ 2 → has_phases plan r (side_of plan p) ≡ true →
+      coordinated_count plan t r ≡ 1
+
+abbrev pub CoordinatedPhasesAgree : Plan → Type 0
+CoordinatedPhasesAgree plan = (n s t : ℕ) → IsInUse plan n s t → AreCoordinated plan s t
+
+-- a fact of each plan that breaks no rule
+abbrev pub OfConsistentPlans : (Plan → Type 0) → Type 0
+OfConsistentPlans fact = (plan : Plan) → first_broken plan ≡ None → fact plan

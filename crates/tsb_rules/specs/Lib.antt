@@ -1,0 +1,4 @@
+pub mod SequenceRules
+pub mod PatternRules
+pub mod Rules
+pub mod Consistent

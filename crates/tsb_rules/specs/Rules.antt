@@ -1,0 +1,194 @@
+-- The rules that a plan must meet (profile), each as a test, and the first of them that it breaks. "Each phase" is each
+-- enabled phase. What sequences and patterns must be is in files of their own.
+use Rattle.std.specs.Prelude.{ℕ, ◌==◌, nat_le, Bool, true, false, not, ◌&&◌, ◌||◌, Option, Some, None, Result, Ok, Err}
+use Rattle.std.specs.List.{list_all, list_any}
+use Rattle.tsb_plan.specs.declared.object.Object.{Object}
+use Rattle.tsb_plan.specs.declared.object.Object.TheVariants.{PhaseConcurrency, PhaseWalk, PhaseMinimumGreen, PhaseMaximum1, PhaseMaximum2, OverlapIncludedPhases, OverlapModifierPhases, PreemptTrackPhase, PreemptDwellPhase, PreemptExitPhase}
+use Rattle.tsb_rules.specs.declared.rules.Rule.{Rule}
+use Rattle.tsb_rules.specs.declared.rules.Rule.TheVariants.{K1, K2, K3, K4, K5, K6, K7, K8, K9, K10, K11, K12, K13, K14, K15, K16, K17, K18, K19, K20, K21, K22}
+use Rattle.tsb_types.specs.Lists.{run_from}
+use Rattle.tsb_plan.specs.Parts.{call_phase, pedestrian_call_phase, is_minus_green_yellow}
+use Rattle.tsb_rules.specs.PatternRules.{patterns_are_whole, splits_hold_phases, splits_fill_cycles, coordinated_phases_agree}
+use Rattle.tsb_plan.specs.Plan.{Plan, phases, is_enabled, has_pedestrian_recall, ring_of, side_of, is_concurrent, minimum_green, minimum_gap, passage, yellow_change, dynamic_maximum_limit}
+use Rattle.tsb_rules.specs.SequenceRules.{each_phase, first_sequence_is_ordered, other_sequences_are_ordered}
+use Rattle.tsb_types.specs.Sets.{names}
+
+-- K1: at least one phase is enabled
+abbrev pub some_enabled : Plan → Bool
+some_enabled plan = list_any (is_enabled plan) (phases plan)
+
+-- K2: each phase has ring 1 or 2, and one of the sides
+abbrev pub is_placed : Plan → ℕ → Bool
+is_placed plan p = (ring_of plan p == 1 || ring_of plan p == 2) && (nat_le 1 (side_of plan p) && nat_le (side_of plan p) plan.side_count)
+
+abbrev pub are_placed : Plan → Bool
+are_placed plan = each_phase plan (is_placed plan)
+
+-- K3: the concurrency list of a phase that is not enabled is empty
+abbrev pub unused_lists_are_empty : Plan → Bool
+unused_lists_are_empty plan = list_all (λ p. is_enabled plan p || plan.value PhaseConcurrency p == 0) (phases plan)
+
+-- K4: a phase's concurrency list names only enabled phases of the other ring and the same side
+abbrev pub may_be_concurrent : Plan → ℕ → ℕ → Bool
+may_be_concurrent plan p q = is_enabled plan q && (not (ring_of plan p == ring_of plan q) && side_of plan p == side_of plan q)
+
+abbrev pub names_across_rings : Plan → ℕ → Bool
+names_across_rings plan p = list_all (λ q. not (is_concurrent plan p q) || may_be_concurrent plan p q) (phases plan)
+
+abbrev pub lists_name_across_rings : Plan → Bool
+lists_name_across_rings plan = each_phase plan (names_across_rings plan)
+
+-- K5: concurrency is symmetric
+abbrev pub is_named_back : Plan → ℕ → Bool
+is_named_back plan p = list_all (λ q. not (is_concurrent plan p q) || is_concurrent plan q p) (phases plan)
+
+abbrev pub concurrency_is_symmetric : Plan → Bool
+concurrency_is_symmetric plan = list_all (is_named_back plan) (phases plan)
+
+-- K8: phaseYellowChange of each phase is at least 30
+abbrev pub yellows_are_long : Plan → Bool
+yellows_are_long plan = each_phase plan (λ p. nat_le 30 (yellow_change plan p))
+
+-- K9: phaseMinimumGap of each phase is at most its phasePassage
+abbrev pub gaps_can_reduce : Plan → Bool
+gaps_can_reduce plan = each_phase plan (λ p. nat_le (minimum_gap plan p) (passage plan p))
+
+-- K10: phaseMaximum1 and phaseMaximum2 of each phase are at least its phaseMinimumGreen
+abbrev pub reaches_minimum : Plan → ℕ → Bool
+reaches_minimum plan p =
+    nat_le (plan.value PhaseMinimumGreen p) (plan.value PhaseMaximum1 p) &&
+    nat_le (plan.value PhaseMinimumGreen p) (plan.value PhaseMaximum2 p)
+
+abbrev pub maximums_reach_minimums : Plan → Bool
+maximums_reach_minimums plan = each_phase plan (reaches_minimum plan)
+
+-- K11: each phase with phasePedRecall has phaseWalk over 0
+abbrev pub has_walk : Plan → ℕ → Bool
+has_walk plan p = nat_le 1 (plan.value PhaseWalk p)
+
+abbrev pub recalled_pedestrians_walk : Plan → Bool
+recalled_pedestrians_walk plan = each_phase plan (λ p. not (has_pedestrian_recall plan p) || has_walk plan p)
+
+-- none, or one that passes a test
+abbrev pub none_or : (ℕ → Bool) → Option ℕ → Bool
+none_or test None = true
+none_or test (Some p) = test p
+
+-- K12: each of the 16 vehicle detectors calls none or an enabled phase
+abbrev pub detectors_call_phases : Plan → Bool
+detectors_call_phases plan = list_all (λ d. none_or (is_enabled plan) (call_phase plan d)) (run_from 1 16)
+
+-- K13: each of the 8 pedestrian detectors calls none or an enabled phase with phaseWalk over 0
+abbrev pub serves_pedestrians : Plan → ℕ → Bool
+serves_pedestrians plan p = is_enabled plan p && has_walk plan p
+
+abbrev pub pedestrian_detectors_call_walks : Plan → Bool
+pedestrian_detectors_call_walks plan = list_all (λ d. none_or (serves_pedestrians plan) (pedestrian_call_phase plan d)) (run_from 1 8)
+
+-- K14: the included phases of each of the 4 overlaps are enabled
+abbrev pub names_enabled : Plan → ℕ → Bool
+names_enabled plan list = list_all (λ p. not (names list p) || is_enabled plan p) (phases plan)
+
+abbrev pub included_phases_are_enabled : Plan → Bool
+included_phases_are_enabled plan = list_all (λ o. names_enabled plan (plan.value OverlapIncludedPhases o)) (run_from 1 4)
+
+-- K15: each list of each of the 4 preempts names only enabled phases, pairwise concurrent
+abbrev pub goes_with_all : Plan → ℕ → ℕ → Bool
+goes_with_all plan list p = list_all (λ q. not (names list q) || (p == q || is_concurrent plan p q)) (phases plan)
+
+abbrev pub names_concurrent : Plan → ℕ → Bool
+names_concurrent plan list = list_all (λ p. not (names list p) || (is_enabled plan p && goes_with_all plan list p)) (phases plan)
+
+abbrev pub names_concurrent_at : Plan → Object → ℕ → Bool
+names_concurrent_at plan o n = names_concurrent plan (plan.value o n)
+
+abbrev pub has_concurrent_lists : Plan → ℕ → Bool
+has_concurrent_lists plan n =
+    names_concurrent_at plan PreemptTrackPhase n && (names_concurrent_at plan PreemptDwellPhase n && names_concurrent_at plan PreemptExitPhase n)
+
+abbrev pub preempts_are_concurrent : Plan → Bool
+preempts_are_concurrent plan = list_all (has_concurrent_lists plan) (run_from 1 4)
+
+-- K16: a preempt with an empty dwell list has empty track and exit lists
+abbrev pub dwells_or_is_empty : Plan → ℕ → Bool
+dwells_or_is_empty plan n =
+    not (plan.value PreemptDwellPhase n == 0) || (plan.value PreemptTrackPhase n == 0 && plan.value PreemptExitPhase n == 0)
+
+abbrev pub preempts_dwell : Plan → Bool
+preempts_dwell plan = list_all (dwells_or_is_empty plan) (run_from 1 4)
+
+-- K21: the modifier phases of each overlap are enabled, and there are none where it is not minusGreenYellow
+abbrev pub modifies_rightly : Plan → ℕ → Bool
+modifies_rightly plan o =
+    names_enabled plan (plan.value OverlapModifierPhases o) && (is_minus_green_yellow plan o || plan.value OverlapModifierPhases o == 0)
+
+abbrev pub modifiers_are_right : Plan → Bool
+modifiers_are_right plan = list_all (modifies_rightly plan) (run_from 1 4)
+
+-- K22: phaseDynamicMaxLimit of each phase is 0 or at least its phaseMinimumGreen
+abbrev pub limits_reach_minimums : Plan → Bool
+limits_reach_minimums plan = each_phase plan (λ p. dynamic_maximum_limit plan p == 0 || nat_le (minimum_green plan p) (dynamic_maximum_limit plan p))
+
+-- that rule, unless its test is passed; then what follows
+abbrev pub unless : Bool → Rule → Option Rule → Option Rule
+unless false r next = Some r
+unless true r next = next
+
+-- the first rule that the plan breaks, of those on rings, sides and sequences
+unfoldable pub broken_by_rings : Plan → Option Rule
+broken_by_rings plan =
+    unless (some_enabled plan) K1
+    (unless (are_placed plan) K2
+    (unless (unused_lists_are_empty plan) K3
+    (unless (lists_name_across_rings plan) K4
+    (unless (concurrency_is_symmetric plan) K5
+    (unless (first_sequence_is_ordered plan) K6
+    (unless (other_sequences_are_ordered plan) K7
+    None))))))
+
+-- of those on times and calls of phases
+unfoldable pub broken_by_phases : Plan → Option Rule
+broken_by_phases plan =
+    unless (yellows_are_long plan) K8
+    (unless (gaps_can_reduce plan) K9
+    (unless (maximums_reach_minimums plan) K10
+    (unless (recalled_pedestrians_walk plan) K11
+    (unless (detectors_call_phases plan) K12
+    (unless (pedestrian_detectors_call_walks plan) K13
+    None)))))
+
+-- of those on overlaps, preempts and patterns
+unfoldable pub broken_by_parts : Plan → Option Rule
+broken_by_parts plan =
+    unless (included_phases_are_enabled plan) K14
+    (unless (preempts_are_concurrent plan) K15
+    (unless (preempts_dwell plan) K16
+    (unless (patterns_are_whole plan) K17
+    (unless (splits_hold_phases plan) K18
+    (unless (splits_fill_cycles plan) K19
+    (unless (coordinated_phases_agree plan) K20
+    None))))))
+
+-- of those on what plan texts of version 2 alone can give
+unfoldable pub broken_by_extensions : Plan → Option Rule
+broken_by_extensions plan =
+    unless (modifiers_are_right plan) K21
+    (unless (limits_reach_minimums plan) K22
+    None)
+
+-- the first, or where there is none the second
+abbrev pub or_rule : Option Rule → Option Rule → Option Rule
+or_rule (Some r) next = Some r
+or_rule None next = next
+
+-- the first rule that the plan breaks
+unfoldable pub first_broken : Plan → Option Rule
+first_broken plan =
+    or_rule (broken_by_rings plan)
+    (or_rule (broken_by_phases plan)
+    (or_rule (broken_by_parts plan)
+    (broken_by_extensions plan)))
+
+abbrev pub or_broken : Option Rule → Result (Unit {0}) Rule
+or_broken None = Ok tt
+or_broken (Some r) = Err r

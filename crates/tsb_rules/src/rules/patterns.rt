@@ -1,0 +1,202 @@
+//! Rules K17 to K20: what a used pattern must be.
+#![tactic(auto, unfolding(tsb_plan::specs::PlanOf::plan_of))]
+
+ghost use Rattle.std.specs.Prelude.{◌≡◌, ℕ, ◌+◌, ◌*◌, ◌≤◌, ◌==◌, ◌&&◌, ◌||◌, not, nat_le, true};
+ghost use Rattle.tsb_rules.specs.PatternRules.{names_sequence, is_whole, patterns_are_whole, holds_phase, holds_phases, some_and, splits_hold_phases, rings_agree_on_sides, fills, splits_fill_cycles, may_coordinate, ends_with, agrees_with_all, is_coordinated_in, coordinated_count, has_one_in_each_ring, coordinates, has_coordinated, all_coordinate, coordinated_agree, coordinated_phases_agree};
+ghost use Rattle.tsb_plan.specs.Parts.{split_of, sequence_of};
+ghost use Rattle.tsb_plan.specs.PlanOf.{plan_of};
+
+use crate::rules::sequences::is_blank;
+use crate::rules::splits::{has_phases, rings_agree, sides_sum, split_end};
+use tsb_plan::Plan;
+use tsb_types::{Pattern, Phase, Ring, Sequence, Side, Split};
+
+/// K17: a used pattern has an offset below its cycle, a split table, and a sequence that is not all zeros.
+pub(super) fn patterns_are_whole(plan: &Plan) -> bool
+    ensures { result ≡ patterns_are_whole (plan_of plan.now) }
+{
+    Pattern::all().iter().all(|pattern| !plan.is_used(*pattern) || is_whole(plan, *pattern))
+}
+
+fn is_whole(plan: &Plan, pattern: Pattern) -> bool
+    ensures { result ≡ is_whole (plan_of plan.now) pattern }
+{
+    plan.offset(pattern) < plan.cycle(pattern)
+        && plan.split_of(pattern).is_some()
+        && names_sequence(plan, pattern)
+}
+
+fn names_sequence(plan: &Plan, pattern: Pattern) -> bool
+    ensures { result ≡ names_sequence (plan_of plan.now) pattern }
+{
+    match plan.sequence_of(pattern) {
+        Some(sequence) => !is_blank(plan, sequence),
+        None => false,
+    }
+}
+
+/// K18: in a used pattern the split of each phase that is not omitted holds its minimum green, yellow
+/// change and red clearance.
+pub(super) fn splits_hold_phases(plan: &Plan) -> bool
+    ensures { result ≡ splits_hold_phases (plan_of plan.now) }
+{
+    Pattern::all().iter().all(|pattern| !plan.is_used(*pattern)
+        || pattern_holds_phases(plan, *pattern))
+}
+
+fn pattern_holds_phases(plan: &Plan, pattern: Pattern) -> bool
+    ensures { result ≡ some_and (holds_phases (plan_of plan.now)) (split_of (plan_of plan.now) pattern) }
+{
+    match plan.split_of(pattern) {
+        Some(split) => holds_phases(plan, split),
+        None => false,
+    }
+}
+
+fn holds_phases(plan: &Plan, split: Split) -> bool
+    ensures { result ≡ holds_phases (plan_of plan.now) split }
+{
+    Phase::all().iter().all(|phase| !plan.is_enabled(*phase) || holds_phase(plan, split, *phase))
+}
+
+fn holds_phase(plan: &Plan, split: Split, phase: Phase) -> bool
+    ensures { result ≡ holds_phase (plan_of plan.now) split phase }
+{
+    plan.is_omitted(split, phase)
+        || plan.minimum_green(phase) + plan.yellow_change(phase) + plan.red_clear(phase)
+            <= plan.split_time(split, phase)
+}
+
+/// K19: in a used pattern the splits of a side have one sum in each ring that has phases there, and the
+/// sums of the sides add up to the cycle.
+pub(super) fn splits_fill_cycles(plan: &Plan) -> bool
+    ensures { result ≡ splits_fill_cycles (plan_of plan.now) }
+{
+    Pattern::all().iter().all(|pattern| !plan.is_used(*pattern)
+        || pattern_fills_cycle(plan, *pattern))
+}
+
+fn pattern_fills_cycle(plan: &Plan, pattern: Pattern) -> bool
+    ensures { result ≡ some_and (fills (plan_of plan.now) pattern) (split_of (plan_of plan.now) pattern) }
+{
+    match plan.split_of(pattern) {
+        Some(split) => fills(plan, pattern, split),
+        None => false,
+    }
+}
+
+fn fills(plan: &Plan, pattern: Pattern, split: Split) -> bool
+    ensures { result ≡ fills (plan_of plan.now) pattern split }
+{
+    rings_agree_on_sides(plan, split) && sides_sum(plan, split, 4) == plan.cycle(pattern)
+}
+
+fn rings_agree_on_sides(plan: &Plan, split: Split) -> bool
+    ensures { result ≡ rings_agree_on_sides (plan_of plan.now) split }
+{
+    Side::all()
+        .iter()
+        .all(|side| rings_agree(plan, split, *side))
+}
+
+/// K20: a used pattern has coordinated phases. All are enabled, not omitted, on one side and pairwise
+/// concurrent, one of each ring that has phases there, and their splits end at one time.
+pub(super) fn coordinated_phases_agree(plan: &Plan) -> bool
+    ensures { result ≡ coordinated_phases_agree (plan_of plan.now) }
+{
+    Pattern::all().iter().all(|pattern| !plan.is_used(*pattern)
+        || pattern_is_coordinated(plan, *pattern))
+}
+
+fn pattern_is_coordinated(plan: &Plan, pattern: Pattern) -> bool
+    ensures { result ≡ some_and (λ s. some_and (coordinated_agree (plan_of plan.now) s) (split_of (plan_of plan.now) pattern)) (sequence_of (plan_of plan.now) pattern) }
+{
+    match (plan.sequence_of(pattern), plan.split_of(pattern)) {
+        (Some(sequence), Some(split)) => coordinated_agree(plan, sequence, split),
+        _ => false,
+    }
+}
+
+fn coordinated_agree(plan: &Plan, sequence: Sequence, split: Split) -> bool
+    ensures { result ≡ coordinated_agree (plan_of plan.now) sequence split }
+{
+    has_coordinated(plan, split) && all_coordinate(plan, sequence, split)
+}
+
+fn has_coordinated(plan: &Plan, split: Split) -> bool
+    ensures { result ≡ has_coordinated (plan_of plan.now) split }
+{
+    Phase::all()
+        .iter()
+        .any(|phase| plan.is_coordinated(split, *phase))
+}
+
+fn all_coordinate(plan: &Plan, sequence: Sequence, split: Split) -> bool
+    ensures { result ≡ all_coordinate (plan_of plan.now) sequence split }
+{
+    Phase::all().iter().all(|phase| {
+        !plan.is_coordinated(split, *phase) || coordinates(plan, sequence, split, *phase)
+    })
+}
+
+fn coordinates(plan: &Plan, sequence: Sequence, split: Split, phase: Phase) -> bool
+    ensures { result ≡ coordinates (plan_of plan.now) sequence split phase }
+{
+    may_coordinate(plan, split, phase)
+        && agrees_with_all(plan, sequence, split, phase)
+        && has_one_in_each_ring(plan, split, phase)
+}
+
+fn may_coordinate(plan: &Plan, split: Split, phase: Phase) -> bool
+    ensures { result ≡ may_coordinate (plan_of plan.now) split phase }
+{
+    plan.is_enabled(phase) && !plan.is_omitted(split, phase)
+}
+
+fn agrees_with_all(plan: &Plan, sequence: Sequence, split: Split, phase: Phase) -> bool
+    ensures { result ≡ agrees_with_all (plan_of plan.now) sequence split phase }
+{
+    Phase::all().iter().all(|other| {
+        !plan.is_coordinated(split, *other) || ends_with(plan, sequence, split, phase, *other)
+    })
+}
+
+/// Whether the two phases are of one side, the same or concurrent, and their splits end at one time.
+fn ends_with(plan: &Plan, sequence: Sequence, split: Split, phase: Phase, other: Phase) -> bool
+    ensures { result ≡ ends_with (plan_of plan.now) sequence split phase other }
+{
+    plan.side(phase) == plan.side(other)
+        && (phase == other || plan.concurrency(phase).contains(other))
+        && split_end(plan, sequence, split, phase) == split_end(plan, sequence, split, other)
+}
+
+/// Whether each ring that has phases on the side of the phase has one coordinated phase.
+fn has_one_in_each_ring(plan: &Plan, split: Split, phase: Phase) -> bool
+    ensures { result ≡ has_one_in_each_ring (plan_of plan.now) split phase }
+{
+    let side = plan.side(phase);
+    Ring::all().iter().all(|ring| {
+        !has_phases(plan, *ring, side) || coordinated_count(plan, split, *ring) == 1
+    })
+}
+
+/// How many coordinated phases the ring has.
+#[tactic(auto, unfolding(tsb_plan::specs::PlanOf::plan_of, crate::specs::PatternRules::coordinated_count))]
+fn coordinated_count(plan: &Plan, split: Split, ring: Ring) -> u32
+    ensures { result ≡ coordinated_count (plan_of plan.now) split ring }
+{
+    let phases = Phase::all();
+    let mut count = 0;
+    for phase in &phases {
+        if is_coordinated_in(plan, split, ring, *phase) {
+            count += 1;
+        }
+    }
+    count
+}
+
+fn is_coordinated_in(plan: &Plan, split: Split, ring: Ring, phase: Phase) -> bool
+    ensures { result ≡ is_coordinated_in (plan_of plan.now) split ring phase }
+{
+    plan.is_coordinated(split, phase) && plan.ring(phase) == u32::from(ring.number())
+}
