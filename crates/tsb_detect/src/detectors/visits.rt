@@ -98,7 +98,35 @@ impl Detectors {
         self.store(d, &was, &row);
     }
 
-    /// Works out the detectors that may change.
+    /// Works out these detectors, where the tick leaves all others as they are.
+    #[inline(never)]
+    fn visit_each(
+        &mut self,
+        visited: NumberSet,
+        now: u32,
+        inputs: NumberSet,
+        greens: &Greens,
+        plan: &Plan,
+    )
+        requires fits { now + 1 < 2 ^ 32 }
+        requires opened { is_open self.old ≡ true }
+        requires read { (d : ℕ) → 1 ≤ d → d ≤ 16 → IsRead now (row_in (cells_of self.old) d) }
+        requires others { (d : ℕ) → 1 ≤ d → d ≤ 16 → has_number visited d ≡ false →
+            IsVisit now (plan_of plan.now) d (has_number inputs d) (green_timer_of now greens.now (call_phase (plan_of plan.now) d)) (row_in (cells_of self.old) d) (row_in (cells_of self.old) d) }
+        ensures each { (d : ℕ) → 1 ≤ d → d ≤ 16 →
+            IsVisit now (plan_of plan.now) d (has_number inputs d) (green_timer_of now greens.now (call_phase (plan_of plan.now) d)) (row_in (cells_of self.old) d) (row_in (cells_of self.new) d) }
+        ensures lists { KeepsLists (cells_of self.old) (cells_of self.new) }
+        ensures kept { kept_of self.new ≡ kept_of self.old }
+        ensures opened { is_open self.new ≡ true }
+    {
+        let mut rest = visited;
+        while let Some(d) = pop(&mut rest) {
+            self.visit(now, inputs, greens, plan, d);
+        }
+    }
+
+    /// Works out the detectors that may change; a tick in which none may is over here.
+    #[inline(always)]
     pub(super) fn run(&mut self, now: u32, inputs: NumberSet, greens: &Greens, plan: &Checked)
         requires fits { now + 1 < 2 ^ 32 }
         requires opened { is_open self.old ≡ true }
@@ -109,12 +137,11 @@ impl Detectors {
         ensures kept { kept_of self.new ≡ kept_of self.old }
         ensures opened { is_open self.new ≡ true }
     {
-        let mut rest = self
+        let visited = self
             .unsettled(inputs)
             .union(self.due_set(now, inputs, plan));
-        let values = plan.plan();
-        while let Some(d) = pop(&mut rest) {
-            self.visit(now, inputs, greens, values, d);
+        if !visited.is_empty() {
+            self.visit_each(visited, now, inputs, greens, plan.plan());
         }
     }
 }
