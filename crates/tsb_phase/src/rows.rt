@@ -92,10 +92,24 @@ impl Phases {
         ensures opened { is_open self.new ≡ true }
     {
         if was != on {
-            known(p);
-            let list = self.list(k).with(p, on);
-            self.put_set(k, list);
+            self.change_list(k, p, on);
         }
+    }
+
+    /// Puts the phase into list `k`, or takes it out. It stays out of line: in most ticks nothing changes.
+    #[inline(never)]
+    fn change_list(&mut self, k: usize, p: Phase, on: bool)
+        requires in_range { k < 9 }
+        requires opened { is_open self.old ≡ true }
+        ensures row { row_in (cells_of self.new) p ≡ with_list k on (row_in (cells_of self.old) p) }
+        ensures others { (q : ℕ) → 1 ≤ q → q ≤ 16 → q ≢ p → row_in (cells_of self.new) q ≡ row_in (cells_of self.old) q }
+        ensures lists { KeepsLists (cells_of self.old) (cells_of self.new) }
+        ensures kept { kept_of self.new ≡ kept_of self.old }
+        ensures opened { is_open self.new ≡ true }
+    {
+        known(p);
+        let list = self.list(k).with(p, on);
+        self.put_set(k, list);
     }
 
     /// Puts a value into the cell of kind `k` of a phase, where that is a change.
@@ -111,8 +125,22 @@ impl Phases {
         ensures opened { is_open self.new ≡ true }
     {
         if was != value {
-            self.put(place(k, p), value);
+            self.change_cell(k, p, value);
         }
+    }
+
+    /// Puts a value into the cell of kind `k` of a phase. It stays out of line: in most ticks nothing changes.
+    #[inline(never)]
+    fn change_cell(&mut self, k: usize, p: Phase, value: u32)
+        requires in_range { k < 7 }
+        requires opened { is_open self.old ≡ true }
+        ensures row { row_in (cells_of self.new) p ≡ with_cell k value (row_in (cells_of self.old) p) }
+        ensures others { (q : ℕ) → 1 ≤ q → q ≤ 16 → q ≢ p → row_in (cells_of self.new) q ≡ row_in (cells_of self.old) q }
+        ensures lists { KeepsLists (cells_of self.old) (cells_of self.new) }
+        ensures kept { kept_of self.new ≡ kept_of self.old }
+        ensures opened { is_open self.new ≡ true }
+    {
+        self.put(place(k, p), value);
     }
 
     /// Puts the row of a phase into the cells, where it differs from what it was.
