@@ -1,4 +1,4 @@
-use Rattle.std.proofs.Common.{◌≡◌, ℕ, ◌+◌, false, ◌&&◌, slice_index, sym, ◌∙◌}
+use Rattle.std.proofs.Common.{◌≡◌, ◌+◌, false, ◌&&◌, slice_index, sym, ◌∙◌}
 use Rattle.tsb_types.specs.Sets.{has_number}
 use Rattle.tsb_plan.specs.PlanOf.{plan_of}
 use Rattle.tsb_preempt.specs.Preempts.{may_begin}
