@@ -6,9 +6,6 @@ use Rattle.std.proofs.lemmas.Bool.Decides.{nat_tests}
 use Rattle.tsb_types.specs.Lists.{first, run_from}
 use Rattle.tsb_plan.specs.Plan.{Plan, is_enabled}
 use Rattle.tsb_plan.specs.declared.object.Object.TheVariants.{PatternCycleTime}
-use Rattle.tsb_objects.specs.declared.checked.Checked.{Checked}
-use Rattle.tsb_objects.specs.Checked.{checked_plan}
-use Rattle.tsb_plan.specs.PlanOf.{plan_of}
 use Rattle.tsb_plan.specs.Parts.{is_used, cycle, offset}
 use Rattle.tsb_plan.specs.Running.{running, coordinates_in, is_coordinated_now}
 use Rattle.tsb_rules.specs.Rules.{first_broken}
@@ -219,11 +216,6 @@ forces_off plan none n now ticks p from_one within used selected runs met =
 
 some_cycle : (plan : Plan) (n : ℕ) → is_used plan n ≡ true → 1 < cycle plan n
 some_cycle plan n used = let some : 1 ≤ plan.value PatternCycleTime n = grind (arith, nat_tests, used) in omega arith
-
--- a checked plan has 16 phases
-pub few : (checked : Checked) → (checked_plan checked).phase_count ≤ 16
-unfolding checked_plan plan_of
-few checked = omega arith
 
 pub is_exact : (plan : Plan) → plan.phase_count ≤ 16 → first_broken plan ≡ None → (n now ticks local : ℕ) → 1 ≤ n → n ≤ 16 → is_used plan n ≡ true →
     (row : List ℕ) → running plan (pattern_in row) ≡ Some n → local ≡ counter plan n now → local < cycle plan n → IsQuiet plan n now ticks →
