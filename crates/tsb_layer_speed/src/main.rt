@@ -3,6 +3,7 @@
 #![tactic(auto)]
 
 mod calling;
+mod coordinating;
 mod detecting;
 mod phasing;
 mod preempting;
@@ -10,6 +11,7 @@ mod ringing;
 mod timed;
 
 use crate::calling::Calling;
+use crate::coordinating::Coordinating;
 use crate::detecting::Detecting;
 use crate::phasing::Phasing;
 use crate::preempting::Preempting;
@@ -35,6 +37,7 @@ fn main(rt: HostRuntime) -> Result<()> {
     let plan = plans.get(0)?;
     time::<Detecting>(&rt, "detectors.runs", plan, rounds)?;
     time::<Preempting>(&rt, "preempts.runs", plan, rounds)?;
+    time::<Coordinating>(&rt, "coordination.runs", plan, rounds)?;
     time::<Calling>(&rt, "calls.runs", plan, rounds)?;
     time::<Phasing>(&rt, "phases.runs", plan, rounds)?;
     time::<Ringing>(&rt, "rings.runs", plan, rounds)
