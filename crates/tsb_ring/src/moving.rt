@@ -1,11 +1,11 @@
 //! What a ring does in a tick by its want and its commitment: which phase it starts, ends and clears, and what it commits to.
 ghost use Rattle.std.specs.Prelude.{◌≡◌, ℕ, ◌≤◌, ◌&&◌, true, Some, None, is_some, if◌then◌else◌};
-ghost use Rattle.tsb_plan.specs.Plan.{is_enabled, side_of};
+ghost use Rattle.tsb_plan.specs.Plan.{Plan};
 ghost use Rattle.tsb_objects.specs.Checked.{checked_plan};
 ghost use Rattle.tsb_types.specs.Intervals.{is_green};
 ghost use Rattle.tsb_types.specs.Flow.{interval_of};
 ghost use Rattle.tsb_ring.specs.Cells.{IsBy};
-ghost use Rattle.tsb_ring.specs.Layer.{cells_of, state_of, IsFound};
+ghost use Rattle.tsb_ring.specs.Layer.{cells_of, state_of, IsTurn, IsFound, IsOutcome};
 ghost use Rattle.tsb_ring.specs.Promises.{given_of, IsDecided};
 ghost use Rattle.tsb_ring.specs.Rings.{Ring1, Ring2, ring_numbered, own_ring, other, serving};
 ghost use Rattle.tsb_ring.specs.Wants.{want_of, pick, pick_of_ring_1};
@@ -14,11 +14,10 @@ ghost use Rattle.tsb_ring.specs.Next.{is_none_or_over, makes_way, may_start, com
 ghost use Rattle.tsb_ring.specs.Moves.{if_passes, ring_moves, moves};
 
 use crate::conditions::Conditions;
-use crate::found::Found;
+use crate::found::{Found, Outcome, Turn};
 use crate::rings::Rings;
-use crate::walk::again;
 use crate::want::Want;
-use tsb_objects::{Checked, Phase, Ring, RingMoves};
+use tsb_objects::{Checked, Phase, RingMoves};
 
 /// Whether the want ends the green of its ring.
 #[inline(always)]
@@ -46,8 +45,8 @@ fn leaves(want: Option<Want>) -> bool
 
 /// Whether the ring with this phase in service is idle or over.
 #[inline(always)]
-fn is_none_or_over(plan: &Checked, conditions: &Conditions, own: Option<Phase>) -> bool
-    ensures { result ≡ is_none_or_over (given_of (checked_plan plan.now) conditions.now) own }
+fn is_none_or_over(conditions: &Conditions, own: Option<Phase>) -> bool
+    ensures { (plan : Plan) → result ≡ is_none_or_over (given_of plan conditions.now) own }
 {
     match own {
         None => true,
@@ -63,29 +62,6 @@ fn makes_way(plan: &Checked, conditions: &Conditions, c: Phase, across: Option<P
     match across {
         None => true,
         Some(q) => plan.concurrent_to(q).contains(c) || conditions.timing.over.contains(q),
-    }
-}
-
-/// Whether a ring's commitment that was may start.
-#[inline(always)]
-pub(crate) fn may_start(
-    plan: &Checked,
-    conditions: &Conditions,
-    r: Ring,
-    own: Option<Phase>,
-    across: Option<Phase>,
-    commitment: Option<Phase>,
-) -> bool
-    requires own { own ≡ serving (checked_plan plan.now) (given_of (checked_plan plan.now) conditions.now) (ring_numbered r) }
-    requires across { across ≡ serving (checked_plan plan.now) (given_of (checked_plan plan.now) conditions.now) (other (ring_numbered r)) }
-    ensures { result ≡ may_start (checked_plan plan.now) (given_of (checked_plan plan.now) conditions.now) (ring_numbered r) commitment }
-{
-    let free = is_none_or_over(plan, conditions, own);
-    match commitment {
-        None => free,
-        Some(c) => free
-            && conditions.timing.red_revert_passed.contains(c)
-            && makes_way(plan, conditions, c, across),
     }
 }
 
@@ -137,6 +113,22 @@ pub(crate) fn is_green(conditions: &Conditions, p: Phase) -> bool
 }
 
 impl Rings {
+    /// Whether the ring's commitment that was may start, or the ring is idle or over where it has none.
+    #[inline(always)]
+    pub(crate) fn may_start(&self, plan: &Checked, conditions: &Conditions, turn: &Turn) -> bool
+        requires by { IsBy (cells_of self.now) }
+        requires turn { IsTurn (checked_plan plan.now) (state_of self.now) (given_of (checked_plan plan.now) conditions.now) turn.now }
+        ensures { result ≡ may_start (checked_plan plan.now) (given_of (checked_plan plan.now) conditions.now) (ring_numbered turn.now.ring) ((state_of self.now).commitment (ring_numbered turn.now.ring)) }
+    {
+        let free = is_none_or_over(conditions, turn.own);
+        match self.commitment(turn.ring) {
+            None => free,
+            Some(c) => free
+                && conditions.timing.red_revert_passed.contains(c)
+                && makes_way(plan, conditions, c, turn.across),
+        }
+    }
+
     /// The ring's commitment in this tick.
     #[inline(always)]
     #[tactic(auto, unfolding(crate::specs::Crossings::committed))]
@@ -144,23 +136,18 @@ impl Rings {
         &self,
         plan: &Checked,
         conditions: &Conditions,
-        r: Ring,
-        own: Option<Phase>,
-        picked: Option<Phase>,
-        begun: bool,
-        entered: Option<Phase>,
+        found: &Found,
+        outcome: &Outcome,
     ) -> Option<Phase>
         requires by { IsBy (cells_of self.now) }
-        requires own { own ≡ serving (checked_plan plan.now) (given_of (checked_plan plan.now) conditions.now) (ring_numbered r) }
-        requires picked { picked ≡ pick (checked_plan plan.now) (state_of self.now) (given_of (checked_plan plan.now) conditions.now) (ring_numbered r) }
-        requires begun { begun ≡ begins (checked_plan plan.now) (state_of self.now) (given_of (checked_plan plan.now) conditions.now) }
-        requires entered { begun ≡ true → entered ≡ entry (checked_plan plan.now) (state_of self.now) (given_of (checked_plan plan.now) conditions.now) (ring_numbered r) }
-        ensures { result ≡ committed (checked_plan plan.now) (state_of self.now) (given_of (checked_plan plan.now) conditions.now) (ring_numbered r) }
+        requires found { IsFound (checked_plan plan.now) (state_of self.now) (given_of (checked_plan plan.now) conditions.now) (ring_numbered found.now.ring) found.now }
+        requires outcome { IsOutcome (checked_plan plan.now) (state_of self.now) (given_of (checked_plan plan.now) conditions.now) (ring_numbered found.now.ring) outcome.now }
+        ensures { result ≡ committed (checked_plan plan.now) (state_of self.now) (given_of (checked_plan plan.now) conditions.now) (ring_numbered found.now.ring) }
     {
-        if begun {
-            entered
+        if outcome.begun {
+            outcome.entered
         } else {
-            own_commitment(self.commitment(r), own, picked)
+            own_commitment(self.commitment(found.ring), found.own, found.picked)
         }
     }
 
@@ -171,120 +158,72 @@ impl Rings {
         &self,
         plan: &Checked,
         conditions: &Conditions,
-        r: Ring,
-        own: Option<Phase>,
-        picked: Option<Phase>,
-        completed: bool,
-        startable: bool,
+        found: &Found,
+        outcome: &Outcome,
     ) -> Option<Phase>
         requires by { IsBy (cells_of self.now) }
-        requires own { own ≡ serving (checked_plan plan.now) (given_of (checked_plan plan.now) conditions.now) (ring_numbered r) }
-        requires picked { picked ≡ pick (checked_plan plan.now) (state_of self.now) (given_of (checked_plan plan.now) conditions.now) (ring_numbered r) }
-        requires completed { completed ≡ completes (checked_plan plan.now) (state_of self.now) (given_of (checked_plan plan.now) conditions.now) }
-        requires startable { startable ≡ may_start (checked_plan plan.now) (given_of (checked_plan plan.now) conditions.now) (ring_numbered r) ((state_of self.now).commitment (ring_numbered r)) }
-        ensures { result ≡ starting (checked_plan plan.now) (state_of self.now) (given_of (checked_plan plan.now) conditions.now) (ring_numbered r) }
+        requires found { IsFound (checked_plan plan.now) (state_of self.now) (given_of (checked_plan plan.now) conditions.now) (ring_numbered found.now.ring) found.now }
+        requires outcome { IsOutcome (checked_plan plan.now) (state_of self.now) (given_of (checked_plan plan.now) conditions.now) (ring_numbered found.now.ring) outcome.now }
+        ensures { result ≡ starting (checked_plan plan.now) (state_of self.now) (given_of (checked_plan plan.now) conditions.now) (ring_numbered found.now.ring) }
     {
-        match self.commitment(r) {
-            None => idle_pick(own, picked),
+        match self.commitment(found.ring) {
+            None => idle_pick(found.own, found.picked),
             Some(c) => {
                 let now = if self.crossing().is_some() {
-                    completed
+                    outcome.completed
                 } else {
-                    startable
+                    found.startable
                 };
                 if now { Some(c) } else { None }
             }
         }
     }
 
-    /// Whether the green of `p` ends.
-    #[inline(always)]
-    #[tactic(auto, unfolding(crate::specs::Next::ends))]
-    fn does_end(
-        &self,
-        plan: &Checked,
-        conditions: &Conditions,
-        r: Ring,
-        p: Phase,
-        wanted: Option<Want>,
-        begun: bool,
-    ) -> bool
-        requires ring { own_ring (checked_plan plan.now) p ≡ (ring_numbered r) }
-        requires wanted { wanted ≡ want_of (checked_plan plan.now) (state_of self.now) (given_of (checked_plan plan.now) conditions.now) (ring_numbered r) }
-        requires begun { begun ≡ begins (checked_plan plan.now) (state_of self.now) (given_of (checked_plan plan.now) conditions.now) }
-        ensures { result ≡ ends (checked_plan plan.now) (state_of self.now) (given_of (checked_plan plan.now) conditions.now) p }
-    {
-        let leaves = leaves(wanted);
-        begun || (conditions.timing.ready.contains(p) && leaves)
-    }
-
-    /// Whether `p` goes Red.
-    #[inline(always)]
-    #[tactic(auto, unfolding(crate::specs::Next::clears))]
-    fn does_clear(
-        &self,
-        plan: &Checked,
-        conditions: &Conditions,
-        r: Ring,
-        p: Phase,
-        commits: Option<Phase>,
-        starts: Option<Phase>,
-    ) -> bool
-        requires ring { own_ring (checked_plan plan.now) p ≡ (ring_numbered r) }
-        requires commits { commits ≡ committed (checked_plan plan.now) (state_of self.now) (given_of (checked_plan plan.now) conditions.now) (ring_numbered r) }
-        requires starts { starts ≡ starting (checked_plan plan.now) (state_of self.now) (given_of (checked_plan plan.now) conditions.now) (ring_numbered r) }
-        ensures { result ≡ clears (checked_plan plan.now) (state_of self.now) (given_of (checked_plan plan.now) conditions.now) p }
-    {
-        let goes = commits.is_none() || starts.is_some();
-        conditions.timing.over.contains(p) && goes
-    }
-
     /// The phase that goes Yellow in the ring.
     #[inline(always)]
-    #[tactic(auto, using(crate::proofs::OwnLemmas::own_serving))]
+    #[tactic(auto, unfolding(crate::specs::Next::ends), using(crate::proofs::OwnLemmas::own_serving))]
     fn ending(
         &self,
         plan: &Checked,
         conditions: &Conditions,
-        r: Ring,
-        own: Option<Phase>,
-        wanted: Option<Want>,
-        begun: bool,
+        found: &Found,
+        outcome: &Outcome,
     ) -> Option<Phase>
-        requires own { own ≡ serving (checked_plan plan.now) (given_of (checked_plan plan.now) conditions.now) (ring_numbered r) }
-        requires wanted { wanted ≡ want_of (checked_plan plan.now) (state_of self.now) (given_of (checked_plan plan.now) conditions.now) (ring_numbered r) }
-        requires begun { begun ≡ begins (checked_plan plan.now) (state_of self.now) (given_of (checked_plan plan.now) conditions.now) }
-        ensures { result ≡ if_passes (λ p. is_green (interval_of conditions.now.intervals p) && ends (checked_plan plan.now) (state_of self.now) (given_of (checked_plan plan.now) conditions.now) p) (serving (checked_plan plan.now) (given_of (checked_plan plan.now) conditions.now) (ring_numbered r)) }
+        requires found { IsFound (checked_plan plan.now) (state_of self.now) (given_of (checked_plan plan.now) conditions.now) (ring_numbered found.now.ring) found.now }
+        requires outcome { IsOutcome (checked_plan plan.now) (state_of self.now) (given_of (checked_plan plan.now) conditions.now) (ring_numbered found.now.ring) outcome.now }
+        ensures { result ≡ if_passes (λ p. is_green (interval_of conditions.now.intervals p) && ends (checked_plan plan.now) (state_of self.now) (given_of (checked_plan plan.now) conditions.now) p) (serving (checked_plan plan.now) (given_of (checked_plan plan.now) conditions.now) (ring_numbered found.now.ring)) }
     {
-        match own {
+        match found.own {
             None => None,
             Some(p) => {
-                let ends = self.does_end(plan, conditions, r, p, wanted, begun);
-                filtered(p, is_green(conditions, p) && ends)
+                let leaves = conditions.timing.ready.contains(p) && leaves(found.want);
+                filtered(p, is_green(conditions, p) && (outcome.begun || leaves))
             }
         }
     }
 
-    /// The phase that goes Red in the ring.
+    /// The phase that goes Red in the ring, by what it commits to and starts.
     #[inline(always)]
-    #[tactic(auto, using(crate::proofs::OwnLemmas::own_serving))]
+    #[tactic(auto, unfolding(crate::specs::Next::clears), using(crate::proofs::OwnLemmas::own_serving))]
     fn clearing(
         &self,
         plan: &Checked,
         conditions: &Conditions,
-        r: Ring,
-        own: Option<Phase>,
-        commits: Option<Phase>,
-        starts: Option<Phase>,
+        found: &Found,
+        is_bound: bool,
+        is_starting: bool,
     ) -> Option<Phase>
-        requires own { own ≡ serving (checked_plan plan.now) (given_of (checked_plan plan.now) conditions.now) (ring_numbered r) }
-        requires commits { commits ≡ committed (checked_plan plan.now) (state_of self.now) (given_of (checked_plan plan.now) conditions.now) (ring_numbered r) }
-        requires starts { starts ≡ starting (checked_plan plan.now) (state_of self.now) (given_of (checked_plan plan.now) conditions.now) (ring_numbered r) }
-        ensures { result ≡ if_passes (clears (checked_plan plan.now) (state_of self.now) (given_of (checked_plan plan.now) conditions.now)) (serving (checked_plan plan.now) (given_of (checked_plan plan.now) conditions.now) (ring_numbered r)) }
+        requires found { IsFound (checked_plan plan.now) (state_of self.now) (given_of (checked_plan plan.now) conditions.now) (ring_numbered found.now.ring) found.now }
+        requires bound { is_bound ≡ is_some (committed (checked_plan plan.now) (state_of self.now) (given_of (checked_plan plan.now) conditions.now) (ring_numbered found.now.ring)) }
+        requires starts { is_starting ≡ is_some (starting (checked_plan plan.now) (state_of self.now) (given_of (checked_plan plan.now) conditions.now) (ring_numbered found.now.ring)) }
+        ensures { result ≡ if_passes (clears (checked_plan plan.now) (state_of self.now) (given_of (checked_plan plan.now) conditions.now)) (serving (checked_plan plan.now) (given_of (checked_plan plan.now) conditions.now) (ring_numbered found.now.ring)) }
     {
-        match own {
+        match found.own {
             None => None,
-            Some(p) => filtered(p, self.does_clear(plan, conditions, r, p, commits, starts)),
+            Some(p) => filtered(
+                p,
+                conditions.timing.over.contains(p) && (!is_bound || is_starting),
+            ),
         }
     }
 
@@ -294,61 +233,26 @@ impl Rings {
         &self,
         plan: &Checked,
         conditions: &Conditions,
-        r: Ring,
         found: &Found,
-        begun: bool,
-        completed: bool,
-        startable: bool,
-        entered: Option<Phase>,
+        outcome: &Outcome,
     ) -> RingMoves
         requires by { IsBy (cells_of self.now) }
-        requires found { IsFound (checked_plan plan.now) (state_of self.now) (given_of (checked_plan plan.now) conditions.now) (ring_numbered r) found.now }
-        requires begun { begun ≡ begins (checked_plan plan.now) (state_of self.now) (given_of (checked_plan plan.now) conditions.now) }
-        requires completed { completed ≡ completes (checked_plan plan.now) (state_of self.now) (given_of (checked_plan plan.now) conditions.now) }
-        requires startable { startable ≡ may_start (checked_plan plan.now) (given_of (checked_plan plan.now) conditions.now) (ring_numbered r) ((state_of self.now).commitment (ring_numbered r)) }
-        requires entered { begun ≡ true → entered ≡ entry (checked_plan plan.now) (state_of self.now) (given_of (checked_plan plan.now) conditions.now) (ring_numbered r) }
-        ensures { result ≡ ring_moves (checked_plan plan.now) (state_of self.now) (given_of (checked_plan plan.now) conditions.now) (ring_numbered r) }
+        requires found { IsFound (checked_plan plan.now) (state_of self.now) (given_of (checked_plan plan.now) conditions.now) (ring_numbered found.now.ring) found.now }
+        requires outcome { IsOutcome (checked_plan plan.now) (state_of self.now) (given_of (checked_plan plan.now) conditions.now) (ring_numbered found.now.ring) outcome.now }
+        ensures { result ≡ ring_moves (checked_plan plan.now) (state_of self.now) (given_of (checked_plan plan.now) conditions.now) (ring_numbered found.now.ring) }
     {
-        let commits = self.committed(
-            plan,
-            conditions,
-            r,
-            again(&found.own),
-            again(&found.picked),
-            begun,
-            entered,
-        );
-        let starts = self.starting(
-            plan,
-            conditions,
-            r,
-            again(&found.own),
-            again(&found.picked),
-            completed,
-            startable,
-        );
-        let ends = self.ending(
-            plan,
-            conditions,
-            r,
-            again(&found.own),
-            again(&found.want),
-            begun,
-        );
-        let clears = self.clearing(
-            plan,
-            conditions,
-            r,
-            again(&found.own),
-            again(&commits),
-            again(&starts),
-        );
-        let stands = self.commitment(r).is_some();
+        let commits = self.committed(plan, conditions, found, outcome);
+        let starts = self.starting(plan, conditions, found, outcome);
+        let clears = self.clearing(plan, conditions, found, commits.is_some(), starts.is_some());
         RingMoves {
-            ends,
+            ends: self.ending(plan, conditions, found, outcome),
             clears,
-            starts: again(&starts),
-            commits: if stands { None } else { again(&commits) },
+            starts,
+            commits: if self.commitment(found.ring).is_some() {
+                None
+            } else {
+                commits
+            },
         }
     }
 }

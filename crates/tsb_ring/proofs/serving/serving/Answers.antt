@@ -1,4 +1,4 @@
-use Rattle.std.proofs.Common.{◌&&◌, Bool, ◌∙◌, ap, refl}
+use Rattle.std.proofs.Common.{◌∙◌, refl}
 use Rattle.tsb_objects.specs.Checked.{checked_plan}
 use Rattle.tsb_plan.specs.PlanOf.{plan_of}
 use Rattle.tsb_types.specs.Lists.{run_from}

@@ -1,4 +1,4 @@
-use Rattle.std.proofs.Common.{◌∙◌, ap, refl}
+use Rattle.std.proofs.Common.{◌∙◌, ap}
 use Rattle.tsb_types.specs.declared.flow.Moves.{Moves}
 use Rattle.tsb_ring.specs.Rings.{Ring, State}
 use Rattle.tsb_ring.specs.Layer.{state_of}
