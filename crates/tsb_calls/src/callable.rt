@@ -11,6 +11,7 @@ ghost use Rattle.tsb_calls.specs.Layer.{AreMemories};
 
 use crate::observed::Observed;
 use crate::recalls::{with_pedestrians, with_recall};
+use crate::sets::{all, kept, without};
 use tsb_objects::{Called, Checked, Phase, PhaseSet};
 
 /// A phase has a number from 1 to 16.
@@ -92,27 +93,26 @@ fn callable(plan: &Checked, free: PhaseSet, called: PhaseSet) -> PhaseSet
     }
 }
 
-/// The phases that have to yield to a callable phase: the others that are not concurrent with it.
+/// Whether another callable phase waits that is not concurrent with a phase.
 #[inline(always)]
-fn yielding_to(plan: &Checked, q: Phase) -> PhaseSet
-    ensures { (p : ℕ) → 1 ≤ p → p ≤ 16 → has result p ≡ (not (q == p) && not (is_concurrent (checked_plan plan.now) p q)) }
+fn has_conflict(plan: &Checked, callable: PhaseSet, p: Phase) -> bool
+    ensures { result
+        ≡ some_passes (λ q. has callable q && (not (q == p) && not (is_concurrent (checked_plan plan.now) p q))) (run_from 1 16) }
 {
-    PhaseSet::from_list(u16::MAX)
-        .difference(plan.concurrent_to(q))
-        .with(q, false)
+    let others = without(callable, p);
+    has_some(others.difference(plan.concurrent_to(p)))
 }
 
 /// The phases for which another callable phase waits that is not concurrent with them.
-#[inline(always)]
+#[inline(never)]
 fn with_conflict(plan: &Checked, callable: PhaseSet) -> PhaseSet
     ensures { (p : ℕ) → 1 ≤ p → p ≤ 16 → has result p
         ≡ some_passes (λ q. has callable q && (not (q == p) && not (is_concurrent (checked_plan plan.now) p q))) (run_from 1 16) }
 {
-    let mut set = PhaseSet::empty();
-    let mut rest = callable;
-    while let Some(q) = rest.pop() {
-        known(q);
-        set = set.union(yielding_to(plan, q));
+    let mut set = all();
+    for number in 1..17u8 {
+        let p = Phase::of(number);
+        set = kept(set, p, has_conflict(plan, callable, p));
     }
     set
 }

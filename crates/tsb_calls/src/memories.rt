@@ -39,6 +39,9 @@ pub(crate) fn pedestrian_memories(plan: &Checked, observed: &Observed, old: Phas
     ensures { (m : Memories) → (p : ℕ) → 1 ≤ p → p ≤ 16 → has old p ≡ m.pedestrian p →
         has result p ≡ pedestrian_memory (checked_plan plan.now) (given_of observed.now) m p }
 {
+    if observed.buttons.is_empty() {
+        return old;
+    }
     let pressed = buttons(plan, observed.buttons).intersection(with_pedestrians(plan));
     old.union(pressed.difference(observed.pedestrians.walk))
 }
