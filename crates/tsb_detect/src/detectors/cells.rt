@@ -1,11 +1,12 @@
 //! Cells of detectors: lists and timers are read, and written where they change.
 ghost use Rattle.std.specs.Prelude.{◌≡◌, ◌≢◌, ℕ, ◌+◌, ◌*◌, ◌<◌, ◌≤◌, true, slice_index};
+ghost use Rattle.tsb_types.specs.Sets.{has_number};
 ghost use Rattle.tsb_detect.specs.Rows.{row_in, list_of_row, cell_of_row, with_list, with_cell};
 
 use crate::detector_row::DetectorRow;
 use crate::detectors::Detectors;
 use crate::sets::{has, known, with};
-use tsb_objects::Detector;
+use tsb_objects::{Detector, NumberSet};
 use tsb_rows::{list, put};
 
 /// The lists, each in the cell of this number.
@@ -87,6 +88,19 @@ impl Detectors {
             let changed = with(list(&self.bank, k), d, on);
             tsb_rows::put_list(&mut self.bank, k, changed);
         }
+    }
+
+    /// Makes list `k` that of a set.
+    #[inline(always)]
+    pub(super) fn put_set(&mut self, k: usize, set: NumberSet)
+        requires in_range { k < 6 }
+        requires opened { is_open self.old ≡ true }
+        ensures rows { (d : ℕ) → 1 ≤ d → d ≤ 16 → row_in (cells_of self.new) d ≡ with_list k (has_number set d) (row_in (cells_of self.old) d) }
+        ensures lists { KeepsLists (cells_of self.old) (cells_of self.new) }
+        ensures kept { kept_of self.new ≡ kept_of self.old }
+        ensures opened { is_open self.new ≡ true }
+    {
+        tsb_rows::put_list(&mut self.bank, k, set);
     }
 
     /// Puts a value into the cell of kind `k` of a detector, where that is a change.

@@ -5,7 +5,7 @@ ghost use Rattle.tsb_plan.specs.PlanOf.{plan_of};
 ghost use Rattle.tsb_plan.specs.Parts.{call_phase};
 ghost use Rattle.tsb_types.specs.Sets.{has_number};
 ghost use Rattle.tsb_detect.specs.Promises.{green_timer_of};
-ghost use Rattle.tsb_detect.specs.Rows.{row_in, IsRead, IsVisit, IsSettled, is_due, is_tested};
+ghost use Rattle.tsb_detect.specs.Rows.{row_in, IsRead, IsVisit, IsSettled, HasNoAlarm, is_due, is_tested};
 
 use super::cells::{ACTUATIONS, CHANGES, ERRATIC, INACTIVE, INPUTS, OUTPUTS, PRESENT};
 use crate::detectors::Detectors;
@@ -29,10 +29,20 @@ impl Detectors {
             inputs,
             list(&self.bank, OUTPUTS),
         ));
-        let alarmed = list(&self.bank, INACTIVE)
+        changed
+            .union(list(&self.bank, ACTUATIONS))
+            .union(self.alarmed())
+    }
+
+    /// The detectors that have an alarm.
+    #[inline(always)]
+    #[tactic(auto, unfolding(crate::specs::Rows::row_in))]
+    fn alarmed(&self) -> NumberSet
+        ensures { (d : ℕ) → has_number result d ≡ false → HasNoAlarm (row_in (cells_of self.now) d) }
+    {
+        list(&self.bank, INACTIVE)
             .union(list(&self.bank, PRESENT))
-            .union(list(&self.bank, ERRATIC));
-        changed.union(list(&self.bank, ACTUATIONS)).union(alarmed)
+            .union(list(&self.bank, ERRATIC))
     }
 
     /// The cell of a change timer.
@@ -137,11 +147,15 @@ impl Detectors {
         ensures kept { kept_of self.new ≡ kept_of self.old }
         ensures opened { is_open self.new ≡ true }
     {
-        let visited = self
-            .unsettled(inputs)
-            .union(self.due_set(now, inputs, plan));
+        let due = self.due_set(now, inputs, plan);
+        let visited = self.unsettled(inputs).union(due);
         if !visited.is_empty() {
-            self.visit_each(visited, now, inputs, greens, plan.plan());
+            let judged = self.alarmed().union(due);
+            if judged.is_empty() {
+                self.run_sound(now, inputs, greens, plan.plan());
+            } else {
+                self.visit_each(visited, now, inputs, greens, plan.plan());
+            }
         }
     }
 }

@@ -1,0 +1,108 @@
+//! A tick of detectors that judges none and finds no alarm: lists are worked out as sets.
+ghost use Rattle.std.specs.Prelude.{◌≡◌, ◌≢◌, ℕ, ◌+◌, ◌<◌, ◌≤◌, ◌^◌, true, false, None};
+ghost use Rattle.tsb_plan.specs.PlanOf.{plan_of};
+ghost use Rattle.tsb_plan.specs.Parts.{call_phase};
+ghost use Rattle.tsb_types.specs.Sets.{has_number};
+ghost use Rattle.tsb_detect.specs.Detector.{is_minute, new_alarm};
+ghost use Rattle.tsb_detect.specs.Promises.{green_timer_of};
+ghost use Rattle.tsb_detect.specs.Rows.{row_in, row_with, detector_of, IsRead, IsVisit, IsSound, HasNoAlarm};
+
+use super::cells::{ACTUATIONS, CHANGES, EXTENDS, INPUTS, OUTPUTS, RISES};
+use crate::detectors::Detectors;
+use crate::greens::Greens;
+use crate::output::{green_of, sound_row};
+use crate::sets::{differing, has, joined, known, pop};
+use tsb_objects::{Detector, NumberSet, Plan};
+use tsb_rows::list;
+
+impl Detectors {
+    ghost use Rattle.tsb_detect.specs.Layer.{cells_of, kept_of, is_open, KeepsLists};
+
+    /// Works out the cells of a detector without an alarm, and whether it has an output. Its lists are left to the caller.
+    #[inline(always)]
+    fn visit_sound(
+        &mut self,
+        now: u32,
+        inputs: NumberSet,
+        greens: &Greens,
+        plan: &Plan,
+        d: Detector,
+    ) -> bool
+        requires fits { now + 1 < 2 ^ 32 }
+        requires opened { is_open self.old ≡ true }
+        requires read { IsRead now (row_in (cells_of self.old) d) }
+        requires part { is_minute now ≡ false }
+        requires no_alarm { new_alarm (plan_of plan.now) d now (has_number inputs d) (detector_of now (row_in (cells_of self.old) d)) ≡ None }
+        requires none { HasNoAlarm (row_in (cells_of self.old) d) }
+        ensures visit { IsVisit now (plan_of plan.now) d (has_number inputs d) (green_timer_of now greens.now (call_phase (plan_of plan.now) d)) (row_in (cells_of self.old) d)
+            (row_with (has_number inputs d) result (row_in (cells_of self.old) d) (row_in (cells_of self.new) d)) }
+        ensures none { HasNoAlarm (row_in (cells_of self.new) d) }
+        ensures others { (e : ℕ) → 1 ≤ e → e ≤ 16 → e ≢ d → row_in (cells_of self.new) e ≡ row_in (cells_of self.old) e }
+        ensures lists { KeepsLists (cells_of self.old) (cells_of self.new) }
+        ensures kept { kept_of self.new ≡ kept_of self.old }
+        ensures opened { is_open self.new ≡ true }
+    {
+        let was = self.load(d);
+        let green = green_of(now, greens, plan, d);
+        let row = sound_row(now, plan, d, has(inputs, d), green, &was);
+        self.put_cell(RISES, d, was.rises, row.rises);
+        self.put_cell(CHANGES, d, was.change, row.change);
+        self.put_cell(EXTENDS, d, was.extend, row.extend);
+        row.output
+    }
+
+    /// The detectors that have an output after a tick that finds no alarm, whose cells it works out.
+    #[inline(always)]
+    fn visit_moved(
+        &mut self,
+        moved: NumberSet,
+        now: u32,
+        inputs: NumberSet,
+        greens: &Greens,
+        plan: &Plan,
+    ) -> NumberSet
+        requires fits { now + 1 < 2 ^ 32 }
+        requires opened { is_open self.old ≡ true }
+        requires read { (d : ℕ) → 1 ≤ d → d ≤ 16 → IsRead now (row_in (cells_of self.old) d) }
+        requires sound { (d : ℕ) → 1 ≤ d → d ≤ 16 → IsSound now (plan_of plan.now) d (has_number inputs d) (row_in (cells_of self.old) d) }
+        requires input { (d : ℕ) → has_number moved d ≡ false → (row_in (cells_of self.old) d).input ≡ has_number inputs d }
+        requires output { (d : ℕ) → has_number moved d ≡ false → (row_in (cells_of self.old) d).output ≡ has_number inputs d }
+        ensures each { (d : ℕ) → 1 ≤ d → d ≤ 16 →
+            IsVisit now (plan_of plan.now) d (has_number inputs d) (green_timer_of now greens.now (call_phase (plan_of plan.now) d)) (row_in (cells_of self.old) d)
+            (row_with (has_number inputs d) (has_number result d) (row_in (cells_of self.old) d) (row_in (cells_of self.new) d)) }
+        ensures none { (d : ℕ) → 1 ≤ d → d ≤ 16 → HasNoAlarm (row_in (cells_of self.new) d) }
+        ensures lists { KeepsLists (cells_of self.old) (cells_of self.new) }
+        ensures kept { kept_of self.new ≡ kept_of self.old }
+        ensures opened { is_open self.new ≡ true }
+    {
+        let mut on = inputs.difference(moved);
+        let mut rest = moved;
+        while let Some(d) = pop(&mut rest) {
+            known(d);
+            let output = self.visit_sound(now, inputs, greens, plan, d);
+            on = joined(on, d, output);
+        }
+        on
+    }
+
+    /// Works out all detectors, where the tick judges none and none has an alarm.
+    #[inline(never)]
+    pub(super) fn run_sound(&mut self, now: u32, inputs: NumberSet, greens: &Greens, plan: &Plan)
+        requires fits { now + 1 < 2 ^ 32 }
+        requires opened { is_open self.old ≡ true }
+        requires read { (d : ℕ) → 1 ≤ d → d ≤ 16 → IsRead now (row_in (cells_of self.old) d) }
+        requires sound { (d : ℕ) → 1 ≤ d → d ≤ 16 → IsSound now (plan_of plan.now) d (has_number inputs d) (row_in (cells_of self.old) d) }
+        ensures each { (d : ℕ) → 1 ≤ d → d ≤ 16 →
+            IsVisit now (plan_of plan.now) d (has_number inputs d) (green_timer_of now greens.now (call_phase (plan_of plan.now) d)) (row_in (cells_of self.old) d) (row_in (cells_of self.new) d) }
+        ensures lists { KeepsLists (cells_of self.old) (cells_of self.new) }
+        ensures kept { kept_of self.new ≡ kept_of self.old }
+        ensures opened { is_open self.new ≡ true }
+    {
+        let were = list(&self.bank, OUTPUTS);
+        let moved = differing(inputs, list(&self.bank, INPUTS)).union(differing(inputs, were));
+        let on = self.visit_moved(moved, now, inputs, greens, plan);
+        self.put_set(INPUTS, inputs);
+        self.put_set(OUTPUTS, on);
+        self.put_set(ACTUATIONS, on.difference(were));
+    }
+}
