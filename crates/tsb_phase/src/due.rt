@@ -15,6 +15,7 @@ use crate::green::count;
 use crate::pedestrian::{clearance_time, ended_by, is_resting_in_walk, pedestrian_of, walk_time};
 use crate::phase_row::PhaseRow;
 use crate::phases::Phases;
+use crate::rows::RED_REVERTS;
 use crate::times::initial;
 use tsb_objects::{PedestrianInterval, Phase, Plan};
 
@@ -188,7 +189,7 @@ impl Phases {
         let mut due = u32::MAX;
         for number in 1..17u8 {
             let p = Phase::of(number);
-            let cell = self.cell(5, p);
+            let cell = self.cell(RED_REVERTS, p);
             let time = plan.red_revert(p);
             let revert = turn(now, cell, time);
             due = due.min(revert);

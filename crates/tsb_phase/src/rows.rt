@@ -5,7 +5,45 @@ ghost use Rattle.tsb_phase.specs.Rows.{row_in, list_of_row, cell_of_row, with_li
 
 use crate::phase_row::{PhaseRow, known};
 use crate::phases::Phases;
-use tsb_objects::{Phase, PhaseSet};
+use tsb_objects::Phase;
+use tsb_rows::{phases, put, put_phases};
+
+/// The lists, each in the cell of this number.
+pub(crate) const GREENS: usize = 0;
+
+pub(crate) const YELLOWS: usize = 1;
+
+pub(crate) const RED_CLEARS: usize = 2;
+
+pub(crate) const WALKS: usize = 3;
+
+pub(crate) const CLEARANCES: usize = 4;
+
+pub(crate) const GAPPED: usize = 5;
+
+pub(crate) const FORCED: usize = 6;
+
+pub(crate) const MAX_OUTS: usize = 7;
+
+pub(crate) const GAP_OUTS: usize = 8;
+
+/// The kinds of cells, 16 of each after the lists.
+pub(crate) const TIMERS: usize = 0;
+
+pub(crate) const PEDESTRIAN_TIMERS: usize = 1;
+
+pub(crate) const PASSAGES: usize = 2;
+
+pub(crate) const CONFLICTS: usize = 3;
+
+pub(crate) const REDUCTIONS: usize = 4;
+
+pub(crate) const RED_REVERTS: usize = 5;
+
+pub(crate) const RUNNING_MAXIMUMS: usize = 6;
+
+/// The cell of the interval timer of phase 1.
+pub(crate) const FIRST_TIMER: usize = 9;
 
 /// The cell of kind `k` of a phase.
 #[inline(always)]
@@ -20,15 +58,6 @@ fn place(k: usize, p: Phase) -> usize
 
 impl Phases {
     ghost use Rattle.tsb_phase.specs.Layer.{cells_of, kept_of, is_open, KeepsLists};
-
-    /// The phases in list `k`.
-    #[inline(always)]
-    pub(crate) fn list(&self, k: usize) -> PhaseSet
-        requires { k < 9 }
-        ensures { (p : ℕ) → has result p ≡ names (list_in (cells_of self.now) k) p }
-    {
-        PhaseSet::from_list((self.bank.get(k) % 65536) as u16)
-    }
 
     /// The cell of kind `k` of a phase.
     #[inline(always)]
@@ -46,37 +75,23 @@ impl Phases {
         ensures { result ≡ row_in (cells_of self.now) p }
     {
         PhaseRow {
-            green: self.list(0).contains(p),
-            yellow: self.list(1).contains(p),
-            red_clear: self.list(2).contains(p),
-            walk: self.list(3).contains(p),
-            clearance: self.list(4).contains(p),
-            gapped: self.list(5).contains(p),
-            forced: self.list(6).contains(p),
-            max_out: self.list(7).contains(p),
-            gap_out: self.list(8).contains(p),
-            timer: self.cell(0, p),
-            pedestrian_timer: self.cell(1, p),
-            passage: self.cell(2, p),
-            conflict: self.cell(3, p),
-            reduction: self.cell(4, p),
-            red_revert: self.cell(5, p),
-            running_maximum: self.cell(6, p),
+            green: phases(&self.bank, GREENS).contains(p),
+            yellow: phases(&self.bank, YELLOWS).contains(p),
+            red_clear: phases(&self.bank, RED_CLEARS).contains(p),
+            walk: phases(&self.bank, WALKS).contains(p),
+            clearance: phases(&self.bank, CLEARANCES).contains(p),
+            gapped: phases(&self.bank, GAPPED).contains(p),
+            forced: phases(&self.bank, FORCED).contains(p),
+            max_out: phases(&self.bank, MAX_OUTS).contains(p),
+            gap_out: phases(&self.bank, GAP_OUTS).contains(p),
+            timer: self.cell(TIMERS, p),
+            pedestrian_timer: self.cell(PEDESTRIAN_TIMERS, p),
+            passage: self.cell(PASSAGES, p),
+            conflict: self.cell(CONFLICTS, p),
+            reduction: self.cell(REDUCTIONS, p),
+            red_revert: self.cell(RED_REVERTS, p),
+            running_maximum: self.cell(RUNNING_MAXIMUMS, p),
         }
-    }
-
-    /// Makes list `k` that of a set.
-    #[inline(always)]
-    pub(crate) fn put_set(&mut self, k: usize, set: PhaseSet)
-        requires in_range { k < 9 }
-        requires opened { is_open self.old ≡ true }
-        ensures told { (p : ℕ) → names (list_in (cells_of self.new) k) p ≡ has set p }
-        ensures small { slice_index (cells_of self.new) k < 65536 }
-        ensures others { (j : ℕ) → j ≢ k → slice_index (cells_of self.new) j ≡ slice_index (cells_of self.old) j }
-        ensures kept { kept_of self.new ≡ kept_of self.old }
-        ensures opened { is_open self.new ≡ true }
-    {
-        self.put(k, u32::from(set.list()));
     }
 
     /// Puts the phase into list `k`, or takes it out, where that is a change.
@@ -108,8 +123,8 @@ impl Phases {
         ensures opened { is_open self.new ≡ true }
     {
         known(p);
-        let list = self.list(k).with(p, on);
-        self.put_set(k, list);
+        let changed = phases(&self.bank, k).with(p, on);
+        put_phases(&mut self.bank, k, changed);
     }
 
     /// Puts a value into the cell of kind `k` of a phase, where that is a change.
@@ -140,7 +155,7 @@ impl Phases {
         ensures kept { kept_of self.new ≡ kept_of self.old }
         ensures opened { is_open self.new ≡ true }
     {
-        self.put(place(k, p), value);
+        put(&mut self.bank, place(k, p), value);
     }
 
     /// Puts the row of a phase into the cells, where it differs from what it was.
@@ -154,21 +169,31 @@ impl Phases {
         ensures kept { kept_of self.new ≡ kept_of self.old }
         ensures opened { is_open self.new ≡ true }
     {
-        self.put_list(0, p, was.green, row.green);
-        self.put_list(1, p, was.yellow, row.yellow);
-        self.put_list(2, p, was.red_clear, row.red_clear);
-        self.put_list(3, p, was.walk, row.walk);
-        self.put_list(4, p, was.clearance, row.clearance);
-        self.put_list(5, p, was.gapped, row.gapped);
-        self.put_list(6, p, was.forced, row.forced);
-        self.put_list(7, p, was.max_out, row.max_out);
-        self.put_list(8, p, was.gap_out, row.gap_out);
-        self.put_cell(0, p, was.timer, row.timer);
-        self.put_cell(1, p, was.pedestrian_timer, row.pedestrian_timer);
-        self.put_cell(2, p, was.passage, row.passage);
-        self.put_cell(3, p, was.conflict, row.conflict);
-        self.put_cell(4, p, was.reduction, row.reduction);
-        self.put_cell(5, p, was.red_revert, row.red_revert);
-        self.put_cell(6, p, was.running_maximum, row.running_maximum);
+        self.put_list(GREENS, p, was.green, row.green);
+        self.put_list(YELLOWS, p, was.yellow, row.yellow);
+        self.put_list(RED_CLEARS, p, was.red_clear, row.red_clear);
+        self.put_list(WALKS, p, was.walk, row.walk);
+        self.put_list(CLEARANCES, p, was.clearance, row.clearance);
+        self.put_list(GAPPED, p, was.gapped, row.gapped);
+        self.put_list(FORCED, p, was.forced, row.forced);
+        self.put_list(MAX_OUTS, p, was.max_out, row.max_out);
+        self.put_list(GAP_OUTS, p, was.gap_out, row.gap_out);
+        self.put_cell(TIMERS, p, was.timer, row.timer);
+        self.put_cell(
+            PEDESTRIAN_TIMERS,
+            p,
+            was.pedestrian_timer,
+            row.pedestrian_timer,
+        );
+        self.put_cell(PASSAGES, p, was.passage, row.passage);
+        self.put_cell(CONFLICTS, p, was.conflict, row.conflict);
+        self.put_cell(REDUCTIONS, p, was.reduction, row.reduction);
+        self.put_cell(RED_REVERTS, p, was.red_revert, row.red_revert);
+        self.put_cell(
+            RUNNING_MAXIMUMS,
+            p,
+            was.running_maximum,
+            row.running_maximum,
+        );
     }
 }

@@ -11,9 +11,11 @@ ghost use Rattle.tsb_phase.specs.Rows.{row_in, interval_of_row, IsRowBy, IsVisit
 
 use crate::conditions::Conditions;
 use crate::phases::Phases;
+use crate::rows::{GREENS, RED_CLEARS, RED_REVERTS, YELLOWS};
 use crate::visit::{has_passed, visit_green, visit_red_clear, visit_yellow};
 use tsb_cells::Timer;
 use tsb_objects::{Phase, PhaseSet, Plan, Timing};
+use tsb_rows::phases;
 
 impl Phases {
     ghost use Rattle.tsb_phase.specs.Layer.{cells_of, kept_of, is_open, KeepsLists};
@@ -69,7 +71,7 @@ impl Phases {
         let mut reverted = PhaseSet::empty();
         for number in 1..17u8 {
             let p = Phase::of(number);
-            let timer = Timer::at(now, self.cell(5, p));
+            let timer = Timer::at(now, self.cell(RED_REVERTS, p));
             reverted = reverted.joined(p, has_passed(timer, plan.red_revert(p)));
         }
         reverted
@@ -80,7 +82,9 @@ impl Phases {
     pub(crate) fn in_service(&self) -> PhaseSet
         ensures { (p : ℕ) → has result p ≡ in_service (interval_of_row (row_in (cells_of self.now) p)) }
     {
-        self.list(0).union(self.list(1)).union(self.list(2))
+        phases(&self.bank, GREENS)
+            .union(phases(&self.bank, YELLOWS))
+            .union(phases(&self.bank, RED_CLEARS))
     }
 
     /// The times of phases run.
