@@ -1,17 +1,16 @@
 //! What a ring does in a tick by its want and its commitment: which phase it starts, ends and clears, and what it commits to.
-ghost use Rattle.std.specs.Prelude.{◌≡◌, ℕ, ◌≤◌, ◌&&◌, true, Some, None, is_some, if◌then◌else◌};
+ghost use Rattle.std.specs.Prelude.{◌≡◌, ◌&&◌, Some, None, is_some, if◌then◌else◌};
 ghost use Rattle.tsb_plan.specs.Plan.{Plan};
 ghost use Rattle.tsb_objects.specs.Checked.{checked_plan};
 ghost use Rattle.tsb_types.specs.Intervals.{is_green};
 ghost use Rattle.tsb_types.specs.Flow.{interval_of};
 ghost use Rattle.tsb_ring.specs.Cells.{IsBy};
 ghost use Rattle.tsb_ring.specs.Layer.{cells_of, state_of, IsTurn, IsFound, IsOutcome};
-ghost use Rattle.tsb_ring.specs.Promises.{given_of, IsDecided};
-ghost use Rattle.tsb_ring.specs.Rings.{Ring1, Ring2, ring_numbered, own_ring, other, serving};
-ghost use Rattle.tsb_ring.specs.Wants.{want_of, pick, pick_of_ring_1};
-ghost use Rattle.tsb_ring.specs.Crossings.{begins, entry, own_commitment, committed};
-ghost use Rattle.tsb_ring.specs.Next.{is_none_or_over, makes_way, may_start, completes, idle_pick, start_now, starting, leaves, ends, clears};
-ghost use Rattle.tsb_ring.specs.Moves.{if_passes, ring_moves, moves};
+ghost use Rattle.tsb_ring.specs.Promises.{given_of};
+ghost use Rattle.tsb_ring.specs.Rings.{ring_numbered, serving};
+ghost use Rattle.tsb_ring.specs.Crossings.{own_commitment, committed};
+ghost use Rattle.tsb_ring.specs.Next.{is_none_or_over, makes_way, may_start, idle_pick, starting, leaves, ends, clears};
+ghost use Rattle.tsb_ring.specs.Moves.{if_passes, ring_moves};
 
 use crate::conditions::Conditions;
 use crate::found::{Found, Outcome, Turn};
