@@ -1,10 +1,10 @@
 //! The field: what the lamps of the heads show, with an injected lamp laid over the display.
-ghost use Rattle.std.specs.Prelude.{◌≡◌, ◌≢◌, ℕ, false, Some};
+ghost use Rattle.std.specs.Prelude.{◌≡◌, ◌≢◌, ◌≤◌, ℕ, false, Some};
 ghost use Rattle.tsb_types.specs.declared.lamp.Lamp.TheVariants as lamps;
 ghost use Rattle.tsb_types.specs.Sets.{has_number};
 ghost use Rattle.tsb_heads.specs.Displays.{laid_over};
 ghost use Rattle.tsb_heads.specs.Reading.{heads_of, display_of};
-ghost use Rattle.tsb_heads.specs.Promises.{IsSame, Flashes, AreApart, IsLaidOver};
+ghost use Rattle.tsb_heads.specs.Promises.{IsSame, Flashes, AreApart, NamesOverlaps, IsLaidOver};
 
 use crate::display::Display;
 use tsb_objects::{Lamp, NumberSet, Overlap, PedestrianColor, Phase, SignalColor};
@@ -21,6 +21,7 @@ pub struct Field {
 fn put(set: NumberSet, o: Overlap, on: bool) -> NumberSet
     ensures set { has_number result o ≡ on }
     ensures others { (n : ℕ) → n ≢ o → has_number result n ≡ has_number set n }
+    ensures within { o ≤ 4 }
 {
     set.with(o.number(), on)
 }
@@ -33,6 +34,7 @@ impl Display {
         ensures heads { IsSame (heads_of result) (laid_over (Some (lamps.Phase p color)) (heads_of self)) }
         ensures steady { Flashes false result }
         ensures apart { AreApart result }
+        ensures few { NamesOverlaps self → NamesOverlaps result }
     {
         Display {
             red: self.red.with(p, matches!(color, SignalColor::Red)),
@@ -49,6 +51,7 @@ impl Display {
         ensures heads { IsSame (heads_of result) (laid_over (Some (lamps.Pedestrian p color)) (heads_of self)) }
         ensures steady { Flashes false result }
         ensures apart { AreApart result }
+        ensures few { NamesOverlaps self → NamesOverlaps result }
     {
         Display {
             dont_walk: self
@@ -69,6 +72,7 @@ impl Display {
         ensures heads { IsSame (heads_of result) (laid_over (Some (lamps.Overlap o color)) (heads_of self)) }
         ensures steady { Flashes false result }
         ensures apart { AreApart result }
+        ensures few { NamesOverlaps self → NamesOverlaps result }
     {
         Display {
             overlap_red: put(self.overlap_red, o, matches!(color, SignalColor::Red)),
@@ -85,6 +89,7 @@ impl Display {
         ensures heads { IsSame (heads_of result) (laid_over (Some lamp.now) (heads_of self)) }
         ensures steady { Flashes false result }
         ensures apart { AreApart result }
+        ensures few { NamesOverlaps self → NamesOverlaps result }
     {
         match lamp {
             Lamp::Phase(p, color) => self.with_vehicle(*p, *color),
@@ -103,6 +108,7 @@ impl Field {
         ensures heads { IsLaidOver display lamp result }
         ensures steady { Flashes false (display_of result) }
         ensures apart { AreApart (display_of result) }
+        ensures few { NamesOverlaps display → NamesOverlaps (display_of result) }
     {
         let heads = match lamp {
             None => display,

@@ -1,5 +1,5 @@
 //! What the heads of all overlaps show, as sets of overlaps.
-ghost use Rattle.std.specs.Prelude.{◌≡◌, ◌≢◌, ◌≤◌, ℕ, false};
+ghost use Rattle.std.specs.Prelude.{◌≡◌, ◌≢◌, ◌<◌, ◌≤◌, ℕ, false};
 ghost use Rattle.tsb_types.specs.declared.lamp.Aspect.TheVariants.{FlashingRed};
 ghost use Rattle.tsb_types.specs.Sets.{has_number};
 ghost use Rattle.tsb_objects.specs.Checked.{checked_plan};
@@ -63,6 +63,7 @@ pub(crate) fn overlaps_of(plan: &Checked, served: &Served) -> Overlaps
     ensures heads { (s : Shown) → IsServed (checked_plan plan.now) s served.now → (o : ℕ) → 1 ≤ o → o ≤ 4 →
         aspect_of_overlap result o ≡ overlap_head (checked_plan plan.now) s o }
     ensures apart { (n : ℕ) → IsInOne result n }
+    ensures few { (o : ℕ) → 4 < o → HasNone result o }
 {
     let mut heads = no_overlaps();
     for number in 1..5u8 {
