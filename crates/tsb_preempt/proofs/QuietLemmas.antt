@@ -114,7 +114,7 @@ pub still-done : (t : ℕ) (plan : Plan) (row : Row) (intervals : Intervals) (ce
 still-done t plan row intervals cells inputs was answer by told was_is still asked =
     let spent : NumberSet = set_of_list (list_in cells 1) in
     done-kept t plan row intervals cells cells cells cells inputs spent spent was was (asks_at t plan cells inputs spent) None None by
-    (found-still t plan row intervals cells inputs spent was told (λ n. refl) still.spent still.delays was_is still.waits still.stays) answer asked by
+    (found-still t plan row intervals cells inputs spent was told (λ n. refl) still.settled.spent still.settled.delays was_is still.waits still.stays) answer asked by
 
 -- ## Of ticks
 

@@ -34,7 +34,7 @@ const SERVICE_TIMER: usize = 8;
 const STAGE_TIMER: usize = 9;
 
 /// How many lists there are of 4 numbers.
-const LISTS: u32 = 16;
+pub(crate) const LISTS: u32 = 16;
 
 /// A number that is 0 only where both are.
 #[inline(always)]

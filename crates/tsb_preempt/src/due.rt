@@ -11,6 +11,7 @@ ghost use Rattle.tsb_preempt.specs.Preempts.{may_begin};
 ghost use Rattle.tsb_preempt.specs.Rows.{service_of, serving_of, IsServiceBy, IsServingBy, requests_by, delay_cell};
 ghost use Rattle.tsb_preempt.specs.Due.{StaysInStage, StaysInService, IsWaiting};
 
+use crate::cells::LISTS;
 use crate::preempts::Preempts;
 use crate::serving::{Serving, has_dwell, has_input, is_exit_green, is_track_green, may_begin};
 use tsb_objects::{Intervals, NumberSet, Plan, Preempt, Stage};
@@ -30,12 +31,14 @@ fn reached_at(cell: u32, limit: u32) -> u32
     }
 }
 
-/// Whether a delay timer runs where its input is on, and is Off where it is off.
+/// 1 where a delay timer runs, and 0 where it is Off, by its cell.
 #[inline(always)]
-fn follows(on: bool, cell: u32) -> bool
-    ensures { result ≡ true → (t : ℕ) → delay_cell t on cell ≡ cell }
+fn runs(cell: u32) -> u32
+    ensures off { cell ≡ 0 → result ≡ 0 }
+    ensures on { 1 ≤ cell → result ≡ 1 }
+    ensures most { result ≤ 1 }
 {
-    if on { cell != 0 } else { cell == 0 }
+    u32::from(cell != 0)
 }
 
 /// Whether each of a set of numbers is in another.
@@ -150,25 +153,16 @@ pub(crate) fn service_due(
 impl Preempts {
     ghost use Rattle.tsb_preempt.specs.Layer.{cells_of, AreDelayed};
 
-    /// Whether the delay timer of a preempt follows its input.
-    #[inline(always)]
-    fn has_delay(&self, n: u8, inputs: NumberSet) -> bool
-        requires from { 1 ≤ n }
-        requires within { n ≤ 4 }
-        ensures { result ≡ true → (t : ℕ) → delay_cell t (has_number inputs n) (slice_index (cells_of self.now) (1 + n)) ≡ slice_index (cells_of self.now) (1 + n) }
-    {
-        follows(inputs.contains(n), self.delay(n))
-    }
-
     /// Whether the delay timers follow their inputs, so that none begins or goes off.
     #[inline(always)]
     pub(crate) fn has_delays(&self, inputs: NumberSet) -> bool
         ensures { result ≡ true → (t : ℕ) → AreDelayed t inputs (cells_of self.now) (cells_of self.now) }
     {
-        self.has_delay(1, inputs)
-            && self.has_delay(2, inputs)
-            && self.has_delay(3, inputs)
-            && self.has_delay(4, inputs)
+        let one = runs(self.delay(1));
+        let two = runs(self.delay(2));
+        let three = runs(self.delay(3));
+        let four = runs(self.delay(4));
+        one + 2 * two + 4 * three + 8 * four == u32::from(inputs.list()) % LISTS
     }
 
     /// The tick at which a preempt requests service, where its service may then begin.

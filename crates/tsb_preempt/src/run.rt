@@ -176,6 +176,9 @@ impl Preempts {
         ensures opened { is_open self.new ≡ true }
     {
         let inputs = self.inputs(row);
+        if !self.is_settled(inputs) {
+            return self.change(now, row, intervals, plan);
+        }
         let was = self.load();
         if self.is_still(now, plan, intervals, inputs, &was) {
             return orders(plan, &was, false);

@@ -8,8 +8,7 @@ ghost use Rattle.tsb_plan.specs.Parts.{track_green};
 ghost use Rattle.tsb_plan.specs.PlanOf.{plan_of};
 ghost use Rattle.tsb_preempt.specs.Service.{track_timer};
 ghost use Rattle.tsb_preempt.specs.Preempts.{may_begin};
-ghost use Rattle.tsb_preempt.specs.Cells.{IsBy};
-ghost use Rattle.tsb_preempt.specs.Done.{IsStill};
+ghost use Rattle.tsb_preempt.specs.Done.{IsSettled, IsStill};
 ghost use Rattle.tsb_preempt.specs.Due.{StaysInStage, StaysInService};
 ghost use Rattle.tsb_preempt.specs.Rows.{service_of, serving_of, requests_by, IsServiceBy, IsServingBy};
 
@@ -116,7 +115,18 @@ impl Preempts {
         self.begins(now, plan, 4, asking, was)
     }
 
-    /// Whether tick `now` changes nothing. `was` is the service that the cells keep.
+    /// Whether no delay timer begins or goes off, and none ceases to be spent.
+    #[inline(always)]
+    pub(crate) fn is_settled(&self, inputs: NumberSet) -> bool
+        ensures { result ≡ true → (now : ℕ) → IsSettled now inputs (cells_of self.now) }
+    {
+        if !self.has_delays(inputs) {
+            return false;
+        }
+        is_within(list(&self.bank, SPENT), inputs)
+    }
+
+    /// Whether tick `now`, which finds delay timers settled, changes nothing. `was` is the service that the cells keep.
     #[inline(always)]
     pub(crate) fn is_still(
         &self,
@@ -128,13 +138,11 @@ impl Preempts {
     ) -> bool
         requires fits { now + 1 < 2 ^ 32 }
         requires by { IsServingBy now was.now }
+        requires settled { IsSettled now inputs (cells_of self.now) }
         ensures { result ≡ true → IsStill now (plan_of plan.now) intervals.now inputs (cells_of self.now) was.now }
     {
-        let spent = list(&self.bank, SPENT);
-        if !is_within(spent, inputs) || !self.has_delays(inputs) {
-            return false;
-        }
-        if self.one_begins(now, plan, inputs.difference(spent), was) {
+        let asking = inputs.difference(list(&self.bank, SPENT));
+        if self.one_begins(now, plan, asking, was) {
             return false;
         }
         stays_in_service(now, plan, intervals, inputs, was)
