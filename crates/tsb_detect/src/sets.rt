@@ -67,10 +67,13 @@ pub(crate) fn differing(a: NumberSet, b: NumberSet) -> NumberSet
     a.difference(b).union(b.difference(a))
 }
 
+/// The list of all detectors.
+const ALL: u16 = 65_535;
+
 /// All detectors.
 #[inline(always)]
 pub(crate) fn all() -> NumberSet
     ensures { (d : ℕ) → 1 ≤ d → d ≤ 16 → has_number result d ≡ true }
 {
-    NumberSet::from_list(65535)
+    NumberSet::from_list(ALL)
 }

@@ -29,6 +29,12 @@ pub(super) const CHANGES: usize = 1;
 
 pub(super) const EXTENDS: usize = 2;
 
+/// As many detectors have a cell of each kind.
+const DETECTORS: usize = 16;
+
+/// The last list; the cells of detector 1 on come after it.
+const LAST_LIST: usize = 5;
+
 /// The cell of kind `k` of a detector.
 #[inline(always)]
 fn place(k: usize, d: Detector) -> usize
@@ -37,7 +43,7 @@ fn place(k: usize, d: Detector) -> usize
     ensures from { 1 ≤ d }
     ensures within { d ≤ 16 }
 {
-    5 + 16 * k + usize::from(d.number())
+    LAST_LIST + DETECTORS * k + usize::from(d.number())
 }
 
 impl Detectors {

@@ -10,8 +10,8 @@ use crate::diagnostics::{MINUTE, steady_limit, timed};
 use crate::sets::{has, pop};
 use tsb_objects::{Checked, Detector, NumberSet, Plan};
 
-/// How many ticks after `now` a detector is looked at for its time, where that is within a minute: its input has been on or off
-/// for long enough then, or has not been on for the delay.
+/// How many ticks after `now` a detector is looked at for its time, where that is within a minute: its input has been on
+/// or off for long enough then, or has not been on for the delay.
 #[inline(always)]
 fn wait(now: u32, plan: &Plan, d: Detector, input: bool, change: u32) -> u32
     requires fits { now + 600 < 2 ^ 32 }

@@ -18,7 +18,8 @@ use tsb_rows::list;
 impl Detectors {
     ghost use Rattle.tsb_detect.specs.Layer.{cells_of, kept_of, is_open, KeepsLists};
 
-    /// Works out the cells of a detector without an alarm, and whether it has an output. Its lists are left to the caller.
+    /// Works out the cells of a detector without an alarm, and whether it has an output. Its lists are left to
+    /// the caller.
     #[inline(always)]
     fn visit_sound(
         &mut self,
