@@ -1,9 +1,9 @@
 -- Ticks that find the rows of phases as an earlier one did, and leave them so.
-use Rattle.std.proofs.Common.{◌≡◌, ◌≢◌, ℕ, ◌+◌, ◌-◌, ◌*◌, ◌<◌, ◌≤◌, ◌==◌, ◌^◌, min, nat_le, List, slice_index, Bool, true, false, ◌&&◌, ◌||◌, if◌then◌else◌, Option, Some, None, refl, sym, ap, ap₂, subst, ◌∙◌, inl, inr, arith}
+use Rattle.std.proofs.Common.{◌≡◌, ◌≢◌, ℕ, ◌+◌, ◌-◌, ◌*◌, ◌<◌, ◌≤◌, ◌==◌, min, nat_le, List, slice_index, Bool, true, false, ◌&&◌, ◌||◌, if◌then◌else◌, Option, Some, None, refl, sym, ap, ap₂, subst, ◌∙◌, inl, inr, arith}
 use Rattle.std.proofs.lemmas.Bool.{cond-true, cond-false}
 use Rattle.std.proofs.lemmas.Bool.Decides.{nat_tests, eqb_tells}
 use Rattle.tsb_cells.specs.declared.timer.Timer.{Timer}
-use Rattle.tsb_cells.specs.declared.timer.Timer.TheVariants.{Off, On}
+use Rattle.tsb_cells.specs.declared.timer.Timer.TheVariants.{Off}
 use Rattle.tsb_cells.specs.Timer.{timer_at, has_reached, started}
 use Rattle.tsb_cells.proofs.TimerLemmas.{timer_at-on, timer_at-off}
 use Rattle.tsb_types.specs.declared.interval.Interval.{Interval}
@@ -14,7 +14,7 @@ use Rattle.tsb_types.specs.Intervals.{is_green, is_dont_walk, in_service}
 use Rattle.tsb_plan.specs.Plan.{Plan, passage, yellow_change, red_clear, red_revert}
 use Rattle.tsb_phase.specs.declared.phase_row.PhaseRow.{PhaseRow}
 use Rattle.tsb_phase.specs.Phase.{Phase, Given, Held, none_moved, held_of}
-use Rattle.tsb_phase.specs.Green.{passage_timer, reduction_timer, gapped_latch, forced_latch, initial_has_passed, is_gapped, gap}
+use Rattle.tsb_phase.specs.Green.{passage_timer, reduction_timer, gapped_latch, forced_latch, is_gapped, gap}
 use Rattle.tsb_phase.specs.Pedestrian.{ended_by, walk_time, clearance_time, is_resting_in_walk, pedestrian_now, pedestrian_timer_in}
 use Rattle.tsb_phase.specs.Ready.{is_ready, is_over, is_gapped_now, red_revert_passed, has_passed, green_is_done}
 use Rattle.tsb_phase.specs.Next.{next_from_read}

@@ -1,11 +1,12 @@
 //! Rows of phases in the cells: how they are read, and written where they change.
-ghost use Rattle.std.specs.Prelude.{◌≡◌, ◌≢◌, ℕ, ◌+◌, ◌*◌, ◌<◌, ◌≤◌, true, slice_index};
+ghost use Rattle.std.specs.Prelude.{◌≡◌, ◌≢◌, ℕ, ◌+◌, ◌*◌, ◌<◌, ◌≤◌, true, false, slice_index};
 ghost use Rattle.tsb_types.specs.Sets.{has, names, list_in};
+ghost use Rattle.tsb_rows.specs.Rows.{Elsewhere};
 ghost use Rattle.tsb_phase.specs.Rows.{row_in, list_of_row, cell_of_row, with_list, with_cell};
 
 use crate::phase_row::{PhaseRow, known};
 use crate::phases::Phases;
-use tsb_objects::Phase;
+use tsb_objects::{Phase, PhaseSet};
 use tsb_rows::{phases, put, put_phases};
 
 /// The lists, each in the cell of this number.
@@ -125,6 +126,19 @@ impl Phases {
         known(p);
         let changed = phases(&self.bank, k).with(p, on);
         put_phases(&mut self.bank, k, changed);
+    }
+
+    /// Takes all phases out of list `k`.
+    pub(crate) fn empty_list(&mut self, k: usize)
+        requires in_range { k < 9 }
+        requires opened { is_open self.old ≡ true }
+        ensures none { (p : ℕ) → names (list_in (cells_of self.new) k) p ≡ false }
+        ensures small { slice_index (cells_of self.new) k < 65536 }
+        ensures others { Elsewhere k (cells_of self.old) (cells_of self.new) }
+        ensures kept { kept_of self.new ≡ kept_of self.old }
+        ensures opened { is_open self.new ≡ true }
+    {
+        put_phases(&mut self.bank, k, PhaseSet::empty());
     }
 
     /// Puts a value into the cell of kind `k` of a phase, where that is a change.

@@ -1,4 +1,4 @@
-use Rattle.std.proofs.Common.{ℕ, ◌-◌, ◌<◌, subst, arith}
+use Rattle.std.proofs.Common.{◌-◌, subst, arith}
 use Rattle.tsb_plan.specs.Plan.{Plan}
 use Rattle.tsb_plan.specs.PlanOf.{plan_of}
 use Rattle.tsb_phase.specs.Promises.{IsQuiet, KeepsReady, KeepsOver, KeepsRedRevertPassed, KeepsGapped}
