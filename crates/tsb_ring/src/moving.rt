@@ -1,9 +1,10 @@
 //! What a ring does in a tick by its want and its commitment: which phase it starts, ends and clears, and what it commits to.
-ghost use Rattle.std.specs.Prelude.{◌≡◌, ◌&&◌, Some, None, is_some, if◌then◌else◌};
+ghost use Rattle.std.specs.Prelude.{◌≡◌, ◌&&◌, ◌||◌, Some, None, is_some, if◌then◌else◌};
 ghost use Rattle.tsb_plan.specs.Plan.{Plan};
 ghost use Rattle.tsb_objects.specs.Checked.{checked_plan};
 ghost use Rattle.tsb_types.specs.Intervals.{is_green};
 ghost use Rattle.tsb_types.specs.Flow.{interval_of};
+ghost use Rattle.tsb_types.specs.Sets.{has};
 ghost use Rattle.tsb_ring.specs.Cells.{IsBy};
 ghost use Rattle.tsb_ring.specs.Layer.{cells_of, state_of, IsTurn, IsFound, IsOutcome};
 ghost use Rattle.tsb_ring.specs.Promises.{given_of};
@@ -111,6 +112,15 @@ pub(crate) fn is_green(conditions: &Conditions, p: Phase) -> bool
     conditions.intervals.green.contains(p)
 }
 
+/// Whether a phase of a ring goes Yellow: it is Green, and a crossing begins, or it is ready and its ring leaves it.
+#[inline(always)]
+fn does_end(conditions: &Conditions, p: Phase, found: &Found, outcome: &Outcome) -> bool
+    ensures { result ≡ (is_green (interval_of conditions.now.intervals p) && (outcome.now.begun || (has conditions.now.timing.ready p && leaves found.now.want))) }
+{
+    let leaves = conditions.timing.ready.contains(p) && leaves(found.want);
+    is_green(conditions, p) && (outcome.begun || leaves)
+}
+
 impl Rings {
     /// Whether the ring's commitment that was may start, or the ring is idle or over where it has none.
     #[inline(always)]
@@ -180,7 +190,6 @@ impl Rings {
 
     /// The phase that goes Yellow in the ring.
     #[inline(always)]
-    #[tactic(auto, unfolding(crate::specs::Next::ends), using(crate::proofs::OwnLemmas::own_serving))]
     fn ending(
         &self,
         plan: &Checked,
@@ -194,10 +203,7 @@ impl Rings {
     {
         match found.own {
             None => None,
-            Some(p) => {
-                let leaves = conditions.timing.ready.contains(p) && leaves(found.want);
-                filtered(p, is_green(conditions, p) && (outcome.begun || leaves))
-            }
+            Some(p) => filtered(p, does_end(conditions, p, found, outcome)),
         }
     }
 
