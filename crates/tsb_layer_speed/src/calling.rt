@@ -1,5 +1,5 @@
 //! Memories and counts of calls, timed.
-ghost use Rattle.std.specs.Prelude.{◌≡◌, ◌<◌, ◌+◌, ◌^◌, true, false};
+ghost use Rattle.std.specs.Prelude.{◌≡◌, false};
 ghost use Rattle.arrayvec.specs.ArrayVec.{array_vec_len};
 ghost use Rattle.tsb_calls.specs.Cells.{IsBy};
 ghost use Rattle.tsb_calls.specs.Layer.{cells_of, is_open};
@@ -7,9 +7,8 @@ ghost use Rattle.tsb_calls.specs.Layer.{cells_of, is_open};
 use crate::timed::{Changes, Timed};
 use tsb_calls::{Calls, Decided, Observed};
 use tsb_cells::Reversible;
-use tsb_objects::{Checked, Intervals, NumberSet, Pedestrians, PhaseSet, Preempt};
+use tsb_objects::{Called, Checked, Intervals, NumberSet, Pedestrians, PhaseSet, Preempt};
 use tsb_runs::{Fault, Numbers};
-use tsb_types::limits;
 
 /// What a tick gives.
 #[derive(Clone, Copy, Drop)]
@@ -27,13 +26,11 @@ pub struct Given {
     service: u32,
 }
 
-/// The layer, at a tick.
+/// The layer, which needs no clock.
 #[derive(Drop)]
 pub struct Calling {
     layer: Calls,
-    now: u32,
     ghost by: { IsBy (cells_of layer) },
-    ghost counted: { now < 2 ^ 31 },
     ghost closed: { is_open layer ≡ false },
 }
 
@@ -43,7 +40,6 @@ impl Timed for Calling {
     fn power_up() -> Calling {
         Calling {
             layer: at_power_up(),
-            now: 0,
         }
     }
 
@@ -74,12 +70,9 @@ impl Timed for Calling {
         })
     }
 
+    /// A tick that tells nothing counts as a change, so that all that is told is found.
     #[inline(always)]
     fn tick(&mut self, given: &Given, plan: &Checked, out: &mut Changes) {
-        if self.now >= limits::TICKS {
-            return;
-        }
-        let now = self.now + 1;
         self.layer.open();
         let observed = Observed {
             outputs: given.outputs,
@@ -101,8 +94,18 @@ impl Timed for Calling {
         };
         self.layer.settle(&decided);
         self.layer.close_onto(out, 0);
-        self.now = now;
+        if tells_nothing(&called) {
+            out.push((0, 0));
+        }
     }
+}
+
+/// Whether no phase is in any of the sets that are told.
+#[inline(always)]
+fn tells_nothing(called: &Called) -> bool {
+    let phases = called.callable.union(called.conflict);
+    let others = called.pedestrian.union(called.output);
+    phases.union(others).is_empty()
 }
 
 fn at_power_up() -> Calls

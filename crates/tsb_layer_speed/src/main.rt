@@ -5,6 +5,7 @@
 mod calling;
 mod coordinating;
 mod detecting;
+mod heading;
 mod phasing;
 mod preempting;
 mod ringing;
@@ -13,6 +14,7 @@ mod timed;
 use crate::calling::Calling;
 use crate::coordinating::Coordinating;
 use crate::detecting::Detecting;
+use crate::heading::Heading;
 use crate::phasing::Phasing;
 use crate::preempting::Preempting;
 use crate::ringing::Ringing;
@@ -40,7 +42,8 @@ fn main(rt: HostRuntime) -> Result<()> {
     time::<Coordinating>(&rt, "coordination.runs", plan, rounds)?;
     time::<Calling>(&rt, "calls.runs", plan, rounds)?;
     time::<Phasing>(&rt, "phases.runs", plan, rounds)?;
-    time::<Ringing>(&rt, "rings.runs", plan, rounds)
+    time::<Ringing>(&rt, "rings.runs", plan, rounds)?;
+    time::<Heading>(&rt, "heads.runs", plan, rounds)
 }
 
 /// Writes how long so many rounds of a layer's stored ticks take.
