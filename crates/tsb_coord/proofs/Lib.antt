@@ -1,3 +1,4 @@
 pub mod LocalLemmas
 pub mod CellLemmas
 pub mod WaitLemmas
+pub mod Examples

@@ -4,7 +4,3 @@ pub mod Promises
 pub mod Layer
 pub mod Due
 pub mod Laws
-pub mod Examples
-pub mod PatternExamples
-pub mod Mistakes
-pub mod LawMistakes

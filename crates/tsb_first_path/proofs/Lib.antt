@@ -11,3 +11,4 @@ pub mod RingLemmas
 pub mod HeadLemmas
 pub mod StepLemmas
 pub mod RunLemmas
+pub mod Examples

@@ -4,4 +4,3 @@ pub mod Layers
 pub mod Served
 pub mod Timing
 pub mod Laws
-pub mod Mistakes

@@ -18,3 +18,4 @@ pub mod StepLemmas
 pub mod RefusalLemmas
 pub mod RunLemmas
 pub mod PutLemmas
+pub mod Examples

@@ -1,5 +1,3 @@
 pub mod Widened
 pub mod BuiltIn
 pub mod Laws
-pub mod Examples
-pub mod Mistakes

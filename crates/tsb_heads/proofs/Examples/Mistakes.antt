@@ -1,0 +1,182 @@
+-- One-line mistakes, each with an example that tells it from the definition.
+use Rattle.std.specs.Prelude.{◌≡◌, ℕ, nat_lt, Bool, true, false, not, ◌&&◌, ◌||◌, if◌then◌else◌, [], ◌∷◌, reverse, Option, Some, None, is_some, refl}
+use Rattle.std.specs.Option.{option_or}
+use Rattle.tsb_types.specs.declared.interval.Interval.TheVariants as intervals
+use Rattle.tsb_types.specs.declared.lamp.Aspect.{Aspect}
+use Rattle.tsb_types.specs.declared.lamp.Aspect.TheVariants.{Dark, Red, Yellow, Green, FlashingRed}
+use Rattle.tsb_types.specs.declared.lamp.SignalColor.TheVariants as signals
+use Rattle.tsb_types.specs.declared.lamp.PedestrianColor.TheVariants as pedestrians
+use Rattle.tsb_types.specs.declared.lamp.Lamp.TheVariants as lamps
+use Rattle.tsb_types.specs.Intervals.{is_green, is_yellow, is_red_clear}
+use Rattle.tsb_types.specs.Lists.{first, run_from}
+use Rattle.tsb_plan.specs.declared.object.Object.TheVariants.{OverlapType, OverlapModifierPhases}
+use Rattle.tsb_plan.specs.Plan.{Plan, phases, walk, with_values}
+use Rattle.tsb_plan.specs.Parts.{is_included}
+use Rattle.tsb_plan.specs.Quad.{quad}
+use Rattle.tsb_rules.specs.PatternRules.{some_and}
+use Rattle.tsb_heads.specs.declared.monitor.Trip.{Trip}
+use Rattle.tsb_heads.specs.declared.monitor.Trip.TheVariants.{Conflict, GreenToRed}
+use Rattle.tsb_heads.specs.Heads.{Shown, Heads, aspect_of, vehicle_head}
+use Rattle.tsb_heads.specs.Overlaps.{some_of, is_followed, is_kept_green, is_on_yellow, has_green_modifier, has_yellow_modifier, is_on_last_yellow, overlap_head}
+use Rattle.tsb_heads.specs.Displays.{field}
+use Rattle.tsb_heads.specs.Monitoring.{gives_way, lets_walk, has_right_of_way, conflict_of, conflict_by, conflict, is_red, goes_red, green_to_red, judge}
+use Rattle.tsb_heads.proofs.Examples.Examples.{two_in, committed, through, across, to_3_and_6}
+
+-- ## The head of a phase that is not enabled is red
+
+abbrev pub always_lit : Plan → Shown → ℕ → Aspect
+always_lit plan s p = aspect_of (s.interval p)
+
+is_dark : vehicle_head quad through 9 ≡ Dark
+unfolding quad
+is_dark = refl
+
+is_lit : always_lit quad through 9 ≡ Red
+is_lit = refl
+
+-- ## An overlap stays green through the red clearance of a phase that its ring follows, but not through its yellow
+
+abbrev pub keeps_by_clearance : Plan → Shown → ℕ → ℕ → Bool
+keeps_by_clearance plan s o p = is_green (s.interval p) || (is_red_clear (s.interval p) && is_followed plan s o p)
+
+abbrev pub in_yellow : Shown
+in_yellow = committed 1 2 (two_in 1 intervals.Yellow 6 intervals.Green)
+
+keeps : is_kept_green quad in_yellow 1 ≡ true
+unfolding quad run_from is_kept_green
+keeps = refl
+
+keeps_not : some_of quad (is_included quad 1) (keeps_by_clearance quad in_yellow 1) ≡ false
+unfolding quad run_from
+keeps_not = refl
+
+-- ## An overlap stays green where any ring is committed to an included phase
+
+abbrev pub keeps_by_any_ring : Plan → Shown → ℕ → ℕ → Bool
+keeps_by_any_ring plan s o p = is_green (s.interval p) || ((is_yellow (s.interval p) || is_red_clear (s.interval p)) &&
+    (some_and (is_included plan o) (s.commitment 1) || some_and (is_included plan o) (s.commitment 2)))
+
+-- 2 is Yellow with its ring committed to 3, and the overlap includes 2 and 6
+by_its_ring : is_kept_green across to_3_and_6 1 ≡ false
+unfolding across quad run_from is_kept_green
+by_its_ring = refl
+
+by_any_ring : some_of across (is_included across 1) (keeps_by_any_ring across to_3_and_6 1) ≡ true
+unfolding across quad run_from
+by_any_ring = refl
+
+-- ## A minusGreenYellow overlap is yellow while its ring follows with an included phase
+
+abbrev pub yellow_at_each : Plan → Shown → ℕ → Aspect
+yellow_at_each plan s o =
+    if is_kept_green plan s o && not (has_green_modifier plan s o) then Green else
+    (if is_on_yellow plan s o && not (has_yellow_modifier plan s o) then Yellow else Red)
+
+-- overlap 1 of `quad`, which includes 1 and 2, with modifier phase 6
+unfoldable pub minus_plan : Plan
+minus_plan = with_values quad ((OverlapType, 1, 1) ∷ (OverlapModifierPhases, 1, 32) ∷ [])
+
+red_when_followed : overlap_head minus_plan in_yellow 1 ≡ Red
+unfolding minus_plan quad run_from is_kept_green has_green_modifier is_on_last_yellow
+red_when_followed = refl
+
+yellow_when_followed : yellow_at_each minus_plan in_yellow 1 ≡ Yellow
+unfolding minus_plan quad run_from is_kept_green has_green_modifier is_on_yellow has_yellow_modifier
+yellow_when_followed = refl
+
+-- ## Yellow gives no right of way
+
+abbrev pub gives_way_in_green : Aspect → Bool
+gives_way_in_green Green = true
+gives_way_in_green Dark = false
+gives_way_in_green Red = false
+gives_way_in_green Yellow = false
+gives_way_in_green FlashingRed = false
+
+abbrev pub yellow_on_3 : Aspect
+yellow_on_3 = (field quad through (Some (lamps.Phase 3 signals.Yellow))).vehicle 3
+
+gives : gives_way yellow_on_3 ≡ true
+gives = refl
+
+gives_not : gives_way_in_green yellow_on_3 ≡ false
+gives_not = refl
+
+-- ## Yellow to red counts as green to red
+
+abbrev pub goes_red_from_any : Heads → Heads → ℕ → Bool
+goes_red_from_any before after p = gives_way (before.vehicle p) && is_red (after.vehicle p)
+
+abbrev pub before_red : Heads
+before_red = field quad (two_in 2 intervals.Yellow 6 intervals.Yellow) None
+
+abbrev pub after_red : Heads
+after_red = field quad (two_in 2 intervals.RedClear 6 intervals.RedClear) None
+
+from_green : goes_red before_red after_red 2 ≡ false
+unfolding quad
+from_green = refl
+
+from_any : goes_red_from_any before_red after_red 2 ≡ true
+unfolding quad
+from_any = refl
+
+-- ## The monitor never trips
+
+abbrev pub never_trips : Plan → Heads → Heads → Option Trip
+never_trips plan before after = None
+
+abbrev pub before : Heads
+before = field quad through None
+
+-- 3 is green, and 2 is red: conflicts of 3 and 6, and green to red of 2
+abbrev pub with_3_for_2 : Heads
+with_3_for_2 = field quad (two_in 3 intervals.Green 6 intervals.Green) None
+
+trips : judge quad before with_3_for_2 ≡ Some (Conflict 3 6)
+unfolding quad run_from conflict conflict_of
+trips = refl
+
+trips_not : never_trips quad before with_3_for_2 ≡ None
+trips_not = refl
+
+-- ## Green to red is judged before conflicts
+
+abbrev pub judge_red_first : Plan → Heads → Heads → Option Trip
+judge_red_first plan before after = option_or (green_to_red plan before after) (conflict plan after)
+
+red_first : judge_red_first quad before with_3_for_2 ≡ Some (GreenToRed 2)
+unfolding quad run_from green_to_red
+red_first = refl
+
+-- ## The greatest pair first
+
+abbrev pub greatest_conflict : Plan → Heads → Option Trip
+greatest_conflict plan heads =
+    conflict_by plan heads (first (λ p. is_some (conflict_of plan heads p)) (reverse (phases plan)))
+
+-- 2 and 6 are Green, and pedestrians of 3 walk: 2 and 3 are in conflict, and so are 3 and 6
+abbrev pub with_walk_of_3 : Heads
+with_walk_of_3 = field quad through (Some (lamps.Pedestrian 3 pedestrians.Walk))
+
+least_pair : conflict quad with_walk_of_3 ≡ Some (Conflict 2 3)
+unfolding quad run_from conflict conflict_of
+least_pair = refl
+
+greatest_pair : greatest_conflict quad with_walk_of_3 ≡ Some (Conflict 3 6)
+unfolding quad run_from conflict_of
+greatest_pair = refl
+
+-- ## A walk counts only where the phase has one
+
+abbrev pub right_of_way_with_walk : Plan → Heads → ℕ → Bool
+right_of_way_with_walk plan heads p =
+    gives_way (heads.vehicle p) || (nat_lt 0 (walk plan p) && lets_walk (heads.pedestrian p))
+
+walk_counts : has_right_of_way with_walk_of_3 3 ≡ true
+unfolding quad
+walk_counts = refl
+
+walk_counts_not : right_of_way_with_walk quad with_walk_of_3 3 ≡ false
+unfolding quad
+walk_counts_not = refl

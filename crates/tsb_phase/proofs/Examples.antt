@@ -1,0 +1,9 @@
+-- Computed examples of the definitions, and mistakes that they refuse.
+pub mod Examples
+pub mod GreenExamples
+pub mod MaximumExamples
+pub mod PedestrianExamples
+pub mod ClearanceExamples
+pub mod CellsExamples
+pub mod Mistakes
+pub mod LawMistakes

@@ -1,0 +1,182 @@
+-- What a tick gives, by computing: each layer is told what was found in the same tick, and timers as the tick reads them.
+use Rattle.std.specs.Prelude.{◌≡◌, ℕ, true, false, [], ◌∷◌, map, Some, refl}
+use Rattle.tsb_cells.specs.declared.timer.Timer.TheVariants.{Off, On}
+use Rattle.tsb_types.specs.declared.interval.Interval.TheVariants.{Red, Green, Yellow}
+use Rattle.tsb_types.specs.declared.interval.PedestrianInterval.TheVariants.{Walk}
+use Rattle.tsb_types.specs.Sets.{all_off}
+use Rattle.tsb_plan.specs.declared.object.Object.TheVariants.{VehicleDetectorCallPhase, PhaseTimeBeforeReduction, PhaseCarsBeforeReduction, VehicleDetectorFailTime}
+use Rattle.tsb_plan.specs.Plan.{with_values}
+use Rattle.tsb_plan.specs.Quad.{quad}
+use Rattle.tsb_detect.specs.Detector as detector
+use Rattle.tsb_detect.specs.declared.alarm.Alarm.TheVariants.{Erratic}
+use Rattle.tsb_phase.specs.Phase as phase
+use Rattle.tsb_ring.specs.Rings.{Ring1, Ring2}
+use Rattle.tsb_transact.specs.Desk.{closed}
+use Rattle.tsb_transact.specs.declared.desk_state.DeskState.TheVariants.{Transaction}
+use Rattle.tsb_step.specs.State.{State, start, interval, pedestrian_part}
+use Rattle.tsb_step.proofs.Examples.Scenes.{opened, after, vehicle, button, green, clearing, these, all_red, called, intervals, red, resting, short, walking, at_barrier, entering, coordinated}
+
+-- ## From power-up
+
+-- phases 2 and 6, which are recalled, start in the first tick
+starts : intervals (after (start quad) all_off) ≡ Red ∷ Green ∷ Red ∷ Red ∷ Red ∷ Green ∷ Red ∷ Red ∷ []
+unfolding opened
+starts = refl
+
+-- ## Detectors
+
+-- detector 1, which calls phase 2, has failed, and has a fail time of 60 ticks
+abbrev pub failed : State → State
+failed s = record s {
+  plan = with_values quad ((VehicleDetectorCallPhase, 1, 2) ∷ (VehicleDetectorFailTime, 1, 6) ∷ []);
+  detectors = λ d. record detector.at_power_up { output = true; alarm = Some Erratic };
+}
+
+-- the green timer is as the tick reads it: one of 59 ticks is one of 60
+abbrev pub a_tick_earlier : State
+a_tick_earlier = record resting { phases = these (2 ∷ []) (green 58) all_red }
+
+fails_on : ((after (failed a_tick_earlier) all_off).detectors 1).output ≡ true
+unfolding opened
+fails_on = refl
+
+fails_off : ((after (failed resting) all_off).detectors 1).output ≡ false
+unfolding opened
+fails_off = refl
+
+-- a phase that was not Green has no green timer, however long it clears
+abbrev pub in_red : State
+in_red = record red { phases = these (2 ∷ []) (clearing 99) all_red }
+
+fails_on_in_red : ((after (failed in_red) all_off).detectors 1).output ≡ true
+unfolding opened
+fails_on_in_red = refl
+
+-- a whole minute is one of this tick's number
+abbrev pub at_599 : State
+at_599 = record red { now = 599; detectors = λ d. record detector.at_power_up { rises = 5 } }
+
+counts_anew : ((after at_599 all_off).detectors 1).rises ≡ 0
+unfolding opened
+counts_anew = refl
+
+-- ## Calls
+
+-- an output that is on in this tick sets memory, counts, and calls: both greens end for it
+arrives : intervals (after resting (vehicle 3)) ≡ Red ∷ Yellow ∷ Red ∷ Red ∷ Red ∷ Yellow ∷ Red ∷ Red ∷ []
+unfolding opened
+arrives = refl
+
+-- the crossing commits ring 1 to it, and ring 2 to 8, which enters beside it
+commits : map (after resting (vehicle 3)).rings.commitment (Ring1 ∷ Ring2 ∷ []) ≡ Some 3 ∷ Some 8 ∷ []
+unfolding opened
+commits = refl
+
+is_remembered : (after resting (vehicle 3)).memories.vehicle 3 ≡ true
+unfolding opened
+is_remembered = refl
+
+is_counted : (after resting (vehicle 3)).memories.count 3 ≡ 1
+unfolding opened
+is_counted = refl
+
+-- it makes a conflict in the same tick, and as a car that waits it begins the reduction
+abbrev pub reducing : State
+reducing = record short {
+  plan = with_values quad ((PhaseTimeBeforeReduction, 2, 5) ∷ (PhaseCarsBeforeReduction, 2, 1) ∷ []);
+}
+
+has_conflict : ((after reducing (vehicle 3)).phases 2).conflict ≡ On 0
+unfolding opened
+has_conflict = refl
+
+reduces : ((after reducing (vehicle 3)).phases 2).reduction ≡ On 0
+unfolding opened
+reduces = refl
+
+-- a button that is pressed in the tick of the start gives a walk at once, and its memory falls
+walks : pedestrian_part (after entering (button 2)) 2 ≡ Walk
+unfolding opened
+walks = refl
+
+is_served : (after entering (button 2)).memories.pedestrian 2 ≡ false
+unfolding opened
+is_served = refl
+
+-- in a green it is remembered
+waits : (after resting (button 2)).memories.pedestrian 2 ≡ true
+unfolding opened
+waits = refl
+
+-- in a walk it is not
+waits_not : (after walking (button 2)).memories.pedestrian 2 ≡ false
+unfolding opened
+waits_not = refl
+
+-- ## Phase timing
+
+-- a green of 49 ticks is read as one of 50, and may end; one of 48 may not
+abbrev pub green_for : ℕ → State
+green_for n = record red { memories = called (3 ∷ []); phases = these (2 ∷ 6 ∷ []) (green n) all_red }
+
+ends : map (λ n. interval (after (green_for n) all_off) 2) (48 ∷ 49 ∷ []) ≡ Green ∷ Yellow ∷ []
+unfolding opened
+ends = refl
+
+-- it ends gapped out, though its passage timer reaches the gap only in this tick, and so it sets no memory
+abbrev pub gapping : State
+gapping = record (green_for 59) { phases = these (2 ∷ 6 ∷ []) (record (green 59) { passage = On 19 }) all_red }
+
+is_gapped : map (after gapping all_off).memories.vehicle (2 ∷ 3 ∷ []) ≡ false ∷ true ∷ []
+unfolding opened
+is_gapped = refl
+
+-- an output that is on in this tick stops the passage timer
+passes : ((after resting (vehicle 2)).phases 2).passage ≡ Off
+unfolding opened
+passes = refl
+
+-- a timer runs on by one
+runs_on : ((after resting all_off).phases 2).timer ≡ On 60
+unfolding opened
+runs_on = refl
+
+-- red clearances of 9 ticks are over as 10: the crossing is completed, memory falls, and the sides change
+crosses : intervals (after at_barrier all_off) ≡ Red ∷ Red ∷ Green ∷ Red ∷ Red ∷ Red ∷ Red ∷ Green ∷ []
+unfolding opened
+crosses = refl
+
+falls : (after at_barrier all_off).memories.vehicle 3 ≡ false
+unfolding opened
+falls = refl
+
+changes_side : (after at_barrier all_off).rings.side ≡ 2
+unfolding opened
+changes_side = refl
+
+-- a red revert of 20 ticks has passed at 20
+abbrev pub reverting : ℕ → State
+reverting n = record red { phases = these (2 ∷ []) (record phase.at_power_up { red_revert = On n }) all_red }
+
+reverts : map (λ n. interval (after (reverting n) all_off) 2) (18 ∷ 19 ∷ []) ≡ Red ∷ Green ∷ []
+unfolding opened
+reverts = refl
+
+-- ## The rest
+
+-- the tick number is one greater
+counts_on : (after resting all_off).now ≡ 61
+unfolding opened
+counts_on = refl
+
+-- desk and pattern are as they were
+abbrev pub edited : State
+edited = record (coordinated 60) { desk = record closed { owner = Some 1; state = Transaction } }
+
+keeps_desk : (after edited all_off).desk ≡ edited.desk
+unfolding opened
+keeps_desk = refl
+
+keeps_pattern : (after edited all_off).pattern ≡ Some 1
+unfolding opened
+keeps_pattern = refl
