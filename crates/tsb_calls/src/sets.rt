@@ -21,8 +21,8 @@ pub(crate) fn without(set: PhaseSet, p: Phase) -> PhaseSet
     set.with(p, false)
 }
 
-/// The set with the phase where `on`, of a set that has it. The others stay. It only ever takes out, so that a loop over
-/// all phases has no chain from one to the next.
+/// The set with the phase where `on`, of a set that has it. The others stay. It only ever takes out, so that a loop
+/// over all phases has no chain from one to the next.
 #[inline(always)]
 pub(crate) fn kept(set: PhaseSet, p: Phase, on: bool) -> PhaseSet
     requires { has set p ≡ true }
