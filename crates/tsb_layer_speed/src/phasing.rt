@@ -71,6 +71,7 @@ impl Timed for Phasing {
         })
     }
 
+    /// A tick that tells nothing counts as a change, so that all that is told is found.
     #[inline(always)]
     fn tick(&mut self, given: &Given, plan: &Checked, out: &mut Changes) {
         if self.now >= limits::TICKS {
@@ -125,8 +126,19 @@ impl Timed for Phasing {
             plan,
         );
         self.layer.close_onto(out, 0);
+        if tells_nothing(&timing) {
+            out.push((0, 0));
+        }
         self.now = now;
     }
+}
+
+/// Whether no phase is in any of the sets that are told.
+#[inline(always)]
+fn tells_nothing(timing: &Timing) -> bool {
+    let ends = timing.ready.union(timing.over);
+    let others = timing.red_revert_passed.union(timing.gapped);
+    ends.union(others).is_empty()
 }
 
 fn at_power_up() -> Phases
