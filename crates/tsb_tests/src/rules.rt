@@ -1,6 +1,7 @@
 //! Rules of plans, and checked plans.
 
 use tsb_objects::*;
+use tsb_rules::consistent;
 
 /// An object, an index and a value.
 type Value = (Object, u32, u32);
