@@ -103,8 +103,8 @@ fn has_conflict(plan: &Checked, callable: PhaseSet, p: Phase) -> bool
     has_some(others.difference(plan.concurrent_to(p)))
 }
 
-/// The phases for which another callable phase waits that is not concurrent with them. It is not put in line, as its
-/// loop becomes vector instructions only alone.
+/// The phases for which another callable phase waits that is not concurrent with them. It stays out of line: its loop
+/// becomes vector instructions only there.
 #[inline(never)]
 fn with_conflict(plan: &Checked, callable: PhaseSet) -> PhaseSet
     ensures { (p : ℕ) → 1 ≤ p → p ≤ 16 → has result p

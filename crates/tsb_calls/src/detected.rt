@@ -51,7 +51,7 @@ fn has_output(plan: &Checked, p: Phase, on: NumberSet) -> bool
     outputs.first().is_some()
 }
 
-/// The phases of which an output is on. It is not put in line, as its loop becomes vector instructions only alone.
+/// The phases of which an output is on. It stays out of line: its loop becomes vector instructions only there.
 #[inline(never)]
 pub(crate) fn outputs(plan: &Checked, on: NumberSet) -> PhaseSet
     ensures { (p : ℕ) → 1 ≤ p → p ≤ 16 → has result p

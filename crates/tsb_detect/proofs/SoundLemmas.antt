@@ -9,7 +9,7 @@ use Rattle.tsb_plan.specs.Plan.{Plan}
 use Rattle.tsb_plan.specs.Parts.{detector_delay}
 use Rattle.tsb_detect.specs.declared.detector_row.DetectorRow.{DetectorRow}
 use Rattle.tsb_detect.specs.Detector.{is_minute, has_lasted, differs, change_timer, new_alarm}
-use Rattle.tsb_detect.specs.Rows.{row_in, detector_of, alarm_of_row, row_with, IsRowBy, IsRead, IsVisit, HasNoAlarm, IsSound, steady_limit}
+use Rattle.tsb_detect.specs.Rows.{row_in, detector_of, alarm_of_row, row_with, IsRowBy, IsRead, IsVisit, HasNoAlarm, IsUnjudged, steady_limit}
 use Rattle.tsb_detect.proofs.RowLemmas.{same_values}
 use Rattle.tsb_detect.proofs.NextLemmas.{none-of, alarm-none, settled-visit}
 
@@ -28,14 +28,14 @@ alarm-of plan d now false r minute none lasted = rw (minute, none, lasted) refl
 abbrev pub waits : ℕ → Plan → ℕ → Bool → DetectorRow → Bool
 waits now plan d x r = x && nat_lt (now + 1 - r.change) (detector_delay plan d)
 
-parts : (now : ℕ) (plan : Plan) (d : ℕ) (x : Bool) (r : DetectorRow) → IsSound now plan d x r →
+parts : (now : ℕ) (plan : Plan) (d : ℕ) (x : Bool) (r : DetectorRow) → IsUnjudged now plan d x r →
     (is_minute now ≡ false) × (has_lasted (timer_at now r.change) (steady_limit plan d x) ≡ false) × (waits now plan d x r ≡ false)
 parts now plan d x r sound = none-of (is_minute now) (has_lasted (timer_at now r.change) (steady_limit plan d x)) (waits now plan d x r) sound.due
 
-pub part : (now : ℕ) (plan : Plan) (d : ℕ) (x : Bool) (r : DetectorRow) → IsSound now plan d x r → is_minute now ≡ false
+pub part : (now : ℕ) (plan : Plan) (d : ℕ) (x : Bool) (r : DetectorRow) → IsUnjudged now plan d x r → is_minute now ≡ false
 part now plan d x r sound = (parts now plan d x r sound).0
 
-pub no-alarm : (now : ℕ) (plan : Plan) (d : ℕ) (x : Bool) (r : DetectorRow) → IsSound now plan d x r → new_alarm plan d now x (detector_of now r) ≡ None
+pub no-alarm : (now : ℕ) (plan : Plan) (d : ℕ) (x : Bool) (r : DetectorRow) → IsUnjudged now plan d x r → new_alarm plan d now x (detector_of now r) ≡ None
 no-alarm now plan d x r sound =
     alarm-of plan d now x r (part now plan d x r sound) (alarm-none _ _ _ sound.none.inactive sound.none.present sound.none.erratic)
     (lasted-of (differs x r.input) (timer_at now r.change) (steady_limit plan d x) (parts now plan d x r sound).1)
@@ -45,7 +45,7 @@ not-risen true on was p q = rw (p, q) refl
 not-risen false on was p q = rw p refl
 
 -- a detector as its input stays as it is, and was not actuated now
-pub unmoved-visit : (now : ℕ) (plan : Plan) (d : ℕ) (x : Bool) (green : Timer) (on : Bool) (r : DetectorRow) → IsRead now r → IsSound now plan d x r →
+pub unmoved-visit : (now : ℕ) (plan : Plan) (d : ℕ) (x : Bool) (green : Timer) (on : Bool) (r : DetectorRow) → IsRead now r → IsUnjudged now plan d x r →
     r.input ≡ x → r.output ≡ x → on ≡ x → IsVisit now plan d x green r (row_with x on r r)
 unmoved-visit now plan d x green on r read sound input output same =
     let still : DetectorRow = record r { actuated = false } in

@@ -16,7 +16,7 @@ use Rattle.tsb_preempt.specs.Cells.{service_in, preempts_in, IsBy}
 use Rattle.tsb_preempt.specs.Promises.{given_by, IsSame, AreOrders, IsTicked, AreOrdered}
 use Rattle.tsb_preempt.specs.Rows.{serving_of, IsServingBy, requests_by, served, spends}
 use Rattle.tsb_preempt.specs.Layer.{AreDelayed}
-use Rattle.tsb_preempt.specs.Done.{IsDone, IsStill}
+use Rattle.tsb_preempt.specs.Done.{IsDone, ChangesNothing}
 use Rattle.tsb_preempt.specs.Due.{StaysInService, IsWaiting, AreStanding}
 use Rattle.tsb_preempt.proofs.ReadLemmas.{stays-by, read}
 use Rattle.tsb_preempt.proofs.DoneLemmas.{IsFound, IsAsked, state, orders, done-kept}
@@ -110,7 +110,7 @@ found-still t plan row intervals cells inputs spent was inputs_are spent_are wit
 -- a tick that finds nothing to change
 pub still-done : (t : ℕ) (plan : Plan) (row : Row) (intervals : Intervals) (cells : List ℕ) (inputs : NumberSet) (was : Option Serving) (answer : PreemptOrders) → IsBy t cells →
     ((n : ℕ) → has_number inputs n ≡ (has_number row.preempts n || names (list_in cells 0) n)) → serving_of t was ≡ service_in t cells →
-    IsStill t plan intervals inputs cells was → IsAsked t plan was was answer → IsDone t plan (given_by row intervals) cells cells answer
+    ChangesNothing t plan intervals inputs cells was → IsAsked t plan was was answer → IsDone t plan (given_by row intervals) cells cells answer
 still-done t plan row intervals cells inputs was answer by told was_is still asked =
     let spent : NumberSet = set_of_list (list_in cells 1) in
     done-kept t plan row intervals cells cells cells cells inputs spent spent was was (asks_at t plan cells inputs spent) None None by

@@ -8,7 +8,7 @@ ghost use Rattle.tsb_plan.specs.Parts.{track_green};
 ghost use Rattle.tsb_plan.specs.PlanOf.{plan_of};
 ghost use Rattle.tsb_preempt.specs.Service.{track_timer};
 ghost use Rattle.tsb_preempt.specs.Preempts.{may_begin};
-ghost use Rattle.tsb_preempt.specs.Done.{IsSettled, IsStill};
+ghost use Rattle.tsb_preempt.specs.Done.{DelaysRest, ChangesNothing};
 ghost use Rattle.tsb_preempt.specs.Due.{StaysInStage, StaysInService};
 ghost use Rattle.tsb_preempt.specs.Rows.{service_of, serving_of, requests_by, IsServiceBy, IsServingBy};
 
@@ -118,7 +118,7 @@ impl Preempts {
     /// Whether no delay timer begins or goes off, and none ceases to be spent.
     #[inline(always)]
     pub(crate) fn is_settled(&self, inputs: NumberSet) -> bool
-        ensures { result ≡ true → (now : ℕ) → IsSettled now inputs (cells_of self.now) }
+        ensures { result ≡ true → (now : ℕ) → DelaysRest now inputs (cells_of self.now) }
     {
         if !self.has_delays(inputs) {
             return false;
@@ -138,8 +138,8 @@ impl Preempts {
     ) -> bool
         requires fits { now + 1 < 2 ^ 32 }
         requires by { IsServingBy now was.now }
-        requires settled { IsSettled now inputs (cells_of self.now) }
-        ensures { result ≡ true → IsStill now (plan_of plan.now) intervals.now inputs (cells_of self.now) was.now }
+        requires settled { DelaysRest now inputs (cells_of self.now) }
+        ensures { result ≡ true → ChangesNothing now (plan_of plan.now) intervals.now inputs (cells_of self.now) was.now }
     {
         let asking = inputs.difference(list(&self.bank, SPENT));
         if self.one_begins(now, plan, asking, was) {

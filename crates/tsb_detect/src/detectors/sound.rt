@@ -5,7 +5,7 @@ ghost use Rattle.tsb_plan.specs.Parts.{call_phase};
 ghost use Rattle.tsb_types.specs.Sets.{has_number};
 ghost use Rattle.tsb_detect.specs.Detector.{is_minute, new_alarm};
 ghost use Rattle.tsb_detect.specs.Promises.{green_timer_of};
-ghost use Rattle.tsb_detect.specs.Rows.{row_in, row_with, detector_of, IsRead, IsVisit, IsSound, HasNoAlarm};
+ghost use Rattle.tsb_detect.specs.Rows.{row_in, row_with, detector_of, IsRead, IsVisit, IsUnjudged, HasNoAlarm};
 
 use super::cells::{ACTUATIONS, CHANGES, EXTENDS, INPUTS, OUTPUTS, RISES};
 use crate::detectors::Detectors;
@@ -65,7 +65,7 @@ impl Detectors {
         requires fits { now + 1 < 2 ^ 32 }
         requires opened { is_open self.old ≡ true }
         requires read { (d : ℕ) → 1 ≤ d → d ≤ 16 → IsRead now (row_in (cells_of self.old) d) }
-        requires sound { (d : ℕ) → 1 ≤ d → d ≤ 16 → IsSound now (plan_of plan.now) d (has_number inputs d) (row_in (cells_of self.old) d) }
+        requires sound { (d : ℕ) → 1 ≤ d → d ≤ 16 → IsUnjudged now (plan_of plan.now) d (has_number inputs d) (row_in (cells_of self.old) d) }
         requires input { (d : ℕ) → has_number moved d ≡ false → (row_in (cells_of self.old) d).input ≡ has_number inputs d }
         requires output { (d : ℕ) → has_number moved d ≡ false → (row_in (cells_of self.old) d).output ≡ has_number inputs d }
         ensures each { (d : ℕ) → 1 ≤ d → d ≤ 16 →
@@ -92,7 +92,7 @@ impl Detectors {
         requires fits { now + 1 < 2 ^ 32 }
         requires opened { is_open self.old ≡ true }
         requires read { (d : ℕ) → 1 ≤ d → d ≤ 16 → IsRead now (row_in (cells_of self.old) d) }
-        requires sound { (d : ℕ) → 1 ≤ d → d ≤ 16 → IsSound now (plan_of plan.now) d (has_number inputs d) (row_in (cells_of self.old) d) }
+        requires sound { (d : ℕ) → 1 ≤ d → d ≤ 16 → IsUnjudged now (plan_of plan.now) d (has_number inputs d) (row_in (cells_of self.old) d) }
         ensures each { (d : ℕ) → 1 ≤ d → d ≤ 16 →
             IsVisit now (plan_of plan.now) d (has_number inputs d) (green_timer_of now greens.now (call_phase (plan_of plan.now) d)) (row_in (cells_of self.old) d) (row_in (cells_of self.new) d) }
         ensures lists { KeepsLists (cells_of self.old) (cells_of self.new) }
