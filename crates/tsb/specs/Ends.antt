@@ -3,11 +3,11 @@ use Rattle.std.specs.Prelude.{◌≡◌, ◌⊎◌, ℕ, List, [], ◌∷◌, �
 use Rattle.std.specs.Io.KnownBytes.{Appends}
 use Rattle.tsb.specs.declared.asked.Asked.{Asked}
 use Rattle.tsb.specs.declared.asked.Asked.TheVariants as asks
-use Rattle.tsb.specs.declared.asked.WordsFault.{WordsFault}
+use Rattle.tsb.specs.declared.asked.WordsError.{WordsError}
 use Rattle.tsb_rules.specs.declared.rules.Rule.{Rule}
 use Rattle.tsb_objects.specs.Built.{objection}
 use Rattle.tsb_plan.specs.Two.{two}
-use Rattle.tsb_text.specs.declared.fault.SessionFault.{SessionFault}
+use Rattle.tsb_text.specs.declared.error.SessionError.{SessionError}
 use Rattle.tsb_text.specs.Answers.{Given}
 use Rattle.tsb_text.specs.Ended.{Ended}
 use Rattle.tsb.specs.Read.{HasPlan, HasNoPlan, HasLog, HasNoLog}
@@ -29,7 +29,7 @@ Judged status wanted text old new =
 -- a session on this plan and log ended with this status
 abbrev pub Talked : ℕ → Given → Option (List ℕ) → Option (List ℕ) → Option (List ℕ) → Option (List ℕ) → Type 0
 Talked status given input left old new =
-    (result : Result (Unit {0}) SessionFault) × (status ≡ after_session result) × Ended result given input left old new
+    (result : Result (Unit {0}) SessionError) × (status ≡ after_session result) × Ended result given input left old new
 
 -- how `run` ended on the files of a plan and a log: after a session; or, with nothing written on output, with 1 because
 -- one of them gives none, or with 3
@@ -46,7 +46,7 @@ RanBuiltIn status input left old new =
     ⊎ ((status ≡ 1) × (new ≡ old) × (rule : Rule) × (objection two ≡ Some rule))
 
 -- what was done for what the words ask, where files has the known bytes of each path
-abbrev pub Did : Result Asked WordsFault → ℕ → (List ℕ → Option (List ℕ)) → Option (List ℕ) → Option (List ℕ) → Option (List ℕ) → Option (List ℕ) → Type 0
+abbrev pub Did : Result Asked WordsError → ℕ → (List ℕ → Option (List ℕ)) → Option (List ℕ) → Option (List ℕ) → Option (List ℕ) → Option (List ℕ) → Type 0
 Did (Ok (asks.Check plan)) status files input left old new = Checks status (files plan.now) old new
 Did (Ok (asks.Run plan log)) status files input left old new = Ran status (files plan.now) (files log.now) input left old new
 Did (Ok asks.BuiltIn) status files input left old new = RanBuiltIn status input left old new

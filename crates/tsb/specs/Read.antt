@@ -1,14 +1,14 @@
 -- What the program has of the files that it read. The bytes of a file are known or not.
 use Rattle.std.specs.Prelude.{◌≡◌, ℕ, List, take, IfSome, Option, Result, Ok, Err}
 use Rattle.tsb_plan.specs.Plan.{Plan}
-use Rattle.tsb_plan_text.specs.declared.fault.PlanFault.{PlanFault}
-use Rattle.tsb_plan_text.specs.PlanFaults as plans
+use Rattle.tsb_plan_text.specs.declared.error.PlanError.{PlanError}
+use Rattle.tsb_plan_text.specs.PlanErrors as plans
 use Rattle.tsb_text.specs.Runs.{Runnable, runnable, runnable_plan}
-use Rattle.tsb_log_text.specs.declared.fault.LogFault.{LogFault}
+use Rattle.tsb_log_text.specs.declared.error.LogError.{LogError}
 use Rattle.tsb_log_text.specs.declared.log.LogRow.{LogRow}
 use Rattle.tsb_log_text.specs.Logs.{log_of}
-use Rattle.tsb.specs.declared.run.Fault.{Fault}
-use Rattle.tsb.specs.declared.run.Fault.TheVariants.{Refused}
+use Rattle.tsb.specs.declared.run.ReadError.{ReadError}
+use Rattle.tsb.specs.declared.run.ReadError.TheVariants.{Refused}
 
 -- these are the first bytes of a file, where its bytes are known, and all of them where there are no more than so many
 abbrev pub IsFront : Option (List ℕ) → ℕ → List ℕ → Type 0
@@ -20,7 +20,7 @@ HasPlan known plan = (text : List ℕ) × IsFront known 1048577 text × (runnabl
 
 -- the file has a text that gives no plan
 abbrev pub HasNoPlan : Option (List ℕ) → Type 0
-HasNoPlan known = (text : List ℕ) × IsFront known 1048577 text × (fault : plans.Fault) × (runnable text ≡ Err fault)
+HasNoPlan known = (text : List ℕ) × IsFront known 1048577 text × (fault : plans.Error) × (runnable text ≡ Err fault)
 
 -- the file has a text that gives this log
 abbrev pub HasLog : Option (List ℕ) → List LogRow → Type 0
@@ -28,16 +28,16 @@ HasLog known rows = (text : List ℕ) × IsFront known 67108865 text × (log_of 
 
 -- the file has a text that gives no log
 abbrev pub HasNoLog : Option (List ℕ) → Type 0
-HasNoLog known = (text : List ℕ) × IsFront known 67108865 text × (fault : LogFault) × (log_of text ≡ Err fault)
+HasNoLog known = (text : List ℕ) × IsFront known 67108865 text × (fault : LogError) × (log_of text ≡ Err fault)
 
 -- what came of reading a plan's file
-abbrev pub PlanRead : Result Runnable (Fault PlanFault) → Option (List ℕ) → Type 0
+abbrev pub PlanRead : Result Runnable (ReadError PlanError) → Option (List ℕ) → Type 0
 PlanRead (Ok found) known = HasPlan known (runnable_plan found)
 PlanRead (Err (Refused fault)) known = HasNoPlan known
 PlanRead (Err fault) known = Unit {0}
 
 -- what came of reading a log's file
-abbrev pub LogRead : Result (List LogRow) (Fault LogFault) → Option (List ℕ) → Type 0
+abbrev pub LogRead : Result (List LogRow) (ReadError LogError) → Option (List ℕ) → Type 0
 LogRead (Ok rows) known = HasLog known rows
 LogRead (Err (Refused fault)) known = HasNoLog known
 LogRead (Err fault) known = Unit {0}

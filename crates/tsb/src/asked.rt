@@ -18,30 +18,30 @@ pub enum Asked<'a> {
 
 /// Why words ask for nothing.
 #[derive(Clone, Copy, Debug, PartialEq, Eq)]
-pub enum WordsFault {
+pub enum WordsError {
     /// There was no memory to read them.
     Memory,
     /// They are not those of the program. So are those that ask for help.
     Bad,
 }
 
-impl From<AllocError> for WordsFault {
-    fn from(_error: AllocError) -> WordsFault {
-        WordsFault::Memory
+impl From<AllocError> for WordsError {
+    fn from(_error: AllocError) -> WordsError {
+        WordsError::Memory
     }
 }
 
-impl From<Error> for WordsFault {
-    fn from(error: Error) -> WordsFault {
+impl From<Error> for WordsError {
+    fn from(error: Error) -> WordsError {
         match error.kind() {
-            ErrorKind::OutOfMemory => WordsFault::Memory,
-            _ => WordsFault::Bad,
+            ErrorKind::OutOfMemory => WordsError::Memory,
+            _ => WordsError::Bad,
         }
     }
 }
 
 /// What the words ask for, of which the first is the program's name.
-pub fn read_words<'a, S: AsStr>(alloc: Global, words: &'a [S]) -> Result<Asked<'a>, WordsFault> {
+pub fn read_words<'a, S: AsStr>(alloc: Global, words: &'a [S]) -> Result<Asked<'a>, WordsError> {
     let check = Command::new(alloc, "check").arg(file(alloc, "PLAN"))?;
     let run = Command::new(alloc, "run")
         .arg(file(alloc, "PLAN"))?
@@ -53,11 +53,11 @@ pub fn read_words<'a, S: AsStr>(alloc: Global, words: &'a [S]) -> Result<Asked<'
     let Some((name, files)) = matches.subcommand() else {
         return Ok(Asked::BuiltIn);
     };
-    let plan = files.get_str("PLAN").ok_or(WordsFault::Bad)?;
+    let plan = files.get_str("PLAN").ok_or(WordsError::Bad)?;
     if name == "check" {
         return Ok(Asked::Check(plan));
     }
-    let log = files.get_str("LOG").ok_or(WordsFault::Bad)?;
+    let log = files.get_str("LOG").ok_or(WordsError::Bad)?;
     Ok(Asked::Run(plan, log))
 }
 

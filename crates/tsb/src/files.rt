@@ -36,18 +36,18 @@ impl Files for Disk<'_> {
 
 /// Why a file was not read.
 #[derive(Clone, Copy, Debug, PartialEq, Eq)]
-pub enum FileFault {
+pub enum FileError {
     /// There was no memory for it.
     Memory,
     /// It could not be opened or read.
     Read,
 }
 
-impl From<io::Error> for FileFault {
-    fn from(error: io::Error) -> FileFault {
+impl From<io::Error> for FileError {
+    fn from(error: io::Error) -> FileError {
         match error.kind() {
-            ErrorKind::OutOfMemory => FileFault::Memory,
-            _ => FileFault::Read,
+            ErrorKind::OutOfMemory => FileError::Memory,
+            _ => FileError::Read,
         }
     }
 }
@@ -58,7 +58,7 @@ pub fn read_file<F: Files>(
     files: &F,
     path: &str,
     most: usize,
-) -> Result<Vec<u8>, FileFault>
+) -> Result<Vec<u8>, FileError>
     ensures { IfOk result (λ read. IsFront (F.bytes files.now path.now) most read.items) }
 {
     let mut bytes = Vec::new(alloc);

@@ -6,7 +6,7 @@ mod asked;
 mod files;
 mod run;
 
-use crate::asked::WordsFault;
+use crate::asked::WordsError;
 use crate::files::Disk;
 use crate::run::{run_words, tell_words_fault};
 use std::env;
@@ -29,17 +29,17 @@ fn main(rt: HostRuntime) -> ExitCode {
 }
 
 /// The words that the program was given, of which the first is its name. Those that are not UTF-8 are bad words.
-fn words_given(rt: &HostRuntime) -> Result<Vec<String>, WordsFault> {
+fn words_given(rt: &HostRuntime) -> Result<Vec<String>, WordsError> {
     let mut words = Vec::new(rt.alloc());
     match env::args(rt) {
         Ok(args) => {
             for word in args {
-                words.push(word).map_err(|_| WordsFault::Memory)?;
+                words.push(word).map_err(|_| WordsError::Memory)?;
             }
             Ok(words)
         }
-        Err(error) if error.kind() == ErrorKind::OutOfMemory => Err(WordsFault::Memory),
-        Err(_) => Err(WordsFault::Bad),
+        Err(error) if error.kind() == ErrorKind::OutOfMemory => Err(WordsError::Memory),
+        Err(_) => Err(WordsError::Bad),
     }
 }
 

@@ -2,21 +2,21 @@
 
 ghost use Rattle.std.specs.Prelude.{◌≡◌, ◌++◌, ◌∷◌, [], IfSome, Result};
 ghost use Rattle.tsb.specs.declared.asked.Asked.{Asked};
-ghost use Rattle.tsb.specs.declared.asked.WordsFault.{WordsFault};
+ghost use Rattle.tsb.specs.declared.asked.WordsError.{WordsError};
 ghost use Rattle.std.specs.Io.KnownBytes.{Appends};
 ghost use Rattle.tsb_text.specs.Runs.{runnable_plan};
 ghost use Rattle.tsb.specs.Statuses.{number, after_fault, after_words};
 ghost use Rattle.tsb.specs.Read.{PlanRead, LogRead};
 ghost use Rattle.tsb.specs.Ends.{Checks, Judged, Ran, RanBuiltIn, Did, Talked};
 
-use crate::asked::{Asked, WordsFault, read_words};
-use crate::files::{FileFault, Files, read_file};
+use crate::asked::{Asked, WordsError, read_words};
+use crate::files::{FileError, Files, read_file};
 use std::alloc::Global;
 use std::convert::AsStr;
 use std::fmt::Display;
 use std::io::{Read, Write};
 use tsb_text::{
-    LOG_LIMIT, Log, LogFault, PLAN_LIMIT, Plan, PlanFault, Runnable, read_log, read_runnable,
+    LOG_LIMIT, Log, LogError, PLAN_LIMIT, Plan, PlanError, Runnable, read_log, read_runnable,
     session,
 };
 
@@ -33,7 +33,7 @@ enum Status {
     /// The words are not those of the program.
     BadWords,
     /// A read, a write or memory failed.
-    Fault,
+    Failed,
 }
 
 impl Status {
@@ -45,7 +45,7 @@ impl Status {
             Status::Done => 0,
             Status::Refused => 1,
             Status::BadWords => 2,
-            Status::Fault => 3,
+            Status::Failed => 3,
         }
     }
 }
@@ -63,7 +63,7 @@ pub fn run_words<S: AsStr, F: Files, R: Read, W: Write, E: Write>(
     output: &mut W,
     errors: &mut E,
 ) -> u8
-    ensures { (asked : Result Asked WordsFault) × Did asked result (F.bytes files.now)
+    ensures { (asked : Result Asked WordsError) × Did asked result (F.bytes files.now)
         (R.remaining input.old) (R.remaining input.new) (W.contents output.old) (W.contents output.new) }
 {
     match read_words(alloc, words) {
@@ -75,12 +75,12 @@ pub fn run_words<S: AsStr, F: Files, R: Read, W: Write, E: Write>(
 }
 
 /// Tells why words ask for nothing, and gives the status that the program ends with.
-pub fn tell_words_fault<E: Write>(errors: &mut E, fault: WordsFault) -> u8
+pub fn tell_words_fault<E: Write>(errors: &mut E, fault: WordsError) -> u8
     ensures { result ≡ after_words fault }
 {
     match fault {
-        WordsFault::Memory => tell(errors, Status::Fault, "memory"),
-        WordsFault::Bad => tell(errors, Status::BadWords, USAGE),
+        WordsError::Memory => tell(errors, Status::Failed, "memory"),
+        WordsError::Bad => tell(errors, Status::BadWords, USAGE),
     }
 }
 
@@ -95,9 +95,9 @@ fn tell<E: Write, T: Display + Drop>(errors: &mut E, status: Status, text: T) ->
 
 /// Why there is no plan or log.
 #[derive(Drop)]
-enum Fault<T> {
+enum ReadError<T> {
     /// Its file was not read.
-    File(FileFault),
+    File(FileError),
     /// There was no memory for it.
     Memory,
     /// It was refused.
@@ -105,37 +105,41 @@ enum Fault<T> {
 }
 
 /// The plan in the file at this path.
-fn plan_of<F: Files>(alloc: Global, files: &F, path: &str) -> Result<Runnable, Fault<PlanFault>>
+fn plan_of<F: Files>(alloc: Global, files: &F, path: &str) -> Result<Runnable, ReadError<PlanError>>
     ensures { PlanRead result (F.bytes files.now path.now) }
 {
-    let text = read_file(alloc, files, path, PLAN_LIMIT + 1).map_err(Fault::File)?;
+    let text = read_file(alloc, files, path, PLAN_LIMIT + 1).map_err(ReadError::File)?;
     match read_runnable(alloc, &text) {
         Ok(plan) => Ok(plan),
-        Err(PlanFault::Memory) => Err(Fault::Memory),
-        Err(fault) => Err(Fault::Refused(fault)),
+        Err(PlanError::Memory) => Err(ReadError::Memory),
+        Err(fault) => Err(ReadError::Refused(fault)),
     }
 }
 
 /// The log in the file at this path.
-fn log_of<F: Files>(alloc: Global, files: &F, path: &str) -> Result<Log, Fault<LogFault>>
+fn log_of<F: Files>(alloc: Global, files: &F, path: &str) -> Result<Log, ReadError<LogError>>
     ensures { LogRead result (F.bytes files.now path.now) }
 {
-    let text = read_file(alloc, files, path, LOG_LIMIT + 1).map_err(Fault::File)?;
+    let text = read_file(alloc, files, path, LOG_LIMIT + 1).map_err(ReadError::File)?;
     match read_log(alloc, &text) {
         Ok(log) => Ok(log),
-        Err(LogFault::Memory) => Err(Fault::Memory),
-        Err(fault) => Err(Fault::Refused(fault)),
+        Err(LogError::Memory) => Err(ReadError::Memory),
+        Err(fault) => Err(ReadError::Refused(fault)),
     }
 }
 
 /// Tells why there is no plan or log.
-fn refuse<E: Write, T: Display + Drop>(errors: &mut E, fault: Fault<T>) -> u8
+fn refuse<E: Write, T: Display + Drop>(errors: &mut E, fault: ReadError<T>) -> u8
     ensures { result ≡ after_fault fault }
 {
     match fault {
-        Fault::File(FileFault::Read) => tell(errors, Status::Fault, "read fault"),
-        Fault::File(FileFault::Memory) | Fault::Memory => tell(errors, Status::Fault, "memory"),
-        Fault::Refused(fault) => tell(errors, Status::Refused, fault),
+        ReadError::File(FileError::Read) => tell(errors, Status::Failed, "read fault"),
+        ReadError::File(FileError::Memory) | ReadError::Memory => tell(
+            errors,
+            Status::Failed,
+            "memory",
+        ),
+        ReadError::Refused(fault) => tell(errors, Status::Refused, fault),
     }
 }
 
@@ -151,7 +155,7 @@ fn check<F: Files, W: Write, E: Write>(
 {
     match plan_of(alloc, files, path) {
         Ok(_) => judge(output, errors, Status::Done, "plan ok"),
-        Err(Fault::Refused(fault)) => judge(output, errors, Status::Refused, fault),
+        Err(ReadError::Refused(fault)) => judge(output, errors, Status::Refused, fault),
         Err(fault) => refuse(errors, fault),
     }
 }
@@ -166,7 +170,7 @@ fn judge<W: Write, E: Write, T: Display + Drop>(
     ensures { Judged result (number status) (T.output text) (W.contents output.old) (W.contents output.new) }
 {
     if writeln!(output, "{text}").is_err() || output.flush().is_err() {
-        return tell(errors, Status::Fault, "write fault");
+        return tell(errors, Status::Failed, "write fault");
     }
     status.number()
 }
@@ -207,7 +211,7 @@ fn run_built_in<R: Read, W: Write, E: Write>(
 {
     match Runnable::new(Plan::two()) {
         Ok(plan) => talk(alloc, plan, &Log::empty(alloc), input, output, errors),
-        Err(rule) => tell(errors, Status::Refused, PlanFault::Rule(rule)),
+        Err(rule) => tell(errors, Status::Refused, PlanError::Rule(rule)),
     }
 }
 
@@ -225,6 +229,6 @@ fn talk<R: Read, W: Write, E: Write>(
 {
     match session(alloc, plan, log, input, output) {
         Ok(()) => Status::Done.number(),
-        Err(fault) => tell(errors, Status::Fault, fault),
+        Err(fault) => tell(errors, Status::Failed, fault),
     }
 }

@@ -1,7 +1,7 @@
 //! The plans that cases start from.
 
 use crate::change::Change;
-use crate::fault::Fault;
+use crate::error::CaseError;
 use std::alloc::{AllocError, Global};
 use tsb_objects::{Plan, Version};
 
@@ -44,13 +44,13 @@ impl<'a> Bases<'a> {
     }
 
     /// The plan that is written as `VERSION BASE CHANGE CHANGE ..`: the base plan with each change in turn.
-    pub fn read(&self, text: &str) -> Result<Plan, Fault> {
+    pub fn read(&self, text: &str) -> Result<Plan, CaseError> {
         let mut words = text.split_whitespace();
-        let version = words.next().and_then(version).ok_or(Fault::Malformed)?;
-        let name = words.next().ok_or(Fault::Malformed)?;
-        let mut plan = self.find(name).ok_or(Fault::Malformed)?;
+        let version = words.next().and_then(version).ok_or(CaseError::Malformed)?;
+        let name = words.next().ok_or(CaseError::Malformed)?;
+        let mut plan = self.find(name).ok_or(CaseError::Malformed)?;
         for word in words {
-            let change = Change::read(version, word).ok_or(Fault::Malformed)?;
+            let change = Change::read(version, word).ok_or(CaseError::Malformed)?;
             change.make(version, &mut plan)?;
         }
         Ok(plan)

@@ -5,7 +5,7 @@ ghost use Rattle.tsb_cases.specs.Cases.{IsCase, IsFirst, IsGiven, IsNext, headed
 
 use crate::answer::answer;
 use crate::case::{Case, Given};
-use crate::fault::Fault;
+use crate::error::CaseError;
 use crate::piece::take_piece;
 use anyhow::Result;
 use std::alloc::Global;
@@ -31,7 +31,7 @@ pub fn run<W: Write>(alloc: Global, text: &[u8], output: &mut W) -> Result<()> {
 
 /// The first case of a text and what stands behind it, or `None` where there is no further case. Blank lines and lines
 /// that begin with `#` are skipped before a case.
-fn next_case(text: &[u8]) -> Result<Option<(Case, &[u8])>, Fault>
+fn next_case(text: &[u8]) -> Result<Option<(Case, &[u8])>, CaseError>
     ensures { IfOk result (λ found. MatchOption found (headed (lines_of text.now) ≡ [])
         (λ first. IsFirst first.0.given first.0.name.now text.now first.1.now)) }
 {
@@ -39,8 +39,8 @@ fn next_case(text: &[u8]) -> Result<Option<(Case, &[u8])>, Fault>
     loop {
         let (line, behind) = next_line(rest);
         if !is_skipped(line) {
-            let behind = behind.ok_or(Fault::Malformed)?;
-            return Ok(Some(read_case(line, behind).ok_or(Fault::Malformed)?));
+            let behind = behind.ok_or(CaseError::Malformed)?;
+            return Ok(Some(read_case(line, behind).ok_or(CaseError::Malformed)?));
         }
         let Some(behind) = behind else {
             return Ok(None);

@@ -1,7 +1,7 @@
 //! The cases of `check`: a plan, and the first rule that it breaks.
 
 use crate::bases::Bases;
-use crate::fault::Fault;
+use crate::error::CaseError;
 use std::alloc::Global;
 use std::io::{self, Write};
 use tsb_objects::{Plan, Rule, check};
@@ -31,14 +31,14 @@ pub fn run<W: Write>(alloc: Global, text: &str, output: &mut W) -> io::Result<()
     Ok(())
 }
 
-fn read<'a>(bases: &Bases<'a>, line: &'a str) -> Result<Line<'a>, Fault> {
+fn read<'a>(bases: &Bases<'a>, line: &'a str) -> Result<Line<'a>, CaseError> {
     if line.is_empty() || line.starts_with('#') {
         return Ok(Line::Skip);
     }
     let Some(definition) = line.strip_prefix("plan ") else {
         return Ok(Line::Case(bases.read(line)?));
     };
-    let (name, plan) = definition.split_once(' ').ok_or(Fault::Malformed)?;
+    let (name, plan) = definition.split_once(' ').ok_or(CaseError::Malformed)?;
     Ok(Line::Definition(name, bases.read(plan)?))
 }
 

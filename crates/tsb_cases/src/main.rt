@@ -8,8 +8,8 @@ mod case;
 mod cases;
 mod change;
 mod checks;
+mod error;
 mod examples;
-mod fault;
 mod piece;
 mod ticks;
 

@@ -12,8 +12,8 @@ use Rattle.tsb_log_text.specs.Places.{tick_at, no_row}
 use Rattle.tsb_log_text.specs.Laws.{heeded, last_tick, StandsBehind, AreTheRows, AreMalformedThere, AreOutOfOrderThere}
 use Rattle.tsb_log_text.proofs.PlaceLemmas.{row-at}
 use Rattle.tsb_log_text.specs.declared.log.LogRow.{LogRow}
-use Rattle.tsb_log_text.specs.declared.fault.LogFault.{LogFault}
-use Rattle.tsb_log_text.specs.declared.fault.LogFault.TheVariants.{Memory, TooLarge, Malformed, TickOrder}
+use Rattle.tsb_log_text.specs.declared.error.LogError.{LogError}
+use Rattle.tsb_log_text.specs.declared.error.LogError.TheVariants.{Memory, TooLarge, Malformed, TickOrder}
 
 -- the digits
 
@@ -90,7 +90,7 @@ off-before rows tick h all = sym (row-at rows tick 0 h (record { within = omega 
 
 -- what was read, or the first fault
 
-abbrev Explained : ℕ → ℕ → List (List ℕ) → Result (List LogRow) LogFault → Type 0
+abbrev Explained : ℕ → ℕ → List (List ℕ) → Result (List LogRow) LogError → Type 0
 Explained first last lines (Ok rows) = (map row_of (heeded lines) ≡ map Some rows) × Rises last rows
 Explained first last lines (Err Memory) = ⊥
 Explained first last lines (Err TooLarge) = ⊥
@@ -136,7 +136,7 @@ stands-row first last r rows m at line lines e some lt s = record {
 stands-first : (first last : ℕ) (line : List ℕ) (lines : List (List ℕ)) → is_skipped line ≡ false → StandsBehind first last [] first line (line ∷ lines)
 stands-first first last line lines e = record { front = []; back = lines; whole = refl; place = omega arith; read = refl; rises = tt; heeded = e }
 
-explained-skip : (first last : ℕ) (line : List ℕ) (lines : List (List ℕ)) (read : Result (List LogRow) LogFault) → is_skipped line ≡ true
+explained-skip : (first last : ℕ) (line : List ℕ) (lines : List (List ℕ)) (read : Result (List LogRow) LogError) → is_skipped line ≡ true
     → Explained (first + 1) last lines read → Explained first last (line ∷ lines) read
 explained-skip first last line lines (Ok rows) e h = (ap (map row_of) (heed-skipped line lines e) ∙ h.0, h.1)
 explained-skip first last line lines (Err Memory) e h = h
@@ -144,7 +144,7 @@ explained-skip first last line lines (Err TooLarge) e h = h
 explained-skip first last line lines (Err (Malformed m)) e h = (h.0, h.1, stands-skip first last h.0 m h.1 line lines e h.2, h.3)
 explained-skip first last line lines (Err (TickOrder m)) e h = (h.0, h.1, h.2, stands-skip first last h.0 m h.1 line lines e h.3, h.4, h.5)
 
-explained-row : (first last : ℕ) (line : List ℕ) (lines : List (List ℕ)) (r : LogRow) (read : Result (List LogRow) LogFault) → is_skipped line ≡ false
+explained-row : (first last : ℕ) (line : List ℕ) (lines : List (List ℕ)) (r : LogRow) (read : Result (List LogRow) LogError) → is_skipped line ≡ false
     → row_of line ≡ Some r → last < r.tick → Explained (first + 1) r.tick lines read → Explained first last (line ∷ lines) (with_rows (r ∷ []) read)
 explained-row first last line lines r (Ok rows) e some lt h = (read-row line lines r rows e some h.0, (lt, h.1))
 explained-row first last line lines r (Err Memory) e some lt h = h
@@ -152,7 +152,7 @@ explained-row first last line lines r (Err TooLarge) e some lt h = h
 explained-row first last line lines r (Err (Malformed m)) e some lt h = (r ∷ h.0, h.1, stands-row first last r h.0 m h.1 line lines e some lt h.2, h.3)
 explained-row first last line lines r (Err (TickOrder m)) e some lt h = (r ∷ h.0, h.1, h.2, stands-row first last r h.0 m h.1 line lines e some lt h.3, h.4, h.5)
 
-explained-then : (first last : ℕ) (line : List ℕ) (lines : List (List ℕ)) (o : Option LogRow) (rest : ℕ → Result (List LogRow) LogFault) → is_skipped line ≡ false
+explained-then : (first last : ℕ) (line : List ℕ) (lines : List (List ℕ)) (o : Option LogRow) (rest : ℕ → Result (List LogRow) LogError) → is_skipped line ≡ false
     → row_of line ≡ o → ((tick : ℕ) → Explained (first + 1) tick lines (rest tick)) → Explained first last (line ∷ lines) (row_then first last o rest)
 explained-then first last line lines None rest e is h = ([], line, stands-first first last line lines e, is)
 explained-then first last line lines (Some r) rest e is h = elim (leb_tells (suc last) r.tick) [
@@ -160,7 +160,7 @@ explained-then first last line lines (Some r) rest e is h = elim (leb_tells (suc
   | inr ge ↦ rw ge.0 ([], line, r, stands-first first last line lines e, is, (let le : r.tick < suc last = ge.1 in omega (arith, le)))
 ]
 
-explained-line : (first last : ℕ) (line : List ℕ) (lines : List (List ℕ)) (b : Bool) (rest : ℕ → Result (List LogRow) LogFault) → is_skipped line ≡ b
+explained-line : (first last : ℕ) (line : List ℕ) (lines : List (List ℕ)) (b : Bool) (rest : ℕ → Result (List LogRow) LogError) → is_skipped line ≡ b
     → ((tick : ℕ) → Explained (first + 1) tick lines (rest tick)) → Explained first last (line ∷ lines) (if b then rest last else row_then first last (row_of line) rest)
 explained-line first last line lines true rest e h = explained-skip first last line lines (rest last) e (h last)
 explained-line first last line lines false rest e h = explained-then first last line lines (row_of line) rest e refl h
@@ -180,7 +180,7 @@ abbrev tail_of : List (Option LogRow) → List (Option LogRow)
 tail_of [] = []
 tail_of (o ∷ os) = os
 
-back-row : (first last : ℕ) (line : List ℕ) (lines : List (List ℕ)) (rows : List LogRow) (rest : ℕ → Result (List LogRow) LogFault)
+back-row : (first last : ℕ) (line : List ℕ) (lines : List (List ℕ)) (rows : List LogRow) (rest : ℕ → Result (List LogRow) LogError)
     → row_of line ∷ map row_of (heeded lines) ≡ map Some rows → Rises last rows
     → ((tick : ℕ) (more : List LogRow) → map row_of (heeded lines) ≡ map Some more → Rises tick more → rest tick ≡ Ok more) → row_then first last (row_of line) rest ≡ Ok rows
 back-row first last line lines [] rest h rises back = absurd (let e : suc (length (map row_of (heeded lines))) ≡ 0 = ap length h in omega (arith, e))
@@ -188,7 +188,7 @@ back-row first last line lines (r ∷ rows) rest h rises back =
     ap (λ (o : Option LogRow). row_then first last o rest) (ap head_of h)
     ∙ rw (lt-ltb last r.tick rises.0) (ap (with_rows (r ∷ [])) (back r.tick rows (ap tail_of h) rises.1))
 
-back-line : (first last : ℕ) (line : List ℕ) (lines : List (List ℕ)) (rows : List LogRow) (b : Bool) (rest : ℕ → Result (List LogRow) LogFault) → is_skipped line ≡ b
+back-line : (first last : ℕ) (line : List ℕ) (lines : List (List ℕ)) (rows : List LogRow) (b : Bool) (rest : ℕ → Result (List LogRow) LogError) → is_skipped line ≡ b
     → map row_of (heeded (line ∷ lines)) ≡ map Some rows → Rises last rows
     → ((tick : ℕ) (more : List LogRow) → map row_of (heeded lines) ≡ map Some more → Rises tick more → rest tick ≡ Ok more)
     → (if b then rest last else row_then first last (row_of line) rest) ≡ Ok rows
@@ -204,19 +204,19 @@ back first last (line ∷ lines) rows h rises =
 
 -- the whole text
 
-abbrev IsTooLarge : Result (List LogRow) LogFault → Type 0
+abbrev IsTooLarge : Result (List LogRow) LogError → Type 0
 IsTooLarge (Err TooLarge) = Unit {0}
 IsTooLarge (Err e) = ⊥
 IsTooLarge (Ok rows) = ⊥
 
-of-lines : (text : List ℕ) (read : Result (List LogRow) LogFault) → log_of text ≡ read → (IsTooLarge read → ⊥) → (length text ≤ 67108864) × (rows_from 1 0 (lines_of text) ≡ read)
+of-lines : (text : List ℕ) (read : Result (List LogRow) LogError) → log_of text ≡ read → (IsTooLarge read → ⊥) → (length text ≤ 67108864) × (rows_from 1 0 (lines_of text) ≡ read)
 of-lines text read e fits = elim (leb_tells (suc 67108864) (length text)) [
   | inl gt ↦ absurd (fits (subst IsTooLarge (rw gt.0 at e) tt))
   | inr le ↦ ((let lt : length text < suc 67108864 = le.1 in omega (arith, lt)), (rw le.0 at e))
 ]
 
-explained-text : (text : List ℕ) (read : Result (List LogRow) LogFault) → rows_from 1 0 (lines_of text) ≡ read → Explained 1 0 (lines_of text) read
-explained-text text read e = let P : Result (List LogRow) LogFault → Type 0 = λ r. Explained 1 0 (lines_of text) r in subst P e (explained 1 0 (lines_of text))
+explained-text : (text : List ℕ) (read : Result (List LogRow) LogError) → rows_from 1 0 (lines_of text) ≡ read → Explained 1 0 (lines_of text) read
+explained-text text read e = let P : Result (List LogRow) LogError → Type 0 = λ r. Explained 1 0 (lines_of text) r in subst P e (explained 1 0 (lines_of text))
 
 pub the-rows : AreTheRows
 the-rows text rows = (

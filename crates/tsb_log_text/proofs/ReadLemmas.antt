@@ -7,30 +7,30 @@ use Rattle.tsb_log_text.specs.Rows.{row_of}
 use Rattle.tsb_log_text.specs.Logs.{rows_from, row_then, with_rows, log_of, Gives, Rises}
 use Rattle.tsb_log_text.specs.Steps.{Stepped}
 use Rattle.tsb_log_text.specs.declared.log.LogRow.{LogRow}
-use Rattle.tsb_log_text.specs.declared.fault.LogFault.{LogFault}
-use Rattle.tsb_log_text.specs.declared.fault.LogFault.TheVariants.{Memory, TooLarge, Malformed, TickOrder}
+use Rattle.tsb_log_text.specs.declared.error.LogError.{LogError}
+use Rattle.tsb_log_text.specs.declared.error.LogError.TheVariants.{Memory, TooLarge, Malformed, TickOrder}
 
 -- what was read is in order, and no fault of a line is that of the whole text
-abbrev pub Sound : ℕ → Result (List LogRow) LogFault → Type 0
+abbrev pub Sound : ℕ → Result (List LogRow) LogError → Type 0
 Sound last (Ok rows) = Rises last rows
 Sound last (Err TooLarge) = ⊥
 Sound last (Err e) = Unit {0}
 
-sound-with : (last : ℕ) (r : LogRow) (read : Result (List LogRow) LogFault) → last < r.tick → Sound r.tick read → Sound last (with_rows (r ∷ []) read)
+sound-with : (last : ℕ) (r : LogRow) (read : Result (List LogRow) LogError) → last < r.tick → Sound r.tick read → Sound last (with_rows (r ∷ []) read)
 sound-with last r (Ok rows) lt h = (lt, h)
 sound-with last r (Err Memory) lt h = tt
 sound-with last r (Err TooLarge) lt h = h
 sound-with last r (Err (Malformed n)) lt h = tt
 sound-with last r (Err (TickOrder n)) lt h = tt
 
-sound-then : (n last : ℕ) (o : Option LogRow) (rest : ℕ → Result (List LogRow) LogFault) → ((tick : ℕ) → Sound tick (rest tick)) → Sound last (row_then n last o rest)
+sound-then : (n last : ℕ) (o : Option LogRow) (rest : ℕ → Result (List LogRow) LogError) → ((tick : ℕ) → Sound tick (rest tick)) → Sound last (row_then n last o rest)
 sound-then n last None rest h = tt
 sound-then n last (Some r) rest h = elim (leb_tells (suc last) r.tick) [
   | inl lt ↦ rw lt.0 (sound-with last r (rest r.tick) lt.1 (h r.tick))
   | inr off ↦ rw off.0 tt
 ]
 
-sound-choice : (last : ℕ) (b : Bool) (x y : Result (List LogRow) LogFault) → Sound last x → Sound last y → Sound last (if b then x else y)
+sound-choice : (last : ℕ) (b : Bool) (x y : Result (List LogRow) LogError) → Sound last x → Sound last y → Sound last (if b then x else y)
 sound-choice last true x y h k = h
 sound-choice last false x y h k = k
 
@@ -43,11 +43,11 @@ sound n last (line ∷ lines) =
 
 -- the ticks of what was read rise
 pub rises : (lines : List (List ℕ)) (rows : List LogRow) → rows_from 1 0 lines ≡ Ok rows → Rises 0 rows
-rises lines rows e = let P : Result (List LogRow) LogFault → Type 0 = λ r. Sound 0 r in subst P e (sound 1 0 lines)
+rises lines rows e = let P : Result (List LogRow) LogError → Type 0 = λ r. Sound 0 r in subst P e (sound 1 0 lines)
 
 -- no line makes the text too large
 pub never-large : (n last : ℕ) (lines : List (List ℕ)) → rows_from n last lines ≡ Err TooLarge → ⊥
-never-large n last lines e = let P : Result (List LogRow) LogFault → Type 0 = λ r. Sound last r in subst P e (sound n last lines)
+never-large n last lines e = let P : Result (List LogRow) LogError → Type 0 = λ r. Sound last r in subst P e (sound n last lines)
 
 -- a line that is skipped
 pub skipped : (rows : List LogRow) (n last : ℕ) (line : List ℕ) (lines : List (List ℕ)) → is_skipped line ≡ true
@@ -69,7 +69,7 @@ pub out-of-order : (n last : ℕ) (line : List ℕ) (lines : List (List ℕ)) (r
 out-of-order n last line lines r e some le =
     row-first n last line lines e ∙ ap (λ (o : Option LogRow). row_then n last o (λ tick. rows_from (n + 1) tick lines)) some ∙ rw (le-ltb last r.tick le) refl
 
-with-one : (rows : List LogRow) (r : LogRow) (read : Result (List LogRow) LogFault) → with_rows rows (with_rows (r ∷ []) read) ≡ with_rows (rows ++ r ∷ []) read
+with-one : (rows : List LogRow) (r : LogRow) (read : Result (List LogRow) LogError) → with_rows rows (with_rows (r ∷ []) read) ≡ with_rows (rows ++ r ∷ []) read
 with-one rows r (Ok more) = ap (λ (v : List LogRow). Ok v) (sym (append_assoc rows (r ∷ []) more))
 with-one rows r (Err e) = refl
 
@@ -95,11 +95,11 @@ within-limit : (text : List ℕ) → length text ≤ 67108864 → log_of text �
 within-limit text le = rw (le-ltb 67108864 (length text) le) refl
 
 -- what a fault of a line says of the whole text
-fault-says : (text : List ℕ) (rows : List LogRow) (n last : ℕ) (lines : List (List ℕ)) (e : LogFault) → length text ≤ 67108864
+fault-says : (text : List ℕ) (rows : List LogRow) (n last : ℕ) (lines : List (List ℕ)) (e : LogError) → length text ≤ 67108864
     → with_rows rows (rows_from n last lines) ≡ rows_from 1 0 (lines_of text) → rows_from n last lines ≡ Err e → log_of text ≡ Err e
 fault-says text rows n last lines e le read h = within-limit text le ∙ sym read ∙ ap (with_rows rows) h
 
-pub faulty : (text rest line : List ℕ) (others : List (List ℕ)) (rows new : List LogRow) (n last : ℕ) (e : LogFault) → length text ≤ 67108864
+pub faulty : (text rest line : List ℕ) (others : List (List ℕ)) (rows new : List LogRow) (n last : ℕ) (e : LogError) → length text ≤ 67108864
     → with_rows rows (rows_from n last (lines_of rest)) ≡ rows_from 1 0 (lines_of text) → lines_of rest ≡ line ∷ others → Stepped (Err e) rows last n line new
     → Gives (Err e) (log_of text)
 faulty text rest line others rows new n last Memory le read first s = λ large. never-large 1 0 (lines_of text) (sym (within-limit text le) ∙ large)

@@ -7,7 +7,7 @@ use Rattle.tsb_log_text.specs.Rows.{list_in_digits, row_of}
 use Rattle.tsb_log_text.specs.Logs.{log_of, row_at, Rises}
 use Rattle.tsb_log_text.specs.Places.{tick_at, no_row}
 use Rattle.tsb_log_text.specs.declared.log.LogRow.{LogRow}
-use Rattle.tsb_log_text.specs.declared.fault.LogFault.TheVariants.{Malformed, TickOrder}
+use Rattle.tsb_log_text.specs.declared.error.LogError.TheVariants.{Malformed, TickOrder}
 
 -- those of these lines that are not skipped
 abbrev pub heeded : List (List ℕ) → List (List ℕ)

@@ -5,32 +5,32 @@ use Rattle.tsb_types.specs.Sets.{all_off}
 use Rattle.tsb_types.specs.declared.row.Row.{Row}
 use Rattle.tsb_log_text.specs.Rows.{row_of}
 use Rattle.tsb_log_text.specs.declared.log.LogRow.{LogRow}
-use Rattle.tsb_log_text.specs.declared.fault.LogFault.{LogFault}
-use Rattle.tsb_log_text.specs.declared.fault.LogFault.TheVariants.{Memory, TooLarge, Malformed, TickOrder}
+use Rattle.tsb_log_text.specs.declared.error.LogError.{LogError}
+use Rattle.tsb_log_text.specs.declared.error.LogError.TheVariants.{Memory, TooLarge, Malformed, TickOrder}
 
 -- these rows, and then those of the rest
-abbrev pub with_rows : List LogRow → Result (List LogRow) LogFault → Result (List LogRow) LogFault
+abbrev pub with_rows : List LogRow → Result (List LogRow) LogError → Result (List LogRow) LogError
 with_rows rows (Ok more) = Ok (rows ++ more)
 with_rows rows (Err e) = Err e
 
 -- line n is this row, or none, and stands behind a row of tick last: its tick has to be a later one
-abbrev pub row_then : ℕ → ℕ → Option LogRow → (ℕ → Result (List LogRow) LogFault) → Result (List LogRow) LogFault
+abbrev pub row_then : ℕ → ℕ → Option LogRow → (ℕ → Result (List LogRow) LogError) → Result (List LogRow) LogError
 row_then n last None rest = Err (Malformed n)
 row_then n last (Some r) rest = if nat_lt last r.tick then with_rows (r ∷ []) (rest r.tick) else Err (TickOrder n)
 
 -- the rows of these lines, the first of which is line n and stands behind a row of tick last, or the first fault
-unfoldable pub rows_from : ℕ → ℕ → List (List ℕ) → Result (List LogRow) LogFault
+unfoldable pub rows_from : ℕ → ℕ → List (List ℕ) → Result (List LogRow) LogError
 rows_from n last [] = Ok []
 rows_from n last (line ∷ lines) =
     if is_skipped line then rows_from (n + 1) last lines
     else row_then n last (row_of line) (λ tick. rows_from (n + 1) tick lines)
 
 -- the rows of a text: at most 64 MiB of it, and lines count from 1
-abbrev pub log_of : List ℕ → Result (List LogRow) LogFault
+abbrev pub log_of : List ℕ → Result (List LogRow) LogError
 log_of text = if nat_lt 67108864 (length text) then Err TooLarge else rows_from 1 0 (lines_of text)
 
 -- what a reader returned is what reading gives. Memory may run out in place of all but too large a text.
-abbrev pub Gives : Result (List LogRow) LogFault → Result (List LogRow) LogFault → Type 0
+abbrev pub Gives : Result (List LogRow) LogError → Result (List LogRow) LogError → Type 0
 Gives (Err Memory) read = read ≡ Err TooLarge → ⊥
 Gives (Err e) read = read ≡ Err e
 Gives (Ok rows) read = read ≡ Ok rows

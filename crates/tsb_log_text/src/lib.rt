@@ -6,7 +6,7 @@
 //! `#` are skipped. All of it is "profile": this project's own choice.
 #![tactic(auto)]
 
-pub mod fault;
+pub mod error;
 pub mod laws;
 pub mod log;
 mod read;
@@ -15,6 +15,6 @@ mod search;
 #[cfg(test)]
 mod tests;
 
-pub use fault::LogFault;
+pub use error::LogError;
 pub use log::{Log, LogRow};
 pub use read::{LIMIT, read_log};

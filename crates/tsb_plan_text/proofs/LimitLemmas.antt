@@ -11,28 +11,28 @@ use Rattle.serde_json.specs.Find.{as_object}
 use Rattle.tsb_plan.specs.Names.{object_named}
 use Rattle.tsb_plan.specs.Versions.{greatest_in, indices_in, translated}
 use Rattle.tsb_plan.specs.Plan.{Plan, empty, with_value}
-use Rattle.tsb_plan_text.specs.declared.fault.PlanFault.{PlanFault}
-use Rattle.tsb_plan_text.specs.declared.fault.PlanFault.TheVariants.{TooLarge}
-use Rattle.tsb_plan_text.specs.PlanFaults.{Gives, Fault, too_large, not_json, not_a_table, no_version, no_such_object, object_not_a_table, no_such_index, not_a_whole_number, out_of_range, broken}
+use Rattle.tsb_plan_text.specs.declared.error.PlanError.{PlanError}
+use Rattle.tsb_plan_text.specs.declared.error.PlanError.TheVariants.{TooLarge}
+use Rattle.tsb_plan_text.specs.PlanErrors.{Gives, Error, too_large, not_json, not_a_table, no_version, no_such_object, object_not_a_table, no_such_index, not_a_whole_number, out_of_range, broken}
 use Rattle.tsb_plan_text.specs.PlanText.{limit, or_fault, then_on, data_of, index_named, whole_number, version_in, with_entry, with_table, with_member, with_members, data_plan, unless_broken, checked, reading}
 
 -- it is not the fault of a text that is too large
-abbrev is_later : Fault → Bool
+abbrev is_later : Error → Bool
 is_later too_large = false
 is_later f = true
 
-Later : Result Plan Fault → Type 0
+Later : Result Plan Error → Type 0
 Later r = r ≡ Err too_large → ⊥
 
-later_err : (f : Fault) → is_later f ≡ true → Later (Err f)
+later_err : (f : Error) → is_later f ≡ true → Later (Err f)
 unfolding Later
 later_err f l e = grind (arith, l, e)
 
-later_or : {A : Type 0} (o : Option A) (f : Fault) (next : A → Result Plan Fault) → is_later f ≡ true → ((x : A) → Later (next x)) → Later (or_fault o f next)
+later_or : {A : Type 0} (o : Option A) (f : Error) (next : A → Result Plan Error) → is_later f ≡ true → ((x : A) → Later (next x)) → Later (or_fault o f next)
 later_or None f next l h = later_err f l
 later_or (Some x) f next l h = h x
 
-later_then : (r : Result Plan Fault) (next : Plan → Result Plan Fault) → Later r → ((p : Plan) → Later (next p)) → Later (then_on r next)
+later_then : (r : Result Plan Error) (next : Plan → Result Plan Error) → Later r → ((p : Plan) → Later (next p)) → Later (then_on r next)
 unfolding Later
 later_then (Ok p) next l h = h p
 later_then (Err f) next l h = λ e. l (grind (arith, e))
@@ -41,7 +41,7 @@ later_ok : (p : Plan) → Later (Ok p)
 unfolding Later
 later_ok p e = absurd (grind (arith, e))
 
-within : (p : Plan) (f : Fault) → is_later f ≡ true → (b : Bool) → Later (if b then Ok p else Err f)
+within : (p : Plan) (f : Error) → is_later f ≡ true → (b : Bool) → Later (if b then Ok p else Err f)
 within p f l true = later_ok p
 within p f l false = later_err f l
 
@@ -56,7 +56,7 @@ table_later : (v : Version) (o : Object) (ms : Members) (p : Plan) → Later (wi
 table_later v o no_members p = later_ok p
 table_later v o (member text d rest) p = later_then _ _ (entry_later v o text d p) (λ q. table_later v o rest q)
 
-skipped : (p : Plan) (r : Result Plan Fault) → Later r → (b : Bool) → Later (if b then Ok p else r)
+skipped : (p : Plan) (r : Result Plan Error) → Later r → (b : Bool) → Later (if b then Ok p else r)
 skipped p r l true = later_ok p
 skipped p r l false = l
 
@@ -83,7 +83,7 @@ checked_later : (p : Plan) → Later (checked p)
 unfolding checked
 checked_later p = unbroken p (first_broken p)
 
-long : (b : Bool) (r : Result Plan Fault) → Later r → (if b then Err too_large else r) ≡ Err too_large → b ≡ true
+long : (b : Bool) (r : Result Plan Error) → Later r → (if b then Err too_large else r) ≡ Err too_large → b ≡ true
 unfolding Later
 long true r l e = refl
 long false r l e = absurd (l e)
@@ -96,5 +96,5 @@ too_large_is_long text e =
     ltb-true _ _ (long (nat_lt limit (length text)) _ later e)
 
 -- and so is what was answered to it
-pub answered_too_large : (r : Result Checked PlanFault) (text : List ℕ) → Gives checked_plan r (reading text) → r ≡ Err TooLarge → limit < length text
-answered_too_large r text h e = too_large_is_long text (subst (λ (s : Result Checked PlanFault). Gives checked_plan s (reading text)) e h)
+pub answered_too_large : (r : Result Checked PlanError) (text : List ℕ) → Gives checked_plan r (reading text) → r ≡ Err TooLarge → limit < length text
+answered_too_large r text h e = too_large_is_long text (subst (λ (s : Result Checked PlanError). Gives checked_plan s (reading text)) e h)

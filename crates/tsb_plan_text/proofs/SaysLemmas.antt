@@ -28,22 +28,22 @@ use Rattle.tsb_rules.specs.Rules.{first_broken}
 use Rattle.tsb_objects.specs.Checked.{checked_plan}
 use Rattle.tsb_objects.specs.declared.checked.Checked.{Checked}
 use Rattle.tsb_rules.specs.declared.rules.Rule.{Rule}
-use Rattle.tsb_plan_text.specs.declared.fault.PlanFault.{PlanFault}
-use Rattle.tsb_plan_text.specs.PlanFaults.{Gives, Fault, not_json, not_a_table, no_version, too_large, no_such_object, object_not_a_table, no_such_index, not_a_whole_number, out_of_range}
+use Rattle.tsb_plan_text.specs.declared.error.PlanError.{PlanError}
+use Rattle.tsb_plan_text.specs.PlanErrors.{Gives, Error, not_json, not_a_table, no_version, too_large, no_such_object, object_not_a_table, no_such_index, not_a_whole_number, out_of_range}
 use Rattle.tsb_plan_text.specs.PlanText.{limit, data_of, version_in, data_plan, unless_broken, checked, reading, or_fault, then_on, index_named, whole_number, with_entry, with_table, with_member, with_members}
 use Rattle.tsb_plan_text.specs.PlanTextSays.{number_at, number_for, SaysThese, Says}
 
 -- ---- what was accepted
 
-or_ok : {A : Type 0} (o : Option A) (f : Fault) (next : A → Result Plan Fault) (q : Plan) → or_fault o f next ≡ Ok q → (x : A) × (o ≡ Some x) × (next x ≡ Ok q)
+or_ok : {A : Type 0} (o : Option A) (f : Error) (next : A → Result Plan Error) (q : Plan) → or_fault o f next ≡ Ok q → (x : A) × (o ≡ Some x) × (next x ≡ Ok q)
 or_ok None f next q e = absurd (grind (arith, e))
 or_ok (Some x) f next q e = (x, refl, e)
 
-then_ok : (r : Result Plan Fault) (next : Plan → Result Plan Fault) (q : Plan) → then_on r next ≡ Ok q → (p : Plan) × (r ≡ Ok p) × (next p ≡ Ok q)
+then_ok : (r : Result Plan Error) (next : Plan → Result Plan Error) (q : Plan) → then_on r next ≡ Ok q → (p : Plan) × (r ≡ Ok p) × (next p ≡ Ok q)
 then_ok (Err f) next q e = absurd (grind (arith, e))
 then_ok (Ok p) next q e = (p, refl, e)
 
-if_ok : (b : Bool) (p q : Plan) (f : Fault) → (if b then Ok p else Err f) ≡ Ok q → p ≡ q
+if_ok : (b : Bool) (p q : Plan) (f : Error) → (if b then Ok p else Err f) ≡ Ok q → p ≡ q
 if_ok true p q f e = grind (arith, e)
 if_ok false p q f e = absurd (grind (arith, e))
 
@@ -183,7 +183,7 @@ read_of v name d p q other e =
     let is = (named_exact v name o.0).0 o.1 in
     record { object = o.0; table = t.0; named = is.name; has = is.has; is_table = t.1; made = t.2 }
   where
-    kept : (b : Bool) (r : Result Plan Fault) → b ≡ false → (if b then Ok p else r) ≡ Ok q → r ≡ Ok q
+    kept : (b : Bool) (r : Result Plan Error) → b ≡ false → (if b then Ok p else r) ≡ Ok q → r ≡ Ok q
     kept true r h e = absurd (grind (arith, h))
     kept false r h e = e
 
@@ -191,7 +191,7 @@ skipped_is : (v : Version) (name : List ℕ) (d : Data) (p q : Plan) → bytes_e
 unfolding with_member
 skipped_is v name d p q skip e = passed (bytes_eq name (codes "version")) _ skip e
   where
-    passed : (b : Bool) (r : Result Plan Fault) → b ≡ true → (if b then Ok p else r) ≡ Ok q → p ≡ q
+    passed : (b : Bool) (r : Result Plan Error) → b ≡ true → (if b then Ok p else r) ≡ Ok q → p ≡ q
     passed true r h e = if_ok true p q too_large e
     passed false r h e = absurd (grind (arith, h))
 
@@ -276,7 +276,7 @@ says_these apart v ms plan rises e = record {
 
 -- ---- a text
 
-short : (b : Bool) (r : Result Plan Fault) (q : Plan) → (if b then Err too_large else r) ≡ Ok q → r ≡ Ok q
+short : (b : Bool) (r : Result Plan Error) (q : Plan) → (if b then Err too_large else r) ≡ Ok q → r ≡ Ok q
 short true r q e = absurd (grind (arith, e))
 short false r q e = e
 
@@ -306,6 +306,6 @@ says apart text plan e =
       these = subst (SaysThese v.0 ms.0) (passed_is p.0 plan p.2) (says_these apart v.0 ms.0 p.0 rises v.2);
     }
 
-pub answer_says : TranslateApart → (r : Result Checked PlanFault) (text : List ℕ) → Gives checked_plan r (reading text) → IfOk r (λ found. Says text (checked_plan found))
+pub answer_says : TranslateApart → (r : Result Checked PlanError) (text : List ℕ) → Gives checked_plan r (reading text) → IfOk r (λ found. Says text (checked_plan found))
 answer_says apart (Ok found) text h = says apart text (checked_plan found) h
 answer_says apart (Err e) text h = tt

@@ -1,3 +1,3 @@
-pub mod PlanFaults
+pub mod PlanErrors
 pub mod PlanText
 pub mod PlanTextSays

@@ -16,19 +16,19 @@ use Rattle.tsb_plan.specs.Names.{object_named}
 use Rattle.tsb_plan.specs.Plan.{Plan, empty, with_value}
 use Rattle.tsb_plan.specs.Versions.{indices_in, greatest_in, translated}
 use Rattle.tsb_types.specs.Lists.{run_from}
-use Rattle.tsb_plan_text.specs.PlanFaults.{Fault, too_large, not_json, not_a_table, no_version, no_such_object, object_not_a_table, no_such_index, not_a_whole_number, out_of_range, broken}
+use Rattle.tsb_plan_text.specs.PlanErrors.{Error, too_large, not_json, not_a_table, no_version, no_such_object, object_not_a_table, no_such_index, not_a_whole_number, out_of_range, broken}
 
 -- the longest text that is read, in bytes
 abbrev pub limit : ℕ
 limit = 1048576
 
 -- what follows on what there is, or this fault where there is nothing
-abbrev pub or_fault : {A B : Type 0} → Option A → Fault → (A → Result B Fault) → Result B Fault
+abbrev pub or_fault : {A B : Type 0} → Option A → Error → (A → Result B Error) → Result B Error
 or_fault None f next = Err f
 or_fault (Some x) f next = next x
 
 -- what follows on a plan, or the fault that came before
-abbrev pub then_on : Result Plan Fault → (Plan → Result Plan Fault) → Result Plan Fault
+abbrev pub then_on : Result Plan Error → (Plan → Result Plan Error) → Result Plan Error
 then_on (Ok plan) next = next plan
 then_on (Err f) next = Err f
 
@@ -59,19 +59,19 @@ unfoldable pub index_named : ℕ → List ℕ → Option ℕ
 index_named n text = find (λ i. bytes_eq (decimal i) text) (run_from 1 n)
 
 -- the plan with the value of one index of a table, which is judged from its index on
-unfoldable pub with_entry : Version → Object → List ℕ → Data → Plan → Result Plan Fault
+unfoldable pub with_entry : Version → Object → List ℕ → Data → Plan → Result Plan Error
 with_entry v o text d plan =
     or_fault (index_named (indices_in v o) text) (no_such_index o text) (λ i.
     or_fault (whole_number d) (not_a_whole_number o text) (λ n.
     if nat_le n (greatest_in v o) then Ok (with_value plan o (translated v o i) n) else Err (out_of_range o text)))
 
 -- with each value of an object's table
-abbrev pub with_table : Version → Object → Members → Plan → Result Plan Fault
+abbrev pub with_table : Version → Object → Members → Plan → Result Plan Error
 with_table v o no_members plan = Ok plan
 with_table v o (member text d rest) plan = then_on (with_entry v o text d plan) (with_table v o rest)
 
 -- with a member of the text
-unfoldable pub with_member : Version → List ℕ → Data → Plan → Result Plan Fault
+unfoldable pub with_member : Version → List ℕ → Data → Plan → Result Plan Error
 with_member v name d plan =
     if bytes_eq name (codes "version") then Ok plan else
     or_fault (object_named v name) (no_such_object name) (λ o.
@@ -79,27 +79,27 @@ with_member v name d plan =
     with_table v o table plan))
 
 -- with all members
-abbrev pub with_members : Version → Members → Plan → Result Plan Fault
+abbrev pub with_members : Version → Members → Plan → Result Plan Error
 with_members v no_members plan = Ok plan
 with_members v (member name d rest) plan = then_on (with_member v name d plan) (with_members v rest)
 
 -- the plan that a value gives: 0 what it does not name
-unfoldable pub data_plan : Data → Result Plan Fault
+unfoldable pub data_plan : Data → Result Plan Error
 data_plan d =
     or_fault (as_object d) not_a_table (λ members.
     or_fault (version_in members) no_version (λ v.
     with_members v members empty))
 
 -- a plan that breaks no rule
-abbrev pub unless_broken : Option Rule → Plan → Result Plan Fault
+abbrev pub unless_broken : Option Rule → Plan → Result Plan Error
 unless_broken None plan = Ok plan
 unless_broken (Some r) plan = Err (broken r)
 
-unfoldable pub checked : Plan → Result Plan Fault
+unfoldable pub checked : Plan → Result Plan Error
 checked plan = unless_broken (first_broken plan) plan
 
 -- the plan that a text gives, or the first fault
-unfoldable pub reading : List ℕ → Result Plan Fault
+unfoldable pub reading : List ℕ → Result Plan Error
 reading text =
     if nat_lt limit (length text) then Err too_large else
     or_fault (data_of text) not_json (λ d. then_on (data_plan d) checked)

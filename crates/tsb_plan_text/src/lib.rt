@@ -6,12 +6,12 @@
 //! the object's unit. What a text does not name is 0. The format is the profile's own.
 #![tactic(auto)]
 
-mod fault;
+mod error;
 mod listed;
 mod numbers;
 mod read;
 
-pub use fault::PlanFault;
+pub use error::PlanError;
 pub use read::{LIMIT, read_plan};
 
 #[cfg(test)]

@@ -5,10 +5,10 @@ ghost use Rattle.tsb_plan.specs.Names.{object_named};
 ghost use Rattle.tsb_plan.specs.Plan.{with_value};
 ghost use Rattle.tsb_plan.specs.PlanOf.{plan_of};
 ghost use Rattle.tsb_plan.specs.Versions.{range_in, indices_in, greatest_in, has_index_in, translated};
-ghost use Rattle.tsb_plan_text.specs.PlanFaults.{Makes};
+ghost use Rattle.tsb_plan_text.specs.PlanErrors.{Makes};
 ghost use Rattle.tsb_plan_text.specs.PlanText.{index_named, with_entry, with_table};
 
-use crate::fault::PlanFault;
+use crate::error::PlanError;
 use crate::numbers::{read_index, read_number};
 use serde_json::{Map, Value};
 use std::alloc::Global;
@@ -52,7 +52,7 @@ impl Listed {
         alloc: Global,
         table: &Map<String, Value>,
         plan: &mut Plan,
-    ) -> Result<(), PlanFault>
+    ) -> Result<(), PlanError>
         ensures { Makes result (plan_of plan.new)
             (with_table self.version self.object (members_view table.now.entries) (plan_of plan.old)) }
     {
@@ -70,22 +70,22 @@ impl Listed {
         text: &str,
         value: &Value,
         plan: &mut Plan,
-    ) -> Result<(), PlanFault>
+    ) -> Result<(), PlanError>
         ensures { Makes result (plan_of plan.new)
             (with_entry self.version self.object text.now (view value.now) (plan_of plan.old)) }
     {
         let object = self.object;
         let Some(index) = self.index(text) else {
             let index = String::from_str(alloc, text)?;
-            return Err(PlanFault::NoSuchIndex { object, index });
+            return Err(PlanError::NoSuchIndex { object, index });
         };
         let Some(number) = read_number(value) else {
             let index = String::from_str(alloc, text)?;
-            return Err(PlanFault::NotAWholeNumber { object, index });
+            return Err(PlanError::NotAWholeNumber { object, index });
         };
         if number > self.range.greatest {
             let index = String::from_str(alloc, text)?;
-            return Err(PlanFault::OutOfRange { object, index });
+            return Err(PlanError::OutOfRange { object, index });
         }
         self.put(index, number, plan);
         Ok(())

@@ -3,11 +3,11 @@ ghost use Rattle.std.specs.Prelude.{◌≡◌, ◌<◌, ◌≤◌, ◌↔◌, le
 ghost use Rattle.serde_json.specs.View.{view, members_view};
 ghost use Rattle.tsb_objects.specs.Checked.{checked_plan};
 ghost use Rattle.tsb_plan.specs.PlanOf.{plan_of};
-ghost use Rattle.tsb_plan_text.specs.PlanFaults.{Gives, Makes, not_json};
+ghost use Rattle.tsb_plan_text.specs.PlanErrors.{Gives, Makes, not_json};
 ghost use Rattle.tsb_plan_text.specs.PlanTextSays.{Says};
 ghost use Rattle.tsb_plan_text.specs.PlanText.{reading, data_plan, or_fault, with_member, with_members, data_of};
 
-use crate::fault::PlanFault;
+use crate::error::PlanError;
 use crate::listed::Listed;
 use crate::numbers::version_of;
 use serde_json::{Map, Value};
@@ -23,10 +23,10 @@ const VERSION: &str = "version";
 
 /// The plan that the text gives, checked.
 ///
-/// An `Err` is the text's first fault, in the order of `PlanFault`, or `Memory`, which may stand for the plan
+/// An `Err` is the text's first fault, in the order of `PlanError`, or `Memory`, which may stand for the plan
 /// and for any fault but `TooLarge`. Of members and indices that stand twice in a table the last counts.
 #[tactic(auto, unfolding(crate::specs::PlanText::reading))]
-pub fn read_plan(alloc: Global, text: &[u8]) -> Result<Checked, PlanFault>
+pub fn read_plan(alloc: Global, text: &[u8]) -> Result<Checked, PlanError>
     // The plan or the very fault that the text has, or `Memory`: so of wrong bodies only those are left that give
     // up for want of memory, and none of them on a text that is too large.
     ensures reads { Gives checked_plan result (reading text.now) }
@@ -36,10 +36,10 @@ pub fn read_plan(alloc: Global, text: &[u8]) -> Result<Checked, PlanFault>
     ensures says { IfOk result (λ checked. Says text.now (checked_plan checked)) }
 
     // Whatever memory there is.
-    ensures too_large { (result ≡ Err PlanFault.TooLarge) ↔ (1048576 < length text.now) }
+    ensures too_large { (result ≡ Err PlanError.TooLarge) ↔ (1048576 < length text.now) }
 {
     if text.len() > LIMIT {
-        return Err(PlanFault::TooLarge);
+        return Err(PlanError::TooLarge);
     }
     versions_say_the_same();
     read_short(alloc, text)
@@ -47,40 +47,40 @@ pub fn read_plan(alloc: Global, text: &[u8]) -> Result<Checked, PlanFault>
 
 /// The plan that a text of at most `LIMIT` bytes gives, checked.
 #[tactic(auto, unfolding(crate::specs::PlanText::reading, crate::specs::PlanText::checked))]
-fn read_short(alloc: Global, text: &[u8]) -> Result<Checked, PlanFault>
+fn read_short(alloc: Global, text: &[u8]) -> Result<Checked, PlanError>
     requires { length text.now ≤ 1048576 }
     ensures { Gives checked_plan result (reading text.now) }
 {
     let value = parse(alloc, text)?;
     let plan = read_value(alloc, &value)?;
-    Checked::new(plan).map_err(PlanFault::Rule)
+    Checked::new(plan).map_err(PlanError::Rule)
 }
 
 /// The text as JSON.
-fn parse(alloc: Global, text: &[u8]) -> Result<Value, PlanFault>
+fn parse(alloc: Global, text: &[u8]) -> Result<Value, PlanError>
     ensures { Gives view result (or_fault (data_of text.now) not_json Ok) }
 {
     match Value::from_slice(alloc, text) {
         Ok(value) => Ok(value),
         Err(e) => Err(if e.is_memory() {
-            PlanFault::Memory
+            PlanError::Memory
         } else {
-            PlanFault::NotJson
+            PlanError::NotJson
         }),
     }
 }
 
 /// The plan that the value gives.
 #[tactic(auto, unfolding(crate::specs::PlanText::data_plan))]
-fn read_value(alloc: Global, value: &Value) -> Result<Plan, PlanFault>
+fn read_value(alloc: Global, value: &Value) -> Result<Plan, PlanError>
     ensures { Gives plan_of result (data_plan (view value.now)) }
 {
     let Some(members) = value.as_object() else {
-        return Err(PlanFault::NotATable);
+        return Err(PlanError::NotATable);
     };
     let number = value.get(VERSION).and_then(Value::as_u64);
     let Some(version) = number.and_then(version_of) else {
-        return Err(PlanFault::Version);
+        return Err(PlanError::Version);
     };
     let mut plan = Plan::empty();
     read_members(alloc, version, members, &mut plan)?;
@@ -93,7 +93,7 @@ fn read_members(
     version: Version,
     members: &Map<String, Value>,
     plan: &mut Plan,
-) -> Result<(), PlanFault>
+) -> Result<(), PlanError>
     ensures { Makes result (plan_of plan.new)
         (with_members version (members_view members.now.entries) (plan_of plan.old)) }
 {
@@ -111,7 +111,7 @@ fn read_member(
     name: &str,
     value: &Value,
     plan: &mut Plan,
-) -> Result<(), PlanFault>
+) -> Result<(), PlanError>
     ensures { Makes result (plan_of plan.new)
         (with_member version name.now (view value.now) (plan_of plan.old)) }
 {
@@ -120,10 +120,10 @@ fn read_member(
     }
     let Some(listed) = Listed::named(version, name) else {
         let name = String::from_str(alloc, name)?;
-        return Err(PlanFault::NoSuchObject { name });
+        return Err(PlanError::NoSuchObject { name });
     };
     let Some(table) = value.as_object() else {
-        return Err(PlanFault::ObjectNotATable {
+        return Err(PlanError::ObjectNotATable {
             object: listed.object(),
         });
     };

@@ -164,11 +164,11 @@ fn a_text_of_the_limit_is_read(rt: HostRuntime) {
 #[test]
 fn bytes_that_are_no_text_are_not_json(rt: HostRuntime) {
     let text = [b'"', 255, b'"'];
-    assert!(rt; matches!(read_plan(rt.alloc(), &text), Err(PlanFault::NotJson)));
+    assert!(rt; matches!(read_plan(rt.alloc(), &text), Err(PlanError::NotJson)));
 }
 
 #[test]
 fn want_of_memory_is_printed(rt: HostRuntime) {
-    let line = format!(in rt.alloc(); "{}", PlanFault::Memory).expect(&rt, "memory");
+    let line = format!(in rt.alloc(); "{}", PlanError::Memory).expect(&rt, "memory");
     assert_eq!(rt; line.as_str(), "memory");
 }

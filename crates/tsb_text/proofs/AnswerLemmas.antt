@@ -21,7 +21,7 @@ use Rattle.tsb_log_text.specs.declared.log.LogRow.{LogRow}
 use Rattle.tsb_log_text.specs.Logs.{row_at}
 use Rattle.tsb_types.specs.declared.row.Row.{Row}
 use Rattle.std.proofs.lemmas.List.{append-nil}
-use Rattle.tsb_text.specs.declared.fault.WriteFault.{WriteFault}
+use Rattle.tsb_text.specs.declared.error.WriteError.{WriteError}
 use Rattle.tsb_text.specs.Answers.{Given, Asked, Steps, Answers, IsNotYet, next_tick, told, refused_line}
 use Rattle.tsb_text.specs.Line.{display_line}
 use Rattle.tsb_text.specs.Talk.{Stands, Done, StepsOn}
@@ -40,13 +40,13 @@ pub follows-state : (plan : Plan) (w : Whole) (is : List Input) → Follows plan
 follows-state plan w is f = newest plan w.state w.records is f.pasts
 
 -- a line that is an answer was said, or a fault came before it
-pub done-said : (r : Result (Unit {0}) WriteFault) (given : Given) (log : List LogRow) (bench : Whole) (P : List ℕ → List Input → Type 0) (a b : Option (List ℕ)) (p q line : List ℕ) (left : List Input)
+pub done-said : (r : Result (Unit {0}) WriteError) (given : Given) (log : List LogRow) (bench : Whole) (P : List ℕ → List Input → Type 0) (a b : Option (List ℕ)) (p q line : List ℕ) (left : List Input)
     → OnOk r (Said a b p q (with_feed line)) → OnErr r (Said a b p q []) → Stands given log bench left → P (with_feed line) left → Done r given log bench P a b p q
 done-said (Ok u) given log bench P a b p q line left ok err stands so = (left, stands, record { text = with_feed line; said = ok; so = so })
 done-said (Err e) given log bench P a b p q line left ok err stands so = record { text = []; said = err; so = (with_feed line, left, so) }
 
 -- the bench was asked
-pub ask-done : (r : Result (Unit {0}) WriteFault) (given : Given) (log : List LogRow) (is : List Input) (cmd : Cmd) (old new : Held) (result answer : Answer) (a b : Option (List ℕ)) (p q line : List ℕ)
+pub ask-done : (r : Result (Unit {0}) WriteError) (given : Given) (log : List LogRow) (is : List Input) (cmd : Cmd) (old new : Held) (result answer : Answer) (a b : Option (List ℕ)) (p q line : List ℕ)
     → Stands given log (whole old) is → ((plan : Plan) → play.Answers plan (whole old) cmd result (whole new)) → result ≡ answer → line ≡ told answer (state_of new)
     → OnOk r (Said a b p q (with_feed line)) → OnErr r (Said a b p q []) → Done r given log (whole new) (Asked given is cmd) a b p q
 ask-done r given log is cmd old new result answer a b p q line stands answers same tells ok err =
@@ -58,7 +58,7 @@ ask-done r given log is cmd old new result answer a b p q line stands answers sa
     (record { answer = answer; right = right.0; left = refl; line = ap with_feed (tells ∙ ap (told answer) state) })
 
 -- the display line of now
-pub show-done : (r : Result (Unit {0}) WriteFault) (given : Given) (log : List LogRow) (is : List Input) (bench : Held) (a b : Option (List ℕ)) (p q line : List ℕ)
+pub show-done : (r : Result (Unit {0}) WriteError) (given : Given) (log : List LogRow) (is : List Input) (bench : Held) (a b : Option (List ℕ)) (p q line : List ℕ)
     → Stands given log (whole bench) is → line ≡ display_line (state_of bench)
     → OnOk r (Said a b p q (with_feed line)) → OnErr r (Said a b p q []) → Done r given log (whole bench) (Answers given is Show) a b p q
 show-done r given log is bench a b p q line stands tells ok err =
@@ -88,7 +88,7 @@ not-yet given is left text (Preempt n on) a b d e f g h = h
 not-yet given is left text (Fault lamp) a b d e f g h = h
 not-yet given is left text Reset a b d e f g h = h
 
-pub not_yet-done : (r : Result (Unit {0}) WriteFault) (given : Given) (log : List LogRow) (is : List Input) (bench : Whole) (c : Command) (a b : Option (List ℕ)) (p q line : List ℕ)
+pub not_yet-done : (r : Result (Unit {0}) WriteError) (given : Given) (log : List LogRow) (is : List Input) (bench : Whole) (c : Command) (a b : Option (List ℕ)) (p q line : List ℕ)
     → ((n : ℕ) → c ≡ Step n → ⊥) → ((n : ℕ) → c ≡ Back n → ⊥) → ((n : ℕ) → c ≡ Seek n → ⊥) → (c ≡ Undo → ⊥) → (c ≡ Show → ⊥) → (c ≡ Quit → ⊥)
     → Stands given log bench is → line ≡ codes "not yet" → OnOk r (Said a b p q (with_feed line)) → OnErr r (Said a b p q []) → Done r given log bench (Answers given is c) a b p q
 not_yet-done r given log is bench c a b p q line x y z u v w stands tells ok err =
@@ -158,7 +158,7 @@ steps-more given log is n old new left k row t a b c p q r line s one is-row at 
       };
     }
 
-pub steps-fault : (given : Given) (log : List LogRow) (is : List Input) (n : ℕ) (old new : Held) (left k : ℕ) (row : Row) (t : ℕ) (a b c : Option (List ℕ)) (p q r line : List ℕ) (e : WriteFault) → Stepping given log is n (whole old) left a b p q
+pub steps-fault : (given : Given) (log : List LogRow) (is : List Input) (n : ℕ) (old new : Held) (left k : ℕ) (row : Row) (t : ℕ) (a b c : Option (List ℕ)) (p q r line : List ℕ) (e : WriteError) → Stepping given log is n (whole old) left a b p q
     → left ≡ suc k → row ≡ row_at log t → t ≡ old.tick + 1
     → ((plan : Plan) (inputs : List Input) → Follows plan (whole old) inputs → IsRight plan inputs (Apply (Tick row)) Took × Follows plan (whole new) (Tick row ∷ inputs))
     → line ≡ display_line (state_of new) → Said b c q r [] → Done (Err e) given log (whole new) (Steps given is n) a c p r
@@ -176,7 +176,7 @@ steps-fault given log is n old new left k row t a b c p q r line e s one is-row 
       );
     }
 
-pub steps-refused : (given : Given) (log : List LogRow) (is : List Input) (n : ℕ) (old new : Held) (left k : ℕ) (row : Row) (t : ℕ) (a b c : Option (List ℕ)) (p q r line : List ℕ) (refusal : Refusal) (result : Result (Unit {0}) WriteFault)
+pub steps-refused : (given : Given) (log : List LogRow) (is : List Input) (n : ℕ) (old new : Held) (left k : ℕ) (row : Row) (t : ℕ) (a b c : Option (List ℕ)) (p q r line : List ℕ) (refusal : Refusal) (result : Result (Unit {0}) WriteError)
     → Stepping given log is n (whole old) left a b p q → left ≡ suc k → row ≡ row_at log t → t ≡ old.tick + 1
     → ((plan : Plan) (inputs : List Input) → Follows plan (whole old) inputs → IsRight plan inputs (Apply (Tick row)) (Refused refusal) × Follows plan (whole new) inputs)
     → line ≡ refused_line refusal → OnOk result (Said b c q r (with_feed line)) → OnErr result (Said b c q r []) → Done result given log (whole new) (Steps given is n) a c p r
@@ -191,7 +191,7 @@ steps-refused given log is n old new left k row t a b c p q r line refusal resul
     steps : Steps given is n (s.wrote.text ++ with_feed line) s.now
     steps = s.wrote.so (with_feed line) s.now (subst (λ (m : ℕ). Steps given s.now m (with_feed line) s.now) (sym one) (inr (record { refusal = refusal; right = both.0; line = ap with_feed tells; left = refl })))
 
-    ended : (result : Result (Unit {0}) WriteFault) → OnOk result (Said b c q r (with_feed line)) → OnErr result (Said b c q r []) → Done result given log (whole new) (Steps given is n) a c p r
+    ended : (result : Result (Unit {0}) WriteError) → OnOk result (Said b c q r (with_feed line)) → OnErr result (Said b c q r []) → Done result given log (whole new) (Steps given is n) a c p r
     ended (Ok u) ok err = (
       s.now,
       record { same = s.stands.same; follows = both.1 },

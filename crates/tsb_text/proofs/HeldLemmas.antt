@@ -8,7 +8,7 @@ use Rattle.tsb_command_text.specs.declared.command.Reading.TheVariants.{Bad, Lea
 use Rattle.tsb_command_text.specs.Readings.{reading}
 use Rattle.tsb_lines.specs.Lines.{without_return}
 use Rattle.tsb_lines.proofs.LineLemmas.{feedless-more}
-use Rattle.tsb_text.specs.declared.fault.WriteFault.{WriteFault}
+use Rattle.tsb_text.specs.declared.error.WriteError.{WriteError}
 use Rattle.tsb_text.specs.declared.talk.Flow.{Flow}
 use Rattle.tsb_text.specs.declared.talk.Flow.TheVariants.{On, Over}
 use Rattle.tsb_text.specs.Ended.{Quits}
@@ -84,7 +84,7 @@ quits-line bytes held h leaves = elim (cases_lt (length held) 202) [
   | inr long ↦ let bad : reading (without_return held) ≡ Bad = reading-returned held long in let no : Bad ≡ Leave = sym bad ∙ leaves in absurd (cc)
 ]
 
-pub holds-line : (r : Result Flow WriteFault) (bytes held new : List ℕ) (asked : Reading) (line : List ℕ) → Holds bytes held → asked ≡ reading line → line ≡ without_return held → new ≡ [] → (r ≡ Ok Over → asked ≡ Leave) → HeldAfter r (bytes ++ 10 ∷ []) new
+pub holds-line : (r : Result Flow WriteError) (bytes held new : List ℕ) (asked : Reading) (line : List ℕ) → Holds bytes held → asked ≡ reading line → line ≡ without_return held → new ≡ [] → (r ≡ Ok Over → asked ≡ Leave) → HeldAfter r (bytes ++ 10 ∷ []) new
 holds-line (Ok On) bytes held new asked line h reads is empty over =
     record { done = bytes ++ 10 ∷ []; rest = []; whole = sym (append-nil (bytes ++ 10 ∷ [])); ended = inr (bytes, refl); unfinished = tt; kept = empty }
 holds-line (Ok Over) bytes held new asked line h reads is empty over = quits-line bytes held h (ap reading (sym is) ∙ sym reads ∙ over refl)

@@ -8,9 +8,9 @@ use Rattle.tsb_bench.specs.declared.inputs.Input.{Input}
 use Rattle.tsb_bench.specs.Past.{Held, Whole, whole}
 use Rattle.tsb_lines.specs.Lines.{HasNoFeed}
 use Rattle.tsb_log_text.specs.declared.log.LogRow.{LogRow}
-use Rattle.tsb_text.specs.declared.fault.SessionFault.{SessionFault}
-use Rattle.tsb_text.specs.declared.fault.SessionFault.TheVariants.{Memory, Read, Write, TooLarge}
-use Rattle.tsb_text.specs.declared.fault.WriteFault.{WriteFault}
+use Rattle.tsb_text.specs.declared.error.SessionError.{SessionError}
+use Rattle.tsb_text.specs.declared.error.SessionError.TheVariants.{Memory, Read, Write, TooLarge}
+use Rattle.tsb_text.specs.declared.error.WriteError.{WriteError}
 use Rattle.tsb_text.specs.declared.talk.Flow.{Flow}
 use Rattle.tsb_text.specs.declared.talk.Flow.TheVariants.{On, Over}
 use Rattle.tsb_text.specs.Answers.{Given}
@@ -63,7 +63,7 @@ take-front (suc n) [] ys e = absurd (omega (arith, e))
 take-front (suc n) (x ∷ xs) ys e = ap (λ (v : List ℕ). x ∷ v) (take-front n xs ys (omega (arith, e)))
 
 -- what was said in all
-EndedText : Result (Unit {0}) SessionFault → Given → Option (List ℕ) → List ℕ → List ℕ → List ℕ → Type 0
+EndedText : Result (Unit {0}) SessionError → Given → Option (List ℕ) → List ℕ → List ℕ → List ℕ → Type 0
 EndedText (Ok u) given left read waits said = (waits ≡ []) × ((IsAtEnd left × IsText given [] read said) ⊎ (Quits read × IsWhole given [] read said))
 EndedText (Err Memory) given left read waits said = ⊥
 EndedText (Err e) given left read waits said = (IsAtEnd left × (rest : List ℕ) × IsText given [] read (said ++ rest)) ⊎ IsBegun given [] read said
@@ -80,7 +80,7 @@ ended-front given left read waits said gone e x = elim x [
     front : (rest : List ℕ) → said ++ rest ≡ gone ++ (waits ++ rest)
     front rest = ap (λ (v : List ℕ). v ++ rest) e ∙ append_assoc gone waits rest
 
-ended-so : (r : Result (Unit {0}) SessionFault) (given : Given) (left : Option (List ℕ)) (read waits said gone : List ℕ) → said ≡ gone ++ waits → EndedText r given left read waits said → EndedSo r given left read gone
+ended-so : (r : Result (Unit {0}) SessionError) (given : Given) (left : Option (List ℕ)) (read waits said gone : List ℕ) → said ≡ gone ++ waits → EndedText r given left read waits said → EndedSo r given left read gone
 unfolding EndedText
 ended-so (Ok u) given left read waits said gone e x =
     let all : said ≡ gone = e ∙ ap (λ (v : List ℕ). gone ++ v) x.0 ∙ append-nil gone in
@@ -100,7 +100,7 @@ whole-answered given left bytes held waits said gone e none clean k =
     record { left = left; held = held; unfinished = clean; carries = record { on = λ more text t. subst (λ (v : List ℕ). IsText given [] (bytes ++ more) (v ++ text)) all (k.on more text t) } }
 
 -- an end at which no more than 16 MiB were read
-ended : (r : Result (Unit {0}) SessionFault) (given : Given) (i l o n : Option (List ℕ)) (read waits : List ℕ) → Consumes i l read → Wrote o n [] waits (EndedText r given l read waits) → (r ≡ Err TooLarge → ⊥) → (r ≡ Err Read → ⊥) → length read ≤ 16777216
+ended : (r : Result (Unit {0}) SessionError) (given : Given) (i l o n : Option (List ℕ)) (read waits : List ℕ) → Consumes i l read → Wrote o n [] waits (EndedText r given l read waits) → (r ≡ Err TooLarge → ⊥) → (r ≡ Err Read → ⊥) → length read ≤ 16777216
     → Ended r given i l o n
 ended r given i l o n read waits taken wrote small sound most = record {
   read = read;
@@ -161,16 +161,16 @@ ended-large given log bench held budget i l l2 o n waits count most piece g none
       answered = λ x. subst (λ (v : List ℕ). AnswersWhole given v g.wrote.said.gone) (sym first) (whole-answered given g.inputs g.read held waits g.wrote.text g.wrote.said.gone g.wrote.said.kept none clean g.wrote.so);
     }
 
-never-read : (r : Result (Unit {0}) WriteFault) → as_session r ≡ Err Read → ⊥
+never-read : (r : Result (Unit {0}) WriteError) → as_session r ≡ Err Read → ⊥
 never-read (Ok u) h = cc
 never-read (Err e) h = cc
 
-never-large : (r : Result (Unit {0}) WriteFault) → as_session r ≡ Err TooLarge → ⊥
+never-large : (r : Result (Unit {0}) WriteError) → as_session r ≡ Err TooLarge → ⊥
 never-large (Ok u) h = cc
 never-large (Err e) h = cc
 
 -- the end of what is read
-pub ended-end : (given : Given) (log : List LogRow) (bench : Whole) (held : List ℕ) (budget : ℕ) (i l l2 o n n2 : Option (List ℕ)) (waits waits2 : List ℕ) (r : Result (Unit {0}) WriteFault) (count : ℕ) (buf : List ℕ)
+pub ended-end : (given : Given) (log : List LogRow) (bench : Whole) (held : List ℕ) (budget : ℕ) (i l l2 o n n2 : Option (List ℕ)) (waits waits2 : List ℕ) (r : Result (Unit {0}) WriteError) (count : ℕ) (buf : List ℕ)
     → Going given log bench held budget i l o n waits → count ≡ 0 → Consumes l l2 (take count buf) → IsAtEnd l2
     → ((given : Given) (inputs : List Input) → Stands given log bench inputs → Wrote n n2 waits waits2 (Finished r given inputs held waits2)) → Ended (as_session r) given i l2 o n2
 unfolding EndedText
@@ -179,7 +179,7 @@ ended-end given log bench held budget i l l2 o n n2 waits waits2 r count buf g n
     (at r (finish given g.inputs g.stands)) (never-large r) (never-read r)
     (let f : length g.read + budget ≡ 16777216 = g.fits in let all : length (g.read ++ []) ≡ length g.read + 0 = length-append g.read [] in omega (arith, f, all))
   where
-    at : (r : Result (Unit {0}) WriteFault) → Wrote n n2 waits waits2 (Finished r given g.inputs held waits2) → Wrote o n2 [] waits2 (EndedText (as_session r) given l2 (g.read ++ []) waits2)
+    at : (r : Result (Unit {0}) WriteError) → Wrote n n2 waits waits2 (Finished r given g.inputs held waits2) → Wrote o n2 [] waits2 (EndedText (as_session r) given l2 (g.read ++ []) waits2)
     at (Ok u) w = record {
       text = g.wrote.text ++ w.text;
       said = said-more o n n2 [] waits waits2 g.wrote.text w.text g.wrote.said w.said;
@@ -207,7 +207,7 @@ ended-fault given log bench bench2 held held2 budget i l l2 o n n2 waits waits2 
     (λ x. cc) (λ x. cc) (let f : length g.read + budget ≡ 16777216 = g.fits in let all : length (g.read ++ piece) ≡ length g.read + length piece = length-append g.read piece in omega (arith, f, all, long, fits))
 
 -- a line ended it, and what waited then was written, or was not
-pub ended-over : (given : Given) (log : List LogRow) (bench bench2 : Whole) (held held2 : List ℕ) (budget : ℕ) (i l l2 o n n2 n3 : Option (List ℕ)) (waits waits2 waits3 : List ℕ) (r : Result (Unit {0}) WriteFault) (f : Flow) (count : ℕ) (piece : List ℕ)
+pub ended-over : (given : Given) (log : List LogRow) (bench bench2 : Whole) (held held2 : List ℕ) (budget : ℕ) (i l l2 o n n2 n3 : Option (List ℕ)) (waits waits2 waits3 : List ℕ) (r : Result (Unit {0}) WriteError) (f : Flow) (count : ℕ) (piece : List ℕ)
     → Going given log bench held budget i l o n waits → Consumes l l2 piece → count ≡ length piece → count ≤ budget → f ≡ Over
     → ((given : Given) (inputs : List Input) → Stands given log bench inputs → Went (Ok f) given inputs (held ++ piece) log bench2 held2 n n2 waits waits2)
     → ((before : List ℕ) → Holds before held → HeldAfter (Ok f) (before ++ piece) held2) → Said n2 n3 waits2 waits3 [] → OnOk r (waits3 ≡ []) → Ended (as_session r) given i l2 o n3
@@ -226,7 +226,7 @@ ended-over given log bench bench2 held held2 budget i l l2 o n n2 n3 waits waits
     all : (more : List ℕ) → IsText given [] ((g.read ++ piece) ++ more) (w.text ++ [])
     all more = subst (λ (v : List ℕ). IsText given [] ((g.read ++ piece) ++ more) v) (sym (append-nil w.text)) (w.so.all more)
 
-    at : (r : Result (Unit {0}) WriteFault) → OnOk r (waits3 ≡ []) → Wrote o n3 [] waits3 (EndedText (as_session r) given l2 (g.read ++ piece) waits3)
+    at : (r : Result (Unit {0}) WriteError) → OnOk r (waits3 ≡ []) → Wrote o n3 [] waits3 (EndedText (as_session r) given l2 (g.read ++ piece) waits3)
     at (Ok u) ok = record { text = w.text ++ []; said = said-more o n2 n3 [] waits2 waits3 w.text [] w.said said; so = (ok, inr (quits, record { all = all })) }
     at (Err e) ok = record {
       text = w.text ++ [];

@@ -12,7 +12,7 @@ use Rattle.tsb_command_text.specs.Readings.{reading}
 use Rattle.tsb_lines.specs.Lines.{lines_of, without_return, HasNoFeed}
 use Rattle.tsb_lines.proofs.LineLemmas.{lines-joined, lines-alone}
 use Rattle.tsb_log_text.specs.declared.log.LogRow.{LogRow}
-use Rattle.tsb_text.specs.declared.fault.WriteFault.{WriteFault}
+use Rattle.tsb_text.specs.declared.error.WriteError.{WriteError}
 use Rattle.tsb_text.specs.declared.talk.Flow.{Flow}
 use Rattle.tsb_text.specs.declared.talk.Flow.TheVariants.{On, Over}
 use Rattle.tsb_text.specs.Answers.{Given, Answers}
@@ -42,7 +42,7 @@ obeyed-bad given log is bench r a b p q line e tells stands said = (
   },
 )
 
-pub obeyed-bad_fault : (given : Given) (log : List LogRow) (is : List Input) (bench : Whole) (r : Reading) (a b : Option (List ℕ)) (p q : List ℕ) (fault : WriteFault) → r ≡ Bad → Said a b p q []
+pub obeyed-bad_fault : (given : Given) (log : List LogRow) (is : List Input) (bench : Whole) (r : Reading) (a b : Option (List ℕ)) (p q : List ℕ) (fault : WriteError) → r ≡ Bad → Said a b p q []
     → Obeyed (Err fault) given is r log bench a b p q
 obeyed-bad_fault given log is bench r a b p q fault e said = record {
   text = [];
@@ -70,7 +70,7 @@ obeyed-do given log is bench r c a b p q e done = (
   },
 )
 
-pub obeyed-do_fault : (given : Given) (log : List LogRow) (is : List Input) (bench : Whole) (r : Reading) (c : Command) (a b : Option (List ℕ)) (p q : List ℕ) (fault : WriteFault) → r ≡ Do c
+pub obeyed-do_fault : (given : Given) (log : List LogRow) (is : List Input) (bench : Whole) (r : Reading) (c : Command) (a b : Option (List ℕ)) (p q : List ℕ) (fault : WriteError) → r ≡ Do c
     → Done (Err fault) given log bench (Answers given is c) a b p q → Obeyed (Err fault) given is r log bench a b p q
 obeyed-do_fault given log is bench r c a b p q fault e done = record {
   text = done.text;
@@ -88,7 +88,7 @@ obeyed-do_fault given log is bench r c a b p q fault e done = record {
 whole-line : (h more : List ℕ) → HasNoFeed h → lines_of ((h ++ 10 ∷ []) ++ more) ≡ without_return h ∷ lines_of more
 whole-line h more f = ap lines_of (append_assoc h (10 ∷ []) more) ∙ lines-joined h more f
 
-pub went-line : (r : Result Flow WriteFault) (given : Given) (log : List LogRow) (is : List Input) (bench : Whole) (asked : Reading) (h line held : List ℕ) (a b : Option (List ℕ)) (p q : List ℕ)
+pub went-line : (r : Result Flow WriteError) (given : Given) (log : List LogRow) (is : List Input) (bench : Whole) (asked : Reading) (h line held : List ℕ) (a b : Option (List ℕ)) (p q : List ℕ)
     → HasNoFeed h → asked ≡ reading line → line ≡ without_return h → held ≡ [] → Obeyed r given is asked log bench a b p q → Went r given is (h ++ 10 ∷ []) log bench held a b p q
 went-line r given log is bench asked h line held a b p q f reads lines empty obeyed =
     at r (subst (λ (x : Reading). Obeyed r given is x log bench a b p q) (reads ∙ ap reading lines) obeyed)
@@ -96,7 +96,7 @@ went-line r given log is bench asked h line held a b p q f reads lines empty obe
     goes : (text more rest : List ℕ) → Says given (reading (without_return h)) is text (λ new t. IsAnswered given new (lines_of more) t) → IsText given is ((h ++ 10 ∷ []) ++ more) text
     goes text more rest says = subst (λ (ls : List (List ℕ)). IsAnswered given is ls text) (sym (whole-line h more f)) says
 
-    at : (r : Result Flow WriteFault) → Obeyed r given is (reading (without_return h)) log bench a b p q → Went r given is (h ++ 10 ∷ []) log bench held a b p q
+    at : (r : Result Flow WriteError) → Obeyed r given is (reading (without_return h)) log bench a b p q → Went r given is (h ++ 10 ∷ []) log bench held a b p q
     at (Ok On) o = (
       o.0,
       o.1,
@@ -127,7 +127,7 @@ went-cut given log is bench h b a p f long n stands = (
 
 -- ## One piece after another
 
-pub joined : (r : Result Flow WriteFault) (given : Given) (log : List LogRow) (is : List Input) (bytes : List ℕ) (now : List Input) (h piece : List ℕ) (bench : Whole) (held : List ℕ) (a b c : Option (List ℕ)) (p q w : List ℕ)
+pub joined : (r : Result Flow WriteError) (given : Given) (log : List LogRow) (is : List Input) (bytes : List ℕ) (now : List Input) (h piece : List ℕ) (bench : Whole) (held : List ℕ) (a b c : Option (List ℕ)) (p q w : List ℕ)
     → Wrote a b p q (Carries given is bytes now h) → Went r given now (h ++ piece) log bench held b c q w → Went r given is (bytes ++ piece) log bench held a c p w
 joined (Ok On) given log is bytes now h piece bench held a b c p q w k went = (
   went.0,
@@ -205,7 +205,7 @@ talking-over given log is h bytes i x old new held next f a b c p q w lt e over 
     subst (λ (v : List ℕ). Wrote a c p w (IsWhole given is v)) (front-all h bytes i x lt e)
     (whole-more given is ((h ++ take i bytes) ++ x ∷ []) (drop (i + 1) bytes) a c p w (joined (Ok Over) given log is (h ++ take i bytes) t.now held (x ∷ []) new next a b c p q w t.wrote step))
 
-pub talking-fault : (given : Given) (log : List LogRow) (is : List Input) (h bytes : List ℕ) (i x : ℕ) (old new : Whole) (held next : List ℕ) (fault : WriteFault) (a b c : Option (List ℕ)) (p q w : List ℕ) → i < length bytes → x ≡ get_or bytes i 0
+pub talking-fault : (given : Given) (log : List LogRow) (is : List Input) (h bytes : List ℕ) (i x : ℕ) (old new : Whole) (held next : List ℕ) (fault : WriteError) (a b c : Option (List ℕ)) (p q w : List ℕ) → i < length bytes → x ≡ get_or bytes i 0
     → Talking given log is (h ++ take i bytes) old held a b p q → ((given : Given) (inputs : List Input) → Stands given log old inputs → Wrote b c q w (IsBegun given inputs (held ++ x ∷ [])))
     → Wrote a c p w (IsBegun given is (h ++ bytes))
 talking-fault given log is h bytes i x old new held next fault a b c p q w lt e t went =
@@ -219,7 +219,7 @@ talking-end given log is h bytes i bench held a b p q le t =
 
 -- ## The end of the input
 
-pub finished-fault : (given : Given) (log : List LogRow) (is : List Input) (bench : Whole) (asked : Reading) (h : List ℕ) (a b : Option (List ℕ)) (p q : List ℕ) (e : WriteFault) → HasNoFeed h → asked ≡ reading h
+pub finished-fault : (given : Given) (log : List LogRow) (is : List Input) (bench : Whole) (asked : Reading) (h : List ℕ) (a b : Option (List ℕ)) (p q : List ℕ) (e : WriteError) → HasNoFeed h → asked ≡ reading h
     → Obeyed (Err e) given is asked log bench a b p q → Wrote a b p q (Finished (Err e) given is h q)
 finished-fault given log is bench asked h a b p q e f reads o = record {
   text = o.text;
@@ -231,7 +231,7 @@ finished-fault given log is bench asked h a b p q e f reads o = record {
 }
 
 -- the last line was answered, and what waited then was written
-pub finished-sent : (flow : Flow) (r : Result (Unit {0}) WriteFault) (given : Given) (log : List LogRow) (is : List Input) (bench : Whole) (asked : Reading) (h : List ℕ) (a b c : Option (List ℕ)) (p q w : List ℕ) → HasNoFeed h → asked ≡ reading h
+pub finished-sent : (flow : Flow) (r : Result (Unit {0}) WriteError) (given : Given) (log : List LogRow) (is : List Input) (bench : Whole) (asked : Reading) (h : List ℕ) (a b c : Option (List ℕ)) (p q w : List ℕ) → HasNoFeed h → asked ≡ reading h
     → Obeyed (Ok flow) given is asked log bench a b p q → Said b c q w [] → OnOk r (w ≡ []) → Wrote a c p w (Finished r given is h w)
 finished-sent flow r given log is bench asked h a b c p q w f reads o said ok = ends (said-of flow o) r ok
   where
@@ -246,7 +246,7 @@ finished-sent flow r given log is bench asked h a b c p q w f reads o said ok = 
         let read : Says given (reading h) is o.text (λ new text. IsAnswered given new [] text) = subst (λ (x : Reading). Says given x is o.text (λ new text. IsAnswered given new [] text)) reads (o.so []) in
         record { text = o.text; said = o.said; so = subst (λ (ls : List (List ℕ)). IsAnswered given is ls o.text) (sym (lines-alone h f)) read }
 
-    ends : Wrote a b p q (IsText given is h) → (r : Result (Unit {0}) WriteFault) → OnOk r (w ≡ []) → Wrote a c p w (Finished r given is h w)
+    ends : Wrote a b p q (IsText given is h) → (r : Result (Unit {0}) WriteError) → OnOk r (w ≡ []) → Wrote a c p w (Finished r given is h w)
     ends x (Ok u) ok = record {
       text = x.text ++ [];
       said = said-more a b c p q w x.text [] x.said said;

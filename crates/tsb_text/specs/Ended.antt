@@ -5,8 +5,8 @@ use Rattle.tsb_bench.specs.declared.inputs.Input.{Input}
 use Rattle.tsb_command_text.specs.declared.command.Reading.TheVariants.{Leave}
 use Rattle.tsb_command_text.specs.Readings.{reading}
 use Rattle.tsb_lines.specs.Lines.{HasNoFeed, without_return}
-use Rattle.tsb_text.specs.declared.fault.SessionFault.{SessionFault}
-use Rattle.tsb_text.specs.declared.fault.SessionFault.TheVariants.{Memory, Read, TooLarge}
+use Rattle.tsb_text.specs.declared.error.SessionError.{SessionError}
+use Rattle.tsb_text.specs.declared.error.SessionError.TheVariants.{Memory, Read, TooLarge}
 use Rattle.tsb_text.specs.Answers.{Given}
 use Rattle.tsb_text.specs.Text.{IsText}
 
@@ -39,7 +39,7 @@ pub record Quits (bytes : List ℕ) : Type 0 where
 -- how a session ended, after these bytes were read: it wrote a text of theirs, at the end of the input or where a line
 -- was `quit`, and then whatever comes behind; or after a fault a front of one, whatever comes behind them or at the end of the input. So far a
 -- session asks for no memory to begin with.
-abbrev pub EndedSo : Result (Unit {0}) SessionFault → Given → Option (List ℕ) → List ℕ → List ℕ → Type 0
+abbrev pub EndedSo : Result (Unit {0}) SessionError → Given → Option (List ℕ) → List ℕ → List ℕ → Type 0
 EndedSo (Ok u) given left read written = (IsAtEnd left × IsText given [] read written) ⊎ (Quits read × IsWhole given [] read written)
 EndedSo (Err Memory) given left read written = ⊥
 EndedSo (Err e) given left read written =
@@ -54,7 +54,7 @@ pub record AnswersWhole (given : Given) (bytes written : List ℕ) : Type 0 wher
   pub carries : Carries given [] bytes left held written
 
 -- the bytes that it read, and those that it wrote: no others went to the writer
-pub record Ended (result : Result (Unit {0}) SessionFault) (given : Given) (input left old new : Option (List ℕ)) : Type 0 where
+pub record Ended (result : Result (Unit {0}) SessionError) (given : Given) (input left old new : Option (List ℕ)) : Type 0 where
   pub read : List ℕ
   pub taken : Consumes input left read
   pub written : List ℕ

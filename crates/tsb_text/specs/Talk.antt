@@ -8,9 +8,9 @@ use Rattle.tsb_command_text.specs.declared.command.Reading.{Reading}
 use Rattle.tsb_command_text.specs.Readings.{reading}
 use Rattle.tsb_lines.specs.Lines.{HasNoFeed}
 use Rattle.tsb_log_text.specs.declared.log.LogRow.{LogRow}
-use Rattle.tsb_text.specs.declared.fault.SessionFault.{SessionFault}
-use Rattle.tsb_text.specs.declared.fault.SessionFault.TheVariants.{Write}
-use Rattle.tsb_text.specs.declared.fault.WriteFault.{WriteFault}
+use Rattle.tsb_text.specs.declared.error.SessionError.{SessionError}
+use Rattle.tsb_text.specs.declared.error.SessionError.TheVariants.{Write}
+use Rattle.tsb_text.specs.declared.error.WriteError.{WriteError}
 use Rattle.tsb_text.specs.declared.talk.Flow.{Flow}
 use Rattle.tsb_text.specs.declared.talk.Flow.TheVariants.{On, Over}
 use Rattle.tsb_text.specs.Answers.{Given, Steps}
@@ -26,7 +26,7 @@ pub record Stands (given : Given) (log : List LogRow) (bench : Whole) (inputs : 
 -- ## What was said of an answer
 
 -- all of an answer was said, and the bench goes on from the inputs that it leaves; or a fault came within it
-abbrev pub Done : Result (Unit {0}) WriteFault → Given → List LogRow → Whole → (List ℕ → List Input → Type 0)
+abbrev pub Done : Result (Unit {0}) WriteError → Given → List LogRow → Whole → (List ℕ → List Input → Type 0)
     → Option (List ℕ) → Option (List ℕ) → List ℕ → List ℕ → Type 0
 Done (Ok u) given log bench IsAnswer old new waited waits = (left : List Input)
     × Stands given log bench left × Wrote old new waited waits (λ text. IsAnswer text left)
@@ -55,7 +55,7 @@ BeginsLine given inputs reading said =
     (lines : List (List ℕ)) → (rest : List ℕ) × Says given reading inputs (said ++ rest) (λ new text. IsAnswered given new lines text)
 
 -- a line was answered: the session goes on, or the line ends it, or a fault came within
-abbrev pub Obeyed : Result Flow WriteFault → Given → List Input → Reading → List LogRow → Whole
+abbrev pub Obeyed : Result Flow WriteError → Given → List Input → Reading → List LogRow → Whole
     → Option (List ℕ) → Option (List ℕ) → List ℕ → List ℕ → Type 0
 Obeyed (Ok On) given inputs reading log bench old new waited waits = (left : List Input)
     × Stands given log bench left × Wrote old new waited waits (AnswersLine given inputs reading left)
@@ -76,13 +76,13 @@ pub record Holds (bytes held : List ℕ) : Type 0 where
   pub kept : held ≡ take 202 rest
 
 -- after bytes were taken: the session goes on with those held, or a line was `quit`
-abbrev pub HeldAfter : Result Flow WriteFault → List ℕ → List ℕ → Type 0
+abbrev pub HeldAfter : Result Flow WriteError → List ℕ → List ℕ → Type 0
 HeldAfter (Ok On) bytes held = Holds bytes held
 HeldAfter (Ok Over) bytes held = Quits bytes
 HeldAfter (Err e) bytes held = Unit {0}
 
 -- bytes were taken: the session goes on with those held, or a line ended it, or a fault did
-abbrev pub Went : Result Flow WriteFault → Given → List Input → List ℕ → List LogRow → Whole → List ℕ
+abbrev pub Went : Result Flow WriteError → Given → List Input → List ℕ → List LogRow → Whole → List ℕ
     → Option (List ℕ) → Option (List ℕ) → List ℕ → List ℕ → Type 0
 Went (Ok On) given inputs bytes log bench held old new waited waits = (left : List Input)
     × Stands given log bench left × Wrote old new waited waits (Carries given inputs bytes left held)
@@ -90,14 +90,14 @@ Went (Ok Over) given inputs bytes log bench held old new waited waits = Wrote ol
 Went (Err e) given inputs bytes log bench held old new waited waits = Wrote old new waited waits (IsBegun given inputs bytes)
 
 -- at the end of the input the bytes held are the last line
-abbrev pub Finished : Result (Unit {0}) WriteFault → Given → List Input → List ℕ → List ℕ → List ℕ → Type 0
+abbrev pub Finished : Result (Unit {0}) WriteError → Given → List Input → List ℕ → List ℕ → List ℕ → Type 0
 Finished (Ok u) given inputs held waits said = (waits ≡ []) × IsText given inputs held said
 Finished (Err e) given inputs held waits said = (rest : List ℕ) × IsText given inputs held (said ++ rest)
 
 -- ## The end
 
 -- what a session ends with after a write
-abbrev pub as_session : Result (Unit {0}) WriteFault → Result (Unit {0}) SessionFault
+abbrev pub as_session : Result (Unit {0}) WriteError → Result (Unit {0}) SessionError
 as_session (Ok u) = Ok u
 as_session (Err e) = Err Write
 

@@ -13,7 +13,7 @@ ghost use Rattle.tsb_text.specs.Answers.{Given, Answers, Asked, Steps};
 ghost use Rattle.tsb_text.specs.Talk.{Stands, Done};
 
 use crate::display_line::line_bytes;
-use crate::fault::WriteFault;
+use crate::error::WriteError;
 use crate::lines::{refused_line, undone_line};
 use crate::pending::Pending;
 use std::io::Write;
@@ -30,7 +30,7 @@ pub(crate) fn obey<W: Write>(
     command: Command,
     pending: &mut Pending,
     writer: &mut W,
-) -> Result<(), WriteFault>
+) -> Result<(), WriteError>
     ensures { (given : Given) (inputs : List Input) → Stands given log.now (whole bench.old) inputs
         → Done result given log.now (whole bench.new) (Answers given inputs command) (W.contents writer.old) (W.contents writer.new) pending.old pending.new }
 {
@@ -53,7 +53,7 @@ fn step<W: Write>(
     ticks: u32,
     pending: &mut Pending,
     writer: &mut W,
-) -> Result<(), WriteFault>
+) -> Result<(), WriteError>
     ensures { (given : Given) (inputs : List Input) → Stands given log.now (whole bench.old) inputs
         → Done result given log.now (whole bench.new) (Steps given inputs ticks) (W.contents writer.old) (W.contents writer.new) pending.old pending.new }
 {
@@ -94,7 +94,7 @@ fn ask<W: Write>(
     command: Cmd,
     pending: &mut Pending,
     writer: &mut W,
-) -> Result<(), WriteFault>
+) -> Result<(), WriteError>
     ensures { (given : Given) (log : List LogRow) (inputs : List Input) → Stands given log (whole bench.old) inputs
         → Done result given log (whole bench.new) (Asked given inputs command) (W.contents writer.old) (W.contents writer.new) pending.old pending.new }
 {

@@ -4,7 +4,7 @@
 ghost use Rattle.std.specs.Prelude.{◌≡◌, ◌≤◌, [], length, OnOk, OnErr};
 ghost use Rattle.tsb_text.specs.Written.{Said, with_feed};
 
-use crate::fault::WriteFault;
+use crate::error::WriteError;
 use arrayvec::ArrayVec;
 use std::io::Write;
 use std::marker::Model;
@@ -45,7 +45,7 @@ impl Pending {
 
     /// Says a line, and its line feed. Where there is no room for it, what waits is written first; after a fault in that
     /// the line was not said.
-    pub(crate) fn say<W: Write>(&mut self, writer: &mut W, line: &[u8]) -> Result<(), WriteFault>
+    pub(crate) fn say<W: Write>(&mut self, writer: &mut W, line: &[u8]) -> Result<(), WriteError>
         requires { length line.now ≤ 63 }
         ensures ok { OnOk result (Said (W.contents writer.old) (W.contents writer.new) self.old self.new (with_feed line.now)) }
         ensures fault { OnErr result (Said (W.contents writer.old) (W.contents writer.new) self.old self.new []) }
@@ -64,15 +64,15 @@ impl Pending {
     }
 
     /// Writes all that waits, by a loop of its own: an interrupted write, or one that takes no byte, is a fault.
-    pub(crate) fn send<W: Write>(&mut self, writer: &mut W) -> Result<(), WriteFault>
+    pub(crate) fn send<W: Write>(&mut self, writer: &mut W) -> Result<(), WriteError>
         ensures said { Said (W.contents writer.old) (W.contents writer.new) self.old self.new [] }
         ensures ok { OnOk result (self.new ≡ []) }
     {
         while self.gone < self.bytes.len() {
             match writer.write(&self.bytes[self.gone..]) {
-                Ok(0) => return Err(WriteFault),
+                Ok(0) => return Err(WriteError),
                 Ok(count) => self.gone += count,
-                Err(_) => return Err(WriteFault),
+                Err(_) => return Err(WriteError),
             }
         }
         Ok(())

@@ -13,7 +13,7 @@ ghost use Rattle.tsb_command_text.specs.declared.command.Reading.TheVariants.{Le
 ghost use Rattle.tsb_text.specs.Written.{Said, Wrote};
 
 use crate::answers::obey;
-use crate::fault::{SessionFault, WriteFault};
+use crate::error::{SessionError, WriteError};
 use crate::pending::Pending;
 use arrayvec::ArrayVec;
 use std::alloc::Global;
@@ -55,7 +55,7 @@ impl Talk {
         log: &Log,
         asked: Reading,
         writer: &mut W,
-    ) -> Result<Flow, WriteFault>
+    ) -> Result<Flow, WriteError>
         ensures obeyed { (given : Given) (inputs : List Input) → Stands given log.now (whole self.old.bench) inputs
             → Obeyed result given inputs asked log.now (whole self.new.bench) (W.contents writer.old) (W.contents writer.new) self.old.pending self.new.pending }
         ensures held { self.new.held ≡ self.old.held }
@@ -83,7 +83,7 @@ impl Talk {
     }
 
     /// Takes one byte more.
-    fn feed<W: Write>(&mut self, log: &Log, byte: u8, writer: &mut W) -> Result<Flow, WriteFault>
+    fn feed<W: Write>(&mut self, log: &Log, byte: u8, writer: &mut W) -> Result<Flow, WriteError>
         requires { HasNoFeed self.old.held.items }
         ensures went { (given : Given) (inputs : List Input) → Stands given log.now (whole self.old.bench) inputs
             → Went result given inputs (self.old.held.items ++ byte ∷ []) log.now (whole self.new.bench) self.new.held.items (W.contents writer.old) (W.contents writer.new) self.old.pending self.new.pending }
@@ -107,7 +107,7 @@ impl Talk {
         log: &Log,
         bytes: &[u8],
         writer: &mut W,
-    ) -> Result<Flow, WriteFault>
+    ) -> Result<Flow, WriteError>
         requires { HasNoFeed self.old.held.items }
         ensures went { (given : Given) (inputs : List Input) → Stands given log.now (whole self.old.bench) inputs
             → Went result given inputs (self.old.held.items ++ bytes.now) log.now (whole self.new.bench) self.new.held.items (W.contents writer.old) (W.contents writer.new) self.old.pending self.new.pending }
@@ -124,7 +124,7 @@ impl Talk {
     }
 
     /// Answers what stands behind the last line feed, at the end of the input, and writes all that waits.
-    fn finish<W: Write>(&mut self, log: &Log, writer: &mut W) -> Result<(), WriteFault>
+    fn finish<W: Write>(&mut self, log: &Log, writer: &mut W) -> Result<(), WriteError>
         requires { HasNoFeed self.old.held.items }
         ensures { (given : Given) (inputs : List Input) → Stands given log.now (whole self.old.bench) inputs
             → Wrote (W.contents writer.old) (W.contents writer.new) self.old.pending self.new.pending (Finished result given inputs self.old.held.items self.new.pending) }
@@ -135,7 +135,7 @@ impl Talk {
     }
 
     /// Writes all that waits, and has the writer pass it on.
-    fn send<W: Write>(&mut self, writer: &mut W) -> Result<(), WriteFault>
+    fn send<W: Write>(&mut self, writer: &mut W) -> Result<(), WriteError>
         ensures said { Said (W.contents writer.old) (W.contents writer.new) self.old.pending self.new.pending [] }
         ensures ok { OnOk result (self.new.pending ≡ []) }
         ensures rest { (self.new.bench ≡ self.old.bench) × (self.new.held ≡ self.old.held) }
@@ -143,7 +143,7 @@ impl Talk {
         self.pending.send(writer)?;
         match writer.flush() {
             Ok(()) => Ok(()),
-            Err(_) => Err(WriteFault),
+            Err(_) => Err(WriteError),
         }
     }
 
@@ -153,7 +153,7 @@ impl Talk {
         log: &Log,
         reader: &mut R,
         writer: &mut W,
-    ) -> Result<(), SessionFault>
+    ) -> Result<(), SessionError>
         requires held { self.old.held.items ≡ [] }
         requires waits { self.old.pending ≡ [] }
         ensures { (given : Given) → Stands given log.now (whole self.old.bench) []
@@ -166,24 +166,24 @@ impl Talk {
             let room = &mut chunk[..most];
             let count = match reader.read(room) {
                 Ok(count) => count,
-                Err(_) => return Err(SessionFault::Read),
+                Err(_) => return Err(SessionError::Read),
             };
             if count == 0 {
                 return as_session(self.finish(log, writer));
             }
             if left < count {
-                return Err(SessionFault::TooLarge);
+                return Err(SessionError::TooLarge);
             }
             left -= count;
             let flow = match self.feed_all(log, &room[..count], writer) {
                 Ok(flow) => flow,
-                Err(_) => return Err(SessionFault::Write),
+                Err(_) => return Err(SessionError::Write),
             };
             let sent = self.send(writer);
             match flow {
                 Flow::On => {
                     if sent.is_err() {
-                        return Err(SessionFault::Write);
+                        return Err(SessionError::Write);
                     }
                 }
                 Flow::Over => return as_session(sent),
@@ -193,12 +193,12 @@ impl Talk {
 }
 
 /// What a session ends with after this.
-fn as_session(sent: Result<(), WriteFault>) -> Result<(), SessionFault>
+fn as_session(sent: Result<(), WriteError>) -> Result<(), SessionError>
     ensures { result ≡ as_session sent }
 {
     match sent {
         Ok(()) => Ok(()),
-        Err(_) => Err(SessionFault::Write),
+        Err(_) => Err(SessionError::Write),
     }
 }
 
@@ -213,7 +213,7 @@ pub fn session<R: Read, W: Write>(
     log: &Log,
     reader: &mut R,
     writer: &mut W,
-) -> Result<(), SessionFault>
+) -> Result<(), SessionError>
     ensures { Ended result (record { plan = runnable_plan plan; log = log.now })
         (R.remaining reader.old) (R.remaining reader.new) (W.contents writer.old) (W.contents writer.new) }
 {

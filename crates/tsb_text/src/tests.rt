@@ -131,7 +131,7 @@ fn talk<R: Read, W: Write>(
     rt: &HostRuntime,
     reader: &mut R,
     writer: &mut W,
-) -> Option<Result<(), SessionFault>> {
+) -> Option<Result<(), SessionError>> {
     let plan = Runnable::new(Plan::two()).ok()?;
     let log = Log::empty(rt.alloc());
     Some(session(rt.alloc(), plan, &log, reader, writer))
@@ -173,7 +173,7 @@ fn a_failing_read_leaves_a_front(rt: HostRuntime) {
         assert!(rt;
             matches!(
                 talk(&rt, &mut reader, &mut out),
-                Some(Err(SessionFault::Read))
+                Some(Err(SessionError::Read))
             )
         );
         assert!(rt; OUTPUT.starts_with(out.as_slice()));
@@ -195,7 +195,7 @@ fn a_failing_write_leaves_a_front(rt: HostRuntime) {
             assert!(rt;
                 matches!(
                     talk(&rt, &mut reader, &mut out),
-                    Some(Err(SessionFault::Write))
+                    Some(Err(SessionError::Write))
                 )
             );
             let end = out.len.min(ROOM);
@@ -210,7 +210,7 @@ fn a_writer_that_passes_nothing_on_is_a_fault(rt: HostRuntime) {
     assert!(rt;
         matches!(
             talk(&rt, &mut reader, &mut Stuck),
-            Some(Err(SessionFault::Write))
+            Some(Err(SessionError::Write))
         )
     );
 }
@@ -225,7 +225,7 @@ fn a_reader_that_never_ends_is_too_large(rt: HostRuntime) {
     assert!(rt;
         matches!(
             talk(&rt, &mut more, &mut out),
-            Some(Err(SessionFault::TooLarge))
+            Some(Err(SessionError::TooLarge))
         )
     );
     assert_eq!(rt; more.left, usize::MAX - COMMANDS - 1);
@@ -374,10 +374,10 @@ fn a_line_is_that_of_the_state(rt: HostRuntime) {
 #[test]
 fn faults_have_lines(rt: HostRuntime) {
     for (fault, text) in [
-        (SessionFault::Memory, "memory"),
-        (SessionFault::Read, "read fault"),
-        (SessionFault::Write, "write fault"),
-        (SessionFault::TooLarge, "commands: too large"),
+        (SessionError::Memory, "memory"),
+        (SessionError::Read, "read fault"),
+        (SessionError::Write, "write fault"),
+        (SessionError::TooLarge, "commands: too large"),
     ] {
         let mut line = Vec::new(rt.alloc());
         assert!(rt; write!(line, "{fault}").is_ok());

@@ -10,7 +10,7 @@ use tsb_objects::{Object, Rule};
 /// Faults are in the order of the variants, and those of members and of indices in the byte order of their
 /// names: a member is judged whole before the next, and so is an index.
 #[derive(Debug, Drop, Error)]
-pub enum PlanFault {
+pub enum PlanError {
     /// There is no memory to read the text or to tell its fault. The text may have any fault but `TooLarge`,
     /// or none.
     #[error("memory")]
@@ -68,13 +68,13 @@ pub enum PlanFault {
     Rule(Rule),
 }
 
-impl From<AllocError> for PlanFault {
+impl From<AllocError> for PlanError {
     ghost use Rattle.std.specs.Prelude.{◌≡◌};
-    ghost use Rattle.tsb_plan_text.specs.declared.fault.PlanFault.TheVariants.{Memory};
+    ghost use Rattle.tsb_plan_text.specs.declared.error.PlanError.TheVariants.{Memory};
 
     ghost from_gives = { λ _ e. e ≡ Memory };
 
-    fn from(_refused: AllocError) -> PlanFault {
-        PlanFault::Memory
+    fn from(_refused: AllocError) -> PlanError {
+        PlanError::Memory
     }
 }

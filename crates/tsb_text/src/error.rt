@@ -4,7 +4,7 @@ use thiserror::Error;
 
 /// What ends a session before its commands do. What was written until then is a front of the session's text.
 #[derive(Clone, Copy, Debug, PartialEq, Eq, Error)]
-pub enum SessionFault {
+pub enum SessionError {
     /// There was no memory to begin with. So far a session asks for none then.
     #[error("memory")]
     Memory,
@@ -21,4 +21,4 @@ pub enum SessionFault {
 
 /// A write failed, was interrupted or took no byte, or the writer did not pass on what it had taken.
 #[derive(Clone, Copy, Debug, PartialEq, Eq)]
-pub(crate) struct WriteFault;
+pub(crate) struct WriteError;

@@ -5,7 +5,7 @@ use tsb_objects::Refusal;
 
 /// What is wrong with a line that is no case.
 #[derive(Clone, Copy, Debug, Error, PartialEq, Eq)]
-pub enum Fault {
+pub enum CaseError {
     /// It can't be read.
     #[error("malformed")]
     Malformed,
@@ -14,8 +14,8 @@ pub enum Fault {
     Refused,
 }
 
-impl From<Refusal> for Fault {
-    fn from(_refusal: Refusal) -> Fault {
-        Fault::Refused
+impl From<Refusal> for CaseError {
+    fn from(_refusal: Refusal) -> CaseError {
+        CaseError::Refused
     }
 }

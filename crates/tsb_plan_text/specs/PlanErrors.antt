@@ -3,24 +3,24 @@ use Rattle.std.specs.Prelude.{◌≡◌, ℕ, List, Result, Ok, Err, string_byte
 use Rattle.tsb_rules.specs.declared.rules.Rule.{Rule}
 use Rattle.tsb_plan.specs.declared.object.Object.{Object}
 use Rattle.tsb_plan.specs.Plan.{Plan}
-use Rattle.tsb_plan_text.specs.declared.fault.PlanFault.{PlanFault}
-use Rattle.tsb_plan_text.specs.declared.fault.PlanFault.TheVariants as told
+use Rattle.tsb_plan_text.specs.declared.error.PlanError.{PlanError}
+use Rattle.tsb_plan_text.specs.declared.error.PlanError.TheVariants as told
 
 -- a name is what the text has, and an index too
-pub data Fault : Type 0 where
-  too_large : Fault
-  not_json : Fault
-  not_a_table : Fault
-  no_version : Fault
-  no_such_object : List ℕ → Fault
-  object_not_a_table : Object → Fault
-  no_such_index : Object → List ℕ → Fault
-  not_a_whole_number : Object → List ℕ → Fault
-  out_of_range : Object → List ℕ → Fault
-  broken : Rule → Fault
+pub data Error : Type 0 where
+  too_large : Error
+  not_json : Error
+  not_a_table : Error
+  no_version : Error
+  no_such_object : List ℕ → Error
+  object_not_a_table : Object → Error
+  no_such_index : Object → List ℕ → Error
+  not_a_whole_number : Object → List ℕ → Error
+  out_of_range : Object → List ℕ → Error
+  broken : Rule → Error
 
 -- The answer is this fault, or memory ran out: `Memory` alone stands for any fault.
-abbrev pub Tells : {A : Type 0} → PlanFault → Result A Fault → Type 0
+abbrev pub Tells : {A : Type 0} → PlanError → Result A Error → Type 0
 Tells told.Memory read = Unit {0}
 Tells told.TooLarge read = read ≡ Err too_large
 Tells told.NotJson read = read ≡ Err not_json
@@ -34,11 +34,11 @@ Tells (told.OutOfRange o index) read = read ≡ Err (out_of_range o (string_byte
 Tells (told.Rule r) read = read ≡ Err (broken r)
 
 -- What was answered, seen by view, is what the definition gives, fault for fault, or memory ran out.
-abbrev pub Gives : {A B : Type 0} → (A → B) → Result A PlanFault → Result B Fault → Type 0
+abbrev pub Gives : {A B : Type 0} → (A → B) → Result A PlanError → Result B Error → Type 0
 Gives view (Ok x) read = read ≡ Ok (view x)
 Gives view (Err e) read = Tells e read
 
 -- The same of a call that changes a plan to this one. After a fault nothing is said of the plan.
-abbrev pub Makes : Result (Unit {0}) PlanFault → Plan → Result Plan Fault → Type 0
+abbrev pub Makes : Result (Unit {0}) PlanError → Plan → Result Plan Error → Type 0
 Makes (Ok u) plan read = read ≡ Ok plan
 Makes (Err e) plan read = Tells e read

@@ -4,7 +4,7 @@ use thiserror::Error;
 
 /// Why a text is no log. Lines count from 1, and those that are skipped count too.
 #[derive(Clone, Copy, Debug, Error, PartialEq, Eq)]
-pub enum LogFault {
+pub enum LogError {
     /// Memory ran out. A fault of a line may stand behind it.
     #[error("memory")]
     Memory,
