@@ -1,9 +1,9 @@
 -- Ticks that find the rows of phases as an earlier one did, and leave them so.
-use Rattle.std.proofs.Common.{◌≡◌, ◌≢◌, ℕ, ◌+◌, ◌-◌, ◌*◌, ◌<◌, ◌≤◌, ◌==◌, min, nat_le, List, slice_index, Bool, true, false, ◌&&◌, ◌||◌, if◌then◌else◌, Option, Some, None, refl, sym, ap, ap₂, subst, ◌∙◌, inl, inr, arith}
-use Rattle.std.proofs.lemmas.Bool.{cond-true, cond-false}
+use Rattle.std.proofs.Common.{◌≡◌, ◌≢◌, ℕ, ◌+◌, ◌-◌, ◌*◌, ◌<◌, ◌≤◌, min, nat_le, List, slice_index, Bool, true, false, ◌&&◌, ◌||◌, if◌then◌else◌, Option, Some, None, is_none, refl, sym, ap, ap₂, subst, ◌∙◌, inl, inr, arith}
+use Rattle.std.proofs.lemmas.Bool.{cond-true}
 use Rattle.std.proofs.lemmas.Bool.Decides.{nat_tests, eqb_tells}
 use Rattle.tsb_cells.specs.declared.timer.Timer.{Timer}
-use Rattle.tsb_cells.specs.declared.timer.Timer.TheVariants.{Off}
+use Rattle.tsb_cells.specs.declared.timer.Timer.TheVariants.{Off, On}
 use Rattle.tsb_cells.specs.Timer.{timer_at, has_reached, started}
 use Rattle.tsb_cells.proofs.TimerLemmas.{timer_at-on, timer_at-off}
 use Rattle.tsb_types.specs.declared.interval.Interval.{Interval}
@@ -11,15 +11,18 @@ use Rattle.tsb_types.specs.declared.interval.Interval.TheVariants.{Red, Green, Y
 use Rattle.tsb_types.specs.declared.interval.PedestrianInterval.{PedestrianInterval}
 use Rattle.tsb_types.specs.declared.interval.PedestrianInterval.TheVariants.{DontWalk, Walk, PedestrianClear}
 use Rattle.tsb_types.specs.Intervals.{is_green, is_dont_walk, in_service}
-use Rattle.tsb_plan.specs.Plan.{Plan, passage, yellow_change, red_clear, red_revert}
+use Rattle.tsb_plan.specs.Plan.{Plan, yellow_change, red_clear, red_revert, time_before_reduction, time_to_reduce, disables_simultaneous_gap}
 use Rattle.tsb_phase.specs.declared.phase_row.PhaseRow.{PhaseRow}
-use Rattle.tsb_phase.specs.Phase.{Phase, Given, Held, none_moved, held_of}
-use Rattle.tsb_phase.specs.Green.{passage_timer, reduction_timer, gapped_latch, forced_latch, is_gapped, gap}
+use Rattle.tsb_phase.specs.Phase.{Phase, Given, none_moved, held_of}
+use Rattle.tsb_phase.specs.Green.{passage_timer, conflict_timer, begun, begins_reduction, has_cars_before_reduction, reduction_timer, gap_has_expired, gapped_latch, forced_latch, is_gapped, is_by_gap, gap, initial}
+use Rattle.tsb_phase.specs.DynamicMaximum.{maximum_in_use}
 use Rattle.tsb_phase.specs.Pedestrian.{ended_by, walk_time, clearance_time, is_resting_in_walk, pedestrian_now, pedestrian_timer_in}
-use Rattle.tsb_phase.specs.Ready.{is_ready, is_over, is_gapped_now, red_revert_passed, has_passed, green_is_done}
+use Rattle.tsb_phase.specs.Ready.{is_ready, is_over, is_gapped_now, red_revert_passed, has_passed, green_is_done, may_end, needs_forced, has_timed_out}
 use Rattle.tsb_phase.specs.Next.{next_from_read}
 use Rattle.tsb_phase.specs.Rows.{row_in, phase_of, interval_of_row, pedestrian_of_row, IsRowBy}
-use Rattle.tsb_phase.specs.Due.{least_of, IsAtRest, IsStill, StaysReverted}
+use Rattle.tsb_phase.specs.Cells.{number_in}
+use Rattle.tsb_phase.specs.Due.{least_of, has_expired, IsKept, IsStill, StaysReverted}
+use Rattle.tsb_phase.proofs.BoundLemmas.{gap_falls_on, gap_reduced}
 use Rattle.tsb_phase.proofs.GreenLemmas.{same_phase, next-green}
 use Rattle.tsb_phase.proofs.ReadLemmas.{IsRedRow, is-red, red-state, told-red, dont-walk}
 
@@ -73,6 +76,54 @@ reverts-here plan cells now t n p cell limit same e f h =
     subst (λ (c : ℕ). c ≤ now + 1 → now ≤ t → has_reached (timer_at t c) limit ≡ has_reached (timer_at now c) limit) e h in
     at-limit (timer_at t (slice_index cells (88 + p))) (timer_at now (slice_index cells (88 + p))) limit (red_revert plan p) f (by_cell within after)))
 
+-- ## The gap
+
+off-not-on : (n : ℕ) → Off ≡ On n → ⊥
+off-not-on n e = cc
+
+on-not-off : (n : ℕ) → On n ≡ Off → ⊥
+on-not-off n e = cc
+
+-- a limit that is no smaller is not reached either, and one that is no greater is
+not-over : (x : Timer) (l m : ℕ) → l ≤ m → has_reached x l ≡ false → has_reached x m ≡ false
+not-over Off l m more h = refl
+not-over (On n) l m more h = grind (arith, nat_tests, more, h)
+
+reached-on : (now t cell l m : ℕ) → now ≤ t → m ≤ l → has_reached (timer_at now cell) l ≡ true → has_reached (timer_at t cell) m ≡ true
+reached-on now t cell l m after less h =
+    elim (eqb_tells cell 0) [
+      | inl zero ↦ rw zero.0 (rw zero.0 at h)
+      | inr on ↦ rw on.0 (on-still (now + 1 - cell) (t + 1 - cell) l m (omega (arith, after)) less (rw on.0 at h))
+    ]
+  where
+    on-still : (a b l m : ℕ) → a ≤ b → m ≤ l → nat_le l a ≡ true → nat_le m b ≡ true
+    on-still a b l m more less h = grind (arith, nat_tests, more, less, h)
+
+-- a reduction timer that runs on
+runs-on : (now t cell : ℕ) → now ≤ t → (plan : Plan) (p : ℕ) → gap plan p (timer_at t cell) ≤ gap plan p (timer_at now cell)
+runs-on now t cell after plan p =
+    elim (eqb_tells cell 0) [
+      | inl zero ↦ rw zero.0 (omega arith)
+      | inr on ↦ rw on.0 (gap_falls_on plan p (now + 1 - cell) (t + 1 - cell) (omega (arith, after)))
+    ]
+
+-- whether it has, as it is found at tick `now`
+pub expired-found : (plan : Plan) (p : ℕ) (r : PhaseRow) (now limit : ℕ) (x : Timer) (b : Bool) → x ≡ timer_at now r.reduction →
+    limit ≡ gap plan p x → b ≡ has_reached (timer_at now r.passage) limit → has_expired plan p r now ≡ b
+expired-found plan p r now limit x b e f h =
+    ap (λ (n : ℕ). has_reached (timer_at now r.passage) n) (sym (f ∙ ap (gap plan p) e)) ∙ sym h
+
+-- once the passage timer has reached the gap it stays so
+pub expired-stays : (plan : Plan) (p : ℕ) (r : PhaseRow) (now t : ℕ) → now ≤ t → has_expired plan p r now ≡ true → has_expired plan p r t ≡ true
+expired-stays plan p r now t after h = reached-on now t r.passage _ _ after (runs-on now t r.reduction after plan p) h
+
+-- while the gap is being reduced the passage timer has not reached it before it reaches the least gap
+pub on-unexpired : (plan : Plan) (p : ℕ) (r : PhaseRow) (t : ℕ) → 1 ≤ r.reduction →
+    has_reached (timer_at t r.passage) (gap plan p (On (time_to_reduce plan p))) ≡ false → has_expired plan p r t ≡ false
+on-unexpired plan p r t on h =
+    subst (λ (x : Timer). has_reached (timer_at t r.passage) (gap plan p x) ≡ false) (sym (timer_at-on t r.reduction on))
+    (not-over (timer_at t r.passage) _ _ (gap_reduced plan p (t + 1 - r.reduction)) h)
+
 -- ## The pedestrian part of a green
 
 rest-false : (b : Bool) (x : PedestrianInterval) → (if b && false then x else Walk) ≡ Walk
@@ -103,43 +154,90 @@ part-timer DontWalk x off = sym (off refl)
 part-timer Walk x off = refl
 part-timer PedestrianClear x off = refl
 
--- ## A green without conflict
+-- ## A green whose timers and latches tick `now` leaves as they were
 
-and-false : (b : Bool) → (b && false) ≡ false
-and-false true = refl
-and-false false = refl
+-- a timer that is Off where a test holds, and else On
+stays-unless : (now t cell : ℕ) (off : Bool) → timer_at now cell ≡ (if off then Off else started (timer_at now cell)) →
+    timer_at t cell ≡ (if off then Off else started (timer_at t cell))
+stays-unless now t cell true e =
+    elim (eqb_tells cell 0) [
+      | inl zero ↦ rw zero.0 refl
+      | inr on ↦ absurd (on-not-off (now + 1 - cell) (rw on.0 at e))
+    ]
+stays-unless now t cell false e =
+    elim (eqb_tells cell 0) [
+      | inl zero ↦ absurd (off-not-on 0 (rw zero.0 at e))
+      | inr on ↦ rw on.0 refl
+    ]
 
-force-false : (a b : Bool) → (a && (b && false)) ≡ false
-force-false true b = and-false b
-force-false false b = refl
+-- and one that is On where a test holds
+stays-while : (now t cell : ℕ) (on : Bool) → timer_at now cell ≡ (if on then started (timer_at now cell) else Off) →
+    timer_at t cell ≡ (if on then started (timer_at t cell) else Off)
+stays-while now t cell true e = stays-unless now t cell false e
+stays-while now t cell false e = stays-unless now t cell true e
 
-module _ (plan : Plan) (given : Given) (p : ℕ) (alone : given.conflict p ≡ false) where
-  no-reduction : (held : Held) → reduction_timer plan given p held ≡ Off
-  unfolding reduction_timer
-  no-reduction held = rw alone refl
+-- and one that has begun by a test
+stays-begun : (now t cell : ℕ) (on begins : Bool) → timer_at now cell ≡ (if on then begun begins (timer_at now cell) else Off) →
+    timer_at t cell ≡ (if on then begun begins (timer_at t cell) else Off)
+stays-begun now t cell false begins e = stays-unless now t cell true e
+stays-begun now t cell true begins e =
+    elim (eqb_tells cell 0) [
+      | inl zero ↦ rw zero.0 (rw zero.0 at e)
+      | inr on ↦ rw on.0 refl
+    ]
 
-  no-gap : gap plan p Off ≡ passage plan p
-  unfolding gap
-  no-gap = refl
+-- what two timers have reached, of two that are the same
+reach-as : (x y x' y' : Timer) (limit : ℕ) → x ≡ x' → y ≡ y' → has_reached x limit ≡ has_reached y limit → has_reached x' limit ≡ has_reached y' limit
+reach-as x y x' y' limit e f h = ap (λ (z : Timer). has_reached z limit) (sym e) ∙ h ∙ ap (λ (z : Timer). has_reached z limit) f
 
-  no-latch : (held : Held) → gapped_latch plan given p held ≡ false
-  no-latch held = rw alone (and-false _)
+module _ (plan : Plan) (given : Given) (p : ℕ) (r : PhaseRow) (now t : ℕ) (kept : IsKept plan given p r now) where
+  passage-then : timer_at t r.passage ≡ passage_timer given p (held_of (phase_of t r))
+  passage-then = stays-unless now t r.passage (given.output p) kept.passage
 
-  no-force : (held : Held) → forced_latch given p held ≡ false
-  no-force held = rw alone (force-false _ _)
+  conflict-then : timer_at t r.conflict ≡ conflict_timer given p (held_of (phase_of t r))
+  conflict-then = stays-while now t r.conflict (given.conflict p) kept.conflict
 
-  -- it gaps out by its passage timer alone
-  gapped-alone : (held : Held) → is_gapped plan given p held ≡ (has_reached (passage_timer given p held) (passage plan p) || false)
-  gapped-alone held = rw (no-latch held, no-reduction held, no-gap) refl
+  reach-conflict : (limit : ℕ) → has_reached (timer_at t r.conflict) limit ≡ has_reached (timer_at now r.conflict) limit →
+      has_reached (conflict_timer given p (held_of (phase_of t r))) limit ≡ has_reached (conflict_timer given p (held_of (phase_of now r))) limit
+  reach-conflict limit h = reach-as _ _ _ _ limit conflict-then kept.conflict h
 
-  module _ (w v : Phase) (expired : has_reached (passage_timer given p (held_of w)) (passage plan p) ≡ has_reached (passage_timer given p (held_of v)) (passage plan p)) where
-    gapped-still : is_gapped plan given p (held_of w) ≡ is_gapped plan given p (held_of v)
-    gapped-still = gapped-alone (held_of w) ∙ ap (λ (b : Bool). b || false) expired ∙ sym (gapped-alone (held_of v))
+  module _ (before : has_reached (timer_at t r.conflict) (time_before_reduction plan p) ≡ has_reached (timer_at now r.conflict) (time_before_reduction plan p)) where
+    begins-then : begins_reduction plan given p (held_of (phase_of t r)) ≡ begins_reduction plan given p (held_of (phase_of now r))
+    begins-then = ap (λ (b : Bool). b || has_cars_before_reduction plan given p) (reach-conflict (time_before_reduction plan p) before)
 
-    done-still : (o : Option ℕ) → has_reached w.timer (least_of plan given p o) ≡ has_reached v.timer (least_of plan given p o) →
-        green_is_done plan given p w o ≡ green_is_done plan given p v o
-    done-still None least = rw (gapped-still, least, alone) refl
-    done-still (Some n) least = least
+    reduction-then : timer_at t r.reduction ≡ reduction_timer plan given p (held_of (phase_of t r))
+    unfolding reduction_timer
+    reduction-then =
+        subst (λ (b : Bool). timer_at t r.reduction ≡ (if given.conflict p then begun b (timer_at t r.reduction) else Off)) (sym begins-then)
+        (stays-begun now t r.reduction (given.conflict p) (begins_reduction plan given p (held_of (phase_of now r))) kept.reduction)
+
+    module _ (turned : has_expired plan p r t ≡ has_expired plan p r now) where
+      expired-then : gap_has_expired plan given p (held_of (phase_of t r)) ≡ gap_has_expired plan given p (held_of (phase_of now r))
+      expired-then =
+          ap₂ (λ (x y : Timer). has_reached x (gap plan p y)) (sym passage-then) (sym reduction-then) ∙ turned
+          ∙ ap₂ (λ (x y : Timer). has_reached x (gap plan p y)) kept.passage kept.reduction
+
+      module _ (passed : has_reached (timer_at t r.timer) (initial plan p (given.count p)) ≡ has_reached (timer_at now r.timer) (initial plan p (given.count p))) where
+        latch-then : gapped_latch plan given p (held_of (phase_of t r)) ≡ gapped_latch plan given p (held_of (phase_of now r))
+        latch-then =
+            ap₂ (λ (a b : Bool). disables_simultaneous_gap plan p && (given.conflict p && (r.gapped || (a && b)))) passed expired-then
+
+        gapped-then : is_gapped plan given p (held_of (phase_of t r)) ≡ is_gapped plan given p (held_of (phase_of now r))
+        gapped-then = ap₂ (λ (a b : Bool). a || b) expired-then latch-then
+
+        module _ (most : has_reached (timer_at t r.conflict) (maximum_in_use plan p (number_in r.running_maximum)) ≡ has_reached (timer_at now r.conflict) (maximum_in_use plan p (number_in r.running_maximum))) where
+          timed-then : has_timed_out plan given p (phase_of t r) ≡ has_timed_out plan given p (phase_of now r)
+          timed-then =
+              ap₂ (λ (a b : Bool). is_by_gap plan given p a || ((is_none given.runs && b) || forced_latch given p (held_of (phase_of now r)))) gapped-then
+              (reach-conflict (maximum_in_use plan p (number_in r.running_maximum)) most)
+
+          may-end-then : may_end plan given p (phase_of t r) ≡ may_end plan given p (phase_of now r)
+          may-end-then = ap (λ (b : Bool). if needs_forced given p then forced_latch given p (held_of (phase_of now r)) else b) timed-then
+
+          done-then : (o : Option ℕ) → has_reached (timer_at t r.timer) (least_of plan given p o) ≡ has_reached (timer_at now r.timer) (least_of plan given p o) →
+              green_is_done plan given p (phase_of t r) o ≡ green_is_done plan given p (phase_of now r) o
+          done-then None least = ap₂ (λ (a b : Bool). a && b) passed may-end-then
+          done-then (Some n) least = least
 
 ready-green : (plan : Plan) (given : Given) (p : ℕ) (w v : Phase) → w.interval ≡ Green → v.interval ≡ Green →
     pedestrian_now plan given p w ≡ pedestrian_now plan given p v →
@@ -161,24 +259,18 @@ reverted-green : (plan : Plan) (p : ℕ) (w v : Phase) → w.interval ≡ Green 
 unfolding red_revert_passed
 reverted-green plan p w v e f same = rw (e, f) same
 
--- a timer that is Off where an output is on, and else On
-rests-on : (t cell : ℕ) (output : Bool) → (cell == 0) ≡ output → timer_at t cell ≡ (if output then Off else started (timer_at t cell))
-rests-on t cell true e = rw e refl
-rests-on t cell false e = rw e refl
-
-pub green-still : (plan : Plan) (given : Given) (p : ℕ) (r : PhaseRow) (now t : ℕ) → r.green ≡ true → IsRowBy t r → IsAtRest given p r →
+pub green-still : (plan : Plan) (given : Given) (p : ℕ) (r : PhaseRow) (now t : ℕ) → r.green ≡ true → IsRowBy t r → IsKept plan given p r now →
     pedestrian_now plan given p (phase_of t r) ≡ pedestrian_of_row r →
     pedestrian_now plan given p (phase_of now r) ≡ pedestrian_of_row r →
     has_reached (timer_at t r.timer) (least_of plan given p (ended_by given p)) ≡ has_reached (timer_at now r.timer) (least_of plan given p (ended_by given p)) →
-    has_reached (timer_at t r.passage) (passage plan p) ≡ has_reached (timer_at now r.passage) (passage plan p) →
+    has_reached (timer_at t r.timer) (initial plan p (given.count p)) ≡ has_reached (timer_at now r.timer) (initial plan p (given.count p)) →
+    has_expired plan p r t ≡ has_expired plan p r now →
+    has_reached (timer_at t r.conflict) (time_before_reduction plan p) ≡ has_reached (timer_at now r.conflict) (time_before_reduction plan p) →
+    has_reached (timer_at t r.conflict) (maximum_in_use plan p (number_in r.running_maximum)) ≡ has_reached (timer_at now r.conflict) (maximum_in_use plan p (number_in r.running_maximum)) →
     has_reached (timer_at t r.red_revert) (red_revert plan p) ≡ has_reached (timer_at now r.red_revert) (red_revert plan p) →
     IsStill plan given p r now t
-green-still plan given p r now t is by rest part part-now least passed revert =
+green-still plan given p r now t is by kept part part-now least passed turned before most revert =
     let green : interval_of_row r ≡ Green = cond-true r.green Green _ is in
-    let passage-at : passage_timer given p (held_of (phase_of t r)) ≡ timer_at t r.passage = sym (rests-on t r.passage (given.output p) rest.passage) in
-    let passage-now : passage_timer given p (held_of (phase_of now r)) ≡ timer_at now r.passage = sym (rests-on now r.passage (given.output p) rest.passage) in
-    let expired : has_reached (passage_timer given p (held_of (phase_of t r))) (passage plan p) ≡ has_reached (passage_timer given p (held_of (phase_of now r))) (passage plan p) =
-    ap (λ (x : Timer). has_reached x (passage plan p)) passage-at ∙ passed ∙ sym (ap (λ (x : Timer). has_reached x (passage plan p)) passage-now) in
     record {
       state =
           same_phase _ _
@@ -187,18 +279,18 @@ green-still plan given p r now t is by rest part part-now least passed revert =
           (sym part)
           (sym (part-timer (pedestrian_of_row r) (timer_at t r.pedestrian_timer) (λ e. timer_at-off t r.pedestrian_timer (by.dont_walk e)))
           ∙ ap (λ (x : PedestrianInterval). pedestrian_timer_in (pedestrian_of_row r) x (timer_at t r.pedestrian_timer)) (sym part))
-          (sym passage-at)
-          (timer_at-off t r.conflict rest.conflict ∙ sym (cond-false (given.conflict p) _ Off rest.alone))
-          (timer_at-off t r.reduction rest.reduction ∙ sym (no-reduction plan given p rest.alone (held_of (phase_of t r))))
-          (rest.gapped ∙ sym (no-latch plan given p rest.alone (held_of (phase_of t r))))
-          (rest.forced ∙ sym (no-force plan given p rest.alone (held_of (phase_of t r))))
+          (passage-then plan given p r now t kept)
+          (conflict-then plan given p r now t kept)
+          (reduction-then plan given p r now t kept before)
+          (kept.gapped ∙ sym (latch-then plan given p r now t kept before turned passed))
+          kept.forced
           refl
           refl
           refl
           ∙ sym (next-green plan given p (phase_of t r) green);
-      ready = ready-green plan given p (phase_of t r) (phase_of now r) green green (part ∙ sym part-now) (done-still plan given p rest.alone (phase_of t r) (phase_of now r) expired (ended_by given p) least);
+      ready = ready-green plan given p (phase_of t r) (phase_of now r) green green (part ∙ sym part-now) (done-then plan given p r now t kept before turned passed most (ended_by given p) least);
       over = over-green plan p (phase_of t r) (phase_of now r) green green;
-      gapped = gapped-green plan given p (phase_of t r) (phase_of now r) green green (gapped-still plan given p rest.alone (phase_of t r) (phase_of now r) expired);
+      gapped = gapped-green plan given p (phase_of t r) (phase_of now r) green green (gapped-then plan given p r now t kept before turned passed);
       reverted = reverted-green plan p (phase_of t r) (phase_of now r) green green (passed-same t now r.red_revert (red_revert plan p) revert);
     }
 

@@ -1,11 +1,11 @@
 -- Rows of phases that later ticks find and leave as tick `now` did, while what a tick tells phase timing stays the same.
-use Rattle.std.specs.Prelude.{◌≡◌, ℕ, ◌+◌, ◌≤◌, ◌==◌, false, min, List, Option, Some, None}
+use Rattle.std.specs.Prelude.{◌≡◌, ℕ, ◌+◌, ◌≤◌, min, Bool, List, Option, Some, None}
 use Rattle.tsb_cells.specs.Timer.{timer_at, has_reached}
 use Rattle.tsb_plan.specs.Plan.{Plan, red_revert}
 use Rattle.tsb_plan.specs.Parts.{preempt_minimum_green}
 use Rattle.tsb_phase.specs.declared.phase_row.PhaseRow.{PhaseRow}
-use Rattle.tsb_phase.specs.Phase.{Given, none_moved}
-use Rattle.tsb_phase.specs.Green.{initial}
+use Rattle.tsb_phase.specs.Phase.{Given, none_moved, held_of}
+use Rattle.tsb_phase.specs.Green.{initial, gap, passage_timer, conflict_timer, reduction_timer, gapped_latch, forced_latch}
 use Rattle.tsb_phase.specs.Ready.{is_ready, is_over, is_gapped_now, red_revert_passed}
 use Rattle.tsb_phase.specs.Next.{next_from_read}
 use Rattle.tsb_phase.specs.Rows.{phase_of, row_in}
@@ -23,14 +23,17 @@ abbrev pub least_of : Plan → Given → ℕ → Option ℕ → ℕ
 least_of plan given p None = initial plan p (given.count p)
 least_of plan given p (Some n) = min (initial plan p (given.count p)) (preempt_minimum_green plan n)
 
--- a green without conflict, whose row is as such a green has it
-pub record IsAtRest (given : Given) (p : ℕ) (r : PhaseRow) : Type 0 where
-  pub alone : given.conflict p ≡ false
-  pub gapped : r.gapped ≡ false
-  pub forced : r.forced ≡ false
-  pub conflict : r.conflict ≡ 0
-  pub reduction : r.reduction ≡ 0
-  pub passage : (r.passage == 0) ≡ given.output p
+-- at tick t the passage timer of a green has reached its gap
+abbrev pub has_expired : Plan → ℕ → PhaseRow → ℕ → Bool
+has_expired plan p r t = has_reached (timer_at t r.passage) (gap plan p (timer_at t r.reduction))
+
+-- what runs of a green, its timers and its latches, tick `now` leaves as it was
+pub record IsKept (plan : Plan) (given : Given) (p : ℕ) (r : PhaseRow) (now : ℕ) : Type 0 where
+  pub passage : timer_at now r.passage ≡ passage_timer given p (held_of (phase_of now r))
+  pub conflict : timer_at now r.conflict ≡ conflict_timer given p (held_of (phase_of now r))
+  pub reduction : timer_at now r.reduction ≡ reduction_timer plan given p (held_of (phase_of now r))
+  pub gapped : r.gapped ≡ gapped_latch plan given p (held_of (phase_of now r))
+  pub forced : r.forced ≡ forced_latch given p (held_of (phase_of now r))
 
 -- at tick t the red revert timer of phase p has reached its time just where it has at tick `now`
 abbrev pub StaysReverted : Plan → List ℕ → ℕ → ℕ → ℕ → Type 0

@@ -8,15 +8,18 @@ ghost use Rattle.tsb_phase.specs.Phase.{Given};
 ghost use Rattle.tsb_phase.specs.Pedestrian.{ended_by, pedestrian_now};
 ghost use Rattle.tsb_phase.specs.Promises.{given_of};
 ghost use Rattle.tsb_phase.specs.Rows.{row_in, phase_of, interval_of_row, pedestrian_of_row, IsRowBy};
-ghost use Rattle.tsb_phase.specs.Due.{least_of, IsAtRest, IsStill, StaysReverted};
+ghost use Rattle.tsb_phase.specs.Due.{least_of, has_expired, IsKept, IsStill, StaysReverted};
 
 use crate::conditions::Conditions;
-use crate::green::count;
+use crate::dynamic::maximum_in_use;
+use crate::green::{count, has_reached, run_green};
 use crate::pedestrian::{clearance_time, ended_by, is_resting_in_walk, pedestrian_of, walk_time};
-use crate::phase_row::PhaseRow;
+use crate::phase_row::{PhaseRow, known};
 use crate::phases::Phases;
 use crate::rows::RED_REVERTS;
-use crate::times::initial;
+use crate::times::{gap, initial};
+use crate::visit::{held, number_in};
+use tsb_cells::Timer;
 use tsb_objects::{PedestrianInterval, Phase, Plan};
 
 /// The tick up to which the timer of a cell has not reached a limit.
@@ -89,44 +92,76 @@ fn least_of(plan: &Plan, conditions: &Conditions, p: Phase) -> u32
     }
 }
 
-/// Whether no timer of a green runs toward its end but that of its passage: there is no conflict.
-fn is_at_rest(conditions: &Conditions, p: Phase, was: &PhaseRow) -> bool
-    ensures { result ≡ true → IsAtRest (given_of conditions.now) p was.now }
+/// Whether tick `now` leaves the timers and latches of a green as they were.
+fn is_kept(now: u32, plan: &Plan, conditions: &Conditions, p: Phase, was: &PhaseRow) -> bool
+    requires fits { now + 1 < 2 ^ 32 }
+    requires by { IsRowBy now was.now }
+    ensures { result ≡ true → IsKept (plan_of plan.now) (given_of conditions.now) p was.now now }
 {
-    if conditions.called.conflict.contains(p) || was.gapped || was.forced {
-        return false;
-    }
-    let off = was.passage == 0;
-    was.conflict == 0 && was.reduction == 0 && off == conditions.called.output.contains(p)
+    let run = run_green(now, plan, conditions, p, held(now, was));
+    run.passage == was.passage
+        && run.conflict == was.conflict
+        && run.reduction == was.reduction
+        && run.gapped == was.gapped
+        && run.forced == was.forced
 }
 
-/// The tick up to which a green without conflict is still.
-#[inline(always)]
-fn due_at_rest(now: u32, plan: &Plan, conditions: &Conditions, p: Phase, was: &PhaseRow) -> u32
+/// The tick up to which the gap of a green has expired just where it has at tick `now`. While the gap is being reduced, it is the
+/// tick up to which the passage timer has not reached the least gap.
+fn turn_gap(now: u32, plan: &Plan, p: Phase, was: &PhaseRow) -> u32
     requires fits { now + 1 < 2 ^ 32 }
+    requires by { IsRowBy now was.now }
+    ensures { (t : ℕ) → now ≤ t → t < result → has_expired (plan_of plan.now) p was.now t ≡ has_expired (plan_of plan.now) p was.now now }
+{
+    let reduction = Timer::at(now, was.reduction);
+    let limit = gap(plan, p, reduction);
+    if has_reached(now, was.passage, limit) {
+        return u32::MAX;
+    }
+    if was.reduction == 0 {
+        return until(was.passage, limit);
+    }
+    let to_reduce = plan.time_to_reduce(p);
+    let least = gap(plan, p, Timer::On(to_reduce));
+    until(was.passage, least)
+}
+
+/// The tick up to which a green is still whose timers and latches tick `now` leaves as they were.
+#[inline(always)]
+fn due_kept(now: u32, plan: &Plan, conditions: &Conditions, p: Phase, was: &PhaseRow) -> u32
+    requires fits { now + 1 < 2 ^ 32 }
+    requires by { IsRowBy now was.now }
     requires green { was.now.green ≡ true }
-    requires rest { IsAtRest (given_of conditions.now) p was.now }
-    ensures { (t : ℕ) → IsRowBy now was.now → now < t → t < result → IsStill (plan_of plan.now) (given_of conditions.now) p was.now now t }
+    requires kept { IsKept (plan_of plan.now) (given_of conditions.now) p was.now now }
+    ensures { (t : ℕ) → now < t → t < result → IsStill (plan_of plan.now) (given_of conditions.now) p was.now now t }
 {
     let part = due_pedestrian(plan, conditions, p, was);
     let limit = least_of(plan, conditions, p);
     let least = turn(now, was.timer, limit);
-    let passage = plan.passage(p);
-    let gap = turn(now, was.passage, passage);
+    let time = initial(plan, p, count(conditions, p));
+    let passed = turn(now, was.timer, time);
+    let gap = turn_gap(now, plan, p, was);
+    let time = plan.time_before_reduction(p);
+    let before = turn(now, was.conflict, time);
+    let maximum = maximum_in_use(plan, p, number_in(was.running_maximum));
+    let most = turn(now, was.conflict, maximum);
     let time = plan.red_revert(p);
     let revert = turn(now, was.red_revert, time);
-    part.min(least).min(gap.min(revert))
+    part.min(least.min(passed))
+        .min(gap.min(before))
+        .min(most.min(revert))
 }
 
-/// The tick up to which a Green phase is still: no further tick, where there is a conflict.
+/// The tick up to which a Green phase is still: no further tick, where tick `now` changes its timers or latches.
 #[inline(always)]
 fn due_green(now: u32, plan: &Plan, conditions: &Conditions, p: Phase, was: &PhaseRow) -> u32
     requires fits { now + 1 < 2 ^ 32 }
+    requires by { IsRowBy now was.now }
     requires green { was.now.green ≡ true }
-    ensures { (t : ℕ) → IsRowBy now was.now → now < t → t < result → IsStill (plan_of plan.now) (given_of conditions.now) p was.now now t }
+    ensures { (t : ℕ) → now < t → t < result → IsStill (plan_of plan.now) (given_of conditions.now) p was.now now t }
 {
-    if is_at_rest(conditions, p, was) {
-        return due_at_rest(now, plan, conditions, p, was);
+    if is_kept(now, plan, conditions, p, was) {
+        return due_kept(now, plan, conditions, p, was);
     }
     now
 }
@@ -135,9 +170,10 @@ fn due_green(now: u32, plan: &Plan, conditions: &Conditions, p: Phase, was: &Pha
 #[inline(always)]
 fn due_yellow(now: u32, plan: &Plan, p: Phase, was: &PhaseRow) -> u32
     requires fits { now + 1 < 2 ^ 32 }
+    requires by { IsRowBy now was.now }
     requires green { was.now.green ≡ false }
     requires yellow { was.now.yellow ≡ true }
-    ensures { (given : Given) (t : ℕ) → IsRowBy now was.now → now < t → t < result → IsStill (plan_of plan.now) given p was.now now t }
+    ensures { (given : Given) (t : ℕ) → now < t → t < result → IsStill (plan_of plan.now) given p was.now now t }
 {
     let change = plan.yellow_change(p);
     let done = until(was.timer, change);
@@ -150,8 +186,9 @@ fn due_yellow(now: u32, plan: &Plan, p: Phase, was: &PhaseRow) -> u32
 #[inline(always)]
 fn due_red_clear(now: u32, plan: &Plan, p: Phase, was: &PhaseRow) -> u32
     requires fits { now + 1 < 2 ^ 32 }
+    requires by { IsRowBy now was.now }
     requires is { interval_of_row was.now ≡ RedClear }
-    ensures { (given : Given) (t : ℕ) → IsRowBy now was.now → now < t → t < result → IsStill (plan_of plan.now) given p was.now now t }
+    ensures { (given : Given) (t : ℕ) → now < t → t < result → IsStill (plan_of plan.now) given p was.now now t }
 {
     let clear = plan.red_clear(p);
     let over = turn(now, was.timer, clear);
@@ -164,7 +201,8 @@ fn due_red_clear(now: u32, plan: &Plan, p: Phase, was: &PhaseRow) -> u32
 #[inline(always)]
 fn due_of(now: u32, plan: &Plan, conditions: &Conditions, p: Phase, was: &PhaseRow) -> u32
     requires fits { now + 1 < 2 ^ 32 }
-    ensures { (t : ℕ) → IsRowBy now was.now → now < t → t < result → IsStill (plan_of plan.now) (given_of conditions.now) p was.now now t }
+    requires by { IsRowBy now was.now }
+    ensures { (t : ℕ) → now < t → t < result → IsStill (plan_of plan.now) (given_of conditions.now) p was.now now t }
 {
     if was.green {
         return due_green(now, plan, conditions, p, was);
@@ -207,6 +245,7 @@ impl Phases {
         let mut due = self.due_to_revert(now, plan);
         let mut rest = self.in_service();
         while let Some(p) = rest.pop() {
+            known(p);
             let was = self.load(p);
             let turns = due_of(now, plan, conditions, p, &was);
             due = due.min(turns);

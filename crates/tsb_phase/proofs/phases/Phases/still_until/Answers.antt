@@ -33,6 +33,6 @@ loop-p-preserved c = λ t q after soon from within out.
           let last : p ≤ 16 = subst (λ (n : ℕ). n ≤ 16) same.1 within in
           subst (λ (n : ℕ). IsStill plan given n (row_in cells n) now t) (sym same.1)
           (subst (λ (r : PhaseRow). IsStill plan given p r now t) c.load-was.ensures
-          (c.due_of-turns.ensures t (subst (λ (r : PhaseRow). IsRowBy now r) (sym c.load-was.ensures) (c.requires.by p here last)) after (omega (arith, soon)))))
+          (c.due_of-turns.ensures t after (omega (arith, soon)))))
       | inr other ↦ c.loop-p.invariant t q after (omega (arith, soon)) from within (sym (c.in-Some.ensures.others q other.1) ∙ out)
     ]

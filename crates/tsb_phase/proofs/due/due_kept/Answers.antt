@@ -1,0 +1,31 @@
+use Rattle.std.proofs.Common.{Option, ℕ, ◌∙◌, ap, arith}
+use Rattle.tsb_cells.specs.Timer.{timer_at}
+use Rattle.tsb_plan.specs.Plan.{Plan}
+use Rattle.tsb_plan.specs.PlanOf.{plan_of}
+use Rattle.tsb_phase.specs.declared.phase_row.PhaseRow.{PhaseRow}
+use Rattle.tsb_phase.specs.DynamicMaximum.{maximum_in_use}
+use Rattle.tsb_phase.specs.Green.{initial}
+use Rattle.tsb_phase.specs.Phase.{Given}
+use Rattle.tsb_phase.specs.Promises.{given_of}
+use Rattle.tsb_phase.specs.Rows.{IsRowBy}
+use Rattle.tsb_phase.proofs.ReadLemmas.{later}
+use Rattle.tsb_phase.proofs.DueLemmas.{green-still, at-limit}
+use Rattle.tsb_phase.proofs.due.due_kept.Goals as goal
+
+pub returns : goal.returns
+returns c = λ t after soon.
+    let now : ℕ = c.args.now in
+    let was : PhaseRow = c.args.was.now in
+    let plan : Plan = plan_of c.args.plan.now in
+    let given : Given = given_of c.args.conditions.now in
+    let by : IsRowBy now was = c.requires.by in
+    green-still plan given c.args.p was now t c.requires.green (later now t was (omega (arith, after)) by) c.requires.kept
+    (c.due_pedestrian-part.ensures t (later now t was (omega (arith, after)) by) (omega (arith, soon)))
+    (c.due_pedestrian-part.ensures now by (omega (arith, after, soon)))
+    (at-limit (timer_at t was.timer) (timer_at now was.timer) c.least_of-limit.result _ c.least_of-limit.ensures (c.turn-least.ensures t by.timer (omega (arith, after)) (omega (arith, soon))))
+    (at-limit (timer_at t was.timer) (timer_at now was.timer) c.initial-time.result _ (c.initial-time.ensures ∙ ap (λ (n : ℕ). initial plan c.args.p n) c.count.ensures.value) (c.turn-passed.ensures t by.timer (omega (arith, after)) (omega (arith, soon))))
+    (c.turn_gap-gap.ensures t (omega (arith, after)) (omega (arith, soon)))
+    (at-limit (timer_at t was.conflict) (timer_at now was.conflict) c.time_before_reduction-time.result _ c.time_before_reduction-time.ensures (c.turn-before.ensures t by.conflict (omega (arith, after)) (omega (arith, soon))))
+    (at-limit (timer_at t was.conflict) (timer_at now was.conflict) c.maximum_in_use-maximum.result _ (c.maximum_in_use-maximum.ensures ∙ ap (λ (o : Option ℕ). maximum_in_use plan c.args.p o) c.number_in.ensures)
+    (c.turn-most.ensures t by.conflict (omega (arith, after)) (omega (arith, soon))))
+    (at-limit (timer_at t was.red_revert) (timer_at now was.red_revert) c.red_revert-time.result _ c.red_revert-time.ensures (c.turn-revert.ensures t by.red_revert (omega (arith, after)) (omega (arith, soon))))
