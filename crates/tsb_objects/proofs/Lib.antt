@@ -1,3 +1,5 @@
 pub mod CheckedLemmas
+pub mod PassLemmas
 mod TableLemmas
 mod InstantLemmas
+mod UnionLemmas

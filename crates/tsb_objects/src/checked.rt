@@ -6,6 +6,7 @@ ghost use Rattle.tsb_plan.specs.PlanOf.{plan_of};
 ghost use Rattle.tsb_rules.specs.Rules.{first_broken};
 ghost use Rattle.tsb_objects.specs.PatternTables.{ArePatternTables};
 ghost use Rattle.tsb_objects.specs.Tables.{ArePhaseTables, AreDetectorTables};
+ghost use Rattle.tsb_objects.specs.Unions.{AreUnionTables};
 
 mod detectors;
 mod patterns;
@@ -14,6 +15,7 @@ mod phases;
 use crate::detector_tables::DetectorTables;
 use crate::pattern_tables::PatternTables;
 use crate::tables::PhaseTables;
+use crate::union_tables::UnionTables;
 use tsb_plan::Plan;
 use tsb_rules::{Rule, check};
 
@@ -27,10 +29,12 @@ pub struct Checked {
     phase_tables: PhaseTables,
     detector_tables: DetectorTables,
     pattern_tables: PatternTables,
+    union_tables: UnionTables,
     ghost passed: { first_broken (plan_of plan) ≡ None },
     ghost phases_are: { ArePhaseTables (plan_of plan) phase_tables },
     ghost detectors_are: { AreDetectorTables (plan_of plan) detector_tables },
     ghost patterns_are: { ArePatternTables (plan_of plan) pattern_tables },
+    ghost unions_are: { AreUnionTables (plan_of plan) union_tables },
 }
 
 impl Checked {
@@ -59,6 +63,7 @@ impl Checked {
             phase_tables: PhaseTables::of(&plan),
             detector_tables: DetectorTables::of(&plan),
             pattern_tables: PatternTables::of(&plan),
+            union_tables: UnionTables::of(&plan),
         }
     }
 

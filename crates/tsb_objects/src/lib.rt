@@ -11,6 +11,8 @@ mod detector_tables;
 mod instants;
 mod pattern_tables;
 mod tables;
+mod union_tables;
+mod unions;
 
 pub use built::is_built;
 pub use checked::Checked;

@@ -1,14 +1,14 @@
 //! What a checked plan says of all its detectors at once.
 #![tactic(auto, unfolding(tsb_plan::specs::PlanOf::plan_of, crate::specs::Checked::checked_plan))]
 
-ghost use Rattle.std.specs.Prelude.{◌≡◌, ℕ, nat_le};
+ghost use Rattle.std.specs.Prelude.{◌≡◌, ℕ, ◌≤◌, ◌&&◌, nat_le};
 ghost use Rattle.tsb_objects.specs.Checked.{checked_plan};
 ghost use Rattle.tsb_plan.specs.Parts.{call_phase, pedestrian_call_phase, detector_delay, no_activity, maximum_presence};
-ghost use Rattle.tsb_types.specs.Lists.{is};
-ghost use Rattle.tsb_types.specs.Sets.{has_number};
+ghost use Rattle.tsb_types.specs.Lists.{is, some_passes, run_from};
+ghost use Rattle.tsb_types.specs.Sets.{has, has_number};
 
 use crate::checked::Checked;
-use tsb_types::{NumberSet, Phase};
+use tsb_types::{NumberSet, Phase, PhaseSet};
 
 impl Checked {
     /// The vehicle detectors that call a phase (`vehicleDetectorCallPhase`).
@@ -17,6 +17,15 @@ impl Checked {
         ensures { (d : ℕ) → has_number result d ≡ is p (call_phase (checked_plan self.now) d) }
     {
         NumberSet::from_list(self.detector_tables.detectors[usize::from(p.number()) - 1])
+    }
+
+    /// The phases that some vehicle detector of a set calls (`vehicleDetectorCallPhase`).
+    #[inline(always)]
+    pub fn phases_called_by(&self, detectors: NumberSet) -> PhaseSet
+        ensures { (p : ℕ) → 1 ≤ p → p ≤ 16 → has result p
+            ≡ some_passes (λ d. is p (call_phase (checked_plan self.now) d) && has_number detectors d) (run_from 1 16) }
+    {
+        self.union_tables.called.of(detectors)
     }
 
     /// The pedestrian detectors that call a phase (`pedestrianDetectorCallPhase`).

@@ -1,14 +1,15 @@
 //! What a checked plan says of all its phases at once.
 #![tactic(auto, unfolding(tsb_plan::specs::PlanOf::plan_of, crate::specs::Checked::checked_plan))]
 
-ghost use Rattle.std.specs.Prelude.{◌≡◌, ℕ, ◌==◌};
+ghost use Rattle.std.specs.Prelude.{◌≡◌, ℕ, ◌≤◌, ◌==◌, ◌&&◌, not};
 ghost use Rattle.tsb_objects.specs.Checked.{checked_plan};
 ghost use Rattle.tsb_rules.specs.Rules.{has_walk};
 ghost use Rattle.tsb_plan.specs.Plan.{is_enabled, is_non_locking, has_minimum_recall, has_maximum_recall, has_pedestrian_recall, has_soft_recall, has_dual_entry, ring_of, side_of, is_concurrent};
+ghost use Rattle.tsb_types.specs.Lists.{some_passes, run_from};
 ghost use Rattle.tsb_types.specs.Sets.{has};
 
 use crate::checked::Checked;
-use tsb_types::{Phase, PhaseSet, Ring, Side};
+use tsb_types::{NumberSet, Phase, PhaseSet, Ring, Side};
 
 impl Checked {
     /// The phases that are in use (`phaseEnabled`).
@@ -100,5 +101,15 @@ impl Checked {
     {
         let _number = q.number();
         self.plan.concurrency(q)
+    }
+
+    /// The phases that are not concurrent with some other phase of a set (`phaseConcurrency`).
+    #[inline(always)]
+    pub fn in_conflict_with(&self, phases: PhaseSet) -> PhaseSet
+        ensures { (p : ℕ) → 1 ≤ p → p ≤ 16 → has result p
+            ≡ some_passes (λ q. has phases q && (not (q == p) && not (is_concurrent (checked_plan self.now) p q))) (run_from 1 16) }
+    {
+        let numbers = NumberSet::from_list(phases.list());
+        self.union_tables.conflicts.of(numbers)
     }
 }

@@ -1,10 +1,7 @@
 use Rattle.std.proofs.Common.{ℕ, ◌≡◌, ◌+◌, ◌-◌, ◌<◌, ◌==◌, ◌∙◌, ap, arith}
-use Rattle.std.proofs.lemmas.Bool.Decides.{nat_tests}
 use Rattle.tsb_objects.specs.Checked.{checked_plan}
 use Rattle.tsb_plan.specs.declared.object.Object.TheVariants.{PedestrianDetectorCallPhase}
-use Rattle.tsb_plan.specs.Parts.{pedestrian_call_phase}
 use Rattle.tsb_plan.specs.PlanOf.{plan_of}
-use Rattle.tsb_types.specs.Lists.{is}
 use Rattle.tsb_objects.proofs.TableLemmas.{is-unless_zero}
 use Rattle.tsb_objects.proofs.checked.Checked.pedestrian_detectors_of.Goals as goal
 

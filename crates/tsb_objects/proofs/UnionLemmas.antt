@@ -1,0 +1,99 @@
+-- Unions of sets of phases, by the two bytes of a list.
+use Rattle.std.proofs.Common.{zero, suc, ◌≡◌, ◌≢◌, ℕ, ◌+◌, ◌-◌, ◌*◌, ◌/◌, ◌%◌, ◌^◌, ◌<◌, ◌≤◌, ◌==◌, ◌&&◌, ◌||◌, Bool, true, false, List, get_or, slice_index, refl, arith, sym, ◌∙◌, ap, ap₂, inl, inr, subst, bit_or}
+use Rattle.std.specs.Int.{bit_at}
+use Rattle.std.proofs.lemmas.Bool.{cases_lt, cases_eq}
+use Rattle.std.proofs.lemmas.Nat.Bits.{bit_at_cat_low, bit_at_cat_high}
+use Rattle.tsb_types.specs.Lists.{some_passes, run_from}
+use Rattle.tsb_types.specs.declared.number_set.NumberSet.{NumberSet}
+use Rattle.tsb_types.specs.Sets.{names, has_number, set_of_list}
+use Rattle.tsb_types.proofs.BitLemmas.{names-or}
+use Rattle.tsb_types.proofs.SetLemmas.{names-above, names-zero, same_names}
+use Rattle.tsb_objects.specs.declared.unions.Unions.{Unions}
+use Rattle.tsb_objects.specs.Unions.{AreUnions}
+use Rattle.tsb_objects.proofs.PassLemmas.{pass-none, pass-same, pass-more, pass-parts, pass-later}
+
+-- what a list names of 1 to 8 is in its low byte, and what it names of 9 to 16 in its high one
+names-low : (list n : ℕ) → 1 ≤ n → n ≤ 8 → names (list % 256) n ≡ names list n
+names-low list zero from within = absurd (omega arith)
+names-low list (suc i) from within =
+    let whole : list / 256 * 2 ^ 8 + list % 256 ≡ list = omega arith in
+    let low : bit_at (list / 256 * 2 ^ 8 + list % 256) i ≡ bit_at (list % 256) i = bit_at_cat_low (list / 256) 8 (list % 256) i (omega arith) in
+    ap (λ (b : ℕ). b == 1) (sym low ∙ ap (λ (x : ℕ). bit_at x i) whole)
+
+names-high : (list n : ℕ) → 1 ≤ n → names (list / 256) n ≡ names list (8 + n)
+names-high list zero from = absurd (omega arith)
+names-high list (suc i) from =
+    let whole : list / 256 * 2 ^ 8 + list % 256 ≡ list = omega arith in
+    let high : bit_at (list / 256 * 2 ^ 8 + list % 256) (8 + i) ≡ bit_at (list / 256) (8 + i - 8) =
+    bit_at_cat_high (list / 256) 8 (list % 256) (8 + i) (omega arith) (omega arith) in
+    let place : 8 + i - 8 ≡ i = omega arith in
+    let next : 8 + suc i ≡ suc (8 + i) = omega arith in
+    rw next (ap (λ (b : ℕ). b == 1) (sym (ap (λ (k : ℕ). bit_at (list / 256) k) place) ∙ sym high ∙ ap (λ (x : ℕ). bit_at x (8 + i)) whole))
+
+-- a list of numbers to 8 names no other
+pub names-within : (list n : ℕ) → list < 256 → names list n ≡ true → n ≤ 8
+names-within list n small named =
+    elim (cases_lt 8 n) [
+      | inl above ↦ absurd (differ (sym (names-above 8 n list (omega arith) above) ∙ named))
+      | inr within ↦ within
+    ]
+  where
+    differ : false ≡ true → ⊥
+    differ e = cc
+
+-- what a list names without one of its numbers is a lesser list
+pub less-without : (set others : NumberSet) (list rest : ℕ) → set ≡ set_of_list list → others.word < set.word → rest < 65536 → others.word < 65536 →
+    ((n : ℕ) → names rest n ≡ has_number others n) → rest < list
+less-without set others list rest whole less fits also same =
+    let one : rest ≡ others.word = same_names 16 rest others.word (omega arith) (omega arith) (λ n from within. same n) in
+    let all : set.word ≡ list = ap (λ (s : NumberSet). s.word) whole in
+    omega (arith, one, all, less)
+
+-- the words of the two bytes of a list together are the union of all that it names
+pub union-of : (test : ℕ → ℕ → Bool) (unions : Unions) → AreUnions test unions → (list p : ℕ) → list < 65536 → 1 ≤ p → p ≤ 16 →
+    (names (slice_index unions.low (list % 256)) p || names (slice_index unions.high (list / 256)) p)
+    ≡ some_passes (λ n. names list n && test n p) (run_from 1 16)
+union-of test unions are list p fits from within =
+    let passes : ℕ → Bool = λ n. names list n && test n p in
+    let low : names (slice_index unions.low (list % 256)) p ≡ some_passes passes (run_from 1 8) =
+    are.low (list % 256) p (omega arith) from within
+    ∙ pass-same (λ n. names (list % 256) n && test n p) passes 1 8 (λ n first below.
+    ap (λ (b : Bool). b && test n p) (names-low list n first (omega (arith, below)))) in
+    let high : names (slice_index unions.high (list / 256)) p ≡ some_passes passes (run_from 9 8) =
+    are.high (list / 256) p (omega arith) from within
+    ∙ pass-same (λ n. names (list / 256) n && test (8 + n) p) (λ n. passes (8 + n)) 1 8 (λ n first below.
+    ap (λ (b : Bool). b && test (8 + n) p) (names-high list n first))
+    ∙ sym (pass-later passes 1 8 8) in
+    ap₂ (λ (a b : Bool). a || b) low high ∙ sym (pass-parts passes 1 8 8)
+
+-- a word that is the union of all but one number, and that one's set, is the union of all
+pub union-more : (list others d word set : ℕ) (test : ℕ → Bool) → 1 ≤ d → d ≤ 8 → names list d ≡ true → names others d ≡ false →
+    ((n : ℕ) → n ≢ d → names others n ≡ names list n) → (p : ℕ) → names set p ≡ test d →
+    names word p ≡ some_passes (λ n. names others n && test n) (run_from 1 8) →
+    names (bit_or word set) p ≡ some_passes (λ n. names list n && test n) (run_from 1 8)
+union-more list others d word set test from within had taken rest p of_one of_rest =
+    names-or word set p
+    ∙ ap₂ (λ (a b : Bool). a || b) of_rest of_one
+    ∙ sym (pass-more (λ n. names others n && test n) (λ n. names list n && test n) 1 8 d (test d) from (omega (arith, within))
+    (here (names list d) (names others d) (test d) had taken)
+    (λ n apart. ap (λ (b : Bool). b && test n) (sym (rest n apart))))
+  where
+    here : (a b t : Bool) → a ≡ true → b ≡ false → (a && t) ≡ ((b && t) || t)
+    here a b t e f = rw (e, f) refl
+
+-- that of no number is empty
+pub union-none : (list word : ℕ) (test : ℕ → ℕ → Bool) → ((n : ℕ) → names list n ≡ false) → word ≡ 0 → (p : ℕ) →
+    names word p ≡ some_passes (λ n. names list n && test n p) (run_from 1 8)
+union-none list word test none empty p =
+    rw empty (names-zero p)
+    ∙ sym (pass-none (λ n. names list n && test n p) 1 8 (λ n first below. ap (λ (b : Bool). b && test n p) (none n)))
+
+-- one word more is told
+pub told-next : (union : ℕ → ℕ → Bool) (words after : List ℕ) (k : ℕ) → ((j p : ℕ) → j < k → names (get_or words j 0) p ≡ union j p) →
+    ((p : ℕ) → names (get_or after k 0) p ≡ union k p) → ((j : ℕ) → j ≢ k → get_or after j 0 ≡ get_or words j 0) →
+    (j p : ℕ) → j < k + 1 → names (get_or after j 0) p ≡ union j p
+told-next union words after k told here there j p below =
+    elim (cases_eq j k) [
+      | inl same ↦ subst (λ (m : ℕ). names (get_or after m 0) p ≡ union m p) (sym same) (here p)
+      | inr apart ↦ ap (λ (word : ℕ). names word p) (there j apart) ∙ told j p (omega (arith, below, apart))
+    ]

@@ -1,0 +1,85 @@
+//! What a plan says of sets of detectors and phases: the unions of what it says of their members.
+#![tactic(auto, unfolding(tsb_plan::specs::PlanOf::plan_of))]
+
+ghost use Rattle.std.specs.Prelude.{◌≡◌, ℕ, ◌+◌, ◌<◌, ◌≤◌, ◌==◌, ◌&&◌, not, None, length, slice_index};
+ghost use Rattle.tsb_objects.specs.Unions.{AreUnionTables};
+ghost use Rattle.tsb_plan.specs.Parts.{call_phase};
+ghost use Rattle.tsb_plan.specs.Plan.{is_concurrent};
+ghost use Rattle.tsb_plan.specs.PlanOf.{plan_of};
+ghost use Rattle.tsb_rules.specs.Rules.{first_broken};
+ghost use Rattle.tsb_types.specs.Lists.{is};
+ghost use Rattle.tsb_types.specs.Sets.{names, has};
+
+use crate::unions::Unions;
+use tsb_plan::Plan;
+use tsb_types::{Detector, Phase, PhaseSet};
+
+/// What a plan that meets the rules says of sets of detectors and phases.
+#[derive(Clone, Copy, Debug, PartialEq, Eq)]
+pub struct UnionTables {
+    /// The phases that vehicle detectors call (`vehicleDetectorCallPhase`).
+    pub(crate) called: Unions,
+    /// The phases other than a phase that are not concurrent with it (`phaseConcurrency`).
+    pub(crate) conflicts: Unions,
+}
+
+impl UnionTables {
+    /// The tables of a plan.
+    pub(crate) fn of(plan: &Plan) -> UnionTables
+        requires { first_broken (plan_of plan.now) ≡ None }
+        ensures { AreUnionTables (plan_of plan.now) result }
+    {
+        UnionTables {
+            called: Unions::new(&called(plan)),
+            conflicts: Unions::new(&conflicts(plan)),
+        }
+    }
+}
+
+/// The phase, if there is one, alone.
+fn alone(p: Option<Phase>) -> PhaseSet
+    ensures { (q : ℕ) → has result q ≡ is q p }
+{
+    match p {
+        Some(p) => PhaseSet::empty().with(p, true),
+        None => PhaseSet::empty(),
+    }
+}
+
+/// Of each vehicle detector the phase that it calls, as a list.
+fn called(plan: &Plan) -> [u16; 16]
+    ensures full { length result ≡ 16 }
+    ensures told { (k p : ℕ) → k < 16 → names (slice_index result k) p ≡ is p (call_phase (plan_of plan.now) (k + 1)) }
+{
+    let mut sets = [0; 16];
+    for k in 0..16u8 {
+        let detector = Detector::of(k + 1);
+        sets[usize::from(k)] = alone(plan.call_phase(detector)).list();
+    }
+    sets
+}
+
+/// The phases other than a phase that are not concurrent with it. By rule K5 it does not name those that do not name it.
+fn conflicts_of(plan: &Plan, q: Phase) -> PhaseSet
+    requires { first_broken (plan_of plan.now) ≡ None }
+    ensures { (p : ℕ) → 1 ≤ p → p ≤ 16 → has result p ≡ (not (q == p) && not (is_concurrent (plan_of plan.now) p q)) }
+{
+    let _number = q.number();
+    let others = PhaseSet::from_list(u16::MAX).with(q, false);
+    others.difference(plan.concurrency(q))
+}
+
+/// Of each phase those other than it that are not concurrent with it, as a list.
+fn conflicts(plan: &Plan) -> [u16; 16]
+    requires { first_broken (plan_of plan.now) ≡ None }
+    ensures full { length result ≡ 16 }
+    ensures told { (k p : ℕ) → k < 16 → 1 ≤ p → p ≤ 16 →
+        names (slice_index result k) p ≡ (not (k + 1 == p) && not (is_concurrent (plan_of plan.now) p (k + 1))) }
+{
+    let mut sets = [0; 16];
+    for k in 0..16u8 {
+        let phase = Phase::of(k + 1);
+        sets[usize::from(k)] = conflicts_of(plan, phase).list();
+    }
+    sets
+}

@@ -1,0 +1,66 @@
+//! Unions of sets of phases, each found by two reads.
+
+ghost use Rattle.std.specs.Prelude.{◌≡◌, ℕ, ◌+◌, ◌-◌, ◌<◌, ◌≤◌, ◌&&◌, Bool, length, slice_index};
+ghost use Rattle.tsb_objects.specs.Unions.{AreUnions};
+ghost use Rattle.tsb_types.specs.Lists.{some_passes, run_from};
+ghost use Rattle.tsb_types.specs.Sets.{names, has, has_number};
+
+use tsb_types::{NumberSet, PhaseSet};
+
+/// How many sets there are of 8 numbers.
+const SETS: u16 = 256;
+
+/// Of 16 sets of phases, with the numbers 1 to 16, the union of any of them. Each array has a word for each set of 8
+/// numbers, as a list, which is the list of the phases in the set of one of these.
+#[derive(Clone, Copy, Debug, PartialEq, Eq)]
+pub struct Unions {
+    /// The unions of sets 1 to 8.
+    low: [u16; 256],
+    /// The unions of sets 9 to 16.
+    high: [u16; 256],
+}
+
+impl Unions {
+    /// The unions of these sets of phases, as lists.
+    pub(crate) fn new(sets: &[u16; 16]) -> Unions
+        ensures { (test : ℕ → ℕ → Bool) →
+            ((n p : ℕ) → 1 ≤ n → n ≤ 16 → 1 ≤ p → p ≤ 16 → names (slice_index sets.now (n - 1)) p ≡ test n p) → AreUnions test result }
+    {
+        Unions {
+            low: unions_of_eight(sets, 0),
+            high: unions_of_eight(sets, 8),
+        }
+    }
+
+    /// The phases that are in the set of one of these numbers.
+    #[inline(always)]
+    pub(crate) fn of(&self, numbers: NumberSet) -> PhaseSet
+        ensures { (test : ℕ → ℕ → Bool) → AreUnions test self.now → (p : ℕ) → 1 ≤ p → p ≤ 16 →
+            has result p ≡ some_passes (λ n. has_number numbers n && test n p) (run_from 1 16) }
+    {
+        let list = numbers.list();
+        let low = self.low[usize::from(list % SETS)];
+        let high = self.high[usize::from(list / SETS)];
+        PhaseSet::from_list(low).union(PhaseSet::from_list(high))
+    }
+}
+
+/// For each set of numbers from 1 to 8, as a list, the phases in the set of one of them, as a list: number 1 stands for
+/// the set behind the first `before`.
+fn unions_of_eight(sets: &[u16; 16], before: usize) -> [u16; 256]
+    requires { before ≤ 8 }
+    ensures full { length result ≡ 256 }
+    ensures told { (k p : ℕ) → k < 256 →
+        names (slice_index result k) p ≡ some_passes (λ n. names k n && names (slice_index sets.now (before + (n - 1))) p) (run_from 1 8) }
+{
+    let mut unions = [0; 256];
+    for k in 0..SETS {
+        let numbers = NumberSet::from_list(k);
+        if let Some(least) = numbers.first() {
+            let others = numbers.with(least, false).list();
+            let set = sets[before + (usize::from(least) - 1)];
+            unions[usize::from(k)] = unions[usize::from(others)] | set;
+        }
+    }
+    unions
+}
