@@ -6,7 +6,7 @@ use Rattle.tsb_calls.specs.Memories.{Memories, Given, calls, calls_walk, has_out
 use Rattle.tsb_calls.specs.Callable.{has_pedestrian_call, is_callable_otherwise, some_is_callable_otherwise, is_callable, has_conflict}
 use Rattle.tsb_calls.specs.Settled.{Done, vehicle_after, pedestrian_after, count_after, settled}
 use Rattle.tsb_calls.specs.Looks.{AgreeOnPhases, AreAlike, AgreeOnMoves, LooksOnlyAtItsOwn}
-use Rattle.tsb_calls.proofs.PassLemmas.{pass-same}
+use Rattle.tsb_objects.proofs.PassLemmas.{pass-same}
 use Rattle.tsb_calls.proofs.CountLemmas.{count-same}
 
 module _ (plan : Plan) (g h : Given) (alike : AgreeOnPhases g h) where

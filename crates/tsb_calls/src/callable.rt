@@ -1,8 +1,8 @@
 //! Which phases are called, which of them a ring may serve next, and which have to yield to one of these.
-ghost use Rattle.std.specs.Prelude.{◌≡◌, ℕ, ◌≤◌, ◌==◌, ◌&&◌, ◌||◌, not, true, false, Bool};
+ghost use Rattle.std.specs.Prelude.{◌≡◌, ℕ, ◌≤◌, ◌&&◌, ◌||◌, not, true, false, Bool};
 ghost use Rattle.tsb_types.specs.Lists.{some_passes, run_from};
 ghost use Rattle.tsb_types.specs.Sets.{has};
-ghost use Rattle.tsb_plan.specs.Plan.{has_soft_recall, is_concurrent};
+ghost use Rattle.tsb_plan.specs.Plan.{has_soft_recall};
 ghost use Rattle.tsb_objects.specs.Checked.{checked_plan};
 ghost use Rattle.tsb_calls.specs.Memories.{Memories, has_output};
 ghost use Rattle.tsb_calls.specs.Callable.{has_pedestrian_call, is_called, is_free, is_callable_otherwise, is_callable, has_conflict};
@@ -11,7 +11,6 @@ ghost use Rattle.tsb_calls.specs.Layer.{AreMemories};
 
 use crate::observed::Observed;
 use crate::recalls::{with_pedestrians, with_recall};
-use crate::sets::{all, kept, without};
 use tsb_objects::{Called, Checked, Phase, PhaseSet};
 
 /// A phase has a number from 1 to 16.
@@ -93,31 +92,6 @@ fn callable(plan: &Checked, free: PhaseSet, called: PhaseSet) -> PhaseSet
     }
 }
 
-/// Whether another callable phase waits that is not concurrent with a phase.
-#[inline(always)]
-fn has_conflict(plan: &Checked, callable: PhaseSet, p: Phase) -> bool
-    ensures { result
-        ≡ some_passes (λ q. has callable q && (not (q == p) && not (is_concurrent (checked_plan plan.now) p q))) (run_from 1 16) }
-{
-    let others = without(callable, p);
-    has_some(others.difference(plan.concurrent_to(p)))
-}
-
-/// The phases for which another callable phase waits that is not concurrent with them. It stays out of line: its loop
-/// becomes vector instructions only there.
-#[inline(never)]
-fn with_conflict(plan: &Checked, callable: PhaseSet) -> PhaseSet
-    ensures { (p : ℕ) → 1 ≤ p → p ≤ 16 → has result p
-        ≡ some_passes (λ q. has callable q && (not (q == p) && not (is_concurrent (checked_plan plan.now) p q))) (run_from 1 16) }
-{
-    let mut set = all();
-    for number in 1..17u8 {
-        let p = Phase::of(number);
-        set = kept(set, p, has_conflict(plan, callable, p));
-    }
-    set
-}
-
 /// Which phases are called, by the memories as set.
 #[inline(always)]
 #[tactic(auto, unfolding(crate::specs::Callable::is_callable, crate::specs::Callable::has_conflict))]
@@ -137,7 +111,7 @@ pub(crate) fn find_called(
     let callable = callable(plan, free(plan, observed), called);
     Called {
         callable,
-        conflict: with_conflict(plan, callable),
+        conflict: plan.in_conflict_with(callable),
         pedestrian: walk,
         output,
     }

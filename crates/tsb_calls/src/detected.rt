@@ -5,9 +5,8 @@ ghost use Rattle.tsb_types.specs.Lists.{is, some_passes};
 ghost use Rattle.tsb_plan.specs.PlanOf.{plan_of};
 ghost use Rattle.tsb_objects.specs.Checked.{checked_plan};
 ghost use Rattle.tsb_plan.specs.Parts.{pedestrian_call_phase};
-ghost use Rattle.tsb_calls.specs.Memories.{calls, calls_walk, vehicle_detectors, pedestrian_detectors};
+ghost use Rattle.tsb_calls.specs.Memories.{calls_walk, pedestrian_detectors};
 
-use crate::sets::{all, kept};
 use tsb_objects::{Checked, Detector, NumberSet, PedestrianDetector, Phase, PhaseSet, Plan};
 
 /// Takes the least detector out of a set.
@@ -40,29 +39,6 @@ fn with_some(set: PhaseSet, p: Option<Phase>) -> PhaseSet
         Some(p) => set.with(p, true),
         None => set,
     }
-}
-
-/// Whether an output of the phase is on.
-#[inline(always)]
-fn has_output(plan: &Checked, p: Phase, on: NumberSet) -> bool
-    ensures { result ≡ some_passes (λ d. calls (checked_plan plan.now) d p && has_number on d) vehicle_detectors }
-{
-    let outputs = plan.detectors_of(p).intersection(on);
-    outputs.first().is_some()
-}
-
-/// The phases of which an output is on. It stays out of line: its loop becomes vector instructions only there.
-#[inline(never)]
-pub(crate) fn outputs(plan: &Checked, on: NumberSet) -> PhaseSet
-    ensures { (p : ℕ) → 1 ≤ p → p ≤ 16 → has result p
-        ≡ some_passes (λ d. calls (checked_plan plan.now) d p && has_number on d) vehicle_detectors }
-{
-    let mut set = all();
-    for number in 1..17u8 {
-        let p = Phase::of(number);
-        set = kept(set, p, has_output(plan, p, on));
-    }
-    set
 }
 
 /// The phase whose walk the pedestrian detector of this number calls, if any.

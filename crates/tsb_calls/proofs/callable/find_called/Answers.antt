@@ -2,7 +2,7 @@ use Rattle.std.proofs.Common.{◌≡◌, ℕ, ◌≤◌, ◌==◌, ◌&&◌, ◌
 use Rattle.tsb_plan.specs.Plan.{Plan, has_soft_recall, is_concurrent}
 use Rattle.tsb_plan.specs.PlanOf.{plan_of}
 use Rattle.tsb_objects.specs.Checked.{checked_plan}
-use Rattle.tsb_calls.proofs.PassLemmas.{pass-same}
+use Rattle.tsb_objects.proofs.PassLemmas.{pass-same}
 use Rattle.tsb_types.specs.Sets.{has}
 use Rattle.tsb_calls.specs.Memories.{Given}
 use Rattle.tsb_calls.specs.Callable.{has_pedestrian_call, is_called, is_callable_otherwise, some_is_callable_otherwise, is_callable, has_conflict}
@@ -27,7 +27,7 @@ returns c = λ m are p from within.
     record {
       callable = callable p from within;
       conflict =
-          c.with_conflict.ensures p from within
+          c.in_conflict_with.ensures p from within
           ∙ pass-same (λ q. has c.callable-callable.result q && (not (q == p) && not (is_concurrent plan p q)))
           (λ q. is_callable plan given m q && (not (q == p) && not (is_concurrent plan p q))) 1 16
           (λ q low below. ap (λ (b : Bool). b && (not (q == p) && not (is_concurrent plan p q))) (callable q low (omega (arith, below))));

@@ -1,5 +1,5 @@
 use Rattle.std.proofs.Common.{arith, sym, ◌∙◌, refl}
-use Rattle.tsb_calls.proofs.PassLemmas.{pass-one, pass-none}
+use Rattle.tsb_objects.proofs.PassLemmas.{pass-one, pass-none}
 use Rattle.tsb_calls.proofs.callable.has_some.Goals as goal
 
 pub returns-in-Some : goal.returns-in-Some

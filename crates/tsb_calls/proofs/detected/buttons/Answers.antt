@@ -6,7 +6,8 @@ use Rattle.tsb_plan.specs.Plan.{Plan}
 use Rattle.tsb_plan.specs.Parts.{pedestrian_call_phase}
 use Rattle.tsb_types.specs.Lists.{is, some_passes, run_from}
 use Rattle.tsb_calls.specs.Memories.{calls_walk}
-use Rattle.tsb_calls.proofs.PassLemmas.{told-by, pass-one, or-true, or-left, or-right, and-true, and-parts}
+use Rattle.tsb_objects.proofs.PassLemmas.{pass-one}
+use Rattle.tsb_calls.proofs.PassLemmas.{told-by, or-true, or-left, or-right, and-true, and-parts}
 use Rattle.tsb_calls.proofs.detected.buttons.Goals as goal
 
 is-if : (b : Bool) (p : ℕ) (o : Option ℕ) → is p (if b then o else None) ≡ (b && is p o)

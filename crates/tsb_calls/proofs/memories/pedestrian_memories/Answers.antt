@@ -6,7 +6,7 @@ use Rattle.tsb_types.specs.Sets.{has_number}
 use Rattle.tsb_plan.specs.Plan.{Plan}
 use Rattle.tsb_calls.specs.Memories.{Given, calls_walk, has_button, pedestrian_memory}
 use Rattle.tsb_calls.specs.Promises.{given_of}
-use Rattle.tsb_calls.proofs.PassLemmas.{pass-none}
+use Rattle.tsb_objects.proofs.PassLemmas.{pass-none}
 use Rattle.tsb_calls.proofs.memories.pedestrian_memories.Goals as goal
 
 and-never : (a b : Bool) → b ≡ false → (a && b) ≡ false
