@@ -1,10 +1,10 @@
 -- Timers and their cells.
-use Rattle.std.proofs.Common.{◌≡◌, ℕ, ◌+◌, ◌-◌, ◌<◌, ◌≤◌, ◌^◌, refl, subst, arith, inl, inr}
+use Rattle.std.proofs.Common.{◌≡◌, ℕ, ◌+◌, ◌-◌, ◌<◌, ◌≤◌, ◌^◌, true, refl, subst, arith, inl, inr}
 use Rattle.std.proofs.lemmas.Bool.Decides.{nat_tests, eqb_tells}
 use Rattle.tsb_cells.specs.declared.timer.Timer.{Timer}
 use Rattle.tsb_cells.specs.declared.timer.Timer.TheVariants.{Off, On}
 pub use Rattle.tsb_cells.specs.TimerLaws.{timer_at-timer_cell}
-use Rattle.tsb_cells.specs.Timer.{advanced, started, CanAdvance, IsWithin, timer_cell, timer_at}
+use Rattle.tsb_cells.specs.Timer.{advanced, started, CanAdvance, IsWithin, is_on, timer_cell, timer_at}
 
 -- the next tick reads a cell as one tick more
 pub timer_at-next : (now cell : ℕ) → cell ≤ now + 1 → timer_at (now + 1) cell ≡ advanced (timer_at now cell)
@@ -28,6 +28,14 @@ IsWithin-timer_at now cell =
 pub IsWithin-started : (now : ℕ) (x : Timer) → IsWithin now x → IsWithin now (started x)
 IsWithin-started now Off h = omega arith
 IsWithin-started now (On n) h = h
+
+-- a timer that runs has a cell, and one that is off has 0
+pub timer_cell-on : (now : ℕ) (x : Timer) → is_on x ≡ true → 1 ≤ timer_cell now x
+timer_cell-on now Off on = absurd cc
+timer_cell-on now (On n) on = omega arith
+
+pub timer_cell-off : (now : ℕ) (x : Timer) → x ≡ Off → timer_cell now x ≡ 0
+timer_cell-off now x e = rw e refl
 
 -- a timer that runs on, or stays off, keeps its cell
 pub timer_cell-advanced : (now : ℕ) (x : Timer) → timer_cell (now + 1) (advanced x) ≡ timer_cell now x
