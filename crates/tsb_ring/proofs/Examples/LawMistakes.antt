@@ -8,9 +8,9 @@ use Rattle.tsb_ring.specs.declared.ring_order.RingOrder.TheVariants.{Ring1First,
 use Rattle.tsb_ring.specs.Rings.{Ring, Ring1, Ring2, State, power_up, Given, serving}
 use Rattle.tsb_ring.specs.Wants.{want, taken, pick}
 use Rattle.tsb_ring.specs.Next.{starting}
-use Rattle.tsb_ring.proofs.Examples.Scenes.{opened, under_way, parted}
+use Rattle.tsb_ring.proofs.Examples.Scenes.{opened, parted}
 use Rattle.tsb_ring.proofs.Examples.TargetExamples.{clearing_to_none, to_1}
-use Rattle.tsb_ring.proofs.Examples.Mistakes.{want_without_pick, called_1_5, starting_once_cleared, over_2, committed_unless_preempted}
+use Rattle.tsb_ring.proofs.Examples.Mistakes.{want_without_pick, called_1_5, over_2}
 
 -- ## Ring 2 decides without ring 1's pick: rings would not stay sound
 
@@ -30,11 +30,8 @@ apart_1_5 = refl
 
 -- ## One ring crosses as soon as it has cleared: a start would not wait
 
--- ring 1 would start 3, while 6 is in service, not concurrent with it and not over
-would_start_3 : starting_once_cleared under_way over_2 (serving quad over_2 Ring1) Ring1 ≡ Some 3
-unfolding opened
-would_start_3 = refl
-
+-- ring 1 would start 3, as `crosses_alone` of the mistakes says, while 6 is in service, not concurrent with it and not
+-- over
 still_serves_6 : in_service (over_2.interval 6) ≡ true
 unfolding opened
 still_serves_6 = refl
@@ -49,7 +46,7 @@ not_over_6 = refl
 
 -- ## A preempt cancels a committed phase: a commitment would not stand
 
--- 1 is committed to and does not start, and the commitment would be gone
+-- 1 is committed to and does not start, and the commitment would be gone, as `cancelled` of the mistakes says
 committed_to_1 : to_1.commitment Ring1 ≡ Some 1
 unfolding opened
 committed_to_1 = refl
@@ -57,10 +54,6 @@ committed_to_1 = refl
 starts_not : starting quad to_1 clearing_to_none Ring1 ≡ None
 unfolding opened
 starts_not = refl
-
-would_be_gone : committed_unless_preempted quad to_1 clearing_to_none Ring1 ≡ None
-unfolding opened
-would_be_gone = refl
 
 -- ## Each ring decides as it acts: their order would make a difference
 
