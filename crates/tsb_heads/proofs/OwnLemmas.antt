@@ -23,6 +23,7 @@ use Rattle.tsb_heads.specs.Reading.{shown_by, heads_of, heads_of_field}
 use Rattle.tsb_heads.specs.Promises.{IsSame}
 use Rattle.tsb_heads.specs.Laws.{AreAlike, ShowAlike, DisplaysLookOnlyAtTheirOwn, LampsLookOnlyAtTheirOwn, FieldsAreTold, MonitorsLookOnlyAtTheirOwn, StayingHeadsPass, PassedHeadsPassAgain}
 use Rattle.tsb_heads.proofs.SetLemmas.{first-never}
+use Rattle.tsb_rows.proofs.FirstLemmas.{first-within}
 
 -- ## Runs of phases
 
@@ -45,16 +46,6 @@ first-agree n f g most same = go 1 n (λ p from to. same p from (omega arith))
     go a (suc n) here =
         let same_at : f a ≡ g a = here a (omega arith) (omega arith) in
         rw (same_at, go (a + 1) n (λ p from to. here p (omega arith) (omega arith))) refl
-
--- what is found is one of the run
-found-range : (test : ℕ → Bool) (a n p : ℕ) → first test (run_from a n) ≡ Some p → (a ≤ p) × (p < a + n)
-unfolding run_from
-found-range test a zero p e = absurd (cc)
-found-range test a (suc n) p e = go (test a) e (λ (f : first test (run_from (a + 1) n) ≡ Some p). found-range test (a + 1) n p f)
-  where
-    go : (b : Bool) → (if b then Some a else first test (run_from (a + 1) n)) ≡ Some p → (first test (run_from (a + 1) n) ≡ Some p → (a + 1 ≤ p) × (p < a + 1 + n)) → (a ≤ p) × (p < a + suc n)
-    go true f later = let same : a ≡ p = cc in (omega arith, omega arith)
-    go false f later = let there : (a + 1 ≤ p) × (p < a + 1 + n) = later f in (omega (arith, there.0), omega (arith, there.1))
 
 -- ## Displays
 
@@ -172,7 +163,7 @@ conflict-same plan h g count same =
     by-same : (o : Option ℕ) → first (λ p. is_some (conflict_of plan h p)) (phases plan) ≡ o → conflict_by plan h o ≡ conflict_by plan g o
     by-same None e = refl
     by-same (Some p) e =
-        let there : (1 ≤ p) × (p < 1 + plan.phase_count) = found-range (λ q. is_some (conflict_of plan h q)) 1 plan.phase_count p e in
+        let there : (1 ≤ p) × (p < 1 + plan.phase_count) = first-within (λ q. is_some (conflict_of plan h q)) 1 plan.phase_count p e in
         ap (λ (o : Option ℕ). option_map (λ (q : ℕ). Conflict p q) o) (conflict_of-same plan h g p count there.0 (omega (arith, there.1, count)) same)
 
 red-same : (plan : Plan) (h g i j : Heads) → plan.phase_count ≤ 16 → ShowAlike h g → ShowAlike i j → green_to_red plan h i ≡ green_to_red plan g j
