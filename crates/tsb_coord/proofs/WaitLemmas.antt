@@ -1,7 +1,7 @@
 -- How long the local counter takes to the next force-off instant, and that nothing is ordered anew until then.
 use Rattle.std.proofs.Common.{zero, suc, ◌≡◌, ◌≢◌, ℕ, ◌+◌, ◌-◌, ◌*◌, ◌%◌, ◌<◌, ◌≤◌, ◌==◌, ◌⊎◌, min, Bool, true, false, List, Option, Some, None, refl, sym, ap, subst, ◌∙◌, arith, inl, inr}
 use Rattle.std.proofs.Math.Nat.{mod-eq_of_lt, mod-lt, add-mul-mod_self_right}
-use Rattle.std.proofs.lemmas.Bool.{cases_lt, ne_eqb}
+use Rattle.std.proofs.lemmas.Bool.{cases_lt, ne_eqb, eq-eqb}
 use Rattle.std.proofs.lemmas.Bool.Decides.{nat_tests}
 use Rattle.tsb_types.specs.Lists.{first, run_from}
 use Rattle.tsb_plan.specs.Plan.{Plan, is_enabled}
@@ -40,19 +40,16 @@ not_yet m local i k earlier below before =
     ]
 
 -- an instant is met: later in this cycle, and in the next
-same_number : (a b : ℕ) → a ≡ b → (a == b) ≡ true
-same_number a b e = grind (arith, nat_tests, e)
-
 pub met_later : (m local i : ℕ) → local < i → i < m → ((local + (i - local)) % m == i) ≡ true
 met_later m local i later below =
     let at : local + (i - local) ≡ i = omega arith in
-    same_number _ _ (ap (λ x. x % m) at ∙ mod-eq_of_lt below)
+    eq-eqb _ _ (ap (λ x. x % m) at ∙ mod-eq_of_lt below)
 
 pub met_next : (m local i : ℕ) → i < local → local < m → ((local + (i + m - local)) % m == i) ≡ true
 met_next m local i earlier below =
     let at : local + (i + m - local) ≡ i + 1 * m = omega arith in
     let within : i < m = omega arith in
-    same_number _ _ (ap (λ x. x % m) at ∙ add-mul-mod_self_right i 1 m ∙ mod-eq_of_lt within)
+    eq-eqb _ _ (ap (λ x. x % m) at ∙ add-mul-mod_self_right i 1 m ∙ mod-eq_of_lt within)
 
 -- each instant is met within a cycle
 pub met_within : (m local i : ℕ) → local < m → i < m → (k : ℕ) × ((k < m) × (((local + k) % m == i) ≡ true))
@@ -62,7 +59,7 @@ met_within m local i here below =
       | inr from ↦ elim (cases_lt i local) [
         | inl earlier ↦ (i + m - local, (omega (arith, earlier), met_next m local i earlier here))
         | inr to ↦ (let at : local + 0 ≡ i = omega (arith, from, to) in
-            (0, (omega arith, same_number _ _ (ap (λ x. x % m) at ∙ mod-eq_of_lt below))))
+            (0, (omega arith, eq-eqb _ _ (ap (λ x. x % m) at ∙ mod-eq_of_lt below))))
       ]
     ]
 
