@@ -4,9 +4,8 @@ use Rattle.std.proofs.Math.Path.{fun_ext}
 use Rattle.std.proofs.lemmas.Bool.{cases_Bool}
 use Rattle.std.proofs.lemmas.Bool.Decides.{nat_tests}
 use Rattle.tsb_cells.specs.declared.timer.Timer.{Timer}
-use Rattle.tsb_cells.specs.declared.timer.Timer.TheVariants.{Off, On}
-use Rattle.tsb_cells.specs.Timer.{timer_at, timer_cell, is_on}
-use Rattle.tsb_cells.proofs.TimerLemmas.{timer_at-timer_cell, timer_cell-le}
+use Rattle.tsb_cells.specs.Timer.{timer_at, timer_cell}
+use Rattle.tsb_cells.proofs.TimerLemmas.{timer_at-timer_cell, timer_cell-le, timer_cell-on, timer_cell-off}
 use Rattle.tsb_types.specs.declared.row.Row.{Row}
 use Rattle.tsb_types.specs.Clip.{Agree}
 use Rattle.tsb_types.specs.Lists.{run_from}
@@ -25,6 +24,7 @@ use Rattle.tsb_detect.specs.Cells.{detector_in, detectors_cells, alarm_in, is_in
 use Rattle.tsb_detect.specs.Laws.{AreStatesBy, CallsPhases}
 use Rattle.tsb_detect.specs.Promises.{IsTicked, green_timer}
 use Rattle.tsb_detect.proofs.ReadLemmas.{same_detector}
+use Rattle.tsb_detect.proofs.NextLemmas.{on-time-of}
 
 -- ## The table is read
 
@@ -53,20 +53,10 @@ present-not_erratic (Some NoActivity) h = refl
 present-not_erratic (Some MaxPresence) h = refl
 present-not_erratic (Some Erratic) h = absurd cc
 
-runs-from_one : (now : ℕ) (x : Timer) → is_on x ≡ true → 1 ≤ timer_cell now x
-runs-from_one now Off on = absurd cc
-runs-from_one now (On n) on = omega arith
-
-off-cell : (now : ℕ) (x : Timer) → x ≡ Off → timer_cell now x ≡ 0
-off-cell now x e = rw e refl
-
 alarm-of : (a b c x y z : Bool) → a ≡ x → b ≡ y → c ≡ z →
     (if a then Some NoActivity else (if b then Some MaxPresence else (if c then Some Erratic else None)))
     ≡ (if x then Some NoActivity else (if y then Some MaxPresence else (if z then Some Erratic else None)))
 alarm-of a b c x y z p q r = rw (p, q, r) refl
-
-on_time-of : (input x : Bool) (t u : Timer) → input ≡ x → t ≡ u → (if input then t else Off) ≡ (if x then u else Off)
-on_time-of input x t u p q = rw (p, q) refl
 
 at-rest : (now : ℕ) (row : List ℕ) (d : ℕ) → is_detector d ≡ false → detector_in now row d ≡ at_power_up
 unfolding detector_in
@@ -155,7 +145,7 @@ module _ (now : ℕ) (f : ℕ → Detector) where
     unfolding detector_in
     detector-read =
         rw (is_phase_from d from to) (same_detector _ _ input-at output-at actuated-at alarm-at rises-at change-read
-        (on_time-of _ _ _ _ input-at change-read ∙ sym (s.each d from to).on_time) extend-read)
+        (on-time-of _ _ _ _ input-at change-read ∙ sym (s.each d from to).on_time) extend-read)
 
     detector-by : IsDetectorBy now (detectors_cells now f) d
     detector-by = record {
@@ -163,12 +153,12 @@ module _ (now : ℕ) (f : ℕ → Detector) where
       inactive_erratic = λ h. erratic-at ∙ inactive-not_erratic (f d).alarm (sym inactive-at ∙ h);
       present_erratic = λ h. erratic-at ∙ present-not_erratic (f d).alarm (sym present-at ∙ h);
       rises = omega (arith, rises-at, (s.each d from to).rises);
-      changed = omega (arith, change-at, runs-from_one now (f d).change (s.each d from to).changed);
+      changed = omega (arith, change-at, timer_cell-on now (f d).change (s.each d from to).changed);
       change = omega (arith, change-at, timer_cell-le now (f d).change);
       extend = omega (arith, extend-at, timer_cell-le now (f d).extend);
-      present = λ h. extend-at ∙ off-cell now (f d).extend ((s.each d from to).present (sym input-at ∙ h));
-      idle = λ h. extend-at ∙ off-cell now (f d).extend ((s.each d from to).idle (sym output-at ∙ h));
-      failed = λ h. extend-at ∙ off-cell now (f d).extend ((s.each d from to).failed (sym (ap is_some alarm-at) ∙ h));
+      present = λ h. extend-at ∙ timer_cell-off now (f d).extend ((s.each d from to).present (sym input-at ∙ h));
+      idle = λ h. extend-at ∙ timer_cell-off now (f d).extend ((s.each d from to).idle (sym output-at ∙ h));
+      failed = λ h. extend-at ∙ timer_cell-off now (f d).extend ((s.each d from to).failed (sym (ap is_some alarm-at) ∙ h));
     }
 
   pub states-read : AreStatesBy now f → detector_in now (detectors_cells now f) ≡ f

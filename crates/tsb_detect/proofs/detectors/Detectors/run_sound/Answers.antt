@@ -1,4 +1,5 @@
 use Rattle.std.proofs.Common.{◌≡◌, ◌&&◌, not, Bool, sym, ◌∙◌, ap, subst}
+use Rattle.std.proofs.lemmas.Bool.{or_parts}
 use Rattle.tsb_plan.specs.Plan.{Plan}
 use Rattle.tsb_plan.specs.PlanOf.{plan_of}
 use Rattle.tsb_plan.specs.Parts.{call_phase}
@@ -7,18 +8,17 @@ use Rattle.tsb_detect.specs.declared.detector_row.DetectorRow.{DetectorRow}
 use Rattle.tsb_detect.specs.Promises.{green_timer_of}
 use Rattle.tsb_detect.specs.Rows.{row_in, row_with, with_list, IsVisit}
 use Rattle.tsb_detect.specs.Layer.{cells_of}
-use Rattle.tsb_detect.proofs.NextLemmas.{neither}
 use Rattle.tsb_detect.proofs.SoundLemmas.{input-of, output-of, row-of-lists}
 use Rattle.tsb_detect.proofs.detectors.Detectors.run_sound.Goals as goal
 
 pub visit_moved-on-requires-clause-input : goal.visit_moved-on-requires-clause-input
 visit_moved-on-requires-clause-input c = λ d out.
-    let both = neither _ _ (sym (c.union-moved.ensures d) ∙ out) in
+    let both = or_parts _ _ (sym (c.union-moved.ensures d) ∙ out) in
     input-of (cells_of c.args.self.now) d ∙ sym (c.list.ensures d) ∙ c.differing.ensures d both.0
 
 pub visit_moved-on-requires-clause-output : goal.visit_moved-on-requires-clause-output
 visit_moved-on-requires-clause-output c = λ d out.
-    let both = neither _ _ (sym (c.union-moved.ensures d) ∙ out) in
+    let both = or_parts _ _ (sym (c.union-moved.ensures d) ∙ out) in
     output-of (cells_of c.args.self.now) d ∙ sym (c.list-were.ensures d) ∙ c.differing-2.ensures d both.1
 
 pub returns-clause-each : goal.returns-clause-each

@@ -1,11 +1,11 @@
 use Rattle.std.proofs.Common.{◌≡◌, ℕ, Bool, true, refl, sym, ◌∙◌, subst, inl, inr}
 use Rattle.std.proofs.lemmas.Bool.Decides.{eqb_tells}
+use Rattle.std.proofs.lemmas.Bool.{both_ways}
 use Rattle.tsb_objects.specs.Checked.{checked_plan}
 use Rattle.tsb_plan.specs.Plan.{Plan}
 use Rattle.tsb_types.specs.Sets.{has_number}
 use Rattle.tsb_detect.specs.Rows.{row_in, is_tested}
 use Rattle.tsb_detect.specs.Layer.{cells_of}
-use Rattle.tsb_detect.proofs.NextLemmas.{not_both}
 use Rattle.tsb_detect.proofs.detectors.Detectors.tested.Goals as goal
 
 same-test : (now d : ℕ) (p q : Plan) (x y : Bool) (m n : ℕ) → p ≡ q → x ≡ y → m ≡ n → is_tested now p d x m ≡ is_tested now q d y n
@@ -30,7 +30,7 @@ loop-d-preserved c =
           ];
       left = λ e in_rest.
           elim (eqb_tells e d) [
-            | inl same ↦ absurd (not_both (has_number c.pop.new.set d) seen.taken (subst (λ (n : ℕ). has_number c.pop.new.set n ≡ true) same.1 in_rest))
+            | inl same ↦ absurd (both_ways (has_number c.pop.new.set d) seen.taken (subst (λ (n : ℕ). has_number c.pop.new.set n ≡ true) same.1 in_rest))
             | inr other ↦ put.others e other.1 ∙ held.left e (sym (seen.others e other.1) ∙ in_rest)
           ];
     }

@@ -1,5 +1,6 @@
 use Rattle.std.proofs.Common.{◌≡◌, ℕ, ◌≤◌, true, sym, ◌∙◌, subst, refl, inl, inr}
 use Rattle.std.proofs.lemmas.Bool.Decides.{eqb_tells}
+use Rattle.std.proofs.lemmas.Bool.{both_ways}
 use Rattle.tsb_cells.specs.declared.timer.Timer.{Timer}
 use Rattle.tsb_plan.specs.Plan.{Plan}
 use Rattle.tsb_plan.specs.PlanOf.{plan_of}
@@ -9,7 +10,6 @@ use Rattle.tsb_detect.specs.declared.detector_row.DetectorRow.{DetectorRow}
 use Rattle.tsb_detect.specs.Promises.{green_timer_of}
 use Rattle.tsb_detect.specs.Rows.{row_in, IsVisit}
 use Rattle.tsb_detect.specs.Layer.{cells_of}
-use Rattle.tsb_detect.proofs.NextLemmas.{not_both}
 use Rattle.tsb_detect.proofs.detectors.Detectors.visit_each.Goals as goal
 
 pub loop-d-init : goal.loop-d-init
@@ -45,7 +45,7 @@ loop-d-preserved c =
           ];
       left = λ e from within in_rest.
           elim (eqb_tells e d) [
-            | inl same ↦ absurd (not_both (has_number c.pop.new.set d) seen.taken (subst (λ (n : ℕ). has_number c.pop.new.set n ≡ true) same.1 in_rest))
+            | inl same ↦ absurd (both_ways (has_number c.pop.new.set d) seen.taken (subst (λ (n : ℕ). has_number c.pop.new.set n ≡ true) same.1 in_rest))
             | inr other ↦ made.others e from within other.1 ∙ held.left e from within (sym (seen.others e other.1) ∙ in_rest)
           ];
       lists = λ k small below. made.lists k (held.lists k small below) below;

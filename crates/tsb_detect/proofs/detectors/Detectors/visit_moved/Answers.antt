@@ -1,5 +1,6 @@
 use Rattle.std.proofs.Common.{◌≡◌, ℕ, Bool, true, None, sym, ◌∙◌, subst, refl, inl, inr}
 use Rattle.std.proofs.lemmas.Bool.Decides.{eqb_tells}
+use Rattle.std.proofs.lemmas.Bool.{both_ways}
 use Rattle.tsb_cells.specs.declared.timer.Timer.{Timer}
 use Rattle.tsb_plan.specs.Plan.{Plan}
 use Rattle.tsb_plan.specs.PlanOf.{plan_of}
@@ -10,7 +11,6 @@ use Rattle.tsb_detect.specs.Detector.{new_alarm}
 use Rattle.tsb_detect.specs.Promises.{green_timer_of}
 use Rattle.tsb_detect.specs.Rows.{row_in, row_with, detector_of, IsVisit, HasNoAlarm}
 use Rattle.tsb_detect.specs.Layer.{cells_of}
-use Rattle.tsb_detect.proofs.NextLemmas.{not_both}
 use Rattle.tsb_detect.proofs.SoundLemmas.{part, no-alarm, unmoved-visit, kept, taken}
 use Rattle.tsb_detect.proofs.detectors.Detectors.visit_moved.Goals as goal
 
@@ -70,12 +70,12 @@ loop-d-preserved c =
           ];
       left = λ e from within in_rest.
           elim (eqb_tells e d) [
-            | inl same ↦ absurd (not_both (has_number c.pop.new.set d) seen.taken (subst (λ (n : ℕ). has_number c.pop.new.set n ≡ true) same.1 in_rest))
+            | inl same ↦ absurd (both_ways (has_number c.pop.new.set d) seen.taken (subst (λ (n : ℕ). has_number c.pop.new.set n ≡ true) same.1 in_rest))
             | inr other ↦ made.others e from within other.1 ∙ held.left e from within (sym (seen.others e other.1) ∙ in_rest)
           ];
       off = λ e in_rest.
           elim (eqb_tells e d) [
-            | inl same ↦ absurd (not_both (has_number c.pop.new.set d) seen.taken (subst (λ (n : ℕ). has_number c.pop.new.set n ≡ true) same.1 in_rest))
+            | inl same ↦ absurd (both_ways (has_number c.pop.new.set d) seen.taken (subst (λ (n : ℕ). has_number c.pop.new.set n ≡ true) same.1 in_rest))
             | inr other ↦ put.others e other.1 ∙ held.off e (sym (seen.others e other.1) ∙ in_rest)
           ];
       none = λ e from within.
