@@ -1,6 +1,7 @@
 -- A tick in which no input is on, no delay timer runs, none is spent and none is in service changes nothing.
 use Rattle.std.proofs.Common.{◌≡◌, ℕ, ◌+◌, ◌-◌, ◌%◌, ◌≤◌, Bool, false, ◌&&◌, ◌||◌, List, slice_index, None, refl, sym, ◌∙◌, ap, subst, inl, inr, arith}
 use Rattle.std.proofs.lemmas.Bool.{cases_Bool}
+use Rattle.std.proofs.Math.Bool.{and-false}
 use Rattle.tsb_types.specs.declared.flow.Intervals.{Intervals}
 use Rattle.tsb_types.specs.declared.number_set.NumberSet.{NumberSet}
 use Rattle.tsb_types.specs.declared.row.Row.{Row}
@@ -25,10 +26,7 @@ pub none-named : (w n : ℕ) → w % 16 ≡ 0 → 1 ≤ n → n ≤ 4 → names 
 none-named w n low from within = sym (names-low w n from within) ∙ ap (λ (x : ℕ). names (x % 65536) n) low ∙ names-zero n
 
 none-requests : (now : ℕ) (plan : Plan) (n cell : ℕ) (on : Bool) → on ≡ false → requests_by now plan n on false cell ≡ false
-none-requests now plan n cell on off = rw off (and-off _)
-  where
-    and-off : (b : Bool) → (b && false) ≡ false
-    and-off b = grind arith
+none-requests now plan n cell on off = rw off (and-false _)
 
 none-first : (test : ℕ → Bool) → ((n : ℕ) → 1 ≤ n → n ≤ 4 → test n ≡ false) → first test (run_from 1 4) ≡ None
 unfolding run_from

@@ -1,7 +1,7 @@
 -- A tick looks at the inputs of preempts 1 to 4 and at the intervals of phases 1 to 16 alone; and what it asks stands.
 use Rattle.std.proofs.Common.{zero, suc, ◌≡◌, ℕ, ◌+◌, ◌-◌, ◌<◌, ◌≤◌, ◌==◌, Bool, true, false, not, ◌&&◌, ◌||◌, Option, Some, None, is_some, is_none, refl, sym, ◌∙◌, ap, ap₂, subst, inl, inr, arith}
 use Rattle.std.specs.List.{list_all}
-use Rattle.std.proofs.lemmas.Bool.{cases_Bool, true≢false, eqb-true}
+use Rattle.std.proofs.lemmas.Bool.{cases_Bool, true≢false, eqb-true, and_right}
 use Rattle.tsb_types.specs.declared.interval.Interval.{Interval}
 use Rattle.tsb_types.specs.declared.stage.Stage.{Stage}
 use Rattle.tsb_types.specs.declared.stage.Stage.TheVariants.{Track, Dwell, Exit}
@@ -143,16 +143,12 @@ none-ends plan g w (Some s) n four out = elim (cases_Bool (s.preempt == n)) [
     is-one : (s : Service) → IsOfFour (Some s) → is_preempt s.preempt ≡ true
     is-one s four = is_preempt-from s.preempt four.0 four.1
 
-and-off : (a b : Bool) → b ≡ false → (a && b) ≡ false
-and-off true b e = e
-and-off false b e = refl
-
 none-spent : (plan : Plan) (g : Given) (w : Preempts) (n : ℕ) → IsOfFour w.service → is_preempt n ≡ false → w.spent n ≡ false → new_spent plan g w n ≡ false
 unfolding dwell_ends
 none-spent plan g w n four out off =
     let ends : dwell_ends_of plan g w w.service n ≡ false = none-ends plan g w w.service n four out in
     let never : (is_none (beginning plan g w) && dwell_ends_of plan g w w.service n) ≡ false =
-    and-off (is_none (beginning plan g w)) (dwell_ends_of plan g w w.service n) ends in
+    and_right (is_none (beginning plan g w)) (dwell_ends_of plan g w w.service n) ends in
     rw (off, never) refl
 
 next-off : (plan : Plan) (g : Given) (was : Preempts) (n : ℕ) → IsOfFour (as_read was).service → is_preempt n ≡ false → g.row n ≡ false → IsOff was n → IsOff (next plan g was) n

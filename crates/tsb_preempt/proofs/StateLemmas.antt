@@ -3,10 +3,9 @@ use Rattle.std.proofs.Common.{zero, suc, ◌≡◌, ◌≢◌, ℕ, ◌+◌, ◌
 use Rattle.std.proofs.Math.Path.{fun_ext}
 use Rattle.std.proofs.lemmas.Bool.{cases_Bool}
 use Rattle.std.proofs.lemmas.Bool.Decides.{nat_tests}
-use Rattle.tsb_cells.specs.declared.timer.Timer.{Timer}
-use Rattle.tsb_cells.specs.declared.timer.Timer.TheVariants.{Off, On}
+use Rattle.tsb_cells.specs.declared.timer.Timer.TheVariants.{Off}
 use Rattle.tsb_cells.specs.Timer.{timer_at, timer_cell, is_on}
-use Rattle.tsb_cells.proofs.TimerLemmas.{timer_at-timer_cell, timer_cell-le, IsWithin-timer_at}
+use Rattle.tsb_cells.proofs.TimerLemmas.{timer_at-timer_cell, timer_cell-le, IsWithin-timer_at, timer_cell-on, timer_cell-off, timer_at-off}
 use Rattle.tsb_types.specs.declared.stage.Stage.TheVariants.{Track}
 use Rattle.tsb_types.specs.Lists.{run_from}
 use Rattle.tsb_types.specs.Sets.{names, list_of, list_in}
@@ -71,23 +70,16 @@ serving-with : ℕ → Option Service → Option Serving
 serving-with now None = None
 serving-with now (Some s) = Some (record { preempt = s.preempt; stage = s.stage; timer = timer_cell now s.timer; stage_timer = timer_cell now s.stage_timer })
 
-on-cell : (now : ℕ) (x : Timer) → is_on x ≡ true → 1 ≤ timer_cell now x
-on-cell now Off on = cc
-on-cell now (On n) on = omega arith
-
-off-cell : (now : ℕ) (x : Timer) → x ≡ Off → timer_cell now x ≡ 0
-off-cell now x e = ap (timer_cell now) e
-
 serving-by : (now : ℕ) (o : Option Service) → IsServedIn now o → IsServingBy now (serving-with now o)
 unfolding serving-with
 serving-by now None by = tt
 serving-by now (Some s) by = record {
   from = by.from;
   within = by.within;
-  began = on-cell now s.timer by.runs;
+  began = timer_cell-on now s.timer by.runs;
   timer = timer_cell-le now s.timer;
   stage_timer = timer_cell-le now s.stage_timer;
-  outside_track = λ out. off-cell now s.stage_timer (by.outside_track out);
+  outside_track = λ out. timer_cell-off now s.stage_timer (by.outside_track out);
 }
 
 serving-read : (now : ℕ) (o : Option Service) → IsServedIn now o → serving_of now (serving-with now o) ≡ o
@@ -172,7 +164,7 @@ module _ (now : ℕ) (f : Preempts) (row : List ℕ) (by : IsStateBy now f) (t :
         each = λ n from to. record {
           delay = subst (λ (x : ℕ). x ≤ now + 1) (sym (delay-cell n from to)) (timer_cell-le now (f.delay n));
           spent = λ on. subst (λ (x : ℕ). 1 ≤ x) (sym (delay-cell n from to))
-              (on-cell now (f.delay n) ((by.each n from to).spent (sym (names-in 1 n f.spent t.spent low-spent from to) ∙ on)));
+              (timer_cell-on now (f.delay n) ((by.each n from to).spent (sym (names-in 1 n f.spent t.spent low-spent from to) ∙ on)));
         };
         preempt = s.preempt;
         stage = s.stage;
@@ -196,9 +188,6 @@ states-by now f by = table-by now f (preempts_cells now f) by (table now f)
 runs-on : (now cell : ℕ) → 1 ≤ cell → is_on (timer_at now cell) ≡ true
 runs-on now cell on = grind (arith, nat_tests, on)
 
-at-zero : (now cell : ℕ) → cell ≡ 0 → timer_at now cell ≡ Off
-at-zero now cell e = rw e refl
-
 stage-from : (cell : ℕ) → stage_in cell ≢ Track → 1 ≤ cell
 stage-from zero out = absurd (out refl)
 stage-from (suc k) out = omega arith
@@ -216,7 +205,7 @@ served-in now row by =
             runs = runs-on now (slice_index row 8) (by.serving from);
             timer = IsWithin-timer_at now (slice_index row 8);
             stage_timer = IsWithin-timer_at now (slice_index row 9);
-            outside_track = λ out. at-zero now (slice_index row 9) (by.outside_track (stage-from (slice_index row 7) out));
+            outside_track = λ out. timer_at-off now (slice_index row 9) (by.outside_track (stage-from (slice_index row 7) out));
           }))
       | inr off ↦ rw off tt
     ]

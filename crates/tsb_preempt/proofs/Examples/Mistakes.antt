@@ -120,15 +120,11 @@ stops : track_timer_while_green plan (both Green 2 5) in_track ≡ Off
 unfolding plan quad run_from all_green
 stops = refl
 
--- ## Service ends when another preempt takes over
+-- ## Service ends when another preempt takes over, which `not_ended` of the examples says it does not
 
 abbrev pub ended_or_begun : Plan → Given → Preempts → Bool
 ended_or_begun plan given w =
     is_some w.service && (is_none (new_service plan given w) || is_some (beginning plan given w))
-
-taken_over : service_ended quad (with_row 1 (both Green 4 7)) (as_read (serving 2 (On 139) Dwell (On 139) Off)) ≡ false
-unfolding quad run_from requesting beginning new_service
-taken_over = refl
 
 taken_for_ended : ended_or_begun quad (with_row 1 (both Green 4 7)) (as_read (serving 2 (On 139) Dwell (On 139) Off))
     ≡ true
