@@ -1,0 +1,4 @@
+mod CarryLemmas
+mod PlacedLemmas
+mod MovesLemmas
+mod TickLemmas

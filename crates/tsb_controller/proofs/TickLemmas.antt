@@ -1,0 +1,371 @@
+-- What the steps of a tick say of the rows, one after the other, comes to the one step of the state that is read in them.
+use Rattle.std.proofs.Common.{◌≡◌, ℕ, ◌+◌, ◌-◌, ◌≤◌, Bool, true, false, ◌&&◌, ◌||◌, if◌then◌else◌, List, Option, Some, None, option_map, refl, sym, ap, ap₂, ◌∙◌, inl, inr, arith, subst, slice_index}
+use Rattle.std.proofs.Math.Path.{fun_ext}
+use Rattle.std.proofs.lemmas.Bool.{cases_Bool, true≢false}
+use Rattle.std.proofs.lemmas.Bool.Decides.{nat_tests}
+use Rattle.tsb_cells.specs.declared.timer.Timer.{Timer}
+use Rattle.tsb_cells.specs.declared.timer.Timer.TheVariants.{Off}
+use Rattle.tsb_cells.specs.Timer.{timer_at}
+use Rattle.tsb_cells.proofs.TimerLemmas.{timer_at-this}
+use Rattle.tsb_types.specs.declared.flow.Called.{Called}
+use Rattle.tsb_types.specs.declared.flow.Intervals.{Intervals}
+use Rattle.tsb_types.specs.declared.flow.Moves.{Moves}
+use Rattle.tsb_types.specs.declared.flow.Orders.{Orders}
+use Rattle.tsb_types.specs.declared.interval.Interval.{Interval}
+use Rattle.tsb_types.specs.declared.lamp.Lamp.{Lamp}
+use Rattle.tsb_types.specs.declared.phase_set.PhaseSet.{PhaseSet}
+use Rattle.tsb_types.specs.declared.row.Row.{Row}
+use Rattle.tsb_types.specs.Clip.{Agree}
+use Rattle.tsb_types.specs.Flow.{interval_of, pedestrian_of}
+use Rattle.tsb_types.specs.Intervals.{is_green}
+use Rattle.tsb_types.specs.Sets.{has, has_number, is_phase}
+use Rattle.tsb_types.proofs.ClipLemmas.{IsAmong, among_16, is_phase_from}
+use Rattle.tsb_plan.specs.Plan.{Plan, sequence}
+use Rattle.tsb_plan.specs.Parts.{call_phase}
+use Rattle.tsb_detect.specs.Cells.{detector_in}
+use Rattle.tsb_detect.specs.Detector.{Detector, of_called, all_after}
+use Rattle.tsb_detect.specs.Promises as detect
+use Rattle.tsb_detect.proofs.StateLemmas.{same-after, ticks-all}
+use Rattle.tsb_calls.specs.declared.decided.Decided.{Decided}
+use Rattle.tsb_calls.specs.Cells.{memories_in}
+use Rattle.tsb_calls.specs.Looks as calls_looks
+use Rattle.tsb_calls.specs.Memories as memories
+use Rattle.tsb_calls.specs.Memories.{Memories, as_set}
+use Rattle.tsb_calls.specs.Promises as calls
+use Rattle.tsb_calls.proofs.LookLemmas.{look-alike}
+use Rattle.tsb_calls.proofs.NextLemmas.{ticks-give}
+use Rattle.tsb_phase.specs.Cells as phase_cells
+use Rattle.tsb_phase.specs.Cells.{phase_in}
+use Rattle.tsb_phase.specs.Laws as phase_laws
+use Rattle.tsb_phase.specs.Laws.{IsToldTheSame}
+use Rattle.tsb_phase.specs.Moves.{once_ended, once_cleared, once_started, ended, started_by}
+use Rattle.tsb_phase.specs.Next as phase_next
+use Rattle.tsb_phase.specs.Phase as phase
+use Rattle.tsb_phase.specs.Phase.{Phase, at_power_up, as_read, none_moved}
+use Rattle.tsb_phase.specs.Promises as phases
+use Rattle.tsb_phase.proofs.MoveLemmas.{one_by_one}
+use Rattle.tsb_phase.proofs.OwnLemmas.{looks_only}
+use Rattle.tsb_ring.specs.declared.ring_order.RingOrder.TheVariants.{Ring1First}
+use Rattle.tsb_ring.specs.Cells.{rings_in}
+use Rattle.tsb_ring.specs.Looks as ring_looks
+use Rattle.tsb_ring.specs.Looks.{AgreeOnTargets}
+use Rattle.tsb_ring.specs.Moves as ring_moves
+use Rattle.tsb_ring.specs.Moves.{is_ended, is_cleared, is_started}
+use Rattle.tsb_ring.specs.Next as rings_next
+use Rattle.tsb_ring.specs.Promises as rings
+use Rattle.tsb_ring.specs.Rings.{number}
+use Rattle.tsb_ring.proofs.ActLemmas.{acts_as_next}
+use Rattle.tsb_ring.proofs.LookLemmas.{moves-same}
+use Rattle.tsb_ring.proofs.MoveLemmas.{ends_ready, clears_over}
+use Rattle.tsb_coord.specs.Cells.{pattern_in}
+use Rattle.tsb_coord.specs.Coordinated.{asks_force_off}
+use Rattle.tsb_preempt.specs.Cells.{preempts_in}
+use Rattle.tsb_preempt.specs.Laws as preempt_laws
+use Rattle.tsb_preempt.specs.Preempts as preempts_words
+use Rattle.tsb_preempt.specs.Preempts.{Preempts, is_preempt}
+use Rattle.tsb_preempt.specs.Promises as preempts
+use Rattle.tsb_preempt.specs.Service.{Service}
+use Rattle.tsb_preempt.proofs.OwnLemmas.{orders-as-next, ticks-as-next}
+use Rattle.tsb_transact.specs.Desk.{Desk}
+use Rattle.tsb_step.specs.State.{State, interval, pedestrian_part}
+use Rattle.tsb_step.specs.Tick as tick
+use Rattle.tsb_step.specs.Tick.{preempts_given, calls_given, phases_given, rings_given, new_detectors, set, callable, conflict, pedestrian_call, ready, over, reverted, gapped, service, moves, moved, done, next}
+use Rattle.tsb_controller.specs.declared.values.Sensed.{Sensed}
+use Rattle.tsb_controller.specs.declared.values.Movement.{Movement}
+use Rattle.tsb_controller.specs.Carried.{AreOnes, moved_by}
+use Rattle.tsb_controller.specs.Found.{observed, for_rings, IsSensed, IsMoved, AreDecided}
+use Rattle.tsb_controller.specs.Promises.{IsTicked}
+use Rattle.tsb_controller.specs.Rows.{Rows, AreBy, untripped, state_of}
+use Rattle.tsb_controller.proofs.PlacedLemmas.{IsPlaced, for_calls, within}
+
+-- ## Words
+
+green-set : (i : Intervals) (p : ℕ) → has i.green p ≡ is_green (interval_of i p)
+green-set i p = go (has i.green p) (has i.yellow p) (has i.red_clear p) refl refl refl
+  where
+    go : (g y r : Bool) → has i.green p ≡ g → has i.yellow p ≡ y → has i.red_clear p ≡ r → has i.green p ≡ is_green (interval_of i p)
+    go true y r e f h = rw e refl
+    go false true r e f h = rw (e, f) refl
+    go false false true e f h = rw (e, f, h) refl
+    go false false false e f h = rw (e, f, h) refl
+
+-- the interval timer that tick `now` reads
+timer-read : (now : ℕ) (row : List ℕ) (p : ℕ) → 1 ≤ now → 1 ≤ p → p ≤ 16 → phase_cells.IsBy (now - 1) row →
+    (phase_in now row p).timer ≡ (as_read (phase_in (now - 1) row p)).timer
+unfolding phase_in
+timer-read now row p one from to by =
+    rw (is_phase_from p from to) (timer_at-this now (slice_index row (8 + p)) one (by.each p from to).timer)
+
+-- the green timer of the phase that a detector calls, as of all phases
+called-green : (t : State) (o : Option ℕ) → of_called (λ p. tick.green_timer t (Some p)) o ≡ tick.green_timer t o
+called-green t None = refl
+called-green t (Some p) = refl
+
+same-targets : (a b : Option (ℕ → Bool)) → a ≡ b → AgreeOnTargets a b
+same-targets a b e = subst (AgreeOnTargets a) e (own a)
+  where
+    own : (o : Option (ℕ → Bool)) → AgreeOnTargets o o
+    own None = tt
+    own (Some f) = λ p from to. refl
+
+alike-own : (m : Memories) → calls_looks.AreAlike m m
+alike-own m = record { vehicle = λ p from to. refl; pedestrian = λ p from to. refl; count = λ p from to. refl }
+
+-- a phase that is none of 1 to 16 is as at power-up, and stays so
+pub at-rest : (now : ℕ) (row : List ℕ) (p : ℕ) → is_phase p ≡ false → phase_in now row p ≡ at_power_up
+unfolding phase_in
+at-rest now row p out = rw out refl
+
+stays : (plan : Plan) (g : phase.Given) (m : phase.Moved) (p : ℕ) (was : Phase) → was ≡ at_power_up → m.starts p ≡ false → m.ends p ≡ false →
+    phase_next.next plan g m p was ≡ at_power_up
+stays plan g m p was e starts ends = rw (e, starts, ends) refl
+
+outside : (b : Bool) (p : ℕ) → is_phase p ≡ false → (b ≡ true → (1 ≤ p) × (p ≤ 16)) → b ≡ false
+outside false p out known = refl
+outside true p out known =
+    let at = known refl in absurd (true≢false (sym (is_phase_from p at.0 at.1) ∙ out))
+
+-- all that the rings do to a phase once its times have run
+abbrev once : Plan → phase.Given → phase.Moved → ℕ → Bool → Phase → Phase
+once plan g x p by_gap y = once_started plan g x p (once_cleared x p (once_ended plan g x p by_gap y))
+
+-- ## The tick
+--
+-- `old` are the rows before it, `sensed_rows` once preempts and detectors have run, `mid` the calls' once they are set, and
+-- `moved_rows` once the moves are carried out
+
+module _ (now : ℕ) (plan : Plan) (desk : Desk) (lamp : Option Lamp) (row : Row) (old sensed_rows moved_rows : Rows) (mid : List ℕ) (s : Sensed) (called : Called) (m : Movement)
+    (one : 1 ≤ now) (placed : IsPlaced plan) (by : AreBy (now - 1) old)
+    (sensed : IsSensed now row plan old sensed_rows s)
+    (sets : calls.IsSet (observed row s) plan old.calls mid)
+    (calls_told : calls.TellsCalled (observed row s) plan old.calls called)
+    (run : IsMoved now s called plan (record old { detectors = sensed_rows.detectors; calls = mid; preempts = sensed_rows.preempts }) moved_rows m) where
+  abbrev pub t : State
+  t = state_of (now - 1) (untripped plan desk lamp) old
+
+  now_is : now ≡ now - 1 + 1
+  now_is = omega arith
+
+  shown : Agree (interval_of s.intervals) (interval t)
+  shown p from to = sensed.shown (now - 1) p from to
+
+  -- ### Detectors
+
+  greens-agree : Agree (detect.green_timer now sensed.greens) (λ p. tick.green_timer t (Some p))
+  greens-agree p from to =
+      ap₂ (λ (b : Bool) (x : Timer). if b then x else Off)
+      (ap (λ (set : PhaseSet). has set p) sensed.greens_are ∙ green-set s.intervals p ∙ ap is_green (shown p from to))
+      (sensed.since_are now p from to ∙ timer-read now old.phases p one from to by.phases)
+
+  pub detectors_are : detector_in now sensed_rows.detectors ≡ new_detectors t row
+  unfolding new_detectors
+  detectors_are =
+      ticks-all now row sensed.greens plan old.detectors sensed_rows.detectors sensed.detected
+      ∙ same-after plan now (has_number row.vehicles) (has_number row.vehicles) (detect.green_timer now sensed.greens) (λ p. tick.green_timer t (Some p))
+      (detector_in (now - 1) old.detectors) (detector_in (now - 1) old.detectors)
+      (λ d from to. placed.called d) (λ d from to. refl) greens-agree (λ d from to. refl)
+      ∙ ap₂ (λ (n : ℕ) (green : ℕ → Timer). all_after plan n (has_number row.vehicles) green (detector_in (now - 1) old.detectors)) now_is
+      (fun_ext (λ d. called-green t (call_phase plan d)))
+
+  -- ### Preempts
+
+  alike : preempt_laws.AreAlike (preempts.given_by row s.intervals) (preempts_given t row)
+  alike = record { row = λ n from to. sym (one_of_four n from to); interval = shown }
+    where
+      one_of_four : (n : ℕ) → 1 ≤ n → n ≤ 4 → (is_preempt n && has_number row.preempts n) ≡ has_number row.preempts n
+      one_of_four n from to = let is : is_preempt n ≡ true = grind (arith, nat_tests) in rw is refl
+
+  pub preempts_are : preempts_in now sensed_rows.preempts ≡ preempts_words.next plan (preempts_given t row) (preempts_in (now - 1) old.preempts)
+  preempts_are =
+      ticks-as-next now row s.intervals plan old.preempts sensed_rows.preempts (preempts_given t row) placed.count alike (λ n out. rw out refl) by.preempts sensed.preempts_by sensed.preempted
+
+  wanted : preempts.AreOrders plan (preempts_given t row) (preempts_words.as_read (preempts_in (now - 1) old.preempts)) s.asked
+  wanted = orders-as-next now row s.intervals plan old.preempts (preempts_given t row) s.asked placed.count alike sensed.wanted
+
+  served : s.service ≡ service t row
+  unfolding tick.new_service
+  served = sensed.served now ∙ ap (λ (f : Preempts). option_map (λ (x : Service). x.preempt) f.service) preempts_are
+
+  -- ### Calls
+
+  calls_alike : calls_looks.AgreeOnPhases (calls.given_of (observed row s)) (calls_given t row)
+  calls_alike = record {
+    output = λ d from to. sensed.outputs_are now d from to ∙ ap (λ (f : ℕ → Detector). (f d).output) detectors_are;
+    actuated = λ d from to. sensed.actuated_are now d from to ∙ ap (λ (f : ℕ → Detector). (f d).actuated) detectors_are;
+    button = λ d from to. refl;
+    interval = shown;
+    pedestrian_part = λ p from to. sensed.walking (now - 1) p from to;
+    runs = sensed.ordered.runs;
+    omitted = sensed.ordered.omit;
+    service_ended = wanted.ended;
+  }
+
+  look : calls_looks.LookAlike plan (calls.given_of (observed row s)) (calls_given t row)
+  look = look-alike plan (calls.given_of (observed row s)) (calls_given t row) placed.count calls_alike
+
+  as_sets : calls_looks.AreAlike (as_set plan (calls.given_of (observed row s)) t.memories) (set t row)
+  as_sets = look.sets t.memories t.memories (alike-own t.memories)
+
+  called_alike : calls_looks.AreCalledAlike plan (calls.given_of (observed row s)) (calls_given t row)
+      (as_set plan (calls.given_of (observed row s)) t.memories) (set t row)
+  called_alike = look.called (as_set plan (calls.given_of (observed row s)) t.memories) (set t row) as_sets
+
+  callable_is : Agree (has called.callable) (callable t row)
+  callable_is p from to = (calls_told p from to).callable ∙ called_alike.callable p from to
+
+  pedestrian_is : Agree (has called.pedestrian) (pedestrian_call t row)
+  pedestrian_is p from to = (calls_told p from to).pedestrian ∙ called_alike.pedestrian p from to
+
+  -- ### Phases
+
+  phases_alike : phase_laws.AgreeOnPhases (phases.given_of run.conditions) (phases_given t row)
+  unfolding phases_given
+  phases_alike = record {
+    output = λ p from to. ap (λ (x : Called). has x.output p) run.conditions_are.called_are ∙ (calls_told p from to).output ∙ called_alike.output p from to;
+    conflict = λ p from to. ap (λ (x : Called). has x.conflict p) run.conditions_are.called_are ∙ (calls_told p from to).conflict ∙ called_alike.conflict p from to;
+    callable = λ p from to. ap (λ (x : Called). has x.callable p) run.conditions_are.called_are ∙ callable_is p from to;
+    pedestrian_call = λ p from to. ap (λ (x : Called). has x.pedestrian p) run.conditions_are.called_are ∙ pedestrian_is p from to;
+    count = λ p from to. ap (λ (xs : List ℕ). slice_index xs (p - 1)) run.conditions_are.counts_are
+        ∙ (run.lent p from to).same ∙ (sets p from to).count ∙ as_sets.count p from to;
+    runs = run.conditions_are.runs_is ∙ sensed.ordered.runs;
+    service = run.conditions_are.service_is ∙ served;
+    hold = λ p from to. ap (λ (x : Orders). has x.hold p) run.conditions_are.orders_are ∙ sensed.ordered.hold p from to;
+    must_end = λ p from to. ap (λ (x : Orders). has x.must_end p) run.conditions_are.orders_are ∙ wanted.must_end p from to;
+    forced = λ p from to. ap (λ (x : Orders). has x.forced p) run.conditions_are.orders_are ∙ sensed.ordered.forced p from to
+        ∙ ap (λ (n : ℕ). asks_force_off plan n t.pattern p) now_is;
+  }
+
+  told : (p : ℕ) → 1 ≤ p → p ≤ 16 → IsToldTheSame plan (phases.given_of run.conditions) (phases_given t row) p
+  told p from to = looks_only plan (phases.given_of run.conditions) (phases_given t row) placed.count phases_alike p from to
+
+  abbrev was : ℕ → Phase
+  was p = phase_in (now - 1) old.phases p
+
+  ready_is : Agree (has m.timing.ready) (ready t row)
+  ready_is p from to = run.ready p from to ∙ (told p from to).ready (as_read (was p))
+
+  gapped_is : Agree (has m.timing.gapped) (gapped t row)
+  gapped_is p from to = run.gapped p from to ∙ (told p from to).gapped (as_read (was p))
+
+  ticked_is : Agree (phase_in now run.timed) (λ p. phase_next.ticked plan (phases_given t row) p (was p))
+  ticked_is p from to = run.ticked p from to ∙ (told p from to).goes_on none_moved none_moved (was p) (record { ends = refl; clears = refl; starts = refl })
+
+  -- ### Rings
+
+  rings_alike : ring_looks.AgreeOnPhases (rings.given_of plan (for_rings s called m.timing)) (rings_given t row)
+  unfolding rings_given
+  rings_alike = record {
+    interval = shown;
+    sequence = λ r. ap (λ (n : ℕ). sequence plan n (number r)) sensed.ordered.sequence;
+    callable = callable_is;
+    omitted = sensed.ordered.omit;
+    ready = ready_is;
+    over = run.over;
+    reverted = run.reverted;
+    target = same-targets _ (tick.target t row) wanted.target;
+  }
+
+  pub moves_are : m.moves ≡ moves t row
+  unfolding moves
+  moves_are =
+      run.decided
+      ∙ moves-same plan (rings_in old.rings) (rings.given_of plan (for_rings s called m.timing)) (rings_given t row) (within plan old.rings placed by.rings) rings_alike
+
+  pub rings_are : rings_in moved_rows.rings ≡ rings_next.next plan (rings_in old.rings) (rings_given t row)
+  unfolding moves
+  rings_are =
+      run.acted ∙ ap (λ (x : Moves). ring_moves.acted Ring1First x (rings_in old.rings)) moves_are
+      ∙ acts_as_next plan (rings_in old.rings) (rings_given t row) Ring1First
+
+  -- ### Phases once the moves are carried out
+
+  -- the rings end only greens, and clear only what is over
+  are-moves : (p : ℕ) → phase_laws.AreMoves plan (moved t row) p (was p)
+  unfolding moves rings_given
+  are-moves p = record {
+    ends_greens = λ on. (ends_ready plan t.rings (rings_given t row) p on).0;
+    clears_overs = λ on. clears_over plan t.rings (rings_given t row) p on;
+  }
+
+  once-same : (x : phase.Moved) (p : ℕ) (by_gap : Bool) (y : Phase) → 1 ≤ p → p ≤ 16 → once plan (phases.given_of run.conditions) x p by_gap y ≡ once plan (phases_given t row) x p by_gap y
+  once-same x p by_gap y from to =
+      ap₂ (λ (f : Phase → Phase) (e : Phase). let moved_on : Phase = once_cleared x p (if x.ends p then e else y) in if x.starts p then f moved_on else moved_on)
+      (fun_ext (λ z. (told p from to).starts z)) ((told p from to).ends by_gap y)
+
+  started-off : (p : ℕ) → is_phase p ≡ false → (moved t row).starts p ≡ false
+  started-off p out = outside ((moved t row).starts p) p out (λ on. run.ones.starts p (subst (λ (x : Moves). is_started x p ≡ true) (sym moves_are) on))
+
+  ended-off : (p : ℕ) → is_phase p ≡ false → (moved t row).ends p ≡ false
+  ended-off p out = outside ((moved t row).ends p) p out (λ on. run.ones.ends p (subst (λ (x : Moves). is_ended x p ≡ true) (sym moves_are) on))
+
+  pub phases_are : phase_in now moved_rows.phases ≡ (λ p. phase_next.next plan (phases_given t row) (moved t row) p (was p))
+  phases_are = fun_ext (λ p. at p)
+    where
+      h : phase.Given
+      h = phases_given t row
+
+      inside : (p : ℕ) → 1 ≤ p → p ≤ 16 → phase_in now moved_rows.phases p ≡ phase_next.next plan h (moved t row) p (was p)
+      inside p from to =
+          run.carried p from to
+          ∙ once-same (moved_by m.moves) p (has m.timing.gapped p) (phase_in now run.timed p) from to
+          ∙ ap (λ (x : Moves). once plan h (moved_by x) p (has m.timing.gapped p) (phase_in now run.timed p)) moves_are
+          ∙ ap₂ (λ (by_gap : Bool) (y : Phase). once plan h (moved t row) p by_gap y) (gapped_is p from to) (ticked_is p from to)
+          ∙ one_by_one plan h p (was p) (was p).interval ((moved t row).ends p) ((moved t row).clears p) ((moved t row).starts p)
+          (record { ends_greens = (are-moves p).ends_greens; clears_overs = (are-moves p).clears_overs })
+
+      at : (p : ℕ) → phase_in now moved_rows.phases p ≡ phase_next.next plan h (moved t row) p (was p)
+      at p = elim (cases_Bool (is_phase p)) [
+        | inl on ↦ inside p (among_16 p on).from (among_16 p on).to
+        | inr out ↦
+            at-rest now moved_rows.phases p out
+            ∙ sym (stays plan h (moved t row) p (was p) (at-rest (now - 1) old.phases p out) (started-off p out) (ended-off p out))
+      ]
+
+  -- ### Calls once they are settled
+
+  pub memories_are : (d : Decided) (new : List ℕ) → AreDecided s called m d → calls.IsSettled d mid new → memories_in new ≡ (next t row).memories
+  memories_are d new decided settled =
+      ticks-give plan (calls_given t row) (done t row) (observed row s) d old.calls mid new (for_calls plan placed) calls_alike
+      (record {
+        starts = λ p from to. decided.starts_are p ∙ ap (λ (x : Moves). is_started x p) moves_are;
+        ends = λ p from to. decided.ends_are p ∙ ap (λ (x : Moves). is_ended x p) moves_are;
+        gapped = λ p from to. ap (λ (x : PhaseSet). has x p) decided.gapped_are ∙ gapped_is p from to;
+        service = decided.service_is ∙ served;
+      })
+      (record { starts = started-off; ends = ended-off })
+      (λ p from to. ap (λ (x : PhaseSet). has x p) decided.pedestrian_are ∙ pedestrian_is p from to)
+      sets settled
+
+  -- ### All of it
+
+  pub joined : (d : Decided) (new : List ℕ) → AreDecided s called m d → calls.IsSettled d mid new →
+      state_of now (untripped plan desk lamp) (record old { detectors = sensed_rows.detectors; calls = new; phases = moved_rows.phases; rings = moved_rows.rings; preempts = sensed_rows.preempts })
+      ≡ next t row
+  joined d new decided settled = λ i. record {
+    now = now_is i;
+    plan = plan;
+    desk = desk;
+    pattern = pattern_in old.pattern;
+    detectors = detectors_are i;
+    memories = memories_are d new decided settled i;
+    phases = phases_are i;
+    rings = rings_are i;
+    preempts = preempts_are i;
+    lamp = lamp;
+    trip = None;
+  }
+
+-- The rows after the tick, from the rows after each step: no step changes a row but its own.
+pub stepped : (now : ℕ) (plan : Plan) (row : Row) (old sensed_rows moved_rows : Rows) (mid new : List ℕ) (s : Sensed) (called : Called) (m : Movement) (d : Decided) →
+    1 ≤ now → IsPlaced plan → AreBy (now - 1) old → IsSensed now row plan old sensed_rows s →
+    calls.IsSet (observed row s) plan sensed_rows.calls mid → calls.TellsCalled (observed row s) plan sensed_rows.calls called →
+    IsMoved now s called plan (record sensed_rows { calls = mid }) moved_rows m → AreDecided s called m d → calls.IsSettled d moved_rows.calls new →
+    IsTicked now row plan old (record moved_rows { calls = new })
+stepped now plan row old sensed_rows moved_rows mid new s called m d one placed by sensed sets calls_told run decided settled desk lamp =
+    let own_run : IsMoved now s called plan (record old { detectors = sensed_rows.detectors; calls = mid; preempts = sensed_rows.preempts }) moved_rows m =
+    subst (λ (r : Rows). IsMoved now s called plan (record r { calls = mid }) moved_rows m) sensed.rest run in
+    ap (λ (r : Rows). state_of now (untripped plan desk lamp) (record r { calls = new })) own_run.rest
+    ∙ joined now plan desk lamp row old sensed_rows moved_rows mid s called m one placed by sensed
+    (subst (λ (r : Rows). calls.IsSet (observed row s) plan r.calls mid) sensed.rest sets)
+    (subst (λ (r : Rows). calls.TellsCalled (observed row s) plan r.calls called) sensed.rest calls_told)
+    own_run d new decided (subst (λ (xs : List ℕ). calls.IsSettled d xs new) (ap (λ (r : Rows). r.calls) own_run.rest) settled)

@@ -1,0 +1,44 @@
+use Rattle.std.proofs.Common.{◌≡◌, refl, subst}
+use Rattle.tsb_objects.specs.Checked.{checked_plan}
+use Rattle.tsb_phase.specs.Layer as phases
+use Rattle.tsb_ring.specs.declared.conditions.Conditions.{Conditions}
+use Rattle.tsb_ring.specs.Layer as rings
+use Rattle.tsb_ring.specs.Promises.{IsDecided}
+use Rattle.tsb_controller.specs.Found.{for_rings}
+use Rattle.tsb_controller.proofs.MovesLemmas.{apart, clearing}
+use Rattle.tsb_controller.proofs.PlacedLemmas.{placed}
+use Rattle.tsb_controller.proofs.controller.Controller.proceed.Goals as goal
+
+pub carry_out-requires-clause-clearing : goal.carry_out-requires-clause-clearing
+carry_out-requires-clause-clearing c =
+    clearing c.args.now (checked_plan c.args.plan.now) c.conditions-conditions.result (for_rings c.args.sensed.now c.args.called.now c.tick-timing.result)
+    (rings.cells_of c.args.self.now.rings) (phases.cells_of c.args.self.now.phases) (phases.cells_of c.tick-timing.new.self) c.decide-moves.result
+    (placed c.args.plan.now) c.requires.rings_by
+    (subst (λ (k : Conditions). IsDecided (checked_plan c.args.plan.now) k (rings.cells_of c.args.self.now.rings) c.decide-moves.result) c.for_rings.ensures c.decide-moves.ensures)
+    c.tick-timing.ensures.each c.tick-timing.ensures.over
+
+pub carry_out-requires-clause-apart : goal.carry_out-requires-clause-apart
+carry_out-requires-clause-apart c =
+    apart (checked_plan c.args.plan.now) c.for_rings.result (rings.cells_of c.args.self.now.rings) c.decide-moves.result c.decide-moves.ensures
+
+pub returns-clause-moved : goal.returns-clause-moved
+returns-clause-moved c = record {
+  conditions = c.conditions-conditions.result;
+  counts = c.vehicles.result.now;
+  lent = c.vehicles.ensures.each;
+  conditions_are = c.conditions-conditions.ensures;
+  timed = phases.cells_of c.tick-timing.new.self;
+  ticked = c.tick-timing.ensures.each;
+  ready = c.tick-timing.ensures.ready;
+  over = c.tick-timing.ensures.over;
+  reverted = c.tick-timing.ensures.red_revert_passed;
+  gapped = c.tick-timing.ensures.gapped;
+  decided = subst (λ (k : Conditions). IsDecided (checked_plan c.args.plan.now) k (rings.cells_of c.args.self.now.rings) c.decide-moves.result)
+      c.for_rings.ensures c.decide-moves.ensures;
+  ones = c.carry_out.ensures.ones;
+  carried = c.carry_out.ensures.each;
+  phases_by = c.carry_out.ensures.by;
+  acted = c.act.ensures.state;
+  rings_by = c.act.ensures.by;
+  rest = refl;
+}

@@ -1,0 +1,121 @@
+-- What a tick finds, and what it does, step by step, in the words of the layers' contracts, over rows of cells: `old` before a
+-- step, `new` after it.
+use Rattle.std.specs.Prelude.{◌≡◌, ℕ, ◌≤◌, List, option_map}
+use Rattle.tsb_types.specs.declared.flow.Called.{Called}
+use Rattle.tsb_types.specs.declared.flow.Moves.{Moves}
+use Rattle.tsb_types.specs.declared.flow.Orders.{Orders}
+use Rattle.tsb_types.specs.declared.flow.Timing.{Timing}
+use Rattle.tsb_types.specs.declared.row.Row.{Row}
+use Rattle.tsb_types.specs.Sets.{has}
+use Rattle.tsb_plan.specs.Plan.{Plan}
+use Rattle.tsb_detect.specs.declared.greens.Greens.{Greens}
+use Rattle.tsb_detect.specs.Cells as detect_cells
+use Rattle.tsb_detect.specs.Promises as detect
+use Rattle.tsb_calls.specs.declared.decided.Decided.{Decided}
+use Rattle.tsb_calls.specs.declared.observed.Observed.{Observed}
+use Rattle.tsb_calls.specs.Promises as calls
+use Rattle.tsb_phase.specs.declared.conditions.Conditions as phase_conditions
+use Rattle.tsb_phase.specs.Cells as phase_cells
+use Rattle.tsb_phase.specs.Promises as phases
+use Rattle.tsb_ring.specs.declared.conditions.Conditions as ring_conditions
+use Rattle.tsb_ring.specs.declared.ring_order.RingOrder.TheVariants.{Ring1First}
+use Rattle.tsb_ring.specs.Cells as ring_cells
+use Rattle.tsb_ring.specs.Moves.{is_ended, is_started}
+use Rattle.tsb_ring.specs.Promises as rings
+use Rattle.tsb_coord.specs.Promises as coord
+use Rattle.tsb_preempt.specs.Service.{Service}
+use Rattle.tsb_preempt.specs.Cells as preempt_cells
+use Rattle.tsb_preempt.specs.Cells.{preempts_in}
+use Rattle.tsb_preempt.specs.Promises as preempts
+use Rattle.tsb_controller.specs.declared.values.Sensed.{Sensed}
+use Rattle.tsb_controller.specs.declared.values.Movement.{Movement}
+use Rattle.tsb_controller.specs.Carried.{IsCarriedOut, AreOnes}
+use Rattle.tsb_controller.specs.Rows.{Rows}
+
+-- ## Values that are put together
+
+abbrev pub observed : Row → Sensed → Observed
+observed row s = record {
+  outputs = s.outputs;
+  actuated = s.actuated;
+  buttons = row.pedestrians;
+  intervals = s.intervals;
+  pedestrians = s.pedestrians;
+  runs = s.coordination.runs;
+  omit = s.coordination.omit;
+  service_ended = s.asked.ended;
+}
+
+abbrev pub orders : Sensed → Orders
+orders s = record {
+  hold = s.coordination.hold;
+  must_end = s.asked.must_end;
+  forced = s.coordination.forced;
+  omit = s.coordination.omit;
+  target = s.asked.target;
+}
+
+-- what phase timing is told, with the counts that `calls` lends
+pub record AreConditions (s : Sensed) (called : Called) (counts : List ℕ) (c : phase_conditions.Conditions) : Type 0 where
+  pub called_are : c.called ≡ called
+  pub counts_are : c.counts.now ≡ counts
+  pub runs_is : c.runs ≡ s.coordination.runs
+  pub service_is : c.service ≡ s.service
+  pub orders_are : c.orders ≡ orders s
+
+abbrev pub for_rings : Sensed → Called → Timing → ring_conditions.Conditions
+for_rings s called timing = record {
+  intervals = s.intervals;
+  sequence = s.coordination.sequence;
+  called = called;
+  timing = timing;
+  orders = orders s;
+}
+
+-- what the calls are told that the rings did
+pub record AreDecided (s : Sensed) (called : Called) (m : Movement) (d : Decided) : Type 0 where
+  pub starts_are : (p : ℕ) → has d.starts p ≡ is_started m.moves p
+  pub ends_are : (p : ℕ) → has d.ends p ≡ is_ended m.moves p
+  pub gapped_are : d.gapped ≡ m.timing.gapped
+  pub pedestrian_are : d.pedestrian ≡ called.pedestrian
+  pub service_is : d.service ≡ s.service
+
+-- ## The steps of a tick
+
+-- the phases are seen as they were, preempts and detectors run, and coordination is asked; no other row changes
+pub record IsSensed (now : ℕ) (row : Row) (plan : Plan) (old new : Rows) (s : Sensed) : Type 0 where
+  pub shown : phases.TellsIntervals old.phases s.intervals
+  pub walking : phases.TellsPedestrians old.phases s.pedestrians
+  pub preempted : preempts.IsTicked now row s.intervals plan old.preempts new.preempts
+  pub wanted : preempts.AreOrdered now row s.intervals plan old.preempts s.asked
+  pub preempts_by : preempt_cells.IsBy now new.preempts
+  pub served : (n : ℕ) → s.service ≡ option_map (λ (x : Service). x.preempt) (preempts_in n new.preempts).service
+  pub ordered : coord.AreOrders now plan old.pattern s.coordination
+  pub greens : Greens
+  pub greens_are : detect.phases_of greens ≡ s.intervals.green
+  pub since_are : phases.TellsSince old.phases (detect.since_of greens)
+  pub detected : detect.IsTicked now row greens plan old.detectors new.detectors
+  pub detectors_by : detect_cells.IsBy now new.detectors
+  pub outputs_are : detect.TellsOutputs new.detectors s.outputs
+  pub actuated_are : detect.TellsActuations new.detectors s.actuated
+  pub rest : new ≡ record old { detectors = new.detectors; preempts = new.preempts }
+
+-- the times of phases run, the rings decide, and their moves are carried out on phases and rings; no other row changes
+pub record IsMoved (now : ℕ) (s : Sensed) (called : Called) (plan : Plan) (old new : Rows) (m : Movement) : Type 0 where
+  pub conditions : phase_conditions.Conditions
+  pub counts : List ℕ
+  pub lent : calls.LendsCounts old.calls counts
+  pub conditions_are : AreConditions s called counts conditions
+  pub timed : List ℕ
+  pub ticked : phases.IsTicked now conditions plan old.phases timed
+  pub ready : phases.TellsReady now conditions plan old.phases m.timing
+  pub over : phases.TellsOver now plan old.phases m.timing
+  pub reverted : phases.TellsRedRevertPassed now plan old.phases m.timing
+  pub gapped : phases.TellsGapped now conditions plan old.phases m.timing
+  pub decided : rings.IsDecided plan (for_rings s called m.timing) old.rings m.moves
+  pub ones : AreOnes m.moves
+  pub carried : IsCarriedOut m.moves now m.timing conditions plan timed new.phases
+  pub phases_by : phase_cells.IsBy now new.phases
+  pub acted : rings.IsActed m.moves Ring1First old.rings new.rings
+  pub rings_by : ring_cells.IsBy new.rings
+  pub rest : new ≡ record old { phases = new.phases; rings = new.rings }

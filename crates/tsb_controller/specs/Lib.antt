@@ -1,0 +1,5 @@
+pub mod Rows
+pub mod Layer
+pub mod Found
+pub mod Carried
+pub mod Promises

@@ -1,0 +1,98 @@
+//! The layers that have a part in a tick, and the tick that joins them.
+ghost use Rattle.std.specs.Prelude.{◌≡◌, ℕ, ◌-◌, ◌≤◌};
+ghost use Rattle.tsb_objects.specs.Checked.{checked_plan};
+ghost use Rattle.tsb_calls.specs.Cells as calls;
+ghost use Rattle.tsb_phase.specs.Cells as phases;
+ghost use Rattle.tsb_ring.specs.Cells as rings;
+ghost use Rattle.tsb_controller.specs.Found.{IsSensed, IsMoved};
+ghost use Rattle.tsb_controller.specs.Rows.{AreBy};
+ghost use Rattle.tsb_controller.specs.Promises.{IsTicked};
+
+use crate::carry::carry_out;
+use crate::values::{Movement, Sensed, preempt_of};
+use tsb_calls::Calls;
+use tsb_coord::Coord;
+use tsb_detect::{Detectors, Greens};
+use tsb_objects::{Called, Checked, Row};
+use tsb_phase::Phases;
+use tsb_preempt::Preempts;
+use tsb_ring::{RingOrder, Rings};
+
+/// The six layers that have a part in a tick. Their cells change between `open` and `close_onto`.
+#[derive(Clone, Copy)]
+pub struct Controller {
+    detectors: Detectors,
+    calls: Calls,
+    phases: Phases,
+    rings: Rings,
+    coord: Coord,
+    preempts: Preempts,
+}
+
+impl Controller {
+    ghost use Rattle.tsb_controller.specs.Layer.{rows_of, kept_of, IsOpen};
+
+    /// Tick `now`, a tenth of a second, with the inputs of `row` on, of a controller that has not tripped.
+    pub fn tick(&mut self, now: u32, row: &Row, plan: &Checked)
+        requires opened { IsOpen self.old }
+        requires begun { 1 ≤ now }
+        requires in_time { now ≤ 6000000 }
+        requires by { AreBy (now - 1) (rows_of self.old) }
+        ensures state { IsTicked now row.now (checked_plan plan.now) (rows_of self.old) (rows_of self.new) }
+        ensures by { AreBy now (rows_of self.new) }
+        ensures kept { kept_of self.new ≡ kept_of self.old }
+        ensures opened { IsOpen self.new }
+    {
+        let sensed = self.sense(now, row, plan);
+        let called = self.calls.tick(&sensed.observed(row), plan);
+        let movement = self.proceed(now, &sensed, &called, plan);
+        self.calls.settle(&sensed.decided(&called, &movement));
+    }
+
+    /// What the tick finds before the calls: it sees the phases as they were, runs preempts and detectors, and asks
+    /// coordination.
+    fn sense(&mut self, now: u32, row: &Row, plan: &Checked) -> Sensed
+        requires opened { IsOpen self.old }
+        requires begun { 1 ≤ now }
+        requires in_time { now ≤ 6000000 }
+        requires by { AreBy (now - 1) (rows_of self.old) }
+        ensures sensed { IsSensed now row.now (checked_plan plan.now) (rows_of self.old) (rows_of self.new) result }
+        ensures kept { kept_of self.new ≡ kept_of self.old }
+        ensures opened { IsOpen self.new }
+    {
+        let intervals = self.phases.intervals();
+        let asked = self.preempts.tick(now, row, &intervals, plan);
+        let greens = Greens::new(intervals.green, self.phases.since());
+        self.detectors.tick(now, row, &greens, plan);
+        Sensed {
+            intervals,
+            pedestrians: self.phases.pedestrians(),
+            outputs: self.detectors.outputs(),
+            actuated: self.detectors.actuations(),
+            asked,
+            service: preempt_of(self.preempts.stage()),
+            coordination: self.coord.orders(now, plan),
+        }
+    }
+
+    /// What the tick does by what it has found: the times of phases run, the rings decide, and their moves are carried
+    /// out on phases and rings.
+    fn proceed(&mut self, now: u32, sensed: &Sensed, called: &Called, plan: &Checked) -> Movement
+        requires opened { IsOpen self.old }
+        requires begun { 1 ≤ now }
+        requires in_time { now ≤ 6000000 }
+        requires calls_by { calls.IsBy (rows_of self.old).calls }
+        requires phases_by { phases.IsBy (now - 1) (rows_of self.old).phases }
+        requires rings_by { rings.IsBy (rows_of self.old).rings }
+        ensures moved { IsMoved now sensed.now called.now (checked_plan plan.now) (rows_of self.old) (rows_of self.new) result }
+        ensures kept { kept_of self.new ≡ kept_of self.old }
+        ensures opened { IsOpen self.new }
+    {
+        let conditions = sensed.conditions(called, self.calls.vehicles());
+        let timing = self.phases.tick(now, &conditions, plan);
+        let moves = self.rings.decide(&sensed.for_rings(called, &timing), plan);
+        carry_out(&mut self.phases, &moves, now, &timing, &conditions, plan);
+        self.rings.act(&moves, RingOrder::Ring1First);
+        Movement { timing, moves }
+    }
+}

@@ -1,0 +1,139 @@
+//! The values that the layers give one another in a tick, put together.
+ghost use Rattle.std.specs.Prelude.{◌≡◌, ℕ, ◌||◌, length, option_map};
+ghost use Rattle.tsb_types.specs.Lists.{is};
+ghost use Rattle.tsb_types.specs.Sets.{has};
+ghost use Rattle.tsb_phase.specs.Counts.{AreCounts};
+ghost use Rattle.tsb_controller.specs.Found.{observed, orders, for_rings, AreConditions, AreDecided};
+
+use tsb_calls::{Decided, Observed};
+use tsb_coord::Coordination;
+use tsb_objects::{
+    Called, Intervals, Moves, NumberSet, Orders, Pedestrians, Phase, PhaseSet, Preempt, Row, Stage,
+    Timing,
+};
+use tsb_phase::Conditions;
+use tsb_preempt::PreemptOrders;
+
+/// What a tick finds before the calls.
+#[derive(Clone, Copy, Debug)]
+pub struct Sensed {
+    /// The intervals before the tick.
+    pub intervals: Intervals,
+    /// The pedestrian parts before the tick.
+    pub pedestrians: Pedestrians,
+    /// Vehicle detectors whose output is on.
+    pub outputs: NumberSet,
+    /// Vehicle detectors whose output rose.
+    pub actuated: NumberSet,
+    /// What preemption asks of the phases.
+    pub asked: PreemptOrders,
+    /// The preempt in service.
+    pub service: Option<Preempt>,
+    /// What coordination asks of the phases.
+    pub coordination: Coordination,
+}
+
+/// What phase timing tells of a tick, and what the rings did.
+#[derive(Clone, Copy, Debug)]
+pub struct Movement {
+    /// Which times of phases have passed.
+    pub timing: Timing,
+    /// What the rings did.
+    pub moves: Moves,
+}
+
+impl Sensed {
+    /// What the calls are found from.
+    pub fn observed(&self, row: &Row) -> Observed
+        ensures { result ≡ observed row.now self.now }
+    {
+        Observed {
+            outputs: self.outputs,
+            actuated: self.actuated,
+            buttons: row.pedestrians,
+            intervals: self.intervals,
+            pedestrians: self.pedestrians,
+            runs: self.coordination.runs,
+            omit: self.coordination.omit,
+            service_ended: self.asked.ended,
+        }
+    }
+
+    /// What coordination and preemption ask of the phases.
+    fn orders(&self) -> Orders
+        ensures { result ≡ orders self.now }
+    {
+        Orders {
+            hold: self.coordination.hold,
+            must_end: self.asked.must_end,
+            forced: self.coordination.forced,
+            omit: self.coordination.omit,
+            target: self.asked.target,
+        }
+    }
+
+    /// What phase timing is told, with the vehicles that phases 1 to 16 have counted, in turn.
+    pub fn conditions<'a>(&self, called: &Called, counts: &'a [u32]) -> Conditions<'a>
+        requires full { length counts.now ≡ 16 }
+        requires small { AreCounts counts.now }
+        ensures { AreConditions self.now called.now counts.now result }
+    {
+        Conditions {
+            called: *called,
+            counts,
+            runs: self.coordination.runs,
+            service: self.service,
+            orders: self.orders(),
+        }
+    }
+
+    /// What the rings decide from.
+    pub fn for_rings(&self, called: &Called, timing: &Timing) -> tsb_ring::Conditions
+        ensures { result ≡ for_rings self.now called.now timing.now }
+    {
+        tsb_ring::Conditions {
+            intervals: self.intervals,
+            sequence: self.coordination.sequence,
+            called: *called,
+            timing: *timing,
+            orders: self.orders(),
+        }
+    }
+
+    /// What the calls are told that the rings did.
+    pub fn decided(&self, called: &Called, movement: &Movement) -> Decided
+        ensures { AreDecided self.now called.now movement.now result }
+    {
+        Decided {
+            starts: either(movement.moves.first.starts, movement.moves.second.starts),
+            ends: either(movement.moves.first.ends, movement.moves.second.ends),
+            gapped: movement.timing.gapped,
+            pedestrian: called.pedestrian,
+            service: self.service,
+        }
+    }
+}
+
+/// The set of two phases, of one, or of none.
+fn either(first: Option<Phase>, second: Option<Phase>) -> PhaseSet
+    ensures { (p : ℕ) → has result p ≡ (is p first || is p second) }
+{
+    let mut set = PhaseSet::empty();
+    if let Some(phase) = first {
+        set.insert(phase);
+    }
+    if let Some(phase) = second {
+        set.insert(phase);
+    }
+    set
+}
+
+/// The preempt of a stage.
+pub fn preempt_of(stage: Option<(Preempt, Stage)>) -> Option<Preempt>
+    ensures { result ≡ option_map (λ x. x.0) stage }
+{
+    match stage {
+        Some((preempt, _)) => Some(preempt),
+        None => None,
+    }
+}
