@@ -22,6 +22,7 @@ pub record StaysInStage (plan : Plan) (interval : ℕ → Interval) (input : Boo
   pub moves : moved plan interval input s ≡ Some s
   pub dwells : (is_dwell s.stage && ends_dwell plan input s) ≡ false
 
+-- where no preempt is in service there is nothing that could move
 abbrev pub StaysInService : Plan → (ℕ → Interval) → (ℕ → Bool) → Option Service → Type 0
 StaysInService plan interval input None = Unit {0}
 StaysInService plan interval input (Some s) = StaysInStage plan interval (input s.preempt) s
