@@ -36,5 +36,6 @@ pub record AgreeOnPhases (f g : Given) : Type 0 where
 abbrev pub MovesLookAtPhases : Type 0
 MovesLookAtPhases = (plan : Plan) (s : State) (f g : Given) → IsWithin plan s → AgreeOnPhases f g → moves plan s f ≡ moves plan s g
 
+-- and so the rings after the tick
 abbrev pub NextLooksAtPhases : Type 0
 NextLooksAtPhases = (plan : Plan) (s : State) (f g : Given) → IsWithin plan s → AgreeOnPhases f g → next plan s f ≡ next plan s g
