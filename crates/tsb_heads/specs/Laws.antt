@@ -53,6 +53,7 @@ pub record ShowAlike (one : Heads) (other : Heads) : Type 0 where
   pub vehicle : (p : ℕ) → 1 ≤ p → p ≤ 16 → one.vehicle p ≡ other.vehicle p
   pub pedestrian : (p : ℕ) → 1 ≤ p → p ≤ 16 → one.pedestrian p ≡ other.pedestrian p
 
+-- so it judges alike what shows alike, before and after
 abbrev pub MonitorsLookOnlyAtTheirOwn : Type 0
 MonitorsLookOnlyAtTheirOwn = (plan : Plan) (before before_too after after_too : Heads) → plan.phase_count ≤ 16 → ShowAlike before before_too → ShowAlike after after_too →
     judge plan before after ≡ judge plan before_too after_too
