@@ -51,6 +51,7 @@ pub record LookAlike (plan : Plan) (g h : Given) : Type 0 where
   pub settles : (d e : Done) (f k : ℕ → Bool) (m n : Memories) → AgreeOnMoves d e → Agree f k → AreAlike m n →
       AreAlike (settled d f m) (settled e k n)
 
+-- so what is set, called and settled depends on nothing else
 abbrev pub LooksOnlyAtItsOwn : Type 0
 LooksOnlyAtItsOwn = (plan : Plan) (g h : Given) → plan.phase_count ≤ 16 → AgreeOnPhases g h → LookAlike plan g h
 
