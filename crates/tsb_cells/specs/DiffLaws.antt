@@ -43,6 +43,7 @@ pub record PartsAreOwn (first second first_now second_now : List ℕ) : Type 0 w
   pub first_part : part 0 (length first) (diff (first ++ second) (first_now ++ second_now)) ≡ diff first first_now
   pub second_part : part (length first) (length second) (diff (first ++ second) (first_now ++ second_now)) ≡ diff second second_now
 
+-- so it is of all rows whose lengths stay
 abbrev pub HasOwnParts : Type 0
 HasOwnParts = (first second first_now second_now : List ℕ) →
     length first ≡ length first_now → length second ≡ length second_now → PartsAreOwn first second first_now second_now

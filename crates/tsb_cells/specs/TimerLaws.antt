@@ -26,5 +26,6 @@ AreReadAsTheyWere = (now : ℕ) (x : Timer) → IsWithin now x → timer_at now 
 abbrev pub AreInTime : Type 0
 AreInTime = (now : ℕ) (x : Timer) → timer_cell now x ≤ now + 1
 
+-- whatever number the cell holds: it is never read as a timer that has run for more ticks than there were
 abbrev pub BeganInTime : Type 0
 BeganInTime = (now cell : ℕ) → IsWithin now (timer_at now cell)
