@@ -17,6 +17,7 @@ watch_of_one w =
     if bytes_eq w (codes "stage") then Some Stage else
     if bytes_eq w (codes "trip") then Some Trip else None
 
+-- of a phase its interval, pedestrian part or call; of a vehicle detector its output or alarm
 abbrev pub watch_of_two : List ℕ → List ℕ → Option Watch
 watch_of_two w n =
     if bytes_eq w (codes "interval") then option_map Interval (phase_of n) else
@@ -25,15 +26,18 @@ watch_of_two w n =
     if bytes_eq w (codes "output") then option_map Output (detector_of n) else
     if bytes_eq w (codes "alarm") then option_map Alarm (detector_of n) else None
 
+-- whether a switch is to be on
 abbrev pub on_or_off : List ℕ → Option Bool
 on_or_off w =
     if bytes_eq w (codes "on") then Some true else
     if bytes_eq w (codes "off") then Some false else None
 
+-- any number is a command here; the bench refuses one that is no preempt (E10)
 abbrev pub preempt_of : Option ℕ → Option Bool → Option Command
 preempt_of (Some n) (Some on) = Some (Preempt n on)
 preempt_of n on = None
 
+-- any index and value are a command here; the desk refuses what a plan does not take (E2, E3)
 abbrev pub set_of : Option ℕ → Option Object → Option ℕ → Option ℕ → Option Command
 set_of (Some s) (Some o) (Some i) (Some v) = Some (Set s (record { object = o; index = i }) v)
 set_of s o i v = None

@@ -17,9 +17,11 @@ from_one_to most (Some n) = if nat_le 1 n && nat_le n most then Some n else None
 abbrev pub phase_of : List ℕ → Option ℕ
 phase_of w = from_one_to 16 (number_of w)
 
+-- a vehicle detector, 1 to 16
 abbrev pub detector_of : List ℕ → Option ℕ
 detector_of w = from_one_to 16 (number_of w)
 
+-- a station that shares the desk, 1 to 4
 abbrev pub station_of : List ℕ → Option ℕ
 station_of w = from_one_to 4 (number_of w)
 
@@ -28,12 +30,14 @@ abbrev pub head_number : List ℕ → Option ℕ
 head_number [] = None
 head_number (d ∷ ds) = if d == 48 then None else number_of (d ∷ ds)
 
+-- green, yellow or red, of a vehicle head or an overlap head
 abbrev pub signal_of : List ℕ → Option SignalColor
 signal_of w =
     if bytes_eq w (codes "G") then Some signals.Green else
     if bytes_eq w (codes "Y") then Some signals.Yellow else
     if bytes_eq w (codes "R") then Some signals.Red else None
 
+-- walk, pedestrian clearance or don't walk, of a pedestrian head
 abbrev pub pedestrian_signal_of : List ℕ → Option PedestrianColor
 pedestrian_signal_of w =
     if bytes_eq w (codes "W") then Some pedestrians.Walk else

@@ -7,6 +7,7 @@ use Rattle.tsb_command_text.specs.declared.command.Command.TheVariants.{Quit}
 use Rattle.tsb_command_text.specs.declared.command.Reading.{Reading}
 use Rattle.tsb_command_text.specs.declared.command.Reading.TheVariants.{Skip, Bad, Leave, Do}
 
+-- what is no command is bad, and `quit` leaves the session
 abbrev pub reading_in : Option Command → Reading
 reading_in None = Bad
 reading_in (Some Quit) = Leave
