@@ -12,6 +12,7 @@ use Rattle.tsb_plan.specs.Plan.{Plan, sequence}
 use Rattle.tsb_plan.specs.Parts.{is_used, cycle, offset, unless_zero}
 use Rattle.tsb_plan.specs.Running.{running, sequence_in_effect, is_coordinated_now, is_omitted_now}
 pub use Rattle.tsb_objects.specs.Instants.{residue_of_difference, end_in, end_of, instant_from, is_same_from_both, reference, instant_by, agree}
+-- re-exported as well: the instant with which the local counter is compared
 unfoldable pub use Rattle.tsb_objects.specs.Instants.{force_off}
 
 -- ## The pattern that runs, and its local counter
@@ -29,6 +30,7 @@ abbrev pub local_in : Plan → ℕ → Option ℕ → Option ℕ
 local_in plan t None = None
 local_in plan t (Some n) = Some (counter plan n t)
 
+-- that of the pattern selected at tick t, in tenths of a second; none where the pattern is not used
 abbrev pub local : Plan → ℕ → Option ℕ → Option ℕ
 local plan t selected = local_in plan t (running plan selected)
 

@@ -41,5 +41,6 @@ pub record IsSelectable (selected : Option ℕ) : Type 0 where
 abbrev pub StatesAreRead : Type 0
 StatesAreRead = (selected : Option ℕ) → IsSelectable selected → pattern_in (pattern_cells selected) ≡ selected
 
+-- so coordination can keep the selection of each pattern from 1 to 16, and of none
 abbrev pub StatesAreBy : Type 0
 StatesAreBy = (selected : Option ℕ) → IsSelectable selected → IsBy (pattern_cells selected)

@@ -31,6 +31,7 @@ abbrev pub selected_after : Option Refusal → ℕ → Option ℕ → Option ℕ
 selected_after None n was = selects n
 selected_after (Some r) n was = was
 
+-- the cell says this after the call, refused or not
 abbrev pub IsSelected : ℕ → Plan → List ℕ → List ℕ → Type 0
 IsSelected n plan old new = pattern_in new ≡ selected_after (refusal plan n) n (pattern_in old)
 
