@@ -38,6 +38,7 @@ kind_of n =
 abbrev pub entry_bytes : ℕ × ℕ → List ℕ
 entry_bytes e = to_le_bytes w16 e.0 ++ to_le_bytes w32 e.1
 
+-- six bytes for each entry, in the order of the cells
 abbrev pub entries_bytes : List (ℕ × ℕ) → List ℕ
 entries_bytes [] = []
 entries_bytes (e ∷ es) = entry_bytes e ++ entries_bytes es
@@ -55,6 +56,7 @@ bytes_of (r ∷ rs) = bytes_of rs ++ record_bytes r
 abbrev pub two_at : List ℕ → ℕ → ℕ
 two_at bs i = slice_index bs i + slice_index bs (i + 1) * 256
 
+-- least byte first, as the old value of an entry is spelled
 abbrev pub four_at : List ℕ → ℕ → ℕ
 four_at bs i = slice_index bs i + slice_index bs (i + 1) * 256 + slice_index bs (i + 2) * 65536 + slice_index bs (i + 3) * 16777216
 
@@ -67,6 +69,7 @@ entries_at (suc n) bs i = (two_at bs i, four_at bs (i + 2)) ∷ entries_at n bs 
 abbrev pub count_at : List ℕ → ℕ → ℕ
 count_at bs end = two_at bs (end - 2)
 
+-- six bytes for each entry, one for the kind and two for their number
 abbrev pub start_at : List ℕ → ℕ → ℕ
 start_at bs end = end - (6 * count_at bs end + 3)
 
