@@ -14,6 +14,7 @@ abbrev pub list_in_digits : List ℕ → Option ℕ
 list_in_digits [] = Some 0
 list_in_digits (d ∷ ds) = onto_digits d (list_in_digits ds)
 
+-- a bench takes 6,000,000 ticks at most, and no row is of tick 0, which is power-up
 abbrev pub in_ticks : Option ℕ → Option ℕ
 in_ticks None = None
 in_ticks (Some t) = if nat_le 1 t && nat_le t 6000000 then Some t else None
@@ -30,6 +31,7 @@ field place count line = take count (drop place line)
 abbrev pub has_space : ℕ → List ℕ → Bool
 has_space place line = slice_index line place == 32
 
+-- a row where the tick and all three lists are spelled, otherwise none
 abbrev pub row_with : Option ℕ → Option ℕ → Option ℕ → Option ℕ → Option LogRow
 row_with (Some t) (Some v) (Some p) (Some e) =
     Some (record { tick = t; row = record { vehicles = set_of_list v; pedestrians = set_of_list p; preempts = set_of_list e } })
