@@ -29,6 +29,7 @@ is_released o i = false
 abbrev pub keeps_zeros : Plan → Object → Bool
 keeps_zeros plan o = list_all (λ i. is_released o i || plan.value o i == 0) (run_from 1 (indices o))
 
+-- the plan asks for nothing but what the bench runs so far
 abbrev pub uses_released_only : Plan → Bool
 uses_released_only plan = list_all (keeps_zeros plan) objects
 
@@ -40,12 +41,15 @@ is_of_one_ring plan = each_phase plan (λ p. ring_of plan p == 1)
 unfoldable pub is_alone : Plan → ℕ → Bool
 is_alone plan p = each_phase plan (λ q. p == q || not (side_of plan p == side_of plan q))
 
+-- no two enabled phases are on one side of the barriers
 abbrev pub are_alone_on_sides : Plan → Bool
 are_alone_on_sides plan = each_phase plan (is_alone plan)
 
+-- so each enabled phase is called in every tick, and no gap ends its green
 abbrev pub are_on_maximum_recall : Plan → Bool
 are_on_maximum_recall plan = each_phase plan (has_maximum_recall plan)
 
+-- what the bench runs so far: all four of these
 unfoldable pub is_built : Plan → Bool
 is_built plan = is_of_one_ring plan && (are_alone_on_sides plan && (are_on_maximum_recall plan && uses_released_only plan))
 
@@ -55,5 +59,6 @@ objection_in (Some r) built = Some r
 objection_in None true = None
 objection_in None false = Some NotYet
 
+-- of a plan that breaks a rule, the rule; `NotYet` only of a plan that breaks none
 abbrev pub objection : Plan → Option Rule
 objection plan = objection_in (first_broken plan) (is_built plan)

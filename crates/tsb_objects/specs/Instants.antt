@@ -19,6 +19,7 @@ abbrev pub end_in : Plan → ℕ → Option ℕ → ℕ → ℕ
 end_in plan n None p = 0
 end_in plan n (Some table) p = split_end plan (sequence_in_effect plan (Some n)) table p
 
+-- by the split table that the pattern names, in tenths of a second
 abbrev pub end_of : Plan → ℕ → ℕ → ℕ
 end_of plan n p = end_in plan n (split_of plan n) p
 
@@ -38,6 +39,7 @@ is_same_from_both plan n c d p e = cc
 abbrev pub reference : Plan → ℕ → Option ℕ
 reference plan n = first (is_coordinated_now plan (Some n)) (phases plan)
 
+-- counted from coordinated phase c, in tenths of a second; none where the pattern has no coordinated phase
 abbrev pub instant_by : Plan → ℕ → Option ℕ → ℕ → Option ℕ
 instant_by plan n None p = None
 instant_by plan n (Some c) p = Some (instant_from plan n c p)

@@ -26,6 +26,7 @@ AreInEffect plan asked words =
 abbrev pub never : ℕ
 never = 65535
 
+-- any other word is the instant itself, in tenths of a second on the local counter
 abbrev pub instant_in : ℕ → Option ℕ
 instant_in word = if word == never then None else Some word
 
@@ -35,6 +36,7 @@ AreInstants plan words =
     (n p : ℕ) → 1 ≤ n → n ≤ 16 → 1 ≤ p → p ≤ 16 → is_used plan n ≡ true →
     instant_in (slice_index words (16 * (n - 1) + (p - 1))) ≡ force_off plan (Some n) p
 
+-- five tables of lists and one of instants, so that no tick has to search the plan for them
 pub record ArePatternTables (plan : Plan) (tables : PatternTables) : Type 0 where
   pub coordinated : AreInEffect plan Coordinated tables.coordinated
   pub omitted : AreInEffect plan Omitted tables.omitted
