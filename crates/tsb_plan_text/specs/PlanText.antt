@@ -44,6 +44,7 @@ version_numbered n = if n == 1 then Some One else (if n == 2 then Some Two else 
 abbrev pub number_in : Data → Option ℕ
 number_in d = option_and_then as_u64 (as_number d)
 
+-- by the member `version`; the objects, indices and ranges of all other members are those of that version
 abbrev pub version_in : Members → Option Version
 version_in members = option_and_then version_numbered (option_and_then number_in (get_member (codes "version") members))
 
@@ -51,6 +52,7 @@ version_in members = option_and_then version_numbered (option_and_then number_in
 abbrev pub of_32_bits : ℕ → Option ℕ
 of_32_bits n = if nat_lt n (2 ^ 32) then Some n else None
 
+-- a value as objects have it: not negative, without a fraction, below 2^32
 abbrev pub whole_number : Data → Option ℕ
 whole_number d = option_and_then of_32_bits (number_in d)
 
@@ -95,6 +97,7 @@ abbrev pub unless_broken : Option Rule → Plan → Result Plan Error
 unless_broken None plan = Ok plan
 unless_broken (Some r) plan = Err (broken r)
 
+-- the plan itself, or as a fault the first of K1 to K22 that it breaks
 unfoldable pub checked : Plan → Result Plan Error
 checked plan = unless_broken (first_broken plan) plan
 

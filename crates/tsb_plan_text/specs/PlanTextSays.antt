@@ -19,6 +19,7 @@ number_at i table = option_and_then whole_number (get_member (decimal i) table)
 abbrev pub number_for : Members → Object → ℕ → Option ℕ
 number_for members o i = option_and_then (number_at i) (option_and_then as_object (get_member (name_of o) members))
 
+-- what the plan has at each index, by the members of a text of version v
 pub record SaysThese (v : Version) (members : Members) (plan : Plan) : Type 0 where
   -- at an index of the version stands the number that the text has under the object's name and the index, or 0
   pub there : (o : Object) (i : ℕ) → has_index_in v o i ≡ true → plan.value o (translated v o i) ≡ or_number (number_for members o i) 0
