@@ -28,6 +28,7 @@ pub record Given : Type 0 where
 
 -- ## Lines, without their ends
 
+-- what `undone` calls an input of a kind
 abbrev pub kind_name : Kind → List ℕ
 kind_name kinds.Tick = codes "tick"
 kind_name kinds.Pattern = codes "pattern"
@@ -44,6 +45,7 @@ kind_name kinds.Abort = codes "abort"
 abbrev pub busy_line : ℕ → List ℕ
 busy_line station = codes "refused E4 Busy " ++ (48 + station) ∷ []
 
+-- the number of the refusal, E1 to E12, and its name
 abbrev pub refused_line : Refusal → List ℕ
 refused_line refusals.Memory = codes "refused E1 Memory"
 refused_line refusals.NoSuchObject = codes "refused E2 NoSuchObject"
@@ -58,6 +60,7 @@ refused_line refusals.NoSuchPreempt = codes "refused E10 NoSuchPreempt"
 refused_line refusals.TickLimit = codes "refused E11 TickLimit"
 refused_line refusals.InService = codes "refused E12 InService"
 
+-- it names the kind of the input that was taken back
 abbrev pub undone_line : Kind → List ℕ
 undone_line k = codes "undone " ++ kind_name k
 

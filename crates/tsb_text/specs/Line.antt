@@ -12,6 +12,7 @@ use Rattle.tsb_bench.specs.State.{State}
 abbrev pub digit : ℕ → ℕ → ℕ
 digit n unit = 48 + n / unit % 10
 
+-- a tick number with leading zeros; the greatest is 6,000,000
 abbrev pub seven_digits : ℕ → List ℕ
 seven_digits n =
     digit n 1000000 ∷ digit n 100000 ∷ digit n 10000 ∷ digit n 1000 ∷ digit n 100 ∷ digit n 10 ∷ digit n 1 ∷ []
