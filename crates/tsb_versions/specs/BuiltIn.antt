@@ -23,6 +23,7 @@ AreValues (e ∷ es) = IsOfTable (record { object = e.0; index = e.1 }) e.2 × A
 abbrev pub widened_put : Object × ℕ × ℕ → Object × ℕ × ℕ
 widened_put e = (e.0, translated One e.0 e.1, e.2)
 
+-- the same objects and values, in the same order
 abbrev pub widened_puts : List (Object × ℕ × ℕ) → List (Object × ℕ × ℕ)
 widened_puts es = map widened_put es
 
@@ -44,5 +45,6 @@ narrow_quad_values =
     (PreemptMinimumDuration, 1, 10) ∷
     (PreemptDwellPhase, 2, 72) ∷ (PreemptMinimumGreen, 2, 2) ∷ (PreemptMinimumWalk, 2, 2) ∷ (PreemptEnterPedClear, 2, 3) ∷ []
 
+-- the plan of eight phases, as version 1 has it
 unfoldable pub narrow_quad : Plan
 narrow_quad = with_values (with_rows narrow_empty quad_rows) narrow_quad_values

@@ -39,6 +39,7 @@ BreakTheSameRule = (narrow wide : Plan) → IsNarrow narrow → SaysTheSame narr
 abbrev pub PutsMakeNarrowPlans : Type 0
 PutsMakeNarrowPlans = (es : List (Object × ℕ × ℕ)) → AreValues es → IsNarrow (with_values narrow_empty es)
 
+-- so it makes no difference whether indices are translated as values are put, or the plan is widened then
 abbrev pub PutsMakeWidePlans : Type 0
 PutsMakeWidePlans = (es : List (Object × ℕ × ℕ)) → AreValues es →
     with_values empty (widened_puts es) ≡ widened (with_values narrow_empty es)
@@ -48,9 +49,11 @@ pub record IsWideOf (narrow wide : Plan) : Type 0 where
   pub is_narrow : IsNarrow narrow
   pub is_wide : wide ≡ widened narrow
 
+-- of the built-in plan of two phases
 abbrev pub TwoIsWide : Type 0
 TwoIsWide = IsWideOf narrow_two two
 
+-- of the built-in plan of eight phases in two rings
 abbrev pub QuadIsWide : Type 0
 QuadIsWide = IsWideOf narrow_quad quad
 
@@ -77,6 +80,7 @@ StatesAgree = OfBothBenches (λ narrow is wide translations. replay wide transla
 abbrev pub CountersAgree : Type 0
 CountersAgree = OfBothBenches (λ narrow is wide translations. local (replay wide translations) ≡ local (replay narrow is))
 
+-- which preempt is in service, and in which stage
 abbrev pub StagesAgree : Type 0
 StagesAgree = OfBothBenches (λ narrow is wide translations. stage (replay wide translations) ≡ stage (replay narrow is))
 
@@ -85,6 +89,7 @@ abbrev pub RefusalsAgree : Type 0
 RefusalsAgree = (i : Input) → IsWithin i → OfBothBenches (λ narrow is wide translations.
     verdict (replay wide translations) (widened_input i) ≡ verdict (replay narrow is) i)
 
+-- a list of inputs is taken in one bench exactly where its translation is taken in the other
 abbrev pub TakeTheSame : Type 0
 TakeTheSame = OfBothBenches (λ narrow is wide translations. AreTaken narrow is ↔ AreTaken wide translations)
 
@@ -93,5 +98,6 @@ pub record RestsBeyond (plan : Plan) (is : List Input) (p : ℕ) : Type 0 where
   pub disabled : is_enabled (replay plan is).plan p ≡ false
   pub resting : (replay plan is).phases p ≡ phase.at_power_up
 
+-- so it is after any inputs within version 1's ranges
 abbrev pub OthersRest : Type 0
 OthersRest = (p : ℕ) → 8 < p → OfBothBenches (λ narrow is wide translations. RestsBeyond wide translations p)

@@ -45,6 +45,7 @@ widened plan = record { phase_count = 16; side_count = 4; value = widened_value 
 
 -- ## Inputs and edits
 
+-- the object at the index where version 2 has what version 1 has at this one
 abbrev pub widened_id : ObjectId → ObjectId
 widened_id id = record { object = id.object; index = translated One id.object id.index }
 
@@ -71,13 +72,16 @@ IsWithin (Set station id v) = IsOfTable id v
 IsWithin (Fault lamp) = IsLampWithin lamp
 IsWithin i = Unit {0}
 
+-- each edit is of an object, an index and a value of version 1
 abbrev pub AreOfTable : List Edit → Type 0
 AreOfTable [] = Unit {0}
 AreOfTable (e ∷ es) = IsOfTable e.id e.value × AreOfTable es
 
+-- the edit at the translated index, with its value as it is
 abbrev pub widened_edit : Edit → Edit
 widened_edit e = record { id = widened_id e.id; value = e.value }
 
+-- owner, state and rule stay; the edits are translated, in their order
 abbrev pub widened_desk : Desk → Desk
 widened_desk desk = record desk { edits = map widened_edit desk.edits }
 
