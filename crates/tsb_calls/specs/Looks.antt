@@ -68,8 +68,8 @@ pub record MovesPhases (d : Done) : Type 0 where
   pub starts : (p : ℕ) → is_phase p ≡ false → d.starts p ≡ false
   pub ends : (p : ℕ) → is_phase p ≡ false → d.ends p ≡ false
 
--- A tick and what the rings then did give the memories after a tick as they are defined, of all numbers: where `tick` was
--- given what `given` says of phases, and `settle` what `done` says and the pedestrian calls of this tick.
+-- A tick and what the rings then did give the memories after a tick as they are defined, of all numbers: where `tick`
+-- was given what `given` says of phases, and `settle` what `done` says and the pedestrian calls of this tick.
 abbrev pub TicksGiveNext : Type 0
 TicksGiveNext = (plan : Plan) (given : Given) (done : Done) (observed : Observed) (decided : Decided) (old mid new : List ℕ) →
     IsPlaced plan → AgreeOnPhases (given_of observed) given → AgreeOnMoves (done_of decided) done → MovesPhases done →
