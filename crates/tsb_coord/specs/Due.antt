@@ -1,4 +1,5 @@
--- When the orders of coordination may next be others: the clauses of `Coord::due`, over the cell `row` and a tick `now`.
+-- When the orders of coordination may next be others: the clauses of `Coord::due`, over the cell `row` and a tick
+-- `now`.
 use Rattle.std.specs.Prelude.{◌≡◌, ℕ, ◌+◌, ◌%◌, ◌<◌, ◌⊎◌, true, List, Option, Some, None}
 use Rattle.tsb_plan.specs.Plan.{Plan}
 use Rattle.tsb_plan.specs.Running.{running}
@@ -16,8 +17,8 @@ KeepsOrders now plan row result = (t : ℕ) → now < t → t < result →
 abbrev pub ForcesOff : Plan → Option ℕ → ℕ → Type 0
 ForcesOff plan selected t = (p : ℕ) × (asks_force_off plan t selected p ≡ true)
 
--- clause `exact`: while a pattern runs, a phase is forced off in that tick, or it is the next and a phase is forced off now;
--- in free operation it is behind the last tick that there is
+-- clause `exact`: while a pattern runs, a phase is forced off in that tick, or it is the next and a phase is forced off
+-- now; in free operation it is behind the last tick that there is
 pub record IsExact (now : ℕ) (plan : Plan) (row : List ℕ) (result : ℕ) : Type 0 where
   pub runs : (n : ℕ) → running plan (pattern_in row) ≡ Some n →
       ForcesOff plan (pattern_in row) result ⊎ ((result ≡ now + 1) × ForcesOff plan (pattern_in row) now)

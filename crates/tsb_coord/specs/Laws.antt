@@ -1,6 +1,6 @@
 -- Where the local counter stands once a phase that is forced off in time has ended its yellow change and red clearance,
--- and that the cell of coordination is that of what it says. Each law here is the contract of a function in src/laws.rt, and
--- proved there.
+-- and that the cell of coordination is that of what it says. Each law here is the contract of a function in
+-- src/laws.rt, and proved there.
 use Rattle.std.specs.Prelude.{◌≡◌, ℕ, ◌+◌, ◌≤◌, true, List, Option, Some}
 use Rattle.tsb_plan.specs.Plan.{Plan, yellow_change, red_clear}
 use Rattle.tsb_plan.specs.Parts.{cycle}
@@ -13,8 +13,8 @@ use Rattle.tsb_coord.specs.Coordinated.{local, residue_of_difference, end_of, as
 abbrev pub clear_of : Plan → ℕ → ℕ → ℕ
 clear_of plan t p = t + yellow_change plan p + red_clear plan p
 
--- that of a phase whose green ends at its force-off instant is the tick at which its split ends, counted from the end of
--- the coordinated splits, be it that of any coordinated phase c
+-- that of a phase whose green ends at its force-off instant is the tick at which its split ends, counted from the end
+-- of the coordinated splits, be it that of any coordinated phase c
 abbrev pub EndWithTheirSplits : Plan → Type 0
 EndWithTheirSplits plan = (n t p c : ℕ) → is_pattern plan n ≡ true → asks_force_off plan t (Some n) p ≡ true →
     IsPhase plan c → is_coordinated_now plan (Some n) c ≡ true →
