@@ -1,7 +1,7 @@
 -- Force-off instants: when within the cycle of a pattern a phase is forced off, so that its split ends with its red
--- clearance (fixed force-off, no transition after a change of pattern). Cycle, splits, split modes, coordinated phases and
--- sequences are the objects of NTCIP 1202 of these names; that the local counter is 0 where the coordinated split ends is
--- the profile's own. Times are in ticks, which are tenths of a second.
+-- clearance (fixed force-off, no transition after a change of pattern). Cycle, splits, split modes, coordinated phases
+-- and sequences are the objects of NTCIP 1202 of these names; that the local counter is 0 where the coordinated split
+-- ends is the profile's own. Times are in ticks, which are tenths of a second.
 use Rattle.std.specs.Prelude.{◌≡◌, ℕ, ◌+◌, ◌-◌, ◌%◌, ◌==◌, Bool, false, if◌then◌else◌, Option, Some, None}
 use Rattle.tsb_types.specs.Lists.{first}
 use Rattle.tsb_plan.specs.Plan.{Plan, phases, is_enabled, yellow_change, red_clear}
@@ -13,8 +13,8 @@ use Rattle.tsb_rules.specs.PatternRules.{split_end}
 abbrev pub residue_of_difference : ℕ → ℕ → ℕ → ℕ
 residue_of_difference m a b = (a + (m - b % m)) % m
 
--- when the split of p ends in pattern n, counted from the begin of side 1's first split. K17: a pattern that is used has a
--- split table and a sequence.
+-- when the split of p ends in pattern n, counted from the begin of side 1's first split. K17: a pattern that is used
+-- has a split table and a sequence.
 abbrev pub end_in : Plan → ℕ → Option ℕ → ℕ → ℕ
 end_in plan n None p = 0
 end_in plan n (Some table) p = split_end plan (sequence_in_effect plan (Some n)) table p
@@ -34,8 +34,8 @@ pub is_same_from_both : (plan : Plan) (n c d p : ℕ) →
     end_of plan n c ≡ end_of plan n d → instant_from plan n c p ≡ instant_from plan n d p
 is_same_from_both plan n c d p e = cc
 
--- The coordinated phase that instants are counted from is the first. Any other gives the same: by K20 a pattern that is used
--- has one at least, and the splits of all its coordinated phases end at one time.
+-- The coordinated phase that instants are counted from is the first. Any other gives the same: by K20 a pattern that is
+-- used has one at least, and the splits of all its coordinated phases end at one time.
 abbrev pub reference : Plan → ℕ → Option ℕ
 reference plan n = first (is_coordinated_now plan (Some n)) (phases plan)
 
