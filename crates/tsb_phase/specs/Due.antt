@@ -1,4 +1,5 @@
--- Rows of phases that later ticks find and leave as tick `now` did, while what a tick tells phase timing stays the same.
+-- Rows of phases that later ticks find and leave as tick `now` did, while what a tick tells phase timing stays the
+-- same.
 use Rattle.std.specs.Prelude.{◌≡◌, ℕ, ◌+◌, ◌≤◌, min, Bool, List, Option, Some, None}
 use Rattle.tsb_cells.specs.Timer.{timer_at, has_reached}
 use Rattle.tsb_plan.specs.Plan.{Plan, red_revert}
