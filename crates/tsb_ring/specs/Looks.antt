@@ -1,5 +1,5 @@
--- What the rings look at in a tick: nothing of phases that are not among 1 to 16. MovesLookAtPhases and NextLooksAtPhases
--- are proved, as the contract of `looks_only_at_its_own` (src/laws.rt).
+-- What the rings look at in a tick: nothing of phases that are not among 1 to 16. MovesLookAtPhases and
+-- NextLooksAtPhases are proved, as the contract of `looks_only_at_its_own` (src/laws.rt).
 use Rattle.std.specs.Prelude.{◌≡◌, ℕ, ◌≤◌, Bool, true, Option, Some, None}
 use Rattle.tsb_types.specs.Clip.{Agree}
 use Rattle.tsb_types.specs.Sets.{is_phase}
