@@ -9,7 +9,8 @@ use Rattle.tsb_transact.specs.Rows.{IsRow}
 abbrev pub RowsAreTold : Type 0
 RowsAreTold = (row : List ℕ) → IsBy row → desk_cells (desk_in row) ≡ row
 
--- desks that have a table: sound ones, whose owner is one of the four stations, and which keep a rule that a check finds
+-- desks that have a table: sound ones, whose owner is one of the four stations, and which keep a rule that a check
+-- finds
 pub record IsInRange (desk : Desk) : Type 0 where
   pub sound : IsSound desk
   pub owner : IfSome desk.owner (λ s. (1 ≤ s) × (s ≤ 4))
