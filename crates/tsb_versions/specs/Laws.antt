@@ -1,5 +1,5 @@
--- What holds of the bench of 8 phases and 2 sides and of that of 16 and 4, as statements: with one plan of version 1, and
--- whatever inputs within version 1's ranges, both show the same.
+-- What holds of the bench of 8 phases and 2 sides and of that of 16 and 4, as statements: with one plan of version 1,
+-- and whatever inputs within version 1's ranges, both show the same.
 --
 -- All are proved, each as the contract of a function that does nothing (src/laws.rt).
 use Rattle.std.specs.Prelude.{◌≡◌, ◌≢◌, ◌↔◌, ℕ, ◌<◌, true, false, List, map}
@@ -20,7 +20,8 @@ use Rattle.tsb_versions.specs.BuiltIn.{narrow_empty, AreValues, widened_puts, na
 
 -- ## The wide plan
 
--- a plan of 16 phases and 4 sides that says at each translated index what a plan of version 1 says, and nothing elsewhere
+-- a plan of 16 phases and 4 sides that says at each translated index what a plan of version 1 says, and nothing
+-- elsewhere
 pub record SaysTheSame (narrow wide : Plan) : Type 0 where
   pub phase_count : wide.phase_count ≡ 16
   pub side_count : wide.side_count ≡ 4
@@ -35,7 +36,8 @@ WidePlansSayTheSame = (narrow wide : Plan) → IsNarrow narrow → SaysTheSame n
 abbrev pub BreakTheSameRule : Type 0
 BreakTheSameRule = (narrow wide : Plan) → IsNarrow narrow → SaysTheSame narrow wide → first_broken wide ≡ first_broken narrow
 
--- Values of version 1 that are put in turn make a plan of version 1, and put at translated indices they make the wide plan.
+-- Values of version 1 that are put in turn make a plan of version 1, and put at translated indices they make the wide
+-- plan.
 abbrev pub PutsMakeNarrowPlans : Type 0
 PutsMakeNarrowPlans = (es : List (Object × ℕ × ℕ)) → AreValues es → IsNarrow (with_values narrow_empty es)
 
@@ -84,7 +86,8 @@ CountersAgree = OfBothBenches (λ narrow is wide translations. local (replay wid
 abbrev pub StagesAgree : Type 0
 StagesAgree = OfBothBenches (λ narrow is wide translations. stage (replay wide translations) ≡ stage (replay narrow is))
 
--- An input that comes next is refused in both for one cause, or in neither; so one takes all inputs where the other does.
+-- An input that comes next is refused in both for one cause, or in neither; so one takes all inputs where the other
+-- does.
 abbrev pub RefusalsAgree : Type 0
 RefusalsAgree = (i : Input) → IsWithin i → OfBothBenches (λ narrow is wide translations.
     verdict (replay wide translations) (widened_input i) ≡ verdict (replay narrow is) i)

@@ -1,5 +1,5 @@
--- The bench of 16 phases and 4 sides that stands for one of 8 and 2: the plan that a plan text of version 1 becomes, and
--- inputs, edits and states with it. All of it is the profile's own.
+-- The bench of 16 phases and 4 sides that stands for one of 8 and 2: the plan that a plan text of version 1 becomes,
+-- and inputs, edits and states with it. All of it is the profile's own.
 use Rattle.std.specs.Prelude.{◌≡◌, ℕ, ◌+◌, ◌-◌, ◌*◌, ◌/◌, ◌%◌, ◌≤◌, nat_le, nat_lt, Bool, true, false, ◌&&◌, if◌then◌else◌, List, [], ◌∷◌, map, Option, Some, None}
 use Rattle.tsb_types.specs.declared.lamp.Lamp.{Lamp}
 use Rattle.tsb_types.specs.declared.lamp.Lamp.TheVariants as lamps
