@@ -1,7 +1,7 @@
 -- Lines of a text, which is a list of bytes.
 use Rattle.std.specs.Prelude.{ℕ, ◌≡◌, ◌==◌, ◌||◌, List, [], ◌∷◌, if◌then◌else◌, true, false, Bool}
 
--- b in front of the first line
+-- b before the first line
 abbrev pub onto_first : ℕ → List (List ℕ) → List (List ℕ)
 onto_first b [] = (b ∷ []) ∷ []
 onto_first b (l ∷ ls) = (b ∷ l) ∷ ls

@@ -1,7 +1,7 @@
 -- Words of a line, and the numbers that they spell.
 use Rattle.std.specs.Prelude.{ℕ, ◌+◌, ◌-◌, ◌*◌, ◌==◌, nat_le, nat_lt, List, [], ◌∷◌, if◌then◌else◌, length, Option, Some, None, ◌&&◌}
 
--- b in front of a line whose words are these: it begins a word, or goes onto the first
+-- b before a line whose words are these: it begins a word, or goes onto the first
 abbrev pub onto_word : ℕ → List ℕ → List (List ℕ) → List (List ℕ)
 onto_word b (c ∷ bs) (w ∷ ws) = if c == 32 then (b ∷ []) ∷ w ∷ ws else (b ∷ w) ∷ ws
 onto_word b bs ws = (b ∷ []) ∷ ws
