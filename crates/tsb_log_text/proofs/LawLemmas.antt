@@ -31,7 +31,7 @@ abbrev Nothing : Option ℕ → Type 0
 Nothing None = Unit {0}
 Nothing (Some n) = ⊥
 
--- a digit 0 or 1 in front of others that spell m
+-- a digit 0 or 1 before others that spell m
 record Digit (d m list : ℕ) : Type 0 where
   bit : ℕ
   small : bit < 2

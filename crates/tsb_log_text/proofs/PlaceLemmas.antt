@@ -7,7 +7,7 @@ use Rattle.tsb_log_text.specs.Logs.{Rises, row_from, row_at}
 use Rattle.tsb_log_text.specs.Places.{IsPlace, tick_at, no_row}
 use Rattle.tsb_log_text.specs.declared.log.LogRow.{LogRow}
 
--- the row in front of a place, where this one is before all
+-- the row before a place, where this one is before all
 abbrev pub row_before : Row → List LogRow → ℕ → Row
 row_before before rows zero = before
 row_before before rows (suc k) = (get_or rows k no_row).row

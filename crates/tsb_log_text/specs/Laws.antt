@@ -13,8 +13,8 @@ use Rattle.tsb_log_text.specs.declared.error.LogError.TheVariants.{Malformed, Ti
 abbrev pub heeded : List (List ℕ) → List (List ℕ)
 heeded lines = filter (λ line. not (is_skipped line)) lines
 
--- a text is a log of these rows just where it has at most 64 MiB, its lines that are not skipped spell these rows, one
--- after the other, and their ticks rise
+-- a text is a log of these rows exactly when it has at most 64 MiB, its lines that are not skipped spell these rows,
+-- one after the other, and their ticks rise
 abbrev pub AreTheRows : Type 0
 AreTheRows = (text : List ℕ) (rows : List LogRow) → (log_of text ≡ Ok rows) ↔
     ((length text ≤ 67108864) × (map row_of (heeded (lines_of text)) ≡ map Some rows) × Rises 0 rows)
@@ -24,7 +24,7 @@ abbrev pub last_tick : ℕ → List LogRow → ℕ
 last_tick tick [] = tick
 last_tick tick (r ∷ rs) = last_tick r.tick rs
 
--- this line, which is not skipped, is the one of this number among lines that count from first on; in front of it stand
+-- this line, which is not skipped, is the one of this number among lines that count from first on; before it stand
 -- these rows, whose ticks rise from last on
 pub record StandsBehind (first last : ℕ) (rows : List LogRow) (number : ℕ) (line : List ℕ) (lines : List (List ℕ)) : Type 0 where
   pub front : List (List ℕ)
@@ -35,12 +35,12 @@ pub record StandsBehind (first last : ℕ) (rows : List LogRow) (number : ℕ) (
   pub rises : Rises last rows
   pub heeded : is_skipped line ≡ false
 
--- a line that is malformed is no row, and all in front of it is well
+-- a line that is malformed is no row, and all before it is well
 abbrev pub AreMalformedThere : Type 0
 AreMalformedThere = (text : List ℕ) (n : ℕ) → log_of text ≡ Err (Malformed n) →
     (rows : List LogRow) × (line : List ℕ) × StandsBehind 1 0 rows n line (lines_of text) × (row_of line ≡ None)
 
--- a line out of order is a row whose tick is not above the last one, and all in front of it is well
+-- a line out of order is a row whose tick is not above the last one, and all before it is well
 abbrev pub AreOutOfOrderThere : Type 0
 AreOutOfOrderThere = (text : List ℕ) (n : ℕ) → log_of text ≡ Err (TickOrder n) →
     (rows : List LogRow) × (line : List ℕ) × (row : LogRow) × StandsBehind 1 0 rows n line (lines_of text) × (row_of line ≡ Some row) × (row.tick ≤ last_tick 0 rows)
@@ -54,6 +54,6 @@ AreInForce = (rows : List LogRow) (tick i : ℕ) → Rises 0 rows → i < length
 abbrev pub AreOffBefore : Type 0
 AreOffBefore = (rows : List LogRow) (tick : ℕ) → Rises 0 rows → ((k : ℕ) → k < length rows → tick < tick_at rows k) → row_at rows tick ≡ all_off
 
--- number k + 1 is on just where digit k, from 0, is 1
+-- number k + 1 is on exactly when digit k, from 0, is 1
 abbrev pub TellTheirInputs : Type 0
 TellTheirInputs = (digits : List ℕ) (list k : ℕ) → list_in_digits digits ≡ Some list → k < length digits → names list (suc k) ≡ (slice_index digits k == 49)

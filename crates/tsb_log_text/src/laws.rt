@@ -1,7 +1,7 @@
 //! What holds of every log, each law the contract of a function that does nothing.
 ghost use Rattle.tsb_log_text.specs.Laws.{AreInForce, AreMalformedThere, AreOffBefore, AreOutOfOrderThere, AreTheRows, TellTheirInputs};
 
-/// A text is a log just where its lines that are not skipped spell rows whose ticks rise, and these are its
+/// A text is a log exactly when its lines that are not skipped spell rows whose ticks rise, and these are its
 /// rows. A fault of a line is the first there is.
 pub fn logs_are_rows_that_rise()
     ensures rows { AreTheRows }
