@@ -36,7 +36,7 @@ pub record IsKept (plan : Plan) (given : Given) (p : ℕ) (r : PhaseRow) (now : 
   pub gapped : r.gapped ≡ gapped_latch plan given p (held_of (phase_of now r))
   pub forced : r.forced ≡ forced_latch given p (held_of (phase_of now r))
 
--- at tick t the red revert timer of phase p has reached its time just where it has at tick `now`
+-- at tick t the red revert timer of phase p has reached its time exactly when it has at tick `now`
 abbrev pub StaysReverted : Plan → List ℕ → ℕ → ℕ → ℕ → Type 0
 StaysReverted plan cells now t p = now ≤ t → (row_in cells p).red_revert ≤ now + 1 →
     has_reached (timer_at t (row_in cells p).red_revert) (red_revert plan p) ≡ has_reached (timer_at now (row_in cells p).red_revert) (red_revert plan p)

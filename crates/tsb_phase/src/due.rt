@@ -35,7 +35,7 @@ fn until(cell: u32, limit: u32) -> u32
     }
 }
 
-/// The tick up to which the timer of a cell has reached a limit just where it has at tick `now`.
+/// The tick up to which the timer of a cell has reached a limit exactly when it has at tick `now`.
 #[inline(always)]
 fn turn(now: u32, cell: u32, limit: u32) -> u32
     requires fits { now + 1 < 2 ^ 32 }
