@@ -56,7 +56,7 @@ of_32_bits n = if nat_lt n (2 ^ 32) then Some n else None
 abbrev pub whole_number : Data → Option ℕ
 whole_number d = option_and_then of_32_bits (number_in d)
 
--- the index, of 1 to n, whose decimal text this is: `decimal` writes no zero in front
+-- the index, of 1 to n, whose decimal text this is: `decimal` writes no leading zero
 unfoldable pub index_named : ℕ → List ℕ → Option ℕ
 index_named n text = find (λ i. bytes_eq (decimal i) text) (run_from 1 n)
 

@@ -4,8 +4,8 @@ use std::alloc::AllocError;
 use thiserror::Error;
 use tsb_objects::{Object, Rule};
 
-/// The first fault of a plan text, of which no plan is made. Each is printed as one line without its end, in which a name
-/// or an index stands as the text decodes it, with any line feed that it has.
+/// The first fault of a plan text, of which no plan is made. Each is printed as one line without its end, in which a
+/// name or an index stands as the text decodes it, with any line feed that it has.
 ///
 /// Faults are in the order of the variants, and those of members and of indices in the byte order of their
 /// names: a member is judged whole before the next, and so is an index.
@@ -39,7 +39,7 @@ pub enum PlanError {
         /// The object.
         object: Object,
     },
-    /// An index is not the decimal text of an index of the object in the version, with no zero in front.
+    /// An index is not the decimal text of an index of the object in the version, with no leading zero.
     #[error("plan: {}.{index}: no such object", .object.name())]
     NoSuchIndex {
         /// The object.

@@ -8,7 +8,7 @@ ghost use Rattle.tsb_plan_text.specs.PlanText.{whole_number, version_numbered};
 use serde_json::Value;
 use tsb_objects::Version;
 
-/// The number over 0 whose decimal text this is, without zeros in front.
+/// The number over 0 whose decimal text this is, without leading zeros.
 pub(crate) fn read_index(text: &str) -> Option<u32>
     ensures { MatchOption result
         ((i : ℕ) → 1 ≤ i → i < 2 ^ 32 → decimal i ≢ text.now)

@@ -28,7 +28,7 @@ const VERSION: &str = "version";
 #[tactic(auto, unfolding(crate::specs::PlanText::reading))]
 pub fn read_plan(alloc: Global, text: &[u8]) -> Result<Checked, PlanError>
     // The plan or the very fault that the text has, or `Memory`: so of wrong bodies only those are left that give
-    // up for want of memory, and none of them on a text that is too large.
+    // up out of memory, and none of them on a text that is too large.
     ensures reads { Gives checked_plan result (reading text.now) }
 
     // Each number that the text has for an object at an index stands in the plan, at the index's place there, and
