@@ -18,7 +18,7 @@ use Rattle.tsb_lines.specs.Lines.{lines_of, split, ended, onto_first, without_re
 use Rattle.tsb_text.specs.Answers.{Given, Asked, Steps, Answers, next_tick}
 use Rattle.tsb_text.specs.Text.{Says, IsAnswered, IsText}
 
--- ## There is an answer to each command: one with no want of memory
+-- ## There is an answer to each command: one that does not run out of memory
 
 right-tick : (given : Given) (is : List Input) → IsRight given.plan is (asks.Apply (next_tick given is)) Took ⊎ IsRight given.plan is (asks.Apply (next_tick given is)) (Refused TickLimit)
 right-tick given is = at (nat_lt (replay given.plan is).now 6000000) refl
@@ -91,7 +91,7 @@ some-text given is bytes = some-answered given (lines_of bytes) is
 
 -- ## Of a long line the first 202 bytes tell as much as all
 
--- h in front of the first line
+-- h before the first line
 onto_line : List ℕ → List (List ℕ) → List (List ℕ)
 onto_line h [] = h ∷ []
 onto_line h (l ∷ ls) = (h ++ l) ∷ ls
@@ -106,7 +106,7 @@ unfolding onto_line
 onto-cons b h [] = refl
 onto-cons b h (l ∷ ls) = refl
 
--- bytes without a feed stand in front of the first line
+-- bytes without a feed stand before the first line
 split-front : (h x : List ℕ) → HasNoFeed h → split (h ++ x) ≡ onto_line h (split x)
 unfolding onto_line
 split-front [] [] f = refl

@@ -91,7 +91,7 @@ pub record Ticked (given : Given) (inputs : List Input) (text rest : List ℕ) :
   pub right : IsRight given.plan inputs (Apply (next_tick given inputs)) Took
   pub line : text ≡ with_feed (display_line (replay given.plan (next_tick given inputs ∷ inputs))) ++ rest
 
--- the tick is refused, and leaves all as it was. Want of memory may refuse any tick.
+-- the tick is refused, and leaves all as it was. Out of memory the bench may refuse any tick.
 pub record Stopped (given : Given) (inputs : List Input) (text : List ℕ) (new : List Input) : Type 0 where
   pub refusal : Refusal
   pub right : IsRight given.plan inputs (Apply (next_tick given inputs)) (Refused refusal)

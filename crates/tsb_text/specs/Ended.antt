@@ -37,8 +37,8 @@ pub record Quits (bytes : List ℕ) : Type 0 where
   pub reads : reading (without_return line) ≡ Leave
 
 -- how a session ended, after these bytes were read: it wrote a text of theirs, at the end of the input or where a line
--- was `quit`, and then whatever comes behind; or after a fault a front of one, whatever comes behind them or at the end of the input. So far a
--- session asks for no memory to begin with.
+-- was `quit`, and then whatever comes behind; or after a fault a prefix of one, whatever comes behind them or at the
+-- end of the input. So far a session asks for no memory to begin with.
 abbrev pub EndedSo : Result (Unit {0}) SessionError → Given → Option (List ℕ) → List ℕ → List ℕ → Type 0
 EndedSo (Ok u) given left read written = (IsAtEnd left × IsText given [] read written) ⊎ (Quits read × IsWhole given [] read written)
 EndedSo (Err Memory) given left read written = ⊥

@@ -2,7 +2,7 @@
 
 use thiserror::Error;
 
-/// What ends a session before its commands do. What was written until then is a front of the session's text.
+/// What ends a session before its commands do. What was written until then is a prefix of the session's text.
 #[derive(Clone, Copy, Debug, PartialEq, Eq, Error)]
 pub enum SessionError {
     /// There was no memory to begin with. So far a session asks for none then.

@@ -205,8 +205,9 @@ fn as_session(sent: Result<(), WriteError>) -> Result<(), SessionError>
 /// Runs a session: reads commands, and writes their answers, up to a line `quit` or the end of what is read. The bench
 /// begins at power-up with the plan, and its ticks take the rows of the log.
 ///
-/// What was answered goes out before each read. A fault ends the session; what was written until then is a front of its
-/// text. `TooLarge` comes where a byte stands behind the first 16 MiB, after the whole lines within them were answered.
+/// What was answered goes out before each read. A fault ends the session; what was written until then is a prefix of
+/// its text. `TooLarge` comes where a byte stands behind the first 16 MiB, after the whole lines within them were
+/// answered.
 pub fn session<R: Read, W: Write>(
     alloc: Global,
     plan: Runnable,
