@@ -31,7 +31,7 @@ abbrev pub local_in : Plan → ℕ → Option ℕ → Option ℕ
 local_in plan t None = None
 local_in plan t (Some n) = Some (counter plan n t)
 
--- that of the pattern selected at tick t, in tenths of a second; none where the pattern is not used
+-- at tick t, in tenths of a second, of the pattern that is selected; none where that is not used
 abbrev pub local : Plan → ℕ → Option ℕ → Option ℕ
 local plan t selected = local_in plan t (running plan selected)
 
