@@ -1,6 +1,12 @@
+-- which cells changed, with their values before, and how these are put back
 pub mod Diff
+-- what holds of such differences
 pub mod DiffLaws
+-- the cells of a layer, now and at the last `open`
 pub mod Bank
+-- one value among the cells of a bank
 pub mod Row
+-- timers in ticks, and the cells that tell when they began
 pub mod Timer
+-- that a timer is read as it was written
 pub mod TimerLaws
