@@ -1,3 +1,6 @@
+-- how a text is split into lines, and which lines are skipped
 pub mod Lines
+-- the words of a line, and the numbers that they spell
 pub mod Words
+-- what holds of lines and words
 pub mod Laws
