@@ -1,5 +1,10 @@
+-- the line of 38 bytes that spells a row of inputs
 pub mod Rows
+-- the rows of a text or its first error, and the row in force at a tick
 pub mod Logs
+-- how many rows have come by a tick
 pub mod Places
+-- what reading one further line makes of the rows so far
 pub mod Steps
+-- what holds of logs, told without how they are read
 pub mod Laws
