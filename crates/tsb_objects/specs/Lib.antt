@@ -1,6 +1,12 @@
+-- which plans the bench runs so far
 pub mod Built
+-- when a pattern forces each phase off, on its local counter
 pub mod Instants
+-- the tables of phases and detectors of a checked plan
 pub mod Tables
+-- the tables of patterns and of free operation of a checked plan
 pub mod PatternTables
+-- the unions of sets of phases that a checked plan has at hand
 pub mod Unions
+-- the plan of a checked plan
 pub mod Checked
