@@ -1,3 +1,6 @@
+-- the errors of a plan text, and when an answer is right
 pub mod PlanErrors
+-- the plan of a text or its first error, member after member
 pub mod PlanText
+-- the same plan told number by number, without how it is read
 pub mod PlanTextSays
