@@ -106,8 +106,8 @@ fn is_kept(now: u32, plan: &Plan, conditions: &Conditions, p: Phase, was: &Phase
         && run.forced == was.forced
 }
 
-/// The tick up to which the gap of a green has expired just where it has at tick `now`. While the gap is being reduced, it is the
-/// tick up to which the passage timer has not reached the least gap.
+/// The tick up to which the gap of a green has expired exactly when it has at tick `now`. While the gap is being
+/// reduced, it is the tick up to which the passage timer has not reached the least gap.
 fn turn_gap(now: u32, plan: &Plan, p: Phase, was: &PhaseRow) -> u32
     requires fits { now + 1 < 2 ^ 32 }
     requires by { IsRowBy now was.now }
