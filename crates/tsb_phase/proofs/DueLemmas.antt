@@ -11,7 +11,7 @@ use Rattle.tsb_types.specs.declared.interval.Interval.TheVariants.{Red, Green, Y
 use Rattle.tsb_types.specs.declared.interval.PedestrianInterval.{PedestrianInterval}
 use Rattle.tsb_types.specs.declared.interval.PedestrianInterval.TheVariants.{DontWalk, Walk, PedestrianClear}
 use Rattle.tsb_types.specs.Intervals.{is_green, is_dont_walk, in_service}
-use Rattle.tsb_plan.specs.Plan.{Plan, yellow_change, red_clear, red_revert, time_before_reduction, time_to_reduce, disables_simultaneous_gap}
+use Rattle.tsb_plan.specs.Plan.{Plan, yellow_change, red_clear, red_revert, time_before_reduction, disables_simultaneous_gap}
 use Rattle.tsb_phase.specs.declared.phase_row.PhaseRow.{PhaseRow}
 use Rattle.tsb_phase.specs.Phase.{Phase, Given, none_moved, held_of}
 use Rattle.tsb_phase.specs.Green.{passage_timer, conflict_timer, begun, begins_reduction, has_cars_before_reduction, reduction_timer, gap_has_expired, gapped_latch, forced_latch, is_gapped, is_by_gap, gap, initial}
@@ -22,7 +22,7 @@ use Rattle.tsb_phase.specs.Next.{next_from_read}
 use Rattle.tsb_phase.specs.Rows.{row_in, phase_of, interval_of_row, pedestrian_of_row, IsRowBy}
 use Rattle.tsb_phase.specs.Cells.{number_in}
 use Rattle.tsb_phase.specs.Due.{least_of, has_expired, IsKept, IsStill, StaysReverted}
-use Rattle.tsb_phase.proofs.BoundLemmas.{gap_falls_on, gap_reduced}
+use Rattle.tsb_phase.proofs.BoundLemmas.{gap_falls_on}
 use Rattle.tsb_phase.proofs.GreenLemmas.{same_phase, next-green}
 use Rattle.tsb_phase.proofs.ReadLemmas.{IsRedRow, is-red, red-state, told-red, dont-walk}
 
@@ -84,11 +84,7 @@ off-not-on n e = cc
 on-not-off : (n : ℕ) → On n ≡ Off → ⊥
 on-not-off n e = cc
 
--- a limit that is no smaller is not reached either, and one that is no greater is
-not-over : (x : Timer) (l m : ℕ) → l ≤ m → has_reached x l ≡ false → has_reached x m ≡ false
-not-over Off l m more h = refl
-not-over (On n) l m more h = grind (arith, nat_tests, more, h)
-
+-- a smaller limit is reached too, and at a later tick
 reached-on : (now t cell l m : ℕ) → now ≤ t → m ≤ l → has_reached (timer_at now cell) l ≡ true → has_reached (timer_at t cell) m ≡ true
 reached-on now t cell l m after less h =
     elim (eqb_tells cell 0) [
@@ -117,12 +113,18 @@ expired-found plan p r now limit x b e f h =
 pub expired-stays : (plan : Plan) (p : ℕ) (r : PhaseRow) (now t : ℕ) → now ≤ t → has_expired plan p r now ≡ true → has_expired plan p r t ≡ true
 expired-stays plan p r now t after h = reached-on now t r.passage _ _ after (runs-on now t r.reduction after plan p) h
 
--- while the gap is being reduced the passage timer has not reached it before it reaches the least gap
-pub on-unexpired : (plan : Plan) (p : ℕ) (r : PhaseRow) (t : ℕ) → 1 ≤ r.reduction →
-    has_reached (timer_at t r.passage) (gap plan p (On (time_to_reduce plan p))) ≡ false → has_expired plan p r t ≡ false
-on-unexpired plan p r t on h =
-    subst (λ (x : Timer). has_reached (timer_at t r.passage) (gap plan p x) ≡ false) (sym (timer_at-on t r.reduction on))
-    (not-over (timer_at t r.passage) _ _ (gap_reduced plan p (t + 1 - r.reduction)) h)
+-- so many ticks behind tick `now` the passage timer has not reached the gap that is reduced
+pub on-unexpired : (plan : Plan) (p : ℕ) (r : PhaseRow) (now t : ℕ) → 1 ≤ r.passage → 1 ≤ r.reduction → r.passage ≤ now + 1 → r.reduction ≤ now + 1 → now ≤ t →
+    now + 1 - r.passage + (t - now) < gap plan p (On (now + 1 - r.reduction + (t - now))) → has_expired plan p r t ≡ false
+on-unexpired plan p r now t runs reduces begun reduced after h =
+    let steps : now + 1 - r.reduction + (t - now) ≡ t + 1 - r.reduction = omega (arith, reduced, after) in
+    let less : now + 1 - r.passage + (t - now) < gap plan p (On (t + 1 - r.reduction)) =
+    subst (λ (n : ℕ). now + 1 - r.passage + (t - now) < gap plan p (On n)) steps h in
+    ap₂ (λ (x y : Timer). has_reached x (gap plan p y)) (timer_at-on t r.passage runs) (timer_at-on t r.reduction reduces)
+    ∙ under (t + 1 - r.passage) (gap plan p (On (t + 1 - r.reduction))) (omega (arith, less, begun, after))
+  where
+    under : (n l : ℕ) → n < l → nat_le l n ≡ false
+    under n l h = grind (arith, nat_tests, h)
 
 -- ## The pedestrian part of a green
 

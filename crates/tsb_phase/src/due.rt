@@ -17,7 +17,7 @@ use crate::pedestrian::{clearance_time, ended_by, is_resting_in_walk, pedestrian
 use crate::phase_row::{PhaseRow, known};
 use crate::phases::Phases;
 use crate::rows::RED_REVERTS;
-use crate::times::{gap, initial};
+use crate::times::{gap, initial, ticks_to_gap};
 use crate::visit::{held, number_in};
 use tsb_cells::Timer;
 use tsb_objects::{PedestrianInterval, Phase, Plan};
@@ -106,8 +106,7 @@ fn is_kept(now: u32, plan: &Plan, conditions: &Conditions, p: Phase, was: &Phase
         && run.forced == was.forced
 }
 
-/// The tick up to which the gap of a green has expired exactly when it has at tick `now`. While the gap is being
-/// reduced, it is the tick up to which the passage timer has not reached the least gap.
+/// The tick up to which the gap of a green has expired exactly when it has at tick `now`.
 fn turn_gap(now: u32, plan: &Plan, p: Phase, was: &PhaseRow) -> u32
     requires fits { now + 1 < 2 ^ 32 }
     requires by { IsRowBy now was.now }
@@ -118,12 +117,11 @@ fn turn_gap(now: u32, plan: &Plan, p: Phase, was: &PhaseRow) -> u32
     if has_reached(now, was.passage, limit) {
         return u32::MAX;
     }
-    if was.reduction == 0 {
+    if was.reduction == 0 || was.passage == 0 {
         return until(was.passage, limit);
     }
-    let to_reduce = plan.time_to_reduce(p);
-    let least = gap(plan, p, Timer::On(to_reduce));
-    until(was.passage, least)
+    let ticks = ticks_to_gap(plan, p, now + 1 - was.passage, now + 1 - was.reduction);
+    now.saturating_add(ticks)
 }
 
 /// The tick up to which a green is still whose timers and latches tick `now` leaves as they were.
