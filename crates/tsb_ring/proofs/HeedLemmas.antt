@@ -1,6 +1,7 @@
 -- A ring whose phase in service is not ready makes no move by its want.
-use Rattle.std.proofs.Common.{◌≡◌, ℕ, Bool, true, false, ◌&&◌, ◌||◌, Option, Some, None, refl, sym, ◌∙◌, inl, inr, ◌⊎◌}
+use Rattle.std.proofs.Common.{◌≡◌, ℕ, true, false, ◌&&◌, ◌||◌, Option, Some, None, refl, sym, ◌∙◌, inl, inr, ◌⊎◌}
 use Rattle.std.proofs.lemmas.Bool.{cases_Bool}
+use Rattle.std.proofs.Math.Bool.{and-false}
 use Rattle.tsb_types.specs.Intervals.{is_green}
 use Rattle.tsb_plan.specs.Plan.{Plan}
 use Rattle.tsb_ring.specs.declared.want.Want.{Want}
@@ -43,10 +44,6 @@ found_known plan s given r found is =
       | inr h ↦ known plan s given r (serving plan given r) found.want refl h (is.unheeded h)
     ]
 
-and_false : (a b : Bool) → (a && false && b) ≡ false
-and_false true b = refl
-and_false false b = refl
-
 pub begins_found : (plan : Plan) (s : State) (given : Given) (one two : Found) → IsFound plan s given Ring1 one → IsFound plan s given Ring2 two →
     (joins given one.own (s.commitment Ring1) one.want && joins given two.own (s.commitment Ring2) two.want && (wants_cross one.want || wants_cross two.want)) ≡ begins plan s given
 unfolding begins
@@ -57,7 +54,7 @@ begins_found plan s given one two first second = go (found_known plan s given Ri
         (joins given one.own (s.commitment Ring1) one.want && joins given two.own (s.commitment Ring2) two.want && (wants_cross one.want || wants_cross two.want))
         ≡ (ring_joins plan s given Ring1 && ring_joins plan s given Ring2 && (wants_cross (want_of plan s given Ring1) || wants_cross (want_of plan s given Ring2)))
     go (inr k) like = rw (first.own, k one.want, k (want_of plan s given Ring1)) refl
-    go (inl same) (inr k) = rw (second.own, k two.want, k (want_of plan s given Ring2), and_false (joins given one.own (s.commitment Ring1) one.want) (wants_cross one.want || wants_cross two.want), and_false (ring_joins plan s given Ring1) (wants_cross (want_of plan s given Ring1) || wants_cross (want_of plan s given Ring2))) refl
+    go (inl same) (inr k) = rw (second.own, k two.want, k (want_of plan s given Ring2), and-false (joins given one.own (s.commitment Ring1) one.want), and-false (ring_joins plan s given Ring1)) refl
     go (inl same) (inl like) = rw (first.own, second.own, same, like) refl
 
 -- ## Ends

@@ -21,8 +21,9 @@ use Rattle.tsb_ring.specs.Next.{is_none_or_over, makes_way, may_start, completes
 use Rattle.tsb_ring.specs.Moves.{if_passes, ring_moves, moves, acted}
 use Rattle.tsb_ring.specs.Looks.{IsWithin, AgreeOnTargets, AgreeOnPhases}
 use Rattle.tsb_ring.proofs.ActLemmas.{acts_as_next}
-use Rattle.tsb_ring.proofs.WaitLemmas.{cond_is, first-passes, go_cases, taken_go}
+use Rattle.tsb_ring.proofs.WaitLemmas.{cond_is, go_cases, taken_go}
 use Rattle.tsb_ring.proofs.WantLemmas.{and_four}
+use Rattle.tsb_rows.proofs.FirstLemmas.{first-passes}
 
 abbrev clip_target : Option (ℕ → Bool) → Option (ℕ → Bool)
 clip_target None = None

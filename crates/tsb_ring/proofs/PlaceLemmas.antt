@@ -2,6 +2,7 @@
 -- there.
 use Rattle.std.proofs.Common.{◌≡◌, ℕ, zero, suc, ◌<◌, ◌≤◌, ◌==◌, Bool, true, false, not, ◌||◌, List, [], ◌∷◌, length, get_or, take, drop, None, refl, ap, ◌∙◌, arith, inl, inr}
 use Rattle.std.proofs.lemmas.Bool.{cases_Bool, cases_eq, eq-eqb}
+use Rattle.std.proofs.Math.Bool.{or-true}
 use Rattle.tsb_rules.specs.Rules.{first_broken}
 use Rattle.tsb_rules.specs.SequenceRules.{is_zeros, zeros_last, is_ordered, sequence_is_ordered, is_blank, lists_only, lists_each, lists_once, rises}
 use Rattle.tsb_rules.proofs.ConsistentLemmas.{MeetsRings, meets_rings}
@@ -11,15 +12,11 @@ use Rattle.tsb_types.specs.Lists.{first}
 
 -- ## Zeros
 
-last_true : (a : Bool) → (a || true) ≡ true
-last_true true = refl
-last_true false = refl
-
 blank-zeros : (ps : List ℕ) → is_zeros ps ≡ true → zeros_last ps ≡ true
 blank-zeros [] h = refl
 blank-zeros (p ∷ ps) h =
     let rest = (both (p == 0) (is_zeros ps) h).1 in
-    rw (rest, blank-zeros ps rest, last_true (not (p == 0))) refl
+    rw (rest, blank-zeros ps rest, or-true (not (p == 0))) refl
 
 zeros-first : (f : ℕ → Bool) → f 0 ≡ false → (ps : List ℕ) → is_zeros ps ≡ true → first f ps ≡ None
 zeros-first f none_0 [] h = refl
@@ -101,7 +98,7 @@ sequence-zeros plan none s r from to ring_from ring_to = of_both plan s r ring_f
         let three = both (test 3) _ two.1 in
         let four = both (test 4) _ three.1 in
         elim (cases_eq s 1) [
-          | inl e ↦ ap test e ∙ rw met.k6 (last_true (is_blank plan 1))
+          | inl e ↦ ap test e ∙ rw met.k6 (or-true (is_blank plan 1))
           | inr n1 ↦ elim (cases_eq s 2) [
             | inl e ↦ ap test e ∙ two.0
             | inr n2 ↦ elim (cases_eq s 3) [

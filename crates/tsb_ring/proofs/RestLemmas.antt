@@ -12,8 +12,7 @@ use Rattle.tsb_ring.specs.Crossings.{wants_cross, ring_joins, begins, own_commit
 use Rattle.tsb_ring.specs.Next.{idle_pick, completes, starting, leaves, ends, clears}
 use Rattle.tsb_ring.specs.Moves.{if_passes, ring_moves, moves}
 use Rattle.tsb_ring.specs.Layer.{IsUnasked, no_move, no_moves}
-use Rattle.tsb_ring.proofs.FindLemmas.{none-first}
-use Rattle.tsb_ring.proofs.WaitLemmas.{first-passes}
+use Rattle.tsb_rows.proofs.FirstLemmas.{first-none, first-passes}
 
 uncommitted : (s : State) (given : Given) → IsUnasked s given → (r : Ring) → s.commitment r ≡ None
 uncommitted s given u Ring1 = u.first
@@ -32,14 +31,14 @@ no_candidate plan s given r picked u p = rw (u.callable p) (uncalled (in_ring pl
 not_elsewhere : (plan : Plan) (s : State) (given : Given) → IsUnasked s given → is_called_elsewhere plan s given ≡ false
 not_elsewhere plan s given u =
     ap (λ (o : Option ℕ). is_some o)
-    (none-first (λ p. given.callable p && not (is_on_side plan s.side p)) (phases plan) (λ p. rw (u.callable p) refl))
+    (first-none (λ p. given.callable p && not (is_on_side plan s.side p)) (phases plan) (λ p. rw (u.callable p) refl))
 
 rest_by_calls : (plan : Plan) (s : State) (given : Given) (r : Ring) (picked : Option ℕ) → IsUnasked s given → want_by_calls plan s given r picked ≡ Rest
 rest_by_calls plan s given r picked u =
     rw (
-      none-first (is_candidate plan s given r picked) (later (s.last r) (given.sequence r)) (no_candidate plan s given r picked u),
+      first-none (is_candidate plan s given r picked) (later (s.last r) (given.sequence r)) (no_candidate plan s given r picked u),
       not_elsewhere plan s given u,
-      none-first (is_candidate plan s given r picked) (not_later (s.last r) (given.sequence r)) (no_candidate plan s given r picked u),
+      first-none (is_candidate plan s given r picked) (not_later (s.last r) (given.sequence r)) (no_candidate plan s given r picked u),
     ) refl
 
 -- no want was found, or it is to rest

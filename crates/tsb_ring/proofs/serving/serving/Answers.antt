@@ -3,10 +3,10 @@ use Rattle.tsb_objects.specs.Checked.{checked_plan}
 use Rattle.tsb_plan.specs.PlanOf.{plan_of}
 use Rattle.tsb_types.specs.Lists.{run_from}
 use Rattle.tsb_ring.specs.Rings.{serving}
-use Rattle.tsb_ring.proofs.FindLemmas.{same-first}
 use Rattle.tsb_ring.proofs.serving.serving.Goals as goal
+use Rattle.tsb_rows.proofs.FirstLemmas.{first-same}
 
 pub returns : goal.returns
 unfolding checked_plan plan_of serving
-returns c = c.least.ensures ∙ same-first _ _ (run_from 1 16) (λ p.
+returns c = c.least.ensures ∙ first-same _ _ (run_from 1 16) (λ p.
     c.intersection.ensures p ∙ rw (c.of_ring.ensures p, c.in_service.ensures p) refl)
