@@ -207,7 +207,7 @@ either-way false x = refl
 abbrev w : Signals → ℕ → Phase
 w s p = phase_of (s.interval p) (s.timers p)
 
-start-green : (plan : Plan) (s : Signals) (p : ℕ) → bench.starts plan s p ≡ true → bench.new_interval plan s p ≡ Green
+pub start-green : (plan : Plan) (s : Signals) (p : ℕ) → bench.starts plan s p ≡ true → bench.new_interval plan s p ≡ Green
 unfolding bench.new_interval
 start-green plan s p e = rw e refl
 

@@ -1,17 +1,18 @@
 -- What a plan is once edits are laid over it: its numbers of phases and sides, the values that no edit changes, and the places
 -- where it has none.
 use Rattle.std.proofs.Common.{◌≡◌, ℕ, ◌==◌, Bool, true, false, not, ◌&&◌, ◌||◌, if◌then◌else◌, List, [], ◌∷◌, Some, None, refl, sym, inl, inr, arith, ◌∙◌}
-use Rattle.std.proofs.lemmas.Bool.{cases_Bool, eqb-true, true≢false}
+use Rattle.std.proofs.lemmas.Bool.{cases_Bool, eqb-true, true≢false, and_parts}
 use Rattle.std.proofs.lemmas.Bool.Decides.{nat_tests}
 use Rattle.tsb_types.specs.declared.refusal.Refusal.TheVariants.{NoSuchObject}
 use Rattle.tsb_plan.specs.declared.object.Object.{Object}
 use Rattle.tsb_plan.specs.Objects.{order}
 use Rattle.tsb_plan.specs.Plan.{Plan, is_same, with_value}
+use Rattle.tsb_plan.specs.Versions.{has_object}
 use Rattle.tsb_plan.proofs.TableLemmas.{order-injective}
 use Rattle.tsb_transact.specs.declared.edit.Edit.{Edit}
 use Rattle.tsb_transact.specs.Desk.{with_edits}
 use Rattle.tsb_transact.specs.Commit.{changes, changes_some}
-use Rattle.tsb_step.specs.Tables.{has_place, place_refusal}
+use Rattle.tsb_step.specs.Tables.{version_of, has_place, place_refusal}
 use Rattle.tsb_step.specs.Good.{AreFit}
 
 -- ## Numbers of phases and sides
@@ -76,8 +77,8 @@ kept test plan es unchanged o i passes = kept_from test plan plan es unchanged (
 -- a value that the plan takes has a place
 taken_has_place : (plan : Plan) (e : Edit) → place_refusal plan e.id e.value ≡ None → has_place plan e.id.object e.id.index ≡ true
 taken_has_place plan e h =
-    elim (cases_Bool (has_place plan e.id.object e.id.index)) [
-      | inl it ↦ it
+    elim (cases_Bool (has_object (version_of plan) e.id.object && has_place plan e.id.object e.id.index)) [
+      | inl it ↦ (and_parts (has_object (version_of plan) e.id.object) (has_place plan e.id.object e.id.index) it).1
       | inr out ↦ (let bad : Some NoSuchObject ≡ None = rw out at h in absurd cc)
     ]
 

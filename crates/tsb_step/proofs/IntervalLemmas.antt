@@ -13,7 +13,8 @@ use Rattle.tsb_phase.specs.Ready.{is_over, is_over_in}
 use Rattle.tsb_ring.specs.Moves.{is_ended, is_cleared, interval_after}
 use Rattle.tsb_ring.proofs.MoveLemmas.{ends_ready, clears_over}
 use Rattle.tsb_step.specs.State.{State, interval}
-use Rattle.tsb_step.specs.Tick.{rings_given, moves, moved, phase_read, yellow_done, next}
+use Rattle.tsb_step.specs.Tick.{rings_given, moves, moved, phase_read, yellow_done, over, next}
+use Rattle.tsb_step.proofs.ClipLemmas.{clipped_holds}
 
 -- a phase that is over clears
 over_clears : (plan : Plan) (p : ℕ) (w : Phase) (i : Interval) → is_over_in plan p w i ≡ true → (is_yellow i || is_red_clear i) ≡ true
@@ -32,7 +33,7 @@ pub cleared_was_clearing : (s : State) (row : Row) (p : ℕ) → is_cleared (mov
     (is_yellow (interval s p) || is_red_clear (interval s p)) ≡ true
 unfolding moves rings_given is_over
 cleared_was_clearing s row p e =
-    over_clears s.plan p (phase_read s p) (interval s p) (clears_over s.plan s.rings (rings_given s row) p e)
+    over_clears s.plan p (phase_read s p) (interval s p) (clipped_holds (over s) p (clears_over s.plan s.rings (rings_given s row) p e))
 
 not_true : (b : Bool) → (b ≡ true → ⊥) → b ≡ false
 not_true true h = absurd (h refl)

@@ -21,10 +21,11 @@ use Rattle.tsb_ring.proofs.MoveLemmas.{or_cases}
 use Rattle.tsb_ring.proofs.SafetyLemmas.{sound_is_safe}
 use Rattle.tsb_ring.proofs.WaitLemmas.{starts_wait}
 use Rattle.tsb_step.specs.State.{State, interval, pedestrian_part}
-use Rattle.tsb_step.specs.Tick.{rings_given, moves, next}
+use Rattle.tsb_step.specs.Tick.{rings_given, moves, over, next}
 use Rattle.tsb_step.specs.Signs.{shown, display, IsSafe}
 use Rattle.tsb_step.specs.Laws.{ServesTogether, StartsWaiting, ServesPreempt}
 use Rattle.tsb_step.specs.Good.{IsGood}
+use Rattle.tsb_step.proofs.ClipLemmas.{clipped_holds}
 use Rattle.tsb_step.proofs.GivenLemmas.{symmetric}
 use Rattle.tsb_step.proofs.ServiceLemmas.{served}
 
@@ -100,7 +101,11 @@ display_is_safe s good p q h k = go (is_some s.trip) h k
 
 pub starts_waiting : (s : State) → IsGood s → StartsWaiting s
 unfolding moves rings_given
-starts_waiting s good row p q h k = starts_wait s.plan s.rings (rings_given s row) p q good.rings h k
+starts_waiting s good row p q h k =
+    elim (starts_wait s.plan s.rings (rings_given s row) p q good.rings h k) [
+      | inl both ↦ inl both
+      | inr done ↦ inr (clipped_holds (over s) q done)
+    ]
 
 pub serves_preempt : (s : State) → IsGood s → ServesPreempt s
 serves_preempt s good x e = served s.plan x good.plan.rules (good.service x e)

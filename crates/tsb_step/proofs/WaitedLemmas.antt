@@ -7,10 +7,11 @@ use Rattle.tsb_ring.proofs.MoveLemmas.{ends_ready, clears_over, starts_reverted}
 use Rattle.tsb_step.specs.State.{State}
 use Rattle.tsb_step.specs.Tick.{phases_given, phase_read, rings_given, moves, ready, over, reverted}
 use Rattle.tsb_step.specs.ClearanceLaws.{HasLasted}
+use Rattle.tsb_step.proofs.ClipLemmas.{clipped_holds}
 
 ended_was_ready : (s : State) (row : Row) (p : ℕ) → is_ended (moves s row) p ≡ true → ready s row p ≡ true
 unfolding moves rings_given
-ended_was_ready s row p h = (ends_ready s.plan s.rings (rings_given s row) p h).1
+ended_was_ready s row p h = clipped_holds (ready s row) p (ends_ready s.plan s.rings (rings_given s row) p h).1
 
 pub ended_has_lasted : (s : State) (row : Row) (p : ℕ) → is_ended (moves s row) p ≡ true → HasLasted s row p
 ended_has_lasted s row p h = record {
@@ -20,8 +21,8 @@ ended_has_lasted s row p h = record {
 
 pub cleared_was_over : (s : State) (row : Row) (p : ℕ) → is_cleared (moves s row) p ≡ true → over s p ≡ true
 unfolding moves rings_given
-cleared_was_over s row p h = clears_over s.plan s.rings (rings_given s row) p h
+cleared_was_over s row p h = clipped_holds (over s) p (clears_over s.plan s.rings (rings_given s row) p h)
 
 pub started_has_reverted : (s : State) (row : Row) (p : ℕ) → is_started (moves s row) p ≡ true → reverted s p ≡ true
 unfolding moves rings_given
-started_has_reverted s row p h = starts_reverted s.plan s.rings (rings_given s row) p h
+started_has_reverted s row p h = clipped_holds (reverted s) p (starts_reverted s.plan s.rings (rings_given s row) p h)

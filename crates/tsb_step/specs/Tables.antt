@@ -7,7 +7,8 @@ use Rattle.tsb_types.specs.declared.refusal.Refusal.TheVariants.{NoSuchObject, O
 use Rattle.tsb_plan.specs.declared.object.Object.{Object}
 use Rattle.tsb_plan.specs.declared.object.Object.TheVariants.{PhaseSide, PhaseConcurrency, VehicleDetectorCallPhase, PedestrianDetectorCallPhase, OverlapIncludedPhases, SequenceData, PreemptTrackPhase, PreemptDwellPhase, PreemptExitPhase, PhaseDynamicMaxLimit, PhaseDynamicMaxStep, OverlapModifierPhases}
 use Rattle.tsb_plan.specs.declared.object.ObjectId.{ObjectId}
-use Rattle.tsb_plan.specs.declared.version.Version.TheVariants.{One}
+use Rattle.tsb_plan.specs.declared.version.Version.{Version}
+use Rattle.tsb_plan.specs.declared.version.Version.TheVariants.{One, Two}
 use Rattle.tsb_plan.specs.Objects.{objects, indices, greatest}
 use Rattle.tsb_plan.specs.Plan.{Plan}
 use Rattle.tsb_plan.specs.Versions.{is_by_phase, is_in_rows, has_object, indices_in, greatest_in}
@@ -36,17 +37,22 @@ greatest_for n d PedestrianDetectorCallPhase = n
 greatest_for n d SequenceData = n
 greatest_for n d o = greatest o
 
--- the plan has the object at the index
+-- the version of plan texts whose objects a plan has: version 1 with 8 phases
+abbrev pub version_of : Plan → Version
+version_of plan = if plan.phase_count == 8 then One else Two
+
+-- the object has the index where there are so many phases
 abbrev pub has_place : Plan → Object → ℕ → Bool
 has_place plan o i = nat_le 1 i && nat_le i (indices_for plan.phase_count o)
 
 abbrev pub greatest_of : Plan → Object → ℕ
 greatest_of plan o = greatest_for plan.phase_count plan.side_count o
 
--- why the plan does not take a value, if it does not: E2 for the index first, then E3 for the value
+-- why the plan does not take a value, if it does not: E2 for the object and the index first, then E3 for the value
 abbrev pub place_refusal : Plan → ObjectId → ℕ → Option Refusal
 place_refusal plan id v =
-    if has_place plan id.object id.index then (if nat_le v (greatest_of plan id.object) then None else Some OutOfRange)
+    if has_object (version_of plan) id.object && has_place plan id.object id.index
+    then (if nat_le v (greatest_of plan id.object) then None else Some OutOfRange)
     else Some NoSuchObject
 
 -- ## The two tables

@@ -1,11 +1,15 @@
 -- What a tick finds and what it makes of the controller: the layers' definitions joined, in the order in which values are
 -- found. That order is the profile's own. "Was" is before this tick: `s` is the state that was, and `row` the inputs that
 -- are on in the tick. No value is found from one that stands behind it, and no field of the new state from another.
+--
+-- What a layer is told of each phase is told of phases 1 to 16 alone: it is false, or 0, of any other number, as it is in
+-- the sets that the layers tell one another.
 use Rattle.std.specs.Prelude.{ℕ, ◌+◌, Bool, ◌&&◌, if◌then◌else◌, Option, Some, None, option_map}
 use Rattle.tsb_cells.specs.declared.timer.Timer.{Timer}
 use Rattle.tsb_cells.specs.declared.timer.Timer.TheVariants.{Off}
 use Rattle.tsb_types.specs.declared.flow.Moves.{Moves}
 use Rattle.tsb_types.specs.declared.row.Row.{Row}
+use Rattle.tsb_types.specs.Clip.{clipped, within}
 use Rattle.tsb_types.specs.Intervals.{is_green}
 use Rattle.tsb_types.specs.Sets.{has_number}
 use Rattle.tsb_plan.specs.Parts.{call_phase}
@@ -92,7 +96,7 @@ calls_given s row = record {
   interval = interval s;
   pedestrian_part = pedestrian_part s;
   runs = runs s;
-  omitted = omitted s;
+  omitted = clipped (omitted s);
   service_ended = service_ended s row;
 }
 
@@ -113,16 +117,16 @@ pedestrian_call s row = settled.pedestrian_call s.plan (calls_given s row) s.mem
 
 unfoldable pub phases_given : State → Row → phase.Given
 phases_given s row = record {
-  output = calls.has_output s.plan (calls_given s row);
-  conflict = conflict s row;
-  callable = callable s row;
-  pedestrian_call = pedestrian_call s row;
-  count = (set s row).count;
+  output = clipped (calls.has_output s.plan (calls_given s row));
+  conflict = clipped (conflict s row);
+  callable = clipped (callable s row);
+  pedestrian_call = clipped (pedestrian_call s row);
+  count = within 0 (set s row).count;
   runs = runs s;
   service = service s row;
-  hold = hold s;
-  must_end = must_end s row;
-  forced = forced s;
+  hold = clipped (hold s);
+  must_end = clipped (must_end s row);
+  forced = clipped (forced s);
 }
 
 abbrev pub phase_read : State → ℕ → phase.Phase
@@ -149,11 +153,11 @@ unfoldable pub rings_given : State → Row → rings.Given
 rings_given s row = record {
   interval = interval s;
   sequence = λ r. coordination.serving_order s.plan s.pattern (number r);
-  callable = callable s row;
-  omitted = omitted s;
-  ready = ready s row;
-  over = over s;
-  reverted = reverted s;
+  callable = clipped (callable s row);
+  omitted = clipped (omitted s);
+  ready = clipped (ready s row);
+  over = clipped (over s);
+  reverted = clipped (reverted s);
   target = target s row;
 }
 
@@ -171,7 +175,7 @@ abbrev pub done : State → Row → settled.Done
 done s row = record {
   starts = ring_moves.is_started (moves s row);
   ends = ring_moves.is_ended (moves s row);
-  gapped = gapped s row;
+  gapped = clipped (gapped s row);
   service = service s row;
 }
 

@@ -19,7 +19,7 @@ use Rattle.tsb_step.specs.declared.inputs.Input.{Input}
 use Rattle.tsb_step.specs.declared.inputs.Input.TheVariants.{Tick, Pattern, Switch, Fault, Reset, Begin, Set, Verify, Commit, Abort}
 use Rattle.tsb_step.specs.State.{State, interval}
 use Rattle.tsb_step.specs.Signs.{commitment}
-use Rattle.tsb_step.specs.Tables.{indices_for, greatest_for, has_place, place_refusal}
+use Rattle.tsb_step.specs.Tables.{indices_for, greatest_for, version_of, has_place, place_refusal}
 use Rattle.tsb_step.specs.Step.{is_serving, set_refusal, verdict}
 use Rattle.tsb_versions.specs.Widened.{IsNarrow, widened, widened_id, widened_input, IsOfTable, IsWithin, widened_state}
 use Rattle.tsb_versions.proofs.PlanLemmas.{any-same, beyond-narrow}
@@ -113,9 +113,10 @@ wide-range o i has =
         let index : translated One o i ≡ i = rw flat refl in
         within-range (translated One o i) (indices_for 16 o) (omega arith) (omega arith)
 
-not-refused : (plan : Plan) (id : ObjectId) (v : ℕ) → has_place plan id.object id.index ≡ true →
+not-refused : (plan : Plan) (id : ObjectId) (v : ℕ) → has_object (version_of plan) id.object ≡ true →
+    has_place plan id.object id.index ≡ true →
     nat_le v (greatest_for plan.phase_count plan.side_count id.object) ≡ true → place_refusal plan id v ≡ None
-not-refused plan id v has low = rw (has, low) refl
+not-refused plan id v known has low = rw (known, has, low) refl
 
 narrow-place : (plan : Plan) (id : ObjectId) (v : ℕ) → IsNarrow plan → IsOfTable id v → place_refusal plan id v ≡ None
 narrow-place plan id v narrow table =
@@ -123,7 +124,8 @@ narrow-place plan id v narrow table =
     let range : (nat_le 1 id.index && nat_le id.index (indices_in One id.object)) ≡ true = (and_parts (has_object One id.object) _ table.placed).1 in
     let least : v ≤ greatest_in One id.object = table.bounded in
     let low : nat_le v (greatest_in One id.object) ≡ true = grind (arith, nat_tests) in
-    not-refused plan id v (rw (narrow.phase_count, parts.indices) range) (rw (narrow.phase_count, narrow.side_count, parts.values) low)
+    not-refused plan id v (rw narrow.phase_count (and_parts (has_object One id.object) _ table.placed).0)
+    (rw (narrow.phase_count, parts.indices) range) (rw (narrow.phase_count, narrow.side_count, parts.values) low)
 
 wide-place : (plan : Plan) (id : ObjectId) (v : ℕ) → IsOfTable id v → place_refusal (widened plan) (widened_id id) v ≡ None
 wide-place plan id v table =
@@ -131,7 +133,7 @@ wide-place plan id v table =
     let least : v ≤ greatest_in One id.object = table.bounded in
     let most : greatest_in One id.object ≤ greatest_for 16 4 id.object = parts.wide_values in
     let low : nat_le v (greatest_for 16 4 id.object) ≡ true = grind (arith, nat_tests) in
-    not-refused (widened plan) (widened_id id) v (wide-range id.object id.index table.placed) low
+    not-refused (widened plan) (widened_id id) v refl (wide-range id.object id.index table.placed) low
 
 set_refusal-same : (s : State) (station : ℕ) (id : ObjectId) (v : ℕ) → IsNarrowState s → IsOfTable id v →
     set_refusal (widened_state s) station (widened_id id) v ≡ set_refusal s station id v
