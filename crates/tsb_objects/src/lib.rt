@@ -16,7 +16,9 @@ mod unions;
 
 pub use built::is_built;
 pub use checked::Checked;
-pub use tsb_plan::{Object, ObjectId, Plan, Range, SplitMode, Version, is_structural, range_of};
+pub use tsb_plan::{
+    Object, ObjectId, PLAN_CELLS, Plan, Range, SplitMode, Version, is_structural, range_of,
+};
 pub use tsb_rules::{Rule, check, split_end};
 pub use tsb_types::{
     Aspect, Called, Detector, Interval, Intervals, Lamp, Moves, NumberSet, Orders, Overlap,

@@ -5,6 +5,8 @@ use Rattle.std.proofs.lemmas.Bool.{cases_lt}
 use Rattle.std.proofs.lemmas.Bool.Decides.{nat_tests}
 use Rattle.std.proofs.lemmas.List.Sums.{sum_by-cons}
 use Rattle.tsb_plan.specs.declared.object.Object.{Object}
+use Rattle.tsb_plan.specs.declared.object.TheConstants.{PLAN_CELLS}
+use Rattle.tsb_plan.specs.declared.object.TheConstants.Object.{COUNT}
 use Rattle.tsb_plan.specs.declared.object.Object.TheVariants.{PhaseEnabled}
 use Rattle.tsb_plan.specs.Laws.{IsCellOf}
 use Rattle.tsb_types.specs.Lists.{run_from}
@@ -43,24 +45,24 @@ get_or-run_from a zero j below = absurd (omega arith)
 get_or-run_from a (suc n) zero below = omega arith
 get_or-run_from a (suc n) (suc j) below = get_or-run_from (a + 1) n j (omega arith) ∙ (let e : a + 1 + j ≡ a + suc j = omega arith in e)
 
-orders : map order objects ≡ run_from 0 61
+orders : map order objects ≡ run_from 0 COUNT
 unfolding objects run_from
 orders = refl
 
-order-at : (j : ℕ) → j < 61 → order (get_or objects j PhaseEnabled) ≡ j
+order-at : (j : ℕ) → j < COUNT → order (get_or objects j PhaseEnabled) ≡ j
 order-at j below =
-    sym (get_or-map order objects j PhaseEnabled) ∙ ap (λ (ns : List ℕ). get_or ns j 0) orders ∙ get_or-run_from 0 61 j below
+    sym (get_or-map order objects j PhaseEnabled) ∙ ap (λ (ns : List ℕ). get_or ns j 0) orders ∙ get_or-run_from 0 COUNT j below
     ∙ (let e : 0 + j ≡ j = omega arith in e)
 
 is_index : (o : Object) (k : ℕ) → k < indices o → has_index o (k + 1) ≡ true
 is_index o k below = grind (arith, nat_tests)
 
-pub leave_no_cell : (cell : ℕ) → cell < 1230 → (o : Object) × ((i : ℕ) × IsCellOf cell o i)
+pub leave_no_cell : (cell : ℕ) → cell < PLAN_CELLS → (o : Object) × ((i : ℕ) × IsCellOf cell o i)
 unfolding first_cell
 leave_no_cell cell within =
     let found : (j : ℕ) × Reaches indices objects cell j = reaching indices objects cell (rw total within) in
     let o : Object = get_or objects found.0 PhaseEnabled in
-    let short : found.0 < 61 = rw length-objects at found.1.below in
+    let short : found.0 < COUNT = rw length-objects at found.1.below in
     let place : order o ≡ found.0 = order-at found.0 short in
     let before : first_cell o ≡ sum_by indices (take found.0 objects) = ap (λ (n : ℕ). sum_by indices (take n objects)) place in
     let low : sum_by indices (take found.0 objects) ≤ cell = found.1.from in

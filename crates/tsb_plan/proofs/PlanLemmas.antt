@@ -5,6 +5,7 @@ use Rattle.std.proofs.lemmas.Bool.Decides.{nat_tests}
 use Rattle.std.proofs.lemmas.List.{get_or-set_same, get_or-set_other}
 use Rattle.tsb_types.specs.declared.refusal.Refusal.TheVariants.{NoSuchObject, OutOfRange}
 use Rattle.tsb_plan.specs.declared.object.Object.{Object}
+use Rattle.tsb_plan.specs.declared.object.TheConstants.{PLAN_CELLS}
 use Rattle.tsb_plan.specs.declared.object.ObjectId.{ObjectId}
 use Rattle.tsb_plan.specs.Plan.{Plan, empty, with_value, is_same}
 use Rattle.tsb_plan.specs.Objects.{value_in, has_index, first_cell, greatest, AreInRange, order}
@@ -37,7 +38,7 @@ apart-parts : (o p : Object) (i k : ℕ) → is_same o i p k ≡ false → (orde
 apart-parts o p i k e both = grind (arith, nat_tests, both.0, both.1)
 
 -- a value put into the cell of one object and index is read there, and each other value is as it was
-value-put : (cells : List ℕ) (o p : Object) (i k v : ℕ) → length cells ≡ 1230 → has_index o i ≡ true →
+value-put : (cells : List ℕ) (o p : Object) (i k v : ℕ) → length cells ≡ PLAN_CELLS → has_index o i ≡ true →
     value_in (set cells (first_cell o + (i - 1)) v) p k ≡ (if is_same o i p k then v else value_in cells p k)
 value-put cells o p i k v full has = go (has_index p k) refl (is_same o i p k) refl
   where
@@ -46,7 +47,7 @@ value-put cells o p i k v full has = go (has_index p k) refl (is_same o i p k) r
     go true other true it =
         let both : (order o ≡ order p) × (i ≡ k) = same-parts o p i k it in
         let object : o ≡ p = order-injective o p both.0 in
-        let within : first_cell o + (i - 1) < 1230 = cell-within o i has in
+        let within : first_cell o + (i - 1) < PLAN_CELLS = cell-within o i has in
         let at : first_cell p + (k - 1) ≡ first_cell o + (i - 1) = ap (λ (q : Object). first_cell q + (k - 1)) (sym object) ∙ ap (λ (n : ℕ). first_cell o + (n - 1)) (sym both.1) in
         rw at (get_or-set_same cells (first_cell o + (i - 1)) v 0 (rw full within))
     go true other false it =
@@ -57,13 +58,13 @@ value-put cells o p i k v full has = go (has_index p k) refl (is_same o i p k) r
         absurd (both_ways (sym other ∙ ap (λ (q : Object). has_index q k) (sym (order-injective o p both.0)) ∙ ap (has_index o) (sym both.1) ∙ has))
     go false other false it = refl
 
-pub plan-put : (cells : List ℕ) (o : Object) (i v at : ℕ) → at ≡ first_cell o + (i - 1) → length cells ≡ 1230 → has_index o i ≡ true →
+pub plan-put : (cells : List ℕ) (o : Object) (i v at : ℕ) → at ≡ first_cell o + (i - 1) → length cells ≡ PLAN_CELLS → has_index o i ≡ true →
     plan_in (set cells at v) ≡ with_value (plan_in cells) o i v
 plan-put cells o i v at place full has =
     rw place (ap (λ (f : Object → ℕ → ℕ). let made : Plan = record { phase_count = 16; side_count = 4; value = f } in made)
     (fun_ext (λ p. fun_ext (λ k. value-put cells o p i k v full has))))
 
-pub in_range-put : (cells : List ℕ) (o : Object) (i v at : ℕ) → at ≡ first_cell o + (i - 1) → length cells ≡ 1230 → has_index o i ≡ true → v ≤ greatest o →
+pub in_range-put : (cells : List ℕ) (o : Object) (i v at : ℕ) → at ≡ first_cell o + (i - 1) → length cells ≡ PLAN_CELLS → has_index o i ≡ true → v ≤ greatest o →
     AreInRange cells → AreInRange (set cells at v)
 in_range-put cells o i v at place full has fits ranged = rw place (record { each = λ p k. rw (value-put cells o p i k v full has) (go p k (is_same o i p k) refl) })
   where

@@ -3,6 +3,7 @@
 use Rattle.std.specs.Prelude.{◌≡◌, ◌≢◌, ℕ, ◌+◌, ◌-◌, ◌<◌, true, Ok, None}
 use Rattle.tsb_plan.specs.declared.object.Object.{Object}
 use Rattle.tsb_plan.specs.declared.object.ObjectId.{ObjectId}
+use Rattle.tsb_plan.specs.declared.object.TheConstants.{PLAN_CELLS}
 use Rattle.tsb_plan.specs.Objects.{has_index, first_cell}
 use Rattle.tsb_plan.specs.Plan.{Plan, with_value}
 use Rattle.tsb_plan.specs.PlanOf.{got, put_refusal}
@@ -12,17 +13,17 @@ pub record IsCellOf (cell : ℕ) (o : Object) (i : ℕ) : Type 0 where
   pub has : has_index o i ≡ true
   pub at : first_cell o + (i - 1) ≡ cell
 
--- each object has a cell at each of its indices, one of 1230
+-- each object has a cell at each of its indices, one of the plan's
 abbrev pub HaveCells : Type 0
-HaveCells = (o : Object) (i : ℕ) → has_index o i ≡ true → first_cell o + (i - 1) < 1230
+HaveCells = (o : Object) (i : ℕ) → has_index o i ≡ true → first_cell o + (i - 1) < PLAN_CELLS
 
 -- no cell is that of two
 abbrev pub ShareNoCell : Type 0
 ShareNoCell = (cell : ℕ) (o p : Object) (i k : ℕ) → IsCellOf cell o i → IsCellOf cell p k → (o ≡ p) × (i ≡ k)
 
--- each of the 1230 cells is that of some object at some index
+-- each of the plan's cells is that of some object at some index
 abbrev pub LeaveNoCell : Type 0
-LeaveNoCell = (cell : ℕ) → cell < 1230 → (o : Object) × ((i : ℕ) × IsCellOf cell o i)
+LeaveNoCell = (cell : ℕ) → cell < PLAN_CELLS → (o : Object) × ((i : ℕ) × IsCellOf cell o i)
 
 -- what is put is given back
 abbrev pub GiveBackWhatIsPut : Type 0

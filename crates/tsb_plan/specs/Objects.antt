@@ -1,277 +1,128 @@
--- The objects of a plan, in the order in which their cells stand: how many indices each has and its greatest value.
--- Names are those of NTCIP 1202; ranges of detector, pattern and preempt objects are the profile's.
-use Rattle.std.specs.Prelude.{ℕ, ◌+◌, ◌-◌, ◌≤◌, Bool, true, false, ◌&&◌, nat_le, if◌then◌else◌, List, [], ◌∷◌, sum_by, take, slice_index}
+-- The table of objects of a plan, in the order in which their cells stand: the name of each, how many indices it has
+-- and its greatest value, and what version 1 of plan texts has of it. Names are those of NTCIP 1202; ranges of
+-- detector, pattern and preempt objects are the profile's.
+use Rattle.std.specs.Prelude.{ℕ, ◌+◌, ◌-◌, ◌≤◌, Bool, true, false, ◌&&◌, nat_le, if◌then◌else◌, List, Option, Some, None, codes, sum_by, take, slice_index}
 use Rattle.tsb_plan.specs.declared.object.Object.{Object}
 use Rattle.tsb_plan.specs.declared.object.Object.TheVariants.{PhaseEnabled, PhaseNonLock, PhaseMinRecall, PhaseMaxRecall, PhasePedRecall, PhaseSoftRecall, PhaseDualEntry, PhaseSimGapDisable, PhaseRestInWalk, PhaseVariableInitial, PhaseRing, PhaseSide, PhaseConcurrency, PhaseWalk, PhasePedestrianClear, PhaseMinimumGreen, PhaseMaximum1, PhaseMaximum2, PhaseMaximumInitial, PhaseTimeBeforeReduction, PhaseTimeToReduce, PhasePassage, PhaseYellowChange, PhaseRedClear, PhaseRedRevert, PhaseAddedInitial, PhaseMinimumGap, PhaseCarsBeforeReduction, VehicleDetectorCallPhase, VehicleDetectorDelay, VehicleDetectorExtend, VehicleDetectorNoActivity, VehicleDetectorMaxPresence, VehicleDetectorErraticCounts, VehicleDetectorFailTime, PedestrianDetectorCallPhase, OverlapIncludedPhases, PatternCycleTime, PatternOffsetTime, PatternSplitNumber, PatternSequenceNumber, SplitTime, SplitMode, SplitCoordPhase, SequenceData, PreemptDelay, PreemptMinimumDuration, PreemptMaximumPresence, PreemptMinimumGreen, PreemptMinimumWalk, PreemptEnterPedClear, PreemptTrackGreen, PreemptTrackPhase, PreemptDwellPhase, PreemptExitPhase, UnitRedRevert, UnitMax2, PhaseDynamicMaxLimit, PhaseDynamicMaxStep, OverlapType, OverlapModifierPhases}
+use Rattle.tsb_plan.specs.declared.object.Range.{Range}
+use Rattle.tsb_plan.specs.declared.object.TheConstants.Object.{ALL}
 
--- all objects, in order
+-- what there is to know of an object
+pub record ObjectRow : Type 0 where
+  -- its place among all objects, from 0
+  pub place : ℕ
+  -- its name, as plan texts have it
+  pub name : List ℕ
+  -- its indices, from 1 on, and its values, from 0 on, in a plan
+  pub range : Range
+  -- those in version 1 of plan texts, or `None` where that has no such object
+  pub in_version_1 : Option Range
+  -- a commit that changes it is refused while a phase is in service
+  pub is_structural : Bool
+
+-- the indices from 1 to the first number, and the values from 0 to the second
+abbrev to : ℕ → ℕ → Range
+to i v = record { indices = i; greatest = v }
+
+abbrev in_1 : ℕ → ℕ → Option Range
+in_1 i v = Some (to i v)
+
+abbrev absent : Option Range
+absent = None
+
+abbrev structural : Bool
+structural = true
+
+abbrev free : Bool
+free = false
+
+abbrev object : ℕ → List ℕ → Range → Option Range → Bool → ObjectRow
+object k n r one s = record { place = k; name = n; range = r; in_version_1 = one; is_structural = s }
+
+-- THE TABLE OF OBJECTS: the place of each, its name, how many indices it has and its greatest value in a plan, those in
+-- version 1, and whether it is structural
+abbrev pub row : Object → ObjectRow
+row PhaseEnabled = object 0 (codes "phaseEnabled") (to 16 1) (in_1 8 1) structural
+row PhaseNonLock = object 1 (codes "phaseNonLock") (to 16 1) (in_1 8 1) free
+row PhaseMinRecall = object 2 (codes "phaseMinRecall") (to 16 1) (in_1 8 1) free
+row PhaseMaxRecall = object 3 (codes "phaseMaxRecall") (to 16 1) (in_1 8 1) free
+row PhasePedRecall = object 4 (codes "phasePedRecall") (to 16 1) (in_1 8 1) free
+row PhaseSoftRecall = object 5 (codes "phaseSoftRecall") (to 16 1) (in_1 8 1) free
+row PhaseDualEntry = object 6 (codes "phaseDualEntry") (to 16 1) (in_1 8 1) free
+row PhaseSimGapDisable = object 7 (codes "phaseSimGapDisable") (to 16 1) (in_1 8 1) free
+row PhaseRestInWalk = object 8 (codes "phaseRestInWalk") (to 16 1) (in_1 8 1) free
+row PhaseVariableInitial = object 9 (codes "phaseVariableInitial") (to 16 1) (in_1 8 1) free
+row PhaseRing = object 10 (codes "phaseRing") (to 16 2) (in_1 8 2) structural
+row PhaseSide = object 11 (codes "phaseSide") (to 16 4) (in_1 8 2) structural
+row PhaseConcurrency = object 12 (codes "phaseConcurrency") (to 16 65535) (in_1 8 255) structural
+row PhaseWalk = object 13 (codes "phaseWalk") (to 16 255) (in_1 8 255) free
+row PhasePedestrianClear = object 14 (codes "phasePedestrianClear") (to 16 255) (in_1 8 255) free
+row PhaseMinimumGreen = object 15 (codes "phaseMinimumGreen") (to 16 255) (in_1 8 255) free
+row PhaseMaximum1 = object 16 (codes "phaseMaximum1") (to 16 255) (in_1 8 255) free
+row PhaseMaximum2 = object 17 (codes "phaseMaximum2") (to 16 255) (in_1 8 255) free
+row PhaseMaximumInitial = object 18 (codes "phaseMaximumInitial") (to 16 255) (in_1 8 255) free
+row PhaseTimeBeforeReduction = object 19 (codes "phaseTimeBeforeReduction") (to 16 255) (in_1 8 255) free
+row PhaseTimeToReduce = object 20 (codes "phaseTimeToReduce") (to 16 255) (in_1 8 255) free
+row PhasePassage = object 21 (codes "phasePassage") (to 16 255) (in_1 8 255) free
+row PhaseYellowChange = object 22 (codes "phaseYellowChange") (to 16 255) (in_1 8 255) free
+row PhaseRedClear = object 23 (codes "phaseRedClear") (to 16 255) (in_1 8 255) free
+row PhaseRedRevert = object 24 (codes "phaseRedRevert") (to 16 255) (in_1 8 255) free
+row PhaseAddedInitial = object 25 (codes "phaseAddedInitial") (to 16 255) (in_1 8 255) free
+row PhaseMinimumGap = object 26 (codes "phaseMinimumGap") (to 16 255) (in_1 8 255) free
+row PhaseCarsBeforeReduction = object 27 (codes "phaseCarsBeforeReduction") (to 16 255) (in_1 8 255) free
+row VehicleDetectorCallPhase = object 28 (codes "vehicleDetectorCallPhase") (to 16 16) (in_1 16 8) free
+row VehicleDetectorDelay = object 29 (codes "vehicleDetectorDelay") (to 16 2550) (in_1 16 2550) free
+row VehicleDetectorExtend = object 30 (codes "vehicleDetectorExtend") (to 16 255) (in_1 16 255) free
+row VehicleDetectorNoActivity = object 31 (codes "vehicleDetectorNoActivity") (to 16 255) (in_1 16 255) free
+row VehicleDetectorMaxPresence = object 32 (codes "vehicleDetectorMaxPresence") (to 16 255) (in_1 16 255) free
+row VehicleDetectorErraticCounts = object 33 (codes "vehicleDetectorErraticCounts") (to 16 255) (in_1 16 255) free
+row VehicleDetectorFailTime = object 34 (codes "vehicleDetectorFailTime") (to 16 255) (in_1 16 255) free
+row PedestrianDetectorCallPhase = object 35 (codes "pedestrianDetectorCallPhase") (to 8 16) (in_1 8 8) free
+row OverlapIncludedPhases = object 36 (codes "overlapIncludedPhases") (to 4 65535) (in_1 4 255) structural
+row PatternCycleTime = object 37 (codes "patternCycleTime") (to 16 255) (in_1 16 255) free
+row PatternOffsetTime = object 38 (codes "patternOffsetTime") (to 16 254) (in_1 16 254) free
+row PatternSplitNumber = object 39 (codes "patternSplitNumber") (to 16 8) (in_1 16 8) free
+row PatternSequenceNumber = object 40 (codes "patternSequenceNumber") (to 16 4) (in_1 16 4) free
+row SplitTime = object 41 (codes "splitTime") (to 128 255) (in_1 64 255) free
+row SplitMode = object 42 (codes "splitMode") (to 128 5) (in_1 64 5) free
+row SplitCoordPhase = object 43 (codes "splitCoordPhase") (to 128 1) (in_1 64 1) free
+row SequenceData = object 44 (codes "sequenceData") (to 128 16) (in_1 64 8) free
+row PreemptDelay = object 45 (codes "preemptDelay") (to 4 600) (in_1 4 600) free
+row PreemptMinimumDuration = object 46 (codes "preemptMinimumDuration") (to 4 65535) (in_1 4 65535) free
+row PreemptMaximumPresence = object 47 (codes "preemptMaximumPresence") (to 4 65535) (in_1 4 65535) free
+row PreemptMinimumGreen = object 48 (codes "preemptMinimumGreen") (to 4 255) (in_1 4 255) free
+row PreemptMinimumWalk = object 49 (codes "preemptMinimumWalk") (to 4 255) (in_1 4 255) free
+row PreemptEnterPedClear = object 50 (codes "preemptEnterPedClear") (to 4 255) (in_1 4 255) free
+row PreemptTrackGreen = object 51 (codes "preemptTrackGreen") (to 4 255) (in_1 4 255) free
+row PreemptTrackPhase = object 52 (codes "preemptTrackPhase") (to 4 65535) (in_1 4 255) free
+row PreemptDwellPhase = object 53 (codes "preemptDwellPhase") (to 4 65535) (in_1 4 255) free
+row PreemptExitPhase = object 54 (codes "preemptExitPhase") (to 4 65535) (in_1 4 255) free
+row UnitRedRevert = object 55 (codes "unitRedRevert") (to 1 255) (in_1 1 255) free
+row UnitMax2 = object 56 (codes "unitMax2") (to 1 1) (in_1 1 1) free
+row PhaseDynamicMaxLimit = object 57 (codes "phaseDynamicMaxLimit") (to 16 255) absent free
+row PhaseDynamicMaxStep = object 58 (codes "phaseDynamicMaxStep") (to 16 255) absent free
+row OverlapType = object 59 (codes "overlapType") (to 4 1) absent structural
+row OverlapModifierPhases = object 60 (codes "overlapModifierPhases") (to 4 65535) absent structural
+
+-- all objects, in the order of their places
 unfoldable pub objects : List Object
-objects =
-    PhaseEnabled ∷
-    PhaseNonLock ∷
-    PhaseMinRecall ∷
-    PhaseMaxRecall ∷
-    PhasePedRecall ∷
-    PhaseSoftRecall ∷
-    PhaseDualEntry ∷
-    PhaseSimGapDisable ∷
-    PhaseRestInWalk ∷
-    PhaseVariableInitial ∷
-    PhaseRing ∷
-    PhaseSide ∷
-    PhaseConcurrency ∷
-    PhaseWalk ∷
-    PhasePedestrianClear ∷
-    PhaseMinimumGreen ∷
-    PhaseMaximum1 ∷
-    PhaseMaximum2 ∷
-    PhaseMaximumInitial ∷
-    PhaseTimeBeforeReduction ∷
-    PhaseTimeToReduce ∷
-    PhasePassage ∷
-    PhaseYellowChange ∷
-    PhaseRedClear ∷
-    PhaseRedRevert ∷
-    PhaseAddedInitial ∷
-    PhaseMinimumGap ∷
-    PhaseCarsBeforeReduction ∷
-    VehicleDetectorCallPhase ∷
-    VehicleDetectorDelay ∷
-    VehicleDetectorExtend ∷
-    VehicleDetectorNoActivity ∷
-    VehicleDetectorMaxPresence ∷
-    VehicleDetectorErraticCounts ∷
-    VehicleDetectorFailTime ∷
-    PedestrianDetectorCallPhase ∷
-    OverlapIncludedPhases ∷
-    PatternCycleTime ∷
-    PatternOffsetTime ∷
-    PatternSplitNumber ∷
-    PatternSequenceNumber ∷
-    SplitTime ∷
-    SplitMode ∷
-    SplitCoordPhase ∷
-    SequenceData ∷
-    PreemptDelay ∷
-    PreemptMinimumDuration ∷
-    PreemptMaximumPresence ∷
-    PreemptMinimumGreen ∷
-    PreemptMinimumWalk ∷
-    PreemptEnterPedClear ∷
-    PreemptTrackGreen ∷
-    PreemptTrackPhase ∷
-    PreemptDwellPhase ∷
-    PreemptExitPhase ∷
-    UnitRedRevert ∷
-    UnitMax2 ∷
-    PhaseDynamicMaxLimit ∷
-    PhaseDynamicMaxStep ∷
-    OverlapType ∷
-    OverlapModifierPhases ∷
-    []
+objects = ALL
 
 -- the object's place in that order, from 0
 abbrev pub order : Object → ℕ
-order PhaseEnabled = 0
-order PhaseNonLock = 1
-order PhaseMinRecall = 2
-order PhaseMaxRecall = 3
-order PhasePedRecall = 4
-order PhaseSoftRecall = 5
-order PhaseDualEntry = 6
-order PhaseSimGapDisable = 7
-order PhaseRestInWalk = 8
-order PhaseVariableInitial = 9
-order PhaseRing = 10
-order PhaseSide = 11
-order PhaseConcurrency = 12
-order PhaseWalk = 13
-order PhasePedestrianClear = 14
-order PhaseMinimumGreen = 15
-order PhaseMaximum1 = 16
-order PhaseMaximum2 = 17
-order PhaseMaximumInitial = 18
-order PhaseTimeBeforeReduction = 19
-order PhaseTimeToReduce = 20
-order PhasePassage = 21
-order PhaseYellowChange = 22
-order PhaseRedClear = 23
-order PhaseRedRevert = 24
-order PhaseAddedInitial = 25
-order PhaseMinimumGap = 26
-order PhaseCarsBeforeReduction = 27
-order VehicleDetectorCallPhase = 28
-order VehicleDetectorDelay = 29
-order VehicleDetectorExtend = 30
-order VehicleDetectorNoActivity = 31
-order VehicleDetectorMaxPresence = 32
-order VehicleDetectorErraticCounts = 33
-order VehicleDetectorFailTime = 34
-order PedestrianDetectorCallPhase = 35
-order OverlapIncludedPhases = 36
-order PatternCycleTime = 37
-order PatternOffsetTime = 38
-order PatternSplitNumber = 39
-order PatternSequenceNumber = 40
-order SplitTime = 41
-order SplitMode = 42
-order SplitCoordPhase = 43
-order SequenceData = 44
-order PreemptDelay = 45
-order PreemptMinimumDuration = 46
-order PreemptMaximumPresence = 47
-order PreemptMinimumGreen = 48
-order PreemptMinimumWalk = 49
-order PreemptEnterPedClear = 50
-order PreemptTrackGreen = 51
-order PreemptTrackPhase = 52
-order PreemptDwellPhase = 53
-order PreemptExitPhase = 54
-order UnitRedRevert = 55
-order UnitMax2 = 56
-order PhaseDynamicMaxLimit = 57
-order PhaseDynamicMaxStep = 58
-order OverlapType = 59
-order OverlapModifierPhases = 60
+order o = (row o).place
 
 -- how many indices the object has, from 1 on
 abbrev pub indices : Object → ℕ
-indices PhaseEnabled = 16
-indices PhaseNonLock = 16
-indices PhaseMinRecall = 16
-indices PhaseMaxRecall = 16
-indices PhasePedRecall = 16
-indices PhaseSoftRecall = 16
-indices PhaseDualEntry = 16
-indices PhaseSimGapDisable = 16
-indices PhaseRestInWalk = 16
-indices PhaseVariableInitial = 16
-indices PhaseRing = 16
-indices PhaseSide = 16
-indices PhaseConcurrency = 16
-indices PhaseWalk = 16
-indices PhasePedestrianClear = 16
-indices PhaseMinimumGreen = 16
-indices PhaseMaximum1 = 16
-indices PhaseMaximum2 = 16
-indices PhaseMaximumInitial = 16
-indices PhaseTimeBeforeReduction = 16
-indices PhaseTimeToReduce = 16
-indices PhasePassage = 16
-indices PhaseYellowChange = 16
-indices PhaseRedClear = 16
-indices PhaseRedRevert = 16
-indices PhaseAddedInitial = 16
-indices PhaseMinimumGap = 16
-indices PhaseCarsBeforeReduction = 16
-indices VehicleDetectorCallPhase = 16
-indices VehicleDetectorDelay = 16
-indices VehicleDetectorExtend = 16
-indices VehicleDetectorNoActivity = 16
-indices VehicleDetectorMaxPresence = 16
-indices VehicleDetectorErraticCounts = 16
-indices VehicleDetectorFailTime = 16
-indices PedestrianDetectorCallPhase = 8
-indices OverlapIncludedPhases = 4
-indices PatternCycleTime = 16
-indices PatternOffsetTime = 16
-indices PatternSplitNumber = 16
-indices PatternSequenceNumber = 16
-indices SplitTime = 128
-indices SplitMode = 128
-indices SplitCoordPhase = 128
-indices SequenceData = 128
-indices PreemptDelay = 4
-indices PreemptMinimumDuration = 4
-indices PreemptMaximumPresence = 4
-indices PreemptMinimumGreen = 4
-indices PreemptMinimumWalk = 4
-indices PreemptEnterPedClear = 4
-indices PreemptTrackGreen = 4
-indices PreemptTrackPhase = 4
-indices PreemptDwellPhase = 4
-indices PreemptExitPhase = 4
-indices UnitRedRevert = 1
-indices UnitMax2 = 1
-indices PhaseDynamicMaxLimit = 16
-indices PhaseDynamicMaxStep = 16
-indices OverlapType = 4
-indices OverlapModifierPhases = 4
+indices o = (row o).range.indices
 
 -- the greatest value of the object; the least is 0
 abbrev pub greatest : Object → ℕ
-greatest PhaseEnabled = 1
-greatest PhaseNonLock = 1
-greatest PhaseMinRecall = 1
-greatest PhaseMaxRecall = 1
-greatest PhasePedRecall = 1
-greatest PhaseSoftRecall = 1
-greatest PhaseDualEntry = 1
-greatest PhaseSimGapDisable = 1
-greatest PhaseRestInWalk = 1
-greatest PhaseVariableInitial = 1
-greatest PhaseRing = 2
-greatest PhaseSide = 4
-greatest PhaseConcurrency = 65535
-greatest PhaseWalk = 255
-greatest PhasePedestrianClear = 255
-greatest PhaseMinimumGreen = 255
-greatest PhaseMaximum1 = 255
-greatest PhaseMaximum2 = 255
-greatest PhaseMaximumInitial = 255
-greatest PhaseTimeBeforeReduction = 255
-greatest PhaseTimeToReduce = 255
-greatest PhasePassage = 255
-greatest PhaseYellowChange = 255
-greatest PhaseRedClear = 255
-greatest PhaseRedRevert = 255
-greatest PhaseAddedInitial = 255
-greatest PhaseMinimumGap = 255
-greatest PhaseCarsBeforeReduction = 255
-greatest VehicleDetectorCallPhase = 16
-greatest VehicleDetectorDelay = 2550
-greatest VehicleDetectorExtend = 255
-greatest VehicleDetectorNoActivity = 255
-greatest VehicleDetectorMaxPresence = 255
-greatest VehicleDetectorErraticCounts = 255
-greatest VehicleDetectorFailTime = 255
-greatest PedestrianDetectorCallPhase = 16
-greatest OverlapIncludedPhases = 65535
-greatest PatternCycleTime = 255
-greatest PatternOffsetTime = 254
-greatest PatternSplitNumber = 8
-greatest PatternSequenceNumber = 4
-greatest SplitTime = 255
-greatest SplitMode = 5
-greatest SplitCoordPhase = 1
-greatest SequenceData = 16
-greatest PreemptDelay = 600
-greatest PreemptMinimumDuration = 65535
-greatest PreemptMaximumPresence = 65535
-greatest PreemptMinimumGreen = 255
-greatest PreemptMinimumWalk = 255
-greatest PreemptEnterPedClear = 255
-greatest PreemptTrackGreen = 255
-greatest PreemptTrackPhase = 65535
-greatest PreemptDwellPhase = 65535
-greatest PreemptExitPhase = 65535
-greatest UnitRedRevert = 255
-greatest UnitMax2 = 1
-greatest PhaseDynamicMaxLimit = 255
-greatest PhaseDynamicMaxStep = 255
-greatest OverlapType = 1
-greatest OverlapModifierPhases = 65535
+greatest o = (row o).range.greatest
 
 -- a commit that changes the object is refused while a phase is in service
 abbrev pub is_structural : Object → Bool
-is_structural PhaseRing = true
-is_structural PhaseSide = true
-is_structural PhaseConcurrency = true
-is_structural PhaseEnabled = true
-is_structural OverlapIncludedPhases = true
-is_structural OverlapType = true
-is_structural OverlapModifierPhases = true
-is_structural o = false
+is_structural o = (row o).is_structural
 
 -- the object's cells stand after those of the objects before it
 unfoldable pub first_cell : Object → ℕ

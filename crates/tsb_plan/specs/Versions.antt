@@ -1,20 +1,17 @@
 -- The two versions of plan texts: which objects each has, at how many indices, up to which value, and the index in
 -- version 2 of what a text names. Version 2 is the table of objects; here stands how version 1 differs.
-use Rattle.std.specs.Prelude.{ℕ, ◌+◌, ◌-◌, ◌*◌, ◌/◌, ◌%◌, Bool, true, false, ◌&&◌, nat_le, if◌then◌else◌, Option, Some, None}
+use Rattle.std.specs.Prelude.{ℕ, ◌+◌, ◌-◌, ◌*◌, ◌/◌, ◌%◌, Bool, true, false, ◌&&◌, nat_le, if◌then◌else◌, Option, Some, None, is_some}
 use Rattle.tsb_plan.specs.declared.object.Object.{Object}
-use Rattle.tsb_plan.specs.declared.object.Object.TheVariants.{PhaseCarsBeforeReduction, PhaseSide, PhaseConcurrency, VehicleDetectorCallPhase, PedestrianDetectorCallPhase, OverlapIncludedPhases, SplitTime, SplitMode, SplitCoordPhase, SequenceData, PreemptTrackPhase, PreemptDwellPhase, PreemptExitPhase, PhaseDynamicMaxLimit, PhaseDynamicMaxStep, OverlapType, OverlapModifierPhases}
+use Rattle.tsb_plan.specs.declared.object.Object.TheVariants.{PhaseCarsBeforeReduction, SplitTime, SplitMode, SplitCoordPhase, SequenceData}
 use Rattle.tsb_plan.specs.declared.object.Range.{Range}
 use Rattle.tsb_plan.specs.declared.version.Version.{Version}
 use Rattle.tsb_plan.specs.declared.version.Version.TheVariants.{One, Two}
-use Rattle.tsb_plan.specs.Objects.{order, indices, greatest}
+use Rattle.tsb_plan.specs.Objects.{order, row}
 
 -- the version's texts may name the object
 abbrev pub has_object : Version → Object → Bool
-has_object One PhaseDynamicMaxLimit = false
-has_object One PhaseDynamicMaxStep = false
-has_object One OverlapType = false
-has_object One OverlapModifierPhases = false
-has_object v o = true
+has_object One o = is_some (row o).in_version_1
+has_object Two o = true
 
 -- its index is a phase, in version 1 too: from phaseEnabled to phaseCarsBeforeReduction
 abbrev pub is_by_phase : Object → Bool
@@ -32,23 +29,22 @@ abbrev pub is_in_rows : Object → Bool
 is_in_rows SequenceData = true
 is_in_rows o = is_split o
 
--- how many indices the object has, from 1 on: a row of version 1 is 8 long, and one of version 2 16
+-- the range of version 1, and that of a plan where version 1 has none
+abbrev or_else : Option Range → Range → Range
+or_else (Some narrow) wide = narrow
+or_else None wide = wide
+
+abbrev range_of : Version → Object → Range
+range_of One o = or_else (row o).in_version_1 (row o).range
+range_of Two o = (row o).range
+
+-- how many indices the object has, from 1 on
 abbrev pub indices_in : Version → Object → ℕ
-indices_in One o = if is_by_phase o then 8 else if is_in_rows o then 64 else indices o
-indices_in Two o = indices o
+indices_in v o = (range_of v o).indices
 
 -- the greatest value of the object; the least is 0
 abbrev pub greatest_in : Version → Object → ℕ
-greatest_in One PhaseSide = 2
-greatest_in One PhaseConcurrency = 255
-greatest_in One OverlapIncludedPhases = 255
-greatest_in One PreemptTrackPhase = 255
-greatest_in One PreemptDwellPhase = 255
-greatest_in One PreemptExitPhase = 255
-greatest_in One VehicleDetectorCallPhase = 8
-greatest_in One PedestrianDetectorCallPhase = 8
-greatest_in One SequenceData = 8
-greatest_in v o = greatest o
+greatest_in v o = (range_of v o).greatest
 
 -- the object's range in the version, or `None` where the version has no such object
 abbrev pub range_in : Version → Object → Option Range

@@ -11,6 +11,6 @@ pub mod plan;
 pub mod version;
 pub mod version_laws;
 
-pub use object::{Object, ObjectId, Range, is_structural, range_of};
+pub use object::{Object, ObjectId, PLAN_CELLS, Range, is_structural, range_of};
 pub use plan::{Plan, SplitMode};
 pub use version::Version;

@@ -3,7 +3,7 @@ ghost use Rattle.std.specs.Prelude.{◌≡◌, ◌↔◌, Some, None};
 ghost use Rattle.tsb_plan.specs.declared.object.Object.{Object};
 ghost use Rattle.tsb_plan.specs.Names.{name_of, object_named, IsNamed};
 
-use crate::object::Object;
+use crate::object::{Object, TABLE};
 use crate::version::Version;
 
 impl Object {
@@ -11,69 +11,7 @@ impl Object {
     pub fn name(self) -> &'static str
         ensures { result.now ≡ name_of self }
     {
-        match self {
-            Object::PhaseEnabled => "phaseEnabled",
-            Object::PhaseNonLock => "phaseNonLock",
-            Object::PhaseMinRecall => "phaseMinRecall",
-            Object::PhaseMaxRecall => "phaseMaxRecall",
-            Object::PhasePedRecall => "phasePedRecall",
-            Object::PhaseSoftRecall => "phaseSoftRecall",
-            Object::PhaseDualEntry => "phaseDualEntry",
-            Object::PhaseSimGapDisable => "phaseSimGapDisable",
-            Object::PhaseRestInWalk => "phaseRestInWalk",
-            Object::PhaseVariableInitial => "phaseVariableInitial",
-            Object::PhaseRing => "phaseRing",
-            Object::PhaseSide => "phaseSide",
-            Object::PhaseConcurrency => "phaseConcurrency",
-            Object::PhaseWalk => "phaseWalk",
-            Object::PhasePedestrianClear => "phasePedestrianClear",
-            Object::PhaseMinimumGreen => "phaseMinimumGreen",
-            Object::PhaseMaximum1 => "phaseMaximum1",
-            Object::PhaseMaximum2 => "phaseMaximum2",
-            Object::PhaseMaximumInitial => "phaseMaximumInitial",
-            Object::PhaseTimeBeforeReduction => "phaseTimeBeforeReduction",
-            Object::PhaseTimeToReduce => "phaseTimeToReduce",
-            Object::PhasePassage => "phasePassage",
-            Object::PhaseYellowChange => "phaseYellowChange",
-            Object::PhaseRedClear => "phaseRedClear",
-            Object::PhaseRedRevert => "phaseRedRevert",
-            Object::PhaseAddedInitial => "phaseAddedInitial",
-            Object::PhaseMinimumGap => "phaseMinimumGap",
-            Object::PhaseCarsBeforeReduction => "phaseCarsBeforeReduction",
-            Object::VehicleDetectorCallPhase => "vehicleDetectorCallPhase",
-            Object::VehicleDetectorDelay => "vehicleDetectorDelay",
-            Object::VehicleDetectorExtend => "vehicleDetectorExtend",
-            Object::VehicleDetectorNoActivity => "vehicleDetectorNoActivity",
-            Object::VehicleDetectorMaxPresence => "vehicleDetectorMaxPresence",
-            Object::VehicleDetectorErraticCounts => "vehicleDetectorErraticCounts",
-            Object::VehicleDetectorFailTime => "vehicleDetectorFailTime",
-            Object::PedestrianDetectorCallPhase => "pedestrianDetectorCallPhase",
-            Object::OverlapIncludedPhases => "overlapIncludedPhases",
-            Object::PatternCycleTime => "patternCycleTime",
-            Object::PatternOffsetTime => "patternOffsetTime",
-            Object::PatternSplitNumber => "patternSplitNumber",
-            Object::PatternSequenceNumber => "patternSequenceNumber",
-            Object::SplitTime => "splitTime",
-            Object::SplitMode => "splitMode",
-            Object::SplitCoordPhase => "splitCoordPhase",
-            Object::SequenceData => "sequenceData",
-            Object::PreemptDelay => "preemptDelay",
-            Object::PreemptMinimumDuration => "preemptMinimumDuration",
-            Object::PreemptMaximumPresence => "preemptMaximumPresence",
-            Object::PreemptMinimumGreen => "preemptMinimumGreen",
-            Object::PreemptMinimumWalk => "preemptMinimumWalk",
-            Object::PreemptEnterPedClear => "preemptEnterPedClear",
-            Object::PreemptTrackGreen => "preemptTrackGreen",
-            Object::PreemptTrackPhase => "preemptTrackPhase",
-            Object::PreemptDwellPhase => "preemptDwellPhase",
-            Object::PreemptExitPhase => "preemptExitPhase",
-            Object::UnitRedRevert => "unitRedRevert",
-            Object::UnitMax2 => "unitMax2",
-            Object::PhaseDynamicMaxLimit => "phaseDynamicMaxLimit",
-            Object::PhaseDynamicMaxStep => "phaseDynamicMaxStep",
-            Object::OverlapType => "overlapType",
-            Object::OverlapModifierPhases => "overlapModifierPhases",
-        }
+        TABLE[self as usize].name
     }
 
     /// The object that has this name in plan texts of the version, or `None` where no object of the

@@ -1,4 +1,4 @@
-//! The objects of a plan: their names, how many indices each has, and which values it takes.
+//! The objects of a plan, and the table of what there is to know of each.
 ghost use Rattle.std.specs.Prelude.{◌≡◌};
 ghost use Rattle.tsb_plan.specs.Objects.{indices, greatest, first_cell, is_structural};
 
@@ -137,73 +137,205 @@ pub enum Object {
     OverlapModifierPhases,
 }
 
+/// What there is to know of an object. Its least value is 0, which stands where a plan gives none.
+#[derive(Clone, Copy)]
+pub(crate) struct ObjectRow {
+    /// Its name, as NTCIP 1202 and plan texts have it.
+    pub(crate) name: &'static str,
+    /// The plan's cell that holds its value at index 1; those at 2, 3, .. follow it.
+    pub(crate) first_cell: usize,
+    /// Its indices and values in a plan and in plan texts of version 2: with 16 phases and 4 sides.
+    pub(crate) range: Range,
+    /// Whether plan texts of version 1 have it.
+    pub(crate) is_in_version_1: bool,
+    /// Its indices and values in plan texts of version 1, with 8 phases and 2 sides; where these do not have
+    /// it, those in a plan.
+    pub(crate) narrow_range: Range,
+    /// Whether a commit that changes it is refused while a phase is in service (profile).
+    pub(crate) is_structural: bool,
+}
+
+/// THE TABLE OF OBJECTS, each row as the macro that is named takes it: the object, its name in plan texts,
+/// its first cell, its number of indices and greatest value in a plan, those in version 1 of plan texts,
+/// and whether it is structural.
+///
+/// The order is that of the objects' cells in a plan. An object's first cell is behind the cells of the one
+/// before it.
+macro_rules! table {
+    ($column:ident) => {
+        $column! {
+            PhaseEnabled                "phaseEnabled"                    0 [16 1]      [8 1]       structural
+            PhaseNonLock                "phaseNonLock"                   16 [16 1]      [8 1]       free
+            PhaseMinRecall              "phaseMinRecall"                 32 [16 1]      [8 1]       free
+            PhaseMaxRecall              "phaseMaxRecall"                 48 [16 1]      [8 1]       free
+            PhasePedRecall              "phasePedRecall"                 64 [16 1]      [8 1]       free
+            PhaseSoftRecall             "phaseSoftRecall"                80 [16 1]      [8 1]       free
+            PhaseDualEntry              "phaseDualEntry"                 96 [16 1]      [8 1]       free
+            PhaseSimGapDisable          "phaseSimGapDisable"            112 [16 1]      [8 1]       free
+            PhaseRestInWalk             "phaseRestInWalk"               128 [16 1]      [8 1]       free
+            PhaseVariableInitial        "phaseVariableInitial"          144 [16 1]      [8 1]       free
+            PhaseRing                   "phaseRing"                     160 [16 2]      [8 2]       structural
+            PhaseSide                   "phaseSide"                     176 [16 4]      [8 2]       structural
+            PhaseConcurrency            "phaseConcurrency"              192 [16 65535]  [8 255]     structural
+            PhaseWalk                   "phaseWalk"                     208 [16 255]    [8 255]     free
+            PhasePedestrianClear        "phasePedestrianClear"          224 [16 255]    [8 255]     free
+            PhaseMinimumGreen           "phaseMinimumGreen"             240 [16 255]    [8 255]     free
+            PhaseMaximum1               "phaseMaximum1"                 256 [16 255]    [8 255]     free
+            PhaseMaximum2               "phaseMaximum2"                 272 [16 255]    [8 255]     free
+            PhaseMaximumInitial         "phaseMaximumInitial"           288 [16 255]    [8 255]     free
+            PhaseTimeBeforeReduction    "phaseTimeBeforeReduction"      304 [16 255]    [8 255]     free
+            PhaseTimeToReduce           "phaseTimeToReduce"             320 [16 255]    [8 255]     free
+            PhasePassage                "phasePassage"                  336 [16 255]    [8 255]     free
+            PhaseYellowChange           "phaseYellowChange"             352 [16 255]    [8 255]     free
+            PhaseRedClear               "phaseRedClear"                 368 [16 255]    [8 255]     free
+            PhaseRedRevert              "phaseRedRevert"                384 [16 255]    [8 255]     free
+            PhaseAddedInitial           "phaseAddedInitial"             400 [16 255]    [8 255]     free
+            PhaseMinimumGap             "phaseMinimumGap"               416 [16 255]    [8 255]     free
+            PhaseCarsBeforeReduction    "phaseCarsBeforeReduction"      432 [16 255]    [8 255]     free
+            VehicleDetectorCallPhase    "vehicleDetectorCallPhase"      448 [16 16]     [16 8]      free
+            VehicleDetectorDelay        "vehicleDetectorDelay"          464 [16 2550]   [16 2550]   free
+            VehicleDetectorExtend       "vehicleDetectorExtend"         480 [16 255]    [16 255]    free
+            VehicleDetectorNoActivity   "vehicleDetectorNoActivity"     496 [16 255]    [16 255]    free
+            VehicleDetectorMaxPresence  "vehicleDetectorMaxPresence"    512 [16 255]    [16 255]    free
+            VehicleDetectorErraticCounts "vehicleDetectorErraticCounts"  528 [16 255]    [16 255]    free
+            VehicleDetectorFailTime     "vehicleDetectorFailTime"       544 [16 255]    [16 255]    free
+            PedestrianDetectorCallPhase "pedestrianDetectorCallPhase"   560 [8 16]      [8 8]       free
+            OverlapIncludedPhases       "overlapIncludedPhases"         568 [4 65535]   [4 255]     structural
+            PatternCycleTime            "patternCycleTime"              572 [16 255]    [16 255]    free
+            PatternOffsetTime           "patternOffsetTime"             588 [16 254]    [16 254]    free
+            PatternSplitNumber          "patternSplitNumber"            604 [16 8]      [16 8]      free
+            PatternSequenceNumber       "patternSequenceNumber"         620 [16 4]      [16 4]      free
+            SplitTime                   "splitTime"                     636 [128 255]   [64 255]    free
+            SplitMode                   "splitMode"                     764 [128 5]     [64 5]      free
+            SplitCoordPhase             "splitCoordPhase"               892 [128 1]     [64 1]      free
+            SequenceData                "sequenceData"                 1020 [128 16]    [64 8]      free
+            PreemptDelay                "preemptDelay"                 1148 [4 600]     [4 600]     free
+            PreemptMinimumDuration      "preemptMinimumDuration"       1152 [4 65535]   [4 65535]   free
+            PreemptMaximumPresence      "preemptMaximumPresence"       1156 [4 65535]   [4 65535]   free
+            PreemptMinimumGreen         "preemptMinimumGreen"          1160 [4 255]     [4 255]     free
+            PreemptMinimumWalk          "preemptMinimumWalk"           1164 [4 255]     [4 255]     free
+            PreemptEnterPedClear        "preemptEnterPedClear"         1168 [4 255]     [4 255]     free
+            PreemptTrackGreen           "preemptTrackGreen"            1172 [4 255]     [4 255]     free
+            PreemptTrackPhase           "preemptTrackPhase"            1176 [4 65535]   [4 255]     free
+            PreemptDwellPhase           "preemptDwellPhase"            1180 [4 65535]   [4 255]     free
+            PreemptExitPhase            "preemptExitPhase"             1184 [4 65535]   [4 255]     free
+            UnitRedRevert               "unitRedRevert"                1188 [1 255]     [1 255]     free
+            UnitMax2                    "unitMax2"                     1189 [1 1]       [1 1]       free
+            PhaseDynamicMaxLimit        "phaseDynamicMaxLimit"         1190 [16 255]    [absent]    free
+            PhaseDynamicMaxStep         "phaseDynamicMaxStep"          1206 [16 255]    [absent]    free
+            OverlapType                 "overlapType"                  1222 [4 1]       [absent]    structural
+            OverlapModifierPhases       "overlapModifierPhases"        1226 [4 65535]   [absent]    structural
+        }
+    };
+}
+
+/// A row of the table.
+macro_rules! rows {
+    ($($object:ident $name:literal $cell:literal [$($range:tt)+] [$($narrow:tt)+] $change:ident)*) => {
+        [$(ObjectRow {
+            name: $name,
+            first_cell: $cell,
+            range: range!($($range)+),
+            is_in_version_1: is_in_version_1!($($narrow)+),
+            narrow_range: narrow_range!([$($narrow)+] [$($range)+]),
+            is_structural: is_structural!($change),
+        }),*]
+    };
+}
+
+/// The objects of the table.
+macro_rules! objects {
+    ($($object:ident $name:literal $cell:literal [$($range:tt)+] [$($narrow:tt)+] $change:ident)*) => {
+        [$(Object::$object),*]
+    };
+}
+
+/// How many objects the table has.
+macro_rules! count {
+    ($($object:ident $name:literal $cell:literal [$($range:tt)+] [$($narrow:tt)+] $change:ident)*) => {
+        0 $(+ one!($object))*
+    };
+}
+
+/// How many cells the objects of the table have together.
+macro_rules! cells {
+    ($($object:ident $name:literal $cell:literal [$indices:literal $most:literal] [$($narrow:tt)+] $change:ident)*) => {
+        0 $(+ $indices)*
+    };
+}
+
+/// 1, for anything.
+macro_rules! one {
+    ($object:ident) => {
+        1
+    };
+}
+
+/// A number of indices and a greatest value.
+macro_rules! range {
+    ($indices:literal $greatest:literal) => {
+        Range {
+            indices: $indices,
+            greatest: $greatest,
+        }
+    };
+}
+
+/// Whether version 1 has an object, which it has not where the range there is `absent`.
+macro_rules! is_in_version_1 {
+    (absent) => {
+        false
+    };
+    ($($narrow:tt)+) => {
+        true
+    };
+}
+
+/// The range in version 1, and the second, that in a plan, where the first is `absent`.
+macro_rules! narrow_range {
+    ([absent] [$($range:tt)+]) => {
+        range!($($range)+)
+    };
+    ([$($narrow:tt)+] [$($range:tt)+]) => {
+        range!($($narrow)+)
+    };
+}
+
+/// Whether an object is `structural`, or `free` to be changed while a phase is in service.
+macro_rules! is_structural {
+    (structural) => {
+        true
+    };
+    (free) => {
+        false
+    };
+}
+
+/// The row of each object, at its number, which is its place among all.
+pub(crate) const TABLE: [ObjectRow; Object::COUNT] = table!(rows);
+
+/// The cells of a plan, one for each object at each of its indices.
+pub const PLAN_CELLS: usize = table!(cells);
+
 impl Object {
+    /// How many objects there are.
+    pub const COUNT: usize = table!(count);
+
+    /// All objects, in the order in which their cells stand in a plan.
+    pub const ALL: [Object; Object::COUNT] = table!(objects);
+
     /// How many indices the object has: they are 1 to this number.
     pub fn indices(self) -> u32
         ensures { result ≡ indices self }
     {
-        match self {
-            Object::PedestrianDetectorCallPhase => 8,
-            Object::OverlapIncludedPhases
-            | Object::PreemptDelay
-            | Object::PreemptMinimumDuration
-            | Object::PreemptMaximumPresence
-            | Object::PreemptMinimumGreen
-            | Object::PreemptMinimumWalk
-            | Object::PreemptEnterPedClear
-            | Object::PreemptTrackGreen
-            | Object::PreemptTrackPhase
-            | Object::PreemptDwellPhase
-            | Object::PreemptExitPhase
-            | Object::OverlapType
-            | Object::OverlapModifierPhases => 4,
-            Object::SplitTime
-            | Object::SplitMode
-            | Object::SplitCoordPhase
-            | Object::SequenceData => 128,
-            Object::UnitRedRevert | Object::UnitMax2 => 1,
-            _ => 16,
-        }
+        TABLE[self as usize].range.indices
     }
 
     /// The greatest value that the object takes: it takes 0 to this number.
     pub fn greatest(self) -> u32
         ensures { result ≡ greatest self }
     {
-        match self {
-            Object::PhaseEnabled
-            | Object::PhaseNonLock
-            | Object::PhaseMinRecall
-            | Object::PhaseMaxRecall
-            | Object::PhasePedRecall
-            | Object::PhaseSoftRecall
-            | Object::PhaseDualEntry
-            | Object::PhaseSimGapDisable
-            | Object::PhaseRestInWalk
-            | Object::PhaseVariableInitial
-            | Object::SplitCoordPhase
-            | Object::UnitMax2
-            | Object::OverlapType => 1,
-            Object::PhaseRing => 2,
-            Object::PhaseSide | Object::PatternSequenceNumber => 4,
-            Object::PhaseConcurrency
-            | Object::OverlapIncludedPhases
-            | Object::PreemptMinimumDuration
-            | Object::PreemptMaximumPresence
-            | Object::PreemptTrackPhase
-            | Object::PreemptDwellPhase
-            | Object::PreemptExitPhase
-            | Object::OverlapModifierPhases => 65_535,
-            Object::VehicleDetectorCallPhase
-            | Object::PedestrianDetectorCallPhase
-            | Object::SequenceData => 16,
-            Object::VehicleDetectorDelay => 2550,
-            Object::PatternOffsetTime => 254,
-            Object::PatternSplitNumber => 8,
-            Object::SplitMode => 5,
-            Object::PreemptDelay => 600,
-            _ => 255,
-        }
+        TABLE[self as usize].range.greatest
     }
 
     /// The plan's cell that holds the object's value at index 1; those at 2, 3, .. follow it.
@@ -211,137 +343,8 @@ impl Object {
     pub fn first_cell(self) -> usize
         ensures { result ≡ first_cell self }
     {
-        match self {
-            Object::PhaseEnabled => 0,
-            Object::PhaseNonLock => 16,
-            Object::PhaseMinRecall => 32,
-            Object::PhaseMaxRecall => 48,
-            Object::PhasePedRecall => 64,
-            Object::PhaseSoftRecall => 80,
-            Object::PhaseDualEntry => 96,
-            Object::PhaseSimGapDisable => 112,
-            Object::PhaseRestInWalk => 128,
-            Object::PhaseVariableInitial => 144,
-            Object::PhaseRing => 160,
-            Object::PhaseSide => 176,
-            Object::PhaseConcurrency => 192,
-            Object::PhaseWalk => 208,
-            Object::PhasePedestrianClear => 224,
-            Object::PhaseMinimumGreen => 240,
-            Object::PhaseMaximum1 => 256,
-            Object::PhaseMaximum2 => 272,
-            Object::PhaseMaximumInitial => 288,
-            Object::PhaseTimeBeforeReduction => 304,
-            Object::PhaseTimeToReduce => 320,
-            Object::PhasePassage => 336,
-            Object::PhaseYellowChange => 352,
-            Object::PhaseRedClear => 368,
-            Object::PhaseRedRevert => 384,
-            Object::PhaseAddedInitial => 400,
-            Object::PhaseMinimumGap => 416,
-            Object::PhaseCarsBeforeReduction => 432,
-            Object::VehicleDetectorCallPhase => 448,
-            Object::VehicleDetectorDelay => 464,
-            Object::VehicleDetectorExtend => 480,
-            Object::VehicleDetectorNoActivity => 496,
-            Object::VehicleDetectorMaxPresence => 512,
-            Object::VehicleDetectorErraticCounts => 528,
-            Object::VehicleDetectorFailTime => 544,
-            Object::PedestrianDetectorCallPhase => 560,
-            Object::OverlapIncludedPhases => 568,
-            Object::PatternCycleTime => 572,
-            Object::PatternOffsetTime => 588,
-            Object::PatternSplitNumber => 604,
-            Object::PatternSequenceNumber => 620,
-            Object::SplitTime => 636,
-            Object::SplitMode => 764,
-            Object::SplitCoordPhase => 892,
-            Object::SequenceData => 1020,
-            Object::PreemptDelay => 1148,
-            Object::PreemptMinimumDuration => 1152,
-            Object::PreemptMaximumPresence => 1156,
-            Object::PreemptMinimumGreen => 1160,
-            Object::PreemptMinimumWalk => 1164,
-            Object::PreemptEnterPedClear => 1168,
-            Object::PreemptTrackGreen => 1172,
-            Object::PreemptTrackPhase => 1176,
-            Object::PreemptDwellPhase => 1180,
-            Object::PreemptExitPhase => 1184,
-            Object::UnitRedRevert => 1188,
-            Object::UnitMax2 => 1189,
-            Object::PhaseDynamicMaxLimit => 1190,
-            Object::PhaseDynamicMaxStep => 1206,
-            Object::OverlapType => 1222,
-            Object::OverlapModifierPhases => 1226,
-        }
+        TABLE[self as usize].first_cell
     }
-}
-
-impl Object {
-    /// All objects, in the order in which their cells stand in a plan.
-    pub const ALL: [Object; 61] = [
-        Object::PhaseEnabled,
-        Object::PhaseNonLock,
-        Object::PhaseMinRecall,
-        Object::PhaseMaxRecall,
-        Object::PhasePedRecall,
-        Object::PhaseSoftRecall,
-        Object::PhaseDualEntry,
-        Object::PhaseSimGapDisable,
-        Object::PhaseRestInWalk,
-        Object::PhaseVariableInitial,
-        Object::PhaseRing,
-        Object::PhaseSide,
-        Object::PhaseConcurrency,
-        Object::PhaseWalk,
-        Object::PhasePedestrianClear,
-        Object::PhaseMinimumGreen,
-        Object::PhaseMaximum1,
-        Object::PhaseMaximum2,
-        Object::PhaseMaximumInitial,
-        Object::PhaseTimeBeforeReduction,
-        Object::PhaseTimeToReduce,
-        Object::PhasePassage,
-        Object::PhaseYellowChange,
-        Object::PhaseRedClear,
-        Object::PhaseRedRevert,
-        Object::PhaseAddedInitial,
-        Object::PhaseMinimumGap,
-        Object::PhaseCarsBeforeReduction,
-        Object::VehicleDetectorCallPhase,
-        Object::VehicleDetectorDelay,
-        Object::VehicleDetectorExtend,
-        Object::VehicleDetectorNoActivity,
-        Object::VehicleDetectorMaxPresence,
-        Object::VehicleDetectorErraticCounts,
-        Object::VehicleDetectorFailTime,
-        Object::PedestrianDetectorCallPhase,
-        Object::OverlapIncludedPhases,
-        Object::PatternCycleTime,
-        Object::PatternOffsetTime,
-        Object::PatternSplitNumber,
-        Object::PatternSequenceNumber,
-        Object::SplitTime,
-        Object::SplitMode,
-        Object::SplitCoordPhase,
-        Object::SequenceData,
-        Object::PreemptDelay,
-        Object::PreemptMinimumDuration,
-        Object::PreemptMaximumPresence,
-        Object::PreemptMinimumGreen,
-        Object::PreemptMinimumWalk,
-        Object::PreemptEnterPedClear,
-        Object::PreemptTrackGreen,
-        Object::PreemptTrackPhase,
-        Object::PreemptDwellPhase,
-        Object::PreemptExitPhase,
-        Object::UnitRedRevert,
-        Object::UnitMax2,
-        Object::PhaseDynamicMaxLimit,
-        Object::PhaseDynamicMaxStep,
-        Object::OverlapType,
-        Object::OverlapModifierPhases,
-    ];
 }
 
 /// An object at an index: what a plan has a value for.
@@ -377,14 +380,5 @@ pub fn range_of(object: Object) -> Range
 pub fn is_structural(object: Object) -> bool
     ensures { result ≡ is_structural object }
 {
-    matches!(
-        object,
-        Object::PhaseRing
-            | Object::PhaseSide
-            | Object::PhaseConcurrency
-            | Object::PhaseEnabled
-            | Object::OverlapIncludedPhases
-            | Object::OverlapType
-            | Object::OverlapModifierPhases
-    )
+    TABLE[object as usize].is_structural
 }

@@ -2,6 +2,7 @@
 #![tactic(auto, unfolding(crate::specs::PlanOf::plan_of))]
 
 ghost use Rattle.std.specs.Prelude.{◌≡◌, ℕ, ◌+◌, ◌-◌, ◌≤◌, ◌<◌, true, length, slice_index, Ok, Err, Some, None};
+ghost use Rattle.tsb_plan.specs.declared.object.TheConstants.{PLAN_CELLS};
 ghost use Rattle.tsb_plan.specs.Objects.{AreInRange, value_in, has_index, greatest, first_cell, indices};
 
 mod built_in;
@@ -12,9 +13,8 @@ mod phases;
 mod preempts;
 mod running;
 
-use crate::object::{Object, ObjectId, range_of};
+use crate::object::{Object, ObjectId, PLAN_CELLS, range_of};
 pub use patterns::SplitMode;
-use tsb_types::limits::PLAN_CELLS;
 use tsb_types::{Phase, Refusal};
 
 /// A timing plan: the value of each object at each of its indices.
@@ -24,7 +24,7 @@ use tsb_types::{Phase, Refusal};
 #[derive(Clone, Copy, Debug, PartialEq, Eq)]
 pub struct Plan {
     values: [u16; PLAN_CELLS],
-    ghost full: { length values ≡ 1230 },
+    ghost full: { length values ≡ PLAN_CELLS },
     ghost ranged: { AreInRange values },
 }
 
@@ -40,7 +40,7 @@ fn zeros<const N: usize>() -> [u16; N]
 fn cell(object: Object, index: u32) -> usize
     requires { has_index object index ≡ true }
     ensures at { result ≡ first_cell object + (index - 1) }
-    ensures within { result < 1230 }
+    ensures within { result < PLAN_CELLS }
 {
     object.first_cell() + (index as usize - 1)
 }

@@ -1,8 +1,8 @@
 //! The versions of plan texts: which objects each has, and how an index in one is found in a plan.
 ghost use Rattle.std.specs.Prelude.{◌≡◌, true};
-ghost use Rattle.tsb_plan.specs.Versions.{has_object, indices_in, greatest_in, range_in, has_index_in, is_by_phase, is_in_rows, translated};
+ghost use Rattle.tsb_plan.specs.Versions.{has_object, indices_in, greatest_in, range_in, has_index_in, is_in_rows, translated};
 
-use crate::object::{Object, Range};
+use crate::object::{Object, Range, TABLE};
 
 /// A version of plan texts.
 #[derive(Clone, Copy, Debug, PartialEq, Eq)]
@@ -20,15 +20,9 @@ impl Version {
     pub fn has(self, object: Object) -> bool
         ensures { result ≡ has_object self object }
     {
-        match (self, object) {
-            (
-                Version::One,
-                Object::PhaseDynamicMaxLimit
-                | Object::PhaseDynamicMaxStep
-                | Object::OverlapType
-                | Object::OverlapModifierPhases,
-            ) => false,
-            _ => true,
+        match self {
+            Version::One => TABLE[object as usize].is_in_version_1,
+            Version::Two => true,
         }
     }
 
@@ -51,9 +45,8 @@ impl Version {
         ensures { result ≡ indices_in self object }
     {
         match self {
-            Version::One if is_by_phase(object) => 8,
-            Version::One if is_in_rows(object) => 64,
-            _ => object.indices(),
+            Version::One => TABLE[object as usize].narrow_range.indices,
+            Version::Two => object.indices(),
         }
     }
 
@@ -61,23 +54,9 @@ impl Version {
     fn greatest(self, object: Object) -> u32
         ensures { result ≡ greatest_in self object }
     {
-        match (self, object) {
-            (Version::One, Object::PhaseSide) => 2,
-            (
-                Version::One,
-                Object::PhaseConcurrency
-                | Object::OverlapIncludedPhases
-                | Object::PreemptTrackPhase
-                | Object::PreemptDwellPhase
-                | Object::PreemptExitPhase,
-            ) => 255,
-            (
-                Version::One,
-                Object::VehicleDetectorCallPhase
-                | Object::PedestrianDetectorCallPhase
-                | Object::SequenceData,
-            ) => 8,
-            _ => object.greatest(),
+        match self {
+            Version::One => TABLE[object as usize].narrow_range.greatest,
+            Version::Two => object.greatest(),
         }
     }
 }
@@ -97,43 +76,6 @@ impl Object {
             None
         }
     }
-}
-
-/// Whether the index of the object is a phase, also in version 1.
-fn is_by_phase(object: Object) -> bool
-    ensures { result ≡ is_by_phase object }
-{
-    matches!(
-        object,
-        Object::PhaseEnabled
-            | Object::PhaseNonLock
-            | Object::PhaseMinRecall
-            | Object::PhaseMaxRecall
-            | Object::PhasePedRecall
-            | Object::PhaseSoftRecall
-            | Object::PhaseDualEntry
-            | Object::PhaseSimGapDisable
-            | Object::PhaseRestInWalk
-            | Object::PhaseVariableInitial
-            | Object::PhaseRing
-            | Object::PhaseSide
-            | Object::PhaseConcurrency
-            | Object::PhaseWalk
-            | Object::PhasePedestrianClear
-            | Object::PhaseMinimumGreen
-            | Object::PhaseMaximum1
-            | Object::PhaseMaximum2
-            | Object::PhaseMaximumInitial
-            | Object::PhaseTimeBeforeReduction
-            | Object::PhaseTimeToReduce
-            | Object::PhasePassage
-            | Object::PhaseYellowChange
-            | Object::PhaseRedClear
-            | Object::PhaseRedRevert
-            | Object::PhaseAddedInitial
-            | Object::PhaseMinimumGap
-            | Object::PhaseCarsBeforeReduction
-    )
 }
 
 /// Whether the index of the object counts rows, each of a table's phases or of a ring's places.

@@ -5,6 +5,3 @@ pub const PHASES: usize = 16;
 
 /// The greatest number of a tick. A tick is a tenth of a second, so a bench counts some seven days.
 pub const TICKS: u32 = 6_000_000;
-
-/// The cells of a plan, one for each object at each of its indices.
-pub const PLAN_CELLS: usize = 1230;
