@@ -16,7 +16,8 @@ loop-k-init c = record {
 pub bounds-sets-before : goal.bounds-sets-before
 bounds-sets-before c =
     let least : ℕ = c.in-Some.least in
-    let within : least ≤ 8 = names-within c.loop-k.k least c.loop-k-test.true (sym (c.from_list-numbers.ensures.named least) ∙ c.in-Some.ensures.had) in
+    let small : c.loop-k.k < 256 = omega (arith, c.loop-k-test.true) in
+    let within : least ≤ 8 = names-within c.loop-k.k least small (sym (c.from_list-numbers.ensures.named least) ∙ c.in-Some.ensures.had) in
     omega (arith, within, c.from.ensures, c.in-Some.ensures.from_one, c.requires)
 
 pub bounds-unions-from : goal.bounds-unions-from
@@ -30,6 +31,7 @@ pub loop-k-preserved : goal.loop-k-preserved
 loop-k-preserved c =
     let held = c.loop-k.invariant in
     let k : ℕ = c.loop-k.k in
+    let small : k < 256 = omega (arith, c.loop-k-test.true) in
     let words : List ℕ = c.loop-k.unions in
     let after : List ℕ = c.match-first.unions in
     let sets : List ℕ = c.args.sets.now in
@@ -54,14 +56,14 @@ loop-k-preserved c =
           λ j apart. ap (λ (xs : List ℕ). get_or xs j 0) after_is ∙ get_or-set_other words k j (bit_or (get_or words others 0) (set_of least)) 0 apart in
           let here : get_or after k 0 ≡ bit_or (get_or words others 0) (set_of least) =
           ap (λ (xs : List ℕ). get_or xs k 0) after_is
-          ∙ get_or-set_same words k (bit_or (get_or words others 0) (set_of least)) 0 (omega (arith, held.full, c.loop-k-test.true)) in
+          ∙ get_or-set_same words k (bit_or (get_or words others 0) (set_of least)) 0 (omega (arith, held.full, small)) in
           record {
             full = ap length after_is ∙ length-set words k (bit_or (get_or words others 0) (set_of least)) ∙ held.full;
             told =
                 told-next union words after k held.told
                 (λ p. ap (λ (word : ℕ). names word p) here
                 ∙ union-more k others least (get_or words others 0) (set_of least) (λ n. names (set_of n) p) w.in-Some.ensures.from_one
-                (names-within k least c.loop-k-test.true had) had (w.list-others.ensures least ∙ w.with.ensures.set)
+                (names-within k least small had) had (w.list-others.ensures least ∙ w.with.ensures.set)
                 (λ n apart. w.list-others.ensures n ∙ w.with.ensures.others n apart ∙ sym (named n)) p refl (held.told others p less))
                 there;
             rest = λ j above below. there j (omega (arith, above)) ∙ held.rest j (omega (arith, above)) below;
@@ -74,7 +76,7 @@ loop-k-preserved c =
             told =
                 told-next union words after k held.told
                 (union-none k (get_or after k 0) (λ n p. names (set_of n) p) (λ n. named n ∙ w.in_default.ensures.none refl n)
-                (there k ∙ held.rest k (omega arith) c.loop-k-test.true))
+                (there k ∙ held.rest k (omega arith) small))
                 (λ j apart. there j);
             rest = λ j above below. there j ∙ held.rest j (omega (arith, above)) below;
           }
