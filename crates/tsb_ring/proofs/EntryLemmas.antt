@@ -1,4 +1,5 @@
--- What rings are bound to after a tick: what they enter in a crossing that begins, the commitments that were, and their picks.
+-- What rings are bound to after a tick: what they enter in a crossing that begins, the commitments that were, and their
+-- picks.
 use Rattle.std.proofs.Common.{◌≡◌, ℕ, Bool, true, false, not, ◌&&◌, ◌||◌, Option, Some, None, is_some, refl, inl, inr, ◌⊎◌, ◌∙◌}
 use Rattle.std.proofs.lemmas.Bool.{and_parts, or_cases}
 use Rattle.tsb_types.specs.Lists.{first, among, or_else}

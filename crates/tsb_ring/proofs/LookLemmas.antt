@@ -1,5 +1,5 @@
--- The rings look at nothing of phases that are not among 1 to 16: they do the same by what is given and by that clipped to
--- these phases.
+-- The rings look at nothing of phases that are not among 1 to 16: they do the same by what is given and by that clipped
+-- to these phases.
 use Rattle.std.proofs.Common.{◌≡◌, ℕ, ◌≤◌, Bool, true, false, not, ◌&&◌, if◌then◌else◌, List, Option, Some, None, is_some, is_none, refl, ap, ap₂, sym, ◌∙◌, inl, inr}
 use Rattle.std.proofs.Math.Path.{fun_ext}
 use Rattle.std.proofs.lemmas.Bool.{cases_Bool, and_parts}

@@ -1,4 +1,5 @@
--- The cells of the rings and what they say: a row is the table of what is read in it, and the table of a state is read as it.
+-- The cells of the rings and what they say: a row is the table of what is read in it, and the table of a state is read
+-- as it.
 use Rattle.std.proofs.Common.{◌≡◌, ℕ, ◌==◌, ◌≤◌, List, [], ◌∷◌, length, Option, Some, None, IfSome, refl, sym, arith, inl, inr, ◌∙◌}
 use Rattle.std.proofs.lemmas.Bool.{cases_Bool, eqb-true}
 use Rattle.tsb_types.specs.Lists.{or_number}

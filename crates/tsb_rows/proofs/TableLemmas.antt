@@ -1,5 +1,5 @@
--- Tables of lists and columns: cells that are those of what they say, and what such cells are read as. A list is one cell,
--- a column 16 cells from a place on, one of each number.
+-- Tables of lists and columns: cells that are those of what they say, and what such cells are read as. A list is one
+-- cell, a column 16 cells from a place on, one of each number.
 use Rattle.std.proofs.Common.{◌≡◌, ℕ, ◌+◌, ◌-◌, ◌%◌, ◌^◌, ◌<◌, ◌≤◌, Bool, List, ◌++◌, length, take, drop, get_or, slice_index, map, sym, ap, ap₂, ◌∙◌, arith, length-take-le, length-drop, length-append, get_or-take}
 use Rattle.std.proofs.Math.Seq.{take-add}
 use Rattle.std.proofs.Math.ListN.{get_or-append}
