@@ -6,6 +6,7 @@ ghost use Rattle.std.specs.Prelude.{◌≡◌, ℕ, ◌+◌, ◌<◌, ◌≤◌,
 ghost use Rattle.indexmap.specs.IndexMap.{index_map_len, spare, get, insert_entry, index_of_by, IsUnique};
 ghost use Rattle.tsb_cells.specs.Bank.{cells_of, kept_of, is_open};
 ghost use Rattle.tsb_plan.specs.Objects.{greatest};
+ghost use Rattle.tsb_plan.specs.declared.object.TheConstants.{PLAN_CELLS};
 ghost use Rattle.tsb_plan.specs.PlanOf.{put_refusal};
 ghost use Rattle.tsb_transact.specs.Calls.{has_no_room, with_set};
 ghost use Rattle.tsb_transact.specs.Cells.{IsBy, desk_in, id_at};
@@ -88,7 +89,7 @@ fn add_edit(bank: &mut Bank<CELLS>, edits: &mut IndexMap<u32, u32>, place: u32, 
     requires tied { edits.old.entries ≡ pairs_in (cells_of bank.old) }
     requires room { 64 ≤ index_map_len edits.old + spare edits.old }
     requires from { 1 ≤ place }
-    requires to { place ≤ 1230 }
+    requires to { place ≤ PLAN_CELLS }
     requires fits { value ≤ greatest (id_at place).object }
     requires space { slice_index (cells_of bank.old) 3 < 64 }
     requires absent { get nat_eq edits.old place ≡ None }
@@ -114,7 +115,7 @@ fn put_edit(bank: &mut Bank<CELLS>, edits: &mut IndexMap<u32, u32>, place: u32, 
     requires tied { edits.old.entries ≡ pairs_in (cells_of bank.old) }
     requires room { 64 ≤ index_map_len edits.old + spare edits.old }
     requires from { 1 ≤ place }
-    requires to { place ≤ 1230 }
+    requires to { place ≤ PLAN_CELLS }
     requires fits { value ≤ greatest (id_at place).object }
     requires space { get nat_eq edits.old place ≡ None → slice_index (cells_of bank.old) 3 < 64 }
     ensures by { IsBy (cells_of bank.new) }

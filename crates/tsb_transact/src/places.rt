@@ -1,6 +1,7 @@
-//! Places of objects: the object at each index has one of 1 to 1,230 among all values of a plan.
+//! Places of objects: the object at each index has one of 1 to `PLAN_CELLS` among all values of a plan.
 ghost use Rattle.std.specs.Prelude.{◌≡◌, ◌≤◌, true};
 ghost use Rattle.tsb_plan.specs.Objects.{has_index};
+ghost use Rattle.tsb_plan.specs.declared.object.TheConstants.{PLAN_CELLS};
 ghost use Rattle.tsb_transact.specs.Cells.{place_of, id_at, id_among};
 
 use tsb_objects::{Object, ObjectId};
@@ -10,7 +11,7 @@ pub fn place(id: ObjectId) -> u32
     requires { has_index id.object id.index ≡ true }
     ensures at { result ≡ place_of id }
     ensures from { 1 ≤ result }
-    ensures within { result ≤ 1230 }
+    ensures within { result ≤ PLAN_CELLS }
 {
     id.object.first_cell() as u32 + id.index
 }
@@ -36,7 +37,7 @@ fn id_among(all: &[Object], place: u32) -> ObjectId
     }
 }
 
-/// The object and index that have a place among all of a plan, 1 to 1,230.
+/// The object and index that have a place among all of a plan, 1 to `PLAN_CELLS`.
 #[tactic(auto, unfolding(tsb_plan::specs::Objects::objects))]
 pub fn id_at(place: u32) -> ObjectId
     ensures { result ≡ id_at place }
