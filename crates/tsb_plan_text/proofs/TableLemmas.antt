@@ -25,5 +25,5 @@ few_of : (o : Object) → indices o ≤ 128
 few_of o = search rules
 
 pub few_indices : (v : Version) (o : Object) → indices_in v o ≤ 128
-few_indices One o = grind (arith, few_of o)
+few_indices One o = search rules
 few_indices Two o = few_of o
