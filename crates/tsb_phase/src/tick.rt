@@ -1,6 +1,6 @@
 //! A tick over the cells: each phase in service is visited, and what the tick tells of all phases is put together.
 ghost use Rattle.std.specs.Prelude.{◌≡◌, ◌≢◌, ℕ, ◌+◌, ◌<◌, ◌≤◌, ◌^◌, true, false};
-ghost use Rattle.tsb_plan.specs.PlanOf.{plan_of};
+ghost use Rattle.tsb_objects.specs.Checked.{checked_plan};
 ghost use Rattle.tsb_plan.specs.Plan.{red_revert};
 ghost use Rattle.tsb_types.specs.Intervals.{in_service};
 ghost use Rattle.tsb_types.specs.Sets.{has};
@@ -14,7 +14,7 @@ use crate::phases::Phases;
 use crate::rows::{GREENS, RED_CLEARS, RED_REVERTS, YELLOWS};
 use crate::visit::{has_passed, visit_green, visit_red_clear, visit_yellow};
 use tsb_cells::Timer;
-use tsb_objects::{Phase, PhaseSet, Plan, Timing};
+use tsb_objects::{Checked, Phase, PhaseSet, Timing};
 use tsb_rows::phases;
 
 impl Phases {
@@ -25,7 +25,7 @@ impl Phases {
     fn visit(
         &mut self,
         now: u32,
-        plan: &Plan,
+        plan: &Checked,
         conditions: &Conditions,
         p: Phase,
         timing: &mut Timing,
@@ -34,8 +34,8 @@ impl Phases {
         requires opened { is_open self.old ≡ true }
         requires by { IsRowBy now (row_in (cells_of self.old) p) }
         requires service { in_service (interval_of_row (row_in (cells_of self.old) p)) ≡ true }
-        requires fresh { IsFresh now (plan_of plan.now) (row_in (cells_of self.old) p) timing.old p }
-        ensures visit { IsVisit now (plan_of plan.now) (given_of conditions.now) p (row_in (cells_of self.old) p) (told (row_in (cells_of self.new) p) timing.new p) }
+        requires fresh { IsFresh now (checked_plan plan.now) (row_in (cells_of self.old) p) timing.old p }
+        ensures visit { IsVisit now (checked_plan plan.now) (given_of conditions.now) p (row_in (cells_of self.old) p) (told (row_in (cells_of self.new) p) timing.new p) }
         ensures others { (q : ℕ) → 1 ≤ q → q ≤ 16 → q ≢ p → row_in (cells_of self.new) q ≡ row_in (cells_of self.old) q }
         ensures told_others { (q : ℕ) → q ≢ p → IsToldAs timing.old timing.new q }
         ensures lists { KeepsLists (cells_of self.old) (cells_of self.new) }
@@ -51,28 +51,28 @@ impl Phases {
             return;
         }
         if was.yellow {
-            let visit = visit_yellow(now, plan, conditions, p, &was);
+            let visit = visit_yellow(now, plan.plan(), conditions, p, &was);
             self.store(p, &was, &visit.row);
             timing.over = timing.over.joined(p, visit.over);
             timing.red_revert_passed = timing.red_revert_passed.with(p, visit.reverted);
             return;
         }
-        let visit = visit_red_clear(now, plan, conditions, p, &was);
+        let visit = visit_red_clear(now, plan.plan(), conditions, p, &was);
         timing.over = timing.over.joined(p, visit.over);
     }
 
     /// The phases whose red revert timer is Off or has reached its time.
     #[tactic(auto, unfolding(crate::specs::Rows::row_in))]
-    fn reverted(&self, now: u32, plan: &Plan) -> PhaseSet
+    fn reverted(&self, now: u32, plan: &Checked) -> PhaseSet
         requires { now + 1 < 2 ^ 32 }
         ensures { (p : ℕ) → 1 ≤ p → p ≤ 16 →
-            has result p ≡ has_passed (timer_at now (row_in (cells_of self.now) p).red_revert) (red_revert (plan_of plan.now) p) }
+            has result p ≡ has_passed (timer_at now (row_in (cells_of self.now) p).red_revert) (red_revert (checked_plan plan.now) p) }
     {
         let mut reverted = PhaseSet::empty();
         for number in 1..17u8 {
             let p = Phase::of(number);
             let timer = Timer::at(now, self.cell(RED_REVERTS, p));
-            reverted = reverted.joined(p, has_passed(timer, plan.red_revert(p)));
+            reverted = reverted.joined(p, has_passed(timer, plan.plan().red_revert(p)));
         }
         reverted
     }
@@ -88,12 +88,12 @@ impl Phases {
     }
 
     /// The times of phases run.
-    pub(crate) fn run(&mut self, now: u32, conditions: &Conditions, plan: &Plan) -> Timing
+    pub(crate) fn run(&mut self, now: u32, conditions: &Conditions, plan: &Checked) -> Timing
         requires opened { is_open self.old ≡ true }
         requires fits { now + 1 < 2 ^ 32 }
         requires by { (p : ℕ) → 1 ≤ p → p ≤ 16 → IsRowBy now (row_in (cells_of self.old) p) }
         ensures each { (p : ℕ) → 1 ≤ p → p ≤ 16 →
-            IsVisit now (plan_of plan.now) (given_of conditions.now) p (row_in (cells_of self.old) p) (told (row_in (cells_of self.new) p) result p) }
+            IsVisit now (checked_plan plan.now) (given_of conditions.now) p (row_in (cells_of self.old) p) (told (row_in (cells_of self.new) p) result p) }
         ensures lists { KeepsLists (cells_of self.old) (cells_of self.new) }
         ensures kept { kept_of self.new ≡ kept_of self.old }
         ensures opened { is_open self.new ≡ true }
