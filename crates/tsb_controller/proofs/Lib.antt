@@ -2,3 +2,6 @@ mod CarryLemmas
 mod PlacedLemmas
 mod MovesLemmas
 mod TickLemmas
+mod PartLemmas
+mod InputLemmas
+mod WatchLemmas

@@ -21,12 +21,12 @@ use tsb_ring::{RingOrder, Rings};
 /// The six layers that have a part in a tick. Their cells change between `open` and `close_onto`.
 #[derive(Clone, Copy)]
 pub struct Controller {
-    detectors: Detectors,
-    calls: Calls,
-    phases: Phases,
-    rings: Rings,
-    coord: Coord,
-    preempts: Preempts,
+    pub(crate) detectors: Detectors,
+    pub(crate) calls: Calls,
+    pub(crate) phases: Phases,
+    pub(crate) rings: Rings,
+    pub(crate) coord: Coord,
+    pub(crate) preempts: Preempts,
 }
 
 impl Controller {

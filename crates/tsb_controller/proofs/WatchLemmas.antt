@@ -1,0 +1,97 @@
+-- What is shown and what the monitor finds, by the rows, is what the one step shows and finds.
+use Rattle.std.proofs.Common.{◌≡◌, ℕ, ◌-◌, ◌≤◌, Bool, false, if◌then◌else◌, Option, Some, None, is_some, option_map, refl, sym, ap, ap₂, ◌∙◌}
+use Rattle.tsb_types.specs.declared.lamp.Lamp.{Lamp}
+use Rattle.tsb_types.specs.declared.row.Row.{Row}
+use Rattle.tsb_plan.specs.Plan.{Plan}
+use Rattle.tsb_heads.specs.declared.display.Display.{Display}
+use Rattle.tsb_heads.specs.declared.field.Field.{Field}
+use Rattle.tsb_heads.specs.declared.monitor.Trip.{Trip}
+use Rattle.tsb_heads.specs.Displays as heads
+use Rattle.tsb_heads.specs.Heads.{Heads}
+use Rattle.tsb_heads.specs.Laws.{AreAlike, ShowAlike}
+use Rattle.tsb_heads.specs.Monitoring.{judge}
+use Rattle.tsb_heads.specs.Promises.{IsSame, IsLaidOver, IsJudged}
+use Rattle.tsb_heads.specs.Reading.{shown_by, commitment_of, heads_of, heads_of_field}
+use Rattle.tsb_heads.proofs.OwnLemmas.{displays-own, fields-told, judge-same}
+use Rattle.tsb_ring.specs.Cells.{rings_in}
+use Rattle.tsb_transact.specs.Desk.{Desk}
+use Rattle.tsb_step.specs.Signs.{display, field, shown, watched}
+use Rattle.tsb_step.specs.State.{State, Tripped}
+use Rattle.tsb_step.specs.Step.{ticked, with_lamp}
+use Rattle.tsb_step.specs.Tick.{next}
+use Rattle.tsb_controller.specs.Promises.{ShowsDisplay, ShowsField, IsTicked, IsWatchedTick, IsLit, tripping}
+use Rattle.tsb_controller.specs.Rows.{Rows, Beside, untripped, state_of}
+use Rattle.tsb_controller.specs.Shown.{IsShown}
+
+-- ## What is shown
+
+alike : (plan : Plan) (tripped : Bool) (rows : Rows) (d : Display) (it : IsShown plan tripped rows d) (now : ℕ) (b : Beside) → is_some b.trip ≡ tripped →
+    AreAlike (shown_by it.intervals it.pedestrians it.ring_1 it.ring_2 tripped) (shown (state_of now b rows))
+alike plan tripped rows d it now b trips = record {
+  interval = λ p from to. it.intervals_are _ p from to;
+  pedestrian = λ p from to. it.pedestrians_are _ p from to;
+  commitment = λ r. ap₂ (λ (x y : Option ℕ). commitment_of x y r) it.first_is it.second_is;
+  tripped = sym trips;
+}
+
+same-shown : (f g h : Heads) → IsSame f g → IsSame g h → IsSame f h
+same-shown f g h one two = record {
+  vehicle = λ p from to. one.vehicle p from to ∙ two.vehicle p from to;
+  pedestrian = λ p from to. one.pedestrian p from to ∙ two.pedestrian p from to;
+  overlap = λ o from to. one.overlap o from to ∙ two.overlap o from to;
+}
+
+pub displayed : (plan : Plan) (tripped : Bool) (rows : Rows) (d : Display) → plan.phase_count ≤ 16 → IsShown plan tripped rows d → ShowsDisplay plan tripped rows d
+unfolding display
+displayed plan tripped rows d count it now b same trips =
+    same-shown (heads_of d) (heads.display plan (shown_by it.intervals it.pedestrians it.ring_1 it.ring_2 tripped)) (display (state_of now b rows)) it.displayed
+    (rw same (displays-own plan (shown_by it.intervals it.pedestrians it.ring_1 it.ring_2 tripped) (shown (state_of now b rows)) count (alike plan tripped rows d it now b trips)))
+
+pub fielded : (plan : Plan) (lamp : Option Lamp) (rows : Rows) (d : Display) (f : Field) → plan.phase_count ≤ 16 → IsShown plan false rows d → IsLaidOver d lamp f → ShowsField plan lamp rows f
+unfolding field
+fielded plan lamp rows d f count it laid now desk =
+    fields-told plan it.intervals it.pedestrians it.ring_1 it.ring_2 lamp d f (shown (state_of now (untripped plan desk lamp) rows)) count
+    (alike plan false rows d it now (untripped plan desk lamp) refl) it.displayed laid
+
+-- ## What the monitor finds
+
+show-alike : (f g : Heads) → IsSame f g → ShowAlike f g
+show-alike f g same = record { vehicle = same.vehicle; pedestrian = same.pedestrian }
+
+judged : (plan : Plan) (f g : Field) (h k : Heads) (found : Option Trip) → plan.phase_count ≤ 16 → IsSame (heads_of_field f) h → IsSame (heads_of_field g) k →
+    IsJudged f g plan found → found ≡ judge plan h k
+judged plan f g h k found count before after is =
+    is ∙ judge-same plan (heads_of_field f) h (heads_of_field g) k count (show-alike (heads_of_field f) h before) (show-alike (heads_of_field g) k after)
+
+-- at the tick of a trip timers are read as ever
+tripped-now : (now : ℕ) (found : Option Trip) (plan : Plan) (desk : Desk) (lamp : Option Lamp) (rows : Rows) →
+    state_of now (tripping now found plan desk lamp) rows
+    ≡ record (state_of now (untripped plan desk lamp) rows) { trip = option_map (λ cause. record { cause = cause; tick = now }) found }
+tripped-now now None plan desk lamp rows = refl
+tripped-now now (Some cause) plan desk lamp rows = refl
+
+-- so the state is the one that the monitor has watched
+watched-now : (now : ℕ) (found : Option Trip) (plan : Plan) (desk : Desk) (lamp : Option Lamp) (rows : Rows) (before : State) →
+    found ≡ judge plan (field before) (field (state_of now (untripped plan desk lamp) rows)) →
+    state_of now (tripping now found plan desk lamp) rows ≡ watched before (state_of now (untripped plan desk lamp) rows)
+unfolding watched
+watched-now now found plan desk lamp rows before finds =
+    tripped-now now found plan desk lamp rows
+    ∙ ap (λ (o : Option Trip). record (state_of now (untripped plan desk lamp) rows) { trip = option_map (λ cause. record { cause = cause; tick = now }) o }) finds
+
+pub watched-tick : (now : ℕ) (row : Row) (lamp : Option Lamp) (plan : Plan) (old new : Rows) (f g : Field) (found : Option Trip) → plan.phase_count ≤ 16 →
+    ShowsField plan lamp old f → ShowsField plan lamp new g → IsTicked now row plan old new → IsJudged f g plan found →
+    IsWatchedTick now row lamp plan old new found
+watched-tick now row lamp plan old new f g found count before after done is desk =
+    watched-now now found plan desk lamp new t
+    (judged plan f g (field t) (field (state_of now (untripped plan desk lamp) new)) found count (before (now - 1) desk) (after now desk) is)
+    ∙ ap (watched t) (done desk lamp)
+  where
+    t : State
+    t = state_of (now - 1) (untripped plan desk lamp) old
+
+pub lit : (was lamp : Option Lamp) (plan : Plan) (rows : Rows) (f g : Field) (found : Option Trip) → plan.phase_count ≤ 16 →
+    ShowsField plan was rows f → ShowsField plan lamp rows g → IsJudged f g plan found → IsLit was lamp plan rows found
+lit was lamp plan rows f g found count before after is now desk =
+    watched-now now found plan desk lamp rows (state_of now (untripped plan desk was) rows)
+    (judged plan f g (field (state_of now (untripped plan desk was) rows)) (field (state_of now (untripped plan desk lamp) rows)) found count (before now desk) (after now desk) is)

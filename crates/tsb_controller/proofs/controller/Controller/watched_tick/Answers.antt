@@ -1,0 +1,11 @@
+use Rattle.std.proofs.Common.{◌≡◌}
+use Rattle.tsb_objects.specs.Checked.{checked_plan}
+use Rattle.tsb_controller.specs.Layer.{rows_of}
+use Rattle.tsb_controller.proofs.PlacedLemmas.{placed}
+use Rattle.tsb_controller.proofs.WatchLemmas.{watched-tick}
+use Rattle.tsb_controller.proofs.controller.Controller.watched_tick.Goals as goal
+
+pub returns-clause-state : goal.returns-clause-state
+returns-clause-state c =
+    watched-tick c.args.now c.args.row.now c.args.lamp.now (checked_plan c.args.plan.now) (rows_of c.args.self.now) (rows_of c.tick.new.self) c.field-before.result c.field.result c.judge.result
+    (placed c.args.plan.now).count c.field-before.ensures c.field.ensures c.tick.ensures.state c.judge.ensures

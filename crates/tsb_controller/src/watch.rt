@@ -1,0 +1,81 @@
+//! What the heads show, and the inputs that the monitor judges: a tick and a fault.
+ghost use Rattle.std.specs.Prelude.{◌≡◌, ◌-◌, ◌≤◌, false};
+ghost use Rattle.tsb_objects.specs.Checked.{checked_plan};
+ghost use Rattle.tsb_ring.specs.Cells as rings;
+ghost use Rattle.tsb_heads.specs.Promises.{Flashes, AreApart};
+ghost use Rattle.tsb_controller.specs.Rows.{AreBy};
+ghost use Rattle.tsb_controller.specs.Shown.{IsShown};
+ghost use Rattle.tsb_controller.specs.Promises.{ShowsDisplay, ShowsField, IsWatchedTick, IsLit};
+
+use crate::controller::Controller;
+use tsb_heads::{Display, Field, Monitor, Trip};
+use tsb_objects::{Checked, Lamp, Ring, Row};
+
+impl Controller {
+    ghost use Rattle.tsb_controller.specs.Layer.{rows_of, kept_of, IsOpen};
+
+    /// A display by the intervals, the pedestrian parts and the commitments as they are.
+    fn heads(&self, tripped: bool, plan: &Checked) -> Display
+        requires rings_by { rings.IsBy (rows_of self.now).rings }
+        ensures shown { IsShown (checked_plan plan.now) tripped (rows_of self.now) result }
+        ensures flashing { Flashes tripped result }
+        ensures apart { AreApart result }
+    {
+        Display::new(
+            &self.phases.intervals(),
+            &self.phases.pedestrians(),
+            self.rings.commitment(Ring::of(1)),
+            self.rings.commitment(Ring::of(2)),
+            tripped,
+            plan,
+        )
+    }
+
+    /// What the heads show, of a controller that has tripped or has not.
+    pub fn display(&self, tripped: bool, plan: &Checked) -> Display
+        requires rings_by { rings.IsBy (rows_of self.now).rings }
+        ensures { ShowsDisplay (checked_plan plan.now) tripped (rows_of self.now) result }
+    {
+        self.heads(tripped, plan)
+    }
+
+    /// What the lamps show while the controller has not tripped, with the lamp that a fault has lit.
+    pub fn field(&self, lamp: &Option<Lamp>, plan: &Checked) -> Field
+        requires rings_by { rings.IsBy (rows_of self.now).rings }
+        ensures { ShowsField (checked_plan plan.now) lamp.now (rows_of self.now) result }
+    {
+        Field::new(self.heads(false, plan), *lamp)
+    }
+
+    /// Tick `now` of a controller that has not tripped, with what the monitor finds, which compares what the lamps showed
+    /// before with what they show then: why the controller trips, if it does.
+    pub fn watched_tick(
+        &mut self,
+        now: u32,
+        row: &Row,
+        lamp: &Option<Lamp>,
+        plan: &Checked,
+    ) -> Option<Trip>
+        requires opened { IsOpen self.old }
+        requires begun { 1 ≤ now }
+        requires in_time { now ≤ 6000000 }
+        requires by { AreBy (now - 1) (rows_of self.old) }
+        ensures state { IsWatchedTick now row.now lamp.now (checked_plan plan.now) (rows_of self.old) (rows_of self.new) result }
+        ensures by { AreBy now (rows_of self.new) }
+        ensures kept { kept_of self.new ≡ kept_of self.old }
+        ensures opened { IsOpen self.new }
+    {
+        let before = self.field(lamp, plan);
+        self.tick(now, row, plan);
+        Monitor::judge(&before, &self.field(lamp, plan), plan)
+    }
+
+    /// What the monitor finds when a fault lights `lamp` in place of the one that was, or takes that out: why the
+    /// controller, which has not tripped, trips, if it does.
+    pub fn light(&self, was: &Option<Lamp>, lamp: &Option<Lamp>, plan: &Checked) -> Option<Trip>
+        requires rings_by { rings.IsBy (rows_of self.now).rings }
+        ensures { IsLit was.now lamp.now (checked_plan plan.now) (rows_of self.now) result }
+    {
+        Monitor::judge(&self.field(was, plan), &self.field(lamp, plan), plan)
+    }
+}
