@@ -45,7 +45,7 @@ get_or-run_from a zero j below = absurd (omega arith)
 get_or-run_from a (suc n) zero below = omega arith
 get_or-run_from a (suc n) (suc j) below = get_or-run_from (a + 1) n j (omega arith) ∙ (let e : a + 1 + j ≡ a + suc j = omega arith in e)
 
-orders : map order objects ≡ run_from 0 COUNT
+pub orders : map order objects ≡ run_from 0 COUNT
 unfolding objects run_from
 orders = refl
 

@@ -1,5 +1,5 @@
 -- The table of objects: each object has its place, and the cells of two objects do not meet.
-use Rattle.std.proofs.Common.{zero, suc, ◌≡◌, ℕ, ◌+◌, ◌-◌, ◌<◌, ◌≤◌, true, List, [], ◌∷◌, length, get_or, take, sum_by, refl, arith, rules, sym, ◌∙◌, ap, subst, inl, inr}
+use Rattle.std.proofs.Common.{zero, suc, ◌≡◌, ℕ, ◌+◌, ◌-◌, ◌<◌, ◌≤◌, true, List, [], ◌∷◌, length, slice_get, Some, get_or, take, sum_by, refl, arith, rules, sym, ◌∙◌, ap, subst, inl, inr}
 use Rattle.std.proofs.lemmas.Bool.{cases_lt}
 use Rattle.std.proofs.lemmas.List.Sums.{sum_by-cons}
 use Rattle.std.proofs.lemmas.Bool.Decides.{nat_tests}
@@ -12,6 +12,10 @@ use Rattle.tsb_plan.specs.Objects.{objects, order, indices, first_cell, has_inde
 pub at-order : (o : Object) → get_or objects (order o) PhaseEnabled ≡ o
 unfolding objects
 at-order o = search rules
+
+pub found-order : (o : Object) → slice_get objects (order o) ≡ Some o
+unfolding objects
+found-order o = search rules
 
 pub order-below : (o : Object) → order o < COUNT
 order-below o = search rules

@@ -1,12 +1,18 @@
--- What holds of the cells of a plan and of its values, in words that do not retrace how they are found. Each law here is the contract of a
--- function in src/laws.rt.
-use Rattle.std.specs.Prelude.{◌≡◌, ◌≢◌, ℕ, ◌+◌, ◌-◌, ◌<◌, true, Ok, None}
+-- What holds of the objects, of the cells of a plan and of its values, in words that do not retrace how they are found.
+-- Each law here is the contract of a function in src/laws.rt.
+use Rattle.std.specs.Prelude.{◌≡◌, ◌≢◌, ℕ, ◌+◌, ◌-◌, ◌<◌, true, map, length, slice_get, Ok, Some, None}
 use Rattle.tsb_plan.specs.declared.object.Object.{Object}
 use Rattle.tsb_plan.specs.declared.object.ObjectId.{ObjectId}
 use Rattle.tsb_plan.specs.declared.object.TheConstants.{PLAN_CELLS}
-use Rattle.tsb_plan.specs.Objects.{has_index, first_cell}
+use Rattle.tsb_types.specs.Lists.{run_from}
+use Rattle.tsb_plan.specs.Objects.{objects, order, has_index, first_cell}
 use Rattle.tsb_plan.specs.Plan.{Plan, with_value}
 use Rattle.tsb_plan.specs.PlanOf.{got, put_refusal}
+
+-- the list of all objects has each at its place, and no other place
+pub record AreInOrder : Type 0 where
+  pub each : (o : Object) → slice_get objects (order o) ≡ Some o
+  pub places : map order objects ≡ run_from 0 (length objects)
 
 -- the cell is that of the object at the index
 pub record IsCellOf (cell : ℕ) (o : Object) (i : ℕ) : Type 0 where
