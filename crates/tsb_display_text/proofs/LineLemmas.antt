@@ -1,0 +1,133 @@
+-- A display line is ASCII text of 53 bytes, and tells of heads no more than those of phases 1 to 16 and of overlaps 1 to 4.
+use Rattle.std.proofs.Common.{◌≡◌, ◌∙◌, ℕ, ◌+◌, ◌<◌, ◌≤◌, List, [], ◌∷◌, ◌++◌, map, length, refl, ap, arith, zero, suc, Option, Some, None, IfSome, take, drop, set, replicate}
+use Rattle.std.specs.Str.{IsUtf8, IsAscii}
+use Rattle.std.proofs.lemmas.Str.{IsUtf8-from_ascii}
+use Rattle.tsb_types.specs.Lists.{run_from}
+use Rattle.tsb_types.specs.declared.lamp.Aspect.{Aspect}
+use Rattle.tsb_types.specs.declared.lamp.Aspect.TheVariants.{Dark, Red, Yellow, Green, FlashingRed}
+use Rattle.tsb_types.specs.declared.lamp.PedestrianAspect.{PedestrianAspect}
+use Rattle.tsb_types.specs.declared.lamp.PedestrianAspect.TheVariants as pedestrian_aspects
+use Rattle.tsb_heads.specs.Heads.{Heads}
+use Rattle.tsb_heads.specs.Promises.{IsSame}
+use Rattle.tsb_display_text.specs.Line.{line_of, digit, letter, pedestrian_letter, tick_field, vehicle_field, pedestrian_field, overlap_field, local_field, preempt_letter}
+
+pub line-length : (now : ℕ) (heads : Heads) (preempt local : Option ℕ) → length (line_of now heads preempt local) ≡ 53
+unfolding line_of run_from
+line-length now heads preempt None = refl
+line-length now heads preempt (Some n) = refl
+
+-- ## Text
+
+small-letter : (a : Aspect) → letter a < 128
+small-letter Dark = omega arith
+small-letter Red = omega arith
+small-letter Yellow = omega arith
+small-letter Green = omega arith
+small-letter FlashingRed = omega arith
+
+small-pedestrian_letter : (a : PedestrianAspect) → pedestrian_letter a < 128
+small-pedestrian_letter pedestrian_aspects.Dark = omega arith
+small-pedestrian_letter pedestrian_aspects.DontWalk = omega arith
+small-pedestrian_letter pedestrian_aspects.Clearance = omega arith
+small-pedestrian_letter pedestrian_aspects.Walk = omega arith
+
+small-digit : (n unit : ℕ) → digit n unit < 128
+small-digit n unit = omega arith
+
+-- no preempt has a number above 4
+small-preempt : (o : Option ℕ) → IfSome o (λ n. n ≤ 4) → preempt_letter o < 128
+small-preempt None most = omega arith
+small-preempt (Some n) most = omega arith
+
+ascii-nil : IsAscii []
+ascii-nil zero = omega arith
+ascii-nil (suc i) = omega arith
+
+ascii-cons : (b : ℕ) (bs : List ℕ) → b < 128 → IsAscii bs → IsAscii (b ∷ bs)
+ascii-cons b bs h t zero = h
+ascii-cons b bs h t (suc i) = t i
+
+ascii-append : (bs ds : List ℕ) → IsAscii bs → IsAscii ds → IsAscii (bs ++ ds)
+ascii-append [] ds h t = t
+ascii-append (b ∷ bs) ds h t = ascii-cons b (bs ++ ds) (h 0) (ascii-append bs ds (λ i. h (suc i)) t)
+
+ascii-map : (f : ℕ → ℕ) (ps : List ℕ) → ((p : ℕ) → f p < 128) → IsAscii (map f ps)
+ascii-map f [] small = ascii-nil
+ascii-map f (p ∷ ps) small = ascii-cons (f p) (map f ps) (small p) (ascii-map f ps small)
+
+ascii-digits : (n : ℕ) (units : List ℕ) → IsAscii (map (digit n) units)
+ascii-digits n units = ascii-map (digit n) units (λ unit. small-digit n unit)
+
+ascii-local : (local : Option ℕ) → IsAscii (local_field local)
+ascii-local None = ascii-map (λ k. 45) (1 ∷ 2 ∷ 3 ∷ 4 ∷ []) (λ k. omega arith)
+ascii-local (Some n) = ascii-digits n (1000 ∷ 100 ∷ 10 ∷ 1 ∷ [])
+
+-- behind a space
+ascii-spaced : (bs : List ℕ) → IsAscii bs → IsAscii (32 ∷ bs)
+ascii-spaced bs t = ascii-cons 32 bs (omega arith) t
+
+pub line-ascii : (now : ℕ) (heads : Heads) (preempt local : Option ℕ) → IfSome preempt (λ n. n ≤ 4) → IsAscii (line_of now heads preempt local)
+unfolding line_of
+line-ascii now heads preempt local most =
+    let behind_preempt : List ℕ = 32 ∷ local_field local in
+    let behind_overlaps : List ℕ = 32 ∷ preempt_letter preempt ∷ behind_preempt in
+    let behind_pedestrians : List ℕ = 32 ∷ overlap_field heads.overlap ++ behind_overlaps in
+    let behind_vehicles : List ℕ = 32 ∷ pedestrian_field heads.pedestrian ++ behind_pedestrians in
+    let behind_tick : List ℕ = 32 ∷ vehicle_field heads.vehicle ++ behind_vehicles in
+    let preempt_on : IsAscii behind_overlaps =
+    ascii-spaced (preempt_letter preempt ∷ behind_preempt) (ascii-cons (preempt_letter preempt) behind_preempt (small-preempt preempt most) (ascii-spaced (local_field local) (ascii-local local))) in
+    let overlaps_on : IsAscii behind_pedestrians =
+    ascii-spaced (overlap_field heads.overlap ++ behind_overlaps) (ascii-append (overlap_field heads.overlap) behind_overlaps
+    (ascii-map (λ o. letter (heads.overlap o)) (run_from 1 4) (λ o. small-letter (heads.overlap o))) preempt_on) in
+    let pedestrians_on : IsAscii behind_vehicles =
+    ascii-spaced (pedestrian_field heads.pedestrian ++ behind_pedestrians) (ascii-append (pedestrian_field heads.pedestrian) behind_pedestrians
+    (ascii-map (λ p. pedestrian_letter (heads.pedestrian p)) (run_from 1 16) (λ p. small-pedestrian_letter (heads.pedestrian p))) overlaps_on) in
+    let vehicles_on : IsAscii behind_tick =
+    ascii-spaced (vehicle_field heads.vehicle ++ behind_vehicles) (ascii-append (vehicle_field heads.vehicle) behind_vehicles
+    (ascii-map (λ p. letter (heads.vehicle p)) (run_from 1 16) (λ p. small-letter (heads.vehicle p))) pedestrians_on) in
+    ascii-append (tick_field now) behind_tick (ascii-digits now (1000000 ∷ 100000 ∷ 10000 ∷ 1000 ∷ 100 ∷ 10 ∷ 1 ∷ [])) vehicles_on
+
+pub line-utf8 : (now : ℕ) (heads : Heads) (preempt local : Option ℕ) → IfSome preempt (λ n. n ≤ 4) → IsUtf8 (line_of now heads preempt local)
+line-utf8 now heads preempt local most =
+    IsUtf8-from_ascii (line_of now heads preempt local) (line-ascii now heads preempt local most)
+
+-- ## Heads
+
+-- two functions that agree on a run have the same list of it
+map-same : (f g : ℕ → ℕ) (a n : ℕ) → ((k : ℕ) → a ≤ k → k < a + n → f k ≡ g k) → map f (run_from a n) ≡ map g (run_from a n)
+unfolding run_from
+map-same f g a zero same = refl
+map-same f g a (suc n) same =
+    let rest : map f (run_from (a + 1) n) ≡ map g (run_from (a + 1) n) = map-same f g (a + 1) n (λ k from below. same k (omega arith) (omega arith)) in
+    ap (λ (y : ℕ). y ∷ map f (run_from (a + 1) n)) (same a (omega arith) (omega arith)) ∙ ap (λ (ys : List ℕ). g a ∷ ys) rest
+
+-- heads that show the same have the same line
+pub line-same : (now : ℕ) (heads said : Heads) (preempt local : Option ℕ) → IsSame heads said →
+    line_of now heads preempt local ≡ line_of now said preempt local
+unfolding line_of
+line-same now heads said preempt local same =
+    let vehicles : vehicle_field heads.vehicle ≡ vehicle_field said.vehicle =
+    map-same (λ p. letter (heads.vehicle p)) (λ p. letter (said.vehicle p)) 1 16 (λ p from below. ap letter (same.vehicle p from (omega arith))) in
+    let pedestrians : pedestrian_field heads.pedestrian ≡ pedestrian_field said.pedestrian =
+    map-same (λ p. pedestrian_letter (heads.pedestrian p)) (λ p. pedestrian_letter (said.pedestrian p)) 1 16 (λ p from below. ap pedestrian_letter (same.pedestrian p from (omega arith))) in
+    let overlaps : overlap_field heads.overlap ≡ overlap_field said.overlap =
+    map-same (λ o. letter (heads.overlap o)) (λ o. letter (said.overlap o)) 1 4 (λ o from below. ap letter (same.overlap o from (omega arith))) in
+    λ i. tick_field now ++ (32 ∷ vehicles i ++ (32 ∷ pedestrians i ++ (32 ∷ overlaps i ++ (32 ∷ preempt_letter preempt ∷ 32 ∷ local_field local))))
+
+-- ## Writing
+
+-- a field of n bytes put into a line
+abbrev pub placed : ℕ → ℕ → List ℕ → List ℕ → List ℕ
+placed at n field line = take at line ++ (field ++ drop (at + n) line)
+
+-- all fields put into a line of spaces
+abbrev pub written : List ℕ → List ℕ → List ℕ → List ℕ → ℕ → List ℕ → List ℕ
+written tick vehicles pedestrians overlaps preempt local =
+    placed 49 4 local (set (placed 42 4 overlaps (placed 25 16 pedestrians (placed 8 16 vehicles (placed 0 7 tick (replicate 53 32))))) 47 preempt)
+
+pub line-written : (now : ℕ) (heads : Heads) (preempt local : Option ℕ) →
+    written (tick_field now) (vehicle_field heads.vehicle) (pedestrian_field heads.pedestrian) (overlap_field heads.overlap) (preempt_letter preempt) (local_field local)
+    ≡ line_of now heads preempt local
+unfolding line_of run_from
+line-written now heads preempt None = refl
+line-written now heads preempt (Some n) = refl

@@ -1,0 +1,78 @@
+//! The display line, field by field.
+ghost use Rattle.std.specs.Prelude.{◌≡◌, ◌+◌, ◌≤◌, ◌++◌, take, drop};
+ghost use Rattle.std.specs.Str.{IsUtf8};
+ghost use Rattle.tsb_heads.specs.Reading.{heads_of};
+ghost use Rattle.tsb_display_text.specs.Line.{line_of};
+
+use crate::letters::{overlap_letters, pedestrian_letters, vehicle_letters};
+use crate::numbers::{local_digits, preempt_digit, tick_digits};
+use arrayvec::ArrayString;
+use tsb_heads::Display;
+use tsb_types::Preempt;
+
+/// The length of a display line, in bytes.
+pub const WIDTH: usize = 53;
+
+/// The bytes of a display line.
+pub type LineBytes = [u8; WIDTH];
+
+/// Where each field begins, but the tick number, which begins the line.
+const VEHICLES: usize = 8;
+
+const PEDESTRIANS: usize = 25;
+
+const OVERLAPS: usize = 42;
+
+const PREEMPT: usize = 47;
+
+const LOCAL: usize = 49;
+
+/// The display line as text, without a line feed: `line_bytes`. It takes no memory.
+pub fn line(
+    now: u32,
+    heads: &Display,
+    preempt: Option<Preempt>,
+    local: Option<u32>,
+) -> ArrayString<64>
+    ensures { result.bytes ≡ line_of now (heads_of heads.now) preempt local }
+{
+    let bytes = line_bytes(now, heads, preempt, local);
+    let mut text = ArrayString::new();
+    if let Ok(found) = str::from_utf8(&bytes) {
+        text.push_str(found);
+    }
+    text
+}
+
+/// The bytes of the display line at a tick number, without a line feed, with one space between fields: the tick number
+/// in 7 digits; a letter for each vehicle head of phases 1 to 16, `G`, `Y`, `R`, `-` for one that is dark and `F` for one
+/// that flashes; one for each of their pedestrian heads, `W`, `C` for clearance, `D`, or `-` for one that is dark; one
+/// for each of overlaps 1 to 4, as of vehicle heads; the preempt in service, or 0; and the local counter in tenths of a
+/// second in 4 digits, or `----` where no pattern runs. Of numbers that are longer their last digits stand.
+pub fn line_bytes(
+    now: u32,
+    heads: &Display,
+    preempt: Option<Preempt>,
+    local: Option<u32>,
+) -> LineBytes
+    ensures line { result ≡ line_of now (heads_of heads.now) preempt local }
+    ensures text { IsUtf8 result }
+{
+    let mut bytes = [b' '; WIDTH];
+    put(&mut bytes, 0, &tick_digits(now));
+    put(&mut bytes, VEHICLES, &vehicle_letters(heads));
+    put(&mut bytes, PEDESTRIANS, &pedestrian_letters(heads));
+    put(&mut bytes, OVERLAPS, &overlap_letters(heads));
+    bytes[PREEMPT] = preempt_digit(preempt);
+    put(&mut bytes, LOCAL, &local_digits(local));
+    bytes
+}
+
+/// Puts a field into a line from `at` on.
+#[inline(always)]
+fn put<const N: usize>(bytes: &mut LineBytes, at: usize, field: &[u8; N])
+    requires { at + N ≤ 53 }
+    ensures { bytes.new ≡ take at bytes.old ++ (field.now ++ drop (at + N) bytes.old) }
+{
+    bytes[at..at + N].copy_from_slice(field);
+}

@@ -1,0 +1,74 @@
+use super::{line, line_bytes};
+use std::process::Abort;
+use tsb_heads::Display;
+use tsb_objects::{Checked, Intervals, Pedestrians, PhaseSet, Plan, Preempt};
+
+/// The built-in plan of eight phases.
+fn quad(rt: &impl Abort) -> Checked {
+    match Checked::new(Plan::quad()) {
+        Ok(plan) => plan,
+        Err(_) => panic!(rt; "the plan is not consistent"),
+    }
+}
+
+/// What the heads show while phases of the list `green` are Green and those of `yellow` are Yellow, with a pedestrian
+/// part of those of `walk` and of `clearance`, and no commitment.
+fn shown(
+    plan: &Checked,
+    green: u16,
+    yellow: u16,
+    walk: u16,
+    clearance: u16,
+    tripped: bool,
+) -> Display {
+    let intervals = Intervals {
+        green: PhaseSet::from_list(green),
+        yellow: PhaseSet::from_list(yellow),
+        red_clear: PhaseSet::empty(),
+    };
+    let pedestrians = Pedestrians {
+        walk: PhaseSet::from_list(walk),
+        clearance: PhaseSet::from_list(clearance),
+    };
+    Display::new(&intervals, &pedestrians, None, None, tripped, plan)
+}
+
+#[test]
+fn tells_what_heads_show(rt: HostRuntime) {
+    let plan = quad(&rt);
+    let walking = shown(&plan, 34, 0, 2, 0, false);
+    let text = line(1, &walking, None, None);
+    assert_eq!(rt;
+        text.as_str(),
+        "0000001 RGRRRGRR-------- -W-------------- G--- 0 ----"
+    );
+    let clearing = shown(&plan, 34, 0, 0, 2, false);
+    let text = line(70, &clearing, Some(Preempt::of(2)), None);
+    assert_eq!(rt;
+        text.as_str(),
+        "0000070 RGRRRGRR-------- -C-------------- G--- 2 ----"
+    );
+    let yellow = shown(&plan, 0, 34, 0, 0, false);
+    let text = line(760, &yellow, None, Some(760));
+    assert_eq!(rt;
+        text.as_str(),
+        "0000760 RYRRRYRR-------- -D-------------- Y--- 0 0760"
+    );
+    let red = shown(&plan, 0, 0, 0, 0, false);
+    let text = line(6_000_000, &red, None, Some(0));
+    assert_eq!(rt;
+        text.as_str(),
+        "6000000 RRRRRRRR-------- -D-------------- R--- 0 0000"
+    );
+}
+
+#[test]
+fn tells_flash(rt: HostRuntime) {
+    let plan = quad(&rt);
+    let flashing = shown(&plan, 34, 0, 2, 0, true);
+    let bytes = line_bytes(251, &flashing, Some(Preempt::of(1)), None);
+    assert_eq!(rt;
+        bytes,
+        *b"0000251 FFFFFFFF-------- ---------------- F--- 1 ----"
+    );
+}
