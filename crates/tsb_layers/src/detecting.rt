@@ -82,16 +82,9 @@ impl Driven for Detecting {
         }
         let mut numbers = numbers;
         let times = numbers.number()?;
-        let row = Row {
-            vehicles: numbers.set()?,
-            pedestrians: NumberSet::empty(),
-            preempts: NumberSet::empty(),
-        };
+        let row = numbers.vehicle_row()?;
         let phases = numbers.phases()?;
-        let mut since = [0; 16];
-        for k in 0..16 {
-            since[k] = numbers.number()?;
-        }
+        let since = numbers.since()?;
         let greens = Greens::new(phases, &since);
         for k in 0..times {
             self.tick(&row, &greens, numbers, k == 0)?;

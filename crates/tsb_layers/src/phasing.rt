@@ -1,13 +1,12 @@
 //! Phase timing alone, with the moves that the rings make of it.
-ghost use Rattle.std.specs.Prelude.{◌≡◌, ◌<◌, ◌+◌, ◌^◌, true, false, IfOk};
+ghost use Rattle.std.specs.Prelude.{◌≡◌, ◌<◌, ◌+◌, ◌^◌, true, false};
 ghost use Rattle.tsb_phase.specs.Cells.{IsBy};
-ghost use Rattle.tsb_phase.specs.Counts.{AreCounts};
 ghost use Rattle.tsb_phase.specs.Layer.{cells_of, is_open};
 
 use crate::driven::Driven;
 use std::alloc::Global;
 use tsb_cells::Reversible;
-use tsb_objects::{Called, Checked, Interval, Orders, Phase, PhaseSet, Timing};
+use tsb_objects::{Checked, Interval, Orders, Phase, PhaseSet, Timing};
 use tsb_phase::{Conditions, Phases};
 use tsb_runs::{Fault, Numbers, none_changed};
 use tsb_types::limits;
@@ -28,8 +27,8 @@ impl Phasing {
     fn ticks(&mut self, numbers: Numbers) -> Result<u32, Fault> {
         let mut numbers = numbers;
         let times = numbers.number()?;
-        let called = called(&mut numbers)?;
-        let counts = counts(&mut numbers)?;
+        let called = numbers.called()?;
+        let counts = numbers.counts()?;
         let conditions = Conditions {
             called,
             counts: &counts,
@@ -209,26 +208,6 @@ fn clear(phases: &mut Phases, now: u32, p: Phase) -> Result<(), Fault>
         _ => return Err(Fault::Differs),
     }
     Ok(())
-}
-
-fn called(numbers: &mut Numbers) -> Result<Called, Fault> {
-    Ok(Called {
-        callable: numbers.phases()?,
-        conflict: numbers.phases()?,
-        pedestrian: numbers.phases()?,
-        output: numbers.phases()?,
-    })
-}
-
-/// The vehicles that phases 1 to 16 have counted, in turn, 0 to 255 each.
-fn counts(numbers: &mut Numbers) -> Result<[u32; 16], Fault>
-    ensures { IfOk result AreCounts }
-{
-    let mut vehicles = [0; 16];
-    for k in 0..16 {
-        vehicles[k] = numbers.number()? % 256;
-    }
-    Ok(vehicles)
 }
 
 /// What is asked of phases; they read nothing of omitted phases and of a target.

@@ -6,7 +6,7 @@ ghost use Rattle.tsb_preempt.specs.Layer.{cells_of, is_open};
 use crate::driven::Driven;
 use std::alloc::Global;
 use tsb_cells::Reversible;
-use tsb_objects::{Checked, Intervals, NumberSet, Preempt, Refusal, Row, Stage};
+use tsb_objects::{Checked, Intervals, Preempt, Refusal, Row, Stage};
 use tsb_preempt::{PreemptOrders, Preempts};
 use tsb_runs::{Fault, Numbers, none_changed};
 use tsb_types::limits;
@@ -28,11 +28,7 @@ impl Preempting {
     fn ticks(&mut self, numbers: Numbers) -> Result<u32, Fault> {
         let mut numbers = numbers;
         let times = numbers.number()?;
-        let row = Row {
-            vehicles: NumberSet::empty(),
-            pedestrians: NumberSet::empty(),
-            preempts: numbers.set()?,
-        };
+        let row = numbers.preempt_row()?;
         let intervals = numbers.intervals()?;
         for k in 0..times {
             self.tick(&row, &intervals, numbers, k == 0)?;

@@ -6,7 +6,7 @@ ghost use Rattle.tsb_ring.specs.Layer.{cells_of, is_open};
 use crate::driven::Driven;
 use std::alloc::Global;
 use tsb_cells::Reversible;
-use tsb_objects::{Called, Checked, Moves, Orders, PhaseSet, RingMoves, Sequence, Timing};
+use tsb_objects::{Checked, Moves, RingMoves};
 use tsb_ring::{Conditions, RingOrder, Rings};
 use tsb_runs::{Fault, Numbers, none_changed};
 
@@ -26,7 +26,7 @@ impl Ringing {
     fn ticks(&mut self, numbers: Numbers) -> Result<u32, Fault> {
         let mut numbers = numbers;
         let times = numbers.number()?;
-        let conditions = conditions(&mut numbers)?;
+        let conditions = numbers.ring_conditions()?;
         for k in 0..times {
             let order = if k % 2 == 0 {
                 RingOrder::Ring1First
@@ -59,41 +59,6 @@ impl Ringing {
             none_changed(&changes)
         }
     }
-}
-
-fn conditions(numbers: &mut Numbers) -> Result<Conditions, Fault> {
-    let intervals = numbers.intervals()?;
-    let none = PhaseSet::empty();
-    let sequence = Sequence::new(numbers.number()?).ok_or(Fault::Malformed)?;
-    let called = Called {
-        callable: numbers.phases()?,
-        conflict: none,
-        pedestrian: none,
-        output: none,
-    };
-    let timing = Timing {
-        ready: numbers.phases()?,
-        over: numbers.phases()?,
-        red_revert_passed: numbers.phases()?,
-        gapped: none,
-    };
-    let omit = numbers.phases()?;
-    let has_target = numbers.is_one()?;
-    let phases = numbers.phases()?;
-    let orders = Orders {
-        hold: none,
-        must_end: none,
-        forced: none,
-        omit,
-        target: if has_target { Some(phases) } else { None },
-    };
-    Ok(Conditions {
-        intervals,
-        sequence,
-        called,
-        timing,
-        orders,
-    })
 }
 
 fn tells_moves(answers: &mut Numbers, moves: &Moves) -> Result<(), Fault> {

@@ -1,5 +1,5 @@
 use Rattle.std.proofs.Common.{◌≡◌, ℕ, ◌≤◌, slice_index, length}
-use Rattle.tsb_layers.proofs.phasing.counts.Given as goal
+use Rattle.tsb_runs.proofs.numbers.Numbers.counts.Given as goal
 
 -- what is read so far is small, and so is what is left
 abbrev pub invariant-loop-k : goal.invariant-loop-k
