@@ -1,4 +1,5 @@
-//! What holds of the objects, the cells and the values of every plan, each law the contract of a function that does nothing.
+//! What holds of the objects, the cells and the values of every plan, each law the contract of a function that does
+//! nothing.
 ghost use Rattle.tsb_plan.specs.Laws.{AreInOrder, HaveCells, ShareNoCell, LeaveNoCell, GiveBackWhatIsPut, LeaveOthers};
 
 /// The list of all objects has each at its place among them, and no other.
@@ -6,7 +7,8 @@ pub fn objects_are_in_order()
     ensures { AreInOrder }
 {}
 
-/// Each object at each of its indices has a cell of its own, and these cells are those from 0 to the last of `PLAN_CELLS`.
+/// Each object at each of its indices has a cell of its own, and these are all cells of a plan: those from 0 to below
+/// `PLAN_CELLS`.
 pub fn cells_are_told_apart()
     ensures within { HaveCells }
     ensures apart { ShareNoCell }
