@@ -5,3 +5,5 @@ mod TickLemmas
 mod PartLemmas
 mod InputLemmas
 mod WatchLemmas
+mod PlanLemmas
+mod WholeLemmas

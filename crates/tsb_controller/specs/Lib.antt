@@ -5,3 +5,4 @@ pub mod Carried
 pub mod Records
 pub mod Shown
 pub mod Promises
+pub mod Whole

@@ -9,6 +9,7 @@
 mod carry;
 pub mod controller;
 mod inputs;
+pub mod laws;
 mod record;
 mod values;
 mod watch;

@@ -1,0 +1,320 @@
+-- All rows side by side: their table, their differences, and what is read in them.
+use Rattle.std.proofs.Common.{◌≡◌, ℕ, ◌+◌, ◌-◌, ◌<◌, ◌≤◌, List, [], ◌∷◌, ◌++◌, length, get_or, take, drop, refl, sym, ap, ap₂, ◌∙◌, arith, subst, append_assoc, length-append}
+use Rattle.std.proofs.lemmas.List.{places, same_lists}
+use Rattle.tsb_cells.specs.Diff.{diff_from, diff, apply_diff, part, shifted, AreWithin}
+use Rattle.tsb_cells.specs.Row.{row_at}
+use Rattle.tsb_cells.proofs.DiffLemmas.{length-apply_diff}
+use Rattle.tsb_cells.proofs.PartLemmas.{diff_from-append, diff_from-shifted, diff-append, apply_diff-append, part-part, AreWithin-part, part-own}
+use Rattle.tsb_history.specs.History.{Change}
+use Rattle.tsb_plan.specs.PlanOf.{plan_in, plan_cells}
+use Rattle.tsb_detect.specs.Cells.{detectors_cells, detector_in}
+use Rattle.tsb_detect.proofs.ToldLemmas as detect
+use Rattle.tsb_calls.specs.Cells.{memories_cells, memories_in}
+use Rattle.tsb_calls.proofs.ToldLemmas as calls
+use Rattle.tsb_phase.specs.Cells.{phases_cells, phase_in}
+use Rattle.tsb_phase.proofs.ToldLemmas as phases
+use Rattle.tsb_ring.specs.Cells.{rings_cells, rings_in}
+use Rattle.tsb_ring.proofs.ToldLemmas as rings
+use Rattle.tsb_coord.specs.Cells.{pattern_cells, pattern_in}
+use Rattle.tsb_coord.proofs.CellLemmas as coord
+use Rattle.tsb_preempt.specs.Cells.{preempts_cells, preempts_in}
+use Rattle.tsb_preempt.proofs.ReadLemmas as preempts
+use Rattle.tsb_transact.specs.Cells.{desk_cells, desk_in}
+use Rattle.tsb_transact.specs.Laws as desk
+use Rattle.tsb_step.specs.declared.inputs.Input.{Input}
+use Rattle.tsb_step.specs.Cells.{cells_of, state_in, clock_at}
+use Rattle.tsb_step.specs.MonitorCells.{monitor_cells, lamp_in, trip_in}
+use Rattle.tsb_step.specs.Past.{record_of, undone, ticks_of}
+use Rattle.tsb_step.specs.State.{State}
+use Rattle.tsb_step.specs.Step.{kind_of}
+use Rattle.tsb_step.proofs.MonitorLemmas as monitor
+use Rattle.tsb_controller.specs.Rows.{Rows}
+use Rattle.tsb_controller.specs.Whole.{All, AreFull, AreAllBy, whole, all_in, all_changes, all_put_back, RowsAreTold, RecordsAreJoined, RecordsGoBack}
+use Rattle.tsb_controller.proofs.PlanLemmas.{plan_cells-plan_in}
+
+pub full : (now : ℕ) (a : All) → AreAllBy now a → AreFull a
+full now a by = record {
+  plan = by.plan;
+  desk = by.desk.full;
+  detectors = by.layers.detectors.full;
+  calls = by.layers.calls.full;
+  phases = by.layers.phases.full;
+  rings = by.layers.rings.full;
+  pattern = by.layers.pattern.full;
+  preempts = by.layers.preempts.full;
+  monitor = by.monitor.full;
+}
+
+-- ## The table
+
+regrouped : (a b c d e f g h i : List ℕ) → ((((((((a ++ b) ++ c) ++ d) ++ e) ++ f) ++ g) ++ h) ++ i) ≡ a ++ (b ++ (c ++ (d ++ (e ++ (f ++ (g ++ (h ++ i)))))))
+regrouped a b c d e f g h i = simp (append_assoc)
+
+together : List ℕ → List ℕ → List ℕ
+together xs ys = xs ++ ys
+
+pub rows-told : desk.RowsAreTold → RowsAreTold
+unfolding cells_of together
+rows-told desk_told now a by =
+    let clock : ℕ = clock_at now (trip_in a.monitor) in
+    ap₂ together (ap₂ together (ap₂ together (ap₂ together (ap₂ together (ap₂ together (ap₂ together (ap₂ together
+    (plan_cells-plan_in a.plan by.plan)
+    (desk_told a.desk by.desk))
+    (detect.detectors-told clock a.layers.detectors by.layers.detectors))
+    (calls.calls-told a.layers.calls by.layers.calls))
+    (phases.rows-told clock a.layers.phases by.layers.phases))
+    (rings.rows-told a.layers.rings by.layers.rings))
+    (coord.row_told a.layers.pattern by.layers.pattern))
+    (preempts.preempts-told clock a.layers.preempts by.layers.preempts))
+    (monitor.rows-told now a.monitor by.monitor)
+    ∙ regrouped a.plan a.desk a.layers.detectors a.layers.calls a.layers.phases a.layers.rings a.layers.pattern a.layers.preempts a.monitor
+
+-- ## Differences
+
+-- of two rows side by side, the cells numbered from k on
+beside : (k n : ℕ) (xs vs ys ws : List ℕ) → length xs ≡ n → length vs ≡ n → diff_from k (xs ++ ys) (vs ++ ws) ≡ shifted k (diff xs vs) ++ diff_from (k + n) ys ws
+beside k n xs vs ys ws long also =
+    diff_from-append k xs ys vs ws (long ∙ sym also)
+    ∙ ap₂ (λ (es : List (ℕ × ℕ)) (m : ℕ). es ++ diff_from (k + m) ys ws) (diff_from-shifted k xs vs) long
+
+-- the first are numbered from 0
+first : (n : ℕ) (xs vs ys ws : List ℕ) → length xs ≡ n → length vs ≡ n → diff (xs ++ ys) (vs ++ ws) ≡ diff xs vs ++ diff_from n ys ws
+first n xs vs ys ws long also =
+    diff-append xs ys vs ws (long ∙ sym also)
+    ∙ ap (λ (m : ℕ). diff xs vs ++ shifted m (diff ys ws)) long
+    ∙ ap (λ (es : List (ℕ × ℕ)). diff xs vs ++ es) (sym (diff_from-shifted n ys ws))
+
+layers-behind : (a b c d e f g : List (ℕ × ℕ)) → a ++ (b ++ (c ++ (d ++ (e ++ (f ++ g))))) ≡ (a ++ (b ++ (c ++ (d ++ (e ++ f))))) ++ g
+layers-behind a b c d e f g = simp (append_assoc)
+
+pub whole-differs : (a b : All) → AreFull a → AreFull b → diff (whole a) (whole b) ≡ all_changes a b
+whole-differs a b long also =
+    first 1230 a.plan b.plan _ _ long.plan also.plan
+    ∙ ap (λ (es : List (ℕ × ℕ)). diff a.plan b.plan ++ es)
+    (beside 1230 132 a.desk b.desk _ _ long.desk also.desk
+    ∙ ap (λ (es : List (ℕ × ℕ)). shifted 1230 (diff a.desk b.desk) ++ es)
+    (beside 1362 54 a.layers.detectors b.layers.detectors _ _ long.detectors also.detectors
+    ∙ ap (λ (es : List (ℕ × ℕ)). shifted 1362 (diff a.layers.detectors b.layers.detectors) ++ es)
+    (beside 1416 18 a.layers.calls b.layers.calls _ _ long.calls also.calls
+    ∙ ap (λ (es : List (ℕ × ℕ)). shifted 1416 (diff a.layers.calls b.layers.calls) ++ es)
+    (beside 1434 121 a.layers.phases b.layers.phases _ _ long.phases also.phases
+    ∙ ap (λ (es : List (ℕ × ℕ)). shifted 1434 (diff a.layers.phases b.layers.phases) ++ es)
+    (beside 1555 6 a.layers.rings b.layers.rings _ _ long.rings also.rings
+    ∙ ap (λ (es : List (ℕ × ℕ)). shifted 1555 (diff a.layers.rings b.layers.rings) ++ es)
+    (beside 1561 1 a.layers.pattern b.layers.pattern _ _ long.pattern also.pattern
+    ∙ ap (λ (es : List (ℕ × ℕ)). shifted 1561 (diff a.layers.pattern b.layers.pattern) ++ es)
+    (beside 1562 10 a.layers.preempts b.layers.preempts a.monitor b.monitor long.preempts also.preempts
+    ∙ ap (λ (es : List (ℕ × ℕ)). shifted 1562 (diff a.layers.preempts b.layers.preempts) ++ es) (diff_from-shifted 1572 a.monitor b.monitor))))))
+    ∙ layers-behind (shifted 1362 (diff a.layers.detectors b.layers.detectors)) (shifted 1416 (diff a.layers.calls b.layers.calls)) (shifted 1434 (diff a.layers.phases b.layers.phases)) (shifted 1555 (diff a.layers.rings b.layers.rings)) (shifted 1561 (diff a.layers.pattern b.layers.pattern)) (shifted 1562 (diff a.layers.preempts b.layers.preempts))
+    (shifted 1572 (diff a.monitor b.monitor))))
+
+pub records-joined : desk.RowsAreTold → RecordsAreJoined
+records-joined desk_told i m n old new by by_new =
+    ap (λ (es : List (ℕ × ℕ)). let made : Change = record { kind = kind_of i; entries = es } in made)
+    (ap₂ diff (rows-told desk_told m old by) (rows-told desk_told n new by_new) ∙ whole-differs old new (full m old by) (full n new by_new))
+
+-- ## Entries put back
+
+-- entries put into two rows side by side are put into each by its own part, the cells numbered from k on
+parts : (k m n : ℕ) (xs ys : List ℕ) (es : List (ℕ × ℕ)) → length xs ≡ m → length ys ≡ n →
+    apply_diff (xs ++ ys) (part k (m + n) es) ≡ apply_diff xs (part k m es) ++ apply_diff ys (part (k + m) n es)
+parts k m n xs ys es long also =
+    apply_diff-append xs ys (part k (m + n) es) (subst (λ (w : ℕ). AreWithin w (part k (m + n) es)) (ap₂ (λ (x y : ℕ). x + y) (sym long) (sym also)) (AreWithin-part k (m + n) es))
+    ∙ ap₂ (λ (x y : ℕ). apply_diff xs (part 0 x (part k (m + n) es)) ++ apply_diff ys (part x y (part k (m + n) es))) long also
+    ∙ ap₂ (λ (one two : List (ℕ × ℕ)). apply_diff xs one ++ apply_diff ys two)
+    (part-part k (m + n) 0 m es (omega arith) ∙ ap (λ (x : ℕ). part x m es) none)
+    (part-part k (m + n) m n es (omega arith))
+  where
+    none : k + 0 ≡ k
+    none = omega arith
+
+behind : (m n : ℕ) (xs ys : List ℕ) → length xs ≡ m → length ys ≡ n → length (xs ++ ys) ≡ m + n
+behind m n xs ys long also = length-append xs ys ∙ ap₂ (λ (x y : ℕ). x + y) long also
+
+pub whole-back : (a : All) (es : List (ℕ × ℕ)) → AreFull a → AreWithin 1579 es → apply_diff (whole a) es ≡ whole (all_put_back a es)
+whole-back a es long within =
+    ap (apply_diff (whole a)) (sym (part-own 1579 es within))
+    ∙ parts 0 1230 349 a.plan _ es long.plan l1
+    ∙ ap (λ (xs : List ℕ). apply_diff a.plan (part 0 1230 es) ++ xs)
+    (parts 1230 132 217 a.desk _ es long.desk l2
+    ∙ ap (λ (xs : List ℕ). apply_diff a.desk (part 1230 132 es) ++ xs)
+    (parts 1362 54 163 a.layers.detectors _ es long.detectors l3
+    ∙ ap (λ (xs : List ℕ). apply_diff a.layers.detectors (part 1362 54 es) ++ xs)
+    (parts 1416 18 145 a.layers.calls _ es long.calls l4
+    ∙ ap (λ (xs : List ℕ). apply_diff a.layers.calls (part 1416 18 es) ++ xs)
+    (parts 1434 121 24 a.layers.phases _ es long.phases l5
+    ∙ ap (λ (xs : List ℕ). apply_diff a.layers.phases (part 1434 121 es) ++ xs)
+    (parts 1555 6 18 a.layers.rings _ es long.rings l6
+    ∙ ap (λ (xs : List ℕ). apply_diff a.layers.rings (part 1555 6 es) ++ xs)
+    (parts 1561 1 17 a.layers.pattern _ es long.pattern l7
+    ∙ ap (λ (xs : List ℕ). apply_diff a.layers.pattern (part 1561 1 es) ++ xs)
+    (parts 1562 10 7 a.layers.preempts a.monitor es long.preempts long.monitor)))))))
+  where
+    l7 : length (a.layers.preempts ++ a.monitor) ≡ 17
+    l7 = behind 10 7 a.layers.preempts a.monitor long.preempts long.monitor
+
+    l6 : length (a.layers.pattern ++ (a.layers.preempts ++ a.monitor)) ≡ 18
+    l6 = behind 1 17 a.layers.pattern _ long.pattern l7
+
+    l5 : length (a.layers.rings ++ (a.layers.pattern ++ (a.layers.preempts ++ a.monitor))) ≡ 24
+    l5 = behind 6 18 a.layers.rings _ long.rings l6
+
+    l4 : length (a.layers.phases ++ (a.layers.rings ++ (a.layers.pattern ++ (a.layers.preempts ++ a.monitor)))) ≡ 145
+    l4 = behind 121 24 a.layers.phases _ long.phases l5
+
+    l3 : length (a.layers.calls ++ (a.layers.phases ++ (a.layers.rings ++ (a.layers.pattern ++ (a.layers.preempts ++ a.monitor))))) ≡ 163
+    l3 = behind 18 145 a.layers.calls _ long.calls l4
+
+    l2 : length (a.layers.detectors ++ (a.layers.calls ++ (a.layers.phases ++ (a.layers.rings ++ (a.layers.pattern ++ (a.layers.preempts ++ a.monitor)))))) ≡ 217
+    l2 = behind 54 163 a.layers.detectors _ long.detectors l3
+
+    l1 : length (a.desk ++ (a.layers.detectors ++ (a.layers.calls ++ (a.layers.phases ++ (a.layers.rings ++ (a.layers.pattern ++ (a.layers.preempts ++ a.monitor))))))) ≡ 349
+    l1 = behind 132 217 a.desk _ long.desk l2
+
+-- ## Reading
+
+-- a row among others
+row-in : (before xs behind_it : List ℕ) (at w : ℕ) → length before ≡ at → length xs ≡ w → row_at w (before ++ (xs ++ behind_it)) at ≡ xs
+row-in before xs behind_it at w start long = same_lists _ _ (search (arith, places)) (λ i d b. grind (arith, places))
+
+last : (before xs : List ℕ) (at w : ℕ) → length before ≡ at → length xs ≡ w → row_at w (before ++ xs) at ≡ xs
+last before xs at w start long = same_lists _ _ (search (arith, places)) (λ i d b. grind (arith, places))
+
+module _ (a : All) (long : AreFull a) where
+  -- the rows before each, and behind it
+  abbrev b2 : List ℕ
+  b2 = a.plan ++ a.desk
+
+  abbrev b3 : List ℕ
+  b3 = (a.plan ++ a.desk) ++ a.layers.detectors
+
+  abbrev b4 : List ℕ
+  b4 = ((a.plan ++ a.desk) ++ a.layers.detectors) ++ a.layers.calls
+
+  abbrev b5 : List ℕ
+  b5 = (((a.plan ++ a.desk) ++ a.layers.detectors) ++ a.layers.calls) ++ a.layers.phases
+
+  abbrev b6 : List ℕ
+  b6 = ((((a.plan ++ a.desk) ++ a.layers.detectors) ++ a.layers.calls) ++ a.layers.phases) ++ a.layers.rings
+
+  abbrev b7 : List ℕ
+  b7 = (((((a.plan ++ a.desk) ++ a.layers.detectors) ++ a.layers.calls) ++ a.layers.phases) ++ a.layers.rings) ++ a.layers.pattern
+
+  abbrev t6 : List ℕ
+  t6 = a.layers.pattern ++ (a.layers.preempts ++ a.monitor)
+
+  abbrev t5 : List ℕ
+  t5 = a.layers.rings ++ (a.layers.pattern ++ (a.layers.preempts ++ a.monitor))
+
+  abbrev t4 : List ℕ
+  t4 = a.layers.phases ++ (a.layers.rings ++ (a.layers.pattern ++ (a.layers.preempts ++ a.monitor)))
+
+  abbrev t3 : List ℕ
+  t3 = a.layers.calls ++ (a.layers.phases ++ (a.layers.rings ++ (a.layers.pattern ++ (a.layers.preempts ++ a.monitor))))
+
+  abbrev t2 : List ℕ
+  t2 = a.layers.detectors ++ (a.layers.calls ++ (a.layers.phases ++ (a.layers.rings ++ (a.layers.pattern ++ (a.layers.preempts ++ a.monitor)))))
+
+  n2 : length b2 ≡ 1362
+  n2 = behind 1230 132 a.plan a.desk long.plan long.desk
+
+  n3 : length b3 ≡ 1416
+  n3 = behind 1362 54 b2 a.layers.detectors n2 long.detectors
+
+  n4 : length b4 ≡ 1434
+  n4 = behind 1416 18 b3 a.layers.calls n3 long.calls
+
+  n5 : length b5 ≡ 1555
+  n5 = behind 1434 121 b4 a.layers.phases n4 long.phases
+
+  n6 : length b6 ≡ 1561
+  n6 = behind 1555 6 b5 a.layers.rings n5 long.rings
+
+  n7 : length b7 ≡ 1562
+  n7 = behind 1561 1 b6 a.layers.pattern n6 long.pattern
+
+  n8 : length (b7 ++ a.layers.preempts) ≡ 1572
+  n8 = behind 1562 10 b7 a.layers.preempts n7 long.preempts
+
+  e2 : whole a ≡ b2 ++ t2
+  e2 = sym (append_assoc a.plan a.desk t2)
+
+  e3 : whole a ≡ b3 ++ t3
+  e3 = e2 ∙ sym (append_assoc b2 a.layers.detectors t3)
+
+  e4 : whole a ≡ b4 ++ t4
+  e4 = e3 ∙ sym (append_assoc b3 a.layers.calls t4)
+
+  e5 : whole a ≡ b5 ++ t5
+  e5 = e4 ∙ sym (append_assoc b4 a.layers.phases t5)
+
+  e6 : whole a ≡ b6 ++ t6
+  e6 = e5 ∙ sym (append_assoc b5 a.layers.rings t6)
+
+  e7 : whole a ≡ b7 ++ (a.layers.preempts ++ a.monitor)
+  e7 = e6 ∙ sym (append_assoc b6 a.layers.pattern (a.layers.preempts ++ a.monitor))
+
+  e8 : whole a ≡ (b7 ++ a.layers.preempts) ++ a.monitor
+  e8 = e7 ∙ sym (append_assoc b7 a.layers.preempts a.monitor)
+
+  plan-read : row_at 1230 (whole a) 0 ≡ a.plan
+  plan-read = row-in [] a.plan (a.desk ++ t2) 0 1230 refl long.plan
+
+  desk-read : row_at 132 (whole a) 1230 ≡ a.desk
+  desk-read = row-in a.plan a.desk t2 1230 132 long.plan long.desk
+
+  detectors-read : row_at 54 (whole a) 1362 ≡ a.layers.detectors
+  detectors-read = ap (λ (xs : List ℕ). row_at 54 xs 1362) e2 ∙ row-in b2 a.layers.detectors t3 1362 54 n2 long.detectors
+
+  calls-read : row_at 18 (whole a) 1416 ≡ a.layers.calls
+  calls-read = ap (λ (xs : List ℕ). row_at 18 xs 1416) e3 ∙ row-in b3 a.layers.calls t4 1416 18 n3 long.calls
+
+  phases-read : row_at 121 (whole a) 1434 ≡ a.layers.phases
+  phases-read = ap (λ (xs : List ℕ). row_at 121 xs 1434) e4 ∙ row-in b4 a.layers.phases t5 1434 121 n4 long.phases
+
+  rings-read : row_at 6 (whole a) 1555 ≡ a.layers.rings
+  rings-read = ap (λ (xs : List ℕ). row_at 6 xs 1555) e5 ∙ row-in b5 a.layers.rings t6 1555 6 n5 long.rings
+
+  pattern-read : row_at 1 (whole a) 1561 ≡ a.layers.pattern
+  pattern-read = ap (λ (xs : List ℕ). row_at 1 xs 1561) e6 ∙ row-in b6 a.layers.pattern (a.layers.preempts ++ a.monitor) 1561 1 n6 long.pattern
+
+  preempts-read : row_at 10 (whole a) 1562 ≡ a.layers.preempts
+  preempts-read = ap (λ (xs : List ℕ). row_at 10 xs 1562) e7 ∙ row-in b7 a.layers.preempts a.monitor 1562 10 n7 long.preempts
+
+  monitor-read : row_at 7 (whole a) 1572 ≡ a.monitor
+  monitor-read = ap (λ (xs : List ℕ). row_at 7 xs 1572) e8 ∙ last (b7 ++ a.layers.preempts) a.monitor 1572 7 n8 long.monitor
+
+  pub whole-read : (now : ℕ) → state_in now (whole a) ≡ all_in now a
+  unfolding state_in
+  whole-read now = λ i. record {
+    now = now;
+    plan = plan_in (plan-read i);
+    desk = desk_in (desk-read i);
+    pattern = pattern_in (pattern-read i);
+    detectors = detector_in (clock_at now (trip_in (monitor-read i))) (detectors-read i);
+    memories = memories_in (calls-read i);
+    phases = phase_in (clock_at now (trip_in (monitor-read i))) (phases-read i);
+    rings = rings_in (rings-read i);
+    preempts = preempts_in (clock_at now (trip_in (monitor-read i))) (preempts-read i);
+    lamp = lamp_in (monitor-read i);
+    trip = trip_in (monitor-read i);
+  }
+
+back-full : (a : All) (es : List (ℕ × ℕ)) → AreFull a → AreFull (all_put_back a es)
+back-full a es long = record {
+  plan = length-apply_diff a.plan (part 0 1230 es) ∙ long.plan;
+  desk = length-apply_diff a.desk (part 1230 132 es) ∙ long.desk;
+  detectors = length-apply_diff a.layers.detectors (part 1362 54 es) ∙ long.detectors;
+  calls = length-apply_diff a.layers.calls (part 1416 18 es) ∙ long.calls;
+  phases = length-apply_diff a.layers.phases (part 1434 121 es) ∙ long.phases;
+  rings = length-apply_diff a.layers.rings (part 1555 6 es) ∙ long.rings;
+  pattern = length-apply_diff a.layers.pattern (part 1561 1 es) ∙ long.pattern;
+  preempts = length-apply_diff a.layers.preempts (part 1562 10 es) ∙ long.preempts;
+  monitor = length-apply_diff a.monitor (part 1572 7 es) ∙ long.monitor;
+}
+
+pub records-back : desk.RowsAreTold → RecordsGoBack
+records-back desk_told r now a by within =
+    ap (λ (row : List ℕ). state_in (now - ticks_of r.kind) (apply_diff row r.entries)) (rows-told desk_told now a by)
+    ∙ ap (state_in (now - ticks_of r.kind)) (whole-back a r.entries (full now a by) within)
+    ∙ whole-read (all_put_back a r.entries) (back-full a r.entries (full now a by)) (now - ticks_of r.kind)

@@ -1,0 +1,82 @@
+-- All rows of the bench side by side, and the state that is read in them; and laws of records over them, each the contract of
+-- a function in src/laws.rt that does nothing.
+use Rattle.std.specs.Prelude.{◌≡◌, ℕ, ◌-◌, List, ◌++◌, length}
+use Rattle.tsb_cells.specs.Diff.{diff, apply_diff, part, shifted, AreWithin}
+use Rattle.tsb_history.specs.History.{Change}
+use Rattle.tsb_plan.specs.PlanOf.{plan_in}
+use Rattle.tsb_transact.specs.Cells as desk
+use Rattle.tsb_transact.specs.Cells.{desk_in}
+use Rattle.tsb_step.specs.declared.inputs.Input.{Input}
+use Rattle.tsb_step.specs.Cells.{cells_of, state_in, clock_at}
+use Rattle.tsb_step.specs.MonitorCells.{lamp_in, trip_in}
+use Rattle.tsb_step.specs.MonitorLaws.{IsMonitorBy}
+use Rattle.tsb_step.specs.Past.{record_of, undone, ticks_of}
+use Rattle.tsb_step.specs.State.{State}
+use Rattle.tsb_step.specs.Step.{kind_of}
+use Rattle.tsb_controller.specs.Records.{changes, put_back}
+use Rattle.tsb_controller.specs.Rows.{Rows, AreBy, state_of}
+
+pub record All : Type 0 where
+  pub plan : List ℕ
+  pub desk : List ℕ
+  pub layers : Rows
+  pub monitor : List ℕ
+
+-- one behind the other
+abbrev pub whole : All → List ℕ
+whole a =
+    a.plan ++ (a.desk ++ (a.layers.detectors ++ (a.layers.calls ++ (a.layers.phases ++ (a.layers.rings ++
+    (a.layers.pattern ++ (a.layers.preempts ++ a.monitor)))))))
+
+-- each has as many cells as it should
+pub record AreFull (a : All) : Type 0 where
+  pub plan : length a.plan ≡ 1230
+  pub desk : length a.desk ≡ 132
+  pub detectors : length a.layers.detectors ≡ 54
+  pub calls : length a.layers.calls ≡ 18
+  pub phases : length a.layers.phases ≡ 121
+  pub rings : length a.layers.rings ≡ 6
+  pub pattern : length a.layers.pattern ≡ 1
+  pub preempts : length a.layers.preempts ≡ 10
+  pub monitor : length a.monitor ≡ 7
+
+-- the state in them at tick number `now`
+abbrev pub all_in : ℕ → All → State
+all_in now a = state_of now (record { plan = plan_in a.plan; desk = desk_in a.desk; lamp = lamp_in a.monitor; trip = trip_in a.monitor }) a.layers
+
+-- rows that the bench can hold at tick number `now`; no timer runs in a controller that has tripped
+pub record AreAllBy (now : ℕ) (a : All) : Type 0 where
+  pub plan : length a.plan ≡ 1230
+  pub desk : desk.IsBy a.desk
+  pub layers : AreBy (clock_at now (trip_in a.monitor)) a.layers
+  pub monitor : IsMonitorBy now a.monitor
+
+-- the cells that differ, each by its number, with what it held before
+abbrev pub all_changes : All → All → List (ℕ × ℕ)
+all_changes old new =
+    diff old.plan new.plan ++ (shifted 1230 (diff old.desk new.desk) ++ (changes old.layers new.layers ++ shifted 1572 (diff old.monitor new.monitor)))
+
+-- the rows with what a record says put back
+abbrev pub all_put_back : All → List (ℕ × ℕ) → All
+all_put_back a es = record {
+  plan = apply_diff a.plan (part 0 1230 es);
+  desk = apply_diff a.desk (part 1230 132 es);
+  layers = put_back a.layers es;
+  monitor = apply_diff a.monitor (part 1572 7 es);
+}
+
+-- ## Laws
+
+-- the cells of the state in rows are these rows
+abbrev pub RowsAreTold : Type 0
+RowsAreTold = (now : ℕ) (a : All) → AreAllBy now a → cells_of (all_in now a) ≡ whole a
+
+-- so the record of an input is what differs in each
+abbrev pub RecordsAreJoined : Type 0
+RecordsAreJoined = (i : Input) (m n : ℕ) (old new : All) → AreAllBy m old → AreAllBy n new →
+    record_of i (all_in m old) (all_in n new) ≡ record { kind = kind_of i; entries = all_changes old new }
+
+-- and a record takes each row back by its own part
+abbrev pub RecordsGoBack : Type 0
+RecordsGoBack = (r : Change) (now : ℕ) (a : All) → AreAllBy now a → AreWithin 1579 r.entries →
+    undone r (all_in now a) ≡ all_in (now - ticks_of r.kind) (all_put_back a r.entries)
