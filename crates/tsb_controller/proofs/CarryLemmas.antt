@@ -1,12 +1,10 @@
 -- The moves of the rings on the phases, one call after the other.
-use Rattle.std.proofs.Common.{◌≡◌, ℕ, ◌≤◌, ◌==◌, Bool, true, false, ◌||◌, if◌then◌else◌, List, Option, Some, None, refl, sym, ap, ◌∙◌, inl, inr, arith, subst}
+use Rattle.std.proofs.Common.{◌≡◌, ℕ, ◌≤◌, ◌==◌, Bool, true, false, ◌||◌, if◌then◌else◌, List, Option, Some, refl, ap, ◌∙◌, inl, inr, arith, subst}
 use Rattle.std.proofs.lemmas.Bool.{cases_Bool, eqb-true}
 use Rattle.std.proofs.lemmas.Bool.Decides.{nat_tests}
 use Rattle.tsb_types.specs.declared.flow.Moves.{Moves}
 use Rattle.tsb_types.specs.declared.flow.Timing.{Timing}
-use Rattle.tsb_types.specs.declared.interval.Interval.{Interval}
 use Rattle.tsb_types.specs.declared.interval.Interval.TheVariants.{Yellow}
-use Rattle.tsb_types.specs.Intervals.{is_green, in_service}
 use Rattle.tsb_types.specs.Lists.{is}
 use Rattle.tsb_types.specs.Sets.{has, is_phase}
 use Rattle.tsb_plan.specs.Plan.{Plan}
@@ -15,8 +13,7 @@ use Rattle.tsb_phase.specs.Phase.{Phase, Given}
 use Rattle.tsb_phase.specs.Moves.{ended, cleared, started_by, once_ended, once_cleared, once_started}
 use Rattle.tsb_phase.specs.Promises.{given_of, IsEnded, KeepsOthers, IsClearing, IsCleared, IsStarted}
 use Rattle.tsb_phase.specs.Cells.{phase_in}
-use Rattle.tsb_ring.specs.Moves.{is_ended, is_cleared, is_started}
-use Rattle.tsb_controller.specs.Carried.{IsEndedIf, IsClearedIf, IsStartedIf, IsOne, CanClear, AreApart, IsCarriedOut, AreOnes, moved_by}
+use Rattle.tsb_controller.specs.Carried.{IsEndedIf, IsClearedIf, IsStartedIf, AreApart, IsCarriedOut, moved_by}
 
 turned : (m n : ℕ) → (m == n) ≡ (n == m)
 turned m n = grind (arith, nat_tests)

@@ -1,12 +1,11 @@
 -- What power-up, a reset, a selected pattern and a switch make of the rows is what the one step makes of the state.
-use Rattle.std.proofs.Common.{◌≡◌, ℕ, ◌≤◌, ◌==◌, Bool, true, false, not, ◌&&◌, ◌||◌, if◌then◌else◌, List, Option, Some, None, refl, sym, ap, ◌∙◌, inl, inr, arith}
+use Rattle.std.proofs.Common.{◌≡◌, ℕ, ◌==◌, Bool, true, false, not, ◌&&◌, ◌||◌, if◌then◌else◌, List, Option, Some, None, refl, sym, ap, ◌∙◌, inl, inr}
 use Rattle.std.proofs.Math.Path.{fun_ext}
-use Rattle.std.proofs.lemmas.Bool.{cases_Bool, true≢false, eqb-true, and_parts}
-use Rattle.std.proofs.lemmas.Bool.Decides.{nat_tests}
+use Rattle.std.proofs.lemmas.Bool.{cases_Bool, true≢false, eqb-true}
 use Rattle.tsb_types.specs.declared.refusal.Refusal.{Refusal}
 use Rattle.tsb_types.specs.declared.refusal.Refusal.TheVariants.{NoSuchPreempt}
 use Rattle.tsb_types.specs.Sets.{is_phase}
-use Rattle.tsb_types.proofs.ClipLemmas.{IsAmong, among_16}
+use Rattle.tsb_types.proofs.ClipLemmas.{among_16}
 use Rattle.tsb_plan.specs.Plan.{Plan}
 use Rattle.tsb_detect.specs.Detector as detector
 use Rattle.tsb_detect.specs.Detector.{Detector, is_detector}
@@ -16,12 +15,10 @@ use Rattle.tsb_calls.specs.Memories as memories_words
 use Rattle.tsb_calls.specs.Cells.{memories_in}
 use Rattle.tsb_calls.specs.Promises as calls
 use Rattle.tsb_calls.proofs.StateLemmas.{whole-same, off-read}
-use Rattle.tsb_phase.specs.Phase.{Phase, at_power_up}
+use Rattle.tsb_phase.specs.Phase.{at_power_up}
 use Rattle.tsb_phase.specs.Moves.{unforced}
 use Rattle.tsb_phase.specs.Cells.{phase_in}
 use Rattle.tsb_phase.specs.Promises as phases
-use Rattle.tsb_ring.specs.Cells.{rings_in}
-use Rattle.tsb_ring.specs.Promises as rings
 use Rattle.tsb_coord.specs.Coordinated as coordination
 use Rattle.tsb_coord.specs.Cells.{pattern_in}
 use Rattle.tsb_coord.specs.Promises as coord

@@ -5,5 +5,6 @@ mod TickLemmas
 mod PartLemmas
 mod InputLemmas
 mod WatchLemmas
+mod FewLemmas
 mod PlanLemmas
 mod WholeLemmas

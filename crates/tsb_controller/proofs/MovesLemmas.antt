@@ -1,12 +1,11 @@
 -- The moves that the rings decide may be carried out: both rings move different phases, of 1 to 16, and clear only what has
 -- cleared in time.
-use Rattle.std.proofs.Common.{◌≡◌, ℕ, ◌≤◌, Bool, true, false, ◌&&◌, ◌||◌, if◌then◌else◌, List, Option, Some, None, refl, sym, ap, ◌∙◌, inl, inr, subst, ◌⊎◌}
+use Rattle.std.proofs.Common.{◌≡◌, ℕ, Bool, true, false, ◌&&◌, if◌then◌else◌, List, Option, Some, None, refl, sym, inl, inr, subst}
 use Rattle.std.proofs.lemmas.Bool.{true≢false, and_parts}
 use Rattle.tsb_types.specs.declared.flow.Moves.{Moves}
-use Rattle.tsb_types.specs.declared.flow.Timing.{Timing}
 use Rattle.tsb_types.specs.Intervals.{in_service}
 use Rattle.tsb_types.specs.Lists.{is}
-use Rattle.tsb_types.specs.Sets.{has, is_phase}
+use Rattle.tsb_types.specs.Sets.{is_phase}
 use Rattle.tsb_types.proofs.ClipLemmas.{IsAmong, among_16}
 use Rattle.tsb_plan.specs.Plan.{Plan, phases}
 use Rattle.tsb_phase.specs.declared.conditions.Conditions as phase_conditions

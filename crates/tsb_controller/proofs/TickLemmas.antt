@@ -1,25 +1,23 @@
 -- What the steps of a tick say of the rows, one after the other, comes to the one step of the state that is read in them.
-use Rattle.std.proofs.Common.{◌≡◌, ℕ, ◌+◌, ◌-◌, ◌≤◌, Bool, true, false, ◌&&◌, ◌||◌, if◌then◌else◌, List, Option, Some, None, option_map, refl, sym, ap, ap₂, ◌∙◌, inl, inr, arith, subst, slice_index}
+use Rattle.std.proofs.Common.{◌≡◌, ℕ, ◌+◌, ◌-◌, ◌≤◌, Bool, true, false, ◌&&◌, if◌then◌else◌, List, Option, Some, None, option_map, refl, sym, ap, ap₂, ◌∙◌, inl, inr, arith, subst, slice_index}
 use Rattle.std.proofs.Math.Path.{fun_ext}
 use Rattle.std.proofs.lemmas.Bool.{cases_Bool, true≢false}
 use Rattle.std.proofs.lemmas.Bool.Decides.{nat_tests}
 use Rattle.tsb_cells.specs.declared.timer.Timer.{Timer}
 use Rattle.tsb_cells.specs.declared.timer.Timer.TheVariants.{Off}
-use Rattle.tsb_cells.specs.Timer.{timer_at}
 use Rattle.tsb_cells.proofs.TimerLemmas.{timer_at-this}
 use Rattle.tsb_types.specs.declared.flow.Called.{Called}
 use Rattle.tsb_types.specs.declared.flow.Intervals.{Intervals}
 use Rattle.tsb_types.specs.declared.flow.Moves.{Moves}
 use Rattle.tsb_types.specs.declared.flow.Orders.{Orders}
-use Rattle.tsb_types.specs.declared.interval.Interval.{Interval}
 use Rattle.tsb_types.specs.declared.lamp.Lamp.{Lamp}
 use Rattle.tsb_types.specs.declared.phase_set.PhaseSet.{PhaseSet}
 use Rattle.tsb_types.specs.declared.row.Row.{Row}
 use Rattle.tsb_types.specs.Clip.{Agree}
-use Rattle.tsb_types.specs.Flow.{interval_of, pedestrian_of}
+use Rattle.tsb_types.specs.Flow.{interval_of}
 use Rattle.tsb_types.specs.Intervals.{is_green}
 use Rattle.tsb_types.specs.Sets.{has, has_number, is_phase}
-use Rattle.tsb_types.proofs.ClipLemmas.{IsAmong, among_16, is_phase_from}
+use Rattle.tsb_types.proofs.ClipLemmas.{among_16, is_phase_from}
 use Rattle.tsb_plan.specs.Plan.{Plan, sequence}
 use Rattle.tsb_plan.specs.Parts.{call_phase}
 use Rattle.tsb_detect.specs.Cells.{detector_in}
@@ -29,7 +27,6 @@ use Rattle.tsb_detect.proofs.StateLemmas.{same-after, ticks-all}
 use Rattle.tsb_calls.specs.declared.decided.Decided.{Decided}
 use Rattle.tsb_calls.specs.Cells.{memories_in}
 use Rattle.tsb_calls.specs.Looks as calls_looks
-use Rattle.tsb_calls.specs.Memories as memories
 use Rattle.tsb_calls.specs.Memories.{Memories, as_set}
 use Rattle.tsb_calls.specs.Promises as calls
 use Rattle.tsb_calls.proofs.LookLemmas.{look-alike}
@@ -38,7 +35,7 @@ use Rattle.tsb_phase.specs.Cells as phase_cells
 use Rattle.tsb_phase.specs.Cells.{phase_in}
 use Rattle.tsb_phase.specs.Laws as phase_laws
 use Rattle.tsb_phase.specs.Laws.{IsToldTheSame}
-use Rattle.tsb_phase.specs.Moves.{once_ended, once_cleared, once_started, ended, started_by}
+use Rattle.tsb_phase.specs.Moves.{once_ended, once_cleared, once_started}
 use Rattle.tsb_phase.specs.Next as phase_next
 use Rattle.tsb_phase.specs.Phase as phase
 use Rattle.tsb_phase.specs.Phase.{Phase, at_power_up, as_read, none_moved}
@@ -67,12 +64,12 @@ use Rattle.tsb_preempt.specs.Promises as preempts
 use Rattle.tsb_preempt.specs.Service.{Service}
 use Rattle.tsb_preempt.proofs.OwnLemmas.{orders-as-next, ticks-as-next}
 use Rattle.tsb_transact.specs.Desk.{Desk}
-use Rattle.tsb_step.specs.State.{State, interval, pedestrian_part}
+use Rattle.tsb_step.specs.State.{State, interval}
 use Rattle.tsb_step.specs.Tick as tick
 use Rattle.tsb_step.specs.Tick.{preempts_given, calls_given, phases_given, rings_given, new_detectors, set, callable, conflict, pedestrian_call, ready, over, reverted, gapped, service, moves, moved, done, next}
 use Rattle.tsb_controller.specs.declared.values.Sensed.{Sensed}
 use Rattle.tsb_controller.specs.declared.values.Movement.{Movement}
-use Rattle.tsb_controller.specs.Carried.{AreOnes, moved_by}
+use Rattle.tsb_controller.specs.Carried.{moved_by}
 use Rattle.tsb_controller.specs.Found.{observed, for_rings, IsSensed, IsMoved, AreDecided}
 use Rattle.tsb_controller.specs.Promises.{IsTicked}
 use Rattle.tsb_controller.specs.Rows.{Rows, AreBy, untripped, state_of}

@@ -1,5 +1,5 @@
 -- What is shown and what the monitor finds, by the rows, is what the one step shows and finds.
-use Rattle.std.proofs.Common.{◌≡◌, ℕ, ◌-◌, ◌≤◌, Bool, false, if◌then◌else◌, Option, Some, None, is_some, option_map, refl, sym, ap, ap₂, ◌∙◌}
+use Rattle.std.proofs.Common.{◌≡◌, ℕ, ◌-◌, ◌≤◌, Bool, false, Option, Some, None, is_some, option_map, refl, sym, ap, ap₂, ◌∙◌}
 use Rattle.tsb_types.specs.declared.lamp.Lamp.{Lamp}
 use Rattle.tsb_types.specs.declared.row.Row.{Row}
 use Rattle.tsb_plan.specs.Plan.{Plan}
@@ -13,12 +13,9 @@ use Rattle.tsb_heads.specs.Monitoring.{judge}
 use Rattle.tsb_heads.specs.Promises.{IsSame, IsLaidOver, IsJudged}
 use Rattle.tsb_heads.specs.Reading.{shown_by, commitment_of, heads_of, heads_of_field}
 use Rattle.tsb_heads.proofs.OwnLemmas.{displays-own, fields-told, judge-same}
-use Rattle.tsb_ring.specs.Cells.{rings_in}
 use Rattle.tsb_transact.specs.Desk.{Desk}
 use Rattle.tsb_step.specs.Signs.{display, field, shown, watched}
-use Rattle.tsb_step.specs.State.{State, Tripped}
-use Rattle.tsb_step.specs.Step.{ticked, with_lamp}
-use Rattle.tsb_step.specs.Tick.{next}
+use Rattle.tsb_step.specs.State.{State}
 use Rattle.tsb_controller.specs.Promises.{ShowsDisplay, ShowsField, IsTicked, IsWatchedTick, IsLit, tripping}
 use Rattle.tsb_controller.specs.Rows.{Rows, Beside, untripped, state_of}
 use Rattle.tsb_controller.specs.Shown.{IsShown}

@@ -1,35 +1,33 @@
 -- All rows side by side: their table, their differences, and what is read in them.
-use Rattle.std.proofs.Common.{◌≡◌, ℕ, ◌+◌, ◌-◌, ◌<◌, ◌≤◌, List, [], ◌∷◌, ◌++◌, length, get_or, take, drop, refl, sym, ap, ap₂, ◌∙◌, arith, subst, append_assoc, length-append}
+use Rattle.std.proofs.Common.{◌≡◌, ℕ, ◌+◌, ◌-◌, List, [], ◌++◌, length, refl, sym, ap, ap₂, ◌∙◌, arith, subst, append_assoc, length-append}
 use Rattle.std.proofs.lemmas.List.{places, same_lists}
 use Rattle.tsb_cells.specs.Diff.{diff_from, diff, apply_diff, part, shifted, AreWithin}
 use Rattle.tsb_cells.specs.Row.{row_at}
-use Rattle.tsb_cells.proofs.DiffLemmas.{length-apply_diff}
+use Rattle.tsb_cells.proofs.DiffLemmas.{length-apply_diff, apply_diff-diff}
 use Rattle.tsb_cells.proofs.PartLemmas.{diff_from-append, diff_from-shifted, diff-append, apply_diff-append, part-part, AreWithin-part, part-own}
 use Rattle.tsb_history.specs.History.{Change}
-use Rattle.tsb_plan.specs.PlanOf.{plan_in, plan_cells}
-use Rattle.tsb_detect.specs.Cells.{detectors_cells, detector_in}
+use Rattle.tsb_plan.specs.PlanOf.{plan_in}
+use Rattle.tsb_detect.specs.Cells.{detector_in}
 use Rattle.tsb_detect.proofs.ToldLemmas as detect
-use Rattle.tsb_calls.specs.Cells.{memories_cells, memories_in}
+use Rattle.tsb_calls.specs.Cells.{memories_in}
 use Rattle.tsb_calls.proofs.ToldLemmas as calls
-use Rattle.tsb_phase.specs.Cells.{phases_cells, phase_in}
+use Rattle.tsb_phase.specs.Cells.{phase_in}
 use Rattle.tsb_phase.proofs.ToldLemmas as phases
-use Rattle.tsb_ring.specs.Cells.{rings_cells, rings_in}
+use Rattle.tsb_ring.specs.Cells.{rings_in}
 use Rattle.tsb_ring.proofs.ToldLemmas as rings
-use Rattle.tsb_coord.specs.Cells.{pattern_cells, pattern_in}
+use Rattle.tsb_coord.specs.Cells.{pattern_in}
 use Rattle.tsb_coord.proofs.CellLemmas as coord
-use Rattle.tsb_preempt.specs.Cells.{preempts_cells, preempts_in}
+use Rattle.tsb_preempt.specs.Cells.{preempts_in}
 use Rattle.tsb_preempt.proofs.ReadLemmas as preempts
-use Rattle.tsb_transact.specs.Cells.{desk_cells, desk_in}
+use Rattle.tsb_transact.specs.Cells.{desk_in}
 use Rattle.tsb_transact.specs.Laws as desk
-use Rattle.tsb_step.specs.declared.inputs.Input.{Input}
 use Rattle.tsb_step.specs.Cells.{cells_of, state_in, clock_at}
-use Rattle.tsb_step.specs.MonitorCells.{monitor_cells, lamp_in, trip_in}
-use Rattle.tsb_step.specs.Past.{record_of, undone, ticks_of}
-use Rattle.tsb_step.specs.State.{State}
+use Rattle.tsb_step.specs.MonitorCells.{lamp_in, trip_in}
+use Rattle.tsb_step.specs.Past.{ticks_of}
 use Rattle.tsb_step.specs.Step.{kind_of}
 use Rattle.tsb_step.proofs.MonitorLemmas as monitor
-use Rattle.tsb_controller.specs.Rows.{Rows}
-use Rattle.tsb_controller.specs.Whole.{All, AreFull, AreAllBy, whole, all_in, all_changes, all_put_back, RowsAreTold, RecordsAreJoined, RecordsGoBack}
+use Rattle.tsb_controller.specs.Whole.{All, AreFull, AreAllBy, whole, all_in, all_changes, all_put_back, RowsAreTold, RecordsAreJoined, RecordsGoBack, RecordsGiveBack, RecordsAreFew}
+use Rattle.tsb_controller.proofs.FewLemmas.{few}
 use Rattle.tsb_controller.proofs.PlanLemmas.{plan_cells-plan_in}
 
 pub full : (now : ℕ) (a : All) → AreAllBy now a → AreFull a
@@ -257,6 +255,9 @@ module _ (a : All) (long : AreFull a) where
   e8 : whole a ≡ (b7 ++ a.layers.preempts) ++ a.monitor
   e8 = e7 ∙ sym (append_assoc b7 a.layers.preempts a.monitor)
 
+  pub whole-full : length (whole a) ≡ 1579
+  whole-full = ap length e8 ∙ behind 1572 7 (b7 ++ a.layers.preempts) a.monitor n8 long.monitor
+
   plan-read : row_at 1230 (whole a) 0 ≡ a.plan
   plan-read = row-in [] a.plan (a.desk ++ t2) 0 1230 refl long.plan
 
@@ -318,3 +319,15 @@ records-back desk_told r now a by within =
     ap (λ (row : List ℕ). state_in (now - ticks_of r.kind) (apply_diff row r.entries)) (rows-told desk_told now a by)
     ∙ ap (state_in (now - ticks_of r.kind)) (whole-back a r.entries (full now a by) within)
     ∙ whole-read (all_put_back a r.entries) (back-full a r.entries (full now a by)) (now - ticks_of r.kind)
+
+pub records-give_back : desk.RowsAreTold → RecordsGiveBack
+records-give_back desk_told i m n old new by by_new back =
+    ap (state_in (n - ticks_of (kind_of i)))
+    (apply_diff-diff (cells_of (all_in m old)) (cells_of (all_in n new))
+    (ap length (rows-told desk_told m old by) ∙ whole-full old (full m old by)
+    ∙ sym (whole-full new (full n new by_new)) ∙ sym (ap length (rows-told desk_told n new by_new)))
+    ∙ rows-told desk_told m old by)
+    ∙ ap (λ (t : ℕ). state_in t (whole old)) back ∙ whole-read old (full m old by) m
+
+pub records-few : RecordsAreFew
+records-few i before after offset n = few offset n (cells_of before) (cells_of after)

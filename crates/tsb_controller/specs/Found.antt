@@ -1,8 +1,7 @@
 -- What a tick finds, and what it does, step by step, in the words of the layers' contracts, over rows of cells: `old` before a
 -- step, `new` after it.
-use Rattle.std.specs.Prelude.{◌≡◌, ℕ, ◌≤◌, List, option_map}
+use Rattle.std.specs.Prelude.{◌≡◌, ℕ, List, option_map}
 use Rattle.tsb_types.specs.declared.flow.Called.{Called}
-use Rattle.tsb_types.specs.declared.flow.Moves.{Moves}
 use Rattle.tsb_types.specs.declared.flow.Orders.{Orders}
 use Rattle.tsb_types.specs.declared.flow.Timing.{Timing}
 use Rattle.tsb_types.specs.declared.row.Row.{Row}

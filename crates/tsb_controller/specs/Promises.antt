@@ -12,7 +12,7 @@ use Rattle.tsb_heads.specs.Reading.{heads_of, heads_of_field}
 use Rattle.tsb_transact.specs.Desk.{Desk, closed}
 use Rattle.tsb_step.specs.Cells.{clock_at}
 use Rattle.tsb_step.specs.Signs.{display, field}
-use Rattle.tsb_step.specs.State.{Tripped, start, restarted}
+use Rattle.tsb_step.specs.State.{start, restarted}
 use Rattle.tsb_step.specs.Step.{ticked, with_pattern, with_switch, with_lamp}
 use Rattle.tsb_step.specs.Tick.{next}
 use Rattle.tsb_controller.specs.Rows.{Rows, Beside, AreBy, untripped, state_of}

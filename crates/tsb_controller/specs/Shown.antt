@@ -1,5 +1,5 @@
 -- What a display is made from, in the words of the layers' contracts.
-use Rattle.std.specs.Prelude.{◌≡◌, ℕ, Bool, Option}
+use Rattle.std.specs.Prelude.{ℕ, Bool, Option}
 use Rattle.tsb_types.specs.declared.flow.Intervals.{Intervals}
 use Rattle.tsb_types.specs.declared.flow.Pedestrians.{Pedestrians}
 use Rattle.tsb_plan.specs.Plan.{Plan}

@@ -7,13 +7,13 @@ use Rattle.tsb_plan.specs.PlanOf.{plan_in}
 use Rattle.tsb_transact.specs.Cells as desk
 use Rattle.tsb_transact.specs.Cells.{desk_in}
 use Rattle.tsb_step.specs.declared.inputs.Input.{Input}
-use Rattle.tsb_step.specs.Cells.{cells_of, state_in, clock_at}
+use Rattle.tsb_step.specs.Cells.{cells_of, clock_at}
 use Rattle.tsb_step.specs.MonitorCells.{lamp_in, trip_in}
 use Rattle.tsb_step.specs.MonitorLaws.{IsMonitorBy}
 use Rattle.tsb_step.specs.Past.{record_of, undone, ticks_of}
 use Rattle.tsb_step.specs.State.{State}
 use Rattle.tsb_step.specs.Step.{kind_of}
-use Rattle.tsb_controller.specs.Records.{changes, put_back}
+use Rattle.tsb_controller.specs.Records.{changes, put_back, HasFew}
 use Rattle.tsb_controller.specs.Rows.{Rows, AreBy, state_of}
 
 pub record All : Type 0 where
@@ -80,3 +80,12 @@ RecordsAreJoined = (i : Input) (m n : ℕ) (old new : All) → AreAllBy m old �
 abbrev pub RecordsGoBack : Type 0
 RecordsGoBack = (r : Change) (now : ℕ) (a : All) → AreAllBy now a → AreWithin 1579 r.entries →
     undone r (all_in now a) ≡ all_in (now - ticks_of r.kind) (all_put_back a r.entries)
+
+-- so the record of an input gives back the state before it
+abbrev pub RecordsGiveBack : Type 0
+RecordsGiveBack = (i : Input) (m n : ℕ) (old new : All) → AreAllBy m old → AreAllBy n new → n - ticks_of (kind_of i) ≡ m →
+    undone (record_of i (all_in m old) (all_in n new)) (all_in n new) ≡ all_in m old
+
+-- and no record has more entries of any cells than there are of these, as `Controller::undo` asks
+abbrev pub RecordsAreFew : Type 0
+RecordsAreFew = (i : Input) (before after : State) → HasFew (record_of i before after).entries

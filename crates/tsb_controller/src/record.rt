@@ -71,8 +71,8 @@ impl Controller {
         self.preempts.open();
     }
 
-    /// Ends a change, and adds each cell that differs to `out`, by its number among all cells of the bench, with what it
-    /// held at `open`.
+    /// Ends a change, and adds each cell that differs to `out`, by its number among all cells of the bench, with what
+    /// it held at `open`.
     pub fn close_onto<const M: usize>(&mut self, out: &mut ArrayVec<(u16, u32), M>)
         requires opened { IsOpen self.old }
         requires room { array_vec_len out.old + 210 ≤ M }

@@ -47,8 +47,8 @@ impl Controller {
         Field::new(self.heads(false, plan), *lamp)
     }
 
-    /// Tick `now` of a controller that has not tripped, with what the monitor finds, which compares what the lamps showed
-    /// before with what they show then: why the controller trips, if it does.
+    /// Tick `now` of a controller that has not tripped, with what the monitor finds, which compares what the lamps
+    /// showed before with what they show then: why the controller trips, if it does.
     pub fn watched_tick(
         &mut self,
         now: u32,

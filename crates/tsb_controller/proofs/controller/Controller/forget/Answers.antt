@@ -1,4 +1,3 @@
-use Rattle.std.proofs.Common.{◌≡◌}
 use Rattle.tsb_controller.specs.Layer.{rows_of}
 use Rattle.tsb_controller.specs.Rows.{state_of}
 use Rattle.tsb_controller.proofs.controller.Controller.forget.Goals as goal

@@ -1,4 +1,4 @@
-use Rattle.std.proofs.Common.{◌≡◌, ℕ, ap, ◌∙◌}
+use Rattle.std.proofs.Common.{ℕ, ap, ◌∙◌}
 use Rattle.tsb_ring.specs.Cells.{rings_in}
 use Rattle.tsb_ring.specs.Layer.{cells_of}
 use Rattle.tsb_ring.specs.Rings.{ring_numbered}

@@ -1,4 +1,4 @@
-use Rattle.std.proofs.Common.{◌≡◌, None}
+use Rattle.std.proofs.Common.{None}
 use Rattle.tsb_detect.specs.Layer as detect
 use Rattle.tsb_calls.specs.Layer as calls
 use Rattle.tsb_phase.specs.Layer as phases

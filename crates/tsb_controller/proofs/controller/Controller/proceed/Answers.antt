@@ -1,4 +1,4 @@
-use Rattle.std.proofs.Common.{◌≡◌, refl, subst}
+use Rattle.std.proofs.Common.{refl, subst}
 use Rattle.tsb_objects.specs.Checked.{checked_plan}
 use Rattle.tsb_phase.specs.Layer as phases
 use Rattle.tsb_ring.specs.declared.conditions.Conditions.{Conditions}

@@ -1,4 +1,3 @@
-use Rattle.std.proofs.Common.{◌≡◌}
 use Rattle.tsb_objects.specs.Checked.{checked_plan}
 use Rattle.tsb_coord.specs.Layer as coord
 use Rattle.tsb_phase.specs.Layer as phases

@@ -1,6 +1,5 @@
-use Rattle.std.proofs.Common.{◌≡◌, ap, subst, ◌∙◌, Result}
+use Rattle.std.proofs.Common.{ap, subst, ◌∙◌}
 use Rattle.tsb_objects.specs.Checked.{checked_plan}
-use Rattle.tsb_types.specs.declared.refusal.Refusal.{Refusal}
 use Rattle.tsb_types.specs.Flow.{answered}
 use Rattle.tsb_preempt.specs.Layer.{cells_of}
 use Rattle.tsb_preempt.specs.Promises.{IsSet}

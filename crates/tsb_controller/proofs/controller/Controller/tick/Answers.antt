@@ -1,4 +1,4 @@
-use Rattle.std.proofs.Common.{◌≡◌, subst}
+use Rattle.std.proofs.Common.{subst}
 use Rattle.tsb_objects.specs.Checked.{checked_plan}
 use Rattle.tsb_calls.specs.declared.observed.Observed.{Observed}
 use Rattle.tsb_calls.specs.Layer.{cells_of}

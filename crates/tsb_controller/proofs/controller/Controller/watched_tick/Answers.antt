@@ -1,4 +1,3 @@
-use Rattle.std.proofs.Common.{◌≡◌}
 use Rattle.tsb_objects.specs.Checked.{checked_plan}
 use Rattle.tsb_controller.specs.Layer.{rows_of}
 use Rattle.tsb_controller.proofs.PlacedLemmas.{placed}
