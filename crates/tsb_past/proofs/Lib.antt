@@ -1,0 +1,4 @@
+pub mod PastLemmas
+pub mod WatchLemmas
+pub mod SessionLemmas
+pub mod PlayLemmas

@@ -1,0 +1,5 @@
+pub mod Machine
+pub mod Past
+pub mod Watches
+pub mod Play
+pub mod Laws
