@@ -1,4 +1,4 @@
--- A display line is ASCII text of 53 bytes, and tells of heads no more than those of phases 1 to 16 and of overlaps 1 to 4.
+-- A display line is ASCII text of 53 bytes, and of heads it tells only those of phases 1 to 16 and of overlaps 1 to 4.
 use Rattle.std.proofs.Common.{◌≡◌, ◌∙◌, ℕ, ◌+◌, ◌<◌, ◌≤◌, List, [], ◌∷◌, ◌++◌, map, length, refl, ap, arith, zero, suc, Option, Some, None, IfSome, take, drop, set, replicate}
 use Rattle.std.specs.Str.{IsUtf8, IsAscii}
 use Rattle.std.proofs.lemmas.Str.{IsUtf8-from_ascii}
@@ -9,7 +9,7 @@ use Rattle.tsb_types.specs.declared.lamp.PedestrianAspect.{PedestrianAspect}
 use Rattle.tsb_types.specs.declared.lamp.PedestrianAspect.TheVariants as pedestrian_aspects
 use Rattle.tsb_heads.specs.Heads.{Heads}
 use Rattle.tsb_heads.specs.Promises.{IsSame}
-use Rattle.tsb_display_text.specs.Line.{line_of, digit, letter, pedestrian_letter, tick_field, vehicle_field, pedestrian_field, overlap_field, local_field, preempt_letter}
+use Rattle.tsb_display_text.specs.Line.{line_of, digit, letter, pedestrian_letter, tick_field, vehicle_field, pedestrian_field, overlap_field, local_field, preempt_digit}
 
 pub line-length : (now : ℕ) (heads : Heads) (preempt local : Option ℕ) → length (line_of now heads preempt local) ≡ 53
 unfolding line_of run_from
@@ -35,7 +35,7 @@ small-digit : (n unit : ℕ) → digit n unit < 128
 small-digit n unit = omega arith
 
 -- no preempt has a number above 4
-small-preempt : (o : Option ℕ) → IfSome o (λ n. n ≤ 4) → preempt_letter o < 128
+small-preempt : (o : Option ℕ) → IfSome o (λ n. n ≤ 4) → preempt_digit o < 128
 small-preempt None most = omega arith
 small-preempt (Some n) most = omega arith
 
@@ -70,12 +70,12 @@ pub line-ascii : (now : ℕ) (heads : Heads) (preempt local : Option ℕ) → If
 unfolding line_of
 line-ascii now heads preempt local most =
     let behind_preempt : List ℕ = 32 ∷ local_field local in
-    let behind_overlaps : List ℕ = 32 ∷ preempt_letter preempt ∷ behind_preempt in
+    let behind_overlaps : List ℕ = 32 ∷ preempt_digit preempt ∷ behind_preempt in
     let behind_pedestrians : List ℕ = 32 ∷ overlap_field heads.overlap ++ behind_overlaps in
     let behind_vehicles : List ℕ = 32 ∷ pedestrian_field heads.pedestrian ++ behind_pedestrians in
     let behind_tick : List ℕ = 32 ∷ vehicle_field heads.vehicle ++ behind_vehicles in
     let preempt_on : IsAscii behind_overlaps =
-    ascii-spaced (preempt_letter preempt ∷ behind_preempt) (ascii-cons (preempt_letter preempt) behind_preempt (small-preempt preempt most) (ascii-spaced (local_field local) (ascii-local local))) in
+    ascii-spaced (preempt_digit preempt ∷ behind_preempt) (ascii-cons (preempt_digit preempt) behind_preempt (small-preempt preempt most) (ascii-spaced (local_field local) (ascii-local local))) in
     let overlaps_on : IsAscii behind_pedestrians =
     ascii-spaced (overlap_field heads.overlap ++ behind_overlaps) (ascii-append (overlap_field heads.overlap) behind_overlaps
     (ascii-map (λ o. letter (heads.overlap o)) (run_from 1 4) (λ o. small-letter (heads.overlap o))) preempt_on) in
@@ -112,7 +112,7 @@ line-same now heads said preempt local same =
     map-same (λ p. pedestrian_letter (heads.pedestrian p)) (λ p. pedestrian_letter (said.pedestrian p)) 1 16 (λ p from below. ap pedestrian_letter (same.pedestrian p from (omega arith))) in
     let overlaps : overlap_field heads.overlap ≡ overlap_field said.overlap =
     map-same (λ o. letter (heads.overlap o)) (λ o. letter (said.overlap o)) 1 4 (λ o from below. ap letter (same.overlap o from (omega arith))) in
-    λ i. tick_field now ++ (32 ∷ vehicles i ++ (32 ∷ pedestrians i ++ (32 ∷ overlaps i ++ (32 ∷ preempt_letter preempt ∷ 32 ∷ local_field local))))
+    λ i. tick_field now ++ (32 ∷ vehicles i ++ (32 ∷ pedestrians i ++ (32 ∷ overlaps i ++ (32 ∷ preempt_digit preempt ∷ 32 ∷ local_field local))))
 
 -- ## Writing
 
@@ -126,7 +126,7 @@ written tick vehicles pedestrians overlaps preempt local =
     placed 49 4 local (set (placed 42 4 overlaps (placed 25 16 pedestrians (placed 8 16 vehicles (placed 0 7 tick (replicate 53 32))))) 47 preempt)
 
 pub line-written : (now : ℕ) (heads : Heads) (preempt local : Option ℕ) →
-    written (tick_field now) (vehicle_field heads.vehicle) (pedestrian_field heads.pedestrian) (overlap_field heads.overlap) (preempt_letter preempt) (local_field local)
+    written (tick_field now) (vehicle_field heads.vehicle) (pedestrian_field heads.pedestrian) (overlap_field heads.overlap) (preempt_digit preempt) (local_field local)
     ≡ line_of now heads preempt local
 unfolding line_of run_from
 line-written now heads preempt None = refl

@@ -1,5 +1,6 @@
--- The display line, 53 bytes wide (profile): the tick number, the vehicle heads of phases 1 to 16, their pedestrian heads, the
--- heads of overlaps 1 to 4, the preempt in service, and the local counter of the pattern that runs, in tenths of a second.
+-- The display line, 53 bytes wide (profile): the tick number, the vehicle heads of phases 1 to 16, their pedestrian
+-- heads, the heads of overlaps 1 to 4, the preempt in service, and the local counter of the pattern that runs, in
+-- tenths of a second.
 use Rattle.std.specs.Prelude.{ℕ, ◌+◌, ◌/◌, ◌%◌, List, [], ◌∷◌, ◌++◌, map, Option, Some, None, codes}
 use Rattle.tsb_types.specs.declared.lamp.Aspect.{Aspect}
 use Rattle.tsb_types.specs.declared.lamp.Aspect.TheVariants.{Dark, Red, Yellow, Green, FlashingRed}
@@ -14,7 +15,7 @@ use Rattle.tsb_heads.specs.Heads.{Heads}
 abbrev pub digit : ℕ → ℕ → ℕ
 digit n unit = 48 + n / unit % 10
 
--- `-`, R, Y, G, and F where it flashes red
+-- `-` for one that is dark, R, Y, G, and F for one that flashes red
 abbrev pub letter : Aspect → ℕ
 letter Dark = 45
 letter Red = 82
@@ -22,7 +23,7 @@ letter Yellow = 89
 letter Green = 71
 letter FlashingRed = 70
 
--- `-`, D, C and W
+-- `-` for one that is dark, D, C for clearance, and W
 abbrev pub pedestrian_letter : PedestrianAspect → ℕ
 pedestrian_letter pedestrian_aspects.Dark = 45
 pedestrian_letter pedestrian_aspects.DontWalk = 68
@@ -34,7 +35,8 @@ pedestrian_letter pedestrian_aspects.Walk = 87
 -- the tick number, of which 7 digits stand
 abbrev pub tick_field : ℕ → List ℕ
 tick_field now =
-    digit now 1000000 ∷ digit now 100000 ∷ digit now 10000 ∷ digit now 1000 ∷ digit now 100 ∷ digit now 10 ∷ digit now 1 ∷ []
+    digit now 1000000 ∷ digit now 100000 ∷ digit now 10000 ∷ digit now 1000 ∷ digit now 100 ∷ digit now 10
+    ∷ digit now 1 ∷ []
 
 abbrev pub vehicle_field : (ℕ → Aspect) → List ℕ
 vehicle_field vehicle = map (λ p. letter (vehicle p)) (run_from 1 16)
@@ -46,9 +48,9 @@ abbrev pub overlap_field : (ℕ → Aspect) → List ℕ
 overlap_field overlap = map (λ o. letter (overlap o)) (run_from 1 4)
 
 -- the number of the preempt in service, 0 where none is
-abbrev pub preempt_letter : Option ℕ → ℕ
-preempt_letter None = 48
-preempt_letter (Some n) = 48 + n
+abbrev pub preempt_digit : Option ℕ → ℕ
+preempt_digit None = 48
+preempt_digit (Some n) = 48 + n
 
 -- the local counter, of which 4 digits stand, and dashes where no pattern runs
 abbrev pub local_field : Option ℕ → List ℕ
@@ -61,4 +63,4 @@ local_field (Some n) = digit n 1000 ∷ digit n 100 ∷ digit n 10 ∷ digit n 1
 unfoldable pub line_of : ℕ → Heads → Option ℕ → Option ℕ → List ℕ
 line_of now heads preempt local =
     tick_field now ++ (32 ∷ vehicle_field heads.vehicle ++ (32 ∷ pedestrian_field heads.pedestrian
-    ++ (32 ∷ overlap_field heads.overlap ++ (32 ∷ preempt_letter preempt ∷ 32 ∷ local_field local))))
+    ++ (32 ∷ overlap_field heads.overlap ++ (32 ∷ preempt_digit preempt ∷ 32 ∷ local_field local))))

@@ -16,15 +16,22 @@ pub const WIDTH: usize = 53;
 /// The bytes of a display line.
 pub type LineBytes = [u8; WIDTH];
 
-/// Where each field begins, but the tick number, which begins the line.
+/// Where the tick number begins.
+const TICK: usize = 0;
+
+/// Where the letters of vehicle heads begin.
 const VEHICLES: usize = 8;
 
+/// Where the letters of pedestrian heads begin.
 const PEDESTRIANS: usize = 25;
 
+/// Where the letters of overlaps begin.
 const OVERLAPS: usize = 42;
 
+/// Where the preempt in service stands.
 const PREEMPT: usize = 47;
 
+/// Where the local counter begins.
 const LOCAL: usize = 49;
 
 /// The display line as text, without a line feed: `line_bytes`. It takes no memory.
@@ -44,11 +51,17 @@ pub fn line(
     text
 }
 
-/// The bytes of the display line at a tick number, without a line feed, with one space between fields: the tick number
-/// in 7 digits; a letter for each vehicle head of phases 1 to 16, `G`, `Y`, `R`, `-` for one that is dark and `F` for one
-/// that flashes; one for each of their pedestrian heads, `W`, `C` for clearance, `D`, or `-` for one that is dark; one
-/// for each of overlaps 1 to 4, as of vehicle heads; the preempt in service, or 0; and the local counter in tenths of a
-/// second in 4 digits, or `----` where no pattern runs. Of numbers that are longer their last digits stand.
+/// The bytes of the display line at tick number `now`, without a line feed. Its fields have one space between them:
+///
+/// - the tick number in 7 digits;
+/// - a letter for the vehicle head of each of phases 1 to 16: `G`, `Y`, `R`, `F` where it flashes red, `-` where it is
+///   dark;
+/// - a letter for each pedestrian head: `W`, `C` for clearance, `D`, `-` where it is dark;
+/// - a letter for each of overlaps 1 to 4, as for vehicle heads;
+/// - the preempt in service, or 0;
+/// - the local counter, in tenths of a second, in 4 digits, or `----` where no pattern runs.
+///
+/// A number of more digits shows its last ones; a tick number has at most 7, and a local counter at most 4.
 pub fn line_bytes(
     now: u32,
     heads: &Display,
@@ -59,7 +72,7 @@ pub fn line_bytes(
     ensures text { IsUtf8 result }
 {
     let mut bytes = [b' '; WIDTH];
-    put(&mut bytes, 0, &tick_digits(now));
+    put(&mut bytes, TICK, &tick_digits(now));
     put(&mut bytes, VEHICLES, &vehicle_letters(heads));
     put(&mut bytes, PEDESTRIANS, &pedestrian_letters(heads));
     put(&mut bytes, OVERLAPS, &overlap_letters(heads));

@@ -1,8 +1,8 @@
-//! The display line of the whole controller: what its heads show in a tick, with the tick number, the preempt in service
-//! and the local counter.
+//! The display line of the whole controller: what its heads show, with the tick number, the preempt in service and the
+//! local counter.
 //!
-//! The line is the profile's own. `line` gives it as text and `line_bytes` as bytes; neither takes memory, and both have
-//! the same bytes. It is written once a tick, so its letters are found by sets of heads, a colour at a time.
+//! The line is the profile's own. `line` gives it as text and `line_bytes` as bytes; neither takes memory, and both
+//! give the same bytes. It is written once a tick, so its letters are found by sets of heads, a colour at a time.
 #![tactic(auto)]
 
 mod display_line;

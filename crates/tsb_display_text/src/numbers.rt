@@ -1,6 +1,6 @@
 //! The fields of a display line that are numbers.
 ghost use Rattle.std.specs.Prelude.{◌≡◌, ◌<◌, ◌≤◌, IfSome};
-ghost use Rattle.tsb_display_text.specs.Line.{digit, tick_field, preempt_letter, local_field};
+ghost use Rattle.tsb_display_text.specs.Line.{digit, tick_field, preempt_digit, local_field};
 
 use tsb_types::Preempt;
 
@@ -32,7 +32,7 @@ pub(crate) fn tick_digits(now: u32) -> [u8; 7]
 /// The number of the preempt in service, or 0.
 #[inline(always)]
 pub(crate) fn preempt_digit(preempt: Option<Preempt>) -> u8
-    ensures letter { result ≡ preempt_letter preempt }
+    ensures digit { result ≡ preempt_digit preempt }
     ensures known { IfSome preempt (λ n. n ≤ 4) }
 {
     match preempt {

@@ -5,7 +5,7 @@ use Rattle.tsb_types.specs.declared.lamp.Aspect.TheVariants.{Dark, Red, Yellow, 
 use Rattle.tsb_types.specs.declared.lamp.PedestrianAspect.{PedestrianAspect}
 use Rattle.tsb_types.specs.declared.lamp.PedestrianAspect.TheVariants as pedestrian_aspects
 use Rattle.tsb_types.specs.Lists.{run_from}
-use Rattle.tsb_display_text.specs.Line.{digit, letter, pedestrian_field, vehicle_field, preempt_letter, local_field}
+use Rattle.tsb_display_text.specs.Line.{digit, letter, pedestrian_field, vehicle_field, preempt_digit, local_field}
 
 -- ## Clearance is W, and walk is C
 
@@ -72,12 +72,12 @@ zero_stands = refl
 
 -- ## Preempts count from 0
 
-abbrev pub preempt_letter_from_zero : Option ℕ → ℕ
-preempt_letter_from_zero None = 48
-preempt_letter_from_zero (Some n) = 47 + n
+abbrev pub preempt_digit_from_zero : Option ℕ → ℕ
+preempt_digit_from_zero None = 48
+preempt_digit_from_zero (Some n) = 47 + n
 
-first_preempt : preempt_letter (Some 1) ∷ [] ≡ codes "1"
+first_preempt : preempt_digit (Some 1) ∷ [] ≡ codes "1"
 first_preempt = refl
 
-first_preempt_not : preempt_letter_from_zero (Some 1) ∷ [] ≡ codes "0"
+first_preempt_not : preempt_digit_from_zero (Some 1) ∷ [] ≡ codes "0"
 first_preempt_not = refl
