@@ -13,7 +13,7 @@ use Rattle.tsb_objects.specs.Unions.{AreUnions}
 use Rattle.tsb_objects.proofs.PassLemmas.{pass-none, pass-same, pass-more, pass-parts, pass-later}
 
 -- what a list names of 1 to 8 is in its low byte, and what it names of 9 to 16 in its high one
-names-low : (list n : ℕ) → 1 ≤ n → n ≤ 8 → names (list % 256) n ≡ names list n
+pub names-low : (list n : ℕ) → 1 ≤ n → n ≤ 8 → names (list % 256) n ≡ names list n
 names-low list zero from within = absurd (omega arith)
 names-low list (suc i) from within =
     let whole : list / 256 * 2 ^ 8 + list % 256 ≡ list = omega arith in
@@ -97,3 +97,9 @@ told-next union words after k told here there j p below =
       | inl same ↦ subst (λ (m : ℕ). names (get_or after m 0) p ≡ union m p) (sym same) (here p)
       | inr apart ↦ ap (λ (word : ℕ). names word p) (there j apart) ∙ told j p (omega (arith, below, apart))
     ]
+
+pub other-way : (a b : Bool) → (a && b) ≡ (b && a)
+other-way true true = refl
+other-way true false = refl
+other-way false true = refl
+other-way false false = refl

@@ -2,23 +2,25 @@
 #![tactic(auto, unfolding(tsb_plan::specs::PlanOf::plan_of))]
 
 ghost use Rattle.std.specs.Prelude.{◌≡◌, ℕ, ◌+◌, ◌<◌, ◌≤◌, ◌==◌, ◌&&◌, not, None, length, slice_index};
-ghost use Rattle.tsb_objects.specs.Unions.{AreUnionTables};
-ghost use Rattle.tsb_plan.specs.Parts.{call_phase};
+ghost use Rattle.tsb_objects.specs.Unions.{AreUnionTables, AreOfEight};
+ghost use Rattle.tsb_plan.specs.Parts.{call_phase, pedestrian_call_phase};
 ghost use Rattle.tsb_plan.specs.Plan.{is_concurrent};
 ghost use Rattle.tsb_plan.specs.PlanOf.{plan_of};
 ghost use Rattle.tsb_rules.specs.Rules.{first_broken};
 ghost use Rattle.tsb_types.specs.Lists.{is};
 ghost use Rattle.tsb_types.specs.Sets.{names, has};
 
-use crate::unions::Unions;
+use crate::unions::{Unions, unions_of_eight};
 use tsb_plan::Plan;
-use tsb_types::{Detector, Phase, PhaseSet};
+use tsb_types::{Detector, PedestrianDetector, Phase, PhaseSet};
 
 /// What a plan that meets the rules says of sets of detectors and phases.
 #[derive(Clone, Copy, Debug, PartialEq, Eq)]
 pub struct UnionTables {
     /// The phases that vehicle detectors call (`vehicleDetectorCallPhase`).
     pub(crate) called: Unions,
+    /// For each set of pedestrian detectors the phases whose walk one of them calls (`pedestrianDetectorCallPhase`).
+    pub(crate) walks_called: [u16; 256],
     /// The phases other than a phase that are not concurrent with it (`phaseConcurrency`).
     pub(crate) conflicts: Unions,
 }
@@ -31,6 +33,7 @@ impl UnionTables {
     {
         UnionTables {
             called: Unions::new(&called(plan)),
+            walks_called: unions_of_walks(plan),
             conflicts: Unions::new(&conflicts(plan)),
         }
     }
@@ -57,6 +60,27 @@ fn called(plan: &Plan) -> [u16; 16]
         sets[usize::from(k)] = alone(plan.call_phase(detector)).list();
     }
     sets
+}
+
+/// Of each pedestrian detector, 1 to 8, the phase whose walk it calls, as a list.
+fn walks_called(plan: &Plan) -> [u16; 16]
+    ensures full { length result ≡ 16 }
+    ensures told { (k p : ℕ) → k < 8 → names (slice_index result k) p ≡ is p (pedestrian_call_phase (plan_of plan.now) (k + 1)) }
+{
+    let mut sets = [0; 16];
+    for k in 0..8u8 {
+        let detector = PedestrianDetector::of(k + 1);
+        sets[usize::from(k)] = alone(plan.pedestrian_call_phase(detector)).list();
+    }
+    sets
+}
+
+/// For each set of pedestrian detectors, as a list, the phases whose walk one of them calls, as a list.
+fn unions_of_walks(plan: &Plan) -> [u16; 256]
+    ensures full { length result ≡ 256 }
+    ensures told { AreOfEight (λ d p. is p (pedestrian_call_phase (plan_of plan.now) d)) result }
+{
+    unions_of_eight(&walks_called(plan), 0)
 }
 
 /// The phases other than a phase that are not concurrent with it. By rule K5 it does not name those that do not name it.

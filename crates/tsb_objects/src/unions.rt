@@ -1,7 +1,7 @@
 //! Unions of sets of phases, each found by two reads.
 
 ghost use Rattle.std.specs.Prelude.{◌≡◌, ℕ, ◌+◌, ◌-◌, ◌<◌, ◌≤◌, ◌&&◌, Bool, length, slice_index};
-ghost use Rattle.tsb_objects.specs.Unions.{AreUnions};
+ghost use Rattle.tsb_objects.specs.Unions.{AreUnions, AreOfEight};
 ghost use Rattle.tsb_types.specs.Lists.{some_passes, run_from};
 ghost use Rattle.tsb_types.specs.Sets.{names, has, has_number};
 
@@ -45,9 +45,19 @@ impl Unions {
     }
 }
 
+/// The phases that are in the set of one of these numbers from 1 to 8.
+#[inline(always)]
+pub(crate) fn of_eight(unions: &[u16; 256], numbers: NumberSet) -> PhaseSet
+    ensures { (test : ℕ → ℕ → Bool) → AreOfEight test unions.now → (p : ℕ) → 1 ≤ p → p ≤ 16 →
+        has result p ≡ some_passes (λ n. has_number numbers n && test n p) (run_from 1 8) }
+{
+    let list = numbers.list();
+    PhaseSet::from_list(unions[usize::from(list % SETS)])
+}
+
 /// For each set of numbers from 1 to 8, as a list, the phases in the set of one of them, as a list: number 1 stands for
 /// the set behind the first `before`.
-fn unions_of_eight(sets: &[u16; 16], before: usize) -> [u16; 256]
+pub(crate) fn unions_of_eight(sets: &[u16; 16], before: usize) -> [u16; 256]
     requires { before ≤ 8 }
     ensures full { length result ≡ 256 }
     ensures told { (k p : ℕ) → k < 256 →

@@ -8,6 +8,7 @@ ghost use Rattle.tsb_types.specs.Lists.{is, some_passes, run_from};
 ghost use Rattle.tsb_types.specs.Sets.{has, has_number};
 
 use crate::checked::Checked;
+use crate::unions::of_eight;
 use tsb_types::{NumberSet, Phase, PhaseSet};
 
 impl Checked {
@@ -34,6 +35,15 @@ impl Checked {
         ensures { (d : ℕ) → has_number result d ≡ is p (pedestrian_call_phase (checked_plan self.now) d) }
     {
         NumberSet::from_list(self.detector_tables.pedestrian_detectors[usize::from(p.number()) - 1])
+    }
+
+    /// The phases whose walk some pedestrian detector of a set calls (`pedestrianDetectorCallPhase`).
+    #[inline(always)]
+    pub fn walks_called_by(&self, detectors: NumberSet) -> PhaseSet
+        ensures { (p : ℕ) → 1 ≤ p → p ≤ 16 → has result p
+            ≡ some_passes (λ d. is p (pedestrian_call_phase (checked_plan self.now) d) && has_number detectors d) (run_from 1 8) }
+    {
+        of_eight(&self.union_tables.walks_called, detectors)
     }
 
     /// The vehicle detectors with a delay (`vehicleDetectorDelay` over 0).

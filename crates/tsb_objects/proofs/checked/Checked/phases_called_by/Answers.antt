@@ -1,4 +1,4 @@
-use Rattle.std.proofs.Common.{◌≡◌, ℕ, ◌&&◌, Bool, true, false, refl, ◌∙◌}
+use Rattle.std.proofs.Common.{◌≡◌, ℕ, ◌&&◌, Bool, ◌∙◌}
 use Rattle.tsb_objects.specs.Checked.{checked_plan}
 use Rattle.tsb_plan.specs.Parts.{call_phase}
 use Rattle.tsb_plan.specs.Plan.{Plan}
@@ -6,13 +6,8 @@ use Rattle.tsb_plan.specs.PlanOf.{plan_of}
 use Rattle.tsb_types.specs.Lists.{is}
 use Rattle.tsb_types.specs.Sets.{has_number}
 use Rattle.tsb_objects.proofs.PassLemmas.{pass-same}
+use Rattle.tsb_objects.proofs.UnionLemmas.{other-way}
 use Rattle.tsb_objects.proofs.checked.Checked.phases_called_by.Goals as goal
-
-other-way : (a b : Bool) → (a && b) ≡ (b && a)
-other-way true true = refl
-other-way true false = refl
-other-way false true = refl
-other-way false false = refl
 
 pub returns : goal.returns
 unfolding checked_plan plan_of
