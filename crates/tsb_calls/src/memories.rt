@@ -5,7 +5,6 @@ ghost use Rattle.tsb_objects.specs.Checked.{checked_plan};
 ghost use Rattle.tsb_calls.specs.Memories.{Memories, has_output, vehicle_memory, pedestrian_memory};
 ghost use Rattle.tsb_calls.specs.Promises.{given_of};
 
-use crate::detected::buttons;
 use crate::observed::Observed;
 use crate::recalls::with_pedestrians;
 use tsb_objects::{Checked, PhaseSet};
@@ -39,9 +38,7 @@ pub(crate) fn pedestrian_memories(plan: &Checked, observed: &Observed, old: Phas
     ensures { (m : Memories) → (p : ℕ) → 1 ≤ p → p ≤ 16 → has old p ≡ m.pedestrian p →
         has result p ≡ pedestrian_memory (checked_plan plan.now) (given_of observed.now) m p }
 {
-    if observed.buttons.is_empty() {
-        return old;
-    }
-    let pressed = buttons(plan, observed.buttons).intersection(with_pedestrians(plan));
+    let called = plan.walks_called_by(observed.buttons);
+    let pressed = called.intersection(with_pedestrians(plan));
     old.union(pressed.difference(observed.pedestrians.walk))
 }
