@@ -7,8 +7,8 @@ use Rattle.tsb_objects.specs.declared.union_tables.UnionTables.{UnionTables}
 use Rattle.tsb_types.specs.Lists.{some_passes, run_from, is}
 use Rattle.tsb_types.specs.Sets.{names}
 
--- `test n p`: phase p is in the set of number n. A word is of a set k of numbers from 1 to 8, as a list: it has the phases
--- that are in the set of one of these.
+-- `test n p`: phase p is in the set of number n. A word is of a set k of numbers from 1 to 8, as a list: it has the
+-- phases that are in the set of one of these.
 abbrev pub AreOfEight : (ℕ → ℕ → Bool) → List ℕ → Type 0
 AreOfEight test words =
     (k p : ℕ) → k < 256 → 1 ≤ p → p ≤ 16 → names (slice_index words k) p ≡ some_passes (λ n. names k n && test n p) (run_from 1 8)
@@ -18,8 +18,8 @@ pub record AreUnions (test : ℕ → ℕ → Bool) (unions : Unions) : Type 0 wh
   pub low : AreOfEight test unions.low
   pub high : AreOfEight (λ n p. test (8 + n) p) unions.high
 
--- the set of a detector is the phase that it calls, and that of a phase is those other than it that are not concurrent with
--- it
+-- the set of a detector is the phase that it calls, and that of a phase is those other than it that are not concurrent
+-- with it
 pub record AreUnionTables (plan : Plan) (tables : UnionTables) : Type 0 where
   pub called : AreUnions (λ d p. is p (call_phase plan d)) tables.called
   pub walks_called : AreOfEight (λ d p. is p (pedestrian_call_phase plan d)) tables.walks_called

@@ -83,7 +83,8 @@ fn unions_of_walks(plan: &Plan) -> [u16; 256]
     unions_of_eight(&walks_called(plan), 0)
 }
 
-/// The phases other than a phase that are not concurrent with it. By rule K5 it does not name those that do not name it.
+/// The phases other than a phase that are not concurrent with it: by rule K5 those that it does not name, as they do not
+/// name it.
 fn conflicts_of(plan: &Plan, q: Phase) -> PhaseSet
     requires { first_broken (plan_of plan.now) ≡ None }
     ensures { (p : ℕ) → 1 ≤ p → p ≤ 16 → has result p ≡ (not (q == p) && not (is_concurrent (plan_of plan.now) p q)) }
