@@ -7,7 +7,7 @@ ghost use Rattle.tsb_detect.specs.Layer.{cells_of, is_open};
 use crate::timed::{Changes, Timed};
 use tsb_cells::Reversible;
 use tsb_detect::{Detectors, Greens};
-use tsb_objects::{Checked, NumberSet, PhaseSet, Row};
+use tsb_objects::{Checked, PhaseSet, Row};
 use tsb_runs::{Fault, Numbers};
 use tsb_types::limits;
 
@@ -40,17 +40,11 @@ impl Timed for Detecting {
     }
 
     fn read(numbers: &mut Numbers) -> Result<Given, Fault> {
-        let row = Row {
-            vehicles: numbers.set()?,
-            pedestrians: NumberSet::empty(),
-            preempts: NumberSet::empty(),
-        };
-        let phases = numbers.phases()?;
-        let mut since = [0; 16];
-        for k in 0..16 {
-            since[k] = numbers.number()?;
-        }
-        Ok(Given { row, phases, since })
+        Ok(Given {
+            row: numbers.vehicle_row()?,
+            phases: numbers.phases()?,
+            since: numbers.since()?,
+        })
     }
 
     #[inline(always)]

@@ -1,5 +1,5 @@
 //! Phase timing, with the moves of the rings, timed.
-ghost use Rattle.std.specs.Prelude.{◌≡◌, ◌<◌, ◌+◌, ◌^◌, true, false, IfOk};
+ghost use Rattle.std.specs.Prelude.{◌≡◌, ◌<◌, ◌+◌, ◌^◌, true, false};
 ghost use Rattle.arrayvec.specs.ArrayVec.{array_vec_len};
 ghost use Rattle.tsb_phase.specs.Cells.{IsBy};
 ghost use Rattle.tsb_phase.specs.Counts.{AreCounts};
@@ -46,8 +46,8 @@ impl Timed for Phasing {
     }
 
     fn read(numbers: &mut Numbers) -> Result<Given, Fault> {
-        let called = called(numbers)?;
-        let counts = counts(numbers)?;
+        let called = numbers.called()?;
+        let counts = numbers.counts()?;
         let _runs = numbers.number()?;
         let service = numbers.number()?;
         let hold = numbers.phases()?;
@@ -207,24 +207,4 @@ fn clear(phases: &mut Phases, now: u32, p: Phase)
         Interval::RedClear => phases.clear(p),
         _ => {}
     }
-}
-
-fn called(numbers: &mut Numbers) -> Result<Called, Fault> {
-    Ok(Called {
-        callable: numbers.phases()?,
-        conflict: numbers.phases()?,
-        pedestrian: numbers.phases()?,
-        output: numbers.phases()?,
-    })
-}
-
-/// The vehicles that phases 1 to 16 have counted, in turn, 0 to 255 each.
-fn counts(numbers: &mut Numbers) -> Result<[u32; 16], Fault>
-    ensures { IfOk result AreCounts }
-{
-    let mut vehicles = [0; 16];
-    for k in 0..16 {
-        vehicles[k] = numbers.number()? % 256;
-    }
-    Ok(vehicles)
 }

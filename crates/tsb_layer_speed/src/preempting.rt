@@ -6,7 +6,7 @@ ghost use Rattle.tsb_preempt.specs.Layer.{cells_of, is_open};
 
 use crate::timed::{Changes, Timed};
 use tsb_cells::Reversible;
-use tsb_objects::{Checked, Intervals, NumberSet, Row};
+use tsb_objects::{Checked, Intervals, Row};
 use tsb_preempt::Preempts;
 use tsb_runs::{Fault, Numbers};
 use tsb_types::limits;
@@ -39,13 +39,8 @@ impl Timed for Preempting {
     }
 
     fn read(numbers: &mut Numbers) -> Result<Given, Fault> {
-        let row = Row {
-            vehicles: NumberSet::empty(),
-            pedestrians: NumberSet::empty(),
-            preempts: numbers.set()?,
-        };
         Ok(Given {
-            row,
+            row: numbers.preempt_row()?,
             intervals: numbers.intervals()?,
         })
     }

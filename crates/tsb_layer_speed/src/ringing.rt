@@ -6,7 +6,7 @@ ghost use Rattle.tsb_ring.specs.Layer.{cells_of, is_open};
 
 use crate::timed::{Changes, Timed};
 use tsb_cells::Reversible;
-use tsb_objects::{Called, Checked, Orders, PhaseSet, Sequence, Timing};
+use tsb_objects::Checked;
 use tsb_ring::{Conditions, RingOrder, Rings};
 use tsb_runs::{Fault, Numbers};
 use tsb_types::limits;
@@ -39,7 +39,7 @@ impl Timed for Ringing {
 
     fn read(numbers: &mut Numbers) -> Result<Given, Fault> {
         Ok(Given {
-            conditions: conditions(numbers)?,
+            conditions: numbers.ring_conditions()?,
         })
     }
 
@@ -62,39 +62,4 @@ fn at_power_up() -> Rings
     ensures closed { is_open result ≡ false }
 {
     Rings::new()
-}
-
-fn conditions(numbers: &mut Numbers) -> Result<Conditions, Fault> {
-    let intervals = numbers.intervals()?;
-    let none = PhaseSet::empty();
-    let sequence = Sequence::new(numbers.number()?).ok_or(Fault::Malformed)?;
-    let called = Called {
-        callable: numbers.phases()?,
-        conflict: none,
-        pedestrian: none,
-        output: none,
-    };
-    let timing = Timing {
-        ready: numbers.phases()?,
-        over: numbers.phases()?,
-        red_revert_passed: numbers.phases()?,
-        gapped: none,
-    };
-    let omit = numbers.phases()?;
-    let has_target = numbers.is_one()?;
-    let phases = numbers.phases()?;
-    let orders = Orders {
-        hold: none,
-        must_end: none,
-        forced: none,
-        omit,
-        target: if has_target { Some(phases) } else { None },
-    };
-    Ok(Conditions {
-        intervals,
-        sequence,
-        called,
-        timing,
-        orders,
-    })
 }
