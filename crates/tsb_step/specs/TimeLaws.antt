@@ -21,15 +21,14 @@ use Rattle.tsb_heads.specs.Monitoring.{conflict}
 use Rattle.tsb_ring.specs.Moves.{is_started}
 use Rattle.tsb_step.specs.declared.inputs.Input.{Input}
 use Rattle.tsb_step.specs.declared.inputs.Input.TheVariants.{Tick, Reset}
-use Rattle.tsb_step.specs.declared.commands.Cmd.{Cmd}
-use Rattle.tsb_step.specs.declared.commands.Answer.{Answer}
+use Rattle.tsb_past.specs.declared.commands.Answer.{Answer}
 use Rattle.tsb_step.specs.State.{State, interval, pedestrian_part}
 use Rattle.tsb_step.specs.Tick.{phases_given, phase_read, moves}
 use Rattle.tsb_step.specs.Signs.{display, field}
 use Rattle.tsb_step.specs.Step.{step, kind_of}
 use Rattle.tsb_step.specs.Runs.{replay, AreTaken}
 use Rattle.tsb_step.specs.Past.{ticks_of, pasts}
-use Rattle.tsb_step.specs.Play.{run, records_of, remaining, AreRight}
+use Rattle.tsb_step.specs.Play.{Cmd, run, records_of, remaining, AreRight}
 use Rattle.tsb_step.specs.Cells.{cells_of, state_in}
 use Rattle.tsb_step.specs.Laws.{IsConsistent, OfEveryRun}
 

@@ -1,14 +1,16 @@
 -- The values that can be watched, and the tick at which one changed last. An input that is no tick counts at the tick number in
 -- force (profile).
-use Rattle.std.specs.Prelude.{◌≡◌, ◌≢◌, ℕ, Bool, List, [], ◌∷◌, Option, Some, None, ◌⊎◌}
+use Rattle.std.specs.Prelude.{ℕ, Bool, List, Option}
 use Rattle.tsb_types.specs.declared.interval.Interval.{Interval}
 use Rattle.tsb_types.specs.declared.interval.PedestrianInterval.{PedestrianInterval}
 use Rattle.tsb_types.specs.declared.stage.Stage.{Stage}
 use Rattle.tsb_types.specs.declared.watch.Watch.{Watch}
 use Rattle.tsb_types.specs.declared.watch.Watch.TheVariants as watches
 use Rattle.tsb_detect.specs.declared.alarm.Alarm.{Alarm}
+use Rattle.tsb_past.specs.Watches as told
 use Rattle.tsb_step.specs.State.{State, Tripped, interval, pedestrian_part}
 use Rattle.tsb_step.specs.Signs.{stage}
+use Rattle.tsb_step.specs.Past.{controller}
 
 pub data Watched : Type 0 where
   OfInterval : Interval → Watched
@@ -32,7 +34,4 @@ watched watches.Trip s = OfTrip s.trip
 -- of the states of a run, the newest first, the tick number of the newest in which the value is another than in the one
 -- before; none, where it never changed
 abbrev pub TellsLastChange : Watch → List State → Option ℕ → Type 0
-TellsLastChange w [] t = t ≡ None
-TellsLastChange w (s ∷ []) t = t ≡ None
-TellsLastChange w (s ∷ (before ∷ rest)) t =
-    ((watched w s ≢ watched w before) × (t ≡ Some s.now)) ⊎ ((watched w s ≡ watched w before) × TellsLastChange w (before ∷ rest) t)
+TellsLastChange w states t = told.TellsLastChange controller (watched w) states t

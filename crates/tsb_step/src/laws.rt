@@ -1,4 +1,5 @@
 //! What holds of every run of the controller, each law the contract of a function that does nothing.
+ghost use Rattle.tsb_step.specs.Past.{RecordsGiveBack, RecordsTellKinds, TicksAreCounted};
 ghost use Rattle.tsb_step.specs.Laws.{DisplaysAreSafe, FaultsAloneTrip, MemoryIsConsistent, MemoryRefusesTheSame, PlansStayConsistent, PreemptsHavePhases, QuietTicksWriteNothing, RingsActInEitherOrder, ServedGoTogether, StartsWait, WalksAreBesideGreens};
 
 /// Whatever ticks, patterns, switches, faults, resets and transactions there were: no display gives right of
@@ -41,6 +42,14 @@ pub fn faults_alone_trip()
 pub fn plans_in_memory_are_consistent()
     ensures consistent { MemoryIsConsistent }
     ensures refuses { MemoryRefusesTheSame }
+{}
+
+/// The premises of the way back: where the cells of a state tell it, the record of an input takes the input back; the
+/// record is of the input's kind; and the tick number begins at 0 and goes on by one at most.
+pub fn records_give_back()
+    ensures back { RecordsGiveBack }
+    ensures kinds { RecordsTellKinds }
+    ensures ticks { TicksAreCounted }
 {}
 
 /// The record of a tick in which nothing happens but time has no entry.
