@@ -17,7 +17,7 @@ use Rattle.tsb_types.specs.Clip.{Agree}
 use Rattle.tsb_types.specs.Flow.{interval_of}
 use Rattle.tsb_types.specs.Intervals.{is_green}
 use Rattle.tsb_types.specs.Sets.{has, has_number, is_phase}
-use Rattle.tsb_types.proofs.ClipLemmas.{among_16, is_phase_from}
+use Rattle.tsb_types.proofs.ClipLemmas.{among_16, clipped-agrees, is_phase_from, within-agrees}
 use Rattle.tsb_plan.specs.Plan.{Plan, sequence}
 use Rattle.tsb_plan.specs.Parts.{call_phase}
 use Rattle.tsb_detect.specs.Cells.{detector_in}
@@ -27,7 +27,7 @@ use Rattle.tsb_detect.proofs.StateLemmas.{same-after, ticks-all}
 use Rattle.tsb_calls.specs.declared.decided.Decided.{Decided}
 use Rattle.tsb_calls.specs.Cells.{memories_in}
 use Rattle.tsb_calls.specs.Looks as calls_looks
-use Rattle.tsb_calls.specs.Memories.{Memories, as_set}
+use Rattle.tsb_calls.specs.Memories.{Memories, as_set, has_output}
 use Rattle.tsb_calls.specs.Promises as calls
 use Rattle.tsb_calls.proofs.LookLemmas.{look-alike}
 use Rattle.tsb_calls.proofs.NextLemmas.{ticks-give}
@@ -193,7 +193,7 @@ module _ (now : ℕ) (plan : Plan) (desk : Desk) (lamp : Option Lamp) (row : Row
     interval = shown;
     pedestrian_part = λ p from to. sensed.walking (now - 1) p from to;
     runs = sensed.ordered.runs;
-    omitted = sensed.ordered.omit;
+    omitted = λ p from to. sensed.ordered.omit p from to ∙ sym (clipped-agrees (tick.omitted t) p from to);
     service_ended = wanted.ended;
   }
 
@@ -218,18 +218,22 @@ module _ (now : ℕ) (plan : Plan) (desk : Desk) (lamp : Option Lamp) (row : Row
   phases_alike : phase_laws.AgreeOnPhases (phases.given_of run.conditions) (phases_given t row)
   unfolding phases_given
   phases_alike = record {
-    output = λ p from to. ap (λ (x : Called). has x.output p) run.conditions_are.called_are ∙ (calls_told p from to).output ∙ called_alike.output p from to;
-    conflict = λ p from to. ap (λ (x : Called). has x.conflict p) run.conditions_are.called_are ∙ (calls_told p from to).conflict ∙ called_alike.conflict p from to;
-    callable = λ p from to. ap (λ (x : Called). has x.callable p) run.conditions_are.called_are ∙ callable_is p from to;
-    pedestrian_call = λ p from to. ap (λ (x : Called). has x.pedestrian p) run.conditions_are.called_are ∙ pedestrian_is p from to;
+    output = λ p from to. ap (λ (x : Called). has x.output p) run.conditions_are.called_are ∙ (calls_told p from to).output ∙ called_alike.output p from to
+        ∙ sym (clipped-agrees (has_output plan (calls_given t row)) p from to);
+    conflict = λ p from to. ap (λ (x : Called). has x.conflict p) run.conditions_are.called_are ∙ (calls_told p from to).conflict ∙ called_alike.conflict p from to
+        ∙ sym (clipped-agrees (conflict t row) p from to);
+    callable = λ p from to. ap (λ (x : Called). has x.callable p) run.conditions_are.called_are ∙ callable_is p from to ∙ sym (clipped-agrees (callable t row) p from to);
+    pedestrian_call = λ p from to. ap (λ (x : Called). has x.pedestrian p) run.conditions_are.called_are ∙ pedestrian_is p from to
+        ∙ sym (clipped-agrees (pedestrian_call t row) p from to);
     count = λ p from to. ap (λ (xs : List ℕ). slice_index xs (p - 1)) run.conditions_are.counts_are
-        ∙ (run.lent p from to).same ∙ (sets p from to).count ∙ as_sets.count p from to;
+        ∙ (run.lent p from to).same ∙ (sets p from to).count ∙ as_sets.count p from to ∙ sym (within-agrees 0 (set t row).count p from to);
     runs = run.conditions_are.runs_is ∙ sensed.ordered.runs;
     service = run.conditions_are.service_is ∙ served;
-    hold = λ p from to. ap (λ (x : Orders). has x.hold p) run.conditions_are.orders_are ∙ sensed.ordered.hold p from to;
-    must_end = λ p from to. ap (λ (x : Orders). has x.must_end p) run.conditions_are.orders_are ∙ wanted.must_end p from to;
+    hold = λ p from to. ap (λ (x : Orders). has x.hold p) run.conditions_are.orders_are ∙ sensed.ordered.hold p from to ∙ sym (clipped-agrees (tick.hold t) p from to);
+    must_end = λ p from to. ap (λ (x : Orders). has x.must_end p) run.conditions_are.orders_are ∙ wanted.must_end p from to
+        ∙ sym (clipped-agrees (tick.must_end t row) p from to);
     forced = λ p from to. ap (λ (x : Orders). has x.forced p) run.conditions_are.orders_are ∙ sensed.ordered.forced p from to
-        ∙ ap (λ (n : ℕ). asks_force_off plan n t.pattern p) now_is;
+        ∙ ap (λ (n : ℕ). asks_force_off plan n t.pattern p) now_is ∙ sym (clipped-agrees (tick.forced t) p from to);
   }
 
   told : (p : ℕ) → 1 ≤ p → p ≤ 16 → IsToldTheSame plan (phases.given_of run.conditions) (phases_given t row) p
@@ -254,11 +258,11 @@ module _ (now : ℕ) (plan : Plan) (desk : Desk) (lamp : Option Lamp) (row : Row
   rings_alike = record {
     interval = shown;
     sequence = λ r. ap (λ (n : ℕ). sequence plan n (number r)) sensed.ordered.sequence;
-    callable = callable_is;
-    omitted = sensed.ordered.omit;
-    ready = ready_is;
-    over = run.over;
-    reverted = run.reverted;
+    callable = λ p from to. callable_is p from to ∙ sym (clipped-agrees (callable t row) p from to);
+    omitted = λ p from to. sensed.ordered.omit p from to ∙ sym (clipped-agrees (tick.omitted t) p from to);
+    ready = λ p from to. ready_is p from to ∙ sym (clipped-agrees (ready t row) p from to);
+    over = λ p from to. run.over p from to ∙ sym (clipped-agrees (over t) p from to);
+    reverted = λ p from to. run.reverted p from to ∙ sym (clipped-agrees (reverted t) p from to);
     target = same-targets _ (tick.target t row) wanted.target;
   }
 
@@ -326,7 +330,7 @@ module _ (now : ℕ) (plan : Plan) (desk : Desk) (lamp : Option Lamp) (row : Row
       (record {
         starts = λ p from to. decided.starts_are p ∙ ap (λ (x : Moves). is_started x p) moves_are;
         ends = λ p from to. decided.ends_are p ∙ ap (λ (x : Moves). is_ended x p) moves_are;
-        gapped = λ p from to. ap (λ (x : PhaseSet). has x p) decided.gapped_are ∙ gapped_is p from to;
+        gapped = λ p from to. ap (λ (x : PhaseSet). has x p) decided.gapped_are ∙ gapped_is p from to ∙ sym (clipped-agrees (gapped t row) p from to);
         service = decided.service_is ∙ served;
       })
       (record { starts = started-off; ends = ended-off })
