@@ -1,4 +1,4 @@
-use Rattle.std.proofs.Common.{◌≡◌, ℕ, ◌&&◌, Bool, ◌∙◌}
+use Rattle.std.proofs.Common.{ℕ, ◌&&◌, Bool, ◌∙◌}
 use Rattle.tsb_objects.specs.Checked.{checked_plan}
 use Rattle.tsb_plan.specs.Parts.{call_phase}
 use Rattle.tsb_plan.specs.Plan.{Plan}
