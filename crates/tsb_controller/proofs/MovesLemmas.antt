@@ -18,7 +18,7 @@ use Rattle.tsb_ring.specs.Moves.{if_passes, moves, is_cleared}
 use Rattle.tsb_ring.specs.Promises.{given_of, IsDecided}
 use Rattle.tsb_ring.specs.Rings.{Ring, Ring1, Ring2, State, Given, in_ring, serving}
 use Rattle.tsb_ring.proofs.MoveLemmas.{or_cases, is-Some, clears_over}
-use Rattle.tsb_ring.proofs.SoundLemmas.{one_ring}
+use Rattle.tsb_ring.proofs.ClaimLemmas.{one_ring}
 use Rattle.tsb_ring.proofs.WaitLemmas.{first-passes}
 use Rattle.tsb_controller.specs.Carried.{AreApart}
 use Rattle.tsb_controller.proofs.PlacedLemmas.{IsPlaced, within}

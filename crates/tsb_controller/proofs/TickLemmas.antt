@@ -67,6 +67,7 @@ use Rattle.tsb_transact.specs.Desk.{Desk}
 use Rattle.tsb_step.specs.State.{State, interval}
 use Rattle.tsb_step.specs.Tick as tick
 use Rattle.tsb_step.specs.Tick.{preempts_given, calls_given, phases_given, rings_given, new_detectors, set, callable, conflict, pedestrian_call, ready, over, reverted, gapped, service, moves, moved, done, next}
+use Rattle.tsb_step.proofs.ClipLemmas.{clipped_holds}
 use Rattle.tsb_controller.specs.declared.values.Sensed.{Sensed}
 use Rattle.tsb_controller.specs.declared.values.Movement.{Movement}
 use Rattle.tsb_controller.specs.Carried.{moved_by}
@@ -285,7 +286,7 @@ module _ (now : ℕ) (plan : Plan) (desk : Desk) (lamp : Option Lamp) (row : Row
   unfolding moves rings_given
   are-moves p = record {
     ends_greens = λ on. (ends_ready plan t.rings (rings_given t row) p on).0;
-    clears_overs = λ on. clears_over plan t.rings (rings_given t row) p on;
+    clears_overs = λ on. clipped_holds (over t) p (clears_over plan t.rings (rings_given t row) p on);
   }
 
   once-same : (x : phase.Moved) (p : ℕ) (by_gap : Bool) (y : Phase) → 1 ≤ p → p ≤ 16 → once plan (phases.given_of run.conditions) x p by_gap y ≡ once plan (phases_given t row) x p by_gap y
