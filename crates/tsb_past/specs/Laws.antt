@@ -1,5 +1,5 @@
--- What holds of the way back of every machine, as statements, from one premise: to undo the record of a step gives the state
--- back.
+-- What holds of the way back of every machine, as statements, from one premise: to undo the record of a step gives the
+-- state back.
 --
 -- All are proved, each as the contract of a function that does nothing (src/laws.rt).
 use Rattle.std.specs.Prelude.{◌≡◌, ℕ, suc, ◌≤◌, List, [], ◌∷◌, length, drop, Option, None}
@@ -35,8 +35,8 @@ module _ {State Input Change : Type 0} (m : Machine State Input Change) (start :
   GiveBack [] = Unit {0}
   GiveBack (i ∷ is) = GiveBack is × GivesBack m (replay m start is) i
 
-  -- so it is in every run of a machine that has this of its good states: power-up is good, an input that can come leaves a
-  -- good state, and its record takes it back
+  -- so it is in every run of a machine that has this of its good states: power-up is good, an input that can come
+  -- leaves a good state, and its record takes it back
   pub record GoesBack (IsGood : State → Type 0) (CanCome : State → Input → Type 0) : Type 0 where
     pub begins : IsGood start
     pub stays : (s : State) (i : Input) → IsGood s → CanCome s i → IsGood (m.step s i)
@@ -73,8 +73,8 @@ module _ {State Input Change : Type 0} (m : Machine State Input Change) (start :
   SeeksAreLeast = CountsTicks → (is : List Input) → GiveBack is → (t : ℕ) → t ≤ m.now (replay m start is) →
       IsLeastBack m t (after m start is) (sought m t (replay m start is) (records_of m start is))
 
-  -- The tick number at which a value changed last, as it is told of a run, is the greatest of those not taken back at which it
-  -- changed.
+  -- The tick number at which a value changed last, as it is told of a run, is the greatest of those not taken back at
+  -- which it changed.
   abbrev pub LastIsGreatest : {Value : Type 0} → (State → Value) → Type 0
   LastIsGreatest value = CountsTicks → (is : List Input) → GiveBack is → (t : Option ℕ) →
       TellsLastChange m value (run m start is) t → IsTold m value (after m start is) t
@@ -82,8 +82,8 @@ module _ {State Input Change : Type 0} (m : Machine State Input Change) (start :
 -- ## Sessions
 
 module _ {State Input Change Watch Value : Type 0} (m : Machine State Input Change) (start : State) (watched : Watch → State → Value) where
-  -- what holds of a session: each answer is right, the whole is that of a replay of the inputs that remain, and each of these
-  -- was taken
+  -- what holds of a session: each answer is right, the whole is that of a replay of the inputs that remain, and each of
+  -- these was taken
   pub record IsReplayed (cs : List (Command Input Watch)) (ans : List Answer) (w : Whole State Change) : Type 0 where
     pub right : AreRight m start watched cs ans
     pub replayed : w ≡ after m start (remaining m start cs ans)

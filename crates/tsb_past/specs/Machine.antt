@@ -1,9 +1,10 @@
--- A machine that takes inputs one by one and keeps a record of each, so that it can go back; and its runs. Inputs are piled up,
--- the newest first, and a run begins at a state, as at power-up.
+-- A machine that takes inputs one by one and keeps a record of each, so that it can go back; and its runs. Inputs are
+-- piled up, the newest first, and a run begins at a state, as at power-up.
 use Rattle.std.specs.Prelude.{◌≡◌, ℕ, ◌==◌, List, [], ◌∷◌, Option, None, if◌then◌else◌}
 use Rattle.tsb_types.specs.declared.refusal.Refusal.{Refusal}
 use Rattle.tsb_history.specs.declared.kinds.Kind.{Kind}
 
+-- what runs and the way back need to know of a controller, over any states, inputs and records (`Change`)
 pub record Machine (State Input Change : Type 0) : Type 0 where
   -- what an input makes of a state
   pub step : State → Input → State
@@ -24,7 +25,7 @@ module _ {State Input Change : Type 0} (m : Machine State Input Change) (start :
   replay [] = start
   replay (i ∷ is) = m.step (replay is) i
 
-  -- each input of the pile was taken: it was not refused where it came
+  -- each input of the pile was taken: there was no verdict against it where it came
   abbrev pub AreTaken : List Input → Type 0
   AreTaken [] = Unit {0}
   AreTaken (i ∷ is) = AreTaken is × (m.verdict (replay is) i ≡ None)
@@ -39,11 +40,12 @@ module _ {State Input Change : Type 0} (m : Machine State Input Change) (start :
   records_of [] = []
   records_of (i ∷ is) = m.record_of i (replay is) (replay (i ∷ is)) ∷ records_of is
 
-  -- without the fewest of the newest that make the tick number t
+  -- without the fewest of the newest inputs that make the tick number t; without all of them, where no state has it
   abbrev pub back_to : ℕ → List Input → List Input
   back_to t [] = []
   back_to t (i ∷ is) = if m.now (replay (i ∷ is)) == t then i ∷ is else back_to t is
 
+-- what an undo leaves of a pile of inputs; of none it leaves none
 abbrev pub without_newest : {Input : Type 0} → List Input → List Input
 without_newest [] = []
 without_newest (i ∷ is) = is

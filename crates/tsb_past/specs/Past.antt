@@ -8,7 +8,7 @@ pub record Whole (State Change : Type 0) : Type 0 where
   pub records : List Change
 
 module _ {State Input Change : Type 0} (m : Machine State Input Change) where
-  -- the whole with its newest record taken back
+  -- the whole with its newest record taken back; with no record left the state stays
   abbrev pub taken_back : State → List Change → Whole State Change
   taken_back s [] = record { state = s; records = [] }
   taken_back s (r ∷ rs) = record { state = m.undone r s; records = rs }
@@ -23,7 +23,7 @@ module _ {State Input Change : Type 0} (m : Machine State Input Change) where
   pasts s [] = s ∷ []
   pasts s (r ∷ rs) = s ∷ pasts (m.undone r s) rs
 
-  -- the whole with the fewest records taken back that make the tick number t
+  -- the whole with the fewest records taken back that make the tick number t; with all, where no state has it
   abbrev pub sought : ℕ → State → List Change → Whole State Change
   sought t s [] = record { state = s; records = [] }
   sought t s (r ∷ rs) = if m.now s == t then record { state = s; records = r ∷ rs } else sought t (m.undone r s) rs

@@ -1,5 +1,5 @@
--- What a list of commands comes to: the inputs that remain, and which answer is right where it stands. The state is that of a
--- replay of the inputs that remain.
+-- What a list of commands comes to: the inputs that remain, and which answer is right where it stands. The state is
+-- that of a replay of the inputs that remain.
 use Rattle.std.specs.Prelude.{◌≡◌, ℕ, ◌-◌, ◌<◌, ◌≤◌, List, [], ◌∷◌, Option, Some, None}
 use Rattle.tsb_history.specs.declared.kinds.Kind.{Kind}
 use Rattle.tsb_types.specs.declared.refusal.Refusal.{Refusal}
@@ -15,7 +15,8 @@ use Rattle.tsb_past.specs.Watches.{TellsLastChange}
 -- ## The inputs that remain
 
 module _ {State Input Change Watch : Type 0} (m : Machine State Input Change) (start : State) where
-  -- after a command with this answer
+  -- after a command with this answer: an input that was taken is piled up, undo takes away the newest, back (by n
+  -- ticks) and seek (to tick t) go to a tick number; all else leaves them
   abbrev pub remaining_after : List Input → Command Input Watch → Answer → List Input
   remaining_after is (Apply i) Took = i ∷ is
   remaining_after is Undo (Undone k) = without_newest is
@@ -23,22 +24,24 @@ module _ {State Input Change Watch : Type 0} (m : Machine State Input Change) (s
   remaining_after is (Seek t) Moved = back_to m start t is
   remaining_after is c a = is
 
+  -- after these commands with these answers in turn, where `is` remained before
   abbrev pub remaining_from : List Input → List (Command Input Watch) → List Answer → List Input
   remaining_from is [] ans = is
   remaining_from is (c ∷ cs) [] = is
   remaining_from is (c ∷ cs) (a ∷ ans) = remaining_from (remaining_after is c a) cs ans
 
-  -- the inputs that were not undone
+  -- the inputs that were not undone, of a session from power-up
   abbrev pub remaining : List (Command Input Watch) → List Answer → List Input
   remaining cs ans = remaining_from [] cs ans
 
 -- ## Right answers
 
--- a refusal is the verdict; want of memory comes only where there is none
+-- a refusal is the verdict; out of memory comes only where there is no verdict
 abbrev pub IsRefusal : Option Refusal → Refusal → Type 0
 IsRefusal found refusals.Memory = found ≡ None
 IsRefusal found e = found ≡ Some e
 
+-- what an undo answers: the kind of the input that it takes away; with none left it has no such answer
 abbrev pub IsNewestKind : {State Input Change : Type 0} → Machine State Input Change → List Input → Kind → Type 0
 IsNewestKind m [] k = ⊥
 IsNewestKind m (i ∷ is) k = k ≡ m.kind_of i
@@ -69,6 +72,7 @@ module _ {State Input Change Watch Value : Type 0} (m : Machine State Input Chan
   AreRightFrom is (c ∷ cs) [] = ⊥
   AreRightFrom is (c ∷ cs) (a ∷ ans) = IsRight is c a × AreRightFrom (remaining_after m start is c a) cs ans
 
+  -- so from power-up, where no input remains before the first command
   abbrev pub AreRight : List (Command Input Watch) → List Answer → Type 0
   AreRight cs ans = AreRightFrom [] cs ans
 
@@ -78,6 +82,7 @@ module _ {State Input Change Watch Value : Type 0} (m : Machine State Input Chan
 
 -- ## What a bench does
 
+-- the kind of the newest record, which an undo takes back; with none left, no kind is
 abbrev pub IsNewest : {State Input Change : Type 0} → Machine State Input Change → List Change → Kind → Type 0
 IsNewest m [] k = ⊥
 IsNewest m (r ∷ rs) k = k ≡ m.kind r

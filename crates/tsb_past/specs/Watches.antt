@@ -1,11 +1,12 @@
--- The tick number at which a watched value changed last. An input that is no tick counts at the tick number in force (profile).
+-- The tick number at which a watched value changed last. An input that is no tick counts at the tick number in force
+-- (profile).
 use Rattle.std.specs.Prelude.{◌≡◌, ◌≢◌, ℕ, suc, ◌<◌, ◌≤◌, List, [], ◌∷◌, length, Option, Some, None, ◌⊎◌}
 use Rattle.tsb_past.specs.Machine.{Machine}
 use Rattle.tsb_past.specs.Past.{Whole, earlier}
 
 module _ {State Input Change Value : Type 0} (m : Machine State Input Change) (value : State → Value) where
-  -- of the states of a run, the newest first, the tick number of the newest in which the value is another than in the one
-  -- before; none, where it never changed
+  -- of the states of a run, the newest first, the tick number of the newest in which the value is another than in the
+  -- one before; none, where it never changed
   abbrev pub TellsLastChange : List State → Option ℕ → Type 0
   TellsLastChange [] t = t ≡ None
   TellsLastChange (s ∷ []) t = t ≡ None
@@ -16,8 +17,8 @@ module _ {State Input Change Value : Type 0} (m : Machine State Input Change) (v
   abbrev pub ChangesAt : Whole State Change → ℕ → Type 0
   ChangesAt w k = value (earlier m w k).state ≢ value (earlier m w (suc k)).state
 
-  -- t is the tick number of a state, of those not taken back, in which the value changed, and the value changed in none of a
-  -- greater tick number
+  -- t is the tick number of a state, of those not taken back, in which the value changed, and the value changed in none
+  -- of a greater tick number
   pub record IsLastChange (w : Whole State Change) (t : ℕ) : Type 0 where
     pub back : ℕ
     pub within : back < length w.records
