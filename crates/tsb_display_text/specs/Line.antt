@@ -11,7 +11,7 @@ use Rattle.tsb_heads.specs.Heads.{Heads}
 
 -- ## Digits and letters
 
--- the digit of n at this power of ten
+-- the digit of n at this power of ten, as a byte
 abbrev pub digit : ℕ → ℕ → ℕ
 digit n unit = 48 + n / unit % 10
 
@@ -38,16 +38,19 @@ tick_field now =
     digit now 1000000 ∷ digit now 100000 ∷ digit now 10000 ∷ digit now 1000 ∷ digit now 100 ∷ digit now 10
     ∷ digit now 1 ∷ []
 
+-- 16 letters, that of phase 1 first
 abbrev pub vehicle_field : (ℕ → Aspect) → List ℕ
 vehicle_field vehicle = map (λ p. letter (vehicle p)) (run_from 1 16)
 
+-- 16 letters, that of the pedestrian head of phase 1 first
 abbrev pub pedestrian_field : (ℕ → PedestrianAspect) → List ℕ
 pedestrian_field pedestrian = map (λ p. pedestrian_letter (pedestrian p)) (run_from 1 16)
 
+-- 4 letters, that of overlap 1 first
 abbrev pub overlap_field : (ℕ → Aspect) → List ℕ
 overlap_field overlap = map (λ o. letter (overlap o)) (run_from 1 4)
 
--- the number of the preempt in service, 0 where none is
+-- the number of the preempt in service, 0 where none is; one digit, as there are preempts 1 to 4
 abbrev pub preempt_digit : Option ℕ → ℕ
 preempt_digit None = 48
 preempt_digit (Some n) = 48 + n
