@@ -1,4 +1,4 @@
--- The cells of the whole controller: 1579 in a row, those of each layer behind the other's, and how they are read at a tick. The
+-- The cells of the whole controller: 1579 in a row, layer after layer, and how they are read at a tick. The
 -- clock by which timers are written and read stands still while the controller is tripped.
 --
 -- | Cells | Whose |
@@ -32,6 +32,7 @@ abbrev pub clock_at : ℕ → Option Tripped → ℕ
 clock_at now None = now
 clock_at now (Some trip) = trip.tick
 
+-- the clock by which the timers of a state are written
 abbrev pub clock : State → ℕ
 clock s = clock_at s.now s.trip
 
@@ -52,31 +53,39 @@ cells_of s =
 
 -- ## Reading
 
--- the cells of each layer
+-- the cells of each layer among all of them: 132 of the desk
 abbrev pub desk_row : List ℕ → List ℕ
 desk_row row = row_at 132 row 1230
 
+-- 54 of the vehicle detectors
 abbrev pub detectors_row : List ℕ → List ℕ
 detectors_row row = row_at 54 row 1362
 
+-- 18 of vehicle memories, pedestrian memories and counts
 abbrev pub calls_row : List ℕ → List ℕ
 calls_row row = row_at 18 row 1416
 
+-- 121 of phase timing
 abbrev pub phases_row : List ℕ → List ℕ
 phases_row row = row_at 121 row 1434
 
+-- 6 of last phases, commitments, side and crossing
 abbrev pub rings_row : List ℕ → List ℕ
 rings_row row = row_at 6 row 1555
 
+-- 1 of the selected pattern
 abbrev pub pattern_row : List ℕ → List ℕ
 pattern_row row = row_at 1 row 1561
 
+-- 10 of the preempts
 abbrev pub preempts_row : List ℕ → List ℕ
 preempts_row row = row_at 10 row 1562
 
+-- 7 of the trip and the injected lamp
 abbrev pub monitor_row : List ℕ → List ℕ
 monitor_row row = row_at 7 row 1572
 
+-- the clock by which timers are read in all these cells, which tell the trip
 abbrev pub clock_in : ℕ → List ℕ → ℕ
 clock_in now row = clock_at now (trip_in (monitor_row row))
 

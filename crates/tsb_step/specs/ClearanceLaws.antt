@@ -1,6 +1,6 @@
--- What a green that ends has had, and what follows it, tick by tick, until its phase is over: yellow change, red clearance, and
--- for a coordinated phase where the local counter stands then. Each law here is the contract of a function in
--- src/clearance_laws.rt, and proved there. Times are in tenths of a second, which are ticks.
+-- What a green that ends has had, and what follows it, tick by tick, until its phase is over: yellow change, red
+-- clearance, and for a coordinated phase where the local counter stands then. Each law here is the contract of a
+-- function in src/clearance_laws.rt, and proved there. Times are in tenths of a second, which are ticks.
 use Rattle.std.specs.Prelude.{◌≡◌, ℕ, zero, suc, ◌+◌, ◌<◌, ◌≤◌, ◌==◌, true, Some, None}
 use Rattle.tsb_cells.specs.Timer.{has_reached}
 use Rattle.tsb_types.specs.declared.interval.Interval.TheVariants.{Yellow, RedClear}
@@ -22,19 +22,21 @@ use Rattle.tsb_step.specs.Laws.{OfEveryRun}
 
 -- ## What a move has waited for
 
--- A green that ends, also where a crossing begins or a preempt ends it, has lasted the minimum green, under a preempt that ends
--- it the smaller of that and the preempt's; and its pedestrian part is then DontWalk.
+-- A green that ends, also where a crossing begins or a preempt ends it, has lasted the minimum green, under a preempt
+-- that ends it the smaller of that and the preempt's; and its pedestrian part is then DontWalk.
 pub record HasLasted (s : State) (row : Row) (p : ℕ) : Type 0 where
   pub lasted : has_reached (phase_read s p).timer (least_green s.plan p (ended_by (phases_given s row) p)) ≡ true
   pub dont_walk : pedestrian_now s.plan (phases_given s row) p (phase_read s p) ≡ DontWalk
 
+-- So it is of each green that the rings end, in whatever state and by whatever row.
 abbrev pub EndedGreensHaveLasted : Type 0
 EndedGreensHaveLasted = (s : State) (row : Row) (p : ℕ) → is_ended (moves s row) p ≡ true → HasLasted s row p
 
--- A phase that goes Red is over, and one that starts has passed its red revert.
+-- A phase that goes Red is over: its yellow change and red clearance have lasted their times.
 abbrev pub ClearedAreOver : Type 0
 ClearedAreOver = (s : State) (row : Row) (p : ℕ) → is_cleared (moves s row) p ≡ true → over s p ≡ true
 
+-- A phase that starts has passed its red revert, or its red revert timer is Off.
 abbrev pub StartedHaveReverted : Type 0
 StartedHaveReverted = (s : State) (row : Row) (p : ℕ) → is_started (moves s row) p ≡ true → reverted s p ≡ true
 
@@ -45,23 +47,23 @@ abbrev pub after_ticks : State → (ℕ → Row) → ℕ → State
 after_ticks s rows zero = s
 after_ticks s rows (suc k) = step (after_ticks s rows k) (Tick (rows k))
 
--- the green of an enabled phase ends in the first of these ticks, and the controller does not trip before its clearance has
--- passed
+-- the green of an enabled phase ends in the first of these ticks, and the controller does not trip before its clearance
+-- has passed
 pub record EndsNow (s : State) (rows : ℕ → Row) (p : ℕ) : Type 0 where
   pub enabled : is_enabled s.plan p ≡ true
   pub ends : is_ended (moves s (rows 0)) p ≡ true
   pub untripped : (k : ℕ) → k ≤ clearance s.plan p → (after_ticks s rows k).trip ≡ None
 
--- then it is Yellow for its yellow change time and in red clearance for its red clearance time, and it is over in the tick
--- that comes both after the end of its green, and in none before
+-- then it is Yellow for its yellow change time and in red clearance for its red clearance time; it is over in the tick
+-- that comes the sum of both after the one that ends its green, and in none before
 pub record ClearsInTime (s : State) (rows : ℕ → Row) (p : ℕ) : Type 0 where
   pub yellow : (k : ℕ) → k < yellow_change s.plan p → interval (after_ticks s rows (suc k)) p ≡ Yellow
   pub red_clear : (k : ℕ) → yellow_change s.plan p ≤ k → k < clearance s.plan p →
       interval (after_ticks s rows (suc k)) p ≡ RedClear
   pub over : (k : ℕ) → k < clearance s.plan p → over (after_ticks s rows (suc k)) p ≡ (k + 1 == clearance s.plan p)
 
--- Whatever the rows are: a green that ends is followed by its yellow change and its red clearance, each in full, where no
--- other inputs than ticks come between.
+-- Whatever the rows are: a green that ends is followed by its yellow change and its red clearance, each in full, where
+-- no other inputs than ticks come between.
 abbrev pub GreensClearInTime : Type 0
 GreensClearInTime = OfEveryRun (λ s. (rows : ℕ → Row) (p : ℕ) → EndsNow s rows p → ClearsInTime s rows p)
 

@@ -1,5 +1,6 @@
--- What transactions at the desk do to the controller: nothing but by the plans that their commits put into effect. Each law
--- here is the contract of a function in src/desk_laws.rt, and proved there. Runs are those of Runs, of inputs taken or not.
+-- What transactions at the desk do to the controller: nothing but by the plans that their commits put into effect. Each
+-- law here is the contract of a function in src/desk_laws.rt, and proved there. Runs are those of Runs, of inputs taken
+-- or not.
 use Rattle.std.specs.Prelude.{◌≡◌, Bool, true, false, if◌then◌else◌, List, [], ◌∷◌}
 use Rattle.tsb_plan.specs.Plan.{Plan}
 use Rattle.tsb_transact.specs.Desk.{closed}
@@ -26,6 +27,7 @@ is_of_desk (Verify station) = true
 is_of_desk (Commit station) = false
 is_of_desk (Abort station) = true
 
+-- the one input of a station that changes the plan in effect
 abbrev pub is_commit : Input → Bool
 is_commit (Commit station) = true
 is_commit i = false

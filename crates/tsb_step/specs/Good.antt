@@ -1,4 +1,5 @@
--- What every run keeps: of the plan in effect and the edits at the desk, of the rings and the heads, of a preempt in service.
+-- What every run keeps: of the plan in effect and the edits at the desk, of the rings and the heads, of a preempt in
+-- service.
 use Rattle.std.specs.Prelude.{◌≡◌, ℕ, ◌≤◌, List, [], ◌∷◌, Some, None, true}
 use Rattle.tsb_plan.specs.Plan.{Plan}
 use Rattle.tsb_ring.specs.Laws.{IsSound}
@@ -26,6 +27,7 @@ pub record IsInStage (plan : Plan) (x : Service) : Type 0 where
   pub preempt : is_preempt x.preempt ≡ true
   pub some : has_stage plan x.preempt x.stage ≡ true
 
+-- what holds of the state after every run; the laws of runs are proved from it
 pub record IsGood (s : State) : Type 0 where
   pub plan : IsConsistent s.plan
   -- in Done the plan with the edits breaks no rule

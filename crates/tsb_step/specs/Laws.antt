@@ -1,6 +1,6 @@
--- What holds of every run of the controller, as statements: that what it shows is safe, that starts wait for what they do not
--- go with, that rings act in either order, and that a preempt in service has phases to serve. A run is a pile of inputs of any
--- kind, each of which was taken, from power-up with a plan that breaks no rule.
+-- What holds of every run of the controller, as statements: that what it shows is safe, that starts wait for what they
+-- do not go with, that rings act in either order, and that a preempt in service has phases to serve. A run is a pile of
+-- inputs of any kind, each of which was taken, from power-up with a plan that breaks no rule.
 --
 -- All are proved, each as the contract of a function that does nothing (src/laws.rt).
 use Rattle.std.specs.Prelude.{◌≡◌, ℕ, Bool, true, false, not, ◌&&◌, ◌||◌, List, [], ◌∷◌, Some, None, is_some, ◌⊎◌}
@@ -50,6 +50,7 @@ DisplaysAreSafe = OfEveryRun IsSafe
 abbrev pub ServesTogether : State → Type 0
 ServesTogether s = (p q : ℕ) → in_service (interval s p) ≡ true → in_service (interval s q) ≡ true → Agree s.plan p q
 
+-- So it is after every run, by the concurrency of the plan in effect then.
 abbrev pub ServedGoTogether : Type 0
 ServedGoTogether = OfEveryRun ServesTogether
 
@@ -61,6 +62,7 @@ PlansStayConsistent = OfEveryRun (λ s. IsConsistent s.plan)
 abbrev pub WalksBesideGreen : State → Type 0
 WalksBesideGreen s = (p : ℕ) → is_green (interval s p) ≡ false → (s.phases p).pedestrian ≡ DontWalk
 
+-- So it is after every run, also under a preempt and while the controller flashes.
 abbrev pub WalksAreBesideGreens : Type 0
 WalksAreBesideGreens = OfEveryRun WalksBesideGreen
 
@@ -71,6 +73,7 @@ abbrev pub StartsWaiting : State → Type 0
 StartsWaiting s = (row : Row) (p q : ℕ) → is_started (moves s row) p ≡ true → in_service (interval s q) ≡ true →
     (is_concurrent s.plan p q ≡ true) ⊎ (over s q ≡ true)
 
+-- So it is in each tick after every run, whatever inputs are on in it.
 abbrev pub StartsWait : Type 0
 StartsWait = OfEveryRun StartsWaiting
 
@@ -88,16 +91,18 @@ has_stage plan n Track = has_track plan n
 has_stage plan n Dwell = has_dwell plan n
 has_stage plan n Exit = has_exit plan n
 
--- the preempt in service is one of the four; the list of its stage is not empty, and names enabled phases that are pairwise
--- concurrent
+-- the preempt in service is one of the four; the list of its stage is not empty, and names enabled phases that are
+-- pairwise concurrent
 pub record IsServed (plan : Plan) (x : Service) : Type 0 where
   pub preempt : is_preempt x.preempt ≡ true
   pub some : has_stage plan x.preempt x.stage ≡ true
   pub compatible : AreCompatible plan (stage_phases plan x.preempt x.stage)
 
+-- A preempt in service, if there is one, has phases to serve in its stage, and they go together.
 abbrev pub ServesPreempt : State → Type 0
 ServesPreempt s = (x : Service) → s.preempts.service ≡ Some x → IsServed s.plan x
 
+-- So it is after every run, whatever lists of phases were committed.
 abbrev pub PreemptsHavePhases : Type 0
 PreemptsHavePhases = OfEveryRun ServesPreempt
 
@@ -125,7 +130,7 @@ FaultsAloneTrip = (plan : Plan) (is : List Input) → IsConsistent plan → AreT
 abbrev pub MemoryIsConsistent : Type 0
 MemoryIsConsistent = (plan : memory.Plan) → first_broken (plan_of plan) ≡ None → IsConsistent (plan_of plan)
 
--- With 16 phases and 4 sides, as such a plan has, a value is refused just where a plan in memory refuses it.
+-- With 16 phases and 4 sides, as such a plan has, a value is refused exactly when a plan in memory refuses it.
 abbrev pub MemoryRefusesTheSame : Type 0
 MemoryRefusesTheSame = (plan : Plan) (id : ObjectId) (v : ℕ) → plan.phase_count ≡ 16 → plan.side_count ≡ 4 →
     place_refusal plan id v ≡ put_refusal id v

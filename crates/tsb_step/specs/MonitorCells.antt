@@ -21,6 +21,7 @@ use Rattle.tsb_step.specs.State.{Tripped}
 
 -- ## Writing
 
+-- cells 0 to 3: the cause with its phases, and the tick number; all 0 where it has not tripped
 abbrev pub trip_cells : Option Tripped → List ℕ
 trip_cells None = 0 ∷ 0 ∷ 0 ∷ 0 ∷ []
 trip_cells (Some trip) = cause_cells trip.cause ++ (trip.tick ∷ [])
@@ -29,16 +30,19 @@ trip_cells (Some trip) = cause_cells trip.cause ++ (trip.tick ∷ [])
     cause_cells (Conflict p q) = 1 ∷ p ∷ q ∷ []
     cause_cells (GreenToRed p) = 2 ∷ p ∷ 0 ∷ []
 
+-- cell 6 of a lamp in the head of a phase or an overlap
 abbrev pub signal_cell : SignalColor → ℕ
 signal_cell signals.Red = 0
 signal_cell signals.Yellow = 1
 signal_cell signals.Green = 2
 
+-- cell 6 of a lamp in a pedestrian head
 abbrev pub pedestrian_cell : PedestrianColor → ℕ
 pedestrian_cell pedestrians.DontWalk = 0
 pedestrian_cell pedestrians.Clearance = 1
 pedestrian_cell pedestrians.Walk = 2
 
+-- cells 4 to 6: the kind of head, its number, and what it shows; all 0 where no lamp is lit
 abbrev pub lamp_cells : Option Lamp → List ℕ
 lamp_cells None = 0 ∷ 0 ∷ 0 ∷ []
 lamp_cells (Some (lamps.Phase p color)) = 1 ∷ p ∷ signal_cell color ∷ []
@@ -51,9 +55,11 @@ monitor_cells lamp trip = trip_cells trip ++ lamp_cells lamp
 
 -- ## Reading
 
+-- what cells 0 to 2 say of a trip: 1 in cell 0 is a conflict, anything else green to red
 abbrev pub cause_of : ℕ → ℕ → ℕ → Trip
 cause_of kind p q = if kind == 1 then Conflict p q else GreenToRed p
 
+-- the trip that a row of 7 tells; none where cell 0 is 0
 abbrev pub trip_in : List ℕ → Option Tripped
 trip_in row =
     if slice_index row 0 == 0 then None
@@ -62,18 +68,22 @@ trip_in row =
       tick = slice_index row 3;
     })
 
+-- cell 6 of a phase or overlap head; a number above 2 would be read as green
 abbrev pub signal_of : ℕ → SignalColor
 signal_of cell = if cell == 0 then signals.Red else (if cell == 1 then signals.Yellow else signals.Green)
 
+-- cell 6 of a pedestrian head; a number above 2 would be read as walk
 abbrev pub pedestrian_of : ℕ → PedestrianColor
 pedestrian_of cell = if cell == 0 then pedestrians.DontWalk else (if cell == 1 then pedestrians.Clearance else pedestrians.Walk)
 
+-- what cells 4 to 6 say of a lamp; a kind above 3 would be read as an overlap
 abbrev pub lamp_of : ℕ → ℕ → ℕ → Lamp
 lamp_of kind n color =
     if kind == 1 then lamps.Phase n (signal_of color) else
     (if kind == 2 then lamps.Pedestrian n (pedestrian_of color) else
     lamps.Overlap n (signal_of color))
 
+-- the lamp that a row of 7 tells; none where cell 4 is 0
 abbrev pub lamp_in : List ℕ → Option Lamp
 lamp_in row =
     if slice_index row 4 == 0 then None

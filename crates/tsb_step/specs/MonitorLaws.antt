@@ -1,5 +1,5 @@
--- What holds of the cells of the monitor and of the injected lamp: which rows they can hold at a tick, and that rows and
--- states tell one another. Proved as the contract of a function in src/monitor_laws.rt.
+-- What holds of the cells of the monitor and of the injected lamp: which rows they can hold at a tick, and that rows
+-- and states tell one another. Proved as the contract of a function in src/monitor_laws.rt.
 use Rattle.std.specs.Prelude.{◌≡◌, ℕ, ◌≤◌, List, length, slice_index, Option, Some, None}
 use Rattle.tsb_types.specs.declared.lamp.Lamp.{Lamp}
 use Rattle.tsb_types.specs.declared.lamp.Lamp.TheVariants as lamps
@@ -14,6 +14,7 @@ IsUpTo n k = (1 ≤ k) × (k ≤ n)
 
 -- ## Rows that the monitor can hold at tick `now`
 
+-- 7 cells, each in its range, 0 where it has nothing to tell, with no trip of a later tick
 pub record IsMonitorBy (now : ℕ) (row : List ℕ) : Type 0 where
   pub full : length row ≡ 7
   pub cause : slice_index row 0 ≤ 2
@@ -30,14 +31,17 @@ pub record IsMonitorBy (now : ℕ) (row : List ℕ) : Type 0 where
 
 -- ## States that it can hold: phases are among 1 to 16, overlaps among 1 to 4, and no trip is of a later tick
 
+-- each phase that it names is one of 1 to 16
 abbrev pub IsCause : Trip → Type 0
 IsCause (Conflict p q) = IsUpTo 16 p × IsUpTo 16 q
 IsCause (GreenToRed p) = IsUpTo 16 p
 
+-- none, or one of such a cause and of tick `now` or before
 abbrev pub IsTrip : ℕ → Option Tripped → Type 0
 IsTrip now None = Unit {0}
 IsTrip now (Some trip) = IsCause trip.cause × (trip.tick ≤ now)
 
+-- none, or one in a head of phases 1 to 16 or of overlaps 1 to 4
 abbrev pub IsLamp : Option Lamp → Type 0
 IsLamp None = Unit {0}
 IsLamp (Some (lamps.Phase p color)) = IsUpTo 16 p

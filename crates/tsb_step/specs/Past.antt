@@ -1,6 +1,6 @@
--- The whole controller with its history, and the way back through the records. The record of an input tells what it changed,
--- each cell with its value before, so that it can be taken back. What the way back is, of any machine with records, stands in
--- tsb_past.
+-- The whole controller with its history, and the way back through the records. The record of an input tells what it
+-- changed, each cell with its value before, so that it can be taken back. What the way back is, of any machine with
+-- records, stands in tsb_past.
 use Rattle.std.specs.Prelude.{◌≡◌, ℕ, ◌-◌, List, length}
 use Rattle.tsb_cells.specs.Diff.{diff, apply_diff}
 use Rattle.tsb_history.specs.History.{Change}
@@ -46,6 +46,7 @@ controller = record {
 abbrev pub Whole : Type 0
 Whole = past.Whole State Change
 
+-- the whole with its newest record taken back; with no record left the state stays
 abbrev pub taken_back : State → List Change → Whole
 taken_back s rs = past.taken_back controller s rs
 
@@ -57,7 +58,7 @@ earlier w k = past.earlier controller w k
 abbrev pub pasts : State → List Change → List State
 pasts s rs = past.pasts controller s rs
 
--- the whole with the fewest records taken back that make the tick number t
+-- the whole with the fewest records taken back that make the tick number t; with all, where no state has it
 abbrev pub sought : ℕ → State → List Change → Whole
 sought t s rs = past.sought controller t s rs
 

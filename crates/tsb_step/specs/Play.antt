@@ -1,6 +1,6 @@
--- What a list of commands comes to: the inputs that remain, and which answer is right where it stands. Inputs are piled up,
--- the newest first; the state is that of a replay of the inputs that remain. What each of these is, of any machine with
--- records, stands in tsb_past.
+-- What a list of commands comes to: the inputs that remain, and which answer is right where it stands. Inputs are piled
+-- up, the newest first; the state is that of a replay of the inputs that remain. What each of these is, of any machine
+-- with records, stands in tsb_past.
 use Rattle.std.specs.Prelude.{ℕ, List}
 use Rattle.tsb_history.specs.History.{Change}
 use Rattle.tsb_types.specs.declared.watch.Watch.{Watch}
@@ -28,18 +28,19 @@ records_of plan is = machine.records_of controller (start plan) is
 
 -- ## The inputs that remain
 
--- without the fewest of the newest that make the tick number t
+-- without the fewest of the newest inputs that make the tick number t; without all of them, where no state has it
 abbrev pub back_to : Plan → ℕ → List Input → List Input
 back_to plan t is = machine.back_to controller (start plan) t is
 
--- after a command with this answer
+-- after a command with this answer, where `is` remained before
 abbrev pub remaining_after : Plan → List Input → Cmd → Answer → List Input
 remaining_after plan is c a = play.remaining_after controller (start plan) is c a
 
+-- after commands with their answers in turn, where `is` remained before
 abbrev pub remaining_from : Plan → List Input → List Cmd → List Answer → List Input
 remaining_from plan is cs ans = play.remaining_from controller (start plan) is cs ans
 
--- the inputs that were not undone
+-- the inputs that were not undone, of a session from power-up
 abbrev pub remaining : Plan → List Cmd → List Answer → List Input
 remaining plan cs ans = play.remaining controller (start plan) cs ans
 
@@ -53,6 +54,7 @@ IsRight plan is c a = play.IsRight controller (start plan) watched is c a
 abbrev pub AreRightFrom : Plan → List Input → List Cmd → List Answer → Type 0
 AreRightFrom plan is cs ans = play.AreRightFrom controller (start plan) watched is cs ans
 
+-- so from power-up, where no input remains before the first command
 abbrev pub AreRight : Plan → List Cmd → List Answer → Type 0
 AreRight plan cs ans = play.AreRight controller (start plan) watched cs ans
 

@@ -10,6 +10,6 @@ use Rattle.tsb_step.specs.Past.{controller}
 abbrev pub replay : Plan → List Input → State
 replay plan is = machine.replay controller (start plan) is
 
--- each input of the pile was taken: it was not refused where it came
+-- each input of the pile was taken: there was no verdict against it where it came
 abbrev pub AreTaken : Plan → List Input → Type 0
 AreTaken plan is = machine.AreTaken controller (start plan) is

@@ -1,5 +1,5 @@
--- What the controller shows: its display, the field with a lamp that a fault has lit, the local counter and the stage of a
--- preempt; when a display is safe; and the monitor, which judges the field.
+-- What the controller shows: its display, the field with a lamp that a fault has lit, the local counter and the stage
+-- of a preempt; when a display is safe; and the monitor, which judges the field.
 use Rattle.std.specs.Prelude.{ℕ, Option, is_some, option_map, if◌then◌else◌}
 use Rattle.tsb_types.specs.declared.stage.Stage.{Stage}
 use Rattle.tsb_heads.specs.Heads.{Shown, Heads}
@@ -15,6 +15,7 @@ use Rattle.tsb_step.specs.State.{State, interval, pedestrian_part}
 abbrev pub commitment : State → ℕ → Option ℕ
 commitment s = commitment_of (s.rings.commitment Ring1) (s.rings.commitment Ring2)
 
+-- what displays are found from, beside the plan
 abbrev pub shown : State → Shown
 shown s = record {
   interval = interval s;

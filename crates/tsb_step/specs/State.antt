@@ -1,5 +1,5 @@
--- The whole controller: all of its state, field by field, each of the layer whose it is; and its state at power-up and after
--- a reset.
+-- The whole controller: all of its state, field by field, each of the layer whose it is; and its state at power-up and
+-- after a reset.
 use Rattle.std.specs.Prelude.{ℕ, Option, None}
 use Rattle.tsb_types.specs.declared.interval.Interval.{Interval}
 use Rattle.tsb_types.specs.declared.interval.PedestrianInterval.{PedestrianInterval}
@@ -23,6 +23,7 @@ pub record Tripped : Type 0 where
   pub cause : Trip
   pub tick : ℕ
 
+-- all that inputs can change, and all from which displays and refusals are found
 pub record State : Type 0 where
   -- the tick number: tenths of a second since power-up
   pub now : ℕ
@@ -63,8 +64,10 @@ restarted s = record (start s.plan) { now = s.now; desk = s.desk; preempts = pre
 
 -- ## Words on the state
 
+-- of a phase: Green, Yellow (yellow change), RedClear (red clearance) or Red
 abbrev pub interval : State → ℕ → Interval
 interval s p = (s.phases p).interval
 
+-- of a phase: Walk, PedestrianClear (pedestrian clearance) or DontWalk
 abbrev pub pedestrian_part : State → ℕ → PedestrianInterval
 pedestrian_part s p = (s.phases p).pedestrian

@@ -34,6 +34,7 @@ ticked row s = if is_some s.trip then record s { now = s.now + 1 } else unless_t
 abbrev pub with_pattern : ℕ → State → State
 with_pattern n s = record s { pattern = coordination.selects n; phases = λ p. unforced (s.phases p) }
 
+-- the switch of preempt n is set; while it is on, so is the input of the preempt
 abbrev pub with_switch : ℕ → Bool → State → State
 with_switch n on s = record s { preempts = preempts.with_switch n on s.preempts }
 
@@ -45,6 +46,7 @@ with_lamp lamp s = unless_tripped s (record s { lamp = lamp })
 abbrev pub reset : State → State
 reset s = if is_some s.trip then restarted s else s
 
+-- what begin, set, verify and abort do: they change the desk alone
 abbrev pub with_desk : Desk → State → State
 with_desk d s = record s { desk = d }
 
@@ -56,6 +58,7 @@ found plan d = first_broken (with_edits plan d.edits)
 abbrev pub rings_after : State → rings.State
 rings_after s = if commit.forgets_last_phases s.plan s.desk.edits then rings.forgotten s.rings else s.rings
 
+-- a commit puts all edits into effect at once and closes the desk, whichever station makes it
 abbrev pub committed : State → State
 committed s = record s {
   plan = desk.committed_plan s.plan s.desk;
@@ -78,11 +81,12 @@ step s (Abort station) = with_desk desk.after_abort s
 
 -- ## Why an input is refused
 
--- E11: there is no tick behind tick 6,000,000
+-- E11: there is no tick after tick 6,000,000
 abbrev pub last_tick : ℕ
 last_tick = 6000000
 
--- E6, E5; E2, E3; E8
+-- E6 where no station owns the desk, E5 where another does; E2 for the object or the index, E3 for the value; E8 for an
+-- edit of a further object where there are 64
 abbrev pub set_refusal : State → ℕ → ObjectId → ℕ → Option Refusal
 set_refusal s station id v =
     desk.or_refusal (desk.stranger_refusal station s.desk.owner)
@@ -108,6 +112,7 @@ verdict s (Abort station) = desk.abort_refusal station s.desk
 
 -- ## Kinds
 
+-- what the record of an input keeps of it: its kind, with no number, value or station
 abbrev pub kind_of : Input → Kind
 kind_of (Tick row) = kinds.Tick
 kind_of (Pattern n) = kinds.Pattern

@@ -45,6 +45,7 @@ version_of plan = if plan.phase_count == 8 then One else Two
 abbrev pub has_place : Plan → Object → ℕ → Bool
 has_place plan o i = nat_le 1 i && nat_le i (indices_for plan.phase_count o)
 
+-- its greatest value by the plan's own numbers of phases and sides
 abbrev pub greatest_of : Plan → Object → ℕ
 greatest_of plan o = greatest_for plan.phase_count plan.side_count o
 
@@ -57,17 +58,21 @@ place_refusal plan id v =
 
 -- ## The two tables
 
+-- with 16 phases and 4 sides it has as many indices and the same greatest value as in the table of objects
 abbrev pub is_as_in_table : Object → Bool
 is_as_in_table o = (indices_for 16 o == indices o) && (greatest_for 16 4 o == greatest o)
 
+-- so has each of the objects
 pub all_as_in_table : list_all is_as_in_table objects ≡ true
 unfolding objects
 all_as_in_table = refl
 
+-- with 8 phases and 2 sides it has those of version 1 of plan texts, if version 1 has the object
 abbrev pub is_as_in_version_1 : Object → Bool
 is_as_in_version_1 o =
     not (has_object One o) || ((indices_for 8 o == indices_in One o) && (greatest_for 8 2 o == greatest_in One o))
 
+-- so has each of the objects
 pub all_as_in_version_1 : list_all is_as_in_version_1 objects ≡ true
 unfolding objects
 all_as_in_version_1 = refl

@@ -1,9 +1,10 @@
--- What a tick finds and what it makes of the controller: the layers' definitions joined, in the order in which values are
--- found. That order is the profile's own. "Was" is before this tick: `s` is the state that was, and `row` the inputs that
--- are on in the tick. No value is found from one that stands behind it, and no field of the new state from another.
+-- What a tick finds and what it makes of the controller: the layers' definitions joined, in the order in which values
+-- are found. That order is the profile's own. "Was" is before this tick: `s` is the state that was, and `row` the
+-- inputs that are on in the tick. No value is found from one that comes after it, and no field of the new state from
+-- another.
 --
--- What a layer is told of each phase is told of phases 1 to 16 alone: it is false, or 0, of any other number, as it is in
--- the sets that the layers tell one another.
+-- What a layer is told of each phase is told of phases 1 to 16 alone: it is false, or 0, of any other number, as it is
+-- in the sets that the layers tell one another.
 use Rattle.std.specs.Prelude.{ℕ, ◌+◌, Bool, ◌&&◌, if◌then◌else◌, Option, Some, None, option_map}
 use Rattle.tsb_cells.specs.declared.timer.Timer.{Timer}
 use Rattle.tsb_cells.specs.declared.timer.Timer.TheVariants.{Off}
@@ -33,12 +34,14 @@ use Rattle.tsb_step.specs.State.{State, interval, pedestrian_part}
 
 -- ## Preempts: stage, target, what must end
 
+-- the preempt inputs of the row, 1 to 4 alone, and the intervals that were
 abbrev pub preempts_given : State → Row → preempts.Given
 preempts_given s row = record {
   row = λ n. preempts.is_preempt n && has_number row.preempts n;
   interval = interval s;
 }
 
+-- as the tick reads them: a timer that was On n is On (n + 1)
 abbrev pub preempts_read : State → preempts.Preempts
 preempts_read s = preempts.as_read s.preempts
 
@@ -50,20 +53,26 @@ new_service s row = preempts.new_service s.plan (preempts_given s row) (preempts
 abbrev pub service : State → Row → Option ℕ
 service s row = option_map (λ x. x.preempt) (new_service s row)
 
+-- a preempt was in service and none is now, so that each enabled phase that was not Green is called
 abbrev pub service_ended : State → Row → Bool
 service_ended s row = preempts.service_ended s.plan (preempts_given s row) (preempts_read s)
 
+-- the track, dwell or exit phases of the stage in service; none where no preempt is in service
 abbrev pub target : State → Row → Option (ℕ → Bool)
 target s row = preempts.target s.plan (preempts_given s row) (preempts_read s)
 
+-- the phase is outside the target, while a preempt is in service
 abbrev pub must_end : State → Row → ℕ → Bool
 must_end s row = preempts.must_end s.plan (preempts_given s row) (preempts_read s)
 
 -- ## Coordination: the pattern that runs, its local counter and its orders
 
+-- the selected pattern, if it is used; none is free operation
 abbrev pub runs : State → Option ℕ
 runs s = running s.plan s.pattern
 
+-- it is a coordinated phase of the pattern that runs: unless a preempt is in service, its force-off alone ends its
+-- green
 abbrev pub hold : State → ℕ → Bool
 hold s = coordination.asks_hold s.plan s.pattern
 
@@ -71,6 +80,7 @@ hold s = coordination.asks_hold s.plan s.pattern
 abbrev pub forced : State → ℕ → Bool
 forced s = coordination.asks_force_off s.plan (s.now + 1) s.pattern
 
+-- its split mode in the pattern that runs omits it
 abbrev pub omitted : State → ℕ → Bool
 omitted s = coordination.asks_omit s.plan s.pattern
 
@@ -88,6 +98,7 @@ new_detectors s row =
 
 -- ## Calls: memories as set, counts, what is callable, conflict
 
+-- what the calls are told: detectors as they are after the tick, phases as they were before it
 abbrev pub calls_given : State → Row → calls.Given
 calls_given s row = record {
   output = λ d. (new_detectors s row d).output;
@@ -104,17 +115,22 @@ calls_given s row = record {
 abbrev pub set : State → Row → calls.Memories
 set s row = calls.as_set s.plan (calls_given s row) s.memories
 
+-- it may be served next: it is enabled, not omitted, was not Green, and has a call, which may be a recall
 abbrev pub callable : State → Row → ℕ → Bool
 callable s row = called.is_callable s.plan (calls_given s row) (set s row)
 
+-- some other callable phase is not concurrent with it: a serviceable conflicting call
 abbrev pub conflict : State → Row → ℕ → Bool
 conflict s row = called.has_conflict s.plan (calls_given s row) (set s row)
 
+-- an enabled phase with a walk has a pedestrian call, by its memory as set or by pedestrian recall
 abbrev pub pedestrian_call : State → Row → ℕ → Bool
 pedestrian_call s row = settled.pedestrian_call s.plan (calls_given s row) s.memories
 
 -- ## Phase timing: what is ready, over, reverted and gapped
 
+-- what phase timing is told: of each phase its outputs, calls, conflict, count of vehicles and orders; which pattern
+-- runs, and which preempt is in service
 unfoldable pub phases_given : State → Row → phase.Given
 phases_given s row = record {
   output = clipped (calls.has_output s.plan (calls_given s row));
@@ -129,26 +145,33 @@ phases_given s row = record {
   forced = clipped (forced s);
 }
 
+-- as the tick reads it: a timer that was On n is On (n + 1)
 abbrev pub phase_read : State → ℕ → phase.Phase
 phase_read s p = phase.as_read (s.phases p)
 
+-- it was Green and its green may end: by gap, max-out, force-off or a preempt, its pedestrian part being DontWalk
 abbrev pub ready : State → Row → ℕ → Bool
 ready s row p = timing.is_ready s.plan (phases_given s row) p (phase_read s p)
 
+-- its clearance is done: red clearance has lasted its time, or yellow change where there is no red clearance
 abbrev pub over : State → ℕ → Bool
 over s p = timing.is_over s.plan p (phase_read s p)
 
+-- its red revert has passed since its yellow ended, or its red revert timer is Off
 abbrev pub reverted : State → ℕ → Bool
 reverted s p = timing.red_revert_passed s.plan p (phase_read s p)
 
+-- it was Green and has gapped out
 abbrev pub gapped : State → Row → ℕ → Bool
 gapped s row p = timing.is_gapped_now s.plan (phases_given s row) p (phase_read s p)
 
+-- it was Yellow, and its yellow change time has passed
 abbrev pub yellow_done : State → ℕ → Bool
 yellow_done s p = timing.yellow_is_done s.plan p (phase_read s p)
 
 -- ## Rings: wants, crossing, commitments, what is over and what starts
 
+-- what the rings decide from: the intervals that were, the sequence in effect, and what the other layers have found
 unfoldable pub rings_given : State → Row → rings.Given
 rings_given s row = record {
   interval = interval s;
@@ -161,9 +184,11 @@ rings_given s row = record {
   target = target s row;
 }
 
+-- what each ring ends, clears, starts and commits to, and whether a crossing of the barrier begins or is completed
 unfoldable pub moves : State → Row → Moves
 moves s row = ring_moves.moves s.plan s.rings (rings_given s row)
 
+-- the same of each phase, as phase timing is told it
 abbrev pub moved : State → Row → phase.Moved
 moved s row = record {
   ends = ring_moves.is_ended (moves s row);
@@ -171,6 +196,7 @@ moved s row = record {
   starts = ring_moves.is_started (moves s row);
 }
 
+-- the same as the calls are told it, with who has gapped out and the preempt in service
 abbrev pub done : State → Row → settled.Done
 done s row = record {
   starts = ring_moves.is_started (moves s row);
@@ -181,6 +207,7 @@ done s row = record {
 
 -- ## The new state, of a controller that has not tripped and before the monitor judges it
 
+-- field by field; plan, desk, pattern, lamp and trip are as they were
 abbrev pub next : State → Row → State
 next s row = record {
   now = s.now + 1;

@@ -1,5 +1,5 @@
--- Laws of whole runs: of times, starts, commitments, sides and the field. Each is proved as the contract of a function in
--- src/time_laws.rt, but for CellsTellTheState and PastsAreTheRun, which are only stated.
+-- Laws of whole runs: of times, starts, commitments, sides and the field. Each is proved as the contract of a function
+-- in src/time_laws.rt, but for CellsTellTheState and PastsAreTheRun, which are only stated.
 use Rattle.std.specs.Prelude.{◌≡◌, ◌≢◌, ℕ, suc, ◌+◌, ◌≤◌, Bool, true, false, not, ◌&&◌, ◌||◌, if◌then◌else◌, List, [], ◌∷◌, Some, None, Contains, ◌⊎◌}
 use Rattle.tsb_cells.specs.Timer.{has_reached}
 use Rattle.tsb_cells.specs.declared.timer.Timer.TheVariants.{Off, On}
@@ -42,7 +42,8 @@ held_for test plan (i ∷ is) =
 abbrev pub OfEveryUntrippedRun : (Plan → List Input → Type 0) → Type 0
 OfEveryUntrippedRun fact = (plan : Plan) (is : List Input) → IsConsistent plan → AreTaken plan is → (replay plan is).trip ≡ None → fact plan is
 
--- timers tell how long
+-- the timer of an interval or a pedestrian part tells for how many ticks it has held; that of red revert, where it is
+-- On, for how many the phase has been neither Green nor Yellow
 pub record TellsTime (plan : Plan) (is : List Input) (p : ℕ) : Type 0 where
   pub green : interval (replay plan is) p ≡ Green → ((replay plan is).phases p).timer ≡ On (held_for (λ s. is_green (interval s p)) plan is)
   pub yellow : interval (replay plan is) p ≡ Yellow → ((replay plan is).phases p).timer ≡ On (held_for (λ s. is_yellow (interval s p)) plan is)
@@ -53,10 +54,12 @@ pub record TellsTime (plan : Plan) (is : List Input) (p : ℕ) : Type 0 where
   pub red_revert : (n : ℕ) → ((replay plan is).phases p).red_revert ≡ On n →
       n ≡ held_for (λ s. not (is_green (interval s p) || is_yellow (interval s p))) plan is
 
+-- so it is of each phase after every run, of a controller that has not tripped
 abbrev pub TimersTellTime : Type 0
 TimersTellTime = OfEveryUntrippedRun (λ plan is. (p : ℕ) → TellsTime plan is p)
 
--- a tick ends a walk, a clearance, a yellow, a red clearance only when it has lasted
+-- a tick ends a walk, a pedestrian clearance, a green, a yellow or a red clearance only when its timer has reached its
+-- time, and makes Green only what the rings start
 pub record EndsInTime (s : State) (row : Row) (p : ℕ) : Type 0 where
   pub walk : pedestrian_part s p ≡ Walk → pedestrian_part (step s (Tick row)) p ≢ Walk →
       has_reached (phase_read s p).pedestrian_timer (walk_time s.plan p (ended_by (phases_given s row) p)) ≡ true
@@ -72,58 +75,66 @@ pub record EndsInTime (s : State) (row : Row) (p : ℕ) : Type 0 where
   pub red_clear : interval s p ≡ RedClear → interval (step s (Tick row)) p ≢ RedClear → has_reached (phase_read s p).timer (red_clear s.plan p) ≡ true
   pub starts : interval s p ≢ Green → interval (step s (Tick row)) p ≡ Green → is_started (moves s row) p ≡ true
 
+-- so it is of each phase in each tick after every run
 abbrev pub TicksEndInTime : Type 0
 TicksEndInTime = OfEveryRun (λ s. (row : Row) (p : ℕ) → EndsInTime s row p)
 
--- no input but a tick and a reset changes an interval, a part or a timer
+-- a tick, whatever inputs are on in it
 abbrev pub is_tick : Input → Bool
 is_tick (Tick row) = true
 is_tick i = false
 
+-- a reset, which starts a controller that has tripped anew
 abbrev pub is_reset : Input → Bool
 is_reset Reset = true
 is_reset i = false
 
+-- no input but a tick and a reset changes an interval, a part or a timer; what others may change is a forced latch
 abbrev pub OthersLeavePhases : Type 0
 OthersLeavePhases = (s : State) (i : Input) (p : ℕ) → is_tick i ≡ false → is_reset i ≡ false →
     (step s i).phases p ≡ record (s.phases p) { forced = ((step s i).phases p).forced }
 
--- the last 30 ticks before red
+-- steady yellow on the head of a phase or an overlap
 abbrev pub is_yellow_head : Aspect → Bool
 is_yellow_head aspects.Yellow = true
 is_yellow_head a = false
 
+-- while the controller has not tripped: the head of a phase that a tick turns red has shown yellow for the last 30
+-- ticks, this one included
 abbrev pub PhasesClearInYellow : Type 0
 PhasesClearInYellow = OfEveryUntrippedRun (λ plan is. (row : Row) (p : ℕ) → (display (replay plan is)).vehicle p ≢ aspects.Red →
     (display (replay plan (Tick row ∷ is))).vehicle p ≡ aspects.Red → 29 ≤ held_for (λ s. is_yellow_head ((display s).vehicle p)) plan is)
 
+-- so has the head of an overlap that is not of type minusGreenYellow
 abbrev pub OverlapsClearInYellow : Type 0
 OverlapsClearInYellow = OfEveryUntrippedRun (λ plan is. (row : Row) (o : ℕ) → is_minus_green_yellow (replay plan is).plan o ≡ false →
     (display (replay plan is)).overlap o ≢ aspects.Red →
     (display (replay plan (Tick row ∷ is))).overlap o ≡ aspects.Red → 29 ≤ held_for (λ s. is_yellow_head ((display s).overlap o)) plan is)
 
--- red revert
+-- a phase that starts has been neither Green nor Yellow for its red revert time, this tick included, unless its red
+-- revert timer is Off
 abbrev pub StartsAfterRedRevert : Type 0
 StartsAfterRedRevert = OfEveryUntrippedRun (λ plan is. (row : Row) (p : ℕ) → is_started (moves (replay plan is) row) p ≡ true →
     (((replay plan is).phases p).red_revert ≡ Off)
     ⊎ (red_revert (replay plan is).plan p ≤ suc (held_for (λ s. not (is_green (interval s p) || is_yellow (interval s p))) plan is)))
 
--- commitments over inputs of every kind
+-- while the controller has not tripped, a commitment stands over inputs of every kind, until its phase turns Green
 abbrev pub CommitmentsStandInRuns : Type 0
 CommitmentsStandInRuns = OfEveryRun (λ s. (i : Input) (r : Ring) (c : ℕ) → s.trip ≡ None → s.rings.commitment r ≡ Some c →
     ((step s i).rings.commitment r ≡ Some c) ⊎ ((interval s c ≢ Green) × (interval (step s i) c ≡ Green)))
 
--- cells tell the state, of a plan of 16 and 4 and of inputs whose numbers are of the program's types
+-- cells tell the state after a run, of a plan of 16 phases and 4 sides and of inputs whose numbers are of the program's
+-- types
 abbrev pub CellsTellTheState : (Input → Type 0) → Type 0
 CellsTellTheState IsTyped = (plan : Plan) (is : List Input) → IsConsistent plan → plan.phase_count ≡ 16 → plan.side_count ≡ 4 →
     AreTaken plan is → ((i : Input) → Contains is i → IsTyped i) → state_in (replay plan is).now (cells_of (replay plan is)) ≡ replay plan is
 
--- the way back
+-- the earlier states that records lead back to are those of the run, under the same premises
 abbrev pub PastsAreTheRun : (Input → Type 0) → Type 0
 PastsAreTheRun IsTyped = (plan : Plan) (is : List Input) → IsConsistent plan → plan.phase_count ≡ 16 → plan.side_count ≡ 4 →
     AreTaken plan is → ((i : Input) → Contains is i → IsTyped i) → pasts (replay plan is) (records_of plan is) ≡ run plan is
 
--- what remains was taken
+-- the inputs that remain after right answers were taken, so that laws of runs hold of them
 abbrev pub RemainingAreTaken : Type 0
 RemainingAreTaken = (plan : Plan) (cs : List Cmd) (ans : List Answer) → AreRight plan cs ans → AreTaken plan (remaining plan cs ans)
 
@@ -141,19 +152,23 @@ pub record Rests (x : Phase) : Type 0 where
   pub gapped : is_green x.interval ≡ false → x.gapped ≡ false
   pub forced : is_green x.interval ≡ false → x.forced ≡ false
 
+-- so it is of every phase after every run
 abbrev pub PhasesRest : Type 0
 PhasesRest = OfEveryRun (λ s. (p : ℕ) → Rests (s.phases p))
 
--- each phase in service is on the side that is served; a commitment is of that side, in a crossing of the side that it goes to
+-- each phase in service is on the side that is served; a commitment is of that side, in a crossing of the side that it
+-- goes to
 pub record IsSided (plan : Plan) (interval : ℕ → Interval) (s : rings.State) : Type 0 where
   pub serves : (p : ℕ) → in_service (interval p) ≡ true → side_of plan p ≡ s.side
   pub inside : s.crossing ≡ None → (r : Ring) (c : ℕ) → s.commitment r ≡ Some c → side_of plan c ≡ s.side
   pub across : (d : ℕ) → s.crossing ≡ Some d → (r : Ring) (c : ℕ) → s.commitment r ≡ Some c → side_of plan c ≡ d
 
+-- so it is after every run, by the sides of the plan in effect then
 abbrev pub SidesAreServed : Type 0
 SidesAreServed = OfEveryRun (λ s. IsSided s.plan (interval s) s.rings)
 
--- both together, with no word of timers: what a tick ends has held for its time by the plan in effect
+-- TimersTellTime and TicksEndInTime together, with no word of timers: what a tick ends has held for its time by the
+-- plan in effect, this tick included
 pub record HasHeld (plan : Plan) (is : List Input) (row : Row) (p : ℕ) : Type 0 where
   pub walk : pedestrian_part (replay plan is) p ≡ Walk → pedestrian_part (replay plan (Tick row ∷ is)) p ≢ Walk →
       walk_time (replay plan is).plan p (ended_by (phases_given (replay plan is) row) p) ≤ suc (held_for (λ s. is_walk (pedestrian_part s p)) plan is)
@@ -167,5 +182,6 @@ pub record HasHeld (plan : Plan) (is : List Input) (row : Row) (p : ℕ) : Type 
   pub red_clear : interval (replay plan is) p ≡ RedClear → interval (replay plan (Tick row ∷ is)) p ≢ RedClear →
       red_clear (replay plan is).plan p ≤ suc (held_for (λ s. is_red_clear (interval s p)) plan is)
 
+-- so it is of each phase in each tick after every run, of a controller that has not tripped
 abbrev pub EndedHaveHeld : Type 0
 EndedHaveHeld = OfEveryUntrippedRun (λ plan is. (row : Row) (p : ℕ) → HasHeld plan is row p)

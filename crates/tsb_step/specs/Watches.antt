@@ -1,5 +1,5 @@
--- The values that can be watched, and the tick at which one changed last. An input that is no tick counts at the tick number in
--- force (profile).
+-- The values that can be watched, and the tick at which one changed last. An input that is no tick counts at the tick
+-- number in force (profile).
 use Rattle.std.specs.Prelude.{ℕ, Bool, List, Option}
 use Rattle.tsb_types.specs.declared.interval.Interval.{Interval}
 use Rattle.tsb_types.specs.declared.interval.PedestrianInterval.{PedestrianInterval}
@@ -12,6 +12,8 @@ use Rattle.tsb_step.specs.State.{State, Tripped, interval, pedestrian_part}
 use Rattle.tsb_step.specs.Signs.{stage}
 use Rattle.tsb_step.specs.Past.{controller}
 
+-- a value that can be watched: of a phase its interval, its pedestrian part and its vehicle memory; of a vehicle
+-- detector its output and its alarm; the preempt in service with its stage; the trip
 pub data Watched : Type 0 where
   OfInterval : Interval → Watched
   OfPedestrian : PedestrianInterval → Watched
