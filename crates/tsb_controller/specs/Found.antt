@@ -1,5 +1,5 @@
--- What a tick finds, and what it does, step by step, in the words of the layers' contracts, over rows of cells: `old` before a
--- step, `new` after it.
+-- What a tick finds, and what it does, step by step, in the words of the layers' contracts, over rows of cells: `old`
+-- before a step, `new` after it.
 use Rattle.std.specs.Prelude.{◌≡◌, ℕ, List, option_map}
 use Rattle.tsb_types.specs.declared.flow.Called.{Called}
 use Rattle.tsb_types.specs.declared.flow.Orders.{Orders}
@@ -33,6 +33,8 @@ use Rattle.tsb_controller.specs.Rows.{Rows}
 
 -- ## Values that are put together
 
+-- what the calls are found from: buttons of the row, vehicle detectors after this tick, phases as they were, and what
+-- coordination and preemption say
 abbrev pub observed : Row → Sensed → Observed
 observed row s = record {
   outputs = s.outputs;
@@ -45,6 +47,8 @@ observed row s = record {
   service_ended = s.asked.ended;
 }
 
+-- what coordination and preemption ask of the phases: hold, force-off and omit; the phases that must end, and the
+-- target
 abbrev pub orders : Sensed → Orders
 orders s = record {
   hold = s.coordination.hold;
@@ -62,6 +66,7 @@ pub record AreConditions (s : Sensed) (called : Called) (counts : List ℕ) (c :
   pub service_is : c.service ≡ s.service
   pub orders_are : c.orders ≡ orders s
 
+-- what the rings decide from: phases as they were, the sequence in effect, calls, phase timing and orders
 abbrev pub for_rings : Sensed → Called → Timing → ring_conditions.Conditions
 for_rings s called timing = record {
   intervals = s.intervals;

@@ -9,6 +9,7 @@ use Rattle.tsb_preempt.specs.Layer as preempts
 use Rattle.tsb_controller.specs.declared.controller.Controller.{Controller}
 use Rattle.tsb_controller.specs.Rows.{Rows}
 
+-- the cells of each layer as they are
 abbrev pub rows_of : Controller → Rows
 rows_of s = record {
   detectors = detect.cells_of s.detectors;
@@ -19,6 +20,7 @@ rows_of s = record {
   preempts = preempts.cells_of s.preempts;
 }
 
+-- those at the last `open`, with which a record compares them
 abbrev pub kept_of : Controller → Rows
 kept_of s = record {
   detectors = detect.kept_of s.detectors;
@@ -29,6 +31,7 @@ kept_of s = record {
   preempts = preempts.kept_of s.preempts;
 }
 
+-- from `open` until `close_onto`: the cells of every layer may be written
 pub record IsOpen (s : Controller) : Type 0 where
   pub detectors : detect.is_open s.detectors ≡ true
   pub calls : calls.is_open s.calls ≡ true
@@ -37,6 +40,7 @@ pub record IsOpen (s : Controller) : Type 0 where
   pub coord : coord.is_open s.coord ≡ true
   pub preempts : preempts.is_open s.preempts ≡ true
 
+-- before `open` and after `close_onto`, as at power-up: no layer's cells may be written
 pub record IsClosed (s : Controller) : Type 0 where
   pub detectors : detect.is_open s.detectors ≡ false
   pub calls : calls.is_open s.calls ≡ false

@@ -1,4 +1,5 @@
--- The contracts of the public calls of `Controller`, clause by clause, over its rows: `old` before a call, `new` after it.
+-- The contracts of the public calls of `Controller`, clause by clause, over its rows: `old` before a call, `new` after
+-- it.
 use Rattle.std.specs.Prelude.{◌≡◌, ℕ, ◌-◌, Bool, Option, None, is_some, option_map}
 use Rattle.tsb_types.specs.declared.lamp.Lamp.{Lamp}
 use Rattle.tsb_types.specs.declared.row.Row.{Row}

@@ -1,4 +1,5 @@
--- What a record of an input says of the layers' rows: their cells stand behind one another among all cells of the bench.
+-- What a record of an input says of the layers' rows: their cells stand behind one another among all cells of the
+-- bench.
 use Rattle.std.specs.Prelude.{ℕ, ◌≤◌, List, ◌++◌, length}
 use Rattle.tsb_cells.specs.Diff.{diff, apply_diff, part, shifted}
 use Rattle.tsb_controller.specs.Rows.{Rows}

@@ -18,6 +18,7 @@ use Rattle.tsb_transact.specs.Desk.{Desk}
 use Rattle.tsb_step.specs.Cells.{clock_at}
 use Rattle.tsb_step.specs.State.{State, Tripped}
 
+-- the cells of each layer that has a part in a tick
 pub record Rows : Type 0 where
   pub detectors : List ℕ
   pub calls : List ℕ
@@ -26,7 +27,7 @@ pub record Rows : Type 0 where
   pub pattern : List ℕ
   pub preempts : List ℕ
 
--- what a state has beside these rows
+-- what a state has beside these rows, and `Controller` does not keep
 pub record Beside : Type 0 where
   pub plan : Plan
   pub desk : Desk

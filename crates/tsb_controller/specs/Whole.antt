@@ -1,5 +1,5 @@
--- All rows of the bench side by side, and the state that is read in them; and laws of records over them, each the contract of
--- a function in src/laws.rt that does nothing.
+-- All rows of the bench side by side, and the state that is read in them; and laws of records over them, each the
+-- contract of a function in src/laws.rt that does nothing.
 use Rattle.std.specs.Prelude.{◌≡◌, ℕ, ◌-◌, List, ◌++◌, length}
 use Rattle.tsb_cells.specs.Diff.{diff, apply_diff, part, shifted, AreWithin}
 use Rattle.tsb_history.specs.History.{Change}
@@ -16,19 +16,20 @@ use Rattle.tsb_step.specs.Step.{kind_of}
 use Rattle.tsb_controller.specs.Records.{changes, put_back, HasFew}
 use Rattle.tsb_controller.specs.Rows.{Rows, AreBy, state_of}
 
+-- the cells of the bench: those of the plan, of the desk, of the six layers, and of the trip with the injected lamp
 pub record All : Type 0 where
   pub plan : List ℕ
   pub desk : List ℕ
   pub layers : Rows
   pub monitor : List ℕ
 
--- one behind the other
+-- all of these in one row, in this order
 abbrev pub whole : All → List ℕ
 whole a =
     a.plan ++ (a.desk ++ (a.layers.detectors ++ (a.layers.calls ++ (a.layers.phases ++ (a.layers.rings ++
     (a.layers.pattern ++ (a.layers.preempts ++ a.monitor)))))))
 
--- each has as many cells as it should
+-- each row has as many cells as it should: 1579 in all
 pub record AreFull (a : All) : Type 0 where
   pub plan : length a.plan ≡ 1230
   pub desk : length a.desk ≡ 132
@@ -44,14 +45,15 @@ pub record AreFull (a : All) : Type 0 where
 abbrev pub all_in : ℕ → All → State
 all_in now a = state_of now (record { plan = plan_in a.plan; desk = desk_in a.desk; lamp = lamp_in a.monitor; trip = trip_in a.monitor }) a.layers
 
--- rows that the bench can hold at tick number `now`; no timer runs in a controller that has tripped
+-- rows that the bench can hold at tick number `now`; in a controller that has tripped timers stand at the tick of the
+-- trip
 pub record AreAllBy (now : ℕ) (a : All) : Type 0 where
   pub plan : length a.plan ≡ 1230
   pub desk : desk.IsBy a.desk
   pub layers : AreBy (clock_at now (trip_in a.monitor)) a.layers
   pub monitor : IsMonitorBy now a.monitor
 
--- the cells that differ, each by its number, with what it held before
+-- the cells that differ, each by its number among all 1579, with what it held before
 abbrev pub all_changes : All → All → List (ℕ × ℕ)
 all_changes old new =
     diff old.plan new.plan ++ (shifted 1230 (diff old.desk new.desk) ++ (changes old.layers new.layers ++ shifted 1572 (diff old.monitor new.monitor)))
