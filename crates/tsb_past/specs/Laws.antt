@@ -1,5 +1,5 @@
--- What holds of the way back of every machine, as statements, from one premise: to undo the record of a step gives the
--- state back.
+-- What holds of the way back of every machine, as statements. The premise is that to undo the record of a step gives
+-- the state back; some need besides that the tick number counts, or that a record is of its input's kind.
 --
 -- All are proved, each as the contract of a function that does nothing (src/laws.rt).
 use Rattle.std.specs.Prelude.{◌≡◌, ℕ, suc, ◌≤◌, List, [], ◌∷◌, length, drop, Option, None}
