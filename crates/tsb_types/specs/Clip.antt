@@ -1,5 +1,5 @@
--- What a set of the code and a function of the definitions have in common: phases 1 to 16. Two functions agree where they
--- are the same there, and a function is clipped to these, so that two that agree are one when clipped.
+-- What a set of the code and a function of the definitions have in common: phases 1 to 16. Two functions agree where
+-- they are the same there, and a function is clipped to these, so that two that agree are one when clipped.
 use Rattle.std.specs.Prelude.{◌≡◌, ℕ, ◌≤◌, Bool, ◌&&◌, if◌then◌else◌}
 use Rattle.tsb_types.specs.Sets.{is_phase}
 

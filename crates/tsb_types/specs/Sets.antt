@@ -18,7 +18,7 @@ has_number s n = names s.word n
 abbrev pub set_of_list : ℕ → NumberSet
 set_of_list list = record { word = list }
 
--- what grows less with each number that is taken out
+-- what grows less with each number that is taken out, by which loops over a set end
 abbrev pub size_of_numbers : NumberSet → ℕ
 size_of_numbers s = s.word
 
@@ -30,7 +30,7 @@ all_off = record { vehicles = set_of_list 0; pedestrians = set_of_list 0; preemp
 abbrev pub has : PhaseSet → ℕ → Bool
 has s p = has_number s.numbers p
 
--- what grows less with each phase that is taken out
+-- what grows less with each phase that is taken out, by which loops over a set end
 abbrev pub size : PhaseSet → ℕ
 size s = size_of_numbers s.numbers
 
