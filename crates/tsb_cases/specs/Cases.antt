@@ -6,8 +6,8 @@ use Rattle.tsb_cases.specs.Pieces.{IsSplit}
 use Rattle.tsb_cases.specs.declared.case.Given.{Given}
 use Rattle.tsb_cases.specs.declared.case.Given.TheVariants.{Plan, Log, Session}
 
--- the first of these words tells the length of the piece that the text begins with. What is left are the words behind
--- it, and the rest is the text behind the piece.
+-- the first of these words tells the length in bytes of the piece that the text begins with. What is left are the words
+-- after it, and the rest is the text after the piece
 pub record IsNext (words text piece left rest : List ℕ) : Type 0 where
   pub word : List ℕ
   pub size : ℕ
@@ -15,7 +15,7 @@ pub record IsNext (words text piece left rest : List ℕ) : Type 0 where
   pub told : number_of word ≡ Some size
   pub split : IsSplit size text piece rest
 
--- a plan text, then a log, then commands
+-- three pieces in turn, each by the next of these words: a plan text, then a log, then commands
 pub record AreThree (words text plan log commands rest : List ℕ) : Type 0 where
   pub left-plan : List ℕ
   pub left-log : List ℕ
@@ -26,26 +26,29 @@ pub record AreThree (words text plan log commands rest : List ℕ) : Type 0 wher
   pub second : IsNext left-plan rest-plan log left-log rest-log
   pub third : IsNext left-log rest-log commands left rest
 
--- what is run, told by this kind, these words and this text, behind which stands the rest
+-- what is run, told by this kind, these words and this text, after which stands the rest: a plan text to be judged; a
+-- log, and in the words that are left the ticks whose rows are asked for; or a session of a plan text, a log and
+-- commands
 abbrev pub IsGiven : Given → List ℕ → List ℕ → List ℕ → List ℕ → Type 0
 IsGiven (Plan plan) kind words text rest = (kind ≡ codes "plan") × ((left : List ℕ) × IsNext words text plan.now left rest)
 IsGiven (Log log ticks) kind words text rest = (kind ≡ codes "log") × IsNext words text log.now ticks.now rest
 IsGiven (Session plan log commands) kind words text rest =
     (kind ≡ codes "session") × AreThree words text plan.now log.now commands.now rest
 
--- a case of this name, told by this head line and this text, behind which stands the rest
+-- a case of this name, told by this head line and this text, after which stands the rest. The head line has the kind,
+-- the name, and the lengths of the pieces
 pub record IsCase (given : Given) (name head text rest : List ℕ) : Type 0 where
   pub kind : List ℕ
   pub words : List ℕ
   pub spelled : words_of head ≡ kind ∷ name ∷ words_of words
   pub run : IsGiven given kind words text rest
 
--- these lines from the first head on, before which stand lines that are skipped
+-- these lines from the first that is a head line on: blank lines and comments before it are skipped
 abbrev pub headed : List (List ℕ) → List (List ℕ)
 headed [] = []
 headed (l ∷ ls) = if is_skipped l then headed ls else l ∷ ls
 
--- the first case of the text, behind which stands the rest
+-- the first case of the text, after which stands the rest; `behind` is the text after its head line
 pub record IsFirst (given : Given) (name text rest : List ℕ) : Type 0 where
   pub head : List ℕ
   pub behind : List ℕ
