@@ -1,11 +1,22 @@
+-- THE TABLE of objects: names, indices, ranges, and where the cells of each stand
 pub mod Objects
+-- the two versions of plan texts: which objects each has, and where an index of version 1 comes to stand
 pub mod Versions
+-- the names of objects, byte by byte, and which object has a name
 pub mod Names
+-- the plan as definitions read it: phases, rings, sides, concurrency, timings, recalls and sequences
 pub mod Plan
+-- detectors, overlaps, patterns, split tables and preempts of a plan
 pub mod Parts
+-- what is in effect while a pattern runs, and in free operation
 pub mod Running
+-- the plan that the cells of a plan in memory tell, and what reading and writing a value answer
 pub mod PlanOf
+-- the built-in plan of two phases in one ring
 pub mod Two
+-- the built-in plan of eight phases in two rings
 pub mod Quad
+-- that objects, cells and values are told apart
 pub mod Laws
+-- that translated indices and names are told apart
 pub mod VersionLaws

@@ -24,18 +24,23 @@ pub record ObjectRow : Type 0 where
 abbrev to : ℕ → ℕ → Range
 to i v = record { indices = i; greatest = v }
 
+-- version 1 of plan texts has the object too, with these indices and values
 abbrev in_1 : ℕ → ℕ → Option Range
 in_1 i v = Some (to i v)
 
+-- version 1 has no such object
 abbrev absent : Option Range
 absent = None
 
+-- a commit may change it only while no phase is in service
 abbrev structural : Bool
 structural = true
 
+-- a commit may change it at any time
 abbrev free : Bool
 free = false
 
+-- a row of the table: place, name, range in a plan, range in version 1, and whether it is structural
 abbrev object : ℕ → List ℕ → Range → Option Range → Bool → ObjectRow
 object k n r one s = record { place = k; name = n; range = r; in_version_1 = one; is_structural = s }
 
@@ -124,10 +129,11 @@ greatest o = (row o).range.greatest
 abbrev pub is_structural : Object → Bool
 is_structural o = (row o).is_structural
 
--- the object's cells stand after those of the objects before it
+-- where among a plan's cells the object's first stands: after all cells of the objects before it
 unfoldable pub first_cell : Object → ℕ
 first_cell o = sum_by indices (take (order o) objects)
 
+-- the object has this index: 1 to as many as it has indices
 abbrev pub has_index : Object → ℕ → Bool
 has_index o i = nat_le 1 i && nat_le i (indices o)
 

@@ -1,6 +1,6 @@
 -- What a plan says of detectors, overlaps, patterns, splits and preempts, each named by its number from 1. Times are in
--- tenths of a second. Names are those of NTCIP 1202; the numbers of split modes and of overlap types are
--- the profile's own.
+-- tenths of a second. Names are those of NTCIP 1202; the numbers of split modes and of overlap types are the profile's
+-- own.
 use Rattle.std.specs.Prelude.{ℕ, ◌+◌, ◌-◌, ◌*◌, ◌==◌, Bool, not, if◌then◌else◌, Option, Some, None}
 use Rattle.tsb_plan.specs.declared.object.Object.TheVariants.{VehicleDetectorCallPhase, VehicleDetectorDelay, VehicleDetectorExtend, VehicleDetectorNoActivity, VehicleDetectorMaxPresence, VehicleDetectorErraticCounts, VehicleDetectorFailTime, PedestrianDetectorCallPhase, OverlapIncludedPhases, PatternCycleTime, PatternOffsetTime, PatternSplitNumber, PatternSequenceNumber, SplitTime, SplitMode as SplitModeObject, SplitCoordPhase, PreemptDelay, PreemptMinimumDuration, PreemptMaximumPresence, PreemptMinimumGreen, PreemptMinimumWalk, PreemptEnterPedClear, PreemptTrackGreen, PreemptTrackPhase, PreemptDwellPhase, PreemptExitPhase, OverlapType, OverlapModifierPhases}
 use Rattle.tsb_plan.specs.declared.plan.patterns.SplitMode.{SplitMode}
@@ -18,52 +18,63 @@ unless_zero n = if n == 0 then None else Some n
 abbrev pub call_phase : Plan → ℕ → Option ℕ
 call_phase plan d = unless_zero (plan.value VehicleDetectorCallPhase d)
 
+-- how long the input has to be on before the output is, in tenths of a second; a green has no delay
 abbrev pub detector_delay : Plan → ℕ → ℕ
 detector_delay plan d = plan.value VehicleDetectorDelay d
 
+-- how long the output stays on in a green after the input fell, in tenths of a second
 abbrev pub detector_extend : Plan → ℕ → ℕ
 detector_extend plan d = plan.value VehicleDetectorExtend d
 
--- 0 for any time
+-- how long the input may stay off before the alarm of no activity, in tenths of a second (its object is in minutes); 0
+-- for any time
 abbrev pub no_activity : Plan → ℕ → ℕ
 no_activity plan d = 600 * plan.value VehicleDetectorNoActivity d
 
--- 0 for any time
+-- how long the input may stay on before the alarm of maximum presence, in tenths of a second (its object is in
+-- minutes); 0 for any time
 abbrev pub maximum_presence : Plan → ℕ → ℕ
 maximum_presence plan d = 600 * plan.value VehicleDetectorMaxPresence d
 
--- rises a minute, 0 for any number
+-- how many times the input may rise in a minute before the alarm of erratic counts; 0 for any number
 abbrev pub erratic_counts : Plan → ℕ → ℕ
 erratic_counts plan d = plan.value VehicleDetectorErraticCounts d
 
--- 0 for off and 2550 for on while the detector has failed
+-- while an alarm stands the output is on but for a green that has lasted this time, in tenths of a second; with 0 it is
+-- off, with 2550 on all the time (profile)
 abbrev pub fail_time : Plan → ℕ → ℕ
 fail_time plan d = 10 * plan.value VehicleDetectorFailTime d
 
--- the phase that the pedestrian detector calls
+-- the phase whose walk the pedestrian detector calls
 abbrev pub pedestrian_call_phase : Plan → ℕ → Option ℕ
 pedestrian_call_phase plan d = unless_zero (plan.value PedestrianDetectorCallPhase d)
 
 -- overlaps
 
+-- phase p is an included phase of overlap o: o is green with it, and on through its clearance to a next included phase
 abbrev pub is_included : Plan → ℕ → ℕ → Bool
 is_included plan o p = names (plan.value OverlapIncludedPhases o) p
 
+-- phase p is a modifier phase of overlap o: it takes away the green of a minusGreenYellow overlap while p is Green, and
+-- its yellow while p is Yellow
 abbrev pub is_modifier : Plan → ℕ → ℕ → Bool
 is_modifier plan o p = names (plan.value OverlapModifierPhases o) p
 
+-- the overlap is of type 1, minusGreenYellow, which alone heeds modifier phases; type 0 is normal
 abbrev pub is_minus_green_yellow : Plan → ℕ → Bool
 is_minus_green_yellow plan o = plan.value OverlapType o == 1
 
 -- patterns
 
--- 0 for a pattern that is not used
+-- the cycle length of the pattern, in tenths of a second; 0 for a pattern that is not used
 abbrev pub cycle : Plan → ℕ → ℕ
 cycle plan n = 10 * plan.value PatternCycleTime n
 
+-- the pattern has a cycle: only then may it run, and rules K17 to K20 ask something of it
 abbrev pub is_used : Plan → ℕ → Bool
 is_used plan n = not (plan.value PatternCycleTime n == 0)
 
+-- how long after tick 0 the local counter of the pattern is first 0, in tenths of a second; K17: below the cycle
 abbrev pub offset : Plan → ℕ → ℕ
 offset plan n = 10 * plan.value PatternOffsetTime n
 
@@ -77,56 +88,70 @@ sequence_of plan n = unless_zero (plan.value PatternSequenceNumber n)
 
 -- split tables
 
--- where a split table has the value of a phase
+-- the index of split objects that stands for phase p in table t: table after table, each in phase order
 abbrev pub split_index : Plan → ℕ → ℕ → ℕ
 split_index plan t p = plan.phase_count * (t - 1) + p
 
+-- the part of the cycle that table t gives phase p, yellow change and red clearance with it, in tenths of a second
 abbrev pub split_time : Plan → ℕ → ℕ → ℕ
 split_time plan t p = 10 * plan.value SplitTime (split_index plan t p)
 
+-- what each number of splitMode stands for (profile); 0, and any over 5, for no mode
 abbrev pub mode_of : ℕ → SplitMode
 mode_of n =
     if n == 1 then MinimumRecall else if n == 2 then MaximumRecall else if n == 3 then PedestrianRecall else
     if n == 4 then MaximumAndPedestrianRecall else if n == 5 then Omitted else NoMode
 
+-- what table t asks of phase p besides its time: a recall, or to omit it
 abbrev pub split_mode : Plan → ℕ → ℕ → SplitMode
 split_mode plan t p = mode_of (plan.value SplitModeObject (split_index plan t p))
 
+-- table t omits phase p: split mode 5
 abbrev pub is_omitted : Plan → ℕ → ℕ → Bool
 is_omitted plan t p = plan.value SplitModeObject (split_index plan t p) == 5
 
+-- phase p is a coordinated phase of table t: where its split ends, the local counter is 0
 abbrev pub is_coordinated : Plan → ℕ → ℕ → Bool
 is_coordinated plan t p = plan.value SplitCoordPhase (split_index plan t p) == 1
 
 -- preempts
 
+-- how long the input is on before the preempt requests service, in tenths of a second
 abbrev pub preempt_delay : Plan → ℕ → ℕ
 preempt_delay plan n = 10 * plan.value PreemptDelay n
 
+-- how long the preempt is in service before an input that is off ends dwell, in tenths of a second
 abbrev pub minimum_duration : Plan → ℕ → ℕ
 minimum_duration plan n = 10 * plan.value PreemptMinimumDuration n
 
--- 0 for any time
+-- how long the preempt is in service before dwell ends even with the input on, in tenths of a second; 0 for any time
 abbrev pub preempt_maximum_presence : Plan → ℕ → ℕ
 preempt_maximum_presence plan n = 10 * plan.value PreemptMaximumPresence n
 
+-- the green left to a phase that the preempt ends, in tenths of a second, where its initial time is longer
 abbrev pub preempt_minimum_green : Plan → ℕ → ℕ
 preempt_minimum_green plan n = 10 * plan.value PreemptMinimumGreen n
 
+-- the walk left to such a phase, in tenths of a second, where its own is longer
 abbrev pub preempt_minimum_walk : Plan → ℕ → ℕ
 preempt_minimum_walk plan n = 10 * plan.value PreemptMinimumWalk n
 
+-- the pedestrian clearance left to such a phase, in tenths of a second, where its own is longer
 abbrev pub enter_pedestrian_clear : Plan → ℕ → ℕ
 enter_pedestrian_clear plan n = 10 * plan.value PreemptEnterPedClear n
 
+-- how long track green goes on once all track phases were green, in tenths of a second
 abbrev pub track_green : Plan → ℕ → ℕ
 track_green plan n = 10 * plan.value PreemptTrackGreen n
 
+-- phase p clears the track when preempt n enters; with no such phase service begins with dwell
 abbrev pub is_track_phase : Plan → ℕ → ℕ → Bool
 is_track_phase plan n p = names (plan.value PreemptTrackPhase n) p
 
+-- phase p is served while preempt n dwells; with no such phase the preempt never requests service
 abbrev pub is_dwell_phase : Plan → ℕ → ℕ → Bool
 is_dwell_phase plan n p = names (plan.value PreemptDwellPhase n) p
 
+-- phase p is served as preempt n leaves; with no such phase service ends with dwell
 abbrev pub is_exit_phase : Plan → ℕ → ℕ → Bool
 is_exit_phase plan n p = names (plan.value PreemptExitPhase n) p

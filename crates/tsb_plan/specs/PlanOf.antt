@@ -8,10 +8,11 @@ use Rattle.tsb_types.specs.Lists.{run_from}
 use Rattle.tsb_plan.specs.Objects.{objects, indices, value_in, has_index, greatest}
 use Rattle.tsb_plan.specs.Plan.{Plan}
 
--- what the cells of a plan say
+-- the plan that such cells tell, of 16 phases and 4 sides
 abbrev pub plan_in : List ℕ → Plan
 plan_in cells = record { phase_count = 16; side_count = 4; value = value_in cells }
 
+-- the plan that a plan in memory holds
 unfoldable pub plan_of : memory.Plan → Plan
 plan_of plan = plan_in plan.values
 

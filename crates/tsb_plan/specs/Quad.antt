@@ -1,5 +1,5 @@
--- The built-in plan of eight phases: two rings with phases 1 to 4 and 5 to 8, two sides, two patterns, two preempts, one
--- overlap, a detector for each phase.
+-- The built-in plan of eight phases: two rings with phases 1 to 4 and 5 to 8, two sides, two patterns, two preempts,
+-- one overlap, a detector for each phase.
 use Rattle.std.specs.Prelude.{ℕ, ◌+◌, Bool, List, [], ◌∷◌}
 use Rattle.std.specs.List.{list_all}
 use Rattle.tsb_plan.specs.declared.object.Object.{Object}
@@ -17,6 +17,7 @@ abbrev pub with_rows : Plan → List (Object × List ℕ) → Plan
 with_rows plan [] = plan
 with_rows plan (e ∷ es) = with_rows (with_values plan (row e.0 1 e.1)) es
 
+-- the object has an index for each of these values, and takes each
 abbrev pub row_fits : Object × List ℕ → Bool
 row_fits e = list_all fits (row e.0 1 e.1)
 
@@ -56,5 +57,6 @@ quad_values =
     (PreemptMinimumDuration, 1, 10) ∷
     (PreemptDwellPhase, 2, 72) ∷ (PreemptMinimumGreen, 2, 2) ∷ (PreemptMinimumWalk, 2, 2) ∷ (PreemptEnterPedClear, 2, 3) ∷ []
 
+-- the plan of zeros with these rows and values put in
 unfoldable pub quad : Plan
 quad = with_values (with_rows empty quad_rows) quad_values

@@ -33,6 +33,7 @@ mode_in plan (Some t) p = split_mode plan t p
 abbrev pub mode_in_effect : Plan → Option ℕ → ℕ → SplitMode
 mode_in_effect plan runs p = mode_in plan (split_in_effect plan runs) p
 
+-- p is a coordinated phase of a split table; of none where no table is in effect
 abbrev pub coordinates_in : Plan → Option ℕ → ℕ → Bool
 coordinates_in plan None p = false
 coordinates_in plan (Some t) p = is_coordinated plan t p
@@ -41,6 +42,7 @@ coordinates_in plan (Some t) p = is_coordinated plan t p
 abbrev pub is_coordinated_now : Plan → Option ℕ → ℕ → Bool
 is_coordinated_now plan runs p = coordinates_in plan (split_in_effect plan runs) p
 
+-- split mode 5: while the pattern runs, no call and no dual entry brings the phase into service
 abbrev pub omits : SplitMode → Bool
 omits Omitted = true
 omits NoMode = false
@@ -49,6 +51,7 @@ omits MaximumRecall = false
 omits PedestrianRecall = false
 omits MaximumAndPedestrianRecall = false
 
+-- split mode 1: minimum recall while the pattern runs
 abbrev pub recalls_minimum : SplitMode → Bool
 recalls_minimum MinimumRecall = true
 recalls_minimum NoMode = false
@@ -57,6 +60,7 @@ recalls_minimum PedestrianRecall = false
 recalls_minimum MaximumAndPedestrianRecall = false
 recalls_minimum Omitted = false
 
+-- split modes 2 and 4: maximum recall while the pattern runs
 abbrev pub recalls_maximum : SplitMode → Bool
 recalls_maximum MaximumRecall = true
 recalls_maximum MaximumAndPedestrianRecall = true
@@ -65,6 +69,7 @@ recalls_maximum MinimumRecall = false
 recalls_maximum PedestrianRecall = false
 recalls_maximum Omitted = false
 
+-- split modes 3 and 4: pedestrian recall while the pattern runs
 abbrev pub recalls_pedestrians : SplitMode → Bool
 recalls_pedestrians PedestrianRecall = true
 recalls_pedestrians MaximumAndPedestrianRecall = true

@@ -9,6 +9,7 @@ use Rattle.tsb_plan.specs.Plan.{Plan, empty, with_values}
 abbrev pub fits : Object × ℕ × ℕ → Bool
 fits e = has_index e.0 e.1 && nat_le e.2 (greatest e.0)
 
+-- what the plan gives, other than 0: an object, an index and a value each, in the object's own unit
 abbrev pub two_values : List (Object × ℕ × ℕ)
 two_values =
     (PhaseEnabled, 2, 1) ∷ (PhaseEnabled, 4, 1) ∷
@@ -22,5 +23,6 @@ two_values =
     (PhaseMaxRecall, 2, 1) ∷ (PhaseMaxRecall, 4, 1) ∷
     (SequenceData, 1, 2) ∷ (SequenceData, 2, 4) ∷ []
 
+-- the plan of zeros with these values put in
 unfoldable pub two : Plan
 two = with_values empty two_values

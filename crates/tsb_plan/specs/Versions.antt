@@ -17,7 +17,7 @@ has_object Two o = true
 abbrev pub is_by_phase : Object → Bool
 is_by_phase o = nat_le (order o) (order PhaseCarsBeforeReduction)
 
--- its index counts the phases of one split table behind those of another
+-- its index counts the phases of one split table after those of another
 abbrev pub is_split : Object → Bool
 is_split SplitTime = true
 is_split SplitMode = true
@@ -34,6 +34,7 @@ abbrev or_else : Option Range → Range → Range
 or_else (Some narrow) wide = narrow
 or_else None wide = wide
 
+-- the object's range in the version; for one that version 1 has not, its range in a plan
 abbrev range_of : Version → Object → Range
 range_of One o = or_else (row o).in_version_1 (row o).range
 range_of Two o = (row o).range
