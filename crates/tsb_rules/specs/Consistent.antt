@@ -1,5 +1,5 @@
--- What every plan that meets the rules is like, in facts that the layers of the controller stand on. Each is the contract
--- of a function in src/consistent.rt.
+-- What every plan that meets the rules is like, in facts that the layers of the controller stand on. Each is the
+-- contract of a function in src/consistent.rt.
 use Rattle.std.specs.Prelude.{◌≡◌, ◌≢◌, ℕ, ◌<◌, ◌≤◌, Bool, true, false, List, Some, None}
 use Rattle.tsb_plan.specs.declared.object.Object.TheVariants.{PreemptTrackPhase, PreemptDwellPhase, PreemptExitPhase}
 use Rattle.tsb_types.specs.Lists.{among}
@@ -21,6 +21,7 @@ pub record IsPlaced (plan : Plan) (p : ℕ) : Type 0 where
   pub side_from : 1 ≤ side_of plan p
   pub side_to : side_of plan p ≤ plan.side_count
 
+-- K2: each enabled phase has its ring and its side
 abbrev pub PhasesArePlaced : Plan → Type 0
 PhasesArePlaced plan = (p : ℕ) → IsPhase plan p → is_enabled plan p ≡ true → IsPlaced plan p
 
@@ -32,6 +33,7 @@ pub record GoTogether (plan : Plan) (p q : ℕ) : Type 0 where
   pub sides : side_of plan p ≡ side_of plan q
   pub back : is_concurrent plan q p ≡ true
 
+-- K3 to K5: where one phase's concurrency list names another, the two may be in service together
 abbrev pub ConcurrentGoTogether : Plan → Type 0
 ConcurrentGoTogether plan = (p q : ℕ) → IsPhase plan p → IsPhase plan q → is_concurrent plan p q ≡ true → GoTogether plan p q
 
@@ -43,7 +45,7 @@ pub record IsInUse (plan : Plan) (n s t : ℕ) : Type 0 where
   pub sequence : sequence_of plan n ≡ Some s
   pub split : split_of plan n ≡ Some t
 
--- a list has the phases of a ring, each once and no other, sides in rising order, with zeros only behind them
+-- a list has the phases of a ring, each once and no other, sides in rising order, with zeros only after them
 pub record ListsRing (plan : Plan) (r : ℕ) (ps : List ℕ) : Type 0 where
   pub only_enabled : (p : ℕ) → among p ps ≡ true → p ≢ 0 → is_enabled plan p ≡ true
   pub only_ring : (p : ℕ) → among p ps ≡ true → p ≢ 0 → ring_of plan p ≡ r
@@ -52,14 +54,16 @@ pub record ListsRing (plan : Plan) (r : ℕ) (ps : List ℕ) : Type 0 where
   pub sides : rises plan ps ≡ true
   pub last : zeros_last ps ≡ true
 
+-- a sequence lists the phases of both rings
 pub record ListsRings (plan : Plan) (s : ℕ) : Type 0 where
   pub first : ListsRing plan 1 (sequence plan s 1)
   pub second : ListsRing plan 2 (sequence plan s 2)
 
--- sequence 1 lists the rings, and so does that of each used pattern
+-- K6: sequence 1, that of free operation, lists both rings
 abbrev pub FirstSequenceListsRings : Plan → Type 0
 FirstSequenceListsRings plan = ListsRings plan 1
 
+-- K6, K7 and K17: the sequence of each used pattern lists both rings
 abbrev pub SequencesInUseListRings : Plan → Type 0
 SequencesInUseListRings plan = (n s t : ℕ) → IsInUse plan n s t → ListsRings plan s
 
@@ -76,6 +80,7 @@ pub record IsPreemptSound (plan : Plan) (n : ℕ) : Type 0 where
   pub no_track : plan.value PreemptDwellPhase n ≡ 0 → plan.value PreemptTrackPhase n ≡ 0
   pub no_exit : plan.value PreemptDwellPhase n ≡ 0 → plan.value PreemptExitPhase n ≡ 0
 
+-- K15 and K16: each of the 4 preempts can be served, as what it wants is compatible
 abbrev pub PreemptsAreSound : Plan → Type 0
 PreemptsAreSound plan = (n : ℕ) → 1 ≤ n → n ≤ 4 → IsPreemptSound plan n
 
@@ -88,6 +93,7 @@ pub record IsWhole (plan : Plan) (n : ℕ) : Type 0 where
   pub split_to : its_split ≤ 8
   pub below : offset plan n < cycle plan n
 
+-- K17: each used one of the 16 patterns has a sequence, a split table and an offset below its cycle
 abbrev pub PatternsAreWhole : Plan → Type 0
 PatternsAreWhole plan = (n : ℕ) → 1 ≤ n → n ≤ 16 → is_used plan n ≡ true → IsWhole plan n
 
@@ -109,6 +115,7 @@ pub record AreCoordinated (plan : Plan) (s t : ℕ) : Type 0 where
   pub in_each_ring : (p r : ℕ) → IsPhase plan p → is_coordinated plan t p ≡ true → 1 ≤ r → r ≤ 2 → has_phases plan r (side_of plan p) ≡ true →
       coordinated_count plan t r ≡ 1
 
+-- K20: each used pattern has coordinated phases that agree, by its sequence and its split table
 abbrev pub CoordinatedPhasesAgree : Plan → Type 0
 CoordinatedPhasesAgree plan = (n s t : ℕ) → IsInUse plan n s t → AreCoordinated plan s t
 

@@ -17,10 +17,11 @@ use Rattle.tsb_types.specs.Sets.{names}
 abbrev pub some_enabled : Plan → Bool
 some_enabled plan = list_any (is_enabled plan) (phases plan)
 
--- K2: each phase has ring 1 or 2, and one of the sides
+-- p is of ring 1 or 2, and on one of the sides
 abbrev pub is_placed : Plan → ℕ → Bool
 is_placed plan p = (ring_of plan p == 1 || ring_of plan p == 2) && (nat_le 1 (side_of plan p) && nat_le (side_of plan p) plan.side_count)
 
+-- K2: each phase has ring 1 or 2, and one of the sides
 abbrev pub are_placed : Plan → Bool
 are_placed plan = each_phase plan (is_placed plan)
 
@@ -28,24 +29,27 @@ are_placed plan = each_phase plan (is_placed plan)
 abbrev pub unused_lists_are_empty : Plan → Bool
 unused_lists_are_empty plan = list_all (λ p. is_enabled plan p || plan.value PhaseConcurrency p == 0) (phases plan)
 
--- K4: a phase's concurrency list names only enabled phases of the other ring and the same side
+-- q is enabled, of the other ring than p, and on the same side
 abbrev pub may_be_concurrent : Plan → ℕ → ℕ → Bool
 may_be_concurrent plan p q = is_enabled plan q && (not (ring_of plan p == ring_of plan q) && side_of plan p == side_of plan q)
 
+-- the concurrency list of p names only phases that may be concurrent with it
 abbrev pub names_across_rings : Plan → ℕ → Bool
 names_across_rings plan p = list_all (λ q. not (is_concurrent plan p q) || may_be_concurrent plan p q) (phases plan)
 
+-- K4: a phase's concurrency list names only enabled phases of the other ring and the same side
 abbrev pub lists_name_across_rings : Plan → Bool
 lists_name_across_rings plan = each_phase plan (names_across_rings plan)
 
--- K5: concurrency is symmetric
+-- each phase that p's concurrency list names has p in its own
 abbrev pub is_named_back : Plan → ℕ → Bool
 is_named_back plan p = list_all (λ q. not (is_concurrent plan p q) || is_concurrent plan q p) (phases plan)
 
+-- K5: concurrency is symmetric, between all phases, enabled or not
 abbrev pub concurrency_is_symmetric : Plan → Bool
 concurrency_is_symmetric plan = list_all (is_named_back plan) (phases plan)
 
--- K8: phaseYellowChange of each phase is at least 30
+-- K8: phaseYellowChange of each phase is at least 30 tenths of a second
 abbrev pub yellows_are_long : Plan → Bool
 yellows_are_long plan = each_phase plan (λ p. nat_le 30 (yellow_change plan p))
 
@@ -53,19 +57,21 @@ yellows_are_long plan = each_phase plan (λ p. nat_le 30 (yellow_change plan p))
 abbrev pub gaps_can_reduce : Plan → Bool
 gaps_can_reduce plan = each_phase plan (λ p. nat_le (minimum_gap plan p) (passage plan p))
 
--- K10: phaseMaximum1 and phaseMaximum2 of each phase are at least its phaseMinimumGreen
+-- both maximum greens of p are at least its minimum green; all three are in seconds
 abbrev pub reaches_minimum : Plan → ℕ → Bool
 reaches_minimum plan p =
     nat_le (plan.value PhaseMinimumGreen p) (plan.value PhaseMaximum1 p) &&
     nat_le (plan.value PhaseMinimumGreen p) (plan.value PhaseMaximum2 p)
 
+-- K10: phaseMaximum1 and phaseMaximum2 of each phase are at least its phaseMinimumGreen
 abbrev pub maximums_reach_minimums : Plan → Bool
 maximums_reach_minimums plan = each_phase plan (reaches_minimum plan)
 
--- K11: each phase with phasePedRecall has phaseWalk over 0
+-- p has a walk time: phaseWalk, in seconds, is over 0
 abbrev pub has_walk : Plan → ℕ → Bool
 has_walk plan p = nat_le 1 (plan.value PhaseWalk p)
 
+-- K11: each phase with phasePedRecall has phaseWalk over 0
 abbrev pub recalled_pedestrians_walk : Plan → Bool
 recalled_pedestrians_walk plan = each_phase plan (λ p. not (has_pedestrian_recall plan p) || has_walk plan p)
 
@@ -78,50 +84,58 @@ none_or test (Some p) = test p
 abbrev pub detectors_call_phases : Plan → Bool
 detectors_call_phases plan = list_all (λ d. none_or (is_enabled plan) (call_phase plan d)) (run_from 1 16)
 
--- K13: each of the 8 pedestrian detectors calls none or an enabled phase with phaseWalk over 0
+-- p is enabled and has a walk time
 abbrev pub serves_pedestrians : Plan → ℕ → Bool
 serves_pedestrians plan p = is_enabled plan p && has_walk plan p
 
+-- K13: each of the 8 pedestrian detectors calls none or an enabled phase with phaseWalk over 0
 abbrev pub pedestrian_detectors_call_walks : Plan → Bool
 pedestrian_detectors_call_walks plan = list_all (λ d. none_or (serves_pedestrians plan) (pedestrian_call_phase plan d)) (run_from 1 8)
 
--- K14: the included phases of each of the 4 overlaps are enabled
+-- each phase that a list names is enabled
 abbrev pub names_enabled : Plan → ℕ → Bool
 names_enabled plan list = list_all (λ p. not (names list p) || is_enabled plan p) (phases plan)
 
+-- K14: the included phases of each of the 4 overlaps are enabled
 abbrev pub included_phases_are_enabled : Plan → Bool
 included_phases_are_enabled plan = list_all (λ o. names_enabled plan (plan.value OverlapIncludedPhases o)) (run_from 1 4)
 
--- K15: each list of each of the 4 preempts names only enabled phases, pairwise concurrent
+-- p is concurrent with each other phase that a list names
 abbrev pub goes_with_all : Plan → ℕ → ℕ → Bool
 goes_with_all plan list p = list_all (λ q. not (names list q) || (p == q || is_concurrent plan p q)) (phases plan)
 
+-- a list names only enabled phases, pairwise concurrent: all may be in service at one time
 abbrev pub names_concurrent : Plan → ℕ → Bool
 names_concurrent plan list = list_all (λ p. not (names list p) || (is_enabled plan p && goes_with_all plan list p)) (phases plan)
 
+-- the list that object o has for preempt n names only such phases
 abbrev pub names_concurrent_at : Plan → Object → ℕ → Bool
 names_concurrent_at plan o n = names_concurrent plan (plan.value o n)
 
+-- the track, dwell and exit lists of preempt n each name only such phases
 abbrev pub has_concurrent_lists : Plan → ℕ → Bool
 has_concurrent_lists plan n =
     names_concurrent_at plan PreemptTrackPhase n && (names_concurrent_at plan PreemptDwellPhase n && names_concurrent_at plan PreemptExitPhase n)
 
+-- K15: each list of each of the 4 preempts names only enabled phases, pairwise concurrent
 abbrev pub preempts_are_concurrent : Plan → Bool
 preempts_are_concurrent plan = list_all (has_concurrent_lists plan) (run_from 1 4)
 
--- K16: a preempt with an empty dwell list has empty track and exit lists
+-- preempt n has a dwell phase, or neither a track phase nor an exit phase
 abbrev pub dwells_or_is_empty : Plan → ℕ → Bool
 dwells_or_is_empty plan n =
     not (plan.value PreemptDwellPhase n == 0) || (plan.value PreemptTrackPhase n == 0 && plan.value PreemptExitPhase n == 0)
 
+-- K16: a preempt with an empty dwell list has empty track and exit lists
 abbrev pub preempts_dwell : Plan → Bool
 preempts_dwell plan = list_all (dwells_or_is_empty plan) (run_from 1 4)
 
--- K21: the modifier phases of each overlap are enabled, and there are none where it is not minusGreenYellow
+-- the modifier phases of overlap o are enabled, and there are none where it is not minusGreenYellow
 abbrev pub modifies_rightly : Plan → ℕ → Bool
 modifies_rightly plan o =
     names_enabled plan (plan.value OverlapModifierPhases o) && (is_minus_green_yellow plan o || plan.value OverlapModifierPhases o == 0)
 
+-- K21: the modifier phases of each overlap are enabled, and there are none where it is not minusGreenYellow
 abbrev pub modifiers_are_right : Plan → Bool
 modifiers_are_right plan = list_all (modifies_rightly plan) (run_from 1 4)
 
@@ -134,7 +148,7 @@ abbrev pub unless : Bool → Rule → Option Rule → Option Rule
 unless false r next = Some r
 unless true r next = next
 
--- the first rule that the plan breaks, of those on rings, sides and sequences
+-- the first rule that the plan breaks of K1 to K7, on rings, sides and sequences
 unfoldable pub broken_by_rings : Plan → Option Rule
 broken_by_rings plan =
     unless (some_enabled plan) K1
@@ -146,7 +160,7 @@ broken_by_rings plan =
     (unless (other_sequences_are_ordered plan) K7
     None))))))
 
--- of those on times and calls of phases
+-- the first of K8 to K13, on times and calls of phases
 unfoldable pub broken_by_phases : Plan → Option Rule
 broken_by_phases plan =
     unless (yellows_are_long plan) K8
@@ -157,7 +171,7 @@ broken_by_phases plan =
     (unless (pedestrian_detectors_call_walks plan) K13
     None)))))
 
--- of those on overlaps, preempts and patterns
+-- the first of K14 to K20, on overlaps, preempts and patterns
 unfoldable pub broken_by_parts : Plan → Option Rule
 broken_by_parts plan =
     unless (included_phases_are_enabled plan) K14
@@ -169,7 +183,7 @@ broken_by_parts plan =
     (unless (coordinated_phases_agree plan) K20
     None))))))
 
--- of those on what plan texts of version 2 alone can give
+-- the first of K21 and K22, on what plan texts of version 2 alone can give
 unfoldable pub broken_by_extensions : Plan → Option Rule
 broken_by_extensions plan =
     unless (modifiers_are_right plan) K21
@@ -181,7 +195,7 @@ abbrev pub or_rule : Option Rule → Option Rule → Option Rule
 or_rule (Some r) next = Some r
 or_rule None next = next
 
--- the first rule that the plan breaks
+-- the first rule that the plan breaks, by number
 unfoldable pub first_broken : Plan → Option Rule
 first_broken plan =
     or_rule (broken_by_rings plan)
@@ -189,6 +203,7 @@ first_broken plan =
     (or_rule (broken_by_parts plan)
     (broken_by_extensions plan)))
 
+-- what a check of a plan answers: that it is consistent, or the first rule that it breaks
 abbrev pub or_broken : Option Rule → Result (Unit {0}) Rule
 or_broken None = Ok tt
 or_broken (Some r) = Err r

@@ -26,10 +26,11 @@ abbrev pub rises : Plan → List ℕ → Bool
 rises plan [] = true
 rises plan (p ∷ ps) = list_all (λ q. q == 0 || nat_le (side_of plan p) (side_of plan q)) ps && rises plan ps
 
--- behind a zero there are only zeros
+-- no place has a phase
 abbrev pub is_zeros : List ℕ → Bool
 is_zeros ps = list_all (λ p. p == 0) ps
 
+-- after a zero there are only zeros
 abbrev pub zeros_last : List ℕ → Bool
 zeros_last [] = true
 zeros_last (p ∷ ps) = (not (p == 0) || is_zeros ps) && zeros_last ps
@@ -39,6 +40,7 @@ zeros_last (p ∷ ps) = (not (p == 0) || is_zeros ps) && zeros_last ps
 abbrev pub is_ordered : Plan → ℕ → List ℕ → Bool
 is_ordered plan r ps = lists_only plan r ps && (lists_each plan r ps && (lists_once ps && (rises plan ps && zeros_last ps)))
 
+-- what sequence s has for ring 1 and for ring 2 is ordered
 abbrev pub sequence_is_ordered : Plan → ℕ → Bool
 sequence_is_ordered plan s = is_ordered plan 1 (sequence plan s 1) && is_ordered plan 2 (sequence plan s 2)
 
