@@ -27,7 +27,7 @@ pub enum Rule {
     K2,
     /// The concurrency list of a phase that is not enabled is empty.
     K3,
-    /// A phase's concurrency list names only phases of the other ring and the same side.
+    /// A phase's concurrency list names only enabled phases of the other ring and the same side.
     K4,
     /// Concurrency is symmetric.
     K5,
