@@ -98,6 +98,15 @@ impl Timed for Calling {
             out.push((0, 0));
         }
     }
+
+    /// It has no timer: while it is given the same, nothing changes.
+    #[inline(always)]
+    fn spare(&self, _given: &Given, _plan: &Checked) -> u32 {
+        u32::MAX
+    }
+
+    #[inline(always)]
+    fn pass(&mut self) {}
 }
 
 /// Whether no phase is in any of the sets that are told.

@@ -4,7 +4,7 @@ ghost use Rattle.arrayvec.specs.ArrayVec.{array_vec_len};
 ghost use Rattle.tsb_coord.specs.Cells.{IsBy};
 ghost use Rattle.tsb_coord.specs.Layer.{cells_of, is_open};
 
-use crate::timed::{Changes, Timed};
+use crate::timed::{Changes, Timed, ticks_before};
 use tsb_cells::Reversible;
 use tsb_coord::Coord;
 use tsb_objects::{Checked, Pattern, PhaseSet};
@@ -77,5 +77,17 @@ impl Timed for Coordinating {
             self.forced = said.forced;
         }
         self.layer = layer;
+    }
+
+    #[inline(always)]
+    fn spare(&self, _given: &Given, _plan: &Checked) -> u32 {
+        ticks_before(self.due, self.now)
+    }
+
+    #[inline(always)]
+    fn pass(&mut self) {
+        if self.now < limits::TICKS {
+            self.now += 1;
+        }
     }
 }

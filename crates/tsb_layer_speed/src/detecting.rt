@@ -4,8 +4,9 @@ ghost use Rattle.arrayvec.specs.ArrayVec.{array_vec_len};
 ghost use Rattle.tsb_detect.specs.Cells.{IsBy};
 ghost use Rattle.tsb_detect.specs.Layer.{cells_of, is_open};
 
-use crate::timed::{Changes, Timed};
+use crate::timed::{Changes, Timed, ticks_before};
 use tsb_cells::Reversible;
+use tsb_detect::laws::rows_stay_by;
 use tsb_detect::{Detectors, Greens};
 use tsb_objects::{Checked, PhaseSet, Row};
 use tsb_runs::{Fault, Numbers};
@@ -58,6 +59,19 @@ impl Timed for Detecting {
         self.layer.tick(now, &given.row, &greens, plan);
         self.layer.close_onto(out, 0);
         self.now = now;
+    }
+
+    #[inline(always)]
+    fn spare(&self, given: &Given, plan: &Checked) -> u32 {
+        ticks_before(self.layer.due(self.now, &given.row, plan), self.now)
+    }
+
+    #[inline(always)]
+    fn pass(&mut self) {
+        if self.now < limits::TICKS {
+            rows_stay_by();
+            self.now += 1;
+        }
     }
 }
 

@@ -50,6 +50,15 @@ impl Timed for Heading {
         }
         self.previous = Some(field);
     }
+
+    /// It has no timer: while it is given the same, nothing changes.
+    #[inline(always)]
+    fn spare(&self, _given: &Given, _plan: &Checked) -> u32 {
+        u32::MAX
+    }
+
+    #[inline(always)]
+    fn pass(&mut self) {}
 }
 
 #[inline(always)]

@@ -1,5 +1,6 @@
 //! Times each layer on plan `quad` and a random log of 20,000 ticks: `tsb_layer_speed ROUNDS`, run in the folder `data/`.
-//! Without a word it does nothing.
+//! With a second word, `tsb_layer_speed ROUNDS TIMES`, each tick repeats so many times, and those that change nothing are
+//! passed over. Without a word it does nothing.
 #![tactic(auto)]
 
 mod calling;
@@ -18,7 +19,7 @@ use crate::heading::Heading;
 use crate::phasing::Phasing;
 use crate::preempting::Preempting;
 use crate::ringing::Ringing;
-use crate::timed::{Timed, read, run};
+use crate::timed::{Timed, read, run, run_passing};
 use anyhow::{Context, Result};
 use std::time::Instant;
 use std::{env, fs};
@@ -28,8 +29,13 @@ use tsb_runs::Plans;
 
 fn main(rt: HostRuntime) -> Result<()> {
     let mut rounds = None;
+    let mut times = None;
     for word in env::args(&rt)? {
-        rounds = number(word.as_bytes());
+        if rounds.is_none() {
+            rounds = number(word.as_bytes());
+        } else {
+            times = number(word.as_bytes());
+        }
     }
     let Some(rounds) = rounds else {
         return Ok(());
@@ -37,28 +43,39 @@ fn main(rt: HostRuntime) -> Result<()> {
     let text = fs::read(&rt, "plans.txt").context("plans.txt")?;
     let plans = Plans::read(rt.alloc(), &text)?;
     let plan = plans.get(0)?;
-    time::<Detecting>(&rt, "detectors.runs", plan, rounds)?;
-    time::<Preempting>(&rt, "preempts.runs", plan, rounds)?;
-    time::<Coordinating>(&rt, "coordination.runs", plan, rounds)?;
-    time::<Calling>(&rt, "calls.runs", plan, rounds)?;
-    time::<Phasing>(&rt, "phases.runs", plan, rounds)?;
-    time::<Ringing>(&rt, "rings.runs", plan, rounds)?;
-    time::<Heading>(&rt, "heads.runs", plan, rounds)
+    time::<Detecting>(&rt, "detectors.runs", plan, rounds, times)?;
+    time::<Preempting>(&rt, "preempts.runs", plan, rounds, times)?;
+    time::<Coordinating>(&rt, "coordination.runs", plan, rounds, times)?;
+    time::<Calling>(&rt, "calls.runs", plan, rounds, times)?;
+    time::<Phasing>(&rt, "phases.runs", plan, rounds, times)?;
+    time::<Ringing>(&rt, "rings.runs", plan, rounds, times)?;
+    time::<Heading>(&rt, "heads.runs", plan, rounds, times)
 }
 
 /// Writes how long so many rounds of a layer's stored ticks take.
-fn time<T: Timed>(rt: &HostRuntime, file: &str, plan: &Checked, rounds: u32) -> Result<()> {
+fn time<T: Timed>(
+    rt: &HostRuntime,
+    file: &str,
+    plan: &Checked,
+    rounds: u32,
+    times: Option<u32>,
+) -> Result<()> {
     let text = fs::read(rt, file).context("the stored ticks")?;
     let givens = read::<T>(rt.alloc(), &text)?;
     let start = Instant::now(rt)?;
     let mut sum = 0u32;
     for _round in 0..rounds {
-        sum = sum.rotate_left(1) ^ run::<T>(plan, &givens);
+        let ran = match times {
+            None => run::<T>(plan, &givens),
+            Some(times) => run_passing::<T>(plan, &givens, times),
+        };
+        sum = sum.rotate_left(1) ^ ran;
     }
     let time = start.elapsed(rt)?;
     println!(rt;
-        "{file}: {time:?} for {rounds} rounds of {} ticks ({sum})",
-        givens.len()
+        "{file}: {time:?} for {rounds} rounds of {} ticks, {} times each ({sum})",
+        givens.len(),
+        times.unwrap_or(1)
     )?;
     Ok(())
 }

@@ -5,9 +5,10 @@ ghost use Rattle.tsb_phase.specs.Cells.{IsBy};
 ghost use Rattle.tsb_phase.specs.Counts.{AreCounts};
 ghost use Rattle.tsb_phase.specs.Layer.{cells_of, is_open};
 
-use crate::timed::{Changes, Timed};
+use crate::timed::{Changes, Timed, ticks_before};
 use tsb_cells::Reversible;
 use tsb_objects::{Called, Checked, Interval, Orders, Phase, PhaseSet, Preempt, Timing};
+use tsb_phase::laws::rows_stay_by;
 use tsb_phase::{Conditions, Phases};
 use tsb_runs::{Fault, Numbers};
 use tsb_types::limits;
@@ -23,6 +24,26 @@ pub struct Given {
     forced: PhaseSet,
     moves: [u32; 6],
     ghost small: { AreCounts counts },
+}
+
+impl Given {
+    /// The conditions of the tick.
+    #[inline(always)]
+    fn conditions(&self) -> Conditions<'_> {
+        Conditions {
+            called: self.called,
+            counts: &self.counts,
+            runs: None,
+            service: Preempt::new(self.service),
+            orders: Orders {
+                hold: self.hold,
+                must_end: self.must_end,
+                forced: self.forced,
+                omit: PhaseSet::empty(),
+                target: None,
+            },
+        }
+    }
 }
 
 /// The layer, at a tick.
@@ -79,19 +100,7 @@ impl Timed for Phasing {
         }
         let now = self.now + 1;
         self.layer.open();
-        let conditions = Conditions {
-            called: given.called,
-            counts: &given.counts,
-            runs: None,
-            service: Preempt::new(given.service),
-            orders: Orders {
-                hold: given.hold,
-                must_end: given.must_end,
-                forced: given.forced,
-                omit: PhaseSet::empty(),
-                target: None,
-            },
-        };
+        let conditions = given.conditions();
         let timing = self.layer.tick(now, &conditions, plan);
         ended(
             &mut self.layer,
@@ -130,6 +139,23 @@ impl Timed for Phasing {
             out.push((0, 0));
         }
         self.now = now;
+    }
+
+    #[inline(always)]
+    fn spare(&self, given: &Given, plan: &Checked) -> u32 {
+        if self.now >= limits::TICKS {
+            return 0;
+        }
+        let next = self.now + 1;
+        ticks_before(self.layer.due(next, &given.conditions(), plan), self.now)
+    }
+
+    #[inline(always)]
+    fn pass(&mut self) {
+        if self.now < limits::TICKS {
+            rows_stay_by();
+            self.now += 1;
+        }
     }
 }
 

@@ -4,10 +4,11 @@ ghost use Rattle.arrayvec.specs.ArrayVec.{array_vec_len};
 ghost use Rattle.tsb_preempt.specs.Cells.{IsBy};
 ghost use Rattle.tsb_preempt.specs.Layer.{cells_of, is_open};
 
-use crate::timed::{Changes, Timed};
+use crate::timed::{Changes, Timed, ticks_before};
 use tsb_cells::Reversible;
 use tsb_objects::{Checked, Intervals, Row};
 use tsb_preempt::Preempts;
+use tsb_preempt::laws::rows_stay_by;
 use tsb_runs::{Fault, Numbers};
 use tsb_types::limits;
 
@@ -55,6 +56,22 @@ impl Timed for Preempting {
         let _orders = self.layer.tick(now, &given.row, &given.intervals, plan);
         self.layer.close_onto(out, 0);
         self.now = now;
+    }
+
+    #[inline(always)]
+    fn spare(&self, given: &Given, plan: &Checked) -> u32 {
+        ticks_before(
+            self.layer.due(self.now, &given.row, &given.intervals, plan),
+            self.now,
+        )
+    }
+
+    #[inline(always)]
+    fn pass(&mut self) {
+        if self.now < limits::TICKS {
+            rows_stay_by();
+            self.now += 1;
+        }
     }
 }
 

@@ -55,6 +55,19 @@ impl Timed for Ringing {
         self.layer.close_onto(out, 0);
         self.now = now;
     }
+
+    /// It has no timer: while it is given the same, nothing changes.
+    #[inline(always)]
+    fn spare(&self, _given: &Given, _plan: &Checked) -> u32 {
+        u32::MAX
+    }
+
+    #[inline(always)]
+    fn pass(&mut self) {
+        if self.now < limits::TICKS {
+            self.now += 1;
+        }
+    }
 }
 
 fn at_power_up() -> Rings

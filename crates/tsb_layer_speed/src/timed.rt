@@ -26,6 +26,18 @@ pub trait Timed: Drop {
     /// One tick, with its record.
     fn tick(&mut self, given: &Self::Given, plan: &Checked, out: &mut Changes)
         requires { array_vec_len out.old ≡ 0 };
+
+    /// How many ticks after the next one change nothing where that does not, and where they are given the same.
+    fn spare(&self, given: &Self::Given, plan: &Checked) -> u32;
+
+    /// Passes over a tick that changes nothing.
+    fn pass(&mut self);
+}
+
+/// How many ticks there are after the next one and before the one that is due.
+#[inline(always)]
+pub fn ticks_before(due: u32, now: u32) -> u32 {
+    due.saturating_sub(now.saturating_add(2))
 }
 
 /// Runs a layer from power-up, and gives a sum of how many cells each tick changes.
@@ -38,6 +50,37 @@ pub fn run<T: Timed>(plan: &Checked, givens: &[T::Given]) -> u32 {
         out.clear();
         layer.tick(given, plan, &mut out);
         sum = sum.rotate_left(3) ^ out.len().min(1000) as u32;
+    }
+    sum
+}
+
+/// Runs a layer from power-up over ticks of which each repeats so many times, as a bench that passes over ticks: it asks
+/// after a tick that changed nothing how many may be passed over. Gives a sum as `run` does, of the other ticks.
+#[inline(never)]
+pub fn run_passing<T: Timed>(plan: &Checked, givens: &[T::Given], times: u32) -> u32 {
+    let mut layer = T::power_up();
+    let mut out = Changes::new();
+    let mut sum = 0u32;
+    for given in givens {
+        let mut is_quiet = false;
+        let mut spare = 0u32;
+        for _k in 0..times {
+            if spare > 0 {
+                spare -= 1;
+                layer.pass();
+                continue;
+            }
+            let found = if is_quiet {
+                layer.spare(given, plan)
+            } else {
+                0
+            };
+            out.clear();
+            layer.tick(given, plan, &mut out);
+            sum = sum.rotate_left(3) ^ out.len().min(1000) as u32;
+            is_quiet = out.is_empty();
+            spare = if is_quiet { found } else { 0 };
+        }
     }
     sum
 }
