@@ -23,7 +23,7 @@ use Rattle.tsb_heads.specs.Reading.{shown_by, heads_of, heads_of_field}
 use Rattle.tsb_heads.specs.Promises.{IsSame}
 use Rattle.tsb_heads.specs.Laws.{AreAlike, ShowAlike, DisplaysLookOnlyAtTheirOwn, LampsLookOnlyAtTheirOwn, FieldsAreTold, MonitorsLookOnlyAtTheirOwn, StayingHeadsPass, PassedHeadsPassAgain}
 use Rattle.tsb_heads.proofs.SetLemmas.{first-never}
-use Rattle.tsb_rows.proofs.FirstLemmas.{first-within}
+use Rattle.tsb_types.proofs.FirstLemmas.{first-within}
 
 -- ## Runs of phases
 
@@ -127,8 +127,8 @@ lamps-own (Some (lamps.Overlap n color)) h g same = record {
   overlap = λ o from to. (let here : h.overlap o ≡ g.overlap o = same.overlap o from to in rw here refl);
 }
 
-both : (f g h : Heads) → IsSame f g → IsSame g h → IsSame f h
-both f g h one two = record {
+pub same-both : (f g h : Heads) → IsSame f g → IsSame g h → IsSame f h
+same-both f g h one two = record {
   vehicle = λ p from to. one.vehicle p from to ∙ two.vehicle p from to;
   pedestrian = λ p from to. one.pedestrian p from to ∙ two.pedestrian p from to;
   overlap = λ o from to. one.overlap o from to ∙ two.overlap o from to;
@@ -136,9 +136,9 @@ both f g h one two = record {
 
 pub fields-told : FieldsAreTold
 fields-told plan intervals pedestrians ring_1 ring_2 lamp d f s count alike displayed laid =
-    both (heads_of_field f) (laid_over lamp (heads_of d)) (field plan s lamp) laid
+    same-both (heads_of_field f) (laid_over lamp (heads_of d)) (field plan s lamp) laid
     (lamps-own lamp (heads_of d) (ordered plan s)
-    (both (heads_of d) (ordered plan (shown_by intervals pedestrians ring_1 ring_2 false)) (ordered plan s) displayed
+    (same-both (heads_of d) (ordered plan (shown_by intervals pedestrians ring_1 ring_2 false)) (ordered plan s) displayed
     (ordered-same plan (shown_by intervals pedestrians ring_1 ring_2 false) s count alike)))
 
 -- ## The monitor

@@ -7,7 +7,7 @@ use Rattle.std.proofs.lemmas.Bool.Decides.{nat_tests}
 use Rattle.tsb_cells.specs.declared.timer.Timer.{Timer}
 use Rattle.tsb_cells.specs.declared.timer.Timer.TheVariants.{Off, On}
 use Rattle.tsb_cells.specs.Timer.{timer_cell, is_on}
-use Rattle.tsb_cells.proofs.TimerLemmas.{timer_at-timer_cell, timer_cell-le}
+use Rattle.tsb_cells.proofs.TimerLemmas.{timer_at-timer_cell, timer_cell-le, timer_cell-on, timer_cell-off}
 use Rattle.tsb_types.specs.declared.interval.Interval.{Interval}
 use Rattle.tsb_types.specs.declared.interval.Interval.TheVariants.{Red, Green, Yellow, RedClear}
 use Rattle.tsb_types.specs.declared.interval.PedestrianInterval.{PedestrianInterval}
@@ -28,6 +28,7 @@ use Rattle.tsb_phase.specs.Rows.{row_in, phase_of, IsRowBy}
 use Rattle.tsb_phase.proofs.GreenLemmas.{part-told, same_phase}
 use Rattle.tsb_phase.proofs.RowLemmas.{same_values}
 use Rattle.tsb_phase.proofs.ReadLemmas.{phase_in-row, phase-by}
+use Rattle.tsb_types.proofs.IntervalLemmas.{serves-green, serves-yellow, serves-red_clear}
 
 -- ## One phase, and the row that keeps it
 
@@ -101,24 +102,6 @@ ending-alone None h = refl
 ending-alone (Some MaxOut) h = refl
 ending-alone (Some GapOut) h = absurd (cc)
 
-serves-green : (i : Interval) → is_green i ≡ true → in_service i ≡ true
-serves-green Red h = absurd (cc)
-serves-green Green h = refl
-serves-green Yellow h = refl
-serves-green RedClear h = refl
-
-serves-yellow : (i : Interval) → is_yellow i ≡ true → in_service i ≡ true
-serves-yellow Red h = absurd (cc)
-serves-yellow Green h = refl
-serves-yellow Yellow h = refl
-serves-yellow RedClear h = refl
-
-serves-red_clear : (i : Interval) → is_red_clear i ≡ true → in_service i ≡ true
-serves-red_clear Red h = absurd (cc)
-serves-red_clear Green h = refl
-serves-red_clear Yellow h = refl
-serves-red_clear RedClear h = refl
-
 walks-on : (i : PedestrianInterval) → is_walk i ≡ true → is_dont_walk i ≡ false
 walks-on DontWalk h = absurd (cc)
 walks-on Walk h = refl
@@ -128,13 +111,6 @@ clears-on : (i : PedestrianInterval) → is_clearance i ≡ true → is_dont_wal
 clears-on DontWalk h = absurd (cc)
 clears-on Walk h = refl
 clears-on PedestrianClear h = refl
-
-off-cell : (now : ℕ) (x : Timer) → x ≡ Off → timer_cell now x ≡ 0
-off-cell now x e = rw e refl
-
-on-cell : (now : ℕ) (x : Timer) → is_on x ≡ true → 1 ≤ timer_cell now x
-on-cell now Off h = absurd (cc)
-on-cell now (On n) h = omega arith
 
 not-walking : (x : PedestrianInterval) → x ≡ DontWalk → (is_walk x ≡ false) × (is_clearance x ≡ false)
 not-walking x e = rw e (refl, refl)
@@ -154,20 +130,20 @@ is-held now x is = record {
   reduction = timer_cell-le now x.reduction;
   red_revert = timer_cell-le now x.red_revert;
   running_maximum = is.running_maximum;
-  red = λ h. off-cell now x.timer (is.red (sym (interval-told x.interval) ∙ h));
-  green = λ h. on-cell now x.timer (is.served (serves-green x.interval h));
-  yellow = λ h. on-cell now x.timer (is.served (serves-yellow x.interval h));
-  red_clear = λ h. on-cell now x.timer (is.served (serves-red_clear x.interval h));
-  dont_walk = λ h. off-cell now x.pedestrian_timer (is.dont_walk (sym (part-told x.pedestrian) ∙ h));
-  walk = λ h. on-cell now x.pedestrian_timer (is.walks (walks-on x.pedestrian h));
-  clearance = λ h. on-cell now x.pedestrian_timer (is.walks (clears-on x.pedestrian h));
+  red = λ h. timer_cell-off now x.timer (is.red (sym (interval-told x.interval) ∙ h));
+  green = λ h. timer_cell-on now x.timer (is.served (serves-green x.interval h));
+  yellow = λ h. timer_cell-on now x.timer (is.served (serves-yellow x.interval h));
+  red_clear = λ h. timer_cell-on now x.timer (is.served (serves-red_clear x.interval h));
+  dont_walk = λ h. timer_cell-off now x.pedestrian_timer (is.dont_walk (sym (part-told x.pedestrian) ∙ h));
+  walk = λ h. timer_cell-on now x.pedestrian_timer (is.walks (walks-on x.pedestrian h));
+  clearance = λ h. timer_cell-on now x.pedestrian_timer (is.walks (clears-on x.pedestrian h));
   no_walk = λ h. (not-walking x.pedestrian (is.no_walk h)).0;
   no_clearance = λ h. (not-walking x.pedestrian (is.no_walk h)).1;
   not_gapped = is.not_gapped;
   not_forced = is.not_forced;
-  no_passage = λ h. off-cell now x.passage (is.no_passage h);
-  no_conflict = λ h. off-cell now x.conflict (is.no_conflict h);
-  no_reduction = λ h. off-cell now x.reduction (is.no_reduction h);
+  no_passage = λ h. timer_cell-off now x.passage (is.no_passage h);
+  no_conflict = λ h. timer_cell-off now x.conflict (is.no_conflict h);
+  no_reduction = λ h. timer_cell-off now x.reduction (is.no_reduction h);
 }
 
 -- ## Where the table has it
@@ -360,7 +336,7 @@ state-by now f are = record {
       (subst (λ (r : PhaseRow). IsRowBy now r) (sym (row-read now f p from to)) (is-held now (f p) (are.each p from to)));
 }
 
-outside : (now : ℕ) (row : List ℕ) (p : ℕ) → is_phase p ≡ false → phase_in now row p ≡ at_power_up
+pub outside : (now : ℕ) (row : List ℕ) (p : ℕ) → is_phase p ≡ false → phase_in now row p ≡ at_power_up
 unfolding phase_in
 outside now row p out = rw out refl
 

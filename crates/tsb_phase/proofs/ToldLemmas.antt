@@ -20,6 +20,7 @@ use Rattle.tsb_phase.specs.declared.ending.Ending.TheVariants.{MaxOut, GapOut}
 use Rattle.tsb_phase.specs.DynamicMaximum.{is_same}
 use Rattle.tsb_phase.specs.Cells.{number_in, number_cell, phase_in, phases_cells, IsBy}
 use Rattle.tsb_phase.specs.Laws.{RowsAreTold}
+use Rattle.tsb_rows.proofs.TableLemmas.{list-told, more}
 
 -- 16 cells of a row, one of each phase
 column : (row : List ℕ) (o : ℕ) (f : ℕ → ℕ) → o + 16 ≤ length row → ((p : ℕ) → 1 ≤ p → p ≤ 16 → f p ≡ slice_index row (o - 1 + p)) → 1 ≤ o → map f (run_from 1 16) ≡ row_at 16 row o
@@ -32,12 +33,6 @@ column row o f full same from = sym (map-run_from f 1 16 (row_at 16 row o) long 
     at k below =
         let place : o - 1 + (1 + k) ≡ o + k = omega arith in
         get_or-take 16 (drop o row) k 0 below ∙ get_or-drop o row k 0 ∙ ap (λ (n : ℕ). get_or row n 0) (sym place) ∙ sym (same (1 + k) (omega arith) (omega arith))
-
--- a list of a row
-list-told : (row : List ℕ) (k : ℕ) (test : ℕ → Bool) → slice_index row k < 65536 → ((p : ℕ) → 1 ≤ p → p ≤ 16 → test p ≡ names (list_in row k) p) → list_of 16 test ≡ slice_index row k
-list-told row k test small same =
-    let whole_list : list_in row k ≡ slice_index row k = omega arith in
-    same-list_of 16 test (names (list_in row k)) same ∙ ap (λ (n : ℕ). list_of 16 (names n)) whole_list ∙ list_of-names (slice_index row k) small
 
 -- ## What the lists tell
 
@@ -90,9 +85,6 @@ number-told n = elim (cases_Bool (n == 0)) [
 nine : (row : List ℕ) → 9 ≤ length row → (slice_index row 0 ∷ slice_index row 1 ∷ slice_index row 2 ∷ slice_index row 3 ∷ slice_index row 4 ∷ slice_index row 5 ∷ slice_index row 6 ∷ slice_index row 7 ∷ slice_index row 8 ∷ []) ≡ take 9 row
 nine (a ∷ (b ∷ (c ∷ (d ∷ (e ∷ (f ∷ (g ∷ (h ∷ (i ∷ rest))))))))) full = refl
 nine row full = absurd (omega arith)
-
-more : (row : List ℕ) (o : ℕ) (f : ℕ → ℕ) (xs : List ℕ) → xs ≡ take o row → map f (run_from 1 16) ≡ row_at 16 row o → xs ++ map f (run_from 1 16) ≡ take (o + 16) row
-more row o f xs one two = ap₂ (λ (us vs : List ℕ). us ++ vs) one two ∙ sym (take-add o 16 row)
 
 module _ (now : ℕ) (row : List ℕ) (by : IsBy now row) where
   full : length row ≡ 121

@@ -12,6 +12,7 @@ use Rattle.tsb_plan.specs.Laws.{IsCellOf}
 use Rattle.tsb_types.specs.Lists.{run_from}
 use Rattle.tsb_plan.specs.Objects.{objects, order, indices, first_cell, has_index}
 use Rattle.tsb_plan.proofs.TableLemmas.{total, length-objects, order-injective, cell-of_one}
+use Rattle.tsb_types.proofs.RunLemmas.{get_or-run_from}
 
 pub share_no_cell : (cell : ℕ) (o p : Object) (i k : ℕ) → IsCellOf cell o i → IsCellOf cell p k → (o ≡ p) × (i ≡ k)
 share_no_cell cell o p i k first second =
@@ -38,12 +39,6 @@ reaching f (x ∷ os) n within =
           let short : found.0 < length os = found.1.below in
           (suc found.0, record { below = omega arith; from = rw more (omega arith); over = rw more (omega arith) })
     ]
-
-get_or-run_from : (a n j : ℕ) → j < n → get_or (run_from a n) j 0 ≡ a + j
-unfolding run_from
-get_or-run_from a zero j below = absurd (omega arith)
-get_or-run_from a (suc n) zero below = omega arith
-get_or-run_from a (suc n) (suc j) below = get_or-run_from (a + 1) n j (omega arith) ∙ (let e : a + 1 + j ≡ a + suc j = omega arith in e)
 
 pub orders : map order objects ≡ run_from 0 COUNT
 unfolding objects run_from

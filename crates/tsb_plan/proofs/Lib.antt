@@ -2,3 +2,5 @@ pub mod PlanLemmas
 pub mod TableLemmas
 pub mod CellLemmas
 pub mod NameLemmas
+pub mod ToldLemmas
+pub mod RangeLemmas

@@ -31,7 +31,7 @@ zeros-empty cells zeros =
 both_ways : false ≡ true → ⊥
 both_ways e = cc
 
-same-parts : (o p : Object) (i k : ℕ) → is_same o i p k ≡ true → (order o ≡ order p) × (i ≡ k)
+pub same-parts : (o p : Object) (i k : ℕ) → is_same o i p k ≡ true → (order o ≡ order p) × (i ≡ k)
 same-parts o p i k e = (grind (arith, nat_tests), grind (arith, nat_tests))
 
 apart-parts : (o p : Object) (i k : ℕ) → is_same o i p k ≡ false → (order o ≡ order p) × (i ≡ k) → ⊥

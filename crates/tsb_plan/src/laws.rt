@@ -1,6 +1,6 @@
 //! What holds of the objects, the cells and the values of every plan, each law the contract of a function that does
 //! nothing.
-ghost use Rattle.tsb_plan.specs.Laws.{AreInOrder, HaveCells, ShareNoCell, LeaveNoCell, GiveBackWhatIsPut, LeaveOthers};
+ghost use Rattle.tsb_plan.specs.Laws.{AreInOrder, HaveCells, ShareNoCell, LeaveNoCell, PlansAreTold, GiveBackWhatIsPut, LeaveOthers};
 
 /// The list of all objects has each at its place among them, and no other.
 pub fn objects_are_in_order()
@@ -13,6 +13,11 @@ pub fn cells_are_told_apart()
     ensures within { HaveCells }
     ensures apart { ShareNoCell }
     ensures used { LeaveNoCell }
+{}
+
+/// The cells of a plan are the table of what it says of each object at each index.
+pub fn plans_are_told()
+    ensures { PlansAreTold }
 {}
 
 /// `get` gives what `put` put, at that object and index; at any other it gives what it gave before.

@@ -6,6 +6,7 @@ ghost use Rattle.tsb_plan.specs.declared.object.TheConstants.{PLAN_CELLS};
 ghost use Rattle.tsb_plan.specs.Objects.{AreInRange, value_in, has_index, greatest, first_cell, indices};
 
 mod built_in;
+mod cells;
 mod detectors;
 mod overlaps;
 mod patterns;

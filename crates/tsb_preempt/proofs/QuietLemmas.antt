@@ -20,6 +20,7 @@ use Rattle.tsb_preempt.specs.Done.{IsDone, ChangesNothing}
 use Rattle.tsb_preempt.specs.Due.{StaysInService, IsWaiting, AreStanding}
 use Rattle.tsb_preempt.proofs.ReadLemmas.{stays-by, read}
 use Rattle.tsb_preempt.proofs.DoneLemmas.{IsFound, IsAsked, state, orders, done-kept}
+use Rattle.tsb_objects.proofs.PassLemmas.{or-false}
 
 -- what is found before `due`
 pub record IsQuiet (plan : Plan) (row : Row) (intervals : Intervals) (cells : List ℕ) (inputs spent : NumberSet) (was : Option Serving) (due : ℕ) : Type 0 where
@@ -43,10 +44,6 @@ and-not false b h = refl
 and-true : (a : Bool) → (a && true) ≡ false → a ≡ false
 and-true true h = h
 and-true false h = refl
-
-or-off : (a : Bool) → a ≡ (a || false)
-or-off true = refl
-or-off false = refl
 
 none-spends : (a b c : Bool) → c ≡ false → false ≡ ((true && (a && c)) && b)
 none-spends true b c h = rw h refl
@@ -100,7 +97,7 @@ found-still t plan row intervals cells inputs spent was inputs_are spent_are wit
   begins_is = none-begins (serving_of t was) (λ n. requests_by t plan n (has_number inputs n) (has_number spent n) (slice_index cells (1 + n))) waits;
   serving_is = still-served plan (interval_of intervals) (has_number inputs) (serving_of t was) stays;
   spender_is = λ n. still-spends plan (interval_of intervals) (has_number inputs) (serving_of t was) n stays;
-  spent_are = λ n. or-off (has_number spent n);
+  spent_are = λ n. or-false (has_number spent n);
   listed = λ n from to. sym (spent_are n);
   lists = λ j other. refl;
   service_is = sym was_is;

@@ -14,8 +14,9 @@ use Rattle.tsb_ring.specs.Laws.{IsListed, IsSymmetric, IsPairwiseConcurrent, IsG
 use Rattle.tsb_ring.proofs.MoveLemmas.{and_three}
 use Rattle.tsb_ring.proofs.WaitLemmas.{cond_is}
 use Rattle.tsb_ring.proofs.WantLemmas.{and_four, first-among, free, with_some}
-use Rattle.tsb_rows.proofs.FirstLemmas.{first-passes}
+use Rattle.tsb_types.proofs.FirstLemmas.{first-passes}
 use Rattle.tsb_ring.proofs.ClaimLemmas.{one_ring}
+use Rattle.tsb_types.proofs.OptionLemmas.{is-none}
 
 cross_is : (w : Option Want) → wants_cross w ≡ true → w ≡ Some Cross
 cross_is None h = absurd (cc)
@@ -23,10 +24,6 @@ cross_is (Some (Go p)) h = absurd (cc)
 cross_is (Some Cross) h = refl
 cross_is (Some Rest) h = absurd (cc)
 cross_is (Some Stop) h = absurd (cc)
-
-pub none_some : {A : Type 0} (o : Option A) → is_some o ≡ false → o ≡ None
-none_some None h = refl
-none_some (Some x) h = absurd (cc)
 
 else_cases : (a b : Option ℕ) (p : ℕ) → or_else a b ≡ Some p → (a ≡ Some p) ⊎ ((a ≡ None) × (b ≡ Some p))
 else_cases None b p h = inr (refl, h)
@@ -69,7 +66,7 @@ module _ (plan : Plan) (s : State) (given : Given) (yellow_done : ℕ → Bool) 
   new_commits r p h =
       elim (cond_is (is_some (starting plan s given r)) None (committed plan s given r) (Some p) h) [
         | inl k ↦ (let none : None ≡ Some p = k.1 in absurd (cc))
-        | inr k ↦ (none_some (starting plan s given r) k.0, k.1)
+        | inr k ↦ (is-none (starting plan s given r) k.0, k.1)
       ]
 
   -- ## The commitments of a crossing

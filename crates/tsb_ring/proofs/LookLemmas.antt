@@ -23,7 +23,7 @@ use Rattle.tsb_ring.specs.Looks.{IsWithin, AgreeOnTargets, AgreeOnPhases}
 use Rattle.tsb_ring.proofs.ActLemmas.{acts_as_next}
 use Rattle.tsb_ring.proofs.WaitLemmas.{cond_is, go_cases, taken_go}
 use Rattle.tsb_ring.proofs.WantLemmas.{and_four}
-use Rattle.tsb_rows.proofs.FirstLemmas.{first-passes}
+use Rattle.tsb_types.proofs.FirstLemmas.{first-passes}
 
 abbrev clip_target : Option (ℕ → Bool) → Option (ℕ → Bool)
 clip_target None = None

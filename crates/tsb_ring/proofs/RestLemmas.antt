@@ -12,7 +12,7 @@ use Rattle.tsb_ring.specs.Crossings.{wants_cross, ring_joins, begins, own_commit
 use Rattle.tsb_ring.specs.Next.{idle_pick, completes, starting, leaves, ends, clears}
 use Rattle.tsb_ring.specs.Moves.{if_passes, ring_moves, moves}
 use Rattle.tsb_ring.specs.Layer.{IsUnasked, no_move, no_moves}
-use Rattle.tsb_rows.proofs.FirstLemmas.{first-none, first-passes}
+use Rattle.tsb_types.proofs.FirstLemmas.{first-none, first-passes}
 
 uncommitted : (s : State) (given : Given) → IsUnasked s given → (r : Ring) → s.commitment r ≡ None
 uncommitted s given u Ring1 = u.first

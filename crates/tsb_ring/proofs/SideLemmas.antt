@@ -6,7 +6,7 @@ use Rattle.tsb_rules.proofs.ConsistentLemmas.{placed}
 use Rattle.tsb_plan.specs.Plan.{Plan, phases, is_enabled, side_of}
 use Rattle.tsb_types.specs.Lists.{first}
 use Rattle.tsb_ring.specs.Wants.{is_targeted}
-use Rattle.tsb_rows.proofs.FirstLemmas.{first-within, first-passes}
+use Rattle.tsb_types.proofs.FirstLemmas.{first-within, first-passes}
 
 pub sided : (plan : Plan) → first_broken plan ≡ None → (test : ℕ → Bool) (o : Option ℕ) → o ≡ first (is_targeted plan test) (phases plan) →
     IfSome o (λ q. 1 ≤ side_of plan q)

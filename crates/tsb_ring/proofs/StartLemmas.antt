@@ -17,6 +17,7 @@ use Rattle.tsb_ring.proofs.MoveLemmas.{and_three, is-Some, ends_ready, completes
 use Rattle.tsb_ring.proofs.WaitLemmas.{cond_is, is_serving}
 use Rattle.tsb_ring.proofs.WantLemmas.{Wanted, pick_free, pick_wanted}
 use Rattle.tsb_ring.proofs.ClaimLemmas.{same_ring, ring_of_is, Claim, serves, promises, picks}
+use Rattle.tsb_types.proofs.IntervalLemmas.{serves-green}
 
 pub may_clear : (plan : Plan) (s : State) (given : Given) (r : Ring) (c : Option ℕ) → may_start plan given r c ≡ true → is_none_or_over given (serving plan given r) ≡ true
 may_clear plan s given r None h = h
@@ -39,12 +40,6 @@ after_moves false false false done Red h e = absurd (cc)
 after_moves false false false done Green h e = (refl, inr refl)
 after_moves false false false done Yellow h e = (refl, inr refl)
 after_moves false false false done RedClear h e = (refl, inr refl)
-
-green_serves : (i : Interval) → is_green i ≡ true → in_service i ≡ true
-green_serves Red h = absurd (cc)
-green_serves Green h = refl
-green_serves Yellow h = refl
-green_serves RedClear h = refl
 
 -- the phase in service that clears is cleared
 passes : (test : ℕ → Bool) (q : ℕ) → test q ≡ true → is q (if_passes test (Some q)) ≡ true
@@ -105,7 +100,7 @@ module _ (plan : Plan) (s : State) (given : Given) (yellow_done : ℕ → Bool) 
     pub kept : is_cleared (moves plan s given) p ≡ false
 
   was_served : (p : ℕ) → (is_ended (moves plan s given) p ≡ true) ⊎ (in_service (given.interval p) ≡ true) → Serves given.interval p
-  was_served p (inl e) = green_serves (given.interval p) (ends_ready plan s given p e).0
+  was_served p (inl e) = serves-green (given.interval p) (ends_ready plan s given p e).0
   was_served p (inr k) = k
 
   starts_in : (p : ℕ) → is_started (moves plan s given) p ≡ true → (starting plan s given Ring1 ≡ Some p) ⊎ (starting plan s given Ring2 ≡ Some p)

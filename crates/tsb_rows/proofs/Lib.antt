@@ -1,3 +1,2 @@
 pub mod TableLemmas
 pub mod WriteLemmas
-pub mod FirstLemmas

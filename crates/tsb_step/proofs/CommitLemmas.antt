@@ -18,6 +18,7 @@ use Rattle.tsb_transact.specs.Commit.{changes_structure}
 use Rattle.tsb_step.specs.State as step
 use Rattle.tsb_step.specs.Step.{is_serving, rings_after}
 use Rattle.tsb_step.proofs.EditLemmas.{or_false, kept, same_phase_count}
+use Rattle.tsb_types.proofs.OptionLemmas.{is-none}
 
 -- ## Without a change of the structure
 
@@ -94,10 +95,6 @@ none_of_any test p (q ∷ qs) none here h =
       | inl same ↦ true≢false (sym h ∙ (rw (eqb-true q p same) at both.0))
       | inr later ↦ none_of_any test p qs both.1 later h
     ]
-
-is-none : (o : Option ℕ) → is_some o ≡ false → o ≡ None
-is-none None e = refl
-is-none (Some p) e = cc
 
 -- where the rings do not serve, nothing is in service or about to be
 pub still : (s : step.State) → IsSound s.plan (step.interval s) s.rings → is_serving s ≡ false → IsStill (step.interval s) s.rings

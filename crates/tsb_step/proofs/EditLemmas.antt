@@ -14,6 +14,7 @@ use Rattle.tsb_transact.specs.Desk.{with_edits}
 use Rattle.tsb_transact.specs.Commit.{changes, changes_some}
 use Rattle.tsb_step.specs.Tables.{version_of, has_place, place_refusal}
 use Rattle.tsb_step.specs.Good.{AreFit}
+use Rattle.tsb_plan.proofs.PlanLemmas.{same-parts}
 
 -- ## Numbers of phases and sides
 
@@ -26,9 +27,6 @@ same_side_count plan [] = refl
 same_side_count plan (e ∷ es) = same_side_count (with_value plan e.id.object e.id.index e.value) es
 
 -- ## Values that no edit changes
-
-same-parts : (o p : Object) (i k : ℕ) → is_same o i p k ≡ true → (order o ≡ order p) × (i ≡ k)
-same-parts o p i k e = (grind (arith, nat_tests), grind (arith, nat_tests))
 
 -- a value put where it stood
 put_same : (test : Object → Bool) (base : Plan) (e : Edit) (o : Object) (i v : ℕ) → (test e.id.object && changes base e) ≡ false →

@@ -1,6 +1,6 @@
 -- The intervals after a tick are what comes of the rings' moves.
 use Rattle.std.proofs.Common.{◌≡◌, ℕ, Bool, true, false, ◌||◌, refl, sym, ◌∙◌}
-use Rattle.std.proofs.lemmas.Bool.{false≢true}
+use Rattle.std.proofs.lemmas.Bool.{false≢true, false_from_ne_true}
 use Rattle.std.proofs.Math.Path.{fun_ext}
 use Rattle.tsb_types.specs.declared.interval.Interval.{Interval}
 use Rattle.tsb_types.specs.declared.interval.Interval.TheVariants.{Red, Green, Yellow, RedClear}
@@ -35,10 +35,6 @@ unfolding moves rings_given is_over
 cleared_was_clearing s row p e =
     over_clears s.plan p (phase_read s p) (interval s p) (clipped_holds (over s) p (clears_over s.plan s.rings (rings_given s row) p e))
 
-not_true : (b : Bool) → (b ≡ true → ⊥) → b ≡ false
-not_true true h = absurd (h refl)
-not_true false h = refl
-
 green_not : (i : Interval) → is_green i ≡ false → is_green i ≡ true → ⊥
 green_not i e h = absurd (false≢true (sym e ∙ h))
 
@@ -46,11 +42,11 @@ clearing_not : (i : Interval) → (is_yellow i || is_red_clear i) ≡ false → 
 clearing_not i e h = absurd (false≢true (sym e ∙ h))
 
 not_ended : (s : State) (row : Row) (p : ℕ) → is_green (interval s p) ≡ false → is_ended (moves s row) p ≡ false
-not_ended s row p e = not_true (is_ended (moves s row) p) (λ h. green_not (interval s p) e (ended_was_green s row p h))
+not_ended s row p e = false_from_ne_true (is_ended (moves s row) p) (λ h. green_not (interval s p) e (ended_was_green s row p h))
 
 not_cleared : (s : State) (row : Row) (p : ℕ) → (is_yellow (interval s p) || is_red_clear (interval s p)) ≡ false →
     is_cleared (moves s row) p ≡ false
-not_cleared s row p e = not_true (is_cleared (moves s row) p) (λ h. clearing_not (interval s p) e (cleared_was_clearing s row p h))
+not_cleared s row p e = false_from_ne_true (is_cleared (moves s row) p) (λ h. clearing_not (interval s p) e (cleared_was_clearing s row p h))
 
 at_interval : (s : State) (row : Row) (p : ℕ) (i : Interval) → interval s p ≡ i →
     new_interval s.plan (moved s row) p (phase_read s p) ≡ interval_after (moves s row) (yellow_done s) (interval s) p

@@ -17,7 +17,7 @@ use Rattle.tsb_step.proofs.EditLemmas.{or_false, kept}
 abbrev same_place : ObjectId → ObjectId → Bool
 same_place a b = is_same a.object a.index b.object b.index
 
-equal_turned : (m n : ℕ) → (m == n) ≡ (n == m)
+pub equal_turned : (m n : ℕ) → (m == n) ≡ (n == m)
 equal_turned m n = grind (arith, nat_tests)
 
 turned : (a b : ObjectId) → same_place a b ≡ same_place b a

@@ -23,21 +23,13 @@ use Rattle.tsb_step.specs.State.{State, Tripped}
 use Rattle.tsb_step.specs.Cells.{cells_of}
 use Rattle.tsb_step.specs.Past.{record_of}
 use Rattle.tsb_step.specs.Quiet.{detectors_waited, waited, IsQuiet}
-
-same_map : (f g : ℕ → ℕ) (a n : ℕ) → ((k : ℕ) → a ≤ k → k < a + n → f k ≡ g k) → map f (run_from a n) ≡ map g (run_from a n)
-unfolding run_from
-same_map f g a zero same = refl
-same_map f g a (suc n) same =
-    let first : f a ≡ g a = same a (omega arith) (omega arith) in
-    let rest : map f (run_from (a + 1) n) ≡ map g (run_from (a + 1) n) =
-    same_map f g (a + 1) n (λ k from below. same k (omega (arith, from)) (omega (arith, below))) in
-    rw (first, rest) refl
+use Rattle.tsb_types.proofs.RunLemmas.{map-same}
 
 -- the cells of timers that ran on
 ran_on : (now : ℕ) (timers : ℕ → Timer) (n : ℕ) →
     map (λ k. timer_cell (now + 1) (advanced (timers k))) (run_from 1 n) ≡ map (λ k. timer_cell now (timers k)) (run_from 1 n)
 ran_on now timers n =
-    same_map (λ k. timer_cell (now + 1) (advanced (timers k))) (λ k. timer_cell now (timers k)) 1 n
+    map-same (λ k. timer_cell (now + 1) (advanced (timers k))) (λ k. timer_cell now (timers k)) 1 n
     (λ k from below. timer_cell-advanced now (timers k))
 
 -- ## Detectors
@@ -57,7 +49,7 @@ keeps_list f test keeps =
 keeps_map : (f : ℕ → Detector) (before after : Detector → ℕ) → ((x : Detector) → after (detector.as_read x) ≡ before x) →
     map (λ d. after (detectors_waited f d)) (run_from 1 16) ≡ map (λ d. before (f d)) (run_from 1 16)
 keeps_map f before after keeps =
-    same_map (λ d. after (detectors_waited f d)) (λ d. before (f d)) 1 16 (λ d from below.
+    map-same (λ d. after (detectors_waited f d)) (λ d. before (f d)) 1 16 (λ d from below.
     ap after (detector_waits f d from below) ∙ keeps (f d))
 
 same_detectors : (now : ℕ) (f : ℕ → Detector) → detectors_cells (now + 1) (detectors_waited f) ≡ detectors_cells now f

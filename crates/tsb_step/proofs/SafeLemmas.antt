@@ -28,6 +28,7 @@ use Rattle.tsb_step.specs.Good.{IsGood}
 use Rattle.tsb_step.proofs.ClipLemmas.{clipped_holds}
 use Rattle.tsb_step.proofs.GivenLemmas.{symmetric}
 use Rattle.tsb_step.proofs.ServiceLemmas.{served}
+use Rattle.tsb_types.proofs.IntervalLemmas.{serves-green}
 
 pub served_together : (s : State) → IsGood s → ServesTogether s
 served_together s good = sound_is_safe s.plan (interval s) s.rings (symmetric s.plan good.plan.rules) good.rings
@@ -50,16 +51,10 @@ shows_walk true DontWalk h e = false≢true h
 shows_walk true Walk h e = cc
 shows_walk true PedestrianClear h e = cc
 
-pub green_serves : (i : Interval) → is_green i ≡ true → in_service i ≡ true
-green_serves Green h = refl
-green_serves Red h = absurd (false≢true h)
-green_serves Yellow h = absurd (false≢true h)
-green_serves RedClear h = absurd (false≢true h)
-
 walks_in_service : (s : State) → IsGood s → (p : ℕ) → lets_walk (pedestrian_head s.plan (shown s) p) ≡ true → in_service (interval s p) ≡ true
 walks_in_service s good p h =
     elim (cases_Bool (is_green (interval s p))) [
-      | inl e ↦ green_serves (interval s p) e
+      | inl e ↦ serves-green (interval s p) e
       | inr e ↦ absurd (shows_walk (has_pedestrian_head s.plan (shown s) p) (pedestrian_part s p) h (good.walks p e))
     ]
 

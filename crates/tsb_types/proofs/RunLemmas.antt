@@ -63,3 +63,11 @@ unfolding run_from
 sum-run_end f a b above =
     let e : b + 1 - a ≡ 0 = omega arith in
     rw e refl
+
+-- two functions that agree on a run have the same list of it
+pub map-same : (f g : ℕ → ℕ) (a n : ℕ) → ((k : ℕ) → a ≤ k → k < a + n → f k ≡ g k) → map f (run_from a n) ≡ map g (run_from a n)
+unfolding run_from
+map-same f g a zero same = refl
+map-same f g a (suc n) same =
+    let rest : map f (run_from (a + 1) n) ≡ map g (run_from (a + 1) n) = map-same f g (a + 1) n (λ k from below. same k (omega arith) (omega arith)) in
+    ap (λ (y : ℕ). y ∷ map f (run_from (a + 1) n)) (same a (omega arith) (omega arith)) ∙ ap (λ (ys : List ℕ). g a ∷ ys) rest

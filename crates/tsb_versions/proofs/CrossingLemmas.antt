@@ -14,6 +14,7 @@ use Rattle.tsb_versions.specs.Widened.{IsNarrow, widened}
 use Rattle.tsb_versions.proofs.ListLemmas.{IsSameOnNarrow, IsBeyondNarrow, first-behind}
 use Rattle.tsb_versions.proofs.PlanLemmas.{first-same, beyond-narrow, not-enabled, not-in_ring, in_ring-narrow, zeros}
 use Rattle.tsb_versions.proofs.WantLemmas.{wide_given, serving-same, concurrent_with-same, want_of-same, pick-same}
+use Rattle.tsb_types.proofs.FirstLemmas.{first-none}
 
 -- ## When a crossing begins
 
@@ -49,11 +50,7 @@ called_on-same plan omitted given narrow none =
     (first-same plan (λ p. given.callable p && is_on_side plan d p) (λ p. given.callable p && is_on_side plan d p) narrow
     (λ p in_it. refl) (λ p out. rw (none p out) refl)))
 
-pub first-never : (test : ℕ → Bool) (ps : List ℕ) → ((p : ℕ) → test p ≡ false) → first test ps ≡ None
-first-never test [] never = refl
-first-never test (p ∷ ps) never = rw (never p) (first-never test ps never)
-
-and-false : (a b : Bool) → b ≡ false → (a && b) ≡ false
+pub and-false : (a b : Bool) → b ≡ false → (a && b) ≡ false
 and-false true b e = e
 and-false false b e = refl
 
@@ -61,7 +58,7 @@ and-false false b e = refl
 never-called : (plan : Plan) (given : Given) (d : ℕ) → IsNarrow plan → 3 ≤ d → is_called_on plan given d ≡ false
 never-called plan given d narrow high =
     ap (λ (o : Option ℕ). is_some o)
-    (first-never (λ p. given.callable p && is_on_side plan d p) (phases plan)
+    (first-none (λ p. given.callable p && is_on_side plan d p) (phases plan)
     (λ p. and-false (given.callable p) (is_on_side plan d p) (other p (narrow.bounded PhaseSide p))))
   where
     other : (p : ℕ) → plan.value PhaseSide p ≤ 2 → (plan.value PhaseSide p == d) ≡ false

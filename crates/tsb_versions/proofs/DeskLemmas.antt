@@ -14,6 +14,7 @@ use Rattle.tsb_transact.specs.declared.edit.Edit.{Edit}
 use Rattle.tsb_transact.specs.Desk.{is_of, has_edit_of, with_edit, with_edits}
 use Rattle.tsb_transact.specs.Commit.{changes, changes_some}
 use Rattle.tsb_versions.specs.Widened.{IsNarrow, is_of_version_1, narrowed, widened_value, widened, widened_id, IsOfTable, AreOfTable, widened_edit}
+use Rattle.tsb_objects.proofs.TableLemmas.{same-tests}
 
 -- ## Indices
 
@@ -43,18 +44,12 @@ row_index-there k e =
 row_index-injective : (i k : ℕ) → 1 ≤ i → 1 ≤ k → row_index i ≡ row_index k → i ≡ k
 row_index-injective i k from at e = sym (row_index-back i from) ∙ ap narrowed e ∙ row_index-back k at
 
--- two tests that say the same each of the other
-iff-same : (a b : Bool) → (a ≡ true → b ≡ true) → (b ≡ true → a ≡ true) → a ≡ b
-iff-same true b f g = sym (f refl)
-iff-same false true f g = g refl
-iff-same false false f g = refl
-
 is-equal : (i k : ℕ) → i ≡ k → (i == k) ≡ true
 is-equal i k e = grind (arith, nat_tests)
 
 row_index-equal : (i k : ℕ) → 1 ≤ i → is_of_version_1 k ≡ true → (row_index i == k) ≡ (i == narrowed k)
 row_index-equal i k from e =
-    iff-same (row_index i == k) (i == narrowed k)
+    same-tests (row_index i == k) (i == narrowed k)
     (λ h. is-equal i (narrowed k) (sym (row_index-back i from) ∙ ap narrowed (eqb-true (row_index i) k h)))
     (λ h. is-equal (row_index i) k (ap row_index (eqb-true i (narrowed k) h) ∙ row_index-there k e))
 

@@ -21,7 +21,8 @@ use Rattle.tsb_heads.specs.Monitoring.{has_right_of_way, are_in_conflict, confli
 use Rattle.tsb_versions.specs.Widened.{IsNarrow, widened, IsLampWithin}
 use Rattle.tsb_versions.proofs.ListLemmas.{is_beyond, IsBeyondNarrow}
 use Rattle.tsb_versions.proofs.PlanLemmas.{first-same, any-same, beyond-bound, beyond-narrow, not-enabled, names-none}
-use Rattle.tsb_versions.proofs.CrossingLemmas.{first-never}
+use Rattle.tsb_types.proofs.FirstLemmas.{first-none}
+use Rattle.tsb_versions.proofs.CrossingLemmas.{and-false}
 
 -- ## Overlaps
 
@@ -122,10 +123,6 @@ field-dark plan s lamp narrow low = laid_over-dark lamp (ordered plan s) low (or
 no_way : (heads : Heads) (p : ℕ) → AreDarkBeyond heads → is_beyond p ≡ true → has_right_of_way heads p ≡ false
 no_way heads p dark out = rw (dark.vehicle p out, dark.pedestrian p out) refl
 
-and-false : (a b : Bool) → b ≡ false → (a && b) ≡ false
-and-false true b e = e
-and-false false b e = refl
-
 conflict_of-same : (plan : Plan) (heads : Heads) (p : ℕ) → IsNarrow plan → AreDarkBeyond heads →
     conflict_of (widened plan) heads p ≡ conflict_of plan heads p
 unfolding conflict_of
@@ -138,7 +135,7 @@ all_dark plan heads p dark out q = and-false (nat_lt p q) _ (rw (no_way heads p 
 
 no-conflict : (plan : Plan) (heads : Heads) (p : ℕ) → AreDarkBeyond heads → is_beyond p ≡ true → conflict_of plan heads p ≡ None
 unfolding conflict_of
-no-conflict plan heads p dark out = first-never (are_in_conflict plan heads p) (phases plan) (all_dark plan heads p dark out)
+no-conflict plan heads p dark out = first-none (are_in_conflict plan heads p) (phases plan) (all_dark plan heads p dark out)
 
 conflict_by-same : (plan : Plan) (heads : Heads) (o : Option ℕ) → IsNarrow plan → AreDarkBeyond heads →
     conflict_by (widened plan) heads o ≡ conflict_by plan heads o

@@ -25,6 +25,7 @@ use Rattle.tsb_versions.specs.Widened.{IsNarrow, widened, widened_id, widened_in
 use Rattle.tsb_versions.proofs.PlanLemmas.{any-same, beyond-narrow}
 use Rattle.tsb_versions.proofs.TickLemmas.{IsNarrowState}
 use Rattle.tsb_versions.proofs.DeskLemmas.{from-one, has_edit_of-same, length-same, changes_some-same}
+use Rattle.tsb_rules.proofs.RuleLemmas.{under}
 
 -- what holds of the objects of version 1 in both tables
 abbrev stands_in_both : Object → Bool
@@ -46,10 +47,6 @@ stands o =
     subst (λ (x : Object). stands_in_both x ≡ true) (at-order o)
     (all-get stands_in_both objects (order o) PhaseEnabled all_stand (rw length-objects (order-below o)))
 
-or-left : (a b : Bool) → (not a || b) ≡ true → a ≡ true → b ≡ true
-or-left true b e on = e
-or-left false b e on = cc
-
 first-of : (b x y : Bool) → (if b then x else y) ≡ true → b ≡ true → x ≡ true
 first-of true x y e on = e
 first-of false x y e on = cc
@@ -66,7 +63,7 @@ record Stands (o : Object) : Type 0 where
 
 stands-parts : (o : Object) → has_object One o ≡ true → Stands o
 stands-parts o has =
-    let all = or-left (has_object One o) _ (stands o) has in
+    let all = under (has_object One o) _ (stands o) has in
     let first = and_parts (indices_for 8 o == indices_in One o) _ all in
     let second = and_parts (greatest_for 8 2 o == greatest_in One o) _ first.1 in
     let third = and_parts (nat_le (greatest_in One o) (greatest_for 16 4 o)) _ second.1 in

@@ -31,11 +31,7 @@ abbrev pub momentary_reduction : Plan → Given → ℕ → Held → Timer
 momentary_reduction plan given p held =
     if given.conflict p && begins_reduction plan given p held then started held.reduction else Off
 
--- four vehicles began it, and are served
-runs_on : reduction_timer plan (waiting 0) 1 (held 200 (On 5) (On 12) (On 5)) ≡ On 5
-unfolding plan run_from cars_waiting reduction_timer
-runs_on = refl
-
+-- four vehicles began it, and are served: by the definition it runs on (`reduction_runs_on`)
 stops : momentary_reduction plan (waiting 0) 1 (held 200 (On 5) (On 12) (On 5)) ≡ Off
 unfolding plan run_from cars_waiting
 stops = refl
@@ -45,11 +41,7 @@ stops = refl
 abbrev pub cars_of_callable : Plan → Given → ℕ
 cars_of_callable plan given = sum_by (λ q. if given.callable q then given.count q else 0) (phases plan)
 
--- 6 is concurrent with 2, and both can go on
-leaves_out_concurrent : cars_waiting quad several 2 ≡ 2
-unfolding quad run_from cars_waiting
-leaves_out_concurrent = refl
-
+-- 6 is concurrent with 2, and both can go on: the definition leaves it out (`cars_of_3_alone`)
 counts_concurrent : cars_of_callable quad several ≡ 7
 unfolding quad run_from
 counts_concurrent = refl
@@ -110,10 +102,7 @@ without_its_vehicle = refl
 
 -- ## A start at its force-off instant is forced
 
-unforced_at_start : (next plan at_instant starts_one 1 (in_red Off)).forced ≡ false
-unfolding plan run_from cars_waiting reduction_timer gap initial
-unforced_at_start = refl
-
+-- by the definition it is not (`starts_unforced`)
 forced_at_start : forced_latch at_instant 1 none_held ≡ true
 forced_at_start = refl
 
@@ -180,10 +169,7 @@ a_maximum = refl
 abbrev pub own_revert_passed : Plan → ℕ → Phase → Bool
 own_revert_passed plan p w = has_passed (red_revert_now plan p w) (plan.value PhaseRedRevert p)
 
-waits_for_unit : red_revert_passed quad 2 (in_red (On 19)) ≡ false
-unfolding quad red_revert_passed
-waits_for_unit = refl
-
+-- the definition waits for the unit's (`before_revert`)
 waits_for_itself : own_revert_passed quad 2 (in_red (On 19)) ≡ true
 unfolding quad
 waits_for_itself = refl
@@ -203,10 +189,7 @@ changes_it = refl
 
 -- ## A gap ends a coordinated phase
 
-waits_for_force_off : is_ready quad coordinated 2 green ≡ false
-unfolding quad run_from cars_waiting reduction_timer gap initial maximum_in_use pedestrian_now is_ready
-waits_for_force_off = refl
-
+-- by the definition it waits for its force-off (`held_green`)
 ends_by_gap : has_timed_out quad coordinated 2 green ≡ true
 unfolding quad run_from cars_waiting reduction_timer gap initial maximum_in_use
 ends_by_gap = refl

@@ -4,7 +4,7 @@ use Rattle.tsb_plan.specs.PlanOf.{plan_of}
 use Rattle.tsb_types.specs.Lists.{run_from}
 use Rattle.tsb_ring.specs.Rings.{serving}
 use Rattle.tsb_ring.proofs.serving.serving.Goals as goal
-use Rattle.tsb_rows.proofs.FirstLemmas.{first-same}
+use Rattle.tsb_types.proofs.FirstLemmas.{first-same}
 
 pub returns : goal.returns
 unfolding checked_plan plan_of serving
