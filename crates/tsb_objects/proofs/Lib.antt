@@ -1,5 +1,5 @@
 pub mod CheckedLemmas
 pub mod PassLemmas
-mod TableLemmas
+pub mod TableLemmas
 mod InstantLemmas
 mod UnionLemmas

@@ -37,7 +37,7 @@ pass-same test other a (suc n) same =
     go true e = refl
     go false e = e
 
-or-false : (b : Bool) → b ≡ (b || false)
+pub or-false : (b : Bool) → b ≡ (b || false)
 or-false true = refl
 or-false false = refl
 

@@ -26,7 +26,7 @@ no-value-behind cells o n behind =
     let outside : has_index o n ≡ false = grind (arith, nat_tests, behind) in
     rw outside (grind (arith, nat_tests))
 
-same-tests : (a b : Bool) → (a ≡ true → b ≡ true) → (b ≡ true → a ≡ true) → a ≡ b
+pub same-tests : (a b : Bool) → (a ≡ true → b ≡ true) → (b ≡ true → a ≡ true) → a ≡ b
 same-tests true b there back = sym (there refl)
 same-tests false true there back = back refl
 same-tests false false there back = refl

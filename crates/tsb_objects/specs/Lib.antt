@@ -1,5 +1,3 @@
--- which plans the bench runs so far
-pub mod Built
 -- when a pattern forces each phase off, on its local counter
 pub mod Instants
 -- the tables of phases and detectors of a checked plan

@@ -5,7 +5,6 @@
 //! choice. Nothing here takes memory.
 #![tactic(auto)]
 
-pub mod built;
 pub mod checked;
 mod detector_tables;
 mod instants;
@@ -14,7 +13,6 @@ mod tables;
 mod union_tables;
 mod unions;
 
-pub use built::is_built;
 pub use checked::Checked;
 pub use tsb_plan::{
     Object, ObjectId, PLAN_CELLS, Plan, Range, SplitMode, Version, is_structural, range_of,

@@ -9,7 +9,7 @@ use Rattle.tsb_plan.specs.Objects.{has_index, greatest}
 use Rattle.tsb_plan.specs.Parts.{unless_zero}
 use Rattle.tsb_plan.specs.PlanOf.{put_refusal}
 use Rattle.tsb_rules.specs.declared.rules.Rule.{Rule}
-use Rattle.tsb_rules.specs.declared.rules.Rule.TheVariants.{K1, K2, K3, K4, K5, K6, K7, K8, K9, K10, K11, K12, K13, K14, K15, K16, K17, K18, K19, K20, K21, K22, NotYet}
+use Rattle.tsb_rules.specs.declared.rules.Rule.TheVariants.{K1, K2, K3, K4, K5, K6, K7, K8, K9, K10, K11, K12, K13, K14, K15, K16, K17, K18, K19, K20, K21, K22}
 use Rattle.tsb_transact.specs.declared.desk_state.DeskState.{DeskState}
 use Rattle.tsb_transact.specs.declared.desk_state.DeskState.TheVariants.{Normal, Transaction, Verify, Done}
 use Rattle.tsb_transact.specs.declared.edit.Edit.{Edit}
@@ -167,34 +167,33 @@ table-value d k place value from c =
     let e : 2 * k + 3 ≡ suc (suc (suc (suc (2 * (k - 1) + 1)))) = omega (arith, from) in
     ap (λ (n : ℕ). slice_index (desk_cells d) n) e ∙ c.value
 
-rule-back : (r : Rule) → r ≢ NotYet → nth_rule rules (rule_cell (Some r)) ≡ Some r
-rule-back K1 h = refl
-rule-back K2 h = refl
-rule-back K3 h = refl
-rule-back K4 h = refl
-rule-back K5 h = refl
-rule-back K6 h = refl
-rule-back K7 h = refl
-rule-back K8 h = refl
-rule-back K9 h = refl
-rule-back K10 h = refl
-rule-back K11 h = refl
-rule-back K12 h = refl
-rule-back K13 h = refl
-rule-back K14 h = refl
-rule-back K15 h = refl
-rule-back K16 h = refl
-rule-back K17 h = refl
-rule-back K18 h = refl
-rule-back K19 h = refl
-rule-back K20 h = refl
-rule-back K21 h = refl
-rule-back K22 h = refl
-rule-back NotYet h = absurd (h refl)
+rule-back : (r : Rule) → nth_rule rules (rule_cell (Some r)) ≡ Some r
+rule-back K1 = refl
+rule-back K2 = refl
+rule-back K3 = refl
+rule-back K4 = refl
+rule-back K5 = refl
+rule-back K6 = refl
+rule-back K7 = refl
+rule-back K8 = refl
+rule-back K9 = refl
+rule-back K10 = refl
+rule-back K11 = refl
+rule-back K12 = refl
+rule-back K13 = refl
+rule-back K14 = refl
+rule-back K15 = refl
+rule-back K16 = refl
+rule-back K17 = refl
+rule-back K18 = refl
+rule-back K19 = refl
+rule-back K20 = refl
+rule-back K21 = refl
+rule-back K22 = refl
 
-rule-read : (r : Option Rule) → r ≢ Some NotYet → nth_rule rules (rule_cell r) ≡ r
-rule-read None h = refl
-rule-read (Some r) h = rule-back r (λ e. h (ap Some e))
+rule-read : (r : Option Rule) → nth_rule rules (rule_cell r) ≡ r
+rule-read None = refl
+rule-read (Some r) = rule-back r
 
 rule-within : (r : Option Rule) → rule_cell r ≤ 22
 rule-within None = omega arith
@@ -220,7 +219,6 @@ rule-within (Some K19) = omega arith
 rule-within (Some K20) = omega arith
 rule-within (Some K21) = omega arith
 rule-within (Some K22) = omega arith
-rule-within (Some NotYet) = omega arith
 
 state-read : (s : DeskState) → state_of (state_cell s) ≡ s
 state-read Normal = refl
@@ -278,7 +276,7 @@ module _ (d : Desk) (r : IsInRange d) where
   read = λ j. record {
     owner = owner-read d.owner r.owner j;
     state = state-read d.state j;
-    rule = rule-read d.rule r.rule j;
+    rule = rule-read d.rule j;
     edits = edits-read j;
   }
 

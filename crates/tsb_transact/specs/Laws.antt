@@ -1,6 +1,5 @@
 -- What holds of the cells of the desk. Each law here is the contract of a function in src/laws.rt, and proved there.
 use Rattle.std.specs.Prelude.{◌≡◌, ◌≢◌, ℕ, ◌≤◌, List, Some, IfSome}
-use Rattle.tsb_rules.specs.declared.rules.Rule.TheVariants.{NotYet}
 use Rattle.tsb_transact.specs.Desk.{Desk, IsSound}
 use Rattle.tsb_transact.specs.Cells.{desk_in, desk_cells, IsBy}
 use Rattle.tsb_transact.specs.Rows.{IsRow}
@@ -9,12 +8,10 @@ use Rattle.tsb_transact.specs.Rows.{IsRow}
 abbrev pub RowsAreTold : Type 0
 RowsAreTold = (row : List ℕ) → IsBy row → desk_cells (desk_in row) ≡ row
 
--- desks that have a table: sound ones, whose owner is one of the four stations, and which keep a rule that a check
--- finds
+-- desks that have a table: sound ones, whose owner is one of the four stations
 pub record IsInRange (desk : Desk) : Type 0 where
   pub sound : IsSound desk
   pub owner : IfSome desk.owner (λ s. (1 ≤ s) × (s ≤ 4))
-  pub rule : desk.rule ≢ Some NotYet
 
 -- the table of a desk in range is a row that a desk allows, and read as that desk
 abbrev pub StatesAreRead : Type 0

@@ -1,6 +1,5 @@
 //! The first cells of the desk: the owner, the state, the rule that a check found broken, and how many edits there are.
 ghost use Rattle.std.specs.Prelude.{◌≡◌, ◌≢◌, ◌≤◌, Some};
-ghost use Rattle.tsb_rules.specs.declared.rules.Rule.TheVariants.{NotYet};
 ghost use Rattle.tsb_transact.specs.Cells.{nth_rule, rules, rule_cell};
 
 use tsb_objects::Rule;
@@ -59,9 +58,8 @@ pub fn rule_of(number: u32) -> Option<Rule>
     }
 }
 
-/// The number of a rule, 1 to 22. No check finds `NotYet`, and it has none.
+/// The number of a rule, 1 to 22.
 pub fn rule_number(rule: Rule) -> u32
-    requires { rule ≢ NotYet }
     ensures cell { result ≡ rule_cell (Some rule) }
     ensures back { nth_rule rules result ≡ Some rule }
     ensures within { result ≤ 22 }
@@ -89,6 +87,5 @@ pub fn rule_number(rule: Rule) -> u32
         Rule::K20 => 20,
         Rule::K21 => 21,
         Rule::K22 => 22,
-        Rule::NotYet => unreachable!(),
     }
 }
