@@ -14,9 +14,7 @@ use Rattle.tsb_phase.specs.Moves.{ended, cleared, started_by, once_ended, once_c
 use Rattle.tsb_phase.specs.Promises.{given_of, IsEnded, KeepsOthers, IsClearing, IsCleared, IsStarted}
 use Rattle.tsb_phase.specs.Cells.{phase_in}
 use Rattle.tsb_controller.specs.Carried.{IsEndedIf, IsClearedIf, IsStartedIf, AreApart, IsCarriedOut, moved_by}
-
-turned : (m n : ℕ) → (m == n) ≡ (n == m)
-turned m n = grind (arith, nat_tests)
+use Rattle.tsb_step.proofs.OnceLemmas.{equal_turned}
 
 pub ended-some : (p now : ℕ) (timing : Timing) (c : Conditions) (plan : Plan) (old new : List ℕ) →
     IsEnded p now timing c plan old new → KeepsOthers p old new → IsEndedIf (Some p) now timing c plan old new
@@ -24,14 +22,14 @@ ended-some p now timing c plan old new done others q from to =
     elim (cases_Bool (p == q)) [
       | inl same ↦ (let e : p ≡ q = eqb-true p q same in
           rw same (subst (λ (x : ℕ). IsEnded x now timing c plan old new) e done))
-      | inr apart ↦ rw apart (others now q from to (turned q p ∙ apart))
+      | inr apart ↦ rw apart (others now q from to (equal_turned q p ∙ apart))
     ]
 
 pub cleared-some : (p : ℕ) (old new : List ℕ) → IsCleared p old new → KeepsOthers p old new → IsClearedIf (Some p) old new
 cleared-some p old new done others now q from to =
     elim (cases_Bool (p == q)) [
       | inl same ↦ (let e : p ≡ q = eqb-true p q same in rw same (subst (λ (x : ℕ). IsCleared x old new) e done now))
-      | inr apart ↦ rw apart (others now q from to (turned q p ∙ apart))
+      | inr apart ↦ rw apart (others now q from to (equal_turned q p ∙ apart))
     ]
 
 pub started-some : (p now : ℕ) (c : Conditions) (plan : Plan) (old new : List ℕ) →
@@ -40,7 +38,7 @@ started-some p now c plan old new done others q from to =
     elim (cases_Bool (p == q)) [
       | inl same ↦ (let e : p ≡ q = eqb-true p q same in
           rw same (subst (λ (x : ℕ). IsStarted x now c plan old new) e done))
-      | inr apart ↦ rw apart (others now q from to (turned q p ∙ apart))
+      | inr apart ↦ rw apart (others now q from to (equal_turned q p ∙ apart))
     ]
 
 -- two calls, of phases that are not the same
@@ -116,7 +114,3 @@ carried m now timing c plan r0 r1 r2 r3 r4 r5 r6 apart one two three four five s
 pub or_first : (a b : Bool) → a ≡ true → (a || b) ≡ true
 or_first true b h = refl
 or_first false b h = absurd cc
-
-pub or_second : (a b : Bool) → b ≡ true → (a || b) ≡ true
-or_second true b h = refl
-or_second false b h = h

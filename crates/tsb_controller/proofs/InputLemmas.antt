@@ -30,7 +30,7 @@ use Rattle.tsb_preempt.specs.Laws.{IsOff}
 use Rattle.tsb_preempt.specs.Promises as preempts
 use Rattle.tsb_preempt.specs.Service.{has_dwell}
 use Rattle.tsb_preempt.proofs.StateLemmas.{all-same, off-outside}
-use Rattle.tsb_controller.proofs.TickLemmas.{at-rest}
+use Rattle.tsb_phase.proofs.StateLemmas.{outside as at-rest}
 
 -- ## Rows that say the same of 1 to 16, and of nothing else
 

@@ -2,9 +2,14 @@ mod CarryLemmas
 mod PlacedLemmas
 mod MovesLemmas
 mod TickLemmas
+mod PassLemmas
+mod StillLemmas
+mod SameLemmas
 mod PartLemmas
 mod InputLemmas
 mod WatchLemmas
 mod FewLemmas
-mod PlanLemmas
-mod WholeLemmas
+pub mod WholeLemmas
+pub mod ChangeLemmas
+mod CauseLemmas
+mod ReaderLemmas

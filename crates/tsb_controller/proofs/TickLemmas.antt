@@ -75,10 +75,11 @@ use Rattle.tsb_controller.specs.Found.{observed, for_rings, IsSensed, IsMoved, A
 use Rattle.tsb_controller.specs.Promises.{IsTicked}
 use Rattle.tsb_controller.specs.Rows.{Rows, AreBy, untripped, state_of}
 use Rattle.tsb_controller.proofs.PlacedLemmas.{IsPlaced, for_calls, within}
+use Rattle.tsb_phase.proofs.StateLemmas.{outside as at-rest}
 
 -- ## Words
 
-green-set : (i : Intervals) (p : ℕ) → has i.green p ≡ is_green (interval_of i p)
+pub green-set : (i : Intervals) (p : ℕ) → has i.green p ≡ is_green (interval_of i p)
 green-set i p = go (has i.green p) (has i.yellow p) (has i.red_clear p) refl refl refl
   where
     go : (g y r : Bool) → has i.green p ≡ g → has i.yellow p ≡ y → has i.red_clear p ≡ r → has i.green p ≡ is_green (interval_of i p)
@@ -88,14 +89,14 @@ green-set i p = go (has i.green p) (has i.yellow p) (has i.red_clear p) refl ref
     go false false false e f h = rw (e, f, h) refl
 
 -- the interval timer that tick `now` reads
-timer-read : (now : ℕ) (row : List ℕ) (p : ℕ) → 1 ≤ now → 1 ≤ p → p ≤ 16 → phase_cells.IsBy (now - 1) row →
+pub timer-read : (now : ℕ) (row : List ℕ) (p : ℕ) → 1 ≤ now → 1 ≤ p → p ≤ 16 → phase_cells.IsBy (now - 1) row →
     (phase_in now row p).timer ≡ (as_read (phase_in (now - 1) row p)).timer
 unfolding phase_in
 timer-read now row p one from to by =
     rw (is_phase_from p from to) (timer_at-this now (slice_index row (8 + p)) one (by.each p from to).timer)
 
 -- the green timer of the phase that a detector calls, as of all phases
-called-green : (t : State) (o : Option ℕ) → of_called (λ p. tick.green_timer t (Some p)) o ≡ tick.green_timer t o
+pub called-green : (t : State) (o : Option ℕ) → of_called (λ p. tick.green_timer t (Some p)) o ≡ tick.green_timer t o
 called-green t None = refl
 called-green t (Some p) = refl
 
@@ -106,19 +107,14 @@ same-targets a b e = subst (AgreeOnTargets a) e (own a)
     own None = tt
     own (Some f) = λ p from to. refl
 
-alike-own : (m : Memories) → calls_looks.AreAlike m m
+pub alike-own : (m : Memories) → calls_looks.AreAlike m m
 alike-own m = record { vehicle = λ p from to. refl; pedestrian = λ p from to. refl; count = λ p from to. refl }
 
--- a phase that is none of 1 to 16 is as at power-up, and stays so
-pub at-rest : (now : ℕ) (row : List ℕ) (p : ℕ) → is_phase p ≡ false → phase_in now row p ≡ at_power_up
-unfolding phase_in
-at-rest now row p out = rw out refl
-
-stays : (plan : Plan) (g : phase.Given) (m : phase.Moved) (p : ℕ) (was : Phase) → was ≡ at_power_up → m.starts p ≡ false → m.ends p ≡ false →
+pub stays : (plan : Plan) (g : phase.Given) (m : phase.Moved) (p : ℕ) (was : Phase) → was ≡ at_power_up → m.starts p ≡ false → m.ends p ≡ false →
     phase_next.next plan g m p was ≡ at_power_up
 stays plan g m p was e starts ends = rw (e, starts, ends) refl
 
-outside : (b : Bool) (p : ℕ) → is_phase p ≡ false → (b ≡ true → (1 ≤ p) × (p ≤ 16)) → b ≡ false
+pub outside : (b : Bool) (p : ℕ) → is_phase p ≡ false → (b ≡ true → (1 ≤ p) × (p ≤ 16)) → b ≡ false
 outside false p out known = refl
 outside true p out known =
     let at = known refl in absurd (true≢false (sym (is_phase_from p at.0 at.1) ∙ out))

@@ -12,7 +12,7 @@ use Rattle.tsb_heads.specs.Laws.{AreAlike, ShowAlike}
 use Rattle.tsb_heads.specs.Monitoring.{judge}
 use Rattle.tsb_heads.specs.Promises.{IsSame, IsLaidOver, IsJudged}
 use Rattle.tsb_heads.specs.Reading.{shown_by, commitment_of, heads_of, heads_of_field}
-use Rattle.tsb_heads.proofs.OwnLemmas.{displays-own, fields-told, judge-same}
+use Rattle.tsb_heads.proofs.OwnLemmas.{displays-own, fields-told, judge-same, same-both}
 use Rattle.tsb_transact.specs.Desk.{Desk}
 use Rattle.tsb_step.specs.Signs.{display, field, shown, watched}
 use Rattle.tsb_step.specs.State.{State}
@@ -31,17 +31,10 @@ alike plan tripped rows d it now b trips = record {
   tripped = sym trips;
 }
 
-same-shown : (f g h : Heads) → IsSame f g → IsSame g h → IsSame f h
-same-shown f g h one two = record {
-  vehicle = λ p from to. one.vehicle p from to ∙ two.vehicle p from to;
-  pedestrian = λ p from to. one.pedestrian p from to ∙ two.pedestrian p from to;
-  overlap = λ o from to. one.overlap o from to ∙ two.overlap o from to;
-}
-
 pub displayed : (plan : Plan) (tripped : Bool) (rows : Rows) (d : Display) → plan.phase_count ≤ 16 → IsShown plan tripped rows d → ShowsDisplay plan tripped rows d
 unfolding display
 displayed plan tripped rows d count it now b same trips =
-    same-shown (heads_of d) (heads.display plan (shown_by it.intervals it.pedestrians it.ring_1 it.ring_2 tripped)) (display (state_of now b rows)) it.displayed
+    same-both (heads_of d) (heads.display plan (shown_by it.intervals it.pedestrians it.ring_1 it.ring_2 tripped)) (display (state_of now b rows)) it.displayed
     (rw same (displays-own plan (shown_by it.intervals it.pedestrians it.ring_1 it.ring_2 tripped) (shown (state_of now b rows)) count (alike plan tripped rows d it now b trips)))
 
 pub fielded : (plan : Plan) (lamp : Option Lamp) (rows : Rows) (d : Display) (f : Field) → plan.phase_count ≤ 16 → IsShown plan false rows d → IsLaidOver d lamp f → ShowsField plan lamp rows f

@@ -28,7 +28,7 @@ use Rattle.tsb_step.specs.Step.{kind_of}
 use Rattle.tsb_step.proofs.MonitorLemmas as monitor
 use Rattle.tsb_controller.specs.Whole.{All, AreFull, AreAllBy, whole, all_in, all_changes, all_put_back, RowsAreTold, RecordsAreJoined, RecordsGoBack, RecordsGiveBack, RecordsAreFew}
 use Rattle.tsb_controller.proofs.FewLemmas.{few}
-use Rattle.tsb_controller.proofs.PlanLemmas.{plan_cells-plan_in}
+use Rattle.tsb_plan.proofs.ToldLemmas.{plan_cells-plan_in}
 
 pub full : (now : ℕ) (a : All) → AreAllBy now a → AreFull a
 full now a by = record {
@@ -301,7 +301,27 @@ module _ (a : All) (long : AreFull a) where
     trip = trip_in (monitor-read i);
   }
 
-back-full : (a : All) (es : List (ℕ × ℕ)) → AreFull a → AreFull (all_put_back a es)
+-- the same row of two that are the same
+same-row : (w at : ℕ) (xs ys vs ws : List ℕ) → row_at w vs at ≡ xs → row_at w ws at ≡ ys → vs ≡ ws → xs ≡ ys
+same-row w at xs ys vs ws one two same = sym one ∙ ap (λ (row : List ℕ). row_at w row at) same ∙ two
+
+-- rows that are the same in one row are the same
+pub whole-same : (a b : All) → AreFull a → AreFull b → whole a ≡ whole b → a ≡ b
+whole-same a b long also same = λ i. record {
+  plan = same-row 1230 0 a.plan b.plan (whole a) (whole b) (plan-read a long) (plan-read b also) same i;
+  desk = same-row 132 1230 a.desk b.desk (whole a) (whole b) (desk-read a long) (desk-read b also) same i;
+  layers = record {
+    detectors = same-row 54 1362 a.layers.detectors b.layers.detectors (whole a) (whole b) (detectors-read a long) (detectors-read b also) same i;
+    calls = same-row 18 1416 a.layers.calls b.layers.calls (whole a) (whole b) (calls-read a long) (calls-read b also) same i;
+    phases = same-row 121 1434 a.layers.phases b.layers.phases (whole a) (whole b) (phases-read a long) (phases-read b also) same i;
+    rings = same-row 6 1555 a.layers.rings b.layers.rings (whole a) (whole b) (rings-read a long) (rings-read b also) same i;
+    pattern = same-row 1 1561 a.layers.pattern b.layers.pattern (whole a) (whole b) (pattern-read a long) (pattern-read b also) same i;
+    preempts = same-row 10 1562 a.layers.preempts b.layers.preempts (whole a) (whole b) (preempts-read a long) (preempts-read b also) same i;
+  };
+  monitor = same-row 7 1572 a.monitor b.monitor (whole a) (whole b) (monitor-read a long) (monitor-read b also) same i;
+}
+
+pub back-full : (a : All) (es : List (ℕ × ℕ)) → AreFull a → AreFull (all_put_back a es)
 back-full a es long = record {
   plan = length-apply_diff a.plan (part 0 1230 es) ∙ long.plan;
   desk = length-apply_diff a.desk (part 1230 132 es) ∙ long.desk;

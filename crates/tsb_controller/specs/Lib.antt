@@ -12,5 +12,7 @@ pub mod Records
 pub mod Shown
 -- the clauses of the public calls of `Controller`
 pub mod Promises
+-- ticks that may be passed over: up to which one all layers stay as they are
+pub mod Passing
 -- the rows of the whole bench, with plan, desk and monitor, and laws of records over them
 pub mod Whole

@@ -1,9 +1,15 @@
 -- The contracts of the public calls of `Controller`, clause by clause, over its rows: `old` before a call, `new` after
 -- it.
 use Rattle.std.specs.Prelude.{◌≡◌, ℕ, ◌-◌, Bool, Option, None, is_some, option_map}
+use Rattle.tsb_types.specs.declared.interval.Interval.{Interval}
+use Rattle.tsb_types.specs.declared.interval.PedestrianInterval.{PedestrianInterval}
 use Rattle.tsb_types.specs.declared.lamp.Lamp.{Lamp}
 use Rattle.tsb_types.specs.declared.row.Row.{Row}
+use Rattle.tsb_types.specs.declared.stage.Stage.{Stage}
 use Rattle.tsb_plan.specs.Plan.{Plan}
+use Rattle.tsb_objects.specs.declared.checked.Checked.{Checked}
+use Rattle.tsb_objects.specs.Checked.{checked_plan}
+use Rattle.tsb_detect.specs.declared.alarm.Alarm.{Alarm}
 use Rattle.tsb_ring.specs.Rings.{forgotten}
 use Rattle.tsb_heads.specs.declared.display.Display.{Display}
 use Rattle.tsb_heads.specs.declared.field.Field.{Field}
@@ -12,9 +18,9 @@ use Rattle.tsb_heads.specs.Promises.{IsSame}
 use Rattle.tsb_heads.specs.Reading.{heads_of, heads_of_field}
 use Rattle.tsb_transact.specs.Desk.{Desk, closed}
 use Rattle.tsb_step.specs.Cells.{clock_at}
-use Rattle.tsb_step.specs.Signs.{display, field}
-use Rattle.tsb_step.specs.State.{start, restarted}
-use Rattle.tsb_step.specs.Step.{ticked, with_pattern, with_switch, with_lamp}
+use Rattle.tsb_step.specs.Signs.{display, field, local, stage}
+use Rattle.tsb_step.specs.State.{start, restarted, interval, pedestrian_part}
+use Rattle.tsb_step.specs.Step.{ticked, with_pattern, with_switch, with_lamp, is_serving}
 use Rattle.tsb_step.specs.Tick.{next}
 use Rattle.tsb_controller.specs.Rows.{Rows, Beside, AreBy, untripped, state_of}
 
@@ -77,3 +83,42 @@ IsForgotten old new = (now : ℕ) (b : Beside) →
 -- clause `by`: rows that the layers can hold at a tick stay such
 abbrev pub KeepsBy : Rows → Rows → Type 0
 KeepsBy old new = (now : ℕ) → AreBy now old → AreBy now new
+
+-- ## Calls that tell, at whatever tick, whatever stands beside the rows
+
+-- `is_serving()`: in every plan that is checked
+abbrev pub TellsServing : Rows → Bool → Type 0
+TellsServing rows result = (now : ℕ) (b : Beside) (checked : Checked) → b.plan ≡ checked_plan checked →
+    result ≡ is_serving (state_of now b rows)
+
+-- `is_preempted()`: a preempt is in service
+abbrev pub TellsPreempted : Rows → Bool → Type 0
+TellsPreempted rows result = (now : ℕ) (b : Beside) → result ≡ is_some (state_of now b rows).preempts.service
+
+-- `interval(p)`
+abbrev pub TellsInterval : Rows → ℕ → Interval → Type 0
+TellsInterval rows p result = (now : ℕ) (b : Beside) → result ≡ interval (state_of now b rows) p
+
+-- `pedestrian(p)`
+abbrev pub TellsPedestrian : Rows → ℕ → PedestrianInterval → Type 0
+TellsPedestrian rows p result = (now : ℕ) (b : Beside) → result ≡ pedestrian_part (state_of now b rows) p
+
+-- `calls_vehicle(p)`: the vehicle memory of phase p
+abbrev pub TellsVehicleCall : Rows → ℕ → Bool → Type 0
+TellsVehicleCall rows p result = (now : ℕ) (b : Beside) → result ≡ (state_of now b rows).memories.vehicle p
+
+-- `output(d)`, of a vehicle detector
+abbrev pub TellsOutput : Rows → ℕ → Bool → Type 0
+TellsOutput rows d result = (now : ℕ) (b : Beside) → result ≡ ((state_of now b rows).detectors d).output
+
+-- `alarm(d)`: the diagnostic that stands against it, if any
+abbrev pub TellsAlarm : Rows → ℕ → Option Alarm → Type 0
+TellsAlarm rows d result = (now : ℕ) (b : Beside) → result ≡ ((state_of now b rows).detectors d).alarm
+
+-- `stage()`
+abbrev pub TellsStage : Rows → Option (ℕ × Stage) → Type 0
+TellsStage rows result = (now : ℕ) (b : Beside) → result ≡ stage (state_of now b rows)
+
+-- `local(now, plan)`: the local counter at tick number `now`, also of a controller that has tripped
+abbrev pub TellsLocal : ℕ → Plan → Rows → Option ℕ → Type 0
+TellsLocal now plan rows result = (b : Beside) → b.plan ≡ plan → result ≡ local (state_of now b rows)

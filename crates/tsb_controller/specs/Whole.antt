@@ -1,8 +1,9 @@
 -- All rows of the bench side by side, and the state that is read in them; and laws of records over them, each the
 -- contract of a function in src/laws.rt that does nothing.
-use Rattle.std.specs.Prelude.{◌≡◌, ℕ, ◌-◌, List, ◌++◌, length}
+use Rattle.std.specs.Prelude.{◌≡◌, ℕ, ◌-◌, ◌≤◌, List, [], ◌++◌, length}
 use Rattle.tsb_cells.specs.Diff.{diff, apply_diff, part, shifted, AreWithin}
 use Rattle.tsb_history.specs.History.{Change}
+use Rattle.tsb_plan.specs.declared.object.TheConstants.{PLAN_CELLS}
 use Rattle.tsb_plan.specs.PlanOf.{plan_in}
 use Rattle.tsb_transact.specs.Cells as desk
 use Rattle.tsb_transact.specs.Cells.{desk_in}
@@ -13,6 +14,7 @@ use Rattle.tsb_step.specs.MonitorLaws.{IsMonitorBy}
 use Rattle.tsb_step.specs.Past.{record_of, undone, ticks_of}
 use Rattle.tsb_step.specs.State.{State}
 use Rattle.tsb_step.specs.Step.{kind_of}
+use Rattle.tsb_controller.specs.declared.first_cell.TheConstants.{DESK, MONITOR}
 use Rattle.tsb_controller.specs.Records.{changes, put_back, HasFew}
 use Rattle.tsb_controller.specs.Rows.{Rows, AreBy, state_of}
 
@@ -31,7 +33,7 @@ whole a =
 
 -- each row has as many cells as it should: 1579 in all
 pub record AreFull (a : All) : Type 0 where
-  pub plan : length a.plan ≡ 1230
+  pub plan : length a.plan ≡ PLAN_CELLS
   pub desk : length a.desk ≡ 132
   pub detectors : length a.layers.detectors ≡ 54
   pub calls : length a.layers.calls ≡ 18
@@ -48,7 +50,7 @@ all_in now a = state_of now (record { plan = plan_in a.plan; desk = desk_in a.de
 -- rows that the bench can hold at tick number `now`; in a controller that has tripped timers stand at the tick of the
 -- trip
 pub record AreAllBy (now : ℕ) (a : All) : Type 0 where
-  pub plan : length a.plan ≡ 1230
+  pub plan : length a.plan ≡ PLAN_CELLS
   pub desk : desk.IsBy a.desk
   pub layers : AreBy (clock_at now (trip_in a.monitor)) a.layers
   pub monitor : IsMonitorBy now a.monitor
@@ -56,15 +58,15 @@ pub record AreAllBy (now : ℕ) (a : All) : Type 0 where
 -- the cells that differ, each by its number among all 1579, with what it held before
 abbrev pub all_changes : All → All → List (ℕ × ℕ)
 all_changes old new =
-    diff old.plan new.plan ++ (shifted 1230 (diff old.desk new.desk) ++ (changes old.layers new.layers ++ shifted 1572 (diff old.monitor new.monitor)))
+    diff old.plan new.plan ++ (shifted DESK (diff old.desk new.desk) ++ (changes old.layers new.layers ++ shifted MONITOR (diff old.monitor new.monitor)))
 
 -- the rows with what a record says put back
 abbrev pub all_put_back : All → List (ℕ × ℕ) → All
 all_put_back a es = record {
-  plan = apply_diff a.plan (part 0 1230 es);
-  desk = apply_diff a.desk (part 1230 132 es);
+  plan = apply_diff a.plan (part 0 PLAN_CELLS es);
+  desk = apply_diff a.desk (part DESK 132 es);
   layers = put_back a.layers es;
-  monitor = apply_diff a.monitor (part 1572 7 es);
+  monitor = apply_diff a.monitor (part MONITOR 7 es);
 }
 
 -- ## Laws
@@ -91,3 +93,40 @@ RecordsGiveBack = (i : Input) (m n : ℕ) (old new : All) → AreAllBy m old →
 -- and no record has more entries of any cells than there are of these, as `Controller::undo` asks
 abbrev pub RecordsAreFew : Type 0
 RecordsAreFew = (i : Input) (before after : State) → HasFew (record_of i before after).entries
+
+-- ## Laws of the cells that differ
+
+-- put back into the rows after a change, they give the rows before it
+abbrev pub RowsGoBack : Type 0
+RowsGoBack = (m n : ℕ) (old new : All) → AreAllBy m old → AreAllBy n new → all_put_back new (all_changes old new) ≡ old
+
+-- each has one of the 1579 numbers
+abbrev pub EntriesAreWithin : Type 0
+EntriesAreWithin = (m n : ℕ) (old new : All) → AreAllBy m old → AreAllBy n new → AreWithin 1579 (all_changes old new)
+
+-- and there are no more of them among any cells than there are of these
+abbrev pub ChangesAreFew : Type 0
+ChangesAreFew = (m n : ℕ) (old new : All) → AreAllBy m old → AreAllBy n new → HasFew (all_changes old new)
+
+-- rows of the layers that can be at a tick can be at each later one
+abbrev pub RowsStay : Type 0
+RowsStay = (m n : ℕ) (r : Rows) → m ≤ n → AreBy m r → AreBy n r
+
+-- where nothing changed nothing differs
+abbrev pub NothingDiffers : Type 0
+NothingDiffers = (a : All) → all_changes a a ≡ []
+
+-- where plan and desk stayed, as in a tick
+abbrev pub ChangesOfTheLayers : Type 0
+ChangesOfTheLayers = (a b : All) → a.plan ≡ b.plan → a.desk ≡ b.desk →
+    all_changes a b ≡ changes a.layers b.layers ++ shifted MONITOR (diff a.monitor b.monitor)
+
+-- where only the desk changed, as where a station edits
+abbrev pub ChangesOfTheDesk : Type 0
+ChangesOfTheDesk = (a b : All) → a.plan ≡ b.plan → a.layers ≡ b.layers → a.monitor ≡ b.monitor →
+    all_changes a b ≡ shifted DESK (diff a.desk b.desk)
+
+-- where the monitor stayed, as in a commit
+abbrev pub ChangesOfACommit : Type 0
+ChangesOfACommit = (a b : All) → a.monitor ≡ b.monitor →
+    all_changes a b ≡ diff a.plan b.plan ++ (shifted DESK (diff a.desk b.desk) ++ changes a.layers b.layers)

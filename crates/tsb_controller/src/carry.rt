@@ -95,7 +95,7 @@ fn start_some(
 
 /// Carries out the moves of tick `now`, behind the phases' own tick, which told `timing` by `conditions`: greens end,
 /// phases that are over go Red, and phases start. The rings end and clear different phases.
-pub fn carry_out(
+pub(crate) fn carry_out(
     phases: &mut Phases,
     moves: &Moves,
     now: u32,

@@ -1,6 +1,6 @@
 //! What holds of the rows of all layers side by side, with those of the plan, the desk and the monitor, each law the
 //! contract of a function that does nothing.
-ghost use Rattle.tsb_controller.specs.Whole.{RowsAreTold, RecordsAreJoined, RecordsGoBack, RecordsGiveBack, RecordsAreFew};
+ghost use Rattle.tsb_controller.specs.Whole.{RowsAreTold, RecordsAreJoined, RecordsGoBack, RecordsGiveBack, RecordsAreFew, RowsGoBack, EntriesAreWithin, ChangesAreFew, RowsStay, NothingDiffers, ChangesOfTheLayers, ChangesOfTheDesk, ChangesOfACommit};
 
 /// Rows that the bench can hold at a tick are the cells of the state that is read in them.
 pub fn rows_are_told()
@@ -31,3 +31,24 @@ pub fn records_give_back()
 {
     tsb_transact::laws::rows_are_told();
 }
+
+/// What differs between two lots of rows, put back into the later ones, gives the earlier ones; it names cells of the
+/// bench alone, and no more of any cells than there are of these.
+pub fn rows_go_back()
+    ensures back { RowsGoBack }
+    ensures within { EntriesAreWithin }
+    ensures few { ChangesAreFew }
+{}
+
+/// Rows of the layers that can be at a tick can be at each later one.
+pub fn rows_stay_by()
+    ensures { RowsStay }
+{}
+
+/// What differs is what differs in the rows that changed.
+pub fn changes_are_of_rows()
+    ensures none { NothingDiffers }
+    ensures layers { ChangesOfTheLayers }
+    ensures desk { ChangesOfTheDesk }
+    ensures commit { ChangesOfACommit }
+{}

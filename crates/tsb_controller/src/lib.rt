@@ -8,10 +8,14 @@
 
 mod carry;
 pub mod controller;
+pub mod first_cell;
 mod inputs;
 pub mod laws;
+pub mod passing;
+mod readers;
 mod record;
 mod values;
 mod watch;
 
 pub use controller::Controller;
+pub use record::part_of;

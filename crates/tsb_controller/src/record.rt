@@ -5,27 +5,10 @@ ghost use Rattle.tsb_cells.specs.Diff.{part};
 ghost use Rattle.tsb_controller.specs.Records.{changes, put_back, HasFew};
 
 use crate::controller::Controller;
+use crate::first_cell::{CALLS, COORD, DETECTORS, PHASES, PREEMPTS, RINGS};
 use arrayvec::ArrayVec;
 use tsb_cells::{Diff, Reversible};
 use tsb_history::Record;
-
-/// The number of the detectors' first cell among all cells of the bench: those of the plan and the desk come before.
-const DETECTORS: u16 = 1362;
-
-/// The number of the calls' first cell.
-const CALLS: u16 = 1416;
-
-/// The number of the phases' first cell.
-const PHASES: u16 = 1434;
-
-/// The number of the rings' first cell.
-const RINGS: u16 = 1555;
-
-/// The number of coordination's cell.
-const COORD: u16 = 1561;
-
-/// The number of the preempts' first cell.
-const PREEMPTS: u16 = 1562;
 
 /// Whether it is one of the `count` cells from `offset` on.
 fn is_one_of(cell: u16, offset: u16, count: usize) -> bool
@@ -37,7 +20,7 @@ fn is_one_of(cell: u16, offset: u16, count: usize) -> bool
 }
 
 /// The record's entries of the `N` cells from `offset` on, numbered from 0.
-fn part_of<const N: usize>(change: &Record<'_>, offset: u16) -> Diff<N>
+pub fn part_of<const N: usize>(change: &Record<'_>, offset: u16) -> Diff<N>
     requires fits { offset + N ≤ 65536 }
     requires few { length (part offset N change.now.entries) ≤ N }
     ensures { result.items ≡ part offset N change.now.entries }

@@ -16,35 +16,35 @@ use tsb_preempt::PreemptOrders;
 
 /// What a tick finds before the calls.
 #[derive(Clone, Copy, Debug)]
-pub struct Sensed {
+pub(crate) struct Sensed {
     /// The intervals before the tick.
-    pub intervals: Intervals,
+    pub(crate) intervals: Intervals,
     /// The pedestrian parts before the tick.
-    pub pedestrians: Pedestrians,
+    pub(crate) pedestrians: Pedestrians,
     /// Vehicle detectors whose output is on.
-    pub outputs: NumberSet,
+    pub(crate) outputs: NumberSet,
     /// Vehicle detectors whose output rose.
-    pub actuated: NumberSet,
+    pub(crate) actuated: NumberSet,
     /// What preemption asks of the phases.
-    pub asked: PreemptOrders,
+    pub(crate) asked: PreemptOrders,
     /// The preempt in service.
-    pub service: Option<Preempt>,
+    pub(crate) service: Option<Preempt>,
     /// What coordination asks of the phases.
-    pub coordination: Coordination,
+    pub(crate) coordination: Coordination,
 }
 
 /// What phase timing tells of a tick, and what the rings did.
 #[derive(Clone, Copy, Debug)]
-pub struct Movement {
+pub(crate) struct Movement {
     /// Which times of phases have passed.
-    pub timing: Timing,
+    pub(crate) timing: Timing,
     /// What the rings did.
-    pub moves: Moves,
+    pub(crate) moves: Moves,
 }
 
 impl Sensed {
     /// What the calls are found from.
-    pub fn observed(&self, row: &Row) -> Observed
+    pub(crate) fn observed(&self, row: &Row) -> Observed
         ensures { result ≡ observed row.now self.now }
     {
         Observed {
@@ -73,7 +73,7 @@ impl Sensed {
     }
 
     /// What phase timing is told, with the vehicles that phases 1 to 16 have counted, in turn.
-    pub fn conditions<'a>(&self, called: &Called, counts: &'a [u32]) -> Conditions<'a>
+    pub(crate) fn conditions<'a>(&self, called: &Called, counts: &'a [u32]) -> Conditions<'a>
         requires full { length counts.now ≡ 16 }
         requires small { AreCounts counts.now }
         ensures { AreConditions self.now called.now counts.now result }
@@ -88,7 +88,7 @@ impl Sensed {
     }
 
     /// What the rings decide from.
-    pub fn for_rings(&self, called: &Called, timing: &Timing) -> tsb_ring::Conditions
+    pub(crate) fn for_rings(&self, called: &Called, timing: &Timing) -> tsb_ring::Conditions
         ensures { result ≡ for_rings self.now called.now timing.now }
     {
         tsb_ring::Conditions {
@@ -101,7 +101,7 @@ impl Sensed {
     }
 
     /// What the calls are told that the rings did.
-    pub fn decided(&self, called: &Called, movement: &Movement) -> Decided
+    pub(crate) fn decided(&self, called: &Called, movement: &Movement) -> Decided
         ensures { AreDecided self.now called.now movement.now result }
     {
         Decided {
@@ -129,7 +129,7 @@ fn either(first: Option<Phase>, second: Option<Phase>) -> PhaseSet
 }
 
 /// The preempt of a stage.
-pub fn preempt_of(stage: Option<(Preempt, Stage)>) -> Option<Preempt>
+pub(crate) fn preempt_of(stage: Option<(Preempt, Stage)>) -> Option<Preempt>
     ensures { result ≡ option_map (λ x. x.0) stage }
 {
     match stage {

@@ -1,8 +1,9 @@
 //! What the heads show, and the inputs that the monitor judges: a tick and a fault.
-ghost use Rattle.std.specs.Prelude.{◌≡◌, ◌-◌, ◌≤◌, false};
+ghost use Rattle.std.specs.Prelude.{◌≡◌, ◌-◌, ◌≤◌, false, IfSome};
 ghost use Rattle.tsb_objects.specs.Checked.{checked_plan};
 ghost use Rattle.tsb_ring.specs.Cells as rings;
 ghost use Rattle.tsb_heads.specs.Promises.{Flashes, AreApart};
+ghost use Rattle.tsb_step.specs.MonitorLaws.{IsCause};
 ghost use Rattle.tsb_controller.specs.Rows.{AreBy};
 ghost use Rattle.tsb_controller.specs.Shown.{IsShown};
 ghost use Rattle.tsb_controller.specs.Promises.{ShowsDisplay, ShowsField, IsWatchedTick, IsLit};
@@ -61,6 +62,7 @@ impl Controller {
         requires in_time { now ≤ 6000000 }
         requires by { AreBy (now - 1) (rows_of self.old) }
         ensures state { IsWatchedTick now row.now lamp.now (checked_plan plan.now) (rows_of self.old) (rows_of self.new) result }
+        ensures cause { IfSome result IsCause }
         ensures by { AreBy now (rows_of self.new) }
         ensures kept { kept_of self.new ≡ kept_of self.old }
         ensures opened { IsOpen self.new }
@@ -74,7 +76,8 @@ impl Controller {
     /// controller, which has not tripped, trips, if it does.
     pub fn light(&self, was: &Option<Lamp>, lamp: &Option<Lamp>, plan: &Checked) -> Option<Trip>
         requires rings_by { rings.IsBy (rows_of self.now).rings }
-        ensures { IsLit was.now lamp.now (checked_plan plan.now) (rows_of self.now) result }
+        ensures state { IsLit was.now lamp.now (checked_plan plan.now) (rows_of self.now) result }
+        ensures cause { IfSome result IsCause }
     {
         Monitor::judge(&self.field(was, plan), &self.field(lamp, plan), plan)
     }

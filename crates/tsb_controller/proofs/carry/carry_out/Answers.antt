@@ -3,8 +3,9 @@ use Rattle.tsb_objects.specs.Checked.{checked_plan}
 use Rattle.tsb_phase.specs.Layer.{cells_of}
 use Rattle.tsb_types.specs.Lists.{is}
 use Rattle.tsb_ring.specs.Moves.{is_cleared}
-use Rattle.tsb_controller.proofs.CarryLemmas.{still-clearing, other-clearing, carried, or_first, or_second}
+use Rattle.tsb_controller.proofs.CarryLemmas.{still-clearing, other-clearing, carried, or_first}
 use Rattle.tsb_controller.proofs.carry.carry_out.Goals as goal
+use Rattle.std.proofs.lemmas.Bool.{or_right}
 
 pub clear_some-requires-clause-clearing : goal.clear_some-requires-clause-clearing
 clear_some-requires-clause-clearing c p on =
@@ -19,7 +20,7 @@ clear_some-requires-clause-clearing c p on =
 pub clear_some-requires-2-clause-clearing : goal.clear_some-requires-2-clause-clearing
 clear_some-requires-2-clause-clearing c p on =
     let m = c.args.moves.now in
-    let one : is_cleared m p ≡ true = or_second (is p m.first.clears) (is p m.second.clears) on in
+    let one : is_cleared m p ≡ true = or_right (is p m.first.clears) (is p m.second.clears) on in
     let at = c.known_moves.ensures.clears p one in
     other-clearing p m.first.clears (cells_of c.end_some-2.new.phases) (cells_of c.clear_some.new.phases) at.0 at.1
     (λ first. c.requires.apart.clears p first on) c.clear_some.ensures.each

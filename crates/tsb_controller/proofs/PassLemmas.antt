@@ -1,0 +1,600 @@
+-- Behind a tick that changed no cell each tick with the same inputs finds what that one found, up to the one that is due:
+-- so it changes no cell.
+use Rattle.std.proofs.Common.{zero, suc, ◌≡◌, ℕ, ◌+◌, ◌-◌, ◌<◌, ◌≤◌, ◌==◌, Bool, true, false, ◌&&◌, if◌then◌else◌, List, Option, Some, None, is_some, is_none, option_map, refl, sym, ap, ap₂, ◌∙◌, inl, inr, arith, subst, slice_index}
+use Rattle.std.proofs.Math.Path.{fun_ext}
+use Rattle.std.proofs.lemmas.Bool.{cases_Bool, true≢false}
+use Rattle.std.proofs.lemmas.Bool.Decides.{nat_tests}
+use Rattle.tsb_cells.specs.declared.timer.Timer.{Timer}
+use Rattle.tsb_cells.specs.declared.timer.Timer.TheVariants.{Off, On}
+use Rattle.tsb_cells.specs.Timer.{timer_at}
+use Rattle.tsb_cells.proofs.TimerLemmas.{timer_at-on}
+use Rattle.tsb_types.specs.declared.flow.Called.{Called}
+use Rattle.tsb_types.specs.declared.flow.Intervals.{Intervals}
+use Rattle.tsb_types.specs.declared.flow.Moves.{Moves}
+use Rattle.tsb_types.specs.declared.flow.Orders.{Orders}
+use Rattle.tsb_types.specs.declared.flow.Timing.{Timing}
+use Rattle.tsb_types.specs.declared.interval.Interval.{Interval}
+use Rattle.tsb_types.specs.declared.interval.Interval.TheVariants.{Red, Green, Yellow, RedClear}
+use Rattle.tsb_types.specs.declared.interval.PedestrianInterval.{PedestrianInterval}
+use Rattle.tsb_types.specs.declared.lamp.Lamp.{Lamp}
+use Rattle.tsb_types.specs.declared.phase_set.PhaseSet.{PhaseSet}
+use Rattle.tsb_types.specs.declared.row.Row.{Row}
+use Rattle.tsb_types.specs.declared.stage.Stage.{Stage}
+use Rattle.tsb_types.specs.Clip.{Agree, clipped, within}
+use Rattle.tsb_types.specs.Flow.{interval_of}
+use Rattle.tsb_types.specs.Intervals.{is_green}
+use Rattle.tsb_types.specs.Sets.{has, has_number, is_phase, list_of, set_of_list}
+use Rattle.tsb_types.proofs.ClipLemmas.{among_16, clipped-agrees, clipped-same, within-agrees}
+use Rattle.tsb_types.proofs.SetLemmas.{names-list_of}
+use Rattle.tsb_plan.specs.Plan.{Plan}
+use Rattle.tsb_plan.specs.Parts.{call_phase}
+use Rattle.tsb_detect.specs.Cells as detect_cells
+use Rattle.tsb_detect.specs.Cells.{detector_in}
+use Rattle.tsb_detect.specs.Detector.{Detector, all_after, is_detector}
+use Rattle.tsb_detect.specs.Promises as detect
+use Rattle.tsb_detect.proofs.StateLemmas.{same-after, ticks-all}
+use Rattle.tsb_calls.specs.Callable as called_words
+use Rattle.tsb_calls.specs.Cells.{memories_in}
+use Rattle.tsb_calls.specs.Looks as calls_looks
+use Rattle.tsb_calls.specs.Memories as memories_words
+use Rattle.tsb_calls.specs.Memories.{Memories, as_set, has_output}
+use Rattle.tsb_calls.specs.Promises as calls
+use Rattle.tsb_calls.specs.Settled as settled
+use Rattle.tsb_calls.proofs.LookLemmas.{look-alike}
+use Rattle.tsb_phase.specs.Cells as phase_cells
+use Rattle.tsb_phase.specs.Cells.{phase_in}
+use Rattle.tsb_phase.specs.Laws as phase_laws
+use Rattle.tsb_phase.specs.Laws.{IsToldTheSame, MoveAlike}
+use Rattle.tsb_phase.specs.Next as phase_next
+use Rattle.tsb_phase.specs.Next.{new_interval, interval_after}
+use Rattle.tsb_phase.specs.Phase as phase
+use Rattle.tsb_phase.specs.Phase.{Phase, as_read, none_moved}
+use Rattle.tsb_phase.specs.Promises as phases
+use Rattle.tsb_phase.specs.Promises.{read_in}
+use Rattle.tsb_phase.specs.Ready as timing
+use Rattle.tsb_phase.specs.Ready.{is_over, is_over_in}
+use Rattle.tsb_phase.proofs.OwnLemmas.{looks_only}
+use Rattle.tsb_phase.proofs.ReadLemmas as phase_reading
+use Rattle.tsb_ring.specs.Cells.{rings_in}
+use Rattle.tsb_ring.specs.Moves as ring_moves
+use Rattle.tsb_ring.specs.Moves.{is_ended, is_cleared, is_started}
+use Rattle.tsb_ring.specs.Next as rings_next
+use Rattle.tsb_ring.specs.Rings.{number}
+use Rattle.tsb_ring.proofs.MoveLemmas.{ends_ready, clears_over}
+use Rattle.tsb_coord.specs.Cells.{pattern_in}
+use Rattle.tsb_coord.specs.Coordinated as coordination
+use Rattle.tsb_coord.specs.Coordinated.{asks_force_off}
+use Rattle.tsb_coord.specs.Promises as coord
+use Rattle.tsb_preempt.specs.Cells.{service_in, preempts_in}
+use Rattle.tsb_preempt.specs.Laws as preempt_laws
+use Rattle.tsb_preempt.specs.Preempts as preempts_words
+use Rattle.tsb_preempt.specs.Preempts.{Preempts, is_preempt, is_outside, wanted_by}
+use Rattle.tsb_preempt.specs.Promises as preempts
+use Rattle.tsb_preempt.specs.Promises.{stage_of}
+use Rattle.tsb_preempt.specs.Service.{Service, service_as_read}
+use Rattle.tsb_preempt.proofs.OwnLemmas.{ticks-as-next}
+use Rattle.tsb_preempt.proofs.ReadLemmas as preempt_reading
+use Rattle.tsb_transact.specs.Desk.{Desk}
+use Rattle.tsb_step.specs.State.{State, interval, pedestrian_part}
+use Rattle.tsb_step.specs.Tick as tick
+use Rattle.tsb_step.specs.Tick.{preempts_given, calls_given, phases_given, rings_given, new_detectors, callable, ready, over, reverted, gapped, runs, hold, omitted, forced, service, service_ended, target, moves, moved, done, next}
+use Rattle.tsb_step.proofs.ClipLemmas.{clipped_holds}
+use Rattle.tsb_controller.specs.Found.{observed}
+use Rattle.tsb_controller.specs.Passing.{wanted_in, IsSeen, AreTold, ArePhasesStill, AreOthersStill, AreQuietUntil}
+use Rattle.tsb_controller.specs.Promises.{IsTicked}
+use Rattle.tsb_controller.specs.Rows.{Rows, AreBy, untripped, state_of}
+use Rattle.tsb_controller.proofs.PlacedLemmas.{IsPlaced}
+use Rattle.tsb_controller.proofs.TickLemmas.{green-set, timer-read, called-green, alike-own, stays}
+use Rattle.tsb_controller.proofs.CarryLemmas.{same-interval}
+use Rattle.tsb_detect.proofs.ToldLemmas.{detector-later}
+use Rattle.tsb_phase.proofs.StateLemmas.{outside as at-rest}
+
+-- ## Rows at later ticks
+
+-- rows that the layers can hold at a tick they can hold at each later one, so also once that is passed over
+pub rows-stay : (m n : ℕ) (r : Rows) → m ≤ n → AreBy m r → AreBy n r
+rows-stay m n r more by = record {
+  detectors = record {
+    full = by.detectors.full;
+    lists = by.detectors.lists;
+    each = λ d from to. detector-later m n r.detectors d more (by.detectors.each d from to);
+  };
+  calls = by.calls;
+  phases = phase_reading.stays-by m n r.phases more by.phases;
+  rings = by.rings;
+  pattern = by.pattern;
+  preempts = preempt_reading.stays-by m n r.preempts more by.preempts;
+}
+
+-- ## What rows say at whatever tick they are read
+
+pub part-at : (m n : ℕ) (cells : List ℕ) (p : ℕ) → (phase_in m cells p).pedestrian ≡ (phase_in n cells p).pedestrian
+unfolding phase_in
+part-at m n cells p = elim (cases_Bool (is_phase p)) [
+  | inl on ↦ rw on refl
+  | inr out ↦ rw out refl
+]
+
+output-at : (m n : ℕ) (cells : List ℕ) (d : ℕ) → (detector_in m cells d).output ≡ (detector_in n cells d).output
+unfolding detector_in
+output-at m n cells d = elim (cases_Bool (is_detector d)) [
+  | inl on ↦ rw on refl
+  | inr out ↦ rw out refl
+]
+
+actuated-at : (m n : ℕ) (cells : List ℕ) (d : ℕ) → (detector_in m cells d).actuated ≡ (detector_in n cells d).actuated
+unfolding detector_in
+actuated-at m n cells d = elim (cases_Bool (is_detector d)) [
+  | inl on ↦ rw on refl
+  | inr out ↦ rw out refl
+]
+
+abbrev output_in : (ℕ → Detector) → ℕ → Bool
+output_in f d = (f d).output
+
+abbrev actuated_in : (ℕ → Detector) → ℕ → Bool
+actuated_in f d = (f d).actuated
+
+abbrev number_of : Option Service → Option ℕ
+number_of o = option_map (λ (x : Service). x.preempt) o
+
+number-at : (m n : ℕ) (cells : List ℕ) → number_of (preempts_in m cells).service ≡ number_of (preempts_in n cells).service
+unfolding preempts_in service_in
+number-at m n cells = elim (cases_Bool (is_preempt (slice_index cells 6))) [
+  | inl on ↦ rw on refl
+  | inr out ↦ rw out refl
+]
+
+wanted-at : (m n : ℕ) (plan : Plan) (cells : List ℕ) → wanted_by plan (preempts_in m cells).service ≡ wanted_by plan (preempts_in n cells).service
+unfolding preempts_in service_in
+wanted-at m n plan cells = elim (cases_Bool (is_preempt (slice_index cells 6))) [
+  | inl on ↦ rw on refl
+  | inr out ↦ rw out refl
+]
+
+-- service that is in the row before and after a tick did not end
+not-ended : (m n : ℕ) (cells : List ℕ) → (is_some (service_as_read (preempts_in m cells).service) && is_none (preempts_in n cells).service) ≡ false
+unfolding preempts_in service_in
+not-ended m n cells = elim (cases_Bool (is_preempt (slice_index cells 6))) [
+  | inl on ↦ rw on refl
+  | inr out ↦ rw out refl
+]
+
+pub wanted-of : (plan : Plan) (o : Option Service) → wanted_in plan (stage_of o) ≡ wanted_by plan o
+wanted-of plan None = refl
+wanted-of plan (Some s) = refl
+
+-- the preempt of a stage is that of the service
+pub number-of : (o : Option Service) → option_map (λ (x : ℕ × Stage). x.0) (stage_of o) ≡ option_map (λ (x : Service). x.preempt) o
+number-of None = refl
+number-of (Some s) = refl
+
+-- ## A phase that a tick leaves as it was has not moved
+
+not-begun : (now cell : ℕ) → 1 ≤ now → cell ≤ now - 1 + 1 → timer_at now cell ≡ On 0 → ⊥
+not-begun now zero one early e = absurd cc
+not-begun now (suc c) one early e =
+    let running : On (now + 1 - suc c) ≡ On 0 = sym (timer_at-on now (suc c) (omega arith)) ∙ e in
+    let at_once : now + 1 - suc c ≡ 0 = cc in
+    omega (arith, one, early, at_once)
+
+no-end : (plan : Plan) (m : phase.Moved) (p : ℕ) (w : Phase) (i : Interval) → m.ends p ≡ true → is_green i ≡ true → interval_after plan m p w i ≡ i → ⊥
+no-end plan m p w Red on green e = true≢false (sym green)
+no-end plan m p w Green on green e = let no : Yellow ≡ Green = rw on at e in absurd cc
+no-end plan m p w Yellow on green e = true≢false (sym green)
+no-end plan m p w RedClear on green e = true≢false (sym green)
+
+no-clear : (plan : Plan) (m : phase.Moved) (p : ℕ) (w : Phase) (i : Interval) → m.clears p ≡ true → is_over_in plan p w i ≡ true → interval_after plan m p w i ≡ i → ⊥
+no-clear plan m p w Red on finished e = true≢false (sym finished)
+no-clear plan m p w Green on finished e = true≢false (sym finished)
+no-clear plan m p w Yellow on finished e = let no : Red ≡ Yellow = rw on at e in absurd cc
+no-clear plan m p w RedClear on finished e = let no : Red ≡ RedClear = rw on at e in absurd cc
+
+module _ (now : ℕ) (plan : Plan) (cells : List ℕ) (given : phase.Given) (m : phase.Moved) (p : ℕ) (one : 1 ≤ now) (by : phase_cells.IsBy (now - 1) cells)
+    (same : phase_in now cells p ≡ phase_next.next plan given m p (phase_in (now - 1) cells p)) where
+  abbrev was : Phase
+  was = phase_in (now - 1) cells p
+
+  older : (phase_in now cells p).timer ≡ On 0 → ⊥
+  unfolding phase_in
+  older e = elim (cases_Bool (is_phase p)) [
+    | inl on ↦ (let here : timer_at now (slice_index cells (8 + p)) ≡ On 0 = rw on at e in not-begun now (slice_index cells (8 + p)) one (by.each p (among_16 p on).from (among_16 p on).to).timer here)
+    | inr out ↦ (let no : Off ≡ On 0 = rw out at e in absurd cc)
+  ]
+
+  begun : m.starts p ≡ true → (phase_next.next plan given m p was).timer ≡ On 0
+  begun on = rw on refl
+
+  starts-off : m.starts p ≡ false
+  starts-off = elim (cases_Bool (m.starts p)) [
+    | inl on ↦ absurd (older (ap (λ (x : Phase). x.timer) same ∙ begun on))
+    | inr off ↦ off
+  ]
+
+  after-same : interval_after plan m p (as_read was) was.interval ≡ was.interval
+  after-same =
+      subst (λ (b : Bool). (if b then Green else interval_after plan m p (as_read was) was.interval) ≡ was.interval) starts-off
+      (sym (ap (λ (x : Phase). x.interval) same) ∙ same-interval now (now - 1) cells p)
+
+  ends-off : (m.ends p ≡ true → is_green was.interval ≡ true) → m.ends p ≡ false
+  ends-off greens = elim (cases_Bool (m.ends p)) [
+    | inl on ↦ absurd (no-end plan m p (as_read was) was.interval on (greens on) after-same)
+    | inr off ↦ off
+  ]
+
+  clears-off : (m.clears p ≡ true → is_over plan p (as_read was) ≡ true) → m.clears p ≡ false
+  unfolding is_over
+  clears-off overs = elim (cases_Bool (m.clears p)) [
+    | inl on ↦ absurd (no-clear plan m p (as_read was) was.interval on (overs on) after-same)
+    | inr off ↦ off
+  ]
+
+-- ## What a tick tells, as sets
+
+abbrev set : (ℕ → Bool) → PhaseSet
+set f = record { numbers = set_of_list (list_of 16 f) }
+
+set-has : (f : ℕ → Bool) → Agree (has (set f)) f
+set-has f p from to = names-list_of 16 p f from to
+
+-- what a tick that was told `c` tells of the phases in a row
+abbrev timing_of : ℕ → Plan → phase.Given → List ℕ → Timing
+timing_of now plan given cells = record {
+  ready = set (λ p. timing.is_ready plan given p (read_in now cells p));
+  over = set (λ p. timing.is_over plan p (read_in now cells p));
+  red_revert_passed = set (λ p. timing.red_revert_passed plan p (read_in now cells p));
+  gapped = set (λ p. timing.is_gapped_now plan given p (read_in now cells p));
+}
+
+-- ## Two ticks
+--
+-- Tick `now` has left the rows as they were; tick t comes behind it and before the ones that are due.
+
+module _ (now t : ℕ) (plan : Plan) (desk : Desk) (lamp : Option Lamp) (row : Row) (r : Rows) (due soon : ℕ) (one : 1 ≤ now) (behind : now < t) (before : t < due) (sooner : t < soon)
+    (placed : IsPlaced plan) (by : AreBy (now - 1) r) (still : IsTicked now row plan r r) (a : ArePhasesStill now row plan r due) (o : AreOthersStill now row plan r soon) where
+  -- the state before tick `now`, and before tick t
+  abbrev s : State
+  s = state_of (now - 1) (untripped plan desk lamp) r
+
+  abbrev u : State
+  u = state_of (t - 1) (untripped plan desk lamp) r
+
+  now_is : now ≡ now - 1 + 1
+  now_is = omega arith
+
+  t_is : t ≡ t - 1 + 1
+  t_is = omega arith
+
+  here : state_of now (untripped plan desk lamp) r ≡ next s row
+  here = still desk lamp
+
+  by_before : AreBy (t - 1) r
+  by_before = rows-stay (now - 1) (t - 1) r (omega arith) by
+
+  by_then : AreBy t r
+  by_then = rows-stay (now - 1) t r (omega arith) by
+
+  -- ### Detectors
+
+  shown : Agree (interval_of o.intervals) (interval u)
+  shown p from to = o.shown (t - 1) p from to
+
+  greens-agree : Agree (detect.green_timer t o.greens) (λ p. tick.green_timer u (Some p))
+  greens-agree p from to =
+      ap₂ (λ (b : Bool) (x : Timer). if b then x else Off)
+      (ap (λ (list : PhaseSet). has list p) o.greens_are ∙ green-set o.intervals p ∙ ap is_green (shown p from to))
+      (o.since_are t p from to ∙ timer-read t r.phases p (omega arith) from to by_before.phases)
+
+  detectors_then : detector_in t r.detectors ≡ new_detectors u row
+  unfolding new_detectors
+  detectors_then =
+      ticks-all t row o.greens plan r.detectors r.detectors (o.detectors t o.greens behind sooner)
+      ∙ same-after plan t (has_number row.vehicles) (has_number row.vehicles) (detect.green_timer t o.greens) (λ p. tick.green_timer u (Some p))
+      (detector_in (t - 1) r.detectors) (detector_in (t - 1) r.detectors)
+      (λ d from to. placed.called d) (λ d from to. refl) greens-agree (λ d from to. refl)
+      ∙ ap₂ (λ (n : ℕ) (green : ℕ → Timer). all_after plan n (has_number row.vehicles) green (detector_in (t - 1) r.detectors)) t_is
+      (fun_ext (λ d. called-green u (call_phase plan d)))
+
+  detectors_now : detector_in now r.detectors ≡ new_detectors s row
+  detectors_now = ap (λ (x : State). x.detectors) here
+
+  -- ### Preempts
+
+  alike : preempt_laws.AreAlike (preempts.given_by row o.intervals) (preempts_given u row)
+  alike = record { row = λ n from to. sym (one_of_four n from to); interval = shown }
+    where
+      one_of_four : (n : ℕ) → 1 ≤ n → n ≤ 4 → (is_preempt n && has_number row.preempts n) ≡ has_number row.preempts n
+      one_of_four n from to = let is : is_preempt n ≡ true = grind (arith, nat_tests) in rw is refl
+
+  preempts_then : preempts_in t r.preempts ≡ preempts_words.next plan (preempts_given u row) (preempts_in (t - 1) r.preempts)
+  preempts_then =
+      ticks-as-next t row o.intervals plan r.preempts r.preempts (preempts_given u row) placed.count alike (λ n out. rw out refl) by_before.preempts by_then.preempts
+      (o.preempts t behind sooner)
+
+  preempts_now : preempts_in now r.preempts ≡ preempts_words.next plan (preempts_given s row) (preempts_in (now - 1) r.preempts)
+  preempts_now = ap (λ (x : State). x.preempts) here
+
+  -- what is asked by a service is the same
+  same-by : {A : Type 0} (f : Option Service → A) → f (preempts_in t r.preempts).service ≡ f (preempts_in now r.preempts).service →
+      f (preempts_words.next plan (preempts_given u row) (preempts_in (t - 1) r.preempts)).service
+      ≡ f (preempts_words.next plan (preempts_given s row) (preempts_in (now - 1) r.preempts)).service
+  same-by f e = ap (λ (x : Preempts). f x.service) (sym preempts_then) ∙ e ∙ ap (λ (x : Preempts). f x.service) preempts_now
+
+  service_same : service u row ≡ service s row
+  unfolding tick.new_service
+  service_same = same-by number_of (number-at t now r.preempts)
+
+  target_now : wanted_by plan (preempts_in now r.preempts).service ≡ target s row
+  target_now = ap (λ (x : Preempts). wanted_by plan x.service) preempts_now
+
+  target_same : target u row ≡ target s row
+  target_same = same-by (wanted_by plan) (wanted-at t now plan r.preempts)
+
+  ended_now : service_ended s row ≡ false
+  ended_now =
+      ap (λ (x : Preempts). is_some (service_as_read (preempts_in (now - 1) r.preempts).service) && is_none x.service) (sym preempts_now)
+      ∙ not-ended (now - 1) now r.preempts
+
+  ended_then : service_ended u row ≡ false
+  ended_then =
+      ap (λ (x : Preempts). is_some (service_as_read (preempts_in (t - 1) r.preempts).service) && is_none x.service) (sym preempts_then)
+      ∙ not-ended (t - 1) t r.preempts
+
+  -- ### What the calls are told
+
+  intervals_same : interval u ≡ interval s
+  intervals_same = fun_ext (λ p. same-interval (t - 1) (now - 1) r.phases p)
+
+  parts_same : pedestrian_part u ≡ pedestrian_part s
+  parts_same = fun_ext (λ p. part-at (t - 1) (now - 1) r.phases p)
+
+  outputs_same : output_in (new_detectors u row) ≡ output_in (new_detectors s row)
+  outputs_same =
+      fun_ext (λ d. ap (λ (f : ℕ → Detector). (f d).output) (sym detectors_then) ∙ output-at t now r.detectors d ∙ ap (λ (f : ℕ → Detector). (f d).output) detectors_now)
+
+  actuated_same : actuated_in (new_detectors u row) ≡ actuated_in (new_detectors s row)
+  actuated_same =
+      fun_ext (λ d. ap (λ (f : ℕ → Detector). (f d).actuated) (sym detectors_then) ∙ actuated-at t now r.detectors d ∙ ap (λ (f : ℕ → Detector). (f d).actuated) detectors_now)
+
+  ended_same : service_ended u row ≡ service_ended s row
+  ended_same = ended_then ∙ sym ended_now
+
+  calls_same : calls_given u row ≡ calls_given s row
+  calls_same = λ i. record {
+    output = outputs_same i;
+    actuated = actuated_same i;
+    button = has_number row.pedestrians;
+    interval = intervals_same i;
+    pedestrian_part = parts_same i;
+    runs = runs s;
+    omitted = clipped (omitted s);
+    service_ended = ended_same i;
+  }
+
+  -- ### What phase timing is told
+
+  forced_agree : Agree (forced u) (forced s)
+  forced_agree p from to =
+      ap (λ (n : ℕ). asks_force_off plan n (pattern_in r.pattern) p) (sym t_is)
+      ∙ sym ((o.coordination t behind sooner a.sensed.coordination a.seen.ordered).forced p from to)
+      ∙ a.seen.ordered.forced p from to
+      ∙ ap (λ (n : ℕ). asks_force_off plan n (pattern_in r.pattern) p) now_is
+
+  forced_same : clipped (forced u) ≡ clipped (forced s)
+  forced_same = clipped-same (forced u) (forced s) forced_agree
+
+  phases_same : phases_given u row ≡ phases_given s row
+  unfolding phases_given
+  phases_same = λ i. record {
+    output = clipped (has_output plan (calls_same i));
+    conflict = clipped (called_words.has_conflict plan (calls_same i) (as_set plan (calls_same i) (memories_in r.calls)));
+    callable = clipped (called_words.is_callable plan (calls_same i) (as_set plan (calls_same i) (memories_in r.calls)));
+    pedestrian_call = clipped (settled.pedestrian_call plan (calls_same i) (memories_in r.calls));
+    count = within 0 (as_set plan (calls_same i) (memories_in r.calls)).count;
+    runs = runs s;
+    service = service_same i;
+    hold = clipped (hold s);
+    must_end = clipped (is_outside (target_same i));
+    forced = forced_same i;
+  }
+
+  -- ### What tick `now` told, by what was seen
+
+  calls_alike : calls_looks.AgreeOnPhases (calls.given_of (observed row a.sensed)) (calls_given s row)
+  calls_alike = record {
+    output = λ d from to. a.seen.outputs_are now d from to ∙ ap (λ (f : ℕ → Detector). (f d).output) detectors_now;
+    actuated = λ d from to. a.seen.actuated_are now d from to ∙ ap (λ (f : ℕ → Detector). (f d).actuated) detectors_now;
+    button = λ d from to. refl;
+    interval = λ p from to. a.seen.shown (now - 1) p from to;
+    pedestrian_part = λ p from to. a.seen.walking (now - 1) p from to;
+    runs = a.seen.ordered.runs;
+    omitted = λ p from to. a.seen.ordered.omit p from to ∙ sym (clipped-agrees (omitted s) p from to);
+    service_ended = a.seen.standing.ended ∙ sym ended_now;
+  }
+
+  look : calls_looks.LookAlike plan (calls.given_of (observed row a.sensed)) (calls_given s row)
+  look = look-alike plan (calls.given_of (observed row a.sensed)) (calls_given s row) placed.count calls_alike
+
+  as_sets : calls_looks.AreAlike (as_set plan (calls.given_of (observed row a.sensed)) s.memories) (tick.set s row)
+  as_sets = look.sets s.memories s.memories (alike-own s.memories)
+
+  called_alike : calls_looks.AreCalledAlike plan (calls.given_of (observed row a.sensed)) (calls_given s row)
+      (as_set plan (calls.given_of (observed row a.sensed)) s.memories) (tick.set s row)
+  called_alike = look.called (as_set plan (calls.given_of (observed row a.sensed)) s.memories) (tick.set s row) as_sets
+
+  phases_alike : phase_laws.AgreeOnPhases (phases.given_of a.conditions) (phases_given s row)
+  unfolding phases_given tick.new_service
+  phases_alike = record {
+    output = λ p from to. ap (λ (x : Called). has x.output p) a.told.conditions_are.called_are ∙ (a.told.calls_told p from to).output ∙ called_alike.output p from to
+        ∙ sym (clipped-agrees (has_output plan (calls_given s row)) p from to);
+    conflict = λ p from to. ap (λ (x : Called). has x.conflict p) a.told.conditions_are.called_are ∙ (a.told.calls_told p from to).conflict ∙ called_alike.conflict p from to
+        ∙ sym (clipped-agrees (tick.conflict s row) p from to);
+    callable = λ p from to. ap (λ (x : Called). has x.callable p) a.told.conditions_are.called_are ∙ (a.told.calls_told p from to).callable ∙ called_alike.callable p from to
+        ∙ sym (clipped-agrees (callable s row) p from to);
+    pedestrian_call = λ p from to. ap (λ (x : Called). has x.pedestrian p) a.told.conditions_are.called_are ∙ (a.told.calls_told p from to).pedestrian ∙ called_alike.pedestrian p from to
+        ∙ sym (clipped-agrees (tick.pedestrian_call s row) p from to);
+    count = λ p from to. ap (λ (xs : List ℕ). slice_index xs (p - 1)) a.told.conditions_are.counts_are
+        ∙ (a.told.lent p from to).same ∙ (a.told.sets p from to).count ∙ as_sets.count p from to ∙ sym (within-agrees 0 (tick.set s row).count p from to);
+    runs = a.told.conditions_are.runs_is ∙ a.seen.ordered.runs;
+    service = a.told.conditions_are.service_is ∙ a.seen.served now ∙ served_now;
+    hold = λ p from to. ap (λ (x : Orders). has x.hold p) a.told.conditions_are.orders_are ∙ a.seen.ordered.hold p from to ∙ sym (clipped-agrees (hold s) p from to);
+    must_end = λ p from to. ap (λ (x : Orders). has x.must_end p) a.told.conditions_are.orders_are ∙ a.seen.standing.must_end p from to
+        ∙ ap (λ (f : Option (ℕ → Bool)). is_outside f p) (a.seen.standing.target ∙ target_now) ∙ sym (clipped-agrees (tick.must_end s row) p from to);
+    forced = λ p from to. ap (λ (x : Orders). has x.forced p) a.told.conditions_are.orders_are ∙ a.seen.ordered.forced p from to
+        ∙ ap (λ (n : ℕ). asks_force_off plan n (pattern_in r.pattern) p) now_is ∙ sym (clipped-agrees (forced s) p from to);
+  }
+    where
+      served_now : number_of (preempts_in now r.preempts).service ≡ service s row
+      served_now = ap (λ (x : Preempts). number_of x.service) preempts_now
+
+  told : (p : ℕ) → 1 ≤ p → p ≤ 16 → IsToldTheSame plan (phases.given_of a.conditions) (phases_given s row) p
+  told p from to = looks_only plan (phases.given_of a.conditions) (phases_given s row) placed.count phases_alike p from to
+
+  -- ### What phase timing tells
+
+  abbrev tells : Timing
+  tells = timing_of now plan (phases.given_of a.conditions) r.phases
+
+  ready_agree : Agree (ready u row) (ready s row)
+  ready_agree p from to =
+      ap (λ (g : phase.Given). timing.is_ready plan g p (read_in t r.phases p)) phases_same
+      ∙ sym ((told p from to).ready (read_in t r.phases p))
+      ∙ sym (a.ready t behind before tells (set-has (λ q. timing.is_ready plan (phases.given_of a.conditions) q (read_in now r.phases q))) p from to)
+      ∙ set-has (λ q. timing.is_ready plan (phases.given_of a.conditions) q (read_in now r.phases q)) p from to
+      ∙ (told p from to).ready (read_in now r.phases p)
+
+  gapped_agree : Agree (gapped u row) (gapped s row)
+  gapped_agree p from to =
+      ap (λ (g : phase.Given). timing.is_gapped_now plan g p (read_in t r.phases p)) phases_same
+      ∙ sym ((told p from to).gapped (read_in t r.phases p))
+      ∙ sym (a.gapped t behind before tells (set-has (λ q. timing.is_gapped_now plan (phases.given_of a.conditions) q (read_in now r.phases q))) p from to)
+      ∙ set-has (λ q. timing.is_gapped_now plan (phases.given_of a.conditions) q (read_in now r.phases q)) p from to
+      ∙ (told p from to).gapped (read_in now r.phases p)
+
+  over_agree : Agree (over u) (over s)
+  over_agree p from to =
+      sym (a.over t behind before tells (set-has (λ q. timing.is_over plan q (read_in now r.phases q))) p from to)
+      ∙ set-has (λ q. timing.is_over plan q (read_in now r.phases q)) p from to
+
+  reverted_agree : Agree (reverted u) (reverted s)
+  reverted_agree p from to =
+      sym (a.reverted t behind before tells (set-has (λ q. timing.red_revert_passed plan q (read_in now r.phases q))) p from to)
+      ∙ set-has (λ q. timing.red_revert_passed plan q (read_in now r.phases q)) p from to
+
+  ready_same : clipped (ready u row) ≡ clipped (ready s row)
+  ready_same = clipped-same (ready u row) (ready s row) ready_agree
+
+  gapped_same : clipped (gapped u row) ≡ clipped (gapped s row)
+  gapped_same = clipped-same (gapped u row) (gapped s row) gapped_agree
+
+  over_same : clipped (over u) ≡ clipped (over s)
+  over_same = clipped-same (over u) (over s) over_agree
+
+  reverted_same : clipped (reverted u) ≡ clipped (reverted s)
+  reverted_same = clipped-same (reverted u) (reverted s) reverted_agree
+
+  -- ### Rings
+
+  rings_same : rings_given u row ≡ rings_given s row
+  unfolding rings_given
+  rings_same = λ i. record {
+    interval = intervals_same i;
+    sequence = λ x. coordination.serving_order plan (pattern_in r.pattern) (number x);
+    callable = clipped (called_words.is_callable plan (calls_same i) (as_set plan (calls_same i) (memories_in r.calls)));
+    omitted = clipped (omitted s);
+    ready = ready_same i;
+    over = over_same i;
+    reverted = reverted_same i;
+    target = target_same i;
+  }
+
+  moves_same : moves u row ≡ moves s row
+  unfolding moves
+  moves_same = ap (ring_moves.moves plan (rings_in r.rings)) rings_same
+
+  rings_then : rings_in r.rings ≡ rings_next.next plan (rings_in r.rings) (rings_given u row)
+  rings_then = ap (λ (x : State). x.rings) here ∙ sym (ap (rings_next.next plan (rings_in r.rings)) rings_same)
+
+  -- ### Calls
+
+  done_same : done u row ≡ done s row
+  done_same = λ i. record {
+    starts = is_started (moves_same i);
+    ends = is_ended (moves_same i);
+    gapped = gapped_same i;
+    service = service_same i;
+  }
+
+  memories_then : memories_in r.calls ≡ settled.next plan (calls_given u row) (done u row) (memories_in r.calls)
+  memories_then =
+      ap (λ (x : State). x.memories) here
+      ∙ sym (ap₂ (λ (g : memories_words.Given) (d : settled.Done). settled.next plan g d (memories_in r.calls)) calls_same done_same)
+
+  -- ### Phases
+
+  phase_now : (p : ℕ) → phase_in now r.phases p ≡ phase_next.next plan (phases_given s row) (moved s row) p (phase_in (now - 1) r.phases p)
+  phase_now p = ap (λ (x : State). x.phases p) here
+
+  starts_none : (p : ℕ) → is_started (moves s row) p ≡ false
+  starts_none p = starts-off now plan r.phases (phases_given s row) (moved s row) p one by.phases (phase_now p)
+
+  ends_none : (p : ℕ) → is_ended (moves s row) p ≡ false
+  unfolding moves rings_given
+  ends_none p = ends-off now plan r.phases (phases_given s row) (moved s row) p one by.phases (phase_now p) greens
+    where
+      greens : is_ended (moves s row) p ≡ true → is_green (interval s p) ≡ true
+      greens on = (ends_ready plan (rings_in r.rings) (rings_given s row) p on).0
+
+  clears_none : (p : ℕ) → is_cleared (moves s row) p ≡ false
+  unfolding moves rings_given
+  clears_none p = clears-off now plan r.phases (phases_given s row) (moved s row) p one by.phases (phase_now p) overs
+    where
+      overs : is_cleared (moves s row) p ≡ true → over s p ≡ true
+      overs on = clipped_holds (over s) p (clears_over plan (rings_in r.rings) (rings_given s row) p on)
+
+  none-moves : (p : ℕ) → MoveAlike none_moved (moved u row) p
+  none-moves p = record {
+    ends = sym (ap (λ (x : Moves). is_ended x p) moves_same ∙ ends_none p);
+    clears = sym (ap (λ (x : Moves). is_cleared x p) moves_same ∙ clears_none p);
+    starts = sym (ap (λ (x : Moves). is_started x p) moves_same ∙ starts_none p);
+  }
+
+  phases_then : phase_in t r.phases ≡ (λ p. phase_next.next plan (phases_given u row) (moved u row) p (phase_in (t - 1) r.phases p))
+  phases_then = fun_ext (λ p. at p)
+    where
+      inside : (p : ℕ) → 1 ≤ p → p ≤ 16 → phase_in t r.phases p ≡ phase_next.next plan (phases_given u row) (moved u row) p (phase_in (t - 1) r.phases p)
+      inside p from to =
+          a.quiet t behind before p from to
+          ∙ (told p from to).goes_on none_moved (moved u row) (phase_in (t - 1) r.phases p) (none-moves p)
+          ∙ ap (λ (g : phase.Given). phase_next.next plan g (moved u row) p (phase_in (t - 1) r.phases p)) (sym phases_same)
+
+      at : (p : ℕ) → phase_in t r.phases p ≡ phase_next.next plan (phases_given u row) (moved u row) p (phase_in (t - 1) r.phases p)
+      at p = elim (cases_Bool (is_phase p)) [
+        | inl on ↦ inside p (among_16 p on).from (among_16 p on).to
+        | inr out ↦
+            at-rest t r.phases p out
+            ∙ sym (stays plan (phases_given u row) (moved u row) p (phase_in (t - 1) r.phases p) (at-rest (t - 1) r.phases p out) (sym (none-moves p).starts) (sym (none-moves p).ends))
+      ]
+
+  -- ### All of it
+
+  passed : state_of t (untripped plan desk lamp) r ≡ next u row
+  passed = λ i. record {
+    now = t_is i;
+    plan = plan;
+    desk = desk;
+    pattern = pattern_in r.pattern;
+    detectors = detectors_then i;
+    memories = memories_then i;
+    phases = phases_then i;
+    rings = rings_then i;
+    preempts = preempts_then i;
+    lamp = lamp;
+    trip = None;
+  }
+
+-- Each tick behind one that left the rows as they were leaves them so, before the phases and the others are due.
+pub passes : (now : ℕ) (plan : Plan) (row : Row) (r : Rows) (due soon t : ℕ) → 1 ≤ now → IsPlaced plan → AreBy (now - 1) r → IsTicked now row plan r r →
+    ArePhasesStill now row plan r due → AreOthersStill now row plan r soon → now < t → t < due → t < soon → IsTicked t row plan r r
+passes now plan row r due soon t one placed by still a o behind before sooner desk lamp =
+    passed now t plan desk lamp row r due soon one behind before sooner placed by still a o

@@ -1,0 +1,98 @@
+-- Ticks that may be passed over: what a tick finds that leaves the rows as they were, and that ticks behind it with the
+-- same inputs find and leave the same.
+use Rattle.std.specs.Prelude.{◌≡◌, ℕ, ◌<◌, Bool, List, [], Option, Some, None, option_map}
+use Rattle.tsb_types.specs.declared.flow.Called.{Called}
+use Rattle.tsb_types.specs.declared.flow.Intervals.{Intervals}
+use Rattle.tsb_types.specs.declared.lamp.Lamp.{Lamp}
+use Rattle.tsb_types.specs.declared.row.Row.{Row}
+use Rattle.tsb_types.specs.declared.stage.Stage.{Stage}
+use Rattle.tsb_plan.specs.Plan.{Plan}
+use Rattle.tsb_detect.specs.declared.greens.Greens.{Greens}
+use Rattle.tsb_detect.specs.Promises as detect
+use Rattle.tsb_calls.specs.Promises as calls
+use Rattle.tsb_phase.specs.declared.conditions.Conditions.{Conditions}
+use Rattle.tsb_phase.specs.Promises as phases
+use Rattle.tsb_heads.specs.declared.monitor.Trip.{Trip}
+use Rattle.tsb_coord.specs.Due as coord_due
+use Rattle.tsb_coord.specs.Promises as coord
+use Rattle.tsb_preempt.specs.Cells.{preempts_in}
+use Rattle.tsb_preempt.specs.Due as preempts_due
+use Rattle.tsb_preempt.specs.Service.{Service, stage_phases}
+use Rattle.tsb_controller.specs.declared.values.Sensed.{Sensed}
+use Rattle.tsb_controller.specs.Found.{observed, AreConditions}
+use Rattle.tsb_controller.specs.Promises.{IsTicked, IsWatchedTick}
+use Rattle.tsb_controller.specs.Records.{changes}
+use Rattle.tsb_controller.specs.Rows.{Rows, AreBy}
+
+-- `due(now, row, plan)`, clause `quiet`: each tick behind `now` and before the one that is due, with these inputs, makes
+-- of the rows what they are
+abbrev pub AreQuietUntil : ℕ → Row → Plan → Rows → ℕ → Type 0
+AreQuietUntil now row plan rows due = (t : ℕ) → now < t → t < due → IsTicked t row plan rows rows
+
+-- ## Of phases
+
+-- the phases that a stage of a preempt wants served; no stage wants any
+abbrev pub wanted_in : Plan → Option (ℕ × Stage) → Option (ℕ → Bool)
+wanted_in plan None = None
+wanted_in plan (Some x) = Some (stage_phases plan x.0 x.1)
+
+-- what tick `now` finds before the calls, read in rows that it leaves as they were: no service ends
+pub record IsSeen (now : ℕ) (plan : Plan) (rows : Rows) (s : Sensed) : Type 0 where
+  pub shown : phases.TellsIntervals rows.phases s.intervals
+  pub walking : phases.TellsPedestrians rows.phases s.pedestrians
+  pub outputs_are : detect.TellsOutputs rows.detectors s.outputs
+  pub actuated_are : detect.TellsActuations rows.detectors s.actuated
+  pub standing : preempts_due.AreStanding now plan rows.preempts s.asked
+  pub served : (n : ℕ) → s.service ≡ option_map (λ (x : Service). x.preempt) (preempts_in n rows.preempts).service
+  pub ordered : coord.AreOrders now plan rows.pattern s.coordination
+
+-- what phase timing is told by it: the calls, and the counts in `mid`, the calls' row as set
+pub record AreTold (row : Row) (plan : Plan) (rows : Rows) (s : Sensed) (c : Conditions) : Type 0 where
+  pub called : Called
+  pub mid : List ℕ
+  pub counts : List ℕ
+  pub sets : calls.IsSet (observed row s) plan rows.calls mid
+  pub calls_told : calls.TellsCalled (observed row s) plan rows.calls called
+  pub lent : calls.LendsCounts mid counts
+  pub conditions_are : AreConditions s called counts c
+
+-- told this, phases stay and tell the same up to the tick that is due
+pub record ArePhasesStill (now : ℕ) (row : Row) (plan : Plan) (rows : Rows) (due : ℕ) : Type 0 where
+  pub sensed : Sensed
+  pub conditions : Conditions
+  pub seen : IsSeen now plan rows sensed
+  pub told : AreTold row plan rows sensed conditions
+  pub quiet : phases.IsQuiet now conditions plan rows.phases due
+  pub ready : phases.KeepsReady now conditions plan rows.phases due
+  pub over : phases.KeepsOver now plan rows.phases due
+  pub reverted : phases.KeepsRedRevertPassed now plan rows.phases due
+  pub gapped : phases.KeepsGapped now conditions plan rows.phases due
+
+-- ## Of the other layers
+
+-- detectors and preempts stay, and coordination asks the same, up to the tick that is due
+pub record AreOthersStill (now : ℕ) (row : Row) (plan : Plan) (rows : Rows) (due : ℕ) : Type 0 where
+  pub intervals : Intervals
+  pub shown : phases.TellsIntervals rows.phases intervals
+  pub greens : Greens
+  pub greens_are : detect.phases_of greens ≡ intervals.green
+  pub since_are : phases.TellsSince rows.phases (detect.since_of greens)
+  pub detectors : detect.IsQuiet now due row plan rows.detectors
+  pub preempts : preempts_due.AreQuietUntil now row intervals plan rows.preempts due
+  pub coordination : coord_due.KeepsOrders now plan rows.pattern due
+
+-- ## With the record and the monitor
+
+-- rows of which no cell differs are the same: so it is where the record of a tick is empty
+abbrev pub UnchangedRowsAreSame : Type 0
+UnchangedRowsAreSame = (m n : ℕ) (old new : Rows) → AreBy m old → AreBy n new → changes old new ≡ [] → old ≡ new
+
+-- a tick that the monitor watched, whatever it found, is a tick
+abbrev pub WatchedTicksAreTicked : Type 0
+WatchedTicksAreTicked = (now : ℕ) (row : Row) (lamp : Option Lamp) (plan : Plan) (old new : Rows) (found : Option Trip) →
+    IsWatchedTick now row lamp plan old new found → IsTicked now row plan old new
+
+-- where the monitor found nothing in a tick that left the rows as they were it finds nothing in another that does
+abbrev pub WatchedTicksPass : Type 0
+WatchedTicksPass = (now t : ℕ) (row : Row) (lamp : Option Lamp) (plan : Plan) (rows : Rows) →
+    IsWatchedTick now row lamp plan rows rows None → IsTicked t row plan rows rows → IsWatchedTick t row lamp plan rows rows None

@@ -1,0 +1,28 @@
+//! The numbers of first cells among all cells of the bench, which are those of the plan, of the desk, of the six layers in
+//! the order of their fields, and of the monitor with the injected lamp.
+
+use tsb_objects::PLAN_CELLS;
+
+/// The desk's.
+pub const DESK: u16 = PLAN_CELLS as u16;
+
+/// The detectors'.
+pub const DETECTORS: u16 = DESK + tsb_transact::CELLS as u16;
+
+/// The calls'.
+pub const CALLS: u16 = DETECTORS + tsb_detect::CELLS as u16;
+
+/// The phases'.
+pub const PHASES: u16 = CALLS + tsb_calls::CELLS as u16;
+
+/// The rings'.
+pub const RINGS: u16 = PHASES + tsb_phase::CELLS as u16;
+
+/// Coordination's, which has one.
+pub const COORD: u16 = RINGS + tsb_ring::CELLS as u16;
+
+/// The preempts'.
+pub const PREEMPTS: u16 = COORD + tsb_coord::CELLS as u16;
+
+/// The monitor's and the injected lamp's.
+pub const MONITOR: u16 = PREEMPTS + tsb_preempt::CELLS as u16;

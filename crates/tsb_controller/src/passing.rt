@@ -1,0 +1,167 @@
+//! Ticks that may be passed over, as they change nothing while the inputs stay.
+ghost use Rattle.std.specs.Prelude.{◌≡◌, ℕ, ◌-◌, ◌<◌, ◌≤◌, false, Some, None};
+ghost use Rattle.tsb_objects.specs.Checked.{checked_plan};
+ghost use Rattle.tsb_plan.specs.PlanOf.{plan_of};
+ghost use Rattle.tsb_types.specs.Flow.{target_of};
+ghost use Rattle.tsb_types.specs.Sets.{has};
+ghost use Rattle.tsb_coord.specs.Cells as coord;
+ghost use Rattle.tsb_preempt.specs.Preempts.{is_outside};
+ghost use Rattle.tsb_preempt.specs.Service.{stage_phases};
+ghost use Rattle.tsb_controller.specs.Rows.{AreBy};
+ghost use Rattle.tsb_controller.specs.Promises.{IsTicked};
+ghost use Rattle.tsb_controller.specs.Passing.{wanted_in, IsSeen, ArePhasesStill, AreOthersStill, AreQuietUntil, UnchangedRowsAreSame, WatchedTicksAreTicked, WatchedTicksPass};
+
+use crate::controller::Controller;
+use crate::values::{Sensed, preempt_of};
+use tsb_cells::Reversible;
+use tsb_detect::Greens;
+use tsb_objects::limits::TICKS;
+use tsb_objects::{Checked, PhaseSet, Plan, Preempt, Row, Stage};
+use tsb_preempt::PreemptOrders;
+
+/// The list that names phases 1 to 16.
+const ALL_PHASES: u16 = 65535;
+
+/// The phases of a preempt in a stage.
+#[inline(always)]
+fn stage_phases(plan: &Plan, n: Preempt, stage: Stage) -> PhaseSet
+    ensures { (p : ℕ) → has result p ≡ stage_phases (plan_of plan.now) n stage p }
+{
+    match stage {
+        Stage::Track => plan.track_phases(n),
+        Stage::Dwell => plan.dwell_phases(n),
+        Stage::Exit => plan.exit_phases(n),
+    }
+}
+
+/// What a preempt that serves these phases asks in a tick in which nothing happens to it.
+#[inline(always)]
+fn serving(list: PhaseSet) -> PreemptOrders
+    ensures target { target_of result.target ≡ target_of (Some list) }
+    ensures must_end { (p : ℕ) → 1 ≤ p → p ≤ 16 → has result.must_end p ≡ is_outside (target_of result.target) p }
+    ensures ended { result.ended ≡ false }
+{
+    PreemptOrders {
+        target: Some(list),
+        must_end: PhaseSet::from_list(ALL_PHASES).difference(list),
+        ended: false,
+    }
+}
+
+/// What is asked where no preempt is in service.
+#[inline(always)]
+fn idle() -> PreemptOrders
+    ensures target { result.target ≡ None }
+    ensures must_end { (p : ℕ) → has result.must_end p ≡ false }
+    ensures ended { result.ended ≡ false }
+{
+    PreemptOrders {
+        target: None,
+        must_end: PhaseSet::empty(),
+        ended: false,
+    }
+}
+
+/// What the stage in service asks in a tick in which nothing happens to it.
+#[inline(always)]
+fn standing(plan: &Plan, stage: Option<(Preempt, Stage)>) -> PreemptOrders
+    ensures target { target_of result.target ≡ wanted_in (plan_of plan.now) stage }
+    ensures must_end { (p : ℕ) → 1 ≤ p → p ≤ 16 → has result.must_end p ≡ is_outside (target_of result.target) p }
+    ensures ended { result.ended ≡ false }
+{
+    match stage {
+        None => idle(),
+        Some((n, stage)) => serving(stage_phases(plan, n, stage)),
+    }
+}
+
+impl Controller {
+    ghost use Rattle.tsb_controller.specs.Layer.{rows_of, IsClosed};
+
+    /// What a tick finds before the calls, where it leaves the rows as they were.
+    fn seen(&self, now: u32, plan: &Checked) -> Sensed
+        requires in_time { now ≤ 6000000 }
+        requires pattern_by { coord.IsBy (rows_of self.now).pattern }
+        ensures { IsSeen now (checked_plan plan.now) (rows_of self.now) result }
+    {
+        let outputs = self.detectors.outputs();
+        let actuated = self.detectors.actuations();
+        Sensed {
+            intervals: self.phases.intervals(),
+            pedestrians: self.phases.pedestrians(),
+            outputs,
+            actuated,
+            asked: standing(plan.plan(), self.preempts.stage()),
+            service: preempt_of(self.preempts.stage()),
+            coordination: self.coord.orders(now, plan),
+        }
+    }
+
+    /// The tick up to which phases stay as tick `now` left them, and tell the same.
+    #[inline(never)]
+    fn phases_due(&self, now: u32, row: &Row, plan: &Checked) -> u32
+        requires closed { IsClosed self.now }
+        requires begun { 1 ≤ now }
+        requires in_time { now ≤ 6000000 }
+        requires by { AreBy (now - 1) (rows_of self.now) }
+        ensures later { now < result }
+        ensures still { ArePhasesStill now row.now (checked_plan plan.now) (rows_of self.now) result }
+    {
+        let seen = self.seen(now, plan);
+        let mut calls = self.calls;
+        calls.open();
+        let called = calls.tick(&seen.observed(row), plan);
+        let conditions = seen.conditions(&called, calls.vehicles());
+        self.phases.due(now, &conditions, plan)
+    }
+
+    /// The tick up to which detectors and preempts stay as tick `now` left them, and coordination asks the same, at
+    /// most the one behind the last tick that there is.
+    fn others_due(&self, now: u32, row: &Row, plan: &Checked) -> u32
+        requires in_time { now ≤ 6000000 }
+        requires by { AreBy now (rows_of self.now) }
+        ensures later { now < result }
+        ensures within { result ≤ 6000001 }
+        ensures still { AreOthersStill now row.now (checked_plan plan.now) (rows_of self.now) result }
+    {
+        let intervals = self.phases.intervals();
+        let _greens = Greens::new(intervals.green, self.phases.since());
+        let detectors = self.detectors.due(now, row, plan);
+        let preempts = self.preempts.due(now, row, &intervals, plan);
+        let coordination = self.coord.due(now, plan);
+        detectors.min(preempts).min(coordination.min(TICKS + 1))
+    }
+
+    /// The first tick behind `now` that may change something, where tick `now`, with the inputs of `row` on, changed no
+    /// cell: each tick before it with the same inputs changes none either, and may be passed over. It is the next tick
+    /// where something waits to be looked at, and at most the one behind the last tick that there is.
+    pub fn due(&self, now: u32, row: &Row, plan: &Checked) -> u32
+        requires closed { IsClosed self.now }
+        requires begun { 1 ≤ now }
+        requires in_time { now ≤ 6000000 }
+        requires by { AreBy (now - 1) (rows_of self.now) }
+        requires still { IsTicked now row.now (checked_plan plan.now) (rows_of self.now) (rows_of self.now) }
+        ensures quiet { AreQuietUntil now row.now (checked_plan plan.now) (rows_of self.now) result }
+        ensures later { now < result }
+        ensures within { result ≤ 6000001 }
+    {
+        let others = self.others_due(now, row, plan);
+        if others == now + 1 {
+            return others;
+        }
+        let phases = self.phases_due(now, row, plan);
+        others.min(phases)
+    }
+}
+
+/// A tick that the monitor watched is a tick; and where the rows stay as they were, and it found nothing, it finds nothing
+/// in a tick that is passed over.
+pub fn watched_ticks_pass()
+    ensures ticked { WatchedTicksAreTicked }
+    ensures passed { WatchedTicksPass }
+{}
+
+/// Where a tick's record is empty the rows are as they were.
+pub fn unchanged_rows_are_same()
+    ensures { UnchangedRowsAreSame }
+{}

@@ -1,0 +1,180 @@
+//! What the controller tells of its state: what phases, detectors, rings, preempts and coordination are in, and why a
+//! pattern or a switch would be refused.
+ghost use Rattle.std.specs.Prelude.{◌≡◌, ◌≤◌, ◌||◌, false, is_some};
+ghost use Rattle.std.specs.List.{list_any};
+ghost use Rattle.tsb_types.specs.Flow.{interval_of};
+ghost use Rattle.tsb_types.specs.Intervals.{in_service};
+ghost use Rattle.tsb_types.specs.Lists.{run_from};
+ghost use Rattle.tsb_objects.specs.Checked.{checked_plan};
+ghost use Rattle.tsb_coord.specs.Coordinated.{refusal};
+ghost use Rattle.tsb_preempt.specs.Preempts.{switch_refusal};
+ghost use Rattle.tsb_detect.specs.Layer as detect;
+ghost use Rattle.tsb_calls.specs.Layer as calls;
+ghost use Rattle.tsb_phase.specs.Layer as phases;
+ghost use Rattle.tsb_preempt.specs.Layer as preempts;
+ghost use Rattle.tsb_ring.specs.Cells as rings;
+ghost use Rattle.tsb_coord.specs.Cells as coord;
+ghost use Rattle.tsb_controller.specs.Promises.{TellsServing, TellsPreempted, TellsInterval, TellsPedestrian, TellsVehicleCall, TellsOutput, TellsAlarm, TellsStage, TellsLocal};
+
+use crate::controller::Controller;
+use tsb_calls::Calls;
+use tsb_coord::Coord;
+use tsb_detect::{Alarm, Detectors};
+use tsb_objects::{
+    Checked, Detector, Interval, Intervals, PedestrianInterval, Phase, Preempt, Refusal, Ring,
+    Side, Stage,
+};
+use tsb_phase::Phases;
+use tsb_preempt::Preempts;
+
+/// Whether a phase is in service.
+fn has_service(intervals: &Intervals) -> bool
+    ensures { result ≡ list_any (λ p. in_service (interval_of intervals.now p)) (run_from 1 16) }
+{
+    let served = intervals
+        .green
+        .union(intervals.yellow)
+        .union(intervals.red_clear);
+    match served.first() {
+        Some(phase) => {
+            let _number = phase.number();
+            true
+        }
+        None => false,
+    }
+}
+
+/// Whether something is in service, or a commitment of either ring or a crossing stands.
+fn serves(
+    in_service: bool,
+    first: Option<Phase>,
+    second: Option<Phase>,
+    crossing: Option<Side>,
+) -> bool
+    ensures { result ≡ ((in_service || (is_some first || is_some second)) || is_some crossing) }
+{
+    in_service || first.is_some() || second.is_some() || crossing.is_some()
+}
+
+impl Controller {
+    ghost use Rattle.tsb_controller.specs.Layer.{rows_of, IsClosed};
+
+    /// Whether the rings serve: a phase is in service, or a commitment or a crossing stands. A commit of the structure
+    /// has to wait for them.
+    pub fn is_serving(&self) -> bool
+        requires rings_by { rings.IsBy (rows_of self.now).rings }
+        ensures { TellsServing (rows_of self.now) result }
+    {
+        serves(
+            has_service(&self.phases.intervals()),
+            self.rings.commitment(Ring::of(1)),
+            self.rings.commitment(Ring::of(2)),
+            self.rings.crossing(),
+        )
+    }
+
+    /// Whether a preempt is in service. A commit of the phases of preempts has to wait for it.
+    pub fn is_preempted(&self) -> bool
+        ensures { TellsPreempted (rows_of self.now) result }
+    {
+        self.preempts.stage().is_some()
+    }
+
+    /// The interval of a phase.
+    pub fn interval(&self, p: Phase) -> Interval
+        ensures { TellsInterval (rows_of self.now) p result }
+    {
+        self.phases.interval(p)
+    }
+
+    /// The pedestrian part of a phase.
+    pub fn pedestrian(&self, p: Phase) -> PedestrianInterval
+        ensures { TellsPedestrian (rows_of self.now) p result }
+    {
+        self.phases.ped(p)
+    }
+
+    /// Whether a phase has a vehicle memory.
+    pub fn calls_vehicle(&self, p: Phase) -> bool
+        ensures { TellsVehicleCall (rows_of self.now) p result }
+    {
+        self.calls.vehicle(p)
+    }
+
+    /// Whether a vehicle detector has an output.
+    pub fn output(&self, d: Detector) -> bool
+        ensures { TellsOutput (rows_of self.now) d result }
+    {
+        self.detectors.output(d)
+    }
+
+    /// The alarm of a vehicle detector.
+    pub fn alarm(&self, d: Detector) -> Option<Alarm>
+        ensures { TellsAlarm (rows_of self.now) d result }
+    {
+        self.detectors.alarm(d)
+    }
+
+    /// The preempt in service and its stage, or `None` where none is in service.
+    pub fn stage(&self) -> Option<(Preempt, Stage)>
+        ensures { TellsStage (rows_of self.now) result }
+    {
+        self.preempts.stage()
+    }
+
+    /// The local counter at tick number `now`, at most the last that there is, in ticks, or `None` in free operation. It
+    /// goes on while the controller is tripped.
+    pub fn local(&self, now: u32, plan: &Checked) -> Option<u32>
+        requires pattern_by { coord.IsBy (rows_of self.now).pattern }
+        requires in_time { now ≤ 6000000 }
+        ensures { TellsLocal now (checked_plan plan.now) (rows_of self.now) result }
+    {
+        self.coord.local(now, plan)
+    }
+
+    /// Why a pattern cannot be selected, if it cannot (E9).
+    pub fn pattern_refusal(&self, n: u32, plan: &Checked) -> Option<Refusal>
+        ensures { result ≡ refusal (checked_plan plan.now) n }
+    {
+        Coord::refusal(n, plan)
+    }
+
+    /// Why the switch of preempt `n` cannot be set, if it cannot (E10).
+    pub fn switch_refusal(&self, n: u32, on: bool, plan: &Checked) -> Option<Refusal>
+        ensures { result ≡ switch_refusal (checked_plan plan.now) n on }
+    {
+        Preempts::switch_refusal(n, on, plan)
+    }
+
+    /// The vehicle detectors.
+    pub fn detectors(&self) -> &Detectors
+        ensures cells { detect.cells_of result.now ≡ (rows_of self.now).detectors }
+        ensures closed { IsClosed self.now → detect.is_open result.now ≡ false }
+    {
+        &self.detectors
+    }
+
+    /// The vehicle and pedestrian calls.
+    pub fn calls(&self) -> &Calls
+        ensures cells { calls.cells_of result.now ≡ (rows_of self.now).calls }
+        ensures closed { IsClosed self.now → calls.is_open result.now ≡ false }
+    {
+        &self.calls
+    }
+
+    /// Phase timing.
+    pub fn phases(&self) -> &Phases
+        ensures cells { phases.cells_of result.now ≡ (rows_of self.now).phases }
+        ensures closed { IsClosed self.now → phases.is_open result.now ≡ false }
+    {
+        &self.phases
+    }
+
+    /// The preempts.
+    pub fn preempts(&self) -> &Preempts
+        ensures cells { preempts.cells_of result.now ≡ (rows_of self.now).preempts }
+        ensures closed { IsClosed self.now → preempts.is_open result.now ≡ false }
+    {
+        &self.preempts
+    }
+}
