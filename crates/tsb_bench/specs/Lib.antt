@@ -1,14 +1,6 @@
-pub mod Runnable
-pub mod Signals
-pub mod SignalsCells
-pub mod Controller
-pub mod TimersLaws
-pub mod RingLaws
-pub mod State
-pub mod Display
-pub mod Moves
-pub mod Reading
-pub mod Writes
-pub mod Past
-pub mod Play
-pub mod Quiet
+-- the rows of the cabinet, what an input does to them, and what holds of each earlier state
+pub mod Cabinet
+-- what is said of a watched value as it is wound back
+pub mod Watched
+-- what callers see of a bench, and what it keeps
+pub mod Held

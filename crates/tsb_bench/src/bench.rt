@@ -1,32 +1,42 @@
-//! A controller that can be wound back.
+//! The whole controller, which can be wound back.
 #![tactic(auto, unfolding(tsb_objects::specs::Checked::checked_plan, tsb_plan::specs::PlanOf::plan_of))]
 
-ghost use Rattle.std.specs.Prelude.{◌≡◌, ℕ, ◌+◌, ◌-◌, ◌<◌, ◌≤◌, [], ◌∷◌, length, nat_le, nat_lt, ◌&&◌, true, false, None, Some, Err, OnOk, OnErr, IfOk, IfErr};
-ghost use Rattle.tsb_cells.specs.Diff.{diff, apply_diff, part, shifted, AreWithin};
+ghost use Rattle.std.specs.Prelude.{◌≡◌, ℕ, ◌+◌, ◌-◌, ◌<◌, ◌≤◌, [], ◌∷◌, None, Some, Err, is_some, OnOk, OnErr, IfOk, IfErr, MatchResult};
+ghost use Rattle.tsb_history.specs.declared.kinds.Kind.{Kind as KindValue};
 ghost use Rattle.tsb_history.specs.History.{newest_kind};
 ghost use Rattle.tsb_objects.specs.Checked.{checked_plan};
 ghost use Rattle.tsb_plan.specs.PlanOf.{plan_of};
 ghost use Rattle.tsb_types.specs.declared.refusal.Refusal.TheVariants.{Memory};
-ghost use Rattle.tsb_bench.specs.Controller.{row_of, is_open};
-ghost use Rattle.tsb_bench.specs.Display.{display, shown, IsSafe};
-ghost use Rattle.tsb_bench.specs.Runnable.{runnable_plan};
-ghost use Rattle.tsb_bench.specs.Past.{state_of, whole, earlier, ticks, ticks_of, sought, IsLeastBack, IsGood};
-ghost use Rattle.tsb_bench.specs.SignalsCells.{signals_in, IsAlone, IsBy};
-ghost use Rattle.tsb_bench.specs.State.{start, step, verdict, kind_of, record_of, IsRefusal};
+ghost use Rattle.tsb_heads.specs.Promises.{IsSame};
+ghost use Rattle.tsb_heads.specs.Reading.{heads_of};
+ghost use Rattle.tsb_past.specs.Play.{IsRefusal};
+ghost use Rattle.tsb_step.specs.Good.{IsGood};
+ghost use Rattle.tsb_step.specs.Past.{record_of, earlier, pasts, sought, ticks_of, IsLeastBack};
+ghost use Rattle.tsb_step.specs.Signs.{display, local, stage, IsSafe};
+ghost use Rattle.tsb_step.specs.State.{start};
+ghost use Rattle.tsb_step.specs.Step.{step, verdict, kind_of, last_tick};
+ghost use Rattle.tsb_step.specs.Watches.{TellsLastChange};
+ghost use Rattle.tsb_transact.specs.Cells.{desk_in};
+ghost use Rattle.tsb_transact.specs.Layer.{cells_of};
+ghost use Rattle.tsb_controller.specs.Whole.{AreAllBy, all_in, all_changes};
+ghost use Rattle.tsb_bench.specs.Cabinet.{rows_of, IsShut, IsDone, MayPass, next_tick, most_cells};
+ghost use Rattle.tsb_bench.specs.Held.{state_of, whole, ticks};
 
-use crate::controller::{CELLS, Controller};
-use crate::display::Display;
-use crate::inputs::{Input, Nothing};
-use crate::runnable::Runnable;
+use crate::cabinet::{Cabinet, Changes};
+use crate::watched::Watched;
 use arrayvec::ArrayVec;
-use std::alloc::{AllocError, Global};
+use std::alloc::Global;
 use std::marker::Model;
-use tsb_cells::{Diff, Reversible};
-use tsb_history::{History, Kind, Record};
-use tsb_objects::{Checked, Plan, Refusal, limits};
+use tsb_heads::Display;
+use tsb_history::{History, Kind};
+use tsb_objects::{Checked, Plan, Preempt, Refusal, Stage, limits};
+use tsb_step::Input;
+use tsb_transact::Desk;
+use tsb_types::Watch;
 
-/// The number of the controller's first cell: those of the plan come before.
-const FIRST_CELL: u16 = 1230;
+/// There is nothing to take back, or not so much.
+#[derive(Clone, Copy, Debug, PartialEq, Eq)]
+pub struct Nothing;
 
 /// A controller that runs a plan, and can be wound back.
 ///
@@ -34,63 +44,44 @@ const FIRST_CELL: u16 = 1230;
 /// first, and the whole controller is then as it was before it.
 #[derive(Drop)]
 pub struct Bench {
-    tick: u32,
-    plan: Checked,
-    controller: Controller,
-    history: History,
+    pub(crate) tick: u32,
+    pub(crate) cabinet: Cabinet,
+    pub(crate) history: History,
+    /// The cells that the newest input changed. It is kept as it takes long to make, and says nothing else.
+    changes: Changes,
 }
 
 impl Model for Bench {
-    ghost use Rattle.tsb_bench.specs.Controller.{row_of, is_open};
-    ghost use Rattle.tsb_bench.specs.Past.{Held, IsKept};
+    ghost use Rattle.tsb_bench.specs.Cabinet.{rows_of, IsShut, MayPass};
+    ghost use Rattle.tsb_bench.specs.Held.{Held, IsSound};
 
     ghost Value = { Held };
 
-    ghost view = { λ a. record { tick = a.tick; plan = a.plan.plan.values; row = row_of a.controller; records = a.history.records; room = a.history.room } };
+    ghost view = { λ a. record { tick = a.tick; rows = rows_of a.cabinet; records = a.history.records; room = a.history.room } };
 
-    ghost invariant = { λ a. IsKept (is_open a.controller)
-        (record { tick = a.tick; plan = a.plan.plan.values; row = row_of a.controller; records = a.history.records; room = a.history.room }) };
+    ghost invariant = { λ a. IsShut a.cabinet × IsSound a.tick (rows_of a.cabinet) a.history.records × MayPass a.tick a.cabinet };
 }
 
-/// Lets the controller take an input, gives the number of the tick then, and adds the cells that changed to `entries`,
-/// each with its value before.
-fn stepped(
-    tick: u32,
-    controller: &mut Controller,
-    plan: &Checked,
-    input: Input,
-    entries: &mut Diff<CELLS>,
-) -> u32
-    requires allowed { verdict (record { now = tick; plan = checked_plan plan.now; signals = signals_in tick (row_of controller.old) }) input ≡ None }
-    requires closed { is_open controller.old ≡ false }
-    requires by { IsBy tick (row_of controller.old) }
-    requires alone { IsAlone (signals_in tick (row_of controller.old)) }
-    requires empty { entries.old.items ≡ [] }
-    ensures state { record { now = result; plan = checked_plan plan.now; signals = signals_in result (row_of controller.new) }
-        ≡ step (record { now = tick; plan = checked_plan plan.now; signals = signals_in tick (row_of controller.old) }) input }
-    ensures entries { entries.new.items ≡ shifted 1230 (diff (row_of controller.old) (row_of controller.new)) }
-    ensures closed { is_open controller.new ≡ false }
-    ensures by { IsBy result (row_of controller.new) }
-{
-    let next = match input {
-        Input::Tick(_) => tick + 1,
-    };
-    controller.open();
-    controller.tick(next, plan);
-    controller.close_onto(entries, FIRST_CELL);
-    next
-}
-
-fn kind_of_input(input: Input) -> Kind
-    ensures { result ≡ kind_of input }
+/// The kind of an input.
+fn kind_of(input: &Input) -> Kind
+    ensures { result ≡ kind_of input.now }
 {
     match input {
         Input::Tick(_) => Kind::Tick,
+        Input::Pattern(_) => Kind::Pattern,
+        Input::Switch(_, _) => Kind::Switch,
+        Input::Fault(_) => Kind::Fault,
+        Input::Reset => Kind::Reset,
+        Input::Begin(_) => Kind::Begin,
+        Input::Set(_, _, _) => Kind::Set,
+        Input::Verify(_) => Kind::Verify,
+        Input::Commit(_) => Kind::Commit,
+        Input::Abort(_) => Kind::Abort,
     }
 }
 
 /// By how much an input of this kind moves the tick number.
-fn ticks_of_kind(kind: Kind) -> u32
+pub(crate) fn ticks_of(kind: Kind) -> u32
     ensures { result ≡ ticks_of kind }
 {
     match kind {
@@ -99,66 +90,69 @@ fn ticks_of_kind(kind: Kind) -> u32
     }
 }
 
-/// Whether it is a cell of the controller.
-fn is_of_controller(cell: u16) -> bool
-    ensures value { result ≡ (nat_le 1230 cell && nat_lt cell 1317) }
-    ensures from { result ≡ true → 1230 ≤ cell }
+/// How many cells an input of this kind can change.
+fn most_cells(kind: Kind) -> usize
+    ensures { result ≡ most_cells kind }
 {
-    FIRST_CELL <= cell && cell < FIRST_CELL + CELLS as u16
-}
-
-/// The record's entries of the controller, its cells numbered from 0.
-fn controller_part(change: &Record<'_>) -> Diff<CELLS>
-    requires few { length (part 1230 87 change.now.entries) ≤ 87 }
-    ensures { result.items ≡ part 1230 87 change.now.entries }
-{
-    let mut entries = ArrayVec::new();
-    for i in 0..change.len() {
-        if let Some((cell, old)) = change.entry(i) {
-            if is_of_controller(cell) {
-                entries.push((cell - FIRST_CELL, old));
-            }
-        }
+    match kind {
+        Kind::Commit => 1579,
+        _ => 217,
     }
-    entries
 }
 
-/// Takes back what a record tells of the controller, and gives the number of the tick then.
-#[tactic(auto, using(tsb_cells::proofs::DiffLemmas::lengths, crate::proofs::PartLemmas::parts))]
-fn taken_back(tick: u32, controller: &mut Controller, change: &Record<'_>) -> u32
-    requires few { length (part 1230 87 change.now.entries) ≤ 87 }
-    requires tick { ticks_of change.now.kind ≤ tick }
-    requires closed { is_open controller.old ≡ false }
-    ensures tick { result ≡ tick - ticks_of change.now.kind }
-    ensures cells { row_of controller.new ≡ apply_diff (row_of controller.old) (part 1230 87 change.now.entries) }
-    ensures closed { is_open controller.new ≡ false }
+/// Takes an input at tick number `tick` which is not refused, with its record, and gives the tick number after it.
+/// The cells that it changes take the place of those in `changes`.
+#[inline(never)]
+fn work(
+    cabinet: &mut Cabinet,
+    history: &mut History,
+    changes: &mut Changes,
+    tick: u32,
+    input: &Input,
+) -> u32
+    requires shut { IsShut cabinet.old }
+    requires by { AreAllBy tick (rows_of cabinet.old) }
+    requires limit { tick ≤ last_tick }
+    requires good { IsGood (all_in tick (rows_of cabinet.old)) }
+    requires allowed { verdict (all_in tick (rows_of cabinet.old)) input.now ≡ None }
+    requires room { most_cells (kind_of input.now) < history.old.room }
+    ensures next { result ≡ next_tick tick input.now }
+    ensures done { IsDone input.now tick (rows_of cabinet.old) (rows_of cabinet.new) (all_changes (rows_of cabinet.old) (rows_of cabinet.new)) }
+    ensures records { history.new.records ≡
+        record { kind = kind_of input.now; entries = all_changes (rows_of cabinet.old) (rows_of cabinet.new) } ∷ history.old.records }
+    ensures shut { IsShut cabinet.new }
+    ensures passing { MayPass result cabinet.new }
 {
-    let changes = controller_part(change);
-    controller.undo(&changes);
-    tick - ticks_of_kind(change.kind())
+    changes.clear();
+    let tick = cabinet.step(tick, input, changes);
+    history.push(kind_of(input), changes);
+    tick
 }
 
 impl Bench {
-    /// The greatest number of a tick.
+    /// The greatest number of a tick: 6,000,000.
     pub const TICKS: u32 = limits::TICKS;
 
-    /// A bench at power-up, which runs this plan: all phases Red, at tick 0. It takes no memory.
-    pub fn power_up(alloc: Global, plan: Runnable) -> Bench
-        ensures { whole result ≡ record { state = start (runnable_plan plan); records = [] } }
+    /// A bench at power-up, which runs this plan: all phases Red, at tick 0. `Memory`, where there is none for the
+    /// desk's edits, is its only refusal.
+    pub fn power_up(alloc: Global, plan: Checked) -> Result<Bench, Refusal>
+        ensures { MatchResult result (λ b. whole b ≡ record { state = start (checked_plan plan); records = [] }) (λ e. e ≡ Memory) }
     {
-        Bench {
+        let cabinet = Cabinet::new(alloc, plan)?;
+        Ok(Bench {
             tick: 0,
-            plan: plan.checked(),
-            controller: Controller::new(),
+            cabinet,
             history: History::new(alloc),
-        }
+            changes: ArrayVec::new(),
+        })
     }
 
     /// The number of the tick: how many tenths of a second have passed since power-up.
     pub fn now(&self) -> u32
         ensures now { result ≡ self.now.tick }
+        ensures limit { result ≤ 6000000 }
         ensures ticks { result ≡ ticks self.now.records }
-        // The state and each earlier one have all values in range, and a plan that the bench runs.
+        // The state and each earlier one are such as runs lead to: the plan breaks no rule, and so on.
         ensures good { (k : ℕ) → IsGood (earlier (whole self.now) k).state }
     {
         self.tick
@@ -166,37 +160,53 @@ impl Bench {
 
     /// What the heads show.
     pub fn display(&self) -> Display
-        ensures shown { (p : ℕ) → shown result p ≡ display (state_of self.now) p }
-        // Two phases with right of way are concurrent in the plan.
-        ensures safe { IsSafe (state_of self.now).plan (display (state_of self.now)) }
+        ensures shown { IsSame (heads_of result) (display (state_of self.now)) }
+        // Two phases with right of way are concurrent in the plan in effect.
+        ensures safe { IsSafe (state_of self.now) }
     {
-        Display {
-            enabled: self.plan.enabled(),
-            green: self.controller.green(),
-            yellow: self.controller.yellow(),
-        }
+        self.cabinet
+            .controller
+            .display(self.cabinet.monitor.is_tripped(), &self.cabinet.plan)
     }
 
-    /// The plan that the bench runs.
+    /// The local counter of the pattern that runs, in tenths of a second.
+    pub fn local(&self) -> Option<u32>
+        ensures { result ≡ local (state_of self.now) }
+    {
+        self.cabinet.controller.local(self.tick, &self.cabinet.plan)
+    }
+
+    /// The preempt in service, with its stage.
+    pub fn stage(&self) -> Option<(Preempt, Stage)>
+        ensures { result ≡ stage (state_of self.now) }
+    {
+        self.cabinet.controller.stage()
+    }
+
+    /// Whether the monitor has tripped the controller.
+    pub fn is_tripped(&self) -> bool
+        ensures { result ≡ is_some (state_of self.now).trip }
+    {
+        self.cabinet.monitor.is_tripped()
+    }
+
+    /// The plan in effect.
     pub fn plan(&self) -> &Plan
         ensures { plan_of result.now ≡ (state_of self.now).plan }
     {
-        self.plan.plan()
+        self.cabinet.plan.plan()
     }
 
-    /// Why an input is refused, but for want of memory.
-    fn refusal_of(&self, input: Input) -> Option<Refusal>
-        ensures { result ≡ verdict (state_of self.now) input }
+    /// The desk at which stations change the plan.
+    pub fn desk(&self) -> &Desk
+        ensures { desk_in (cells_of result.now) ≡ (state_of self.now).desk }
     {
-        match input {
-            Input::Tick(_) if self.tick >= Self::TICKS => Some(Refusal::TickLimit),
-            Input::Tick(_) => None,
-        }
+        &self.cabinet.desk
     }
 
     /// Takes an input.
     ///
-    /// `TickLimit` is a tick at tick 6,000,000. `Memory` says that memory ran out, and comes only where there is no
+    /// What a refusal means stands with each input. `Memory` says that memory ran out, and comes only where there is no
     /// other refusal and the history had to grow. A refused input leaves the bench as it was.
     pub fn apply(&mut self, input: Input) -> Result<(), Refusal>
         ensures allowed { OnOk result (verdict (state_of self.old) input ≡ None) }
@@ -206,25 +216,30 @@ impl Bench {
         ensures back { OnOk result (earlier (whole self.new) 1 ≡ whole self.old) }
         ensures refused { IfErr result (IsRefusal (verdict (state_of self.old) input)) }
         ensures err { OnErr result (self.new ≡ self.old) }
-        // Memory is wanting only where the history had no room for a record of all the controller's cells.
-        ensures wanting { result ≡ Err Memory → self.old.room ≤ 87 }
+        // Out of memory only where the history had no room for a record of all the cells that such an input can change.
+        ensures wanting { result ≡ Err Memory → self.old.room ≤ most_cells (kind_of input) }
     {
-        if let Some(refusal) = self.refusal_of(input) {
+        if self.cabinet.passes(self.tick, &input) {
+            if self.history.reserve(0).is_err() {
+                return Err(Refusal::Memory);
+            }
+            self.tick += 1;
+            self.history.push(Kind::Tick, &[]);
+            return Ok(());
+        }
+        if let Some(refusal) = self.cabinet.refusal(self.tick, &input) {
             return Err(refusal);
         }
-        if self.history.reserve(CELLS).is_err() {
+        if self.history.reserve(most_cells(kind_of(&input))).is_err() {
             return Err(Refusal::Memory);
         }
-        let mut entries = ArrayVec::new();
-        let tick = stepped(
+        self.tick = work(
+            &mut self.cabinet,
+            &mut self.history,
+            &mut self.changes,
             self.tick,
-            &mut self.controller,
-            &self.plan,
-            input,
-            &mut entries,
+            &input,
         );
-        self.tick = tick;
-        self.history.push(kind_of_input(input), &entries);
         Ok(())
     }
 
@@ -241,7 +256,8 @@ impl Bench {
             return Err(Nothing);
         };
         let kind = change.kind();
-        self.tick = taken_back(self.tick, &mut self.controller, &change);
+        self.cabinet.undo(&change);
+        self.tick -= ticks_of(kind);
         let _ = self.history.pop();
         Ok(kind)
     }
@@ -283,20 +299,37 @@ impl Bench {
         self.seek(self.tick - ticks)
     }
 
-    /// A bench that is in the same state and has the same history, in memory of its own. An `Err` says that memory
-    /// ran out.
-    pub fn clone_in(&self, alloc: Global) -> Result<Bench, AllocError>
-        ensures { IfOk result (λ b. whole b ≡ whole self.now) }
+    /// The greatest tick number, of those not taken back, at which the watched value changed; `None` where it never did.
+    /// An input that is no tick counts at the tick number in force (profile). It takes no memory.
+    pub fn when(&self, watch: Watch) -> Option<u32>
+        ensures { TellsLastChange watch (pasts (state_of self.now) self.now.records) result }
     {
-        let history = self.history.clone_in(alloc)?;
+        let mut watched = Watched::of(&self.cabinet, watch);
+        let value = watched.value();
+        let mut tick = self.tick;
+        for change in self.history.walk_back() {
+            watched.undo(&change);
+            if !watched.value().is_same(&value) {
+                return Some(tick);
+            }
+            tick -= ticks_of(change.kind());
+        }
+        None
+    }
+
+    /// A bench that is in the same state and has the same history, in memory of its own. `Memory` is its only refusal.
+    pub fn clone_in(&self, alloc: Global) -> Result<Bench, Refusal>
+        ensures { MatchResult result (λ b. whole b ≡ whole self.now) (λ e. e ≡ Memory) }
+    {
+        let cabinet = self.cabinet.clone_in(alloc)?;
+        let Ok(history) = self.history.clone_in(alloc) else {
+            return Err(Refusal::Memory);
+        };
         Ok(Bench {
             tick: self.tick,
-            plan: self.plan,
-            controller: self.controller,
+            cabinet,
             history,
+            changes: ArrayVec::new(),
         })
     }
 }
-
-#[cfg(test)]
-mod record_tests;

@@ -1,36 +1,21 @@
-//! The bench: an actuated controller that can be wound back. It takes inputs, gives a display, and takes the
-//! newest inputs back, with the whole controller as it was.
+//! The bench: the whole controller, which can be wound back. It takes inputs, gives a display, and takes the newest
+//! inputs back, with the whole controller as it was.
 //!
-//! So far it runs plans of one ring with at most one phase on a side, all on maximum recall.
+//! [`Bench`] meets the one step of the definitions (`tsb_step`), and the way back of `tsb_past`: what holds of every run
+//! and of every session by them holds of what [`play`] leaves.
 #![tactic(auto)]
 
 mod bench;
-mod commands;
-mod controller;
-mod display;
-mod inputs;
-mod moves;
-mod next;
-mod phase_timers;
+mod cabinet;
+mod desk_inputs;
+mod layer_inputs;
+mod monitor_cells;
+mod passing;
 mod player;
-mod reading;
-mod ring_state;
-mod runnable;
-mod sets;
-mod timing;
-mod want;
+mod watched;
 
-pub use bench::Bench;
-pub use commands::{Answer, Cmd};
-pub use display::{Aspect, Display};
-pub use inputs::{Input, Nothing};
+pub use bench::{Bench, Nothing};
 pub use player::{answer, play};
-pub use runnable::Runnable;
 pub use tsb_history::Kind;
-pub use tsb_objects::{
-    Checked, NumberSet, Object, ObjectId, Phase, Plan, Range, Refusal, Row, Rule, Station, check,
-    range_of,
-};
-
-#[cfg(test)]
-mod tests;
+pub use tsb_past::Answer;
+pub use tsb_step::{Cmd, Input};

@@ -1,54 +1,93 @@
-use Rattle.std.proofs.Common.{◌≡◌, ◌∷◌, List, ap, sym, ◌∙◌, Option, None, Some, refl}
-use Rattle.tsb_objects.specs.Checked.{checked_plan}
-use Rattle.tsb_plan.specs.PlanOf.{plan_of}
+use Rattle.std.proofs.Common.{◌≡◌, ◌+◌, ◌≤◌, [], ◌∷◌, ◌∙◌, List, ap, sym, arith, Option, None, Some, refl}
 use Rattle.tsb_history.specs.History.{Change}
-use Rattle.tsb_history.specs.declared.kinds.Kind.{Kind}
+use Rattle.tsb_history.specs.declared.kinds.Kind.TheVariants as kinds
+use Rattle.std.specs.Prelude.{Result, Err}
 use Rattle.tsb_types.specs.declared.refusal.Refusal.{Refusal}
-use Rattle.tsb_bench.specs.Controller.{row_of, is_open}
-use Rattle.tsb_bench.specs.Past.{Held, state_of, whole}
-use Rattle.tsb_bench.specs.State.{kind_of, verdict, record_of}
-use Rattle.tsb_bench.proofs.PastLemmas.{Applied, sound-good, kept-applied, records-applied, back-applied}
+use Rattle.tsb_types.specs.declared.refusal.Refusal.TheVariants.{Memory}
+use Rattle.tsb_controller.specs.Whole.{all_in, all_changes}
+use Rattle.tsb_step.specs.Past.{record_of}
+use Rattle.tsb_step.specs.Step.{kind_of, verdict}
+use Rattle.tsb_bench.specs.Cabinet.{rows_of}
+use Rattle.tsb_bench.specs.Held.{Held, state_of, whole}
+use Rattle.tsb_bench.proofs.HeldLemmas.{sound-held}
+use Rattle.tsb_bench.proofs.PassingLemmas.{may-later, sound-passed, records-passed, back-passed, sound-taken, records-taken, back-taken}
+use Rattle.tsb_bench.proofs.RefusalLemmas.{never-memory, refuses}
 use Rattle.tsb_bench.proofs.bench.Bench.apply.Goals as goal
+
+-- ## A tick that is passed over
+
+pub overflow_add-self : goal.overflow_add-self
+overflow_add-self c = let below : c.self.inside.tick ≤ 6000000 = (sound-held _ _ _ c.self.invariant.1).limit in omega (arith, below)
+
+pub invariant_of-self-then-passes : goal.invariant_of-self-then-passes
+invariant_of-self-then-passes c = (
+  c.self.invariant.0,
+  sound-passed c.args.input c.self.inside.tick c.self.inside.cabinet c.self.inside.history.records c.push.new.self.records c.self.invariant.1 (c.passes.ensures c.if-passes.true)
+      (c.push.ensures ∙ ap (λ (rs : List Change). record { kind = kinds.Tick; entries = [] } ∷ rs) c.reserve.ensures.same),
+  may-later c.self.inside.tick (c.self.inside.tick + 1) c.self.inside.cabinet (omega arith) c.self.invariant.2,
+)
+
+pub returns-then-passes-clause-records : goal.returns-then-passes-clause-records
+returns-then-passes-clause-records c =
+    records-passed c.args.input c.self.inside.tick c.self.inside.cabinet c.self.inside.history.records c.push.new.self.records c.self.invariant.1 (c.passes.ensures c.if-passes.true)
+    (c.push.ensures ∙ ap (λ (rs : List Change). record { kind = kinds.Tick; entries = [] } ∷ rs) c.reserve.ensures.same)
+    ∙ ap (λ (h : Held). record_of c.args.input (state_of h) (all_in (c.self.inside.tick + 1) (rows_of c.self.inside.cabinet)) ∷ h.records) c.self.view_is
+
+pub returns-then-passes-clause-back : goal.returns-then-passes-clause-back
+returns-then-passes-clause-back c =
+    back-passed c.args.input c.self.inside.tick c.self.inside.cabinet c.self.inside.history.records c.push.new.self.records c.self.invariant.1 (c.passes.ensures c.if-passes.true)
+    (c.push.ensures ∙ ap (λ (rs : List Change). record { kind = kinds.Tick; entries = [] } ∷ rs) c.reserve.ensures.same)
+    ∙ ap whole c.self.view_is
+
+-- ## An input that is worked out
 
 no_refusal : (found : Option Refusal) → ((e : Refusal) → found ≡ Some e → ⊥) → found ≡ None
 no_refusal None none = refl
 no_refusal (Some e) none = absurd (none e refl)
 
--- what the controller has gone through
-applied : (c : goal.After-push) → Applied (record { tick = c.self.inside.tick; plan = c.self.inside.plan.plan.values; row = row_of c.self.inside.controller; records = c.self.inside.history.records; room = c.self.inside.history.room }) c.args.input c.stepped-tick.result
-    (row_of c.stepped-tick.new.controller) c.deref.result.now
-unfolding checked_plan plan_of
-applied c = record {
-  allowed = ap (λ (h : Held). verdict (state_of h) c.args.input) c.self.view_is ∙ sym c.refusal_of.ensures ∙ no_refusal c.refusal_of.result c.in_default.not-Some;
-  state = c.stepped-tick.ensures.state;
-  entries = c.deref.ensures.0 ∙ c.stepped-tick.ensures.entries;
-  by = c.stepped-tick.ensures.by;
-}
+pub refusal-requires : goal.refusal-requires
+refusal-requires c = record { by = (sound-held _ _ _ c.self.invariant.1).by }
 
-pushed : (c : goal.After-push) → c.push.new.self.records ≡ record { kind = kind_of c.args.input; entries = c.deref.result.now } ∷ c.self.inside.history.records
-pushed c =
-    c.push.ensures ∙ ap (λ (k : Kind). record { kind = k; entries = c.deref.result.now } ∷ c.reserve.new.self.records) c.kind_of_input.ensures
-    ∙ ap (λ (rs : List Change). record { kind = kind_of c.args.input; entries = c.deref.result.now } ∷ rs) c.reserve.ensures.same
+pub returns-in-Some-clause-refused : goal.returns-in-Some-clause-refused
+returns-in-Some-clause-refused c =
+    refuses (state_of c.args.self.now) c.args.input c.in-Some.refusal (sym (ap (λ (h : Held). verdict (state_of h) c.args.input) c.self.view_is) ∙ sym c.refusal.ensures ∙ c.in-Some.is)
+
+pub returns-in-Some-clause-wanting : goal.returns-in-Some-clause-wanting
+returns-in-Some-clause-wanting c memory =
+    absurd (never-memory (state_of c.args.self.now) c.args.input
+    (sym (ap (λ (h : Held). verdict (state_of h) c.args.input) c.self.view_is) ∙ sym c.refusal.ensures ∙ c.in-Some.is ∙ same c.in-Some.refusal memory))
+  where
+    same : (e : Refusal) → ◌≡◌ {A = Result (Unit {0}) Refusal} (Err e) (Err Memory) → Some e ≡ Some Memory
+    same e h = cc
+
+pub work-self-inside-requires-clause-by : goal.work-self-inside-requires-clause-by
+work-self-inside-requires-clause-by c = (sound-held _ _ _ c.self.invariant.1).by
+
+pub work-self-inside-requires-clause-limit : goal.work-self-inside-requires-clause-limit
+work-self-inside-requires-clause-limit c = (sound-held _ _ _ c.self.invariant.1).limit
+
+pub work-self-inside-requires-clause-good : goal.work-self-inside-requires-clause-good
+work-self-inside-requires-clause-good c = (sound-held _ _ _ c.self.invariant.1).good
 
 pub invariant_of-self-2 : goal.invariant_of-self-2
-invariant_of-self-2 c =
-    kept-applied (is_open c.self.inside.controller) (is_open c.stepped-tick.new.controller) (record { tick = c.self.inside.tick; plan = c.self.inside.plan.plan.values; row = row_of c.self.inside.controller; records = c.self.inside.history.records; room = c.self.inside.history.room }) c.args.input c.stepped-tick.result
-    (row_of c.stepped-tick.new.controller) c.deref.result.now c.push.new.self.records c.push.new.self.room c.self.invariant c.stepped-tick.ensures.closed (applied c) (pushed c)
+invariant_of-self-2 c = (
+  c.work-self-inside.ensures.shut,
+  sound-taken c.args.input c.self.inside.tick c.work-self-inside.result c.self.inside.cabinet c.work-self-inside.new.cabinet (all_changes (rows_of c.self.inside.cabinet) (rows_of c.work-self-inside.new.cabinet)) c.self.inside.history.records
+      c.work-self-inside.new.history.records c.self.invariant.1 (sym c.refusal.ensures ∙ no_refusal c.refusal.result c.in_default.not-Some) c.work-self-inside.ensures.done c.work-self-inside.ensures.next
+      (c.work-self-inside.ensures.records ∙ ap (λ (rs : List Change). record { kind = kind_of c.args.input; entries = all_changes (rows_of c.self.inside.cabinet) (rows_of c.work-self-inside.new.cabinet) } ∷ rs) c.reserve-2.ensures.same),
+  c.work-self-inside.ensures.passing,
+)
 
 pub returns-clause-records : goal.returns-clause-records
 returns-clause-records c =
-    let next : Held = record { tick = c.stepped-tick.result; plan = c.self.inside.plan.plan.values; row = row_of c.stepped-tick.new.controller; records = c.push.new.self.records; room = c.push.new.self.room } in
-    records-applied (is_open c.self.inside.controller) (record { tick = c.self.inside.tick; plan = c.self.inside.plan.plan.values; row = row_of c.self.inside.controller; records = c.self.inside.history.records; room = c.self.inside.history.room }) c.args.input c.stepped-tick.result
-    (row_of c.stepped-tick.new.controller) c.deref.result.now c.push.new.self.records c.self.invariant (applied c) (pushed c)
-    ∙ ap (λ (h : Held). record_of c.args.input (state_of h) (state_of next) ∷ h.records) c.self.view_is
+    records-taken c.args.input c.self.inside.tick c.work-self-inside.result c.self.inside.cabinet c.work-self-inside.new.cabinet (all_changes (rows_of c.self.inside.cabinet) (rows_of c.work-self-inside.new.cabinet)) c.self.inside.history.records
+    c.work-self-inside.new.history.records c.self.invariant.1 (sym c.refusal.ensures ∙ no_refusal c.refusal.result c.in_default.not-Some) c.work-self-inside.ensures.done c.work-self-inside.ensures.next
+    (c.work-self-inside.ensures.records ∙ ap (λ (rs : List Change). record { kind = kind_of c.args.input; entries = all_changes (rows_of c.self.inside.cabinet) (rows_of c.work-self-inside.new.cabinet) } ∷ rs) c.reserve-2.ensures.same)
+    ∙ ap (λ (h : Held). record_of c.args.input (state_of h) (all_in c.work-self-inside.result (rows_of c.work-self-inside.new.cabinet)) ∷ h.records) c.self.view_is
 
 pub returns-clause-back : goal.returns-clause-back
 returns-clause-back c =
-    back-applied (is_open c.self.inside.controller) (record { tick = c.self.inside.tick; plan = c.self.inside.plan.plan.values; row = row_of c.self.inside.controller; records = c.self.inside.history.records; room = c.self.inside.history.room }) c.args.input c.stepped-tick.result
-    (row_of c.stepped-tick.new.controller) c.deref.result.now c.push.new.self.records c.self.invariant (applied c) (pushed c)
+    back-taken c.args.input c.self.inside.tick c.work-self-inside.result c.self.inside.cabinet c.work-self-inside.new.cabinet (all_changes (rows_of c.self.inside.cabinet) (rows_of c.work-self-inside.new.cabinet)) c.self.inside.history.records
+    c.work-self-inside.new.history.records c.self.invariant.1 (sym c.refusal.ensures ∙ no_refusal c.refusal.result c.in_default.not-Some) c.work-self-inside.ensures.done c.work-self-inside.ensures.next
+    (c.work-self-inside.ensures.records ∙ ap (λ (rs : List Change). record { kind = kind_of c.args.input; entries = all_changes (rows_of c.self.inside.cabinet) (rows_of c.work-self-inside.new.cabinet) } ∷ rs) c.reserve-2.ensures.same)
     ∙ ap whole c.self.view_is
-
-pub stepped-tick-requires-clause-alone : goal.stepped-tick-requires-clause-alone
-stepped-tick-requires-clause-alone c =
-    let h : Held = record { tick = c.self.inside.tick; plan = c.self.inside.plan.plan.values; row = row_of c.self.inside.controller; records = c.self.inside.history.records; room = c.self.inside.history.room } in
-    (sound-good (state_of h) h.records c.self.invariant.sound).alone

@@ -1,22 +1,23 @@
-use Rattle.std.proofs.Common.{◌∙◌, subst, ap}
+use Rattle.std.proofs.Common.{sym, subst, refl}
 use Rattle.tsb_objects.specs.Checked.{checked_plan}
 use Rattle.tsb_plan.specs.PlanOf.{plan_of}
-use Rattle.tsb_bench.specs.Controller.{row_of}
-use Rattle.tsb_bench.specs.Display.{display, IsSafe}
-use Rattle.tsb_bench.specs.Past.{Held, state_of}
-use Rattle.tsb_bench.proofs.PastLemmas.{sound-good}
-use Rattle.tsb_bench.proofs.SafeLemmas.{safe, shown-display}
+use Rattle.tsb_heads.specs.Promises.{IsSame}
+use Rattle.tsb_heads.specs.Reading.{heads_of}
+use Rattle.tsb_step.specs.Signs.{display, IsSafe}
+use Rattle.tsb_bench.specs.Cabinet.{rows_of}
+use Rattle.tsb_bench.specs.Held.{Held, state_of}
+use Rattle.tsb_bench.proofs.HeldLemmas.{sound-held, safe}
+use Rattle.tsb_bench.proofs.InputLemmas.{beside}
 use Rattle.tsb_bench.proofs.bench.Bench.display.Goals as goal
+
+pub display-requires : goal.display-requires
+display-requires c = record { rings_by = (sound-held _ _ _ c.self.invariant.1).by.layers.rings }
 
 pub returns-clause-shown : goal.returns-clause-shown
 unfolding checked_plan plan_of
-returns-clause-shown c p =
-    let h : Held = record { tick = c.self.inside.tick; plan = c.self.inside.plan.plan.values; row = row_of c.self.inside.controller; records = c.self.inside.history.records; room = c.self.inside.history.room } in
-    shown-display (record { enabled = c.enabled.result; green = c.green.result; yellow = c.yellow.result }) (state_of h) p
-    (c.enabled.ensures p) (c.green.ensures p) (c.yellow.ensures p)
-    ∙ ap (λ (g : Held). display (state_of g) p) c.self.view_is
+returns-clause-shown c =
+    subst (λ (h : Held). IsSame (heads_of c.display.result) (display (state_of h))) c.self.view_is
+    (c.display.ensures c.self.inside.tick (beside (rows_of c.self.inside.cabinet)) refl (sym c.is_tripped.ensures))
 
 pub returns-clause-safe : goal.returns-clause-safe
-returns-clause-safe c =
-    let h : Held = record { tick = c.self.inside.tick; plan = c.self.inside.plan.plan.values; row = row_of c.self.inside.controller; records = c.self.inside.history.records; room = c.self.inside.history.room } in
-    subst (λ (g : Held). IsSafe (state_of g).plan (display (state_of g))) c.self.view_is (safe (state_of h) (sound-good (state_of h) h.records c.self.invariant.sound).alone)
+returns-clause-safe c = subst (λ (h : Held). IsSafe (state_of h)) c.self.view_is (safe _ (sound-held _ _ _ c.self.invariant.1).good)

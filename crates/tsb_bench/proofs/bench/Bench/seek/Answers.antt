@@ -1,12 +1,14 @@
 use Rattle.std.proofs.Common.{◌≡◌, ◌∙◌, sym, ap, subst, rules}
-use Rattle.tsb_bench.proofs.PastLemmas.{sought-here, sought-least, GoesBack, goes-back}
-use Rattle.tsb_bench.specs.Past.{Held, Whole, state_of, whole, sought, IsLeastBack, IsSound}
+use Rattle.tsb_past.proofs.PastLemmas.{sought-here, sought-least}
+use Rattle.tsb_step.specs.Past.{Whole, controller, sought, IsLeastBack}
+use Rattle.tsb_bench.specs.Held.{Held, state_of, whole, IsSound}
+use Rattle.tsb_bench.proofs.HeldLemmas.{GoesBack, goes-back}
 use Rattle.tsb_bench.proofs.bench.Bench.seek.Goals as goal
 
 back : (c : goal.After-undo) → GoesBack c.args.tick c.loop-self.self c.undo.new.self
 back c =
     goes-back c.args.tick c.loop-self.self c.undo.new.self c.undo.result
-    (subst (λ (h : Held). IsSound (state_of h) h.records) c.self-in-loop-self.view_is c.self-in-loop-self.invariant.sound) c.loop-self.invariant.ahead
+    (subst (λ (h : Held). IsSound h.tick h.rows h.records) c.self-in-loop-self.view_is c.self-in-loop-self.invariant.1) c.loop-self.invariant.ahead
     (λ e. c.loop-self-test.true (ap (λ (h : Held). h.tick) c.self-in-loop-self.view_is ∙ e)) c.undo.ensures.ok c.undo.ensures.nothing
 
 pub loop-self-smaller : goal.loop-self-smaller
@@ -18,12 +20,12 @@ loop-self-preserved c = record { ahead = (back c).ahead; same = (back c).same �
 pub returns-clause-ok : goal.returns-clause-ok
 returns-clause-ok c =
     let there : c.loop-self.self.tick ≡ c.args.tick = search rules in
-    sym (sought-here c.args.tick (state_of c.loop-self.self) c.loop-self.self.records there) ∙ c.loop-self.invariant.same
+    sym (sought-here controller c.args.tick (state_of c.loop-self.self) c.loop-self.self.records there) ∙ c.loop-self.invariant.same
 
 pub returns-clause-least : goal.returns-clause-least
 returns-clause-least c =
     let there : c.loop-self.self.tick ≡ c.args.tick = search rules in
     let is : whole c.loop-self.self ≡ sought c.args.tick (state_of c.args.self.now) c.args.self.now.records =
-    sym (sought-here c.args.tick (state_of c.loop-self.self) c.loop-self.self.records there) ∙ c.loop-self.invariant.same in
+    sym (sought-here controller c.args.tick (state_of c.loop-self.self) c.loop-self.self.records there) ∙ c.loop-self.invariant.same in
     subst (λ (w : Whole). IsLeastBack c.args.tick (whole c.args.self.now) w) (sym is)
-    (sought-least c.args.tick (state_of c.args.self.now) c.args.self.now.records (subst (λ (w : Whole). w.state.now ≡ c.args.tick) is there))
+    (sought-least controller c.args.tick (state_of c.args.self.now) c.args.self.now.records (subst (λ (w : Whole). w.state.now ≡ c.args.tick) is there))

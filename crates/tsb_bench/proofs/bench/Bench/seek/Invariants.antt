@@ -1,5 +1,6 @@
 use Rattle.std.proofs.Common.{◌≡◌, ◌≤◌, length}
-use Rattle.tsb_bench.specs.Past.{state_of, sought}
+use Rattle.tsb_step.specs.Past.{sought}
+use Rattle.tsb_bench.specs.Held.{state_of}
 use Rattle.tsb_bench.proofs.bench.Bench.seek.Given as goal
 
 -- what is sought from here is what was sought

@@ -1,36 +1,50 @@
-use Rattle.std.proofs.Common.{◌∙◌, sym, ap, Some}
-use Rattle.tsb_history.specs.History.{newest_kind}
-use Rattle.tsb_bench.specs.Controller.{row_of, is_open}
-use Rattle.tsb_bench.specs.Past.{Held, whole, earlier}
-use Rattle.tsb_bench.proofs.PastLemmas.{TakenBack, kept-taken, whole-taken, kind-newest}
+use Rattle.std.proofs.Common.{◌≡◌, ◌-◌, ◌∙◌, List, ℕ, sym, ap, ap₂, subst}
+use Rattle.tsb_history.specs.History.{Change}
+use Rattle.tsb_controller.specs.Whole.{All, all_in, all_put_back}
+use Rattle.tsb_step.specs.Past.{ticks_of, taken_back}
+use Rattle.tsb_bench.specs.Cabinet.{rows_of}
+use Rattle.tsb_bench.specs.Held.{Held, state_of, IsHeld, IsSound}
+use Rattle.tsb_bench.proofs.HeldLemmas.{IsNewest, newest-is, sound-held}
 use Rattle.tsb_bench.proofs.bench.Bench.undo.Goals as goal
 
-pub invariant_of-self : goal.invariant_of-self
-invariant_of-self c =
-    let h : Held = record { tick = c.self.inside.tick; plan = c.self.inside.plan.plan.values; row = row_of c.self.inside.controller; records = c.self.inside.history.records; room = c.self.inside.history.room } in
-    let taken : TakenBack h c.in-Some.change c.taken_back-self-inside.result (row_of c.taken_back-self-inside.new.controller) c.pop.new.self.records = record {
-      newest = sym c.in-Some.ensures.newest;
-      moved = c.taken_back-self-inside.ensures.tick;
-      cells = c.taken_back-self-inside.ensures.cells;
-      rest = c.pop.ensures.rest;
-    } in
-    kept-taken (is_open c.self.inside.controller) (is_open c.taken_back-self-inside.new.controller) h c.in-Some.change c.taken_back-self-inside.result
-    (row_of c.taken_back-self-inside.new.controller) c.pop.new.self.records c.pop.new.self.room c.self.invariant c.taken_back-self-inside.ensures.closed taken
+-- the rows before the newest input are such as a bench may have
+pub undo-requires-clause-few : goal.undo-requires-clause-few
+undo-requires-clause-few c = (newest-is _ _ _ c.in-Some.change c.self.invariant.1 (sym c.in-Some.ensures.newest)).can.few
 
-pub returns-clause-kind : goal.returns-clause-kind
-returns-clause-kind c =
-    ap (λ (g : Held). newest_kind g.records) (sym c.self.view_is) ∙ kind-newest c.self.inside.history.records c.in-Some.change (sym c.in-Some.ensures.newest)
-    ∙ ap (λ k. Some k) (sym c.kind-kind.ensures)
+pub undo-requires-clause-ranged : goal.undo-requires-clause-ranged
+undo-requires-clause-ranged c = (sound-held _ _ _ (newest-is _ _ _ c.in-Some.change c.self.invariant.1 (sym c.in-Some.ensures.newest)).before).ranged
+
+pub undo-requires-clause-passed : goal.undo-requires-clause-passed
+undo-requires-clause-passed c = (sound-held _ _ _ (newest-is _ _ _ c.in-Some.change c.self.invariant.1 (sym c.in-Some.ensures.newest)).before).good.plan.rules
+
+pub undo-requires-clause-desk : goal.undo-requires-clause-desk
+undo-requires-clause-desk c =
+    let held : IsHeld (c.self.inside.tick - ticks_of c.in-Some.change.kind) (all_put_back (rows_of c.self.inside.cabinet) c.in-Some.change.entries) =
+    sound-held _ _ _ (newest-is _ _ _ c.in-Some.change c.self.invariant.1 (sym c.in-Some.ensures.newest)).before in
+    record { by = held.by.desk; sound = held.desk }
+
+-- what the record says, of the state that was
+newest : (c : goal.After-pop) → IsNewest c.self.inside.tick (rows_of c.self.inside.cabinet) c.self.inside.history.records c.in-Some.change
+newest c = newest-is _ _ _ c.in-Some.change c.self.invariant.1 (sym c.in-Some.ensures.newest)
+
+ticks-are : (c : goal.After-pop) → c.ticks_of.result ≡ ticks_of c.in-Some.change.kind
+ticks-are c = c.ticks_of.ensures ∙ ap ticks_of c.kind-kind.ensures
+
+pub invariant_of-self : goal.invariant_of-self
+invariant_of-self c = (
+  c.undo.ensures.shut,
+  subst (λ (t : ℕ). IsSound (c.self.inside.tick - t) (rows_of c.undo.new.self) c.pop.new.self.records) (sym (ticks-are c))
+      (subst (λ (a : All). IsSound (c.self.inside.tick - ticks_of c.in-Some.change.kind) a c.pop.new.self.records) (sym c.undo.ensures.rows)
+      (subst (λ (rs : List Change). IsSound (c.self.inside.tick - ticks_of c.in-Some.change.kind) (all_put_back (rows_of c.self.inside.cabinet) c.in-Some.change.entries) rs) (sym c.pop.ensures.rest)
+      (newest c).before)),
+  c.undo.ensures.passing (c.self.inside.tick - c.ticks_of.result),
+)
 
 pub returns-clause-ok : goal.returns-clause-ok
 returns-clause-ok c =
-    let h : Held = record { tick = c.self.inside.tick; plan = c.self.inside.plan.plan.values; row = row_of c.self.inside.controller; records = c.self.inside.history.records; room = c.self.inside.history.room } in
-    let taken : TakenBack h c.in-Some.change c.taken_back-self-inside.result (row_of c.taken_back-self-inside.new.controller) c.pop.new.self.records = record {
-      newest = sym c.in-Some.ensures.newest;
-      moved = c.taken_back-self-inside.ensures.tick;
-      cells = c.taken_back-self-inside.ensures.cells;
-      rest = c.pop.ensures.rest;
-    } in
-    whole-taken (is_open c.self.inside.controller) h c.in-Some.change c.taken_back-self-inside.result
-    (row_of c.taken_back-self-inside.new.controller) c.pop.new.self.records c.pop.new.self.room c.self.invariant taken
-    ∙ ap (λ (g : Held). earlier (whole g) 1) c.self.view_is
+    (λ i. record {
+      state = ap₂ (λ (t : ℕ) (a : All). all_in (c.self.inside.tick - t) a) (ticks-are c) c.undo.ensures.rows i;
+      records = c.pop.ensures.rest i;
+    })
+    ∙ sym (newest c).whole_is
+    ∙ ap (λ (h : Held). taken_back (state_of h) h.records) c.self.view_is

@@ -1,0 +1,227 @@
+-- What a bench keeps: once an input was taken, and once one was taken back.
+use Rattle.std.proofs.Common.{◌≡◌, ℕ, zero, suc, ◌-◌, ◌<◌, ◌≤◌, List, [], ◌∷◌, length, Some, None, sym, ap, ap₂, subst, ◌∙◌, refl, arith}
+use Rattle.std.specs.Prelude.{Result, Ok, Err, OnOk, OnErr}
+use Rattle.std.proofs.lemmas.Bool.Decides.{nat_tests}
+use Rattle.tsb_history.specs.History.{Change, newest, newest_kind, older}
+use Rattle.tsb_history.specs.declared.kinds.Kind.{Kind}
+use Rattle.tsb_history.specs.declared.kinds.Kind.TheVariants as kinds
+use Rattle.tsb_plan.specs.Objects.{AreInRange}
+use Rattle.tsb_transact.specs.Cells.{desk_in}
+use Rattle.tsb_transact.specs.Desk as desk
+use Rattle.tsb_transact.proofs.ToldLemmas.{rows_are_told}
+use Rattle.tsb_past.proofs.PastLemmas.{sought-back}
+use Rattle.tsb_step.specs.Good.{IsGood}
+use Rattle.tsb_step.specs.Past.{Whole, controller, ticks_of, undone, taken_back, earlier, sought, record_of}
+use Rattle.tsb_objects.specs.Checked.{checked_plan}
+use Rattle.tsb_objects.specs.declared.checked.Checked.{Checked}
+use Rattle.tsb_step.specs.Signs.{IsSafe}
+use Rattle.tsb_step.specs.State.{State, start}
+use Rattle.tsb_step.specs.Step.{verdict, kind_of, last_tick}
+use Rattle.tsb_step.specs.declared.inputs.Input.{Input}
+use Rattle.tsb_step.specs.declared.inputs.Input.TheVariants as inputs
+use Rattle.tsb_step.proofs.GoodLemmas.{good_step, good_run}
+use Rattle.tsb_step.proofs.PlaceLemmas.{memory_is_consistent}
+use Rattle.tsb_step.proofs.SafeLemmas.{display_is_safe}
+use Rattle.tsb_controller.specs.Whole.{All, AreAllBy, all_in, all_changes, all_put_back}
+use Rattle.tsb_controller.proofs.WholeLemmas.{records-joined, records-back}
+use Rattle.tsb_controller.proofs.ChangeLemmas.{entries-within, changes-few, rows-back}
+use Rattle.tsb_bench.specs.Cabinet.{IsDone, next_tick}
+use Rattle.tsb_bench.specs.Held.{Held, state_of, whole, ticks, IsHeld, CanUndo, IsSound}
+
+-- ## The newest state
+
+pub sound-held : (now : ℕ) (a : All) (rs : List Change) → IsSound now a rs → IsHeld now a
+sound-held now a [] h = h.0
+sound-held now a (r ∷ rs) h = h.0
+
+-- a record taken back from the state is the same record taken back from the rows
+pub back-said : (now : ℕ) (a : All) (r : Change) → IsHeld now a → CanUndo now r → undone r (all_in now a) ≡ all_in (now - ticks_of r.kind) (all_put_back a r.entries)
+back-said now a r held can = records-back rows_are_told r now a held.by can.within
+
+-- ## Once an input was taken
+
+-- it moves the tick number by as much as its kind says
+moved : (i : Input) (now : ℕ) → (next_tick now i - ticks_of (kind_of i) ≡ now) × (ticks_of (kind_of i) ≤ next_tick now i)
+moved (inputs.Tick row) now = (omega arith, omega arith)
+moved (inputs.Pattern n) now = (omega arith, omega arith)
+moved (inputs.Switch n on) now = (omega arith, omega arith)
+moved (inputs.Fault lamp) now = (omega arith, omega arith)
+moved inputs.Reset now = (omega arith, omega arith)
+moved (inputs.Begin station) now = (omega arith, omega arith)
+moved (inputs.Set station id v) now = (omega arith, omega arith)
+moved (inputs.Verify station) now = (omega arith, omega arith)
+moved (inputs.Commit station) now = (omega arith, omega arith)
+moved (inputs.Abort station) now = (omega arith, omega arith)
+
+-- no tick leads beyond the last
+limited : (i : Input) (now : ℕ) (a : All) → verdict (all_in now a) i ≡ None → now ≤ last_tick → next_tick now i ≤ last_tick
+unfolding verdict
+limited (inputs.Tick row) now a allowed below = grind (arith, nat_tests)
+limited (inputs.Pattern n) now a allowed below = below
+limited (inputs.Switch n on) now a allowed below = below
+limited (inputs.Fault lamp) now a allowed below = below
+limited inputs.Reset now a allowed below = below
+limited (inputs.Begin station) now a allowed below = below
+limited (inputs.Set station id v) now a allowed below = below
+limited (inputs.Verify station) now a allowed below = below
+limited (inputs.Commit station) now a allowed below = below
+limited (inputs.Abort station) now a allowed below = below
+
+-- what has been done to rows that a bench may have, of the types that keep their values in range
+pub record Applied (i : Input) (now : ℕ) (old new : All) (entries : List (ℕ × ℕ)) : Type 0 where
+  pub allowed : verdict (all_in now old) i ≡ None
+  pub done : IsDone i now old new entries
+  pub ranged : AreInRange new.plan
+  pub desk : desk.IsSound (desk_in new.desk)
+
+-- the record that it leaves
+abbrev change_of : Input → All → All → Change
+change_of i old new = record { kind = kind_of i; entries = all_changes old new }
+
+module _ (i : Input) (now : ℕ) (old new : All) (entries : List (ℕ × ℕ)) (rs left : List Change) (sound : IsSound now old rs) (did : Applied i now old new entries)
+    (told : left ≡ record { kind = kind_of i; entries = entries } ∷ rs) where
+  held : IsHeld now old
+  held = sound-held now old rs sound
+
+  told-changes : left ≡ change_of i old new ∷ rs
+  told-changes = told ∙ ap (λ (es : List (ℕ × ℕ)). record { kind = kind_of i; entries = es } ∷ rs) did.done.entries_are
+
+  held-after : IsHeld (next_tick now i) new
+  held-after = record {
+    limit = limited i now old did.allowed held.limit;
+    by = did.done.by;
+    ranged = did.ranged;
+    desk = did.desk;
+    good = subst IsGood (sym did.done.state) (good_step (all_in now old) i did.allowed held.good);
+  }
+
+  can-undo : CanUndo (next_tick now i) (change_of i old new)
+  can-undo = record {
+    within = entries-within now (next_tick now i) old new held.by did.done.by;
+    few = changes-few now (next_tick now i) old new held.by did.done.by;
+    tick = (moved i now).1;
+  }
+
+  put-back : all_put_back new (all_changes old new) ≡ old
+  put-back = rows-back now (next_tick now i) old new held.by did.done.by
+
+  sound-before : IsSound (next_tick now i - ticks_of (kind_of i)) (all_put_back new (all_changes old new)) rs
+  sound-before = subst (λ (a : All). IsSound (next_tick now i - ticks_of (kind_of i)) a rs) (sym put-back) (subst (λ (n : ℕ). IsSound n old rs) (sym (moved i now).0) sound)
+
+  pub sound-applied : IsSound (next_tick now i) new left
+  sound-applied = subst (λ (qs : List Change). IsSound (next_tick now i) new qs) (sym told-changes) (held-after, can-undo, sound-before)
+
+  pub records-applied : left ≡ record_of i (all_in now old) (all_in (next_tick now i) new) ∷ rs
+  records-applied = told-changes ∙ ap (λ (r : Change). r ∷ rs) (sym (records-joined rows_are_told i now (next_tick now i) old new held.by did.done.by))
+
+  pub back-applied : taken_back (all_in (next_tick now i) new) left ≡ record { state = all_in now old; records = rs }
+  back-applied =
+      ap (taken_back (all_in (next_tick now i) new)) told-changes
+      ∙ ap (λ (s : State). let made : Whole = record { state = s; records = rs } in made)
+      (back-said (next_tick now i) new (change_of i old new) held-after can-undo
+      ∙ ap₂ (λ (n : ℕ) (a : All). all_in n a) (moved i now).0 put-back)
+
+-- ## Once one was taken back
+
+-- the newest record can be taken back, and what is before it is sound
+pub record IsNewest (now : ℕ) (a : All) (rs : List Change) (r : Change) : Type 0 where
+  pub can : CanUndo now r
+  pub before : IsSound (now - ticks_of r.kind) (all_put_back a r.entries) (older rs)
+  pub whole_is : taken_back (all_in now a) rs ≡ record { state = all_in (now - ticks_of r.kind) (all_put_back a r.entries); records = older rs }
+
+pub newest-is : (now : ℕ) (a : All) (rs : List Change) (r : Change) → IsSound now a rs → newest rs ≡ Some r → IsNewest now a rs r
+newest-is now a [] r sound is = absurd (cc)
+newest-is now a (q ∷ rs) r sound is =
+    let same : q ≡ r = cc in
+    subst (λ (x : Change). IsNewest now a (q ∷ rs) x) same (record {
+      can = sound.1;
+      before = sound.2;
+      whole_is = ap (λ (s : State). let made : Whole = record { state = s; records = rs } in made) (back-said now a q sound.0 sound.1);
+    })
+
+pub kind-newest : (rs : List Change) (r : Change) → newest rs ≡ Some r → newest_kind rs ≡ Some r.kind
+kind-newest [] r is = absurd (cc)
+kind-newest (q ∷ rs) r is = cc
+
+-- ## All that is earlier
+
+-- the tick records are as many as the tick number
+pub sound-ticks : (now : ℕ) (a : All) (rs : List Change) → IsSound now a rs → now ≡ ticks rs
+sound-ticks now a [] h = h.1
+sound-ticks now a (r ∷ rs) h =
+    let rest : now - ticks_of r.kind ≡ ticks rs = sound-ticks (now - ticks_of r.kind) (all_put_back a r.entries) rs h.2 in
+    let some : ticks_of r.kind ≤ now = h.1.tick in
+    omega arith
+
+-- each earlier state is good
+pub sound-earlier : (k now : ℕ) (a : All) (rs : List Change) → IsSound now a rs → IsGood (earlier (record { state = all_in now a; records = rs }) k).state
+sound-earlier zero now a rs h = (sound-held now a rs h).good
+sound-earlier (suc k) now a [] h = sound-earlier k now a [] h
+sound-earlier (suc k) now a (r ∷ rs) h =
+    subst (λ (s : State). IsGood (earlier (record { state = s; records = rs }) k).state) (sym (back-said now a r h.0 h.1))
+    (sound-earlier k (now - ticks_of r.kind) (all_put_back a r.entries) rs h.2)
+
+-- what is shown is safe
+pub safe : (s : State) → IsGood s → IsSafe s
+safe s good = display_is_safe s good
+
+-- ## At power-up
+
+-- the state at power-up is good
+pub good-start : (checked : Checked) → IsGood (start (checked_plan checked))
+unfolding checked_plan
+good-start checked = good_run (checked_plan checked) [] (memory_is_consistent checked.plan checked.passed) tt
+
+pub sound-start : (a : All) (rs : List Change) → AreAllBy 0 a → AreInRange a.plan → desk.IsSound (desk_in a.desk) → IsGood (all_in 0 a) → rs ≡ [] → IsSound 0 a rs
+sound-start a rs by ranged desk_sound good none = subst (λ (qs : List Change). IsSound 0 a qs) (sym none)
+    (record { limit = omega arith; by = by; ranged = ranged; desk = desk_sound; good = good }, refl)
+
+-- ## One step of the way back
+
+pub record GoesBack (t : ℕ) (h new : Held) : Type 0 where
+  pub ahead : t ≤ new.tick
+  pub same : sought t (state_of new) new.records ≡ sought t (state_of h) h.records
+  pub smaller : length new.records < length h.records
+
+ticks_of-le : (k : Kind) → ticks_of k ≤ 1
+ticks_of-le kinds.Tick = omega arith
+ticks_of-le kinds.Pattern = omega arith
+ticks_of-le kinds.Switch = omega arith
+ticks_of-le kinds.Fault = omega arith
+ticks_of-le kinds.Reset = omega arith
+ticks_of-le kinds.Begin = omega arith
+ticks_of-le kinds.Set = omega arith
+ticks_of-le kinds.Verify = omega arith
+ticks_of-le kinds.Commit = omega arith
+ticks_of-le kinds.Abort = omega arith
+
+-- an undo that answers Ok, at a tick number above t
+goes-on : (t : ℕ) (h new : Held) → t < h.tick → IsSound h.tick h.rows h.records → 0 < length h.records → whole new ≡ taken_back (state_of h) h.records → GoesBack t h new
+goes-on t h new above sound some is = record {
+  ahead = (let tick_is : new.tick ≡ (taken_back (state_of h) h.records).state.now = ap (λ (w : Whole). w.state.now) is in rw tick_is (at h.records sound));
+  same = ap (λ (w : Whole). sought t w.state w.records) is ∙ sym (sought-back controller t (state_of h) h.records (λ e. omega arith));
+  smaller = (let records_are : new.records ≡ (taken_back (state_of h) h.records).records = ap (λ (w : Whole). w.records) is in rw records_are (shorter h.records some));
+}
+  where
+    at : (rs : List Change) → IsSound h.tick h.rows rs → t ≤ (taken_back (state_of h) rs).state.now
+    at [] good = omega arith
+    at (r ∷ rs) good =
+        let now_is : (undone r (state_of h)).now ≡ h.tick - ticks_of r.kind = ap (λ (s : State). s.now) (back-said h.tick h.rows r good.0 good.1) in
+        omega (arith, ticks_of-le r.kind, now_is)
+
+    shorter : (rs : List Change) → 0 < length rs → length (taken_back (state_of h) rs).records < length rs
+    shorter [] less = absurd (omega arith)
+    shorter (r ∷ rs) less = omega arith
+
+sound-some : (now : ℕ) (a : All) (rs : List Change) → IsSound now a rs → 0 < now → 0 < length rs
+sound-some now a [] sound less = absurd (omega (arith, sound.1))
+sound-some now a (r ∷ rs) sound less = omega arith
+
+pub goes-back : {K N : Type 0} (t : ℕ) (h new : Held) (answer : Result K N) → IsSound h.tick h.rows h.records → t ≤ h.tick → (h.tick ≡ t → ⊥) →
+    OnOk answer (whole new ≡ taken_back (state_of h) h.records) → OnErr answer (h.records ≡ []) → GoesBack t h new
+goes-back t h new (Ok k) sound ahead other is none =
+    let above : t < h.tick = omega arith in goes-on t h new above sound (sound-some h.tick h.rows h.records sound (omega arith)) is
+goes-back t h new (Err e) sound ahead other is none =
+    let some : 0 < length h.records = sound-some h.tick h.rows h.records sound (omega arith) in
+    let empty : length h.records ≡ 0 = ap length none in
+    absurd (omega arith)

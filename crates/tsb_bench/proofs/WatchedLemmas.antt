@@ -1,0 +1,103 @@
+-- The search for the last change of a watched value, record by record.
+use Rattle.std.proofs.Common.{◌≡◌, ℕ, ◌-◌, List, [], ◌∷◌, Option, Some, None, sym, ap, subst, ◌∙◌, refl, inl, inr}
+use Rattle.std.specs.Prelude.{option_map, ◌≢◌}
+use Rattle.tsb_history.specs.History.{Change}
+use Rattle.tsb_types.specs.declared.watch.Watch.{Watch}
+use Rattle.tsb_step.specs.Past.{pasts, ticks_of, undone}
+use Rattle.tsb_step.specs.State.{State}
+use Rattle.tsb_step.specs.Watches as step
+use Rattle.tsb_step.specs.Watches.{watched, TellsLastChange}
+use Rattle.tsb_controller.specs.Whole.{All, all_in, all_put_back}
+use Rattle.tsb_bench.specs.declared.watched.Watched.{Watched}
+use Rattle.tsb_bench.specs.declared.watched.Value.{Value}
+use Rattle.tsb_bench.specs.declared.watched.Value.TheVariants as values
+use Rattle.tsb_bench.specs.Held.{Held, state_of, IsHeld, IsSound}
+use Rattle.tsb_bench.specs.Watched.{Holds, told}
+use Rattle.tsb_bench.proofs.HeldLemmas.{back-said}
+
+-- ## Values are told apart
+
+abbrev untold : step.Watched → Value
+untold (step.OfInterval i) = values.Interval i
+untold (step.OfPedestrian i) = values.Ped i
+untold (step.OfCall on) = values.Call on
+untold (step.OfOutput on) = values.Output on
+untold (step.OfAlarm a) = values.Alarm a
+untold (step.OfStage s) = values.Stage s
+untold (step.OfTrip t) = values.Trip (option_map (λ x. (x.cause, x.tick)) t)
+
+untold-told : (v : Value) → untold (told v) ≡ v
+untold-told (values.Interval i) = refl
+untold-told (values.Ped i) = refl
+untold-told (values.Call on) = refl
+untold-told (values.Output on) = refl
+untold-told (values.Alarm a) = refl
+untold-told (values.Stage s) = refl
+untold-told (values.Trip None) = refl
+untold-told (values.Trip (Some x)) = refl
+
+pub told-apart : (v w : Value) → told v ≡ told w → v ≡ w
+told-apart v w same = sym (untold-told v) ∙ ap untold same ∙ untold-told w
+
+-- ## The search
+
+-- where it stands: the layer, the tick number and the value are those of rows from which the records left lead back
+pub record IsAt (h : Held) (w : Watch) (x : Watched) (tick : ℕ) (value : Value) (left : List Change) : Type 0 where
+  pub rows : All
+  pub sound : IsSound tick rows left
+  pub holds : Holds w rows x
+  pub same : told value ≡ watched w (all_in tick rows)
+  pub goes : (t : Option ℕ) → TellsLastChange w (pasts (all_in tick rows) left) t → TellsLastChange w (pasts (state_of h) h.records) t
+
+pub at-start : (h : Held) (w : Watch) (x : Watched) (value : Value) → IsSound h.tick h.rows h.records → Holds w h.rows x → told value ≡ watched w (state_of h) → IsAt h w x h.tick value h.records
+at-start h w x value sound holds same = record { rows = h.rows; sound = sound; holds = holds; same = same; goes = λ t told. told }
+
+-- of the states of a run, the one before is another
+changed-here : (w : Watch) (s before : State) (rs : List Change) → watched w s ≢ watched w before → TellsLastChange w (s ∷ pasts before rs) (Some s.now)
+changed-here w s before [] differs = inl (differs, refl)
+changed-here w s before (r ∷ rs) differs = inl (differs, refl)
+
+same-here : (w : Watch) (s before : State) (rs : List Change) (t : Option ℕ) → watched w s ≡ watched w before → TellsLastChange w (pasts before rs) t → TellsLastChange w (s ∷ pasts before rs) t
+same-here w s before [] t same told = inr (same, told)
+same-here w s before (r ∷ rs) t same told = inr (same, told)
+
+module _ (h : Held) (w : Watch) (x : Watched) (tick : ℕ) (value : Value) (r : Change) (rs : List Change) (at : IsAt h w x tick value (r ∷ rs)) where
+  -- the rows before the record
+  abbrev pub back : All
+  back = all_put_back at.rows r.entries
+
+  pub back-held : IsHeld (tick - ticks_of r.kind) back
+  back-held = go rs at.sound.2
+    where
+      go : (rs : List Change) → IsSound (tick - ticks_of r.kind) back rs → IsHeld (tick - ticks_of r.kind) back
+      go [] sound = sound.0
+      go (q ∷ qs) sound = sound.0
+
+  -- the state before it
+  before : undone r (all_in tick at.rows) ≡ all_in (tick - ticks_of r.kind) back
+  before = back-said tick at.rows r at.sound.0 at.sound.1
+
+  -- the value was another before
+  pub found : (y : Watched) (old : Value) → told old ≡ watched w (all_in (tick - ticks_of r.kind) back) → old ≢ value → TellsLastChange w (pasts (state_of h) h.records) (Some tick)
+  found y old old_is differs =
+      at.goes (Some tick)
+      (changed-here w (all_in tick at.rows) (undone r (all_in tick at.rows)) rs
+      (λ e. differs (told-apart old value (old_is ∙ ap (watched w) (sym before) ∙ sym e ∙ sym at.same))))
+
+  -- the value was the same before
+  pub goes-on : (y : Watched) (old : Value) → Holds w back y → told old ≡ watched w (all_in (tick - ticks_of r.kind) back) → old ≡ value → IsAt h w y (tick - ticks_of r.kind) value rs
+  goes-on y old holds old_is same =
+      let told_is : told value ≡ watched w (all_in (tick - ticks_of r.kind) back) = ap told (sym same) ∙ old_is in
+      record {
+        rows = back;
+        sound = at.sound.2;
+        holds = holds;
+        same = told_is;
+        goes = λ t tells. at.goes t
+            (same-here w (all_in tick at.rows) (undone r (all_in tick at.rows)) rs t (sym at.same ∙ told_is ∙ ap (watched w) (sym before))
+            (subst (λ (s : State). TellsLastChange w (pasts s rs) t) (sym before) tells));
+      }
+
+-- no record is left
+pub none-left : (h : Held) (w : Watch) (x : Watched) (tick : ℕ) (value : Value) → IsAt h w x tick value [] → TellsLastChange w (pasts (state_of h) h.records) None
+none-left h w x tick value at = at.goes None refl

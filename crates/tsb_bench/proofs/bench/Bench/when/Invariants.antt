@@ -1,0 +1,8 @@
+use Rattle.tsb_bench.proofs.WatchedLemmas.{IsAt}
+use Rattle.tsb_bench.proofs.bench.Bench.when.Given as goal
+
+-- the search stands where the records left lead back from
+abbrev pub invariant-loop-change : goal.invariant-loop-change
+invariant-loop-change l = record {
+  at : IsAt l.fn.self l.fn.watch l.watched l.tick l.value l.change-iterator;
+}

@@ -1,0 +1,31 @@
+use Rattle.std.proofs.Common.{◌∙◌, sym, ap, subst, refl}
+use Rattle.tsb_objects.specs.Checked.{checked_plan}
+use Rattle.tsb_plan.specs.PlanOf.{plan_of}
+use Rattle.tsb_step.specs.Cells.{clock_at}
+use Rattle.tsb_step.specs.MonitorCells.{trip_in}
+use Rattle.tsb_step.specs.Step.{step, verdict, with_pattern}
+use Rattle.tsb_step.specs.declared.inputs.Input.TheVariants as inputs
+use Rattle.tsb_controller.specs.Layer as layers
+use Rattle.tsb_controller.specs.Rows.{Rows, AreBy, state_of}
+use Rattle.tsb_bench.specs.Cabinet.{rows_of}
+use Rattle.tsb_bench.proofs.InputLemmas.{beside, layers-done, changes-told}
+use Rattle.tsb_bench.proofs.cabinet.Cabinet.set_pattern.Goals as goal
+
+pub set_pattern-requires-clause-allowed : goal.set_pattern-requires-clause-allowed
+unfolding verdict checked_plan plan_of
+set_pattern-requires-clause-allowed c = c.requires.allowed
+
+opened-by : (c : goal.After-close_onto) → AreBy (clock_at c.args.tick (trip_in (rows_of c.args.self.now).monitor)) (layers.rows_of c.open.new.self)
+opened-by c = subst (AreBy (clock_at c.args.tick (trip_in (rows_of c.args.self.now).monitor))) (sym c.open.ensures.rows) c.requires.by.layers
+
+pub returns-clause-done : goal.returns-clause-done
+unfolding step
+returns-clause-done c =
+    layers-done (inputs.Pattern c.args.n) c.args.tick (rows_of c.args.self.now) (layers.rows_of c.close_onto.new.self) c.close_onto.new.out.items refl c.requires.by
+    (ap (state_of c.args.tick (beside (rows_of c.args.self.now))) c.close_onto.ensures.rows
+    ∙ c.set_pattern.ensures.state c.args.tick (beside (rows_of c.args.self.now))
+    ∙ ap (λ (r : Rows). with_pattern c.args.n (state_of c.args.tick (beside (rows_of c.args.self.now)) r)) c.open.ensures.rows)
+    (subst (AreBy (clock_at c.args.tick (trip_in (rows_of c.args.self.now).monitor))) (sym c.close_onto.ensures.rows)
+    (c.set_pattern.ensures.by (clock_at c.args.tick (trip_in (rows_of c.args.self.now).monitor)) (opened-by c)))
+    (changes-told (rows_of c.args.self.now).layers (layers.kept_of c.set_pattern.new.self) (layers.rows_of c.set_pattern.new.self) (layers.rows_of c.close_onto.new.self)
+    c.args.out.now.items c.close_onto.new.out.items c.requires.empty (c.set_pattern.ensures.kept ∙ c.open.ensures.kept) c.close_onto.ensures.rows c.close_onto.ensures.changes)

@@ -1,0 +1,35 @@
+use Rattle.std.proofs.Common.{◌∙◌, ◌+◌, ◌≤◌, sym, arith, None}
+use Rattle.tsb_objects.specs.Checked.{checked_plan}
+use Rattle.tsb_plan.specs.PlanOf.{plan_in, plan_of}
+use Rattle.tsb_step.specs.MonitorCells.{lamp_in}
+use Rattle.tsb_bench.specs.Cabinet.{rows_of}
+use Rattle.tsb_bench.proofs.InputLemmas.{below-limit}
+use Rattle.tsb_bench.proofs.PassingLemmas.{nothing-out, by-before, watched-here, quiet-done}
+use Rattle.tsb_bench.proofs.cabinet.Cabinet.work_tick.Goals as goal
+
+pub overflow_add-tick : goal.overflow_add-tick
+overflow_add-tick c = let below : c.args.tick + 1 ≤ 6000000 = below-limit c.args.tick (rows_of c.args.self.now) c.args.row.now c.requires.allowed in omega (arith, below)
+
+pub due-due-requires-clause-in_time : goal.due-due-requires-clause-in_time
+due-due-requires-clause-in_time c = below-limit c.args.tick (rows_of c.args.self.now) c.args.row.now c.requires.allowed
+
+pub due-due-requires-clause-by : goal.due-due-requires-clause-by
+due-due-requires-clause-by c =
+    by-before c.args.tick c.args.row.now (rows_of c.args.self.now) (rows_of c.tick.new.self) c.tick.new.out.items c.unchanged_rows_are_same.ensures c.requires.by c.tick.ensures.done
+    (nothing-out c.tick.new.out.items (sym c.is_empty.ensures ∙ c.if-not-is_empty.false))
+
+pub due-due-requires-clause-still : goal.due-due-requires-clause-still
+unfolding checked_plan plan_of
+due-due-requires-clause-still c =
+    c.watched_ticks_pass.ensures.ticked (c.args.tick + 1) c.args.row.now (lamp_in (rows_of c.tick.new.self).monitor) (plan_in (rows_of c.tick.new.self).plan) (rows_of c.tick.new.self).layers (rows_of c.tick.new.self).layers None
+    (watched-here c.args.tick c.args.row.now (rows_of c.args.self.now) (rows_of c.tick.new.self) c.tick.new.out.items c.unchanged_rows_are_same.ensures c.requires.by c.tick.ensures.done
+    (nothing-out c.tick.new.out.items (sym c.is_empty.ensures ∙ c.if-not-is_empty.false)) (sym c.is_tripped.ensures ∙ c.if-is_tripped.false) c.tick.ensures.watched)
+
+pub returns-clause-passing : goal.returns-clause-passing
+unfolding checked_plan plan_of
+returns-clause-passing c = record {
+  within = (let within : c.due-due.result ≤ 6000001 = c.due-due.ensures.within in omega (arith, within));
+  quiet = quiet-done (c.args.tick + 1) (rows_of c.tick.new.self) c.args.row.now c.tick.ensures.done.by (sym c.is_tripped.ensures ∙ c.if-is_tripped.false) c.due-due.result c.watched_ticks_pass.ensures.passed
+      (watched-here c.args.tick c.args.row.now (rows_of c.args.self.now) (rows_of c.tick.new.self) c.tick.new.out.items c.unchanged_rows_are_same.ensures c.requires.by c.tick.ensures.done
+      (nothing-out c.tick.new.out.items (sym c.is_empty.ensures ∙ c.if-not-is_empty.false)) (sym c.is_tripped.ensures ∙ c.if-is_tripped.false) c.tick.ensures.watched) c.due-due.ensures.quiet;
+}

@@ -1,0 +1,201 @@
+//! The cabinet: the controller with its plan, its desk and its monitor, and what each input does to them.
+#![tactic(auto, unfolding(tsb_objects::specs::Checked::checked_plan, tsb_plan::specs::PlanOf::plan_of))]
+
+ghost use Rattle.std.specs.Prelude.{◌≡◌, ℕ, ◌+◌, ◌-◌, ◌≤◌, [], true, false, None, Some, if◌then◌else◌, nat_lt, MatchResult, IfOk};
+ghost use Rattle.arrayvec.specs.ArrayVec.{array_vec_len};
+ghost use Rattle.tsb_cells.specs.Diff.{apply_diff, part};
+ghost use Rattle.tsb_objects.specs.Checked.{checked_plan};
+ghost use Rattle.tsb_plan.specs.Objects.{AreInRange};
+ghost use Rattle.tsb_plan.specs.PlanOf.{plan_in};
+ghost use Rattle.tsb_rules.specs.Rules.{first_broken};
+ghost use Rattle.tsb_types.specs.declared.refusal.Refusal.TheVariants.{Memory, TickLimit};
+ghost use Rattle.tsb_transact.specs.Rows.{IsRow};
+ghost use Rattle.tsb_step.specs.Good.{IsGood};
+ghost use Rattle.tsb_step.specs.State.{start};
+ghost use Rattle.tsb_step.specs.Step.{verdict, last_tick, kind_of};
+ghost use Rattle.tsb_controller.specs.Records.{HasFew};
+ghost use Rattle.tsb_controller.specs.Whole.{AreAllBy, all_in, all_put_back};
+ghost use Rattle.tsb_bench.specs.Cabinet.{rows_of, IsShut, IsDone, MayPass, next_tick, most_cells};
+
+use crate::monitor_cells::MonitorCells;
+use crate::passing::Passing;
+use arrayvec::ArrayVec;
+use std::alloc::Global;
+use tsb_cells::Reversible;
+use tsb_controller::first_cell::{DESK, MONITOR};
+use tsb_controller::{Controller, part_of};
+use tsb_history::Record;
+use tsb_objects::{Checked, Refusal, limits};
+use tsb_plan_changes::{put_back, touches_plan};
+use tsb_step::Input;
+use tsb_transact::Desk;
+
+/// All cells of the bench: those of the plan, of the desk, of the layers and of the monitor.
+pub(crate) const CELLS: usize = 1579;
+
+/// The cells that an input changes, each with its value before.
+pub(crate) type Changes = ArrayVec<(u16, u32), CELLS>;
+
+/// The controller with its plan, its desk and its monitor: all that an input can change but the tick number.
+#[derive(Drop)]
+pub(crate) struct Cabinet {
+    pub(crate) plan: Checked,
+    pub(crate) desk: Desk,
+    pub(crate) controller: Controller,
+    pub(crate) monitor: MonitorCells,
+    pub(crate) passing: Passing,
+}
+
+impl Cabinet {
+    /// The cabinet at power-up, at tick 0. E1, where there is no memory for the desk, is its only refusal.
+    #[tactic(auto, using(crate::proofs::PassingLemmas::may_none))]
+    pub(crate) fn new(alloc: Global, plan: Checked) -> Result<Cabinet, Refusal>
+        ensures state { MatchResult result (λ c. all_in 0 (rows_of c) ≡ start (checked_plan plan)) (λ e. e ≡ Memory) }
+        ensures by { IfOk result (λ c. AreAllBy 0 (rows_of c)) }
+        ensures shut { IfOk result (λ c. IsShut c) }
+        ensures passing { IfOk result (λ c. (tick : ℕ) → MayPass tick c) }
+    {
+        let desk = Desk::new(alloc)?;
+        Ok(Cabinet {
+            plan,
+            desk,
+            controller: Controller::new(),
+            monitor: MonitorCells::new(),
+            passing: Passing::none(),
+        })
+    }
+
+    /// A cabinet with the same cells in memory of its own. E1 is its only refusal.
+    #[tactic(auto, using(crate::proofs::PassingLemmas::may_none))]
+    pub(crate) fn clone_in(&self, alloc: Global) -> Result<Cabinet, Refusal>
+        requires shut { IsShut self.now }
+        ensures rows { MatchResult result (λ c. rows_of c ≡ rows_of self.now) (λ e. e ≡ Memory) }
+        ensures shut { IfOk result (λ c. IsShut c) }
+        ensures passing { IfOk result (λ c. (tick : ℕ) → MayPass tick c) }
+    {
+        let desk = self.desk.clone_in(alloc)?;
+        Ok(Cabinet {
+            plan: self.plan,
+            desk,
+            controller: self.controller,
+            monitor: self.monitor,
+            passing: Passing::none(),
+        })
+    }
+
+    /// Why an input is refused at tick number `tick`, but for memory.
+    pub(crate) fn refusal(&self, tick: u32, input: &Input) -> Option<Refusal>
+        requires by { AreAllBy tick (rows_of self.now) }
+        ensures { result ≡ verdict (all_in tick (rows_of self.now)) input.now }
+    {
+        match input {
+            Input::Tick(_) => tick_refusal(tick),
+            Input::Pattern(n) => self.controller.pattern_refusal(*n, &self.plan),
+            Input::Switch(n, on) => self.controller.switch_refusal(*n, *on, &self.plan),
+            Input::Fault(_) => None,
+            Input::Reset => None,
+            Input::Begin(_) => self.desk.begin_refusal(),
+            Input::Set(station, id, value) => self.desk.set_refusal(*station, *id, *value),
+            Input::Verify(station) => self.desk.verify_refusal(*station),
+            Input::Commit(station) => self.commit_refusal(*station),
+            Input::Abort(station) => self.desk.abort_refusal(*station),
+        }
+    }
+
+    /// Takes an input at tick number `tick`, and gives the tick number after it. The cells that change go to `out`. Behind
+    /// a tick that changes nothing some may be passed over, behind all else none.
+    #[tactic(auto, using(crate::proofs::PassingLemmas::may_none))]
+    pub(crate) fn step(&mut self, tick: u32, input: &Input, out: &mut Changes) -> u32
+        requires shut { IsShut self.old }
+        requires by { AreAllBy tick (rows_of self.old) }
+        requires limit { tick ≤ last_tick }
+        requires good { IsGood (all_in tick (rows_of self.old)) }
+        requires allowed { verdict (all_in tick (rows_of self.old)) input.now ≡ None }
+        requires empty { out.old.items ≡ [] }
+        ensures next { result ≡ next_tick tick input.now }
+        ensures done { IsDone input.now tick (rows_of self.old) (rows_of self.new) out.new.items }
+        ensures few { array_vec_len out.new ≤ most_cells (kind_of input.now) }
+        ensures shut { IsShut self.new }
+        ensures passing { MayPass result self.new }
+    {
+        if let Input::Tick(row) = input {
+            self.work_tick(tick, row, out);
+            return tick + 1;
+        }
+        let next = self.change(tick, input, out);
+        self.passing = Passing::none();
+        next
+    }
+
+    /// What an input does to the cells, and the tick number after it.
+    fn change(&mut self, tick: u32, input: &Input, out: &mut Changes) -> u32
+        requires shut { IsShut self.old }
+        requires by { AreAllBy tick (rows_of self.old) }
+        requires limit { tick ≤ last_tick }
+        requires good { IsGood (all_in tick (rows_of self.old)) }
+        requires allowed { verdict (all_in tick (rows_of self.old)) input.now ≡ None }
+        requires empty { out.old.items ≡ [] }
+        ensures next { result ≡ next_tick tick input.now }
+        ensures done { IsDone input.now tick (rows_of self.old) (rows_of self.new) out.new.items }
+        ensures few { array_vec_len out.new ≤ most_cells (kind_of input.now) }
+        ensures shut { IsShut self.new }
+    {
+        match input {
+            Input::Tick(row) => {
+                self.tick(tick, row, out);
+                return tick + 1;
+            }
+            Input::Pattern(n) => self.set_pattern(tick, *n, out),
+            Input::Switch(n, on) => self.switch(tick, *n, *on, out),
+            Input::Fault(lamp) => self.light(tick, lamp, out),
+            Input::Reset => self.reset(tick, out),
+            Input::Begin(station) => self.begin(tick, *station, out),
+            Input::Set(station, id, value) => self.set(tick, *station, *id, *value, out),
+            Input::Verify(station) => self.verify(tick, *station, out),
+            Input::Commit(station) => self.commit(tick, *station, out),
+            Input::Abort(station) => self.abort(tick, *station, out),
+        }
+        tick
+    }
+
+    /// Puts back what a record tells.
+    #[tactic(auto, using(tsb_cells::proofs::DiffLemmas::lengths, crate::proofs::PartLemmas::parts, crate::proofs::PassingLemmas::may_none))]
+    pub(crate) fn undo(&mut self, change: &Record<'_>)
+        requires shut { IsShut self.old }
+        requires few { HasFew change.now.entries }
+        requires ranged { AreInRange (apply_diff (rows_of self.old).plan (part 0 1230 change.now.entries)) }
+        requires passed { first_broken (plan_in (apply_diff (rows_of self.old).plan (part 0 1230 change.now.entries))) ≡ None }
+        requires desk { IsRow (apply_diff (rows_of self.old).desk (part 1230 132 change.now.entries)) }
+        ensures rows { rows_of self.new ≡ all_put_back (rows_of self.old) change.now.entries }
+        ensures shut { IsShut self.new }
+        ensures passing { (tick : ℕ) → MayPass tick self.new }
+    {
+        self.passing = Passing::none();
+        undo_plan(&mut self.plan, change);
+        self.desk.undo(&part_of(change, DESK));
+        self.controller.undo(change);
+        self.monitor.bank.undo(&part_of(change, MONITOR));
+    }
+}
+
+/// Puts back what a record tells of the plan.
+fn undo_plan(plan: &mut Checked, change: &Record<'_>)
+    requires ranged { AreInRange (apply_diff plan.old.plan.values (part 0 1230 change.now.entries)) }
+    requires passed { first_broken (plan_in (apply_diff plan.old.plan.values (part 0 1230 change.now.entries))) ≡ None }
+    ensures { plan.new.plan.values ≡ apply_diff plan.old.plan.values (part 0 1230 change.now.entries) }
+{
+    if touches_plan(change) {
+        *plan = Checked::known(put_back(plan.plan(), change));
+    }
+}
+
+/// Why a tick is refused at tick number `tick`.
+fn tick_refusal(tick: u32) -> Option<Refusal>
+    ensures { result ≡ (if nat_lt tick last_tick then None else Some TickLimit) }
+{
+    if tick < limits::TICKS {
+        None
+    } else {
+        Some(Refusal::TickLimit)
+    }
+}

@@ -1,0 +1,125 @@
+//! The inputs that change the layers and the monitor: ticks, patterns, switches, faults and resets.
+#![tactic(auto, unfolding(tsb_objects::specs::Checked::checked_plan, tsb_plan::specs::PlanOf::plan_of))]
+
+ghost use Rattle.std.specs.Prelude.{◌≡◌, ℕ, ◌+◌, ◌≤◌, [], None, true, is_some, IfSome};
+ghost use Rattle.arrayvec.specs.ArrayVec.{array_vec_len};
+ghost use Rattle.tsb_step.specs.Step.{verdict, last_tick};
+ghost use Rattle.tsb_step.specs.declared.inputs.Input.TheVariants as inputs;
+ghost use Rattle.tsb_plan.specs.PlanOf.{plan_in};
+ghost use Rattle.tsb_step.specs.MonitorCells.{lamp_in, trip_in};
+ghost use Rattle.tsb_step.specs.MonitorLaws.{IsCause};
+ghost use Rattle.tsb_controller.specs.Promises.{IsLit, IsWatchedTick};
+ghost use Rattle.tsb_controller.specs.Whole.{AreAllBy, all_in};
+ghost use Rattle.tsb_bench.specs.Cabinet.{rows_of, IsShut, IsDone};
+
+use crate::cabinet::{Cabinet, Changes};
+use tsb_heads::Trip;
+use tsb_objects::Row;
+use tsb_types::Lamp;
+
+impl Cabinet {
+    /// The tick behind tick number `tick`, with the inputs of `row` on. That of a controller that has tripped changes
+    /// no cell.
+    pub(crate) fn tick(&mut self, tick: u32, row: &Row, out: &mut Changes)
+        requires shut { IsShut self.old }
+        requires by { AreAllBy tick (rows_of self.old) }
+        requires allowed { verdict (all_in tick (rows_of self.old)) (inputs.Tick row.now) ≡ None }
+        requires empty { out.old.items ≡ [] }
+        ensures done { IsDone (inputs.Tick row.now) tick (rows_of self.old) (rows_of self.new) out.new.items }
+        // What the monitor watched, where it tripped no controller.
+        ensures watched { trip_in (rows_of self.new).monitor ≡ None → IsWatchedTick (tick + 1) row.now
+            (lamp_in (rows_of self.new).monitor) (plan_in (rows_of self.new).plan) (rows_of self.old).layers (rows_of self.new).layers None }
+        ensures few { array_vec_len out.new ≤ 217 }
+        ensures shut { IsShut self.new }
+    {
+        if self.monitor.is_tripped() {
+            return;
+        }
+        let lamp = self.monitor.lamp();
+        self.controller.open();
+        let found = self
+            .controller
+            .watched_tick(tick + 1, row, &lamp, &self.plan);
+        self.controller.close_onto(out);
+        if found.is_some() {
+            self.monitor.set(&lamp, &found, tick + 1, out);
+        }
+    }
+
+    /// Selects a pattern.
+    pub(crate) fn set_pattern(&mut self, tick: u32, n: u32, out: &mut Changes)
+        requires shut { IsShut self.old }
+        requires by { AreAllBy tick (rows_of self.old) }
+        requires allowed { verdict (all_in tick (rows_of self.old)) (inputs.Pattern n) ≡ None }
+        requires empty { out.old.items ≡ [] }
+        ensures done { IsDone (inputs.Pattern n) tick (rows_of self.old) (rows_of self.new) out.new.items }
+        ensures few { array_vec_len out.new ≤ 217 }
+        ensures shut { IsShut self.new }
+    {
+        self.controller.open();
+        self.controller.set_pattern(n, &self.plan);
+        self.controller.close_onto(out);
+    }
+
+    /// Sets the switch of a preempt.
+    pub(crate) fn switch(&mut self, tick: u32, n: u32, on: bool, out: &mut Changes)
+        requires shut { IsShut self.old }
+        requires by { AreAllBy tick (rows_of self.old) }
+        requires allowed { verdict (all_in tick (rows_of self.old)) (inputs.Switch n on) ≡ None }
+        requires empty { out.old.items ≡ [] }
+        ensures done { IsDone (inputs.Switch n on) tick (rows_of self.old) (rows_of self.new) out.new.items }
+        ensures few { array_vec_len out.new ≤ 217 }
+        ensures shut { IsShut self.new }
+    {
+        self.controller.open();
+        self.controller.switch(n, on, &self.plan);
+        self.controller.close_onto(out);
+    }
+
+    /// Lights a lamp in place of the one that was, or takes that out. The monitor judges it at once.
+    pub(crate) fn light(&mut self, tick: u32, lamp: &Option<Lamp>, out: &mut Changes)
+        requires shut { IsShut self.old }
+        requires by { AreAllBy tick (rows_of self.old) }
+        requires empty { out.old.items ≡ [] }
+        ensures done { IsDone (inputs.Fault lamp.now) tick (rows_of self.old) (rows_of self.new) out.new.items }
+        ensures few { array_vec_len out.new ≤ 217 }
+        ensures shut { IsShut self.new }
+    {
+        let found = self.found_with(lamp);
+        self.monitor.set(lamp, &found, tick, out);
+    }
+
+    /// What the monitor finds when a fault lights the lamp: why the controller trips, if it does.
+    fn found_with(&self, lamp: &Option<Lamp>) -> Option<Trip>
+        requires by { (tick : ℕ) × AreAllBy tick (rows_of self.now) }
+        ensures tripped { is_some (trip_in (rows_of self.now).monitor) ≡ true → result ≡ None }
+        ensures lit { trip_in (rows_of self.now).monitor ≡ None →
+            IsLit (lamp_in (rows_of self.now).monitor) lamp.now (plan_in (rows_of self.now).plan) (rows_of self.now).layers result }
+        ensures cause { IfSome result IsCause }
+    {
+        if self.monitor.is_tripped() {
+            return None;
+        }
+        self.controller
+            .light(&self.monitor.lamp(), lamp, &self.plan)
+    }
+
+    /// A controller that has tripped starts anew; any other stays as it is.
+    pub(crate) fn reset(&mut self, tick: u32, out: &mut Changes)
+        requires shut { IsShut self.old }
+        requires by { AreAllBy tick (rows_of self.old) }
+        requires in_time { tick ≤ last_tick }
+        requires empty { out.old.items ≡ [] }
+        ensures done { IsDone inputs.Reset tick (rows_of self.old) (rows_of self.new) out.new.items }
+        ensures few { array_vec_len out.new ≤ 217 }
+        ensures shut { IsShut self.new }
+    {
+        if !self.monitor.is_tripped() {
+            return;
+        }
+        self.controller.open();
+        self.controller.reset(tick);
+        self.controller.close_onto(out);
+        self.monitor.clear(out);
+    }
+}

@@ -1,0 +1,83 @@
+//! Ticks that change nothing but the tick number: the cabinet passes them over while their inputs stay.
+#![tactic(auto, unfolding(tsb_objects::specs::Checked::checked_plan, tsb_plan::specs::PlanOf::plan_of))]
+
+ghost use Rattle.std.specs.Prelude.{◌≡◌, ◌+◌, ◌<◌, ◌≤◌, [], true, None};
+ghost use Rattle.arrayvec.specs.ArrayVec.{array_vec_len};
+ghost use Rattle.tsb_step.specs.Step.{verdict};
+ghost use Rattle.tsb_step.specs.declared.inputs.Input.TheVariants as inputs;
+ghost use Rattle.tsb_controller.specs.Whole.{AreAllBy, all_in};
+ghost use Rattle.tsb_bench.specs.Cabinet.{rows_of, IsShut, IsDone, Passes, MayPass};
+
+use crate::cabinet::{Cabinet, Changes};
+use tsb_controller::passing::{unchanged_rows_are_same, watched_ticks_pass};
+use tsb_objects::Row;
+use tsb_step::Input;
+
+/// Which ticks may be passed over.
+#[derive(Clone, Copy)]
+pub(crate) struct Passing {
+    /// The inputs that such a tick has on.
+    pub(crate) row: Row,
+    /// The last such tick; 0 where there is none.
+    pub(crate) last: u32,
+}
+
+impl Passing {
+    /// No tick.
+    pub(crate) fn none() -> Passing
+        ensures { result.last ≡ 0 }
+    {
+        Passing {
+            row: Row::all_off(),
+            last: 0,
+        }
+    }
+
+    /// Whether the tick behind tick number `tick` may be passed over, with these inputs on.
+    fn covers(&self, tick: u32, row: &Row) -> bool
+        ensures ahead { result ≡ true → tick < self.now.last }
+        ensures same { result ≡ true → row.now ≡ self.now.row }
+    {
+        tick < self.last && *row == self.row
+    }
+}
+
+impl Cabinet {
+    /// Whether an input at tick number `tick` is a tick that changes nothing but the tick number.
+    #[inline(always)]
+    pub(crate) fn passes(&self, tick: u32, input: &Input) -> bool
+        requires { MayPass tick self.now }
+        ensures { result ≡ true → Passes input.now tick (rows_of self.now) }
+    {
+        match input {
+            Input::Tick(row) => self.passing.covers(tick, row),
+            _ => false,
+        }
+    }
+
+    /// The tick behind tick number `tick`, which is worked out. Where it changes nothing, those behind it with the same
+    /// inputs may be passed over, up to the one that is due.
+    pub(crate) fn work_tick(&mut self, tick: u32, row: &Row, out: &mut Changes)
+        requires shut { IsShut self.old }
+        requires by { AreAllBy tick (rows_of self.old) }
+        requires allowed { verdict (all_in tick (rows_of self.old)) (inputs.Tick row.now) ≡ None }
+        requires empty { out.old.items ≡ [] }
+        ensures done { IsDone (inputs.Tick row.now) tick (rows_of self.old) (rows_of self.new) out.new.items }
+        ensures few { array_vec_len out.new ≤ 217 }
+        ensures shut { IsShut self.new }
+        ensures passing { MayPass (tick + 1) self.new }
+    {
+        self.tick(tick, row, out);
+        if !out.is_empty() || self.monitor.is_tripped() {
+            self.passing = Passing::none();
+            return;
+        }
+        unchanged_rows_are_same();
+        watched_ticks_pass();
+        let due = self.controller.due(tick + 1, row, &self.plan);
+        self.passing = Passing {
+            row: *row,
+            last: due - 1,
+        };
+    }
+}

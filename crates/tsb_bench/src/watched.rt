@@ -1,0 +1,120 @@
+//! A watched value by itself: the one layer that has it, as it is wound back to find when the value changed.
+ghost use Rattle.std.specs.Prelude.{◌≡◌, ◌≢◌, ℕ, true, false};
+ghost use Rattle.tsb_controller.specs.Records.{HasFew};
+ghost use Rattle.tsb_controller.specs.Whole.{All, AreAllBy, all_in, all_put_back};
+ghost use Rattle.tsb_step.specs.Watches.{watched};
+ghost use Rattle.tsb_types.specs.declared.watch.Watch.{Watch as WatchValue};
+ghost use Rattle.tsb_bench.specs.Cabinet.{rows_of, IsShut};
+ghost use Rattle.tsb_bench.specs.Watched.{Holds, told};
+
+use crate::cabinet::Cabinet;
+use crate::monitor_cells::MonitorCells;
+use tsb_calls::Calls;
+use tsb_cells::Reversible;
+use tsb_controller::first_cell::{CALLS, DETECTORS, MONITOR, PHASES, PREEMPTS};
+use tsb_controller::part_of;
+use tsb_detect::{Alarm, Detectors};
+use tsb_heads::Trip;
+use tsb_history::Record;
+use tsb_objects::{Detector, Interval, PedestrianInterval, Phase, Preempt, Stage};
+use tsb_phase::Phases;
+use tsb_preempt::Preempts;
+use tsb_types::Watch;
+
+/// The layer that has a watched value, and whose of its values it is.
+#[derive(Clone, Copy)]
+pub(crate) enum Watched {
+    /// The interval of a phase.
+    Interval(Phases, Phase),
+    /// The pedestrian part of a phase.
+    Ped(Phases, Phase),
+    /// The vehicle memory of a phase.
+    Call(Calls, Phase),
+    /// The output of a vehicle detector.
+    Output(Detectors, Detector),
+    /// The alarm of a vehicle detector.
+    Alarm(Detectors, Detector),
+    /// The preempt in service, and its stage.
+    Stage(Preempts),
+    /// The trip of the monitor.
+    Trip(MonitorCells),
+}
+
+/// A watched value.
+#[derive(Clone, Copy, Debug, PartialEq, Eq)]
+pub(crate) enum Value {
+    Interval(Interval),
+    Ped(PedestrianInterval),
+    Call(bool),
+    Output(bool),
+    Alarm(Option<Alarm>),
+    Stage(Option<(Preempt, Stage)>),
+    Trip(Option<(Trip, u32)>),
+}
+
+impl Value {
+    /// Whether it is the same value.
+    pub(crate) fn is_same(&self, other: &Value) -> bool
+        ensures same { result ≡ true → self.now ≡ other.now }
+        ensures apart { result ≡ false → self.now ≢ other.now }
+    {
+        *self == *other
+    }
+}
+
+impl Watched {
+    /// The layer of a watched value, as it is in the cabinet.
+    pub(crate) fn of(cabinet: &Cabinet, watch: Watch) -> Watched
+        requires shut { IsShut cabinet.now }
+        ensures { Holds watch (rows_of cabinet.now) result }
+    {
+        let controller = &cabinet.controller;
+        match watch {
+            Watch::Interval(phase) => Watched::Interval(*controller.phases(), phase),
+            Watch::Ped(phase) => Watched::Ped(*controller.phases(), phase),
+            Watch::Call(phase) => Watched::Call(*controller.calls(), phase),
+            Watch::Output(detector) => Watched::Output(*controller.detectors(), detector),
+            Watch::Alarm(detector) => Watched::Alarm(*controller.detectors(), detector),
+            Watch::Stage => Watched::Stage(*controller.preempts()),
+            Watch::Trip => Watched::Trip(cabinet.monitor),
+        }
+    }
+
+    /// Puts back what a record tells of the layer.
+    #[tactic(auto, using(tsb_cells::proofs::DiffLemmas::lengths, crate::proofs::PartLemmas::parts))]
+    pub(crate) fn undo(&mut self, change: &Record<'_>)
+        requires held { (watch : WatchValue) × (a : All) × Holds watch a self.old }
+        requires few { HasFew change.now.entries }
+        ensures { (watch : WatchValue) (a : All) → Holds watch a self.old → Holds watch (all_put_back a change.now.entries) self.new }
+    {
+        match self {
+            Watched::Interval(phases, _) => phases.undo(&part_of(change, PHASES)),
+            Watched::Ped(phases, _) => phases.undo(&part_of(change, PHASES)),
+            Watched::Call(calls, _) => calls.undo(&part_of(change, CALLS)),
+            Watched::Output(detectors, _) => {
+                detectors.undo(&part_of(change, DETECTORS));
+            }
+            Watched::Alarm(detectors, _) => {
+                detectors.undo(&part_of(change, DETECTORS));
+            }
+            Watched::Stage(preempts) => preempts.undo(&part_of(change, PREEMPTS)),
+            Watched::Trip(monitor) => monitor.bank.undo(&part_of(change, MONITOR)),
+        }
+    }
+
+    /// The value.
+    pub(crate) fn value(&self) -> Value
+        requires held { (watch : WatchValue) × (now : ℕ) × (a : All) × Holds watch a self.now × AreAllBy now a }
+        ensures { (watch : WatchValue) (now : ℕ) (a : All) → Holds watch a self.now → AreAllBy now a → told result ≡ watched watch (all_in now a) }
+    {
+        match self {
+            Watched::Interval(phases, phase) => Value::Interval(phases.interval(*phase)),
+            Watched::Ped(phases, phase) => Value::Ped(phases.ped(*phase)),
+            Watched::Call(calls, phase) => Value::Call(calls.vehicle(*phase)),
+            Watched::Output(detectors, detector) => Value::Output(detectors.output(*detector)),
+            Watched::Alarm(detectors, detector) => Value::Alarm(detectors.alarm(*detector)),
+            Watched::Stage(preempts) => Value::Stage(preempts.stage()),
+            Watched::Trip(monitor) => Value::Trip(monitor.trip()),
+        }
+    }
+}
