@@ -1,11 +1,9 @@
 -- How the program ends, and what it has then written on its output.
-use Rattle.std.specs.Prelude.{◌≡◌, ◌⊎◌, ℕ, List, [], ◌∷◌, ◌++◌, IfSome, Option, Some, Result, Ok, Err, codes}
+use Rattle.std.specs.Prelude.{◌≡◌, ◌⊎◌, ℕ, List, [], ◌∷◌, ◌++◌, IfSome, Option, Result, Ok, Err, codes}
 use Rattle.std.specs.Io.KnownBytes.{Appends}
 use Rattle.tsb.specs.declared.asked.Asked.{Asked}
 use Rattle.tsb.specs.declared.asked.Asked.TheVariants as asks
 use Rattle.tsb.specs.declared.asked.WordsError.{WordsError}
-use Rattle.tsb_rules.specs.declared.rules.Rule.{Rule}
-use Rattle.tsb_objects.specs.Built.{objection}
 use Rattle.tsb_plan.specs.Two.{two}
 use Rattle.tsb_text.specs.declared.error.SessionError.{SessionError}
 use Rattle.tsb_text.specs.Answers.{Given}
@@ -41,9 +39,7 @@ Ran status plan log input left old new =
 
 -- how the built-in plan of two phases was run with an empty log
 abbrev pub RanBuiltIn : ℕ → Option (List ℕ) → Option (List ℕ) → Option (List ℕ) → Option (List ℕ) → Type 0
-RanBuiltIn status input left old new =
-    Talked status (record { plan = two; log = [] }) input left old new
-    ⊎ ((status ≡ 1) × (new ≡ old) × (rule : Rule) × (objection two ≡ Some rule))
+RanBuiltIn status input left old new = Talked status (record { plan = two; log = [] }) input left old new
 
 -- what was done for what the words ask, where files has the known bytes of each path
 abbrev pub Did : Result Asked WordsError → ℕ → (List ℕ → Option (List ℕ)) → Option (List ℕ) → Option (List ℕ) → Option (List ℕ) → Option (List ℕ) → Type 0

@@ -3,7 +3,9 @@ use Rattle.std.specs.Prelude.{◌≡◌, ℕ, List, take, IfSome, Option, Result
 use Rattle.tsb_plan.specs.Plan.{Plan}
 use Rattle.tsb_plan_text.specs.declared.error.PlanError.{PlanError}
 use Rattle.tsb_plan_text.specs.PlanErrors as plans
-use Rattle.tsb_text.specs.Runs.{Runnable, runnable, runnable_plan}
+use Rattle.tsb_objects.specs.declared.checked.Checked.{Checked}
+use Rattle.tsb_objects.specs.Checked.{checked_plan}
+use Rattle.tsb_plan_text.specs.PlanText.{reading}
 use Rattle.tsb_log_text.specs.declared.error.LogError.{LogError}
 use Rattle.tsb_log_text.specs.declared.log.LogRow.{LogRow}
 use Rattle.tsb_log_text.specs.Logs.{log_of}
@@ -16,11 +18,11 @@ IsFront known most bytes = IfSome known (λ all. bytes ≡ take most all)
 
 -- the file has a text that gives this plan; of one that is too long a byte more than the longest was read
 abbrev pub HasPlan : Option (List ℕ) → Plan → Type 0
-HasPlan known plan = (text : List ℕ) × IsFront known 1048577 text × (runnable text ≡ Ok plan)
+HasPlan known plan = (text : List ℕ) × IsFront known 1048577 text × (reading text ≡ Ok plan)
 
 -- the file has a text that gives no plan
 abbrev pub HasNoPlan : Option (List ℕ) → Type 0
-HasNoPlan known = (text : List ℕ) × IsFront known 1048577 text × (fault : plans.Error) × (runnable text ≡ Err fault)
+HasNoPlan known = (text : List ℕ) × IsFront known 1048577 text × (fault : plans.Error) × (reading text ≡ Err fault)
 
 -- the file has a text that gives this log
 abbrev pub HasLog : Option (List ℕ) → List LogRow → Type 0
@@ -31,8 +33,8 @@ abbrev pub HasNoLog : Option (List ℕ) → Type 0
 HasNoLog known = (text : List ℕ) × IsFront known 67108865 text × (fault : LogError) × (log_of text ≡ Err fault)
 
 -- what came of reading a plan's file
-abbrev pub PlanRead : Result Runnable (ReadError PlanError) → Option (List ℕ) → Type 0
-PlanRead (Ok found) known = HasPlan known (runnable_plan found)
+abbrev pub PlanRead : Result Checked (ReadError PlanError) → Option (List ℕ) → Type 0
+PlanRead (Ok found) known = HasPlan known (checked_plan found)
 PlanRead (Err (Refused fault)) known = HasNoPlan known
 PlanRead (Err fault) known = Unit {0}
 

@@ -4,7 +4,7 @@ ghost use Rattle.std.specs.Prelude.{◌≡◌, ◌++◌, ◌∷◌, [], IfSome, 
 ghost use Rattle.tsb.specs.declared.asked.Asked.{Asked};
 ghost use Rattle.tsb.specs.declared.asked.WordsError.{WordsError};
 ghost use Rattle.std.specs.Io.KnownBytes.{Appends};
-ghost use Rattle.tsb_text.specs.Runs.{runnable_plan};
+ghost use Rattle.tsb_objects.specs.Checked.{checked_plan};
 ghost use Rattle.tsb.specs.Statuses.{number, after_fault, after_words};
 ghost use Rattle.tsb.specs.Read.{PlanRead, LogRead};
 ghost use Rattle.tsb.specs.Ends.{Checks, Judged, Ran, RanBuiltIn, Did, Talked};
@@ -16,8 +16,7 @@ use std::convert::AsStr;
 use std::fmt::Display;
 use std::io::{Read, Write};
 use tsb_text::{
-    LOG_LIMIT, Log, LogError, PLAN_LIMIT, Plan, PlanError, Runnable, read_log, read_runnable,
-    session,
+    Checked, LOG_LIMIT, Log, LogError, PLAN_LIMIT, Plan, PlanError, read_log, read_plan, session,
 };
 
 /// How to use the program.
@@ -105,11 +104,11 @@ enum ReadError<T> {
 }
 
 /// The plan in the file at this path.
-fn plan_of<F: Files>(alloc: Global, files: &F, path: &str) -> Result<Runnable, ReadError<PlanError>>
+fn plan_of<F: Files>(alloc: Global, files: &F, path: &str) -> Result<Checked, ReadError<PlanError>>
     ensures { PlanRead result (F.bytes files.now path.now) }
 {
     let text = read_file(alloc, files, path, PLAN_LIMIT + 1).map_err(ReadError::File)?;
-    match read_runnable(alloc, &text) {
+    match read_plan(alloc, &text) {
         Ok(plan) => Ok(plan),
         Err(PlanError::Memory) => Err(ReadError::Memory),
         Err(fault) => Err(ReadError::Refused(fault)),
@@ -188,15 +187,15 @@ fn run<F: Files, R: Read, W: Write, E: Write>(
     ensures { Ran result (F.bytes files.now plan.now) (F.bytes files.now log.now)
         (R.remaining input.old) (R.remaining input.new) (W.contents output.old) (W.contents output.new) }
 {
-    let runnable = match plan_of(alloc, files, plan) {
-        Ok(runnable) => runnable,
+    let checked = match plan_of(alloc, files, plan) {
+        Ok(checked) => checked,
         Err(fault) => return refuse(errors, fault),
     };
     let rows = match log_of(alloc, files, log) {
         Ok(rows) => rows,
         Err(fault) => return refuse(errors, fault),
     };
-    talk(alloc, runnable, &rows, input, output, errors)
+    talk(alloc, checked, &rows, input, output, errors)
 }
 
 /// Runs a session on the built-in plan of two phases with an empty log.
@@ -209,8 +208,9 @@ fn run_built_in<R: Read, W: Write, E: Write>(
     ensures { RanBuiltIn result
         (R.remaining input.old) (R.remaining input.new) (W.contents output.old) (W.contents output.new) }
 {
-    match Runnable::new(Plan::two()) {
+    match Checked::new(Plan::two()) {
         Ok(plan) => talk(alloc, plan, &Log::empty(alloc), input, output, errors),
+        // It meets the rules.
         Err(rule) => tell(errors, Status::Refused, PlanError::Rule(rule)),
     }
 }
@@ -218,13 +218,13 @@ fn run_built_in<R: Read, W: Write, E: Write>(
 /// Runs a session, and gives the status that the program ends with.
 fn talk<R: Read, W: Write, E: Write>(
     alloc: Global,
-    plan: Runnable,
+    plan: Checked,
     log: &Log,
     input: &mut R,
     output: &mut W,
     errors: &mut E,
 ) -> u8
-    ensures { Talked result (record { plan = runnable_plan plan; log = log.now })
+    ensures { Talked result (record { plan = checked_plan plan; log = log.now })
         (R.remaining input.old) (R.remaining input.new) (W.contents output.old) (W.contents output.new) }
 {
     match session(alloc, plan, log, input, output) {

@@ -10,7 +10,15 @@ const TWO: &[u8] =
 const SHORT: &[u8] =
     br#"{"version":1,"phaseEnabled":{"2":1,"4":1},"phaseRing":{"2":1,"4":1},"phaseSide":{"2":1,"4":2},"phaseMinimumGreen":{"2":5,"4":5},"phaseMaximum1":{"2":10,"4":8},"phaseMaximum2":{"2":10,"4":8},"phaseYellowChange":{"2":29,"4":30},"phaseRedClear":{"2":10,"4":10},"phaseMaxRecall":{"2":1,"4":1},"sequenceData":{"1":2,"2":4}}"#;
 
+/// Eight phases in two rings, with detectors, pedestrians, an overlap, patterns and preempts.
+const QUAD: &[u8] =
+    br#"{"version":1,"phaseEnabled":{"1":1,"2":1,"3":1,"4":1,"5":1,"6":1,"7":1,"8":1},"phaseRing":{"1":1,"2":1,"3":1,"4":1,"5":2,"6":2,"7":2,"8":2},"phaseSide":{"1":1,"2":1,"3":2,"4":2,"5":1,"6":1,"7":2,"8":2},"phaseConcurrency":{"1":48,"2":48,"3":192,"4":192,"5":3,"6":3,"7":12,"8":12},"phaseMinimumGreen":{"1":5,"2":5,"3":5,"4":5,"5":5,"6":5,"7":5,"8":5},"phaseMaximum1":{"1":20,"2":20,"3":20,"4":20,"5":20,"6":20,"7":20,"8":20},"phaseMaximum2":{"1":20,"2":20,"3":20,"4":20,"5":20,"6":20,"7":20,"8":20},"phasePassage":{"1":20,"2":20,"3":20,"4":20,"5":20,"6":20,"7":20,"8":20},"phaseMinimumGap":{"1":20,"2":20,"3":20,"4":20,"5":20,"6":20,"7":20,"8":20},"phaseYellowChange":{"1":30,"2":30,"3":30,"4":30,"5":30,"6":30,"7":30,"8":30},"phaseRedClear":{"1":10,"2":10,"3":10,"4":10,"5":10,"6":10,"7":10,"8":10},"phaseWalk":{"2":4},"phasePedestrianClear":{"2":6},"phaseMinRecall":{"2":1,"6":1},"phaseDualEntry":{"2":1,"4":1,"6":1,"8":1},"vehicleDetectorCallPhase":{"1":1,"2":2,"3":3,"4":4,"5":5,"6":6,"7":7,"8":8},"pedestrianDetectorCallPhase":{"2":2},"overlapIncludedPhases":{"1":3},"unitRedRevert":{"1":20},"sequenceData":{"1":1,"2":2,"3":3,"4":4,"9":5,"10":6,"11":7,"12":8},"patternCycleTime":{"1":80,"2":80},"patternOffsetTime":{"2":79},"patternSplitNumber":{"1":1,"2":1},"patternSequenceNumber":{"1":1,"2":1},"splitTime":{"1":15,"2":25,"3":15,"4":25,"5":15,"6":25,"7":15,"8":25},"splitCoordPhase":{"2":1,"6":1},"preemptDwellPhase":{"1":132,"2":72},"preemptMinimumGreen":{"1":2,"2":2},"preemptMinimumWalk":{"1":2,"2":2},"preemptEnterPedClear":{"1":3,"2":3},"preemptMinimumDuration":{"1":10}}"#;
+
 const LOG: &[u8] = b"0000100 0010010000000000 00000000 0000\n";
+
+const QUAD_SESSION: &[u8] = b"0000001 RGRRRGRR-------- -D-------------- G--- 0 ----
+0000000 RRRRRRRR-------- -D-------------- R--- 0 ----
+";
 
 const SESSION: &[u8] = b"0000001 -G-R------------ ---------------- ---- 0 ----
 0000000 -R-R------------ ---------------- ---- 0 ----
@@ -74,6 +82,7 @@ impl Files for Desk {
         match path {
             "two" => Ok(spaced(TWO, 0)),
             "short" => Ok(spaced(SHORT, 0)),
+            "quad" => Ok(spaced(QUAD, 0)),
             "full" => Ok(spaced(TWO, PLAN_LIMIT - TWO.len())),
             "large" => Ok(spaced(TWO, PLAN_LIMIT - TWO.len() + 1)),
             "endless" => Ok(spaced(b"", usize::MAX)),
@@ -136,7 +145,9 @@ fn gives(rt: &HostRuntime, words: &[&str], status: u8, output: &[u8], errors: &[
 #[test]
 fn what_is_right_ends_with_0(rt: HostRuntime) {
     assert!(rt; gives(&rt, &["tsb", "check", "two"], 0, b"plan ok\n", b""));
+    assert!(rt; gives(&rt, &["tsb", "check", "quad"], 0, b"plan ok\n", b""));
     assert!(rt; gives(&rt, &["tsb", "run", "two", "log"], 0, SESSION, b""));
+    assert!(rt; gives(&rt, &["tsb", "run", "quad", "log"], 0, QUAD_SESSION, b""));
     assert!(rt; gives(&rt, &["tsb", "run", "two", "empty"], 0, SESSION, b""));
     assert!(rt; gives(&rt, &["tsb"], 0, SESSION, b""));
 }

@@ -10,6 +10,7 @@ use Rattle.tsb_types.specs.declared.lamp.PedestrianAspect.TheVariants as pedestr
 use Rattle.tsb_heads.specs.Heads.{Heads}
 use Rattle.tsb_heads.specs.Promises.{IsSame}
 use Rattle.tsb_display_text.specs.Line.{line_of, digit, letter, pedestrian_letter, tick_field, vehicle_field, pedestrian_field, overlap_field, local_field, preempt_digit}
+use Rattle.tsb_types.proofs.RunLemmas.{map-same}
 
 pub line-length : (now : ℕ) (heads : Heads) (preempt local : Option ℕ) → length (line_of now heads preempt local) ≡ 53
 unfolding line_of run_from
@@ -92,14 +93,6 @@ line-utf8 now heads preempt local most =
     IsUtf8-from_ascii (line_of now heads preempt local) (line-ascii now heads preempt local most)
 
 -- ## Heads
-
--- two functions that agree on a run have the same list of it
-map-same : (f g : ℕ → ℕ) (a n : ℕ) → ((k : ℕ) → a ≤ k → k < a + n → f k ≡ g k) → map f (run_from a n) ≡ map g (run_from a n)
-unfolding run_from
-map-same f g a zero same = refl
-map-same f g a (suc n) same =
-    let rest : map f (run_from (a + 1) n) ≡ map g (run_from (a + 1) n) = map-same f g (a + 1) n (λ k from below. same k (omega arith) (omega arith)) in
-    ap (λ (y : ℕ). y ∷ map f (run_from (a + 1) n)) (same a (omega arith) (omega arith)) ∙ ap (λ (ys : List ℕ). g a ∷ ys) rest
 
 -- heads that show the same have the same line
 pub line-same : (now : ℕ) (heads said : Heads) (preempt local : Option ℕ) → IsSame heads said →

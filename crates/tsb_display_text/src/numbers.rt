@@ -13,9 +13,9 @@ fn digit(number: u32, unit: u32) -> u8
     b'0' + (number / unit % 10) as u8
 }
 
-/// The tick number in 7 digits.
+/// The tick number in 7 digits, as lines have it; of a number of more digits the last 7.
 #[inline(always)]
-pub(crate) fn tick_digits(now: u32) -> [u8; 7]
+pub fn tick_digits(now: u32) -> [u8; 7]
     ensures { result ≡ tick_field now }
 {
     [

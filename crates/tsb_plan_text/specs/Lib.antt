@@ -4,3 +4,5 @@ pub mod PlanErrors
 pub mod PlanText
 -- the same plan told number by number, without how it is read
 pub mod PlanTextSays
+-- how a rule is told
+pub mod RuleLines

@@ -1,5 +1,6 @@
 //! What is wrong with a plan text.
 
+use crate::rules::rule_line;
 use std::alloc::AllocError;
 use thiserror::Error;
 use tsb_objects::{Object, Rule};
@@ -63,8 +64,8 @@ pub enum PlanError {
         /// The index as the text has it.
         index: String,
     },
-    /// The plan breaks a rule, this one first, or uses a part that is not built yet.
-    #[error("plan: rule {0:?}")]
+    /// The plan breaks a rule, this one first.
+    #[error("plan: {}", rule_line(*.0))]
     Rule(Rule),
 }
 

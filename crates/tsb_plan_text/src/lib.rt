@@ -10,9 +10,11 @@ mod error;
 mod listed;
 mod numbers;
 mod read;
+mod rules;
 
 pub use error::PlanError;
 pub use read::{LIMIT, read_plan};
+pub use rules::rule_line;
 
 #[cfg(test)]
 mod tests;

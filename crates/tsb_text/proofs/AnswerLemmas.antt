@@ -2,42 +2,35 @@
 use Rattle.std.proofs.Common.{◌≡◌, ℕ, ◌+◌, List, [], ◌∷◌, ◌++◌, refl, sym, ap, ◌∙◌, append_assoc, Ok, Err, subst, suc, OnOk, OnErr, inl, inr, codes}
 use Rattle.std.specs.declared.option.Option.{Option}
 use Rattle.std.specs.declared.result.Result.{Result}
-use Rattle.tsb_history.specs.History.{Change}
 use Rattle.tsb_plan.specs.Plan.{Plan}
 use Rattle.tsb_types.specs.declared.refusal.Refusal.{Refusal}
-use Rattle.tsb_bench.specs.declared.inputs.Input.{Input}
-use Rattle.tsb_bench.specs.declared.inputs.Input.TheVariants.{Tick}
-use Rattle.tsb_bench.specs.declared.commands.Cmd.{Cmd}
-use Rattle.tsb_bench.specs.declared.commands.Cmd.TheVariants.{Apply}
-use Rattle.tsb_bench.specs.declared.commands.Answer.{Answer}
-use Rattle.tsb_bench.specs.declared.commands.Answer.TheVariants.{Took, Refused}
-use Rattle.tsb_bench.specs.State.{State}
-use Rattle.tsb_bench.specs.Past.{Held, Whole, state_of, whole, pasts}
-use Rattle.tsb_bench.specs.Play.{replay, run, IsRight, remaining_after, Follows}
-use Rattle.tsb_bench.specs.Play as play
-use Rattle.tsb_command_text.specs.declared.command.Command.{Command}
-use Rattle.tsb_command_text.specs.declared.command.Command.TheVariants.{Step, Back, Seek, Undo, Show, When, Begin, Set, Verify, Commit, Abort, Pattern, Preempt, Fault, Reset, Quit}
+use Rattle.tsb_past.specs.declared.commands.Command.TheVariants.{Apply}
+use Rattle.tsb_past.specs.declared.commands.Answer.{Answer}
+use Rattle.tsb_past.specs.declared.commands.Answer.TheVariants.{Took, Refused}
+use Rattle.tsb_past.specs.Play as play
+use Rattle.tsb_past.proofs.PlayLemmas as past
+use Rattle.tsb_step.specs.declared.inputs.Input.{Input}
+use Rattle.tsb_step.specs.declared.inputs.Input.TheVariants.{Tick}
+use Rattle.tsb_step.specs.State.{State, start}
+use Rattle.tsb_step.specs.Past.{Whole, controller}
+use Rattle.tsb_step.specs.Play.{Cmd, IsRight, remaining_after, Follows}
+use Rattle.tsb_step.specs.Runs.{replay}
+use Rattle.tsb_step.specs.Watches.{watched}
+use Rattle.tsb_bench.specs.Held.{Held, state_of, whole}
+use Rattle.tsb_command_text.specs.declared.command.Command.TheVariants.{Show, Quit}
 use Rattle.tsb_log_text.specs.declared.log.LogRow.{LogRow}
 use Rattle.tsb_log_text.specs.Logs.{row_at}
 use Rattle.tsb_types.specs.declared.row.Row.{Row}
 use Rattle.std.proofs.lemmas.List.{append-nil}
 use Rattle.tsb_text.specs.declared.error.WriteError.{WriteError}
-use Rattle.tsb_text.specs.Answers.{Given, Asked, Steps, Answers, IsNotYet, next_tick, told, refused_line}
-use Rattle.tsb_text.specs.Line.{display_line}
+use Rattle.tsb_text.specs.Answers.{Given, Asked, Steps, Answers, next_tick, told, refused_line, display_line}
 use Rattle.tsb_text.specs.Talk.{Stands, Done, StepsOn}
 use Rattle.tsb_text.specs.Written.{Said, Wrote, with_feed}
 use Rattle.tsb_text.proofs.TextLemmas.{some-steps}
 use Rattle.tsb_text.proofs.WrittenLemmas.{said-nothing, said-more}
 
--- the newest state of a run
-newest : (plan : Plan) (s : State) (rs : List Change) (is : List Input) → pasts s rs ≡ run plan is → s ≡ replay plan is
-newest plan s [] [] h = cc
-newest plan s [] (i ∷ is) h = cc
-newest plan s (r ∷ rs) [] h = cc
-newest plan s (r ∷ rs) (i ∷ is) h = cc
-
 pub follows-state : (plan : Plan) (w : Whole) (is : List Input) → Follows plan w is → w.state ≡ replay plan is
-follows-state plan w is f = newest plan w.state w.records is f.pasts
+follows-state plan w is f = past.follows-state controller (start plan) w is f
 
 -- a line that is an answer was said, or a fault came before it
 pub done-said : (r : Result (Unit {0}) WriteError) (given : Given) (log : List LogRow) (bench : Whole) (P : List ℕ → List Input → Type 0) (a b : Option (List ℕ)) (p q line : List ℕ) (left : List Input)
@@ -47,7 +40,7 @@ done-said (Err e) given log bench P a b p q line left ok err stands so = record 
 
 -- the bench was asked
 pub ask-done : (r : Result (Unit {0}) WriteError) (given : Given) (log : List LogRow) (is : List Input) (cmd : Cmd) (old new : Held) (result answer : Answer) (a b : Option (List ℕ)) (p q line : List ℕ)
-    → Stands given log (whole old) is → ((plan : Plan) → play.Answers plan (whole old) cmd result (whole new)) → result ≡ answer → line ≡ told answer (state_of new)
+    → Stands given log (whole old) is → ((plan : Plan) → play.Answers controller (start plan) watched (whole old) cmd result (whole new)) → result ≡ answer → line ≡ told cmd answer (state_of new)
     → OnOk r (Said a b p q (with_feed line)) → OnErr r (Said a b p q []) → Done r given log (whole new) (Asked given is cmd) a b p q
 ask-done r given log is cmd old new result answer a b p q line stands answers same tells ok err =
     let right : IsRight given.plan is cmd answer × Follows given.plan (whole new) (remaining_after given.plan is cmd answer) =
@@ -55,7 +48,7 @@ ask-done r given log is cmd old new result answer a b p q line stands answers sa
     let state : state_of new ≡ replay given.plan (remaining_after given.plan is cmd answer) = follows-state given.plan (whole new) (remaining_after given.plan is cmd answer) right.1 in
     done-said r given log (whole new) (Asked given is cmd) a b p q line (remaining_after given.plan is cmd answer) ok err
     (record { same = stands.same; follows = right.1 })
-    (record { answer = answer; right = right.0; left = refl; line = ap with_feed (tells ∙ ap (told answer) state) })
+    (record { answer = answer; right = right.0; left = refl; line = ap with_feed (tells ∙ ap (told cmd answer) state) })
 
 -- the display line of now
 pub show-done : (r : Result (Unit {0}) WriteError) (given : Given) (log : List LogRow) (is : List Input) (bench : Held) (a b : Option (List ℕ)) (p q line : List ℕ)
@@ -67,32 +60,6 @@ show-done r given log is bench a b p q line stands tells ok err =
 
 pub quit-done : (given : Given) (log : List LogRow) (is : List Input) (bench : Whole) (a : Option (List ℕ)) (p : List ℕ) → Stands given log bench is → Done (Ok tt) given log bench (Answers given is Quit) a a p p
 quit-done given log is bench a p stands = (is, stands, record { text = []; said = said-nothing a p; so = (refl, refl) })
-
--- a command that is none of those that are built
-not-yet : (given : Given) (is left : List Input) (text : List ℕ) (c : Command) → ((n : ℕ) → c ≡ Step n → ⊥) → ((n : ℕ) → c ≡ Back n → ⊥) → ((n : ℕ) → c ≡ Seek n → ⊥)
-    → (c ≡ Undo → ⊥) → (c ≡ Show → ⊥) → (c ≡ Quit → ⊥) → IsNotYet is text left → Answers given is c text left
-not-yet given is left text (Step n) a b d e f g h = absurd (a n refl)
-not-yet given is left text (Back n) a b d e f g h = absurd (b n refl)
-not-yet given is left text (Seek n) a b d e f g h = absurd (d n refl)
-not-yet given is left text Undo a b d e f g h = absurd (e refl)
-not-yet given is left text Show a b d e f g h = absurd (f refl)
-not-yet given is left text Quit a b d e f g h = absurd (g refl)
-not-yet given is left text (When w) a b d e f g h = h
-not-yet given is left text (Begin s) a b d e f g h = h
-not-yet given is left text (Set s o v) a b d e f g h = h
-not-yet given is left text (Verify s) a b d e f g h = h
-not-yet given is left text (Commit s) a b d e f g h = h
-not-yet given is left text (Abort s) a b d e f g h = h
-not-yet given is left text (Pattern n) a b d e f g h = h
-not-yet given is left text (Preempt n on) a b d e f g h = h
-not-yet given is left text (Fault lamp) a b d e f g h = h
-not-yet given is left text Reset a b d e f g h = h
-
-pub not_yet-done : (r : Result (Unit {0}) WriteError) (given : Given) (log : List LogRow) (is : List Input) (bench : Whole) (c : Command) (a b : Option (List ℕ)) (p q line : List ℕ)
-    → ((n : ℕ) → c ≡ Step n → ⊥) → ((n : ℕ) → c ≡ Back n → ⊥) → ((n : ℕ) → c ≡ Seek n → ⊥) → (c ≡ Undo → ⊥) → (c ≡ Show → ⊥) → (c ≡ Quit → ⊥)
-    → Stands given log bench is → line ≡ codes "not yet" → OnOk r (Said a b p q (with_feed line)) → OnErr r (Said a b p q []) → Done r given log bench (Answers given is c) a b p q
-not_yet-done r given log is bench c a b p q line x y z u v w stands tells ok err =
-    done-said r given log bench (Answers given is c) a b p q line is ok err stands (not-yet given is is (with_feed line) c x y z u v w (ap with_feed tells, refl))
 
 -- ## Ticks
 

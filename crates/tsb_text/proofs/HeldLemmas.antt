@@ -92,7 +92,7 @@ holds-line (Err e) bytes held new asked line h reads is empty over = tt
 
 -- ## A piece
 
-front-more : (h bytes : List ℕ) (i x : ℕ) → i < length bytes → x ≡ get_or bytes i 0 → (h ++ take i bytes) ++ x ∷ [] ≡ h ++ take (i + 1) bytes
+pub front-more : (h bytes : List ℕ) (i x : ℕ) → i < length bytes → x ≡ get_or bytes i 0 → (h ++ take i bytes) ++ x ∷ [] ≡ h ++ take (i + 1) bytes
 front-more h bytes i x lt is =
     append_assoc h (take i bytes) (x ∷ []) ∙ ap (λ (v : List ℕ). h ++ v) (ap (λ (y : ℕ). take i bytes ++ y ∷ []) is ∙ sym (take_more bytes i 0 lt))
 

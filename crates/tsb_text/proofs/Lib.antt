@@ -1,5 +1,6 @@
 pub mod WrittenLemmas
-pub mod LineLemmas
+pub mod RefusalLemmas
+pub mod WatchLemmas
 pub mod TextLemmas
 pub mod AnswerLemmas
 pub mod HeldLemmas

@@ -4,8 +4,9 @@ use Rattle.std.proofs.lemmas.List.{append-nil}
 use Rattle.std.specs.declared.option.Option.{Option}
 use Rattle.std.specs.declared.result.Result.{Result}
 use Rattle.std.specs.Io.KnownBytes.{Consumes, Keeps, IsAtEnd}
-use Rattle.tsb_bench.specs.declared.inputs.Input.{Input}
-use Rattle.tsb_bench.specs.Past.{Held, Whole, whole}
+use Rattle.tsb_step.specs.declared.inputs.Input.{Input}
+use Rattle.tsb_step.specs.Past.{Whole}
+use Rattle.tsb_bench.specs.Held.{Held, whole}
 use Rattle.tsb_lines.specs.Lines.{HasNoFeed}
 use Rattle.tsb_log_text.specs.declared.log.LogRow.{LogRow}
 use Rattle.tsb_text.specs.declared.error.SessionError.{SessionError}
@@ -88,7 +89,7 @@ ended-so (Ok u) given left read waits said gone e x =
       | inl end ↦ inl (end.0, subst (λ (v : List ℕ). IsText given [] read v) all end.1)
       | inr whole ↦ inr (whole.0, record { all = λ more. subst (λ (v : List ℕ). IsText given [] (read ++ more) v) all (whole.1.all more) })
     ]
-ended-so (Err Memory) given left read waits said gone e x = x
+ended-so (Err Memory) given left read waits said gone e x = absurd x
 ended-so (Err Read) given left read waits said gone e x = ended-front given left read waits said gone e x
 ended-so (Err Write) given left read waits said gone e x = ended-front given left read waits said gone e x
 ended-so (Err TooLarge) given left read waits said gone e x = ended-front given left read waits said gone e x

@@ -3,8 +3,8 @@ use Rattle.std.proofs.Common.{◌≡◌, ℕ, ◌+◌, ◌<◌, ◌≤◌, List,
 use Rattle.std.proofs.lemmas.List.{append-nil, take_more, take-append-drop}
 use Rattle.std.specs.declared.option.Option.{Option}
 use Rattle.std.specs.declared.result.Result.{Result}
-use Rattle.tsb_bench.specs.declared.inputs.Input.{Input}
-use Rattle.tsb_bench.specs.Past.{Whole}
+use Rattle.tsb_step.specs.declared.inputs.Input.{Input}
+use Rattle.tsb_step.specs.Past.{Whole}
 use Rattle.tsb_command_text.specs.declared.command.Command.{Command}
 use Rattle.tsb_command_text.specs.declared.command.Reading.{Reading}
 use Rattle.tsb_command_text.specs.declared.command.Reading.TheVariants.{Skip, Bad, Leave, Do}
@@ -22,6 +22,7 @@ use Rattle.tsb_text.specs.Talk.{Stands, Done, Obeyed, Went, Finished}
 use Rattle.tsb_text.specs.Written.{Said, Wrote, with_feed}
 use Rattle.tsb_text.proofs.TextLemmas.{some-answered, text-cut}
 use Rattle.tsb_text.proofs.WrittenLemmas.{said-nothing, said-more}
+use Rattle.tsb_text.proofs.HeldLemmas.{front-more}
 
 -- ## A line
 
@@ -164,10 +165,6 @@ pub record Talking (given : Given) (log : List LogRow) (is : List Input) (bytes 
   pub now : List Input
   pub stands : Stands given log bench now
   pub wrote : Wrote a b p q (Carries given is bytes now held)
-
-front-more : (h bytes : List ℕ) (i x : ℕ) → i < length bytes → x ≡ get_or bytes i 0 → (h ++ take i bytes) ++ x ∷ [] ≡ h ++ take (i + 1) bytes
-front-more h bytes i x lt is =
-    append_assoc h (take i bytes) (x ∷ []) ∙ ap (λ (v : List ℕ). h ++ v) (ap (λ (y : ℕ). take i bytes ++ y ∷ []) is ∙ sym (take_more bytes i 0 lt))
 
 front-all : (h bytes : List ℕ) (i x : ℕ) → i < length bytes → x ≡ get_or bytes i 0 → ((h ++ take i bytes) ++ x ∷ []) ++ drop (i + 1) bytes ≡ h ++ bytes
 front-all h bytes i x lt is =

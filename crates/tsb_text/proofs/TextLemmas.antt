@@ -1,14 +1,19 @@
 -- Texts of sessions: there is one for all bytes, and of a long line the first bytes tell as much as all.
-use Rattle.std.proofs.Common.{◌≡◌, ℕ, ◌+◌, ◌<◌, ◌≤◌, List, [], ◌∷◌, ◌++◌, length, refl, sym, ap, ◌∙◌, arith, rules, subst, zero, suc, true, false, cond, eqb, Bool, length-append, ◌⊎◌, inl, inr, nat_lt}
+use Rattle.std.proofs.Common.{◌≡◌, ℕ, ◌+◌, ◌<◌, ◌≤◌, List, [], ◌∷◌, ◌++◌, length, refl, sym, ap, ◌∙◌, arith, rules, subst, zero, suc, true, false, cond, eqb, Bool, length-append, ◌⊎◌, inl, inr, nat_lt, Some, None}
 use Rattle.std.proofs.lemmas.Bool.Decides.{eqb_tells}
-use Rattle.tsb_types.specs.declared.refusal.Refusal.TheVariants.{TickLimit}
-use Rattle.tsb_bench.specs.declared.inputs.Input.{Input}
-use Rattle.tsb_bench.specs.declared.commands.Cmd.{Cmd}
-use Rattle.tsb_bench.specs.declared.commands.Cmd.TheVariants as asks
-use Rattle.tsb_bench.specs.declared.commands.Answer.{Answer}
-use Rattle.tsb_bench.specs.declared.commands.Answer.TheVariants.{Took, Refused, Undone, Moved, Nothing}
-use Rattle.tsb_bench.specs.State.{kind_of}
-use Rattle.tsb_bench.specs.Play.{replay, IsRight}
+use Rattle.std.specs.declared.option.Option.{Option}
+use Rattle.tsb_plan.specs.Plan.{Plan}
+use Rattle.tsb_types.specs.declared.refusal.Refusal.{Refusal}
+use Rattle.tsb_types.specs.declared.watch.Watch.{Watch}
+use Rattle.tsb_past.specs.declared.commands.Command.TheVariants as asks
+use Rattle.tsb_past.specs.declared.commands.Answer.{Answer}
+use Rattle.tsb_past.specs.declared.commands.Answer.TheVariants.{Took, Refused, Undone, Moved, Nothing, Changed}
+use Rattle.tsb_step.specs.declared.inputs.Input.{Input}
+use Rattle.tsb_step.specs.declared.inputs.Input.TheVariants as inputs
+use Rattle.tsb_step.specs.Play.{Cmd, IsRight, run}
+use Rattle.tsb_step.specs.Runs.{replay}
+use Rattle.tsb_step.specs.Step.{kind_of, verdict}
+use Rattle.tsb_step.specs.Watches.{TellsLastChange}
 use Rattle.tsb_command_text.specs.declared.command.Command.{Command}
 use Rattle.tsb_command_text.specs.declared.command.Command.TheVariants.{Step, Back, Seek, Undo, Show, When, Begin, Set, Verify, Commit, Abort, Pattern, Preempt, Fault, Reset, Quit}
 use Rattle.tsb_command_text.specs.declared.command.Reading.{Reading}
@@ -17,27 +22,40 @@ use Rattle.tsb_command_text.specs.Readings.{reading}
 use Rattle.tsb_lines.specs.Lines.{lines_of, split, ended, onto_first, without_return, HasNoFeed}
 use Rattle.tsb_text.specs.Answers.{Given, Asked, Steps, Answers, next_tick}
 use Rattle.tsb_text.specs.Text.{Says, IsAnswered, IsText}
+use Rattle.tsb_text.proofs.RefusalLemmas.{never-memory, as-refusal}
+use Rattle.tsb_text.proofs.WatchLemmas.{some-change}
 
 -- ## There is an answer to each command: one that does not run out of memory
 
-right-tick : (given : Given) (is : List Input) → IsRight given.plan is (asks.Apply (next_tick given is)) Took ⊎ IsRight given.plan is (asks.Apply (next_tick given is)) (Refused TickLimit)
-right-tick given is = at (nat_lt (replay given.plan is).now 6000000) refl
+right-input : (given : Given) (is : List Input) (i : Input) → IsRight given.plan is (asks.Apply i) Took ⊎ ((e : Refusal) × IsRight given.plan is (asks.Apply i) (Refused e))
+right-input given is i = at (verdict (replay given.plan is) i) refl
   where
-    at : (b : Bool) → nat_lt (replay given.plan is).now 6000000 ≡ b → IsRight given.plan is (asks.Apply (next_tick given is)) Took ⊎ IsRight given.plan is (asks.Apply (next_tick given is)) (Refused TickLimit)
-    at true e = inl (rw e refl)
-    at false e = inr (rw e refl)
+    at : (found : Option Refusal) → verdict (replay given.plan is) i ≡ found → IsRight given.plan is (asks.Apply i) Took ⊎ ((e : Refusal) × IsRight given.plan is (asks.Apply i) (Refused e))
+    at None e = inl e
+    at (Some x) e = inr (x, as-refusal (verdict (replay given.plan is) i) x (never-memory (replay given.plan is) i) e)
 
 pub some-steps : (given : Given) (n : ℕ) (is : List Input) → (text : List ℕ) × (left : List Input) × Steps given is n text left
 some-steps given zero is = ([], is, (refl, refl))
-some-steps given (suc n) is = elim (right-tick given is) [
+some-steps given (suc n) is = elim (right-input given is (next_tick given is)) [
   | inl took ↦
       let rest : (text : List ℕ) × (left : List Input) × Steps given (next_tick given is ∷ is) n text left = some-steps given n (next_tick given is ∷ is) in
       (_, rest.1, inl (rest.0, record { right = took; line = refl }, rest.2))
-  | inr refused ↦ (_, is, inr (record { refusal = TickLimit; right = refused; line = refl; left = refl }))
+  | inr refused ↦ (_, is, inr (record { refusal = refused.0; right = refused.1; line = refl; left = refl }))
 ]
 
 asked : (given : Given) (is : List Input) (cmd : Cmd) (a : Answer) → IsRight given.plan is cmd a → (text : List ℕ) × (left : List Input) × Asked given is cmd text left
 asked given is cmd a right = (_, _, record { answer = a; right = right; left = refl; line = refl })
+
+some-input : (given : Given) (is : List Input) (i : Input) → (text : List ℕ) × (left : List Input) × Asked given is (asks.Apply i) text left
+some-input given is i = elim (right-input given is i) [
+  | inl took ↦ asked given is (asks.Apply i) Took took
+  | inr refused ↦ asked given is (asks.Apply i) (Refused refused.0) refused.1
+]
+
+some-when : (given : Given) (is : List Input) (watch : Watch) → (text : List ℕ) × (left : List Input) × Asked given is (asks.When watch) text left
+some-when given is watch =
+    let change : (t : Option ℕ) × TellsLastChange watch (run given.plan is) t = some-change watch (run given.plan is) in
+    asked given is (asks.When watch) (Changed change.0) change.1
 
 some-back : (given : Given) (is : List Input) (n : ℕ) → (text : List ℕ) × (left : List Input) × Asked given is (asks.Back n) text left
 some-back given is n = at (nat_lt (replay given.plan is).now n) refl
@@ -64,16 +82,16 @@ some-answer given is (Seek t) = some-seek given is t
 some-answer given is Undo = some-undo given is
 some-answer given is Show = (_, _, (refl, refl))
 some-answer given is Quit = (_, _, (refl, refl))
-some-answer given is (When w) = (_, _, (refl, refl))
-some-answer given is (Begin s) = (_, _, (refl, refl))
-some-answer given is (Set s o v) = (_, _, (refl, refl))
-some-answer given is (Verify s) = (_, _, (refl, refl))
-some-answer given is (Commit s) = (_, _, (refl, refl))
-some-answer given is (Abort s) = (_, _, (refl, refl))
-some-answer given is (Pattern n) = (_, _, (refl, refl))
-some-answer given is (Preempt n on) = (_, _, (refl, refl))
-some-answer given is (Fault lamp) = (_, _, (refl, refl))
-some-answer given is Reset = (_, _, (refl, refl))
+some-answer given is (When w) = some-when given is w
+some-answer given is (Begin s) = some-input given is (inputs.Begin s)
+some-answer given is (Set s o v) = some-input given is (inputs.Set s o v)
+some-answer given is (Verify s) = some-input given is (inputs.Verify s)
+some-answer given is (Commit s) = some-input given is (inputs.Commit s)
+some-answer given is (Abort s) = some-input given is (inputs.Abort s)
+some-answer given is (Pattern n) = some-input given is (inputs.Pattern n)
+some-answer given is (Preempt n on) = some-input given is (inputs.Switch n on)
+some-answer given is (Fault lamp) = some-input given is (inputs.Fault lamp)
+some-answer given is Reset = some-input given is inputs.Reset
 
 pub some-says : (given : Given) (r : Reading) (is : List Input) (Rest : List Input → List ℕ → Type 0) → ((new : List Input) → (t : List ℕ) × Rest new t) → (t : List ℕ) × Says given r is t Rest
 some-says given Skip is Rest k = k is

@@ -1,24 +1,27 @@
 -- What a session answers to a command, over the inputs that were not undone.
-use Rattle.std.specs.Prelude.{◌≡◌, ◌⊎◌, ℕ, zero, suc, ◌+◌, List, [], ◌∷◌, ◌++◌, codes}
+use Rattle.std.specs.Prelude.{◌≡◌, ◌⊎◌, ℕ, zero, suc, ◌+◌, List, [], ◌∷◌, ◌++◌, Option, Some, None, option_map, codes}
 use Rattle.tsb_history.specs.declared.kinds.Kind.{Kind}
 use Rattle.tsb_history.specs.declared.kinds.Kind.TheVariants as kinds
 use Rattle.tsb_types.specs.declared.refusal.Refusal.{Refusal}
 use Rattle.tsb_types.specs.declared.refusal.Refusal.TheVariants as refusals
+use Rattle.tsb_types.specs.declared.stage.Stage.{Stage}
+use Rattle.tsb_rules.specs.declared.rules.Rule.{Rule}
 use Rattle.tsb_plan.specs.Plan.{Plan}
-use Rattle.tsb_bench.specs.declared.inputs.Input.{Input}
-use Rattle.tsb_bench.specs.declared.inputs.Input.TheVariants.{Tick}
-use Rattle.tsb_bench.specs.declared.commands.Cmd.{Cmd}
-use Rattle.tsb_bench.specs.declared.commands.Cmd.TheVariants.{Apply}
-use Rattle.tsb_bench.specs.declared.commands.Cmd.TheVariants as asks
-use Rattle.tsb_bench.specs.declared.commands.Answer.{Answer}
-use Rattle.tsb_bench.specs.declared.commands.Answer.TheVariants.{Took, Refused, Undone, Moved, Nothing}
-use Rattle.tsb_bench.specs.State.{State}
-use Rattle.tsb_bench.specs.Play.{replay, IsRight, remaining_after}
+use Rattle.tsb_plan_text.specs.RuleLines.{rule_line}
+use Rattle.tsb_past.specs.declared.commands.Command.TheVariants as asks
+use Rattle.tsb_past.specs.declared.commands.Answer.{Answer}
+use Rattle.tsb_past.specs.declared.commands.Answer.TheVariants.{Took, Refused, Undone, Moved, Nothing, Changed}
+use Rattle.tsb_step.specs.declared.inputs.Input.{Input}
+use Rattle.tsb_step.specs.declared.inputs.Input.TheVariants as inputs
+use Rattle.tsb_step.specs.Play.{Cmd, IsRight, remaining_after}
+use Rattle.tsb_step.specs.Runs.{replay}
+use Rattle.tsb_step.specs.Signs.{display, local, stage}
+use Rattle.tsb_step.specs.State.{State}
+use Rattle.tsb_display_text.specs.Line.{line_of, tick_field}
 use Rattle.tsb_command_text.specs.declared.command.Command.{Command}
 use Rattle.tsb_command_text.specs.declared.command.Command.TheVariants.{Step, Back, Seek, Undo, Show, Quit, When, Begin, Set, Verify, Commit, Abort, Pattern, Preempt, Fault, Reset}
 use Rattle.tsb_log_text.specs.declared.log.LogRow.{LogRow}
 use Rattle.tsb_log_text.specs.Logs.{row_at}
-use Rattle.tsb_text.specs.Line.{display_line}
 use Rattle.tsb_text.specs.Written.{with_feed}
 
 -- what a session is given: the plan, and the rows of the log
@@ -27,6 +30,14 @@ pub record Given : Type 0 where
   pub log : List LogRow
 
 -- ## Lines, without their ends
+
+-- the preempt in service, where one is
+abbrev pub preempt_in_service : State → Option ℕ
+preempt_in_service s = option_map (λ (service : ℕ × Stage). service.0) (stage s)
+
+-- the display line of a state
+abbrev pub display_line : State → List ℕ
+display_line s = line_of s.now (display s) (preempt_in_service s) (local s)
 
 -- what `undone` calls an input of a kind
 abbrev pub kind_name : Kind → List ℕ
@@ -64,68 +75,81 @@ refused_line refusals.InService = codes "refused E12 InService"
 abbrev pub undone_line : Kind → List ℕ
 undone_line k = codes "undone " ++ kind_name k
 
--- what tells an answer of the bench, which is then in this state
-abbrev pub told : Answer → State → List ℕ
-told Took s = codes "ok"
-told (Refused e) s = refused_line e
-told (Undone k) s = undone_line k
-told Moved s = display_line s
-told Nothing s = codes "nothing"
+-- what a check at the desk found: nothing, or the first rule that the plan with the edits breaks
+abbrev pub verified_line : Option Rule → List ℕ
+verified_line None = codes "ok"
+verified_line (Some rule) = rule_line rule
+
+-- what tells that the bench took an input: of a check what the desk keeps of it
+abbrev pub taken_line : Cmd → State → List ℕ
+taken_line (asks.Apply (inputs.Verify station)) s = verified_line s.desk.rule
+taken_line cmd s = codes "ok"
+
+-- the tick number of the last change
+abbrev pub when_line : Option ℕ → List ℕ
+when_line None = codes "never"
+when_line (Some tick) = codes "tick " ++ tick_field tick
+
+-- what tells the answer to what the bench was asked, which is then in this state
+abbrev pub told : Cmd → Answer → State → List ℕ
+told cmd Took s = taken_line cmd s
+told cmd (Refused e) s = refused_line e
+told cmd (Undone k) s = undone_line k
+told cmd Moved s = display_line s
+told cmd Nothing s = codes "nothing"
+told cmd (Changed tick) s = when_line tick
 
 -- ## Commands
 -- Inputs are piled up, the newest first, and the state is that of their replay.
 
 -- a command that asks the bench once: it is answered by what tells a right answer
-pub record Asked (given : Given) (inputs : List Input) (cmd : Cmd) (text : List ℕ) (new : List Input) : Type 0 where
+pub record Asked (given : Given) (is : List Input) (cmd : Cmd) (text : List ℕ) (new : List Input) : Type 0 where
   pub answer : Answer
-  pub right : IsRight given.plan inputs cmd answer
-  pub left : new ≡ remaining_after given.plan inputs cmd answer
-  pub line : text ≡ with_feed (told answer (replay given.plan new))
+  pub right : IsRight given.plan is cmd answer
+  pub left : new ≡ remaining_after given.plan is cmd answer
+  pub line : text ≡ with_feed (told cmd answer (replay given.plan new))
 
 -- the next tick, with the log's row
 abbrev pub next_tick : Given → List Input → Input
-next_tick given inputs = Tick (row_at given.log ((replay given.plan inputs).now + 1))
+next_tick given is = inputs.Tick (row_at given.log ((replay given.plan is).now + 1))
 
 -- the tick is taken, and leaves these inputs; the display line after it, and then this
-pub record Ticked (given : Given) (inputs : List Input) (text rest : List ℕ) : Type 0 where
-  pub right : IsRight given.plan inputs (Apply (next_tick given inputs)) Took
-  pub line : text ≡ with_feed (display_line (replay given.plan (next_tick given inputs ∷ inputs))) ++ rest
+pub record Ticked (given : Given) (is : List Input) (text rest : List ℕ) : Type 0 where
+  pub right : IsRight given.plan is (asks.Apply (next_tick given is)) Took
+  pub line : text ≡ with_feed (display_line (replay given.plan (next_tick given is ∷ is))) ++ rest
 
 -- the tick is refused, and leaves all as it was. Out of memory the bench may refuse any tick.
-pub record Stopped (given : Given) (inputs : List Input) (text : List ℕ) (new : List Input) : Type 0 where
+pub record Stopped (given : Given) (is : List Input) (text : List ℕ) (new : List Input) : Type 0 where
   pub refusal : Refusal
-  pub right : IsRight given.plan inputs (Apply (next_tick given inputs)) (Refused refusal)
+  pub right : IsRight given.plan is (asks.Apply (next_tick given is)) (Refused refusal)
   pub line : text ≡ with_feed (refused_line refusal)
-  pub left : new ≡ inputs
+  pub left : new ≡ is
 
 -- so many ticks, up to one that is refused
 abbrev pub Steps : Given → List Input → ℕ → List ℕ → List Input → Type 0
-Steps given inputs zero text new = (text ≡ []) × (new ≡ inputs)
-Steps given inputs (suc n) text new =
-    ((rest : List ℕ) × Ticked given inputs text rest × Steps given (next_tick given inputs ∷ inputs) n rest new)
-    ⊎ Stopped given inputs text new
-
--- WHAT IS NOT BUILT YET: a command whose part of the bench is still to come is answered so, and changes nothing. The
--- last part that is built does away with this.
-abbrev pub IsNotYet : List Input → List ℕ → List Input → Type 0
-IsNotYet inputs text new = (text ≡ with_feed (codes "not yet")) × (new ≡ inputs)
+Steps given is zero text new = (text ≡ []) × (new ≡ is)
+Steps given is (suc n) text new =
+    ((rest : List ℕ) × Ticked given is text rest × Steps given (next_tick given is ∷ is) n rest new)
+    ⊎ Stopped given is text new
 
 -- the answer to a command where these inputs remain, and the inputs that remain then
 abbrev pub Answers : Given → List Input → Command → List ℕ → List Input → Type 0
-Answers given inputs (Step n) text new = Steps given inputs n text new
-Answers given inputs (Back n) text new = Asked given inputs (asks.Back n) text new
-Answers given inputs (Seek t) text new = Asked given inputs (asks.Seek t) text new
-Answers given inputs Undo text new = Asked given inputs asks.Undo text new
-Answers given inputs Show text new = (text ≡ with_feed (display_line (replay given.plan inputs))) × (new ≡ inputs)
+Answers given is (Step n) text new = Steps given is n text new
+Answers given is Show text new = (text ≡ with_feed (display_line (replay given.plan is))) × (new ≡ is)
 -- it ends the session, which answers no line then
-Answers given inputs Quit text new = (text ≡ []) × (new ≡ inputs)
-Answers given inputs (When watch) text new = IsNotYet inputs text new
-Answers given inputs (Begin station) text new = IsNotYet inputs text new
-Answers given inputs (Set station object value) text new = IsNotYet inputs text new
-Answers given inputs (Verify station) text new = IsNotYet inputs text new
-Answers given inputs (Commit station) text new = IsNotYet inputs text new
-Answers given inputs (Abort station) text new = IsNotYet inputs text new
-Answers given inputs (Pattern number) text new = IsNotYet inputs text new
-Answers given inputs (Preempt number on) text new = IsNotYet inputs text new
-Answers given inputs (Fault lamp) text new = IsNotYet inputs text new
-Answers given inputs Reset text new = IsNotYet inputs text new
+Answers given is Quit text new = (text ≡ []) × (new ≡ is)
+-- the way back
+Answers given is (Back n) text new = Asked given is (asks.Back n) text new
+Answers given is (Seek t) text new = Asked given is (asks.Seek t) text new
+Answers given is Undo text new = Asked given is asks.Undo text new
+Answers given is (When watch) text new = Asked given is (asks.When watch) text new
+-- inputs
+Answers given is (Begin station) text new = Asked given is (asks.Apply (inputs.Begin station)) text new
+Answers given is (Set station id value) text new = Asked given is (asks.Apply (inputs.Set station id value)) text new
+Answers given is (Verify station) text new = Asked given is (asks.Apply (inputs.Verify station)) text new
+Answers given is (Commit station) text new = Asked given is (asks.Apply (inputs.Commit station)) text new
+Answers given is (Abort station) text new = Asked given is (asks.Apply (inputs.Abort station)) text new
+Answers given is (Pattern number) text new = Asked given is (asks.Apply (inputs.Pattern number)) text new
+Answers given is (Preempt number on) text new = Asked given is (asks.Apply (inputs.Switch number on)) text new
+Answers given is (Fault lamp) text new = Asked given is (asks.Apply (inputs.Fault lamp)) text new
+Answers given is Reset text new = Asked given is (asks.Apply inputs.Reset) text new

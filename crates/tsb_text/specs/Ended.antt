@@ -1,7 +1,7 @@
 -- How a session ends: what it has written for the bytes that it has read.
 use Rattle.std.specs.Prelude.{◌≡◌, ◌⊎◌, ◌↔◌, ◌<◌, ◌≤◌, ℕ, List, [], ◌∷◌, ◌++◌, length, take, Option, Result, Ok, Err}
 use Rattle.std.specs.Io.KnownBytes.{Appends, Consumes, IsAtEnd}
-use Rattle.tsb_bench.specs.declared.inputs.Input.{Input}
+use Rattle.tsb_step.specs.declared.inputs.Input.{Input}
 use Rattle.tsb_command_text.specs.declared.command.Reading.TheVariants.{Leave}
 use Rattle.tsb_command_text.specs.Readings.{reading}
 use Rattle.tsb_lines.specs.Lines.{HasNoFeed, without_return}
@@ -38,10 +38,10 @@ pub record Quits (bytes : List ℕ) : Type 0 where
 
 -- how a session ended, after these bytes were read: it wrote a text of theirs, at the end of the input or where a line
 -- was `quit`, and then whatever comes behind; or after a fault a prefix of one, whatever comes behind them or at the
--- end of the input. So far a session asks for no memory to begin with.
+-- end of the input. With no memory to begin with it has read nothing and written nothing.
 abbrev pub EndedSo : Result (Unit {0}) SessionError → Given → Option (List ℕ) → List ℕ → List ℕ → Type 0
 EndedSo (Ok u) given left read written = (IsAtEnd left × IsText given [] read written) ⊎ (Quits read × IsWhole given [] read written)
-EndedSo (Err Memory) given left read written = ⊥
+EndedSo (Err Memory) given left read written = (read ≡ []) × (written ≡ [])
 EndedSo (Err e) given left read written =
     (IsAtEnd left × (rest : List ℕ) × IsText given [] read (written ++ rest)) ⊎ IsBegun given [] read written
 

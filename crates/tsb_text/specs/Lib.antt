@@ -1,5 +1,3 @@
--- the display line of a state
-pub mod Line
 -- answers that were said and wait to be written
 pub mod Written
 -- what is answered to each command
@@ -10,5 +8,3 @@ pub mod Text
 pub mod Ended
 -- what private functions of a session promise each other
 pub mod Talk
--- which plan texts the bench runs so far
-pub mod Runs

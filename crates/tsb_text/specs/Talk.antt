@@ -1,9 +1,9 @@
 -- How far a session has come with the bytes that it has read: what its own calls tell one another.
 use Rattle.std.specs.Prelude.{◌≡◌, ◌+◌, ℕ, List, [], ◌++◌, length, take, Option, Result, Ok, Err}
 use Rattle.std.specs.Io.KnownBytes.{Consumes}
-use Rattle.tsb_bench.specs.declared.inputs.Input.{Input}
-use Rattle.tsb_bench.specs.Past.{Whole}
-use Rattle.tsb_bench.specs.Play.{Follows}
+use Rattle.tsb_step.specs.declared.inputs.Input.{Input}
+use Rattle.tsb_step.specs.Past.{Whole}
+use Rattle.tsb_step.specs.Play.{Follows}
 use Rattle.tsb_command_text.specs.declared.command.Reading.{Reading}
 use Rattle.tsb_command_text.specs.Readings.{reading}
 use Rattle.tsb_lines.specs.Lines.{HasNoFeed}

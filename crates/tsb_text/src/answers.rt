@@ -1,25 +1,27 @@
 //! Answers to commands.
 
-ghost use Rattle.std.specs.Prelude.{◌≡◌, ◌+◌, ◌∷◌, List, MatchResult};
+ghost use Rattle.std.specs.Prelude.{◌≡◌, ◌+◌, [], ◌∷◌, List, MatchResult, OnErr, OnOk};
 ghost use Rattle.tsb_plan.specs.Plan as words;
-ghost use Rattle.tsb_bench.specs.declared.inputs.Input.{Input};
-ghost use Rattle.tsb_bench.specs.declared.inputs.Input.TheVariants.{Tick};
-ghost use Rattle.tsb_bench.specs.declared.commands.Cmd.TheVariants.{Apply};
-ghost use Rattle.tsb_bench.specs.declared.commands.Answer.TheVariants.{Took, Refused};
-ghost use Rattle.tsb_bench.specs.Past.{whole};
-ghost use Rattle.tsb_bench.specs.Play.{Follows, IsRight};
+ghost use Rattle.tsb_past.specs.declared.commands.Answer.TheVariants.{Took, Refused};
+ghost use Rattle.tsb_past.specs.declared.commands.Command.TheVariants.{Apply};
+ghost use Rattle.tsb_step.specs.declared.inputs.Input.{Input as InputValue};
+ghost use Rattle.tsb_step.specs.declared.inputs.Input.TheVariants.{Tick};
+ghost use Rattle.tsb_step.specs.Play.{Follows, IsRight};
+ghost use Rattle.tsb_bench.specs.Held.{whole};
 ghost use Rattle.tsb_log_text.specs.declared.log.LogRow.{LogRow};
-ghost use Rattle.tsb_text.specs.Answers.{Given, Answers, Asked, Steps};
+ghost use Rattle.tsb_text.specs.Answers.{Given, Answers, Asked, Steps, when_line};
 ghost use Rattle.tsb_text.specs.Talk.{Stands, Done};
+ghost use Rattle.tsb_text.specs.Written.{Said, with_feed};
 
-use crate::display_line::line_bytes;
 use crate::error::WriteError;
-use crate::lines::{refused_line, undone_line};
+use crate::lines::{line_bytes, refused_line, taken_line, tick_line, undone_line};
 use crate::pending::Pending;
 use std::io::Write;
-use tsb_bench::{Answer, Bench, Cmd, Input, Refusal, Row, answer};
+use tsb_bench::{Answer, Bench, Cmd, Input, answer};
 use tsb_command_text::Command;
 use tsb_log_text::Log;
+use tsb_objects::{Refusal, Row};
+use tsb_past::Command as Ask;
 
 /// Carries out a command, and says its answer. Of `log` it takes the rows of ticks; `place` says where the last one was
 /// found.
@@ -31,17 +33,28 @@ pub(crate) fn obey<W: Write>(
     pending: &mut Pending,
     writer: &mut W,
 ) -> Result<(), WriteError>
-    ensures { (given : Given) (inputs : List Input) → Stands given log.now (whole bench.old) inputs
+    ensures { (given : Given) (inputs : List InputValue) → Stands given log.now (whole bench.old) inputs
         → Done result given log.now (whole bench.new) (Answers given inputs command) (W.contents writer.old) (W.contents writer.new) pending.old pending.new }
 {
     match command {
         Command::Step(ticks) => step(bench, log, place, ticks, pending, writer),
-        Command::Back(ticks) => ask(bench, Cmd::Back(ticks), pending, writer),
-        Command::Seek(tick) => ask(bench, Cmd::Seek(tick), pending, writer),
-        Command::Undo => ask(bench, Cmd::Undo, pending, writer),
         Command::Show => pending.say(writer, &line_bytes(bench)),
         Command::Quit => Ok(()),
-        _ => pending.say(writer, b"not yet"),
+        Command::Back(ticks) => ask(bench, Ask::Back(ticks), pending, writer),
+        Command::Seek(tick) => ask(bench, Ask::Seek(tick), pending, writer),
+        Command::Undo => ask(bench, Ask::Undo, pending, writer),
+        Command::When(watch) => ask(bench, Ask::When(watch), pending, writer),
+        Command::Begin(station) => apply(bench, Input::Begin(station), pending, writer),
+        Command::Set(station, id, value) => {
+            apply(bench, Input::Set(station, id, value), pending, writer)
+        }
+        Command::Verify(station) => apply(bench, Input::Verify(station), pending, writer),
+        Command::Commit(station) => apply(bench, Input::Commit(station), pending, writer),
+        Command::Abort(station) => apply(bench, Input::Abort(station), pending, writer),
+        Command::Pattern(number) => apply(bench, Input::Pattern(number), pending, writer),
+        Command::Preempt(number, on) => apply(bench, Input::Switch(number, on), pending, writer),
+        Command::Fault(lamp) => apply(bench, Input::Fault(lamp), pending, writer),
+        Command::Reset => apply(bench, Input::Reset, pending, writer),
     }
 }
 
@@ -54,7 +67,7 @@ fn step<W: Write>(
     pending: &mut Pending,
     writer: &mut W,
 ) -> Result<(), WriteError>
-    ensures { (given : Given) (inputs : List Input) → Stands given log.now (whole bench.old) inputs
+    ensures { (given : Given) (inputs : List InputValue) → Stands given log.now (whole bench.old) inputs
         → Done result given log.now (whole bench.new) (Steps given inputs ticks) (W.contents writer.old) (W.contents writer.new) pending.old pending.new }
 {
     for _i in 0..ticks {
@@ -76,16 +89,29 @@ fn next_tick(bench: &Bench) -> u32
 
 /// Lets the bench take a tick.
 fn tick(bench: &mut Bench, row: Row) -> Result<(), Refusal>
-    ensures { (plan : words.Plan) (inputs : List Input) → Follows plan (whole bench.old) inputs → MatchResult result
+    ensures { (plan : words.Plan) (inputs : List InputValue) → Follows plan (whole bench.old) inputs → MatchResult result
         (λ u. IsRight plan inputs (Apply (Tick row)) Took × Follows plan (whole bench.new) (Tick row ∷ inputs))
         (λ e. IsRight plan inputs (Apply (Tick row)) (Refused e) × Follows plan (whole bench.new) inputs) }
 {
-    match answer(bench, Cmd::Apply(Input::Tick(row))) {
+    match answer(bench, Ask::Apply(Input::Tick(row))) {
         Answer::Took => Ok(()),
         Answer::Refused(refusal) => Err(refusal),
         // No other answer is right for an input.
         _ => Ok(()),
     }
+}
+
+/// Applies an input, and says what tells the answer.
+fn apply<W: Write>(
+    bench: &mut Bench,
+    input: Input,
+    pending: &mut Pending,
+    writer: &mut W,
+) -> Result<(), WriteError>
+    ensures { (given : Given) (log : List LogRow) (inputs : List InputValue) → Stands given log (whole bench.old) inputs
+        → Done result given log (whole bench.new) (Asked given inputs (Apply input)) (W.contents writer.old) (W.contents writer.new) pending.old pending.new }
+{
+    ask(bench, Ask::Apply(input), pending, writer)
 }
 
 /// Asks the bench, and says what tells its answer.
@@ -95,14 +121,30 @@ fn ask<W: Write>(
     pending: &mut Pending,
     writer: &mut W,
 ) -> Result<(), WriteError>
-    ensures { (given : Given) (log : List LogRow) (inputs : List Input) → Stands given log (whole bench.old) inputs
+    ensures { (given : Given) (log : List LogRow) (inputs : List InputValue) → Stands given log (whole bench.old) inputs
         → Done result given log (whole bench.new) (Asked given inputs command) (W.contents writer.old) (W.contents writer.new) pending.old pending.new }
 {
     match answer(bench, command) {
-        Answer::Took => pending.say(writer, b"ok"),
+        Answer::Took => pending.say(writer, taken_line(&command, bench)),
         Answer::Refused(refusal) => pending.say(writer, refused_line(refusal)),
         Answer::Undone(kind) => pending.say(writer, undone_line(kind)),
         Answer::Moved => pending.say(writer, &line_bytes(bench)),
         Answer::Nothing => pending.say(writer, b"nothing"),
+        Answer::Changed(tick) => say_change(tick, pending, writer),
+    }
+}
+
+/// Says the tick number of a last change.
+fn say_change<W: Write>(
+    tick: Option<u32>,
+    pending: &mut Pending,
+    writer: &mut W,
+) -> Result<(), WriteError>
+    ensures ok { OnOk result (Said (W.contents writer.old) (W.contents writer.new) pending.old pending.new (with_feed (when_line tick))) }
+    ensures fault { OnErr result (Said (W.contents writer.old) (W.contents writer.new) pending.old pending.new []) }
+{
+    match tick {
+        Some(tick) => pending.say(writer, &tick_line(tick)),
+        None => pending.say(writer, b"never"),
     }
 }

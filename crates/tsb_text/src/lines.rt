@@ -1,9 +1,44 @@
 //! The lines of answers, without their line feeds.
 
-ghost use Rattle.std.specs.Prelude.{◌≡◌, ◌≤◌, length};
-ghost use Rattle.tsb_text.specs.Answers.{busy_line, refused_line, undone_line};
+ghost use Rattle.std.specs.Prelude.{◌≡◌, ◌≤◌, ◌++◌, codes, length};
+ghost use Rattle.tsb_display_text.specs.Line.{tick_field};
+ghost use Rattle.tsb_text.specs.Answers.{busy_line, display_line, preempt_in_service, refused_line, taken_line, undone_line, verified_line};
+ghost use Rattle.tsb_bench.specs.Held.{state_of};
 
-use tsb_bench::{Kind, Refusal, Station};
+use arrayvec::ArrayString;
+use tsb_bench::{Bench, Cmd, Input, Kind};
+use tsb_display_text::{LineBytes, tick_digits};
+use tsb_objects::{Preempt, Refusal, Rule, Station};
+use tsb_past::Command as Ask;
+use tsb_plan_text::rule_line;
+
+/// The display line as text, without a line feed: the tick number in 7 digits; a letter for each of the 16 vehicle
+/// heads, for each of the 16 pedestrian heads and for each of the 4 overlaps; the preempt in service; the local counter
+/// of the pattern that runs. It has 53 bytes. It takes no memory.
+pub fn line(bench: &Bench) -> ArrayString<64>
+    ensures { result.bytes ≡ display_line (state_of bench.now) }
+{
+    let preempt = preempt_of(bench);
+    tsb_display_text::line(bench.now(), &bench.display(), preempt, bench.local())
+}
+
+/// The bytes of the display line.
+pub(crate) fn line_bytes(bench: &Bench) -> LineBytes
+    ensures { result ≡ display_line (state_of bench.now) }
+{
+    let preempt = preempt_of(bench);
+    tsb_display_text::line_bytes(bench.now(), &bench.display(), preempt, bench.local())
+}
+
+/// The preempt in service.
+fn preempt_of(bench: &Bench) -> Option<Preempt>
+    ensures { result ≡ preempt_in_service (state_of bench.now) }
+{
+    match bench.stage() {
+        Some((preempt, _)) => Some(preempt),
+        None => None,
+    }
+}
 
 /// What tells that an input of this kind was taken back.
 pub(crate) fn undone_line(kind: Kind) -> &'static [u8]
@@ -22,6 +57,36 @@ pub(crate) fn undone_line(kind: Kind) -> &'static [u8]
         Kind::Commit => b"undone commit",
         Kind::Abort => b"undone abort",
     }
+}
+
+/// What tells that the bench took what it was asked to, and is now so.
+pub(crate) fn taken_line(command: &Cmd, bench: &Bench) -> &'static [u8]
+    ensures line { result.now ≡ taken_line command.now (state_of bench.now) }
+    ensures short { length result.now ≤ 63 }
+{
+    match command {
+        Ask::Apply(Input::Verify(_)) => verified_line(bench.desk().rule()),
+        _ => b"ok",
+    }
+}
+
+/// What tells what a check at the desk found.
+fn verified_line(found: Option<Rule>) -> &'static [u8]
+    ensures line { result.now ≡ verified_line found }
+    ensures short { length result.now ≤ 63 }
+{
+    match found {
+        Some(rule) => rule_line(rule).as_bytes(),
+        None => b"ok",
+    }
+}
+
+/// What tells the tick number of the last change.
+pub(crate) fn tick_line(tick: u32) -> [u8; 12]
+    ensures { result ≡ codes "tick " ++ tick_field tick }
+{
+    let [a, b, c, d, e, f, g] = tick_digits(tick);
+    [b't', b'i', b'c', b'k', b' ', a, b, c, d, e, f, g]
 }
 
 /// What tells a refusal.

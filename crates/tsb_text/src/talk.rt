@@ -2,9 +2,9 @@
 
 ghost use Rattle.std.specs.Prelude.{◌≡◌, ◌∷◌, [], ◌++◌, ℕ, List, Ok, OnOk};
 ghost use Rattle.tsb_lines.specs.Lines.{HasNoFeed};
-ghost use Rattle.tsb_bench.specs.Runnable.{runnable_plan};
-ghost use Rattle.tsb_bench.specs.declared.inputs.Input.{Input};
-ghost use Rattle.tsb_bench.specs.Past.{whole};
+ghost use Rattle.tsb_objects.specs.Checked.{checked_plan};
+ghost use Rattle.tsb_step.specs.declared.inputs.Input.{Input};
+ghost use Rattle.tsb_bench.specs.Held.{whole};
 ghost use Rattle.tsb_text.specs.Answers.{Given};
 ghost use Rattle.tsb_text.specs.Ended.{Ended};
 ghost use Rattle.tsb_text.specs.Talk.{Stands, Obeyed, Went, Finished, Holds, HeldAfter, as_session};
@@ -18,10 +18,11 @@ use crate::pending::Pending;
 use arrayvec::ArrayVec;
 use std::alloc::Global;
 use std::io::{Read, Write};
-use tsb_bench::{Bench, Runnable};
+use tsb_bench::Bench;
 use tsb_command_text::{LINE, Reading, reading_of};
 use tsb_lines::without_return;
 use tsb_log_text::Log;
+use tsb_objects::Checked;
 
 /// The greatest length of the commands of a session, in bytes: 16 MiB.
 pub const COMMANDS: usize = 16_777_216;
@@ -207,19 +208,22 @@ fn as_session(sent: Result<(), WriteError>) -> Result<(), SessionError>
 ///
 /// What was answered goes out before each read. A fault ends the session; what was written until then is a prefix of
 /// its text. `TooLarge` comes where a byte stands behind the first 16 MiB, after the whole lines within them were
-/// answered.
+/// answered. `Memory` comes where there is none for the bench at power-up: nothing was read then, and nothing written.
 pub fn session<R: Read, W: Write>(
     alloc: Global,
-    plan: Runnable,
+    plan: Checked,
     log: &Log,
     reader: &mut R,
     writer: &mut W,
 ) -> Result<(), SessionError>
-    ensures { Ended result (record { plan = runnable_plan plan; log = log.now })
+    ensures { Ended result (record { plan = checked_plan plan; log = log.now })
         (R.remaining reader.old) (R.remaining reader.new) (W.contents writer.old) (W.contents writer.new) }
 {
+    let Ok(bench) = Bench::power_up(alloc, plan) else {
+        return Err(SessionError::Memory);
+    };
     let mut talk = Talk {
-        bench: Bench::power_up(alloc, plan),
+        bench,
         place: 0,
         held: ArrayVec::new(),
         pending: Pending::new(),

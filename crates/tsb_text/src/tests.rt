@@ -126,13 +126,13 @@ bad command
 0000000 -R-R------------ ---------------- ---- 0 ----
 ";
 
-/// Runs a session with the built-in plan and an empty log.
+/// Runs a session with the built-in plan of two phases and an empty log.
 fn talk<R: Read, W: Write>(
     rt: &HostRuntime,
     reader: &mut R,
     writer: &mut W,
 ) -> Option<Result<(), SessionError>> {
-    let plan = Runnable::new(Plan::two()).ok()?;
+    let plan = Checked::new(Plan::two()).ok()?;
     let log = Log::empty(rt.alloc());
     Some(session(rt.alloc(), plan, &log, reader, writer))
 }
@@ -282,16 +282,81 @@ fn the_last_line_keeps_its_return(rt: HostRuntime) {
     assert!(rt; answers(&rt, b"\r\n", b""));
 }
 
-/// What is read and waits for its part of the bench.
+/// Whether the answer to these commands is this, with the built-in plan of eight phases and a log.
+fn answers_on_quad(rt: &HostRuntime, log: &[u8], commands: &[u8], text: &[u8]) -> bool {
+    let (Ok(plan), Ok(log)) = (Checked::new(Plan::quad()), read_log(rt.alloc(), log)) else {
+        return false;
+    };
+    let mut reader = commands;
+    let mut out = Vec::new(rt.alloc());
+    match session(rt.alloc(), plan, &log, &mut reader, &mut out) {
+        Ok(()) => out.as_slice() == text,
+        Err(_) => false,
+    }
+}
+
+/// The expected answers are those of an independent implementation.
 #[test]
-fn what_is_not_built_is_answered_so(rt: HostRuntime) {
-    assert!(rt;
-        answers(
-            &rt,
-            b"when trip\nbegin 1\nset 1 phaseMaximum1 9 30\nverify 1\ncommit 4\nabort 1\npattern 3\npreempt 3 on\nfault P3 G\nfault none\nreset\nshow\n",
-            b"not yet\nnot yet\nnot yet\nnot yet\nnot yet\nnot yet\nnot yet\nnot yet\nnot yet\nnot yet\nnot yet\n0000000 -R-R------------ ---------------- ---- 0 ----\n"
-        )
-    );
+fn transactions_are_answered(rt: HostRuntime) {
+    let commands = b"show\nbegin 1\nbegin 2\nset 2 phaseMaximum1 9 30\nset 1 phaseMaximum1 17 30
+set 1 phaseMaximum1 2 300\nset 1 phaseYellowChange 2 20\ncommit 1\nverify 1\nset 1 phaseYellowChange 2 40
+verify 1\ncommit 1\nverify 1\nabort 1\nbegin 3\nabort 3\nundo\nundo\nundo\nundo\nundo\nundo\nundo\nundo\nundo\n"
+        .as_slice();
+    let answers = b"0000000 RRRRRRRR-------- -D-------------- R--- 0 ----
+ok\nrefused E4 Busy 1\nrefused E5 NotOwner\nrefused E2 NoSuchObject
+refused E3 OutOfRange\nok\nrefused E7 NotVerified\nrule K8\nok
+ok\nok\nrefused E6 NotOpen\nrefused E6 NotOpen\nok\nok
+undone abort\nundone begin\nundone commit\nundone verify\nundone set\nundone verify\nundone set\nundone begin\nnothing\n"
+        .as_slice();
+    assert!(rt; answers_on_quad(&rt, b"", commands, answers));
+}
+
+/// The expected answers are those of an independent implementation.
+#[test]
+fn switches_and_faults_are_answered(rt: HostRuntime) {
+    let log = b"0000002 1010000000000000 01000000 0000\n".as_slice();
+    let commands =
+        b"step 1\npattern 1\npattern 2\npattern 3\npattern 17\nwhen trip\nwhen interval 2\nwhen stage
+preempt 1 on\nstep 2\nwhen stage\nwhen interval 2\npreempt 3 on\npreempt 5 on\nfault P3 G\nstep 1\nwhen trip
+reset\nshow\nfault none\nstep 1\nwhen trip\nundo\nundo\nundo\nundo\nundo\nwhen trip\n"
+            .as_slice();
+    let answers = b"0000001 RGRRRGRR-------- -D-------------- G--- 0 ----
+ok\nok\nrefused E9 NoSuchPattern\nrefused E9 NoSuchPattern\nnever\ntick 0000001\nnever
+ok
+0000002 RGRRRGRR-------- -D-------------- G--- 1 0012
+0000003 RGRRRGRR-------- -D-------------- G--- 1 0013
+tick 0000002\ntick 0000001\nrefused E10 NoSuchPreempt\nrefused E10 NoSuchPreempt\nok
+0000004 FFFFFFFF-------- ---------------- F--- 1 0014
+tick 0000003\nok
+0000004 RRRRRRRR-------- -D-------------- R--- 0 ----
+ok
+0000005 RRRRRRRR-------- -D-------------- R--- 1 ----
+tick 0000004\nundone tick\nundone fault\nundone reset\nundone tick\nundone fault\nnever\n"
+        .as_slice();
+    assert!(rt; answers_on_quad(&rt, log, commands, answers));
+}
+
+/// A row holds from its tick on. The expected answers are those of an independent implementation.
+#[test]
+fn ticks_take_the_rows_of_the_log(rt: HostRuntime) {
+    let log =
+        b"0000002 1010000000000000 01000000 0000\n0000004 0000000000000000 00000000 0000\n".as_slice();
+    let commands =
+        b"when output 1\nstep 3\nwhen output 1\nwhen output 2\nwhen output 3\nwhen call 3\nwhen call 1
+when alarm 1\nwhen ped 2\nback 1\nwhen output 3\nback 1\nwhen output 3\nseek 9\nwhen interval 2\n"
+            .as_slice();
+    let answers = b"never
+0000001 RGRRRGRR-------- -D-------------- G--- 0 ----
+0000002 RGRRRGRR-------- -D-------------- G--- 0 ----
+0000003 RGRRRGRR-------- -D-------------- G--- 0 ----
+tick 0000002\nnever\ntick 0000002\ntick 0000002\ntick 0000002
+never\nnever
+0000002 RGRRRGRR-------- -D-------------- G--- 0 ----
+tick 0000002
+0000001 RGRRRGRR-------- -D-------------- G--- 0 ----
+never\nnothing\ntick 0000001\n"
+        .as_slice();
+    assert!(rt; answers_on_quad(&rt, log, commands, answers));
 }
 
 /// `step`, so many spaces, and `1`, with this behind it.
@@ -333,14 +398,13 @@ fn long_blanks_and_comments_are_bad(rt: HostRuntime) {
     }
 }
 
-/// The rows of the log are taken by ticks; they have no effect yet.
 #[test]
 fn a_session_runs_a_plan_and_a_log(rt: HostRuntime) {
     let text =
         br#"{"version":1,"phaseEnabled":{"2":1,"4":1},"phaseRing":{"2":1,"4":1},"phaseSide":{"2":1,"4":2},"phaseMinimumGreen":{"2":5,"4":5},"phaseMaximum1":{"2":10,"4":8},"phaseMaximum2":{"2":10,"4":8},"phaseYellowChange":{"2":30,"4":30},"phaseRedClear":{"2":10,"4":10},"phaseMaxRecall":{"2":1,"4":1},"sequenceData":{"1":2,"2":4}}"#;
     let rows = b"0000100 0010010000000000 00000000 0000\n0000102 0000010000000000 00000000 0000\n";
     let (Ok(plan), Ok(log)) = (
-        read_runnable(rt.alloc(), text.as_slice()),
+        read_plan(rt.alloc(), text.as_slice()),
         read_log(rt.alloc(), rows.as_slice()),
     ) else {
         assert!(rt; false);
@@ -360,11 +424,8 @@ fn a_session_runs_a_plan_and_a_log(rt: HostRuntime) {
 
 #[test]
 fn a_line_is_that_of_the_state(rt: HostRuntime) {
-    let Ok(plan) = Runnable::new(Plan::two()) else {
-        assert!(rt; false);
-        return;
-    };
-    let bench = Bench::power_up(rt.alloc(), plan);
+    let plan = Checked::new(Plan::two()).expect(&rt, "the plan is not consistent");
+    let bench = Bench::power_up(rt.alloc(), plan).expect(&rt, "memory");
     assert_eq!(rt;
         line(&bench).as_str(),
         "0000000 -R-R------------ ---------------- ---- 0 ----"

@@ -1,6 +1,6 @@
 use Rattle.std.proofs.Common.{◌+◌, ◌-◌, arith}
 use Rattle.std.proofs.lemmas.Result.{err_from_is_err_and}
-use Rattle.tsb_bench.specs.Past.{whole}
+use Rattle.tsb_bench.specs.Held.{whole}
 use Rattle.tsb_text.proofs.AnswerLemmas.{steps-start, steps-more, steps-fault, steps-refused, steps-end}
 use Rattle.tsb_text.proofs.answers.step.Goals as goal
 

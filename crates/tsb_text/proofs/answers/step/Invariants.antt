@@ -1,6 +1,6 @@
 use Rattle.std.proofs.Common.{◌-◌, List}
-use Rattle.tsb_bench.specs.declared.inputs.Input.{Input}
-use Rattle.tsb_bench.specs.Past.{whole}
+use Rattle.tsb_step.specs.declared.inputs.Input.{Input}
+use Rattle.tsb_bench.specs.Held.{whole}
 use Rattle.tsb_text.specs.Answers.{Given}
 use Rattle.tsb_text.specs.Talk.{Stands}
 use Rattle.tsb_text.proofs.AnswerLemmas.{Stepping}

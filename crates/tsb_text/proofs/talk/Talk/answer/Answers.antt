@@ -1,5 +1,5 @@
 use Rattle.std.proofs.lemmas.Result.{err_from_is_err_and}
-use Rattle.tsb_bench.specs.Past.{whole}
+use Rattle.tsb_bench.specs.Held.{whole}
 use Rattle.tsb_text.proofs.TalkLemmas.{obeyed-bad_fault, obeyed-do_fault}
 use Rattle.tsb_text.proofs.talk.Talk.answer.Goals as goal
 

@@ -1,5 +1,5 @@
 use Rattle.std.proofs.Common.{List, ℕ, sym, ap, ◌∙◌, subst, rules}
-use Rattle.tsb_bench.specs.Past.{whole}
+use Rattle.tsb_bench.specs.Held.{whole}
 use Rattle.tsb_lines.specs.Lines.{HasNoFeed, without_return}
 use Rattle.tsb_lines.proofs.LineLemmas.{feedless-more}
 use Rattle.tsb_text.proofs.TalkLemmas.{went-line, went-kept, went-cut}

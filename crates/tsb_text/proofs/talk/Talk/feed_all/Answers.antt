@@ -1,6 +1,6 @@
 use Rattle.std.proofs.Common.{refl, get_or}
 use Rattle.std.proofs.lemmas.Result.{err_from_is_err_and}
-use Rattle.tsb_bench.specs.Past.{whole}
+use Rattle.tsb_bench.specs.Held.{whole}
 use Rattle.tsb_text.proofs.TalkLemmas.{talking-start, talking-more, talking-over, talking-fault, talking-end}
 use Rattle.tsb_text.proofs.HeldLemmas.{holding-start, holding-more, holding-over, holding-end}
 use Rattle.tsb_text.proofs.talk.Talk.feed_all.Goals as goal

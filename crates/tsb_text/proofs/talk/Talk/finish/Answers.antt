@@ -1,6 +1,6 @@
 use Rattle.std.proofs.Common.{ap, ◌∙◌}
 use Rattle.std.proofs.lemmas.Result.{err_from_is_err_and}
-use Rattle.tsb_bench.specs.Past.{whole}
+use Rattle.tsb_bench.specs.Held.{whole}
 use Rattle.tsb_command_text.specs.Readings.{reading}
 use Rattle.tsb_text.proofs.TalkLemmas.{finished-fault, finished-sent}
 use Rattle.tsb_text.proofs.talk.Talk.finish.Goals as goal

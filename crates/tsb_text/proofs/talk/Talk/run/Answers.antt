@@ -1,5 +1,5 @@
 use Rattle.std.proofs.Common.{List, ℕ, rules, take, sym, subst}
-use Rattle.tsb_bench.specs.Past.{whole}
+use Rattle.tsb_bench.specs.Held.{whole}
 use Rattle.tsb_lines.specs.Lines.{HasNoFeed}
 use Rattle.tsb_text.proofs.SessionLemmas.{going-start, going-more, going-same, ended-read, ended-end, ended-large, ended-fault, ended-over, ended-send}
 use Rattle.tsb_text.proofs.talk.Talk.run.Goals as goal

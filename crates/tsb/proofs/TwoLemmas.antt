@@ -1,0 +1,18 @@
+-- The built-in plan of two phases meets the rules.
+use Rattle.std.proofs.Common.{◌≡◌, ◌∙◌, Option, Some, None, refl, sym, ap}
+use Rattle.tsb_types.specs.Lists.{run_from}
+use Rattle.tsb_plan.specs.Objects.{objects}
+use Rattle.tsb_plan.specs.Plan.{Plan}
+use Rattle.tsb_plan.specs.Two.{two}
+use Rattle.tsb_rules.specs.declared.rules.Rule.{Rule}
+use Rattle.tsb_rules.specs.Rules.{first_broken, broken_by_rings, broken_by_phases, broken_by_parts, broken_by_extensions}
+
+two-meets : first_broken two ≡ None
+unfolding two run_from objects first_broken broken_by_rings broken_by_phases broken_by_parts broken_by_extensions
+two-meets = refl
+
+not-both : (found : Option Rule) (rule : Rule) → found ≡ None → found ≡ Some rule → ⊥
+not-both found rule none some = cc
+
+pub two-breaks-none : (plan : Plan) (rule : Rule) → plan ≡ two → first_broken plan ≡ Some rule → ⊥
+two-breaks-none plan rule is breaks = not-both (first_broken plan) rule (ap first_broken is ∙ two-meets) breaks
