@@ -113,7 +113,6 @@ fn number_of(rule: Rule) -> u32 {
         Rule::K20 => 20,
         Rule::K21 => 21,
         Rule::K22 => 22,
-        Rule::NotYet => 23,
     }
 }
 
