@@ -5,7 +5,7 @@ use crate::ticks::write_rows;
 use anyhow::Result;
 use std::alloc::Global;
 use std::io::Write;
-use tsb_text::{read_log, read_runnable, session};
+use tsb_text::{read_log, read_plan, session};
 
 /// Writes the answer to what is given. To a plan text it is its first fault, or `plan ok`; to a log its first fault, or
 /// a line for each tick that is asked for; to a session the first fault of its plan or else of its log, or else its
@@ -20,7 +20,7 @@ pub fn answer<W: Write>(alloc: Global, given: Given, output: &mut W) -> Result<(
 
 /// What `tsb check` writes of a plan text.
 fn judge<W: Write>(alloc: Global, text: &[u8], output: &mut W) -> Result<()> {
-    match read_runnable(alloc, text) {
+    match read_plan(alloc, text) {
         Ok(_) => writeln!(output, "plan ok")?,
         Err(fault) => writeln!(output, "{fault}")?,
     }
@@ -43,7 +43,7 @@ fn talk<W: Write>(
     commands: &[u8],
     output: &mut W,
 ) -> Result<()> {
-    let plan = match read_runnable(alloc, plan) {
+    let plan = match read_plan(alloc, plan) {
         Ok(plan) => plan,
         Err(fault) => {
             writeln!(output, "{fault}")?;

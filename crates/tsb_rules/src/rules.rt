@@ -70,9 +70,6 @@ pub enum Rule {
     K21,
     /// `phaseDynamicMaxLimit` of a phase is 0 or at least its `phaseMinimumGreen`.
     K22,
-    /// The plan meets the rules, and uses a part that is not built yet. `check` and `Checked::new` never
-    /// answer it: the bench does.
-    NotYet,
 }
 
 /// Whether the plan meets the rules: an `Err` is the first one that it breaks, in the order of their

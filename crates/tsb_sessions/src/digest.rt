@@ -1,0 +1,45 @@
+//! Lines that are counted and bytes that are summed as they are written.
+
+use std::io::{self, Write};
+
+/// How many lines were written, and the 32-bit FNV-1a of their bytes. No byte is kept.
+#[derive(Clone, Copy, Debug, PartialEq, Eq)]
+pub struct Digest {
+    lines: u32,
+    sum: u32,
+}
+
+impl Digest {
+    /// The digest of no byte.
+    pub fn new() -> Digest {
+        Digest {
+            lines: 0,
+            sum: 2_166_136_261,
+        }
+    }
+
+    /// So many lines, with this sum.
+    pub fn of(lines: u32, sum: u32) -> Digest {
+        Digest { lines, sum }
+    }
+
+    fn add(&mut self, byte: u8) {
+        if byte == b'\n' {
+            self.lines = self.lines.saturating_add(1);
+        }
+        self.sum = (self.sum ^ u32::from(byte)).wrapping_mul(16_777_619);
+    }
+}
+
+impl Write for Digest {
+    fn write(&mut self, bytes: &[u8]) -> io::Result<usize> {
+        for byte in bytes {
+            self.add(*byte);
+        }
+        Ok(bytes.len())
+    }
+
+    fn flush(&mut self) -> io::Result<()> {
+        Ok(())
+    }
+}

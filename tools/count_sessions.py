@@ -1,0 +1,151 @@
+#!/usr/bin/env python3
+"""Counts what occurs in stored sessions, and tells those whose stored answers are not the reference's.
+
+    tools/count_sessions.py --reference FOLDER FILE..
+
+FOLDER holds the independent reference (make_sessions.py says what that is). Two tables are printed: totals, and for
+each command, refusal, rule, watch, trip and stage in how many places and in how many sessions it occurs.
+"""
+import argparse
+import os
+import re
+from collections import Counter
+
+import stored_cases
+from make_sessions import Reference
+
+
+def counting(bench, found):
+    """A session of the reference that counts in `found` what its commands meet."""
+
+    class Counting(bench.Session):
+        def apply(self, given):
+            before = self.states[-1]
+            refusal = super().apply(given)
+            if refusal:
+                found["refusal " + " ".join(refusal.split(" ")[:2])] += 1
+            else:
+                count_change(found, given, before, self.states[-1])
+            return refusal
+
+        def answer(self, command, out):
+            found["command " + {"switch": "preempt"}.get(command[0], command[0])] += 1
+            size = len(out)
+            super().answer(command, out)
+            count_answer(found, command, out[size:])
+
+    return Counting
+
+
+def count_change(found, given, before, after):
+    """Counts what an input that was not refused brings."""
+    if given[0] == "tick":
+        count_tick(found, before, after)
+    if given[0] == "verify" and after.rule:
+        found[f"rule K{after.rule:02}"] += 1
+    if given[0] == "commit":
+        changed = {name for (name, index), value in before.edits if before.plan[name][index] != value}
+        kind = "structural" if changed & before.lim.structural else "other" if changed else "unchanged"
+        found[f"commit {kind}"] += 1
+    if after.trip and not before.trip:
+        found[f"trip {after.trip[1]} at a {'tick' if given[0] == 'tick' else 'fault'}"] += 1
+    if given[0] == "reset":
+        found["reset of a tripped bench" if before.trip else "reset of another"] += 1
+
+
+def count_tick(found, before, after):
+    """Counts what a tick brings."""
+    found["ticks"] += 1
+    if after.trip:
+        found["ticks tripped"] += 1
+    elif after.pattern and after.plan["patternCycleTime"][after.pattern]:
+        found["ticks in a pattern"] += 1
+    if after.service:
+        found[f"stage {after.stage}, ticks"] += 1
+    if after.service and (before.service, before.stage) != (after.service, after.stage):
+        found[f"stage {after.stage}, beginnings"] += 1
+    if after.cross and not before.cross:
+        found["crossings"] += 1
+    for name in sorted(set(after.alarm) - {"None"} - set(before.alarm)):
+        found[f"alarm {name}"] += 1
+    found["starts"] += sum(x == "G" != y for x, y in zip(after.interval, before.interval))
+    found["walks"] += sum(x == "W" != y for x, y in zip(after.ped, before.ped))
+    if after.lastend != before.lastend and not before.trip:
+        found["endings that move a maximum"] += 1
+
+
+def count_answer(found, command, answers):
+    """Counts the kinds of a command's answer."""
+    if command[0] == "undo":
+        found[answers[0]] += 1
+    if command[0] in ("back", "seek") and answers == ["nothing"]:
+        found[command[0] + " to no tick"] += 1
+    if command[0] == "when":
+        found[f"when {command[1]}, {answers[0].split(' ')[0]}"] += 1
+
+
+def counted(reference, case):
+    """What occurs in a case, and its answers."""
+    bench, found = reference.bench, Counter()
+    plan, fault = bench.read_plan(case.plan, bench.V2)
+    rows = None
+    if not fault:
+        rows, fault = bench.read_log(case.log)
+    if fault:
+        return Counter({"fault of the " + fault.split(" ")[0].strip(":"): 1}), (fault + "\n").encode()
+    enabled, rings = bench.enabled(plan, bench.V2), set()
+    rings = {plan["phaseRing"][p] for p in enabled}
+    sides = {plan["phaseSide"][p] for p in enabled}
+    found[f"plan of {(len(enabled) - 1) // 4 * 4 + 1} to {(len(enabled) - 1) // 4 * 4 + 4} phases"] += 1
+    found[f"plan of {len(rings)} rings"] += 1
+    found[f"plan of {len(sides)} sides"] += 1
+    answers = answered(bench, counting(bench, found)(plan, rows, bench.V2), case.commands, found)
+    return +found, "".join(line + "\n" for line in answers).encode()
+
+
+def answered(bench, session, commands, found):
+    """The answer lines of a session's commands, as the reference reads them."""
+    out = []
+    for line in bench.lines_of(commands):
+        if len(line) <= 200 and bench.blank(line):
+            continue
+        command = bench.read_command(line, bench.V2)
+        if command is None:
+            found["bad command"] += 1
+            out.append("bad command")
+        elif command[0] == "quit":
+            found["command quit"] += 1
+            break
+        else:
+            session.answer(command, out)
+    return out
+
+
+def main():
+    """Reads the words, counts and prints."""
+    parser = argparse.ArgumentParser(description=__doc__.split("\n", 1)[0])
+    parser.add_argument("--reference", required=True, help="the folder of the reference")
+    parser.add_argument("files", nargs="+", metavar="FILE")
+    words = parser.parse_args()
+    reference = Reference(words.reference)
+    places, sessions, totals = Counter(), Counter(), Counter()
+    for path in words.files:
+        totals["bytes of files"] += os.path.getsize(path)
+        for case in stored_cases.read(path):
+            found, answers = counted(reference, case)
+            places.update(found)
+            sessions.update(found.keys())
+            totals.update({"sessions": 1, "answer lines": case.lines, "answer bytes": len(answers)})
+            totals["sessions told in full"] += case.answers is not None
+            if (answers.count(b"\n"), stored_cases.checksum(answers)) != (case.lines, case.sum):
+                print(f"{case.name}: the reference answers something else")
+    print("| Total | |\n|---|---|")
+    for name, count in totals.items():
+        print(f"| {name} | {count} |")
+    print("\n| What | Places | Sessions |\n|---|---|---|")
+    for name in sorted(places, key=lambda name: [int(x) if x.isdigit() else x for x in re.split("([0-9]+)", name)]):
+        print(f"| {name} | {places[name]} | {sessions[name]} |")
+
+
+if __name__ == "__main__":
+    main()
