@@ -10,10 +10,12 @@ use Rattle.tsb_step.specs.declared.inputs.Input.TheVariants.{Tick}
 use Rattle.tsb_ring.specs.Rings.{forgotten}
 use Rattle.tsb_step.specs.State.{State, Tripped}
 use Rattle.tsb_step.specs.Step.{step, verdict, kind_of, last_tick}
+use Rattle.tsb_controller.specs.declared.first_cell.TheConstants.{ALL_CELLS}
 use Rattle.tsb_controller.specs.Layer as layers
 use Rattle.tsb_controller.specs.Layer.{IsClosed}
 use Rattle.tsb_controller.specs.Whole.{All, AreAllBy, all_in, all_changes}
 use Rattle.tsb_bench.specs.declared.cabinet.Cabinet.{Cabinet}
+use Rattle.tsb_bench.specs.declared.cabinet.TheConstants.{MOST_CELLS}
 
 -- the cells of the plan, of the desk, of the layers, and of the monitor with the injected lamp
 abbrev pub rows_of : Cabinet → All
@@ -62,8 +64,8 @@ forgotten_if forgets s = if forgets then record s { rings = forgotten s.rings } 
 -- how many cells an input of this kind can change: a commit all of the plan, the desk and the layers, any other the
 -- desk, or the layers with the monitor
 abbrev pub most_cells : Kind → ℕ
-most_cells kinds.Commit = 1579
-most_cells k = 217
+most_cells kinds.Commit = ALL_CELLS
+most_cells k = MOST_CELLS
 
 -- why the controller has tripped once the monitor has judged it at tick number `now`
 abbrev pub tripped_by : Option Trip → ℕ → Option Tripped → Option Tripped

@@ -6,6 +6,7 @@ use Rattle.tsb_history.specs.History.{Change}
 use Rattle.tsb_plan.specs.Objects.{AreInRange}
 use Rattle.tsb_transact.specs.Cells.{desk_in}
 use Rattle.tsb_transact.specs.Desk as desk
+use Rattle.tsb_controller.specs.declared.first_cell.TheConstants.{ALL_CELLS}
 use Rattle.tsb_controller.specs.Records.{HasFew}
 use Rattle.tsb_controller.specs.Whole.{All, AreAllBy, all_in, all_put_back}
 use Rattle.tsb_step.specs.Good.{IsGood}
@@ -47,7 +48,7 @@ pub record IsHeld (now : ℕ) (a : All) : Type 0 where
 
 -- a record that can be taken back at tick number `now`
 pub record CanUndo (now : ℕ) (r : Change) : Type 0 where
-  pub within : AreWithin 1579 r.entries
+  pub within : AreWithin ALL_CELLS r.entries
   pub few : HasFew r.entries
   pub tick : ticks_of r.kind ≤ now
 

@@ -22,11 +22,12 @@ ghost use Rattle.tsb_controller.specs.Whole.{AreAllBy, all_in, all_changes};
 ghost use Rattle.tsb_bench.specs.Cabinet.{rows_of, IsShut, IsDone, MayPass, next_tick, most_cells};
 ghost use Rattle.tsb_bench.specs.Held.{state_of, whole, ticks};
 
-use crate::cabinet::{Cabinet, Changes};
+use crate::cabinet::{Cabinet, Changes, MOST_CELLS};
 use crate::watched::Watched;
 use arrayvec::ArrayVec;
 use std::alloc::Global;
 use std::marker::Model;
+use tsb_controller::first_cell::ALL_CELLS;
 use tsb_heads::Display;
 use tsb_history::{History, Kind};
 use tsb_objects::{Checked, Plan, Preempt, Refusal, Stage, limits};
@@ -95,8 +96,8 @@ fn most_cells(kind: Kind) -> usize
     ensures { result ≡ most_cells kind }
 {
     match kind {
-        Kind::Commit => 1579,
-        _ => 217,
+        Kind::Commit => ALL_CELLS,
+        _ => MOST_CELLS,
     }
 }
 
@@ -150,7 +151,7 @@ impl Bench {
     /// The number of the tick: how many tenths of a second have passed since power-up.
     pub fn now(&self) -> u32
         ensures now { result ≡ self.now.tick }
-        ensures limit { result ≤ 6000000 }
+        ensures limit { result ≤ last_tick }
         ensures ticks { result ≡ ticks self.now.records }
         // The state and each earlier one are such as runs lead to: the plan breaks no rule, and so on.
         ensures good { (k : ℕ) → IsGood (earlier (whole self.now) k).state }

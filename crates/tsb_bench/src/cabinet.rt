@@ -5,14 +5,17 @@ ghost use Rattle.std.specs.Prelude.{◌≡◌, ℕ, ◌+◌, ◌-◌, ◌≤◌,
 ghost use Rattle.arrayvec.specs.ArrayVec.{array_vec_len};
 ghost use Rattle.tsb_cells.specs.Diff.{apply_diff, part};
 ghost use Rattle.tsb_objects.specs.Checked.{checked_plan};
+ghost use Rattle.tsb_plan.specs.declared.object.TheConstants.{PLAN_CELLS};
 ghost use Rattle.tsb_plan.specs.Objects.{AreInRange};
 ghost use Rattle.tsb_plan.specs.PlanOf.{plan_in};
 ghost use Rattle.tsb_rules.specs.Rules.{first_broken};
 ghost use Rattle.tsb_types.specs.declared.refusal.Refusal.TheVariants.{Memory, TickLimit};
+ghost use Rattle.tsb_transact.specs.Layer.{cells_of, is_open};
 ghost use Rattle.tsb_transact.specs.Rows.{IsRow};
 ghost use Rattle.tsb_step.specs.Good.{IsGood};
 ghost use Rattle.tsb_step.specs.State.{start};
 ghost use Rattle.tsb_step.specs.Step.{verdict, last_tick, kind_of};
+ghost use Rattle.tsb_controller.specs.declared.first_cell.TheConstants.{DESK};
 ghost use Rattle.tsb_controller.specs.Records.{HasFew};
 ghost use Rattle.tsb_controller.specs.Whole.{AreAllBy, all_in, all_put_back};
 ghost use Rattle.tsb_bench.specs.Cabinet.{rows_of, IsShut, IsDone, MayPass, next_tick, most_cells};
@@ -21,20 +24,21 @@ use crate::monitor_cells::MonitorCells;
 use crate::passing::Passing;
 use arrayvec::ArrayVec;
 use std::alloc::Global;
-use tsb_cells::Reversible;
-use tsb_controller::first_cell::{DESK, MONITOR};
-use tsb_controller::{Controller, part_of};
+use tsb_cells::{Diff, Reversible};
+use tsb_controller::Controller;
+use tsb_controller::first_cell::{ALL_CELLS, DESK, LAYER_CELLS, MONITOR, MONITOR_CELLS};
 use tsb_history::Record;
-use tsb_objects::{Checked, Refusal, limits};
-use tsb_plan_changes::{put_back, touches_plan};
+use tsb_objects::{Checked, PLAN_CELLS, Refusal, limits};
+use tsb_plan_changes::put_back;
+use tsb_records::{part_of, touches, undo_part};
 use tsb_step::Input;
 use tsb_transact::Desk;
 
-/// All cells of the bench: those of the plan, of the desk, of the layers and of the monitor.
-pub(crate) const CELLS: usize = 1579;
+/// The most cells that an input changes which is no commit: the layers' and the monitor's, or the desk's, which are fewer.
+pub(crate) const MOST_CELLS: usize = LAYER_CELLS + MONITOR_CELLS;
 
 /// The cells that an input changes, each with its value before.
-pub(crate) type Changes = ArrayVec<(u16, u32), CELLS>;
+pub(crate) type Changes = ArrayVec<(u16, u32), ALL_CELLS>;
 
 /// The controller with its plan, its desk and its monitor: all that an input can change but the tick number.
 #[derive(Drop)]
@@ -159,33 +163,51 @@ impl Cabinet {
     }
 
     /// Puts back what a record tells.
-    #[tactic(auto, using(tsb_cells::proofs::DiffLemmas::lengths, crate::proofs::PartLemmas::parts, crate::proofs::PassingLemmas::may_none))]
+    #[tactic(auto, using(crate::proofs::PassingLemmas::may_none))]
     pub(crate) fn undo(&mut self, change: &Record<'_>)
         requires shut { IsShut self.old }
         requires few { HasFew change.now.entries }
-        requires ranged { AreInRange (apply_diff (rows_of self.old).plan (part 0 1230 change.now.entries)) }
-        requires passed { first_broken (plan_in (apply_diff (rows_of self.old).plan (part 0 1230 change.now.entries))) ≡ None }
-        requires desk { IsRow (apply_diff (rows_of self.old).desk (part 1230 132 change.now.entries)) }
+        requires ranged { AreInRange (apply_diff (rows_of self.old).plan (part 0 PLAN_CELLS change.now.entries)) }
+        requires passed { first_broken (plan_in (apply_diff (rows_of self.old).plan (part 0 PLAN_CELLS change.now.entries))) ≡ None }
+        requires desk { IsRow (apply_diff (rows_of self.old).desk (part DESK 132 change.now.entries)) }
         ensures rows { rows_of self.new ≡ all_put_back (rows_of self.old) change.now.entries }
         ensures shut { IsShut self.new }
         ensures passing { (tick : ℕ) → MayPass tick self.new }
     {
         self.passing = Passing::none();
+        if change.is_empty() {
+            return;
+        }
         undo_plan(&mut self.plan, change);
-        self.desk.undo(&part_of(change, DESK));
+        undo_desk(&mut self.desk, change);
         self.controller.undo(change);
-        self.monitor.bank.undo(&part_of(change, MONITOR));
+        undo_part(&mut self.monitor.bank, change, MONITOR);
     }
 }
 
 /// Puts back what a record tells of the plan.
 fn undo_plan(plan: &mut Checked, change: &Record<'_>)
-    requires ranged { AreInRange (apply_diff plan.old.plan.values (part 0 1230 change.now.entries)) }
-    requires passed { first_broken (plan_in (apply_diff plan.old.plan.values (part 0 1230 change.now.entries))) ≡ None }
-    ensures { plan.new.plan.values ≡ apply_diff plan.old.plan.values (part 0 1230 change.now.entries) }
+    requires ranged { AreInRange (apply_diff plan.old.plan.values (part 0 PLAN_CELLS change.now.entries)) }
+    requires passed { first_broken (plan_in (apply_diff plan.old.plan.values (part 0 PLAN_CELLS change.now.entries))) ≡ None }
+    ensures { plan.new.plan.values ≡ apply_diff plan.old.plan.values (part 0 PLAN_CELLS change.now.entries) }
 {
-    if touches_plan(change) {
+    if touches(change, 0, PLAN_CELLS) {
         *plan = Checked::known(put_back(plan.plan(), change));
+    }
+}
+
+/// Puts back what a record tells of the desk.
+#[tactic(auto, using(crate::proofs::PartLemmas::parts))]
+fn undo_desk(desk: &mut Desk, change: &Record<'_>)
+    requires shut { is_open desk.old ≡ false }
+    requires few { HasFew change.now.entries }
+    requires row { IsRow (apply_diff (cells_of desk.old) (part DESK 132 change.now.entries)) }
+    ensures cells { cells_of desk.new ≡ apply_diff (cells_of desk.old) (part DESK 132 change.now.entries) }
+    ensures shut { is_open desk.new ≡ false }
+{
+    if touches(change, DESK, tsb_transact::CELLS) {
+        let entries: Diff<{ tsb_transact::CELLS }> = part_of(change, DESK);
+        desk.undo(entries.as_slice());
     }
 }
 

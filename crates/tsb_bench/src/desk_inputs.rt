@@ -18,6 +18,8 @@ ghost use Rattle.tsb_controller.specs.Records.{changes};
 ghost use Rattle.tsb_controller.specs.Rows.{Beside, state_of};
 ghost use Rattle.tsb_controller.specs.Whole.{AreAllBy, all_in};
 ghost use Rattle.tsb_bench.specs.Cabinet.{rows_of, IsShut, IsDone, forgotten_if};
+ghost use Rattle.tsb_controller.specs.declared.first_cell.TheConstants.{ALL_CELLS, LAYER_CELLS};
+ghost use Rattle.tsb_bench.specs.declared.cabinet.TheConstants.{MOST_CELLS};
 
 use crate::cabinet::{Cabinet, Changes};
 use tsb_cells::Reversible;
@@ -35,7 +37,7 @@ impl Cabinet {
         requires allowed { verdict (all_in tick (rows_of self.old)) (inputs.Begin station) ≡ None }
         requires empty { out.old.items ≡ [] }
         ensures done { IsDone (inputs.Begin station) tick (rows_of self.old) (rows_of self.new) out.new.items }
-        ensures few { array_vec_len out.new ≤ 217 }
+        ensures few { array_vec_len out.new ≤ MOST_CELLS }
         ensures shut { IsShut self.new }
     {
         self.desk.open();
@@ -57,7 +59,7 @@ impl Cabinet {
         requires allowed { verdict (all_in tick (rows_of self.old)) (inputs.Set station id value) ≡ None }
         requires empty { out.old.items ≡ [] }
         ensures done { IsDone (inputs.Set station id value) tick (rows_of self.old) (rows_of self.new) out.new.items }
-        ensures few { array_vec_len out.new ≤ 217 }
+        ensures few { array_vec_len out.new ≤ MOST_CELLS }
         ensures shut { IsShut self.new }
     {
         self.desk.open();
@@ -72,7 +74,7 @@ impl Cabinet {
         requires allowed { verdict (all_in tick (rows_of self.old)) (inputs.Verify station) ≡ None }
         requires empty { out.old.items ≡ [] }
         ensures done { IsDone (inputs.Verify station) tick (rows_of self.old) (rows_of self.new) out.new.items }
-        ensures few { array_vec_len out.new ≤ 217 }
+        ensures few { array_vec_len out.new ≤ MOST_CELLS }
         ensures shut { IsShut self.new }
     {
         self.desk.open();
@@ -87,7 +89,7 @@ impl Cabinet {
         requires allowed { verdict (all_in tick (rows_of self.old)) (inputs.Abort station) ≡ None }
         requires empty { out.old.items ≡ [] }
         ensures done { IsDone (inputs.Abort station) tick (rows_of self.old) (rows_of self.new) out.new.items }
-        ensures few { array_vec_len out.new ≤ 217 }
+        ensures few { array_vec_len out.new ≤ MOST_CELLS }
         ensures shut { IsShut self.new }
     {
         self.desk.open();
@@ -115,7 +117,7 @@ impl Cabinet {
         requires allowed { verdict (all_in tick (rows_of self.old)) (inputs.Commit station) ≡ None }
         requires empty { out.old.items ≡ [] }
         ensures done { IsDone (inputs.Commit station) tick (rows_of self.old) (rows_of self.new) out.new.items }
-        ensures few { array_vec_len out.new ≤ 1579 }
+        ensures few { array_vec_len out.new ≤ ALL_CELLS }
         ensures shut { IsShut self.new }
     {
         let forgets = self.desk.forgets(&self.plan);
@@ -158,11 +160,11 @@ fn committed_plan(
 fn forget_if(controller: &mut Controller, forgets: bool, out: &mut Changes)
     requires closed { IsClosed controller.old }
     requires rings_by { rings.IsBy (rows_of_layers controller.old).rings }
-    requires room { array_vec_len out.old + 210 ≤ 1579 }
+    requires room { array_vec_len out.old + LAYER_CELLS ≤ ALL_CELLS }
     ensures state { (now : ℕ) (b : Beside) → state_of now b (rows_of_layers controller.new) ≡ forgotten_if forgets (state_of now b (rows_of_layers controller.old)) }
     ensures by { KeepsBy (rows_of_layers controller.old) (rows_of_layers controller.new) }
     ensures changes { out.new.items ≡ out.old.items ++ changes (rows_of_layers controller.old) (rows_of_layers controller.new) }
-    ensures len { array_vec_len out.new ≤ array_vec_len out.old + 210 }
+    ensures len { array_vec_len out.new ≤ array_vec_len out.old + LAYER_CELLS }
     ensures closed { IsClosed controller.new }
 {
     if !forgets {

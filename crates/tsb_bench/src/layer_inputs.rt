@@ -11,6 +11,7 @@ ghost use Rattle.tsb_step.specs.MonitorLaws.{IsCause};
 ghost use Rattle.tsb_controller.specs.Promises.{IsLit, IsWatchedTick};
 ghost use Rattle.tsb_controller.specs.Whole.{AreAllBy, all_in};
 ghost use Rattle.tsb_bench.specs.Cabinet.{rows_of, IsShut, IsDone};
+ghost use Rattle.tsb_bench.specs.declared.cabinet.TheConstants.{MOST_CELLS};
 
 use crate::cabinet::{Cabinet, Changes};
 use tsb_heads::Trip;
@@ -29,7 +30,7 @@ impl Cabinet {
         // What the monitor watched, where it tripped no controller.
         ensures watched { trip_in (rows_of self.new).monitor ≡ None → IsWatchedTick (tick + 1) row.now
             (lamp_in (rows_of self.new).monitor) (plan_in (rows_of self.new).plan) (rows_of self.old).layers (rows_of self.new).layers None }
-        ensures few { array_vec_len out.new ≤ 217 }
+        ensures few { array_vec_len out.new ≤ MOST_CELLS }
         ensures shut { IsShut self.new }
     {
         if self.monitor.is_tripped() {
@@ -53,7 +54,7 @@ impl Cabinet {
         requires allowed { verdict (all_in tick (rows_of self.old)) (inputs.Pattern n) ≡ None }
         requires empty { out.old.items ≡ [] }
         ensures done { IsDone (inputs.Pattern n) tick (rows_of self.old) (rows_of self.new) out.new.items }
-        ensures few { array_vec_len out.new ≤ 217 }
+        ensures few { array_vec_len out.new ≤ MOST_CELLS }
         ensures shut { IsShut self.new }
     {
         self.controller.open();
@@ -68,7 +69,7 @@ impl Cabinet {
         requires allowed { verdict (all_in tick (rows_of self.old)) (inputs.Switch n on) ≡ None }
         requires empty { out.old.items ≡ [] }
         ensures done { IsDone (inputs.Switch n on) tick (rows_of self.old) (rows_of self.new) out.new.items }
-        ensures few { array_vec_len out.new ≤ 217 }
+        ensures few { array_vec_len out.new ≤ MOST_CELLS }
         ensures shut { IsShut self.new }
     {
         self.controller.open();
@@ -82,7 +83,7 @@ impl Cabinet {
         requires by { AreAllBy tick (rows_of self.old) }
         requires empty { out.old.items ≡ [] }
         ensures done { IsDone (inputs.Fault lamp.now) tick (rows_of self.old) (rows_of self.new) out.new.items }
-        ensures few { array_vec_len out.new ≤ 217 }
+        ensures few { array_vec_len out.new ≤ MOST_CELLS }
         ensures shut { IsShut self.new }
     {
         let found = self.found_with(lamp);
@@ -111,7 +112,7 @@ impl Cabinet {
         requires in_time { tick ≤ last_tick }
         requires empty { out.old.items ≡ [] }
         ensures done { IsDone inputs.Reset tick (rows_of self.old) (rows_of self.new) out.new.items }
-        ensures few { array_vec_len out.new ≤ 217 }
+        ensures few { array_vec_len out.new ≤ MOST_CELLS }
         ensures shut { IsShut self.new }
     {
         if !self.monitor.is_tripped() {

@@ -9,15 +9,13 @@ ghost use Rattle.tsb_step.specs.MonitorCells.{lamp_in, trip_in, trip_cells, lamp
 ghost use Rattle.tsb_step.specs.MonitorLaws.{IsMonitorBy, IsCause, IsLamp};
 ghost use Rattle.tsb_step.specs.State.{Tripped};
 ghost use Rattle.tsb_bench.specs.Cabinet.{tripped_by};
+ghost use Rattle.tsb_controller.specs.declared.first_cell.TheConstants.{MONITOR};
 
 use arrayvec::ArrayVec;
 use tsb_cells::{Bank, Reversible};
-use tsb_controller::first_cell::MONITOR;
+use tsb_controller::first_cell::{MONITOR, MONITOR_CELLS};
 use tsb_heads::Trip;
 use tsb_types::{Lamp, Overlap, PedestrianColor, Phase, SignalColor};
-
-/// How many cells the monitor has: four of the trip, three of the lamp.
-pub(crate) const CELLS: usize = 7;
 
 /// The cell that tells why the controller has tripped; 0 where it has not.
 const CAUSE: usize = 0;
@@ -25,10 +23,10 @@ const CAUSE: usize = 0;
 /// The first cell of the lamp: its kind of head, or 0 where no lamp is lit.
 const LAMP: usize = 4;
 
-/// The cells of the monitor and of the injected lamp, and those at the last change.
+/// The cells of the monitor and of the injected lamp, four of the trip and three of the lamp, and those at the last change.
 #[derive(Clone, Copy)]
 pub(crate) struct MonitorCells {
-    pub(crate) bank: Bank<CELLS>,
+    pub(crate) bank: Bank<MONITOR_CELLS>,
 }
 
 /// The cell of a color of a vehicle head.
@@ -169,7 +167,7 @@ impl MonitorCells {
         ensures lamp { lamp_in (cells_of self.new.bank) ≡ lamp.now }
         ensures trip { trip_in (cells_of self.new.bank) ≡ tripped_by found.now now (trip_in (cells_of self.old.bank)) }
         ensures by { IsMonitorBy now (cells_of self.new.bank) }
-        ensures changes { out.new.items ≡ out.old.items ++ shifted 1572 (diff (cells_of self.old.bank) (cells_of self.new.bank)) }
+        ensures changes { out.new.items ≡ out.old.items ++ shifted MONITOR (diff (cells_of self.old.bank) (cells_of self.new.bank)) }
         ensures len { array_vec_len out.new ≤ array_vec_len out.old + 7 }
         ensures shut { is_open self.new.bank ≡ false }
     {
@@ -185,7 +183,7 @@ impl MonitorCells {
         requires shut { is_open self.old.bank ≡ false }
         requires room { array_vec_len out.old + 7 ≤ M }
         ensures cells { cells_of self.new.bank ≡ replicate 7 0 }
-        ensures changes { out.new.items ≡ out.old.items ++ shifted 1572 (diff (cells_of self.old.bank) (cells_of self.new.bank)) }
+        ensures changes { out.new.items ≡ out.old.items ++ shifted MONITOR (diff (cells_of self.old.bank) (cells_of self.new.bank)) }
         ensures len { array_vec_len out.new ≤ array_vec_len out.old + 7 }
         ensures shut { is_open self.new.bank ≡ false }
     {
@@ -202,7 +200,7 @@ impl MonitorCells {
         requires shut { is_open self.old.bank ≡ false }
         requires room { array_vec_len out.old + 7 ≤ M }
         ensures cells { cells_of self.new.bank ≡ trip.now ++ lamp.now }
-        ensures changes { out.new.items ≡ out.old.items ++ shifted 1572 (diff (cells_of self.old.bank) (cells_of self.new.bank)) }
+        ensures changes { out.new.items ≡ out.old.items ++ shifted MONITOR (diff (cells_of self.old.bank) (cells_of self.new.bank)) }
         ensures len { array_vec_len out.new ≤ array_vec_len out.old + 7 }
         ensures shut { is_open self.new.bank ≡ false }
     {

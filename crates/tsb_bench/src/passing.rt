@@ -7,6 +7,7 @@ ghost use Rattle.tsb_step.specs.Step.{verdict};
 ghost use Rattle.tsb_step.specs.declared.inputs.Input.TheVariants as inputs;
 ghost use Rattle.tsb_controller.specs.Whole.{AreAllBy, all_in};
 ghost use Rattle.tsb_bench.specs.Cabinet.{rows_of, IsShut, IsDone, Passes, MayPass};
+ghost use Rattle.tsb_bench.specs.declared.cabinet.TheConstants.{MOST_CELLS};
 
 use crate::cabinet::{Cabinet, Changes};
 use tsb_controller::passing::{unchanged_rows_are_same, watched_ticks_pass};
@@ -63,7 +64,7 @@ impl Cabinet {
         requires allowed { verdict (all_in tick (rows_of self.old)) (inputs.Tick row.now) ≡ None }
         requires empty { out.old.items ≡ [] }
         ensures done { IsDone (inputs.Tick row.now) tick (rows_of self.old) (rows_of self.new) out.new.items }
-        ensures few { array_vec_len out.new ≤ 217 }
+        ensures few { array_vec_len out.new ≤ MOST_CELLS }
         ensures shut { IsShut self.new }
         ensures passing { MayPass (tick + 1) self.new }
     {

@@ -1,6 +1,5 @@
 //! A watched value by itself: the one layer that has it, as it is wound back to find when the value changed.
 ghost use Rattle.std.specs.Prelude.{◌≡◌, ◌≢◌, ℕ, true, false};
-ghost use Rattle.tsb_controller.specs.Records.{HasFew};
 ghost use Rattle.tsb_controller.specs.Whole.{All, AreAllBy, all_in, all_put_back};
 ghost use Rattle.tsb_step.specs.Watches.{watched};
 ghost use Rattle.tsb_types.specs.declared.watch.Watch.{Watch as WatchValue};
@@ -10,15 +9,14 @@ ghost use Rattle.tsb_bench.specs.Watched.{Holds, told};
 use crate::cabinet::Cabinet;
 use crate::monitor_cells::MonitorCells;
 use tsb_calls::Calls;
-use tsb_cells::Reversible;
 use tsb_controller::first_cell::{CALLS, DETECTORS, MONITOR, PHASES, PREEMPTS};
-use tsb_controller::part_of;
 use tsb_detect::{Alarm, Detectors};
 use tsb_heads::Trip;
 use tsb_history::Record;
 use tsb_objects::{Detector, Interval, PedestrianInterval, Phase, Preempt, Stage};
 use tsb_phase::Phases;
 use tsb_preempt::Preempts;
+use tsb_records::undo_part;
 use tsb_types::Watch;
 
 /// The layer that has a watched value, and whose of its values it is.
@@ -81,24 +79,18 @@ impl Watched {
     }
 
     /// Puts back what a record tells of the layer.
-    #[tactic(auto, using(tsb_cells::proofs::DiffLemmas::lengths, crate::proofs::PartLemmas::parts))]
     pub(crate) fn undo(&mut self, change: &Record<'_>)
         requires held { (watch : WatchValue) × (a : All) × Holds watch a self.old }
-        requires few { HasFew change.now.entries }
         ensures { (watch : WatchValue) (a : All) → Holds watch a self.old → Holds watch (all_put_back a change.now.entries) self.new }
     {
         match self {
-            Watched::Interval(phases, _) => phases.undo(&part_of(change, PHASES)),
-            Watched::Ped(phases, _) => phases.undo(&part_of(change, PHASES)),
-            Watched::Call(calls, _) => calls.undo(&part_of(change, CALLS)),
-            Watched::Output(detectors, _) => {
-                detectors.undo(&part_of(change, DETECTORS));
-            }
-            Watched::Alarm(detectors, _) => {
-                detectors.undo(&part_of(change, DETECTORS));
-            }
-            Watched::Stage(preempts) => preempts.undo(&part_of(change, PREEMPTS)),
-            Watched::Trip(monitor) => monitor.bank.undo(&part_of(change, MONITOR)),
+            Watched::Interval(phases, _) => undo_part(phases, change, PHASES),
+            Watched::Ped(phases, _) => undo_part(phases, change, PHASES),
+            Watched::Call(calls, _) => undo_part(calls, change, CALLS),
+            Watched::Output(detectors, _) => undo_part(detectors, change, DETECTORS),
+            Watched::Alarm(detectors, _) => undo_part(detectors, change, DETECTORS),
+            Watched::Stage(preempts) => undo_part(preempts, change, PREEMPTS),
+            Watched::Trip(monitor) => undo_part(&mut monitor.bank, change, MONITOR),
         }
     }
 

@@ -162,8 +162,8 @@ impl<const N: usize> Reversible<N> for Bank<N> {
         changes
     }
 
-    fn undo(&mut self, changes: &Diff<N>) {
-        for (cell, old) in changes.as_slice() {
+    fn undo(&mut self, changes: &[(u16, u32)]) {
+        for (cell, old) in changes {
             self.cells[*cell as usize] = *old;
             self.kept[*cell as usize] = *old;
         }

@@ -37,11 +37,11 @@ pub trait Reversible<const N: usize> {
         ensures closed { is_open self.new ≡ false };
 
     /// Puts the value of each entry back into its cell. The row that this gives has to be one that the type allows.
-    fn undo(&mut self, changes: &Diff<N>)
+    fn undo(&mut self, changes: &[(u16, u32)])
         requires closed { is_open self.old ≡ false }
-        requires in_range { AreWithin N changes.now.items }
-        requires allowed { allows (apply_diff (cells self.old) changes.now.items) }
-        ensures cells { cells self.new ≡ apply_diff (cells self.old) changes.now.items }
+        requires in_range { AreWithin N changes.now }
+        requires allowed { allows (apply_diff (cells self.old) changes.now) }
+        ensures cells { cells self.new ≡ apply_diff (cells self.old) changes.now }
         ensures closed { is_open self.new ≡ false };
 
     /// Each cell has a number of 16 bits.
@@ -66,5 +66,5 @@ pub fn abandon<const N: usize, R: Reversible<N>>(layer: &mut R)
     ensures closed { R.is_open layer.new ≡ false }
 {
     let changes = layer.close();
-    layer.undo(&changes);
+    layer.undo(changes.as_slice());
 }

@@ -60,7 +60,7 @@ fn changes_are_given_and_taken_back(rt: HostRuntime) {
     assert_eq!(rt; changes.as_slice(), [(1, 5), (3, 0)].as_slice());
     assert_eq!(rt; bank.row::<4>(0), [0, 7, 6, 9]);
 
-    bank.undo(&changes);
+    bank.undo(changes.as_slice());
     assert_eq!(rt; bank.get(1), 5);
     assert_eq!(rt; bank.row::<4>(0), [0, 5, 6, 0]);
 

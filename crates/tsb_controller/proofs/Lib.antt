@@ -5,7 +5,6 @@ mod TickLemmas
 mod PassLemmas
 mod StillLemmas
 mod SameLemmas
-mod PartLemmas
 mod InputLemmas
 mod WatchLemmas
 mod FewLemmas

@@ -1,6 +1,6 @@
 -- Behind a tick that changed no cell each tick with the same inputs finds what that one found, up to the one that is due:
 -- so it changes no cell.
-use Rattle.std.proofs.Common.{zero, suc, ◌≡◌, ℕ, ◌+◌, ◌-◌, ◌<◌, ◌≤◌, ◌==◌, Bool, true, false, ◌&&◌, if◌then◌else◌, List, Option, Some, None, is_some, is_none, option_map, refl, sym, ap, ap₂, ◌∙◌, inl, inr, arith, subst, slice_index}
+use Rattle.std.proofs.Common.{zero, suc, ◌≡◌, ℕ, ◌+◌, ◌-◌, ◌<◌, ◌≤◌, Bool, true, false, ◌&&◌, if◌then◌else◌, List, Option, Some, None, is_some, is_none, option_map, refl, sym, ap, ap₂, ◌∙◌, inl, inr, arith, subst, slice_index}
 use Rattle.std.proofs.Math.Path.{fun_ext}
 use Rattle.std.proofs.lemmas.Bool.{cases_Bool, true≢false}
 use Rattle.std.proofs.lemmas.Bool.Decides.{nat_tests}
@@ -9,13 +9,11 @@ use Rattle.tsb_cells.specs.declared.timer.Timer.TheVariants.{Off, On}
 use Rattle.tsb_cells.specs.Timer.{timer_at}
 use Rattle.tsb_cells.proofs.TimerLemmas.{timer_at-on}
 use Rattle.tsb_types.specs.declared.flow.Called.{Called}
-use Rattle.tsb_types.specs.declared.flow.Intervals.{Intervals}
 use Rattle.tsb_types.specs.declared.flow.Moves.{Moves}
 use Rattle.tsb_types.specs.declared.flow.Orders.{Orders}
 use Rattle.tsb_types.specs.declared.flow.Timing.{Timing}
 use Rattle.tsb_types.specs.declared.interval.Interval.{Interval}
 use Rattle.tsb_types.specs.declared.interval.Interval.TheVariants.{Red, Green, Yellow, RedClear}
-use Rattle.tsb_types.specs.declared.interval.PedestrianInterval.{PedestrianInterval}
 use Rattle.tsb_types.specs.declared.lamp.Lamp.{Lamp}
 use Rattle.tsb_types.specs.declared.phase_set.PhaseSet.{PhaseSet}
 use Rattle.tsb_types.specs.declared.row.Row.{Row}
@@ -28,7 +26,6 @@ use Rattle.tsb_types.proofs.ClipLemmas.{among_16, clipped-agrees, clipped-same, 
 use Rattle.tsb_types.proofs.SetLemmas.{names-list_of}
 use Rattle.tsb_plan.specs.Plan.{Plan}
 use Rattle.tsb_plan.specs.Parts.{call_phase}
-use Rattle.tsb_detect.specs.Cells as detect_cells
 use Rattle.tsb_detect.specs.Cells.{detector_in}
 use Rattle.tsb_detect.specs.Detector.{Detector, all_after, is_detector}
 use Rattle.tsb_detect.specs.Promises as detect
@@ -64,7 +61,6 @@ use Rattle.tsb_ring.proofs.MoveLemmas.{ends_ready, clears_over}
 use Rattle.tsb_coord.specs.Cells.{pattern_in}
 use Rattle.tsb_coord.specs.Coordinated as coordination
 use Rattle.tsb_coord.specs.Coordinated.{asks_force_off}
-use Rattle.tsb_coord.specs.Promises as coord
 use Rattle.tsb_preempt.specs.Cells.{service_in, preempts_in}
 use Rattle.tsb_preempt.specs.Laws as preempt_laws
 use Rattle.tsb_preempt.specs.Preempts as preempts_words
@@ -80,7 +76,7 @@ use Rattle.tsb_step.specs.Tick as tick
 use Rattle.tsb_step.specs.Tick.{preempts_given, calls_given, phases_given, rings_given, new_detectors, callable, ready, over, reverted, gapped, runs, hold, omitted, forced, service, service_ended, target, moves, moved, done, next}
 use Rattle.tsb_step.proofs.ClipLemmas.{clipped_holds}
 use Rattle.tsb_controller.specs.Found.{observed}
-use Rattle.tsb_controller.specs.Passing.{wanted_in, IsSeen, AreTold, ArePhasesStill, AreOthersStill, AreQuietUntil}
+use Rattle.tsb_controller.specs.Passing.{wanted_in, ArePhasesStill, AreOthersStill}
 use Rattle.tsb_controller.specs.Promises.{IsTicked}
 use Rattle.tsb_controller.specs.Rows.{Rows, AreBy, untripped, state_of}
 use Rattle.tsb_controller.proofs.PlacedLemmas.{IsPlaced}

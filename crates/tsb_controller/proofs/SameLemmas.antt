@@ -3,8 +3,6 @@ use Rattle.std.proofs.Common.{◌≡◌, ℕ, List, [], ◌∷◌, ◌++◌, len
 use Rattle.tsb_cells.specs.Diff.{diff, apply_diff, shifted}
 use Rattle.tsb_cells.proofs.DiffLemmas.{apply_diff-diff}
 use Rattle.tsb_controller.specs.Passing.{UnchangedRowsAreSame}
-use Rattle.tsb_controller.specs.Records.{changes}
-use Rattle.tsb_controller.specs.Rows.{Rows, AreBy}
 
 first-none : (xs ys : List (ℕ × ℕ)) → xs ++ ys ≡ [] → xs ≡ []
 first-none [] ys e = refl

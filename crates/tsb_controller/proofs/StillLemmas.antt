@@ -1,16 +1,16 @@
 -- The monitor in ticks that leave the rows as they were: the field is the one that it was, so that it finds what it found.
-use Rattle.std.proofs.Common.{◌≡◌, ℕ, ◌+◌, ◌-◌, Option, Some, None, option_map, refl, sym, ap, ap₂, ◌∙◌, List}
+use Rattle.std.proofs.Common.{◌≡◌, ℕ, ◌+◌, ◌-◌, Option, Some, None, option_map, refl, sym, ap, ap₂, ◌∙◌}
 use Rattle.std.proofs.Math.Path.{fun_ext}
 use Rattle.tsb_types.specs.declared.lamp.Lamp.{Lamp}
 use Rattle.tsb_types.specs.declared.row.Row.{Row}
 use Rattle.tsb_plan.specs.Plan.{Plan}
 use Rattle.tsb_heads.specs.declared.monitor.Trip.{Trip}
 use Rattle.tsb_heads.specs.Displays as heads
-use Rattle.tsb_heads.specs.Heads.{Heads, Shown}
+use Rattle.tsb_heads.specs.Heads.{Shown}
 use Rattle.tsb_heads.specs.Monitoring.{judge}
 use Rattle.tsb_transact.specs.Desk.{Desk}
-use Rattle.tsb_step.specs.Signs.{commitment, field, shown, watched}
-use Rattle.tsb_step.specs.State.{State, Tripped, interval, pedestrian_part}
+use Rattle.tsb_step.specs.Signs.{field, shown, watched}
+use Rattle.tsb_step.specs.State.{State, Tripped}
 use Rattle.tsb_step.specs.Step.{ticked}
 use Rattle.tsb_step.specs.Tick as tick
 use Rattle.tsb_step.specs.Tick.{new_detectors, phases_given, rings_given, moves, next}

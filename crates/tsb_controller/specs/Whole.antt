@@ -14,7 +14,7 @@ use Rattle.tsb_step.specs.MonitorLaws.{IsMonitorBy}
 use Rattle.tsb_step.specs.Past.{record_of, undone, ticks_of}
 use Rattle.tsb_step.specs.State.{State}
 use Rattle.tsb_step.specs.Step.{kind_of}
-use Rattle.tsb_controller.specs.declared.first_cell.TheConstants.{DESK, MONITOR}
+use Rattle.tsb_controller.specs.declared.first_cell.TheConstants.{DESK, MONITOR, ALL_CELLS}
 use Rattle.tsb_controller.specs.Records.{changes, put_back, HasFew}
 use Rattle.tsb_controller.specs.Rows.{Rows, AreBy, state_of}
 
@@ -55,7 +55,7 @@ pub record AreAllBy (now : ℕ) (a : All) : Type 0 where
   pub layers : AreBy (clock_at now (trip_in a.monitor)) a.layers
   pub monitor : IsMonitorBy now a.monitor
 
--- the cells that differ, each by its number among all 1579, with what it held before
+-- the cells that differ, each by its number among all, with what it held before
 abbrev pub all_changes : All → All → List (ℕ × ℕ)
 all_changes old new =
     diff old.plan new.plan ++ (shifted DESK (diff old.desk new.desk) ++ (changes old.layers new.layers ++ shifted MONITOR (diff old.monitor new.monitor)))
@@ -82,7 +82,7 @@ RecordsAreJoined = (i : Input) (m n : ℕ) (old new : All) → AreAllBy m old �
 
 -- and a record takes each row back by its own part
 abbrev pub RecordsGoBack : Type 0
-RecordsGoBack = (r : Change) (now : ℕ) (a : All) → AreAllBy now a → AreWithin 1579 r.entries →
+RecordsGoBack = (r : Change) (now : ℕ) (a : All) → AreAllBy now a → AreWithin ALL_CELLS r.entries →
     undone r (all_in now a) ≡ all_in (now - ticks_of r.kind) (all_put_back a r.entries)
 
 -- so the record of an input gives back the state before it
@@ -100,9 +100,9 @@ RecordsAreFew = (i : Input) (before after : State) → HasFew (record_of i befor
 abbrev pub RowsGoBack : Type 0
 RowsGoBack = (m n : ℕ) (old new : All) → AreAllBy m old → AreAllBy n new → all_put_back new (all_changes old new) ≡ old
 
--- each has one of the 1579 numbers
+-- each has one of the numbers of cells
 abbrev pub EntriesAreWithin : Type 0
-EntriesAreWithin = (m n : ℕ) (old new : All) → AreAllBy m old → AreAllBy n new → AreWithin 1579 (all_changes old new)
+EntriesAreWithin = (m n : ℕ) (old new : All) → AreAllBy m old → AreAllBy n new → AreWithin ALL_CELLS (all_changes old new)
 
 -- and there are no more of them among any cells than there are of these
 abbrev pub ChangesAreFew : Type 0

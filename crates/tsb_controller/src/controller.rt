@@ -4,6 +4,7 @@ ghost use Rattle.tsb_objects.specs.Checked.{checked_plan};
 ghost use Rattle.tsb_calls.specs.Cells as calls;
 ghost use Rattle.tsb_phase.specs.Cells as phases;
 ghost use Rattle.tsb_ring.specs.Cells as rings;
+ghost use Rattle.tsb_step.specs.Step.{last_tick};
 ghost use Rattle.tsb_controller.specs.Found.{IsSensed, IsMoved};
 ghost use Rattle.tsb_controller.specs.Rows.{AreBy};
 ghost use Rattle.tsb_controller.specs.Promises.{IsTicked};
@@ -36,7 +37,7 @@ impl Controller {
     pub fn tick(&mut self, now: u32, row: &Row, plan: &Checked)
         requires opened { IsOpen self.old }
         requires begun { 1 ≤ now }
-        requires in_time { now ≤ 6000000 }
+        requires in_time { now ≤ last_tick }
         requires by { AreBy (now - 1) (rows_of self.old) }
         ensures state { IsTicked now row.now (checked_plan plan.now) (rows_of self.old) (rows_of self.new) }
         ensures by { AreBy now (rows_of self.new) }
@@ -54,7 +55,7 @@ impl Controller {
     fn sense(&mut self, now: u32, row: &Row, plan: &Checked) -> Sensed
         requires opened { IsOpen self.old }
         requires begun { 1 ≤ now }
-        requires in_time { now ≤ 6000000 }
+        requires in_time { now ≤ last_tick }
         requires by { AreBy (now - 1) (rows_of self.old) }
         ensures sensed { IsSensed now row.now (checked_plan plan.now) (rows_of self.old) (rows_of self.new) result }
         ensures kept { kept_of self.new ≡ kept_of self.old }
@@ -80,7 +81,7 @@ impl Controller {
     fn proceed(&mut self, now: u32, sensed: &Sensed, called: &Called, plan: &Checked) -> Movement
         requires opened { IsOpen self.old }
         requires begun { 1 ≤ now }
-        requires in_time { now ≤ 6000000 }
+        requires in_time { now ≤ last_tick }
         requires calls_by { calls.IsBy (rows_of self.old).calls }
         requires phases_by { phases.IsBy (now - 1) (rows_of self.old).phases }
         requires rings_by { rings.IsBy (rows_of self.old).rings }

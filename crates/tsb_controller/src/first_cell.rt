@@ -1,5 +1,5 @@
-//! The numbers of first cells among all cells of the bench, which are those of the plan, of the desk, of the six layers in
-//! the order of their fields, and of the monitor with the injected lamp.
+//! The numbers of first cells among all cells of the bench, and how many cells there are. The cells are those of the plan,
+//! of the desk, of the six layers in the order of their fields, and of the monitor with the injected lamp.
 
 use tsb_objects::PLAN_CELLS;
 
@@ -26,3 +26,12 @@ pub const PREEMPTS: u16 = COORD + tsb_coord::CELLS as u16;
 
 /// The monitor's and the injected lamp's.
 pub const MONITOR: u16 = PREEMPTS + tsb_preempt::CELLS as u16;
+
+/// How many cells the six layers have.
+pub const LAYER_CELLS: usize = (MONITOR - DETECTORS) as usize;
+
+/// How many cells the monitor has, with the injected lamp.
+pub const MONITOR_CELLS: usize = 7;
+
+/// All cells of the bench.
+pub const ALL_CELLS: usize = MONITOR as usize + MONITOR_CELLS;

@@ -18,4 +18,3 @@ mod values;
 mod watch;
 
 pub use controller::Controller;
-pub use record::part_of;

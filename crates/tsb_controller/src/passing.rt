@@ -1,5 +1,5 @@
 //! Ticks that may be passed over, as they change nothing while the inputs stay.
-ghost use Rattle.std.specs.Prelude.{◌≡◌, ℕ, ◌-◌, ◌<◌, ◌≤◌, false, Some, None};
+ghost use Rattle.std.specs.Prelude.{◌≡◌, ℕ, ◌+◌, ◌-◌, ◌<◌, ◌≤◌, false, Some, None};
 ghost use Rattle.tsb_objects.specs.Checked.{checked_plan};
 ghost use Rattle.tsb_plan.specs.PlanOf.{plan_of};
 ghost use Rattle.tsb_types.specs.Flow.{target_of};
@@ -7,6 +7,7 @@ ghost use Rattle.tsb_types.specs.Sets.{has};
 ghost use Rattle.tsb_coord.specs.Cells as coord;
 ghost use Rattle.tsb_preempt.specs.Preempts.{is_outside};
 ghost use Rattle.tsb_preempt.specs.Service.{stage_phases};
+ghost use Rattle.tsb_step.specs.Step.{last_tick};
 ghost use Rattle.tsb_controller.specs.Rows.{AreBy};
 ghost use Rattle.tsb_controller.specs.Promises.{IsTicked};
 ghost use Rattle.tsb_controller.specs.Passing.{wanted_in, IsSeen, ArePhasesStill, AreOthersStill, AreQuietUntil, UnchangedRowsAreSame, WatchedTicksAreTicked, WatchedTicksPass};
@@ -80,7 +81,7 @@ impl Controller {
 
     /// What a tick finds before the calls, where it leaves the rows as they were.
     fn seen(&self, now: u32, plan: &Checked) -> Sensed
-        requires in_time { now ≤ 6000000 }
+        requires in_time { now ≤ last_tick }
         requires pattern_by { coord.IsBy (rows_of self.now).pattern }
         ensures { IsSeen now (checked_plan plan.now) (rows_of self.now) result }
     {
@@ -102,7 +103,7 @@ impl Controller {
     fn phases_due(&self, now: u32, row: &Row, plan: &Checked) -> u32
         requires closed { IsClosed self.now }
         requires begun { 1 ≤ now }
-        requires in_time { now ≤ 6000000 }
+        requires in_time { now ≤ last_tick }
         requires by { AreBy (now - 1) (rows_of self.now) }
         ensures later { now < result }
         ensures still { ArePhasesStill now row.now (checked_plan plan.now) (rows_of self.now) result }
@@ -118,10 +119,10 @@ impl Controller {
     /// The tick up to which detectors and preempts stay as tick `now` left them, and coordination asks the same, at
     /// most the one behind the last tick that there is.
     fn others_due(&self, now: u32, row: &Row, plan: &Checked) -> u32
-        requires in_time { now ≤ 6000000 }
+        requires in_time { now ≤ last_tick }
         requires by { AreBy now (rows_of self.now) }
         ensures later { now < result }
-        ensures within { result ≤ 6000001 }
+        ensures within { result ≤ last_tick + 1 }
         ensures still { AreOthersStill now row.now (checked_plan plan.now) (rows_of self.now) result }
     {
         let intervals = self.phases.intervals();
@@ -138,12 +139,12 @@ impl Controller {
     pub fn due(&self, now: u32, row: &Row, plan: &Checked) -> u32
         requires closed { IsClosed self.now }
         requires begun { 1 ≤ now }
-        requires in_time { now ≤ 6000000 }
+        requires in_time { now ≤ last_tick }
         requires by { AreBy (now - 1) (rows_of self.now) }
         requires still { IsTicked now row.now (checked_plan plan.now) (rows_of self.now) (rows_of self.now) }
         ensures quiet { AreQuietUntil now row.now (checked_plan plan.now) (rows_of self.now) result }
         ensures later { now < result }
-        ensures within { result ≤ 6000001 }
+        ensures within { result ≤ last_tick + 1 }
     {
         let others = self.others_due(now, row, plan);
         if others == now + 1 {

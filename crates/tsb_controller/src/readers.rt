@@ -14,6 +14,7 @@ ghost use Rattle.tsb_phase.specs.Layer as phases;
 ghost use Rattle.tsb_preempt.specs.Layer as preempts;
 ghost use Rattle.tsb_ring.specs.Cells as rings;
 ghost use Rattle.tsb_coord.specs.Cells as coord;
+ghost use Rattle.tsb_step.specs.Step.{last_tick};
 ghost use Rattle.tsb_controller.specs.Promises.{TellsServing, TellsPreempted, TellsInterval, TellsPedestrian, TellsVehicleCall, TellsOutput, TellsAlarm, TellsStage, TellsLocal};
 
 use crate::controller::Controller;
@@ -126,7 +127,7 @@ impl Controller {
     /// goes on while the controller is tripped.
     pub fn local(&self, now: u32, plan: &Checked) -> Option<u32>
         requires pattern_by { coord.IsBy (rows_of self.now).pattern }
-        requires in_time { now ≤ 6000000 }
+        requires in_time { now ≤ last_tick }
         ensures { TellsLocal now (checked_plan plan.now) (rows_of self.now) result }
     {
         self.coord.local(now, plan)

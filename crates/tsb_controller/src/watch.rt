@@ -4,6 +4,7 @@ ghost use Rattle.tsb_objects.specs.Checked.{checked_plan};
 ghost use Rattle.tsb_ring.specs.Cells as rings;
 ghost use Rattle.tsb_heads.specs.Promises.{Flashes, AreApart};
 ghost use Rattle.tsb_step.specs.MonitorLaws.{IsCause};
+ghost use Rattle.tsb_step.specs.Step.{last_tick};
 ghost use Rattle.tsb_controller.specs.Rows.{AreBy};
 ghost use Rattle.tsb_controller.specs.Shown.{IsShown};
 ghost use Rattle.tsb_controller.specs.Promises.{ShowsDisplay, ShowsField, IsWatchedTick, IsLit};
@@ -59,7 +60,7 @@ impl Controller {
     ) -> Option<Trip>
         requires opened { IsOpen self.old }
         requires begun { 1 ≤ now }
-        requires in_time { now ≤ 6000000 }
+        requires in_time { now ≤ last_tick }
         requires by { AreBy (now - 1) (rows_of self.old) }
         ensures state { IsWatchedTick now row.now lamp.now (checked_plan plan.now) (rows_of self.old) (rows_of self.new) result }
         ensures cause { IfSome result IsCause }

@@ -66,23 +66,6 @@ part-left n i es e found above =
     let test : (leb 0 e.0 && ltb e.0 (0 + n)) ≡ false = grind (arith, nat_tests) in
     part-at n i es e found ∙ cond-false _ ((e.0 - 0, e.1) ∷ part 0 n (drop (i + 1) es)) (part 0 n (drop (i + 1) es)) test
 
--- a list that begins with an element is not empty
-not-empty : (xs ys : List (ℕ × ℕ)) (x : ℕ × ℕ) → xs ≡ x ∷ ys → xs ≢ []
-not-empty xs ys x is none = let e : x ∷ ys ≡ [] = sym is ∙ none in cc
-
--- a search that has passed over entries of other cells alone finds one of the first `n` cells, or passes over one more,
--- or has come to the end
-pub found-taken : (n i : ℕ) (es : List (ℕ × ℕ)) (e : ℕ × ℕ) → slice_get es i ≡ Some e → e.0 < n →
-    part 0 n (drop i es) ≡ part 0 n es → part 0 n es ≢ []
-found-taken n i es e found within so_far = not-empty (part 0 n es) (part 0 n (drop (i + 1) es)) e (sym so_far ∙ part-taken n i es e found within)
-
-pub found-left : (n i : ℕ) (es : List (ℕ × ℕ)) (e : ℕ × ℕ) → slice_get es i ≡ Some e → n ≤ e.0 →
-    part 0 n (drop i es) ≡ part 0 n es → part 0 n (drop (i + 1) es) ≡ part 0 n es
-found-left n i es e found above so_far = sym (part-left n i es e found above) ∙ so_far
-
-pub found-none : (n i : ℕ) (es : List (ℕ × ℕ)) → length es ≤ i → part 0 n (drop i es) ≡ part 0 n es → part 0 n es ≡ []
-found-none n i es over so_far = sym so_far ∙ ap (part 0 n) (drop_all i es over)
-
 -- the loop that puts entries back puts one of the first `n` cells, or passes over another, or has come to the end
 pub put-taken : (n i : ℕ) (es : List (ℕ × ℕ)) (e : ℕ × ℕ) (cells next whole : List ℕ) → slice_get es i ≡ Some e → e.0 < n →
     next ≡ set cells e.0 e.1 → apply_diff cells (part 0 n (drop i es)) ≡ whole → apply_diff next (part 0 n (drop (i + 1) es)) ≡ whole

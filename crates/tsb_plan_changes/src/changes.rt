@@ -1,7 +1,8 @@
-//! The plan's entries in a record: written, found and put back.
-ghost use Rattle.std.specs.Prelude.{◌≡◌, ◌≢◌, ◌+◌, ◌≤◌, ◌++◌, [], true, false, length};
+//! The plan's entries in a record: written and put back.
+ghost use Rattle.std.specs.Prelude.{◌≡◌, ◌+◌, ◌≤◌, ◌++◌, length};
 ghost use Rattle.arrayvec.specs.ArrayVec.{array_vec_len};
 ghost use Rattle.tsb_cells.specs.Diff.{diff, apply_diff, part};
+ghost use Rattle.tsb_plan.specs.declared.object.TheConstants.{PLAN_CELLS};
 ghost use Rattle.tsb_plan.specs.Objects.{AreInRange};
 
 use arrayvec::ArrayVec;
@@ -14,9 +15,9 @@ pub fn differences_onto<const M: usize>(
     after: &Plan,
     out: &mut ArrayVec<(u16, u32), M>,
 )
-    requires { array_vec_len out.old + 1230 ≤ M }
+    requires { array_vec_len out.old + PLAN_CELLS ≤ M }
     ensures changes { out.new.items ≡ out.old.items ++ diff before.now.values after.now.values }
-    ensures len { array_vec_len out.new ≤ array_vec_len out.old + 1230 }
+    ensures len { array_vec_len out.new ≤ array_vec_len out.old + PLAN_CELLS }
 {
     for k in 0..PLAN_CELLS {
         let old = before.cell(k);
@@ -26,25 +27,10 @@ pub fn differences_onto<const M: usize>(
     }
 }
 
-/// Whether the record has an entry of a cell of the plan.
-pub fn touches_plan(change: &Record<'_>) -> bool
-    ensures untouched { result ≡ false → part 0 1230 change.now.entries ≡ [] }
-    ensures touched { result ≡ true → part 0 1230 change.now.entries ≢ [] }
-{
-    for k in 0..change.len() {
-        if let Some((cell, _)) = change.entry(k) {
-            if (cell as usize) < PLAN_CELLS {
-                return true;
-            }
-        }
-    }
-    false
-}
-
 /// The plan with what the record says of its cells put back. What this gives has to be in range, as each plan is.
 pub fn put_back(plan: &Plan, change: &Record<'_>) -> Plan
-    requires { AreInRange (apply_diff plan.now.values (part 0 1230 change.now.entries)) }
-    ensures { result.values ≡ apply_diff plan.now.values (part 0 1230 change.now.entries) }
+    requires { AreInRange (apply_diff plan.now.values (part 0 PLAN_CELLS change.now.entries)) }
+    ensures { result.values ≡ apply_diff plan.now.values (part 0 PLAN_CELLS change.now.entries) }
 {
     let mut cells = cells_of(plan);
     for i in 0..change.len() {

@@ -6,4 +6,4 @@
 
 pub mod changes;
 
-pub use changes::{differences_onto, put_back, touches_plan};
+pub use changes::{differences_onto, put_back};

@@ -19,8 +19,8 @@ known-requires c =
     (c.put_back.ensures ∙ ap (λ (v : List ℕ). apply_diff v (part 0 1230 c.args.change.now.entries)) (values-of c.plan.result.now c.args.plan.now.plan c.plan.ensures.plan))
     ∙ c.requires.passed
 
-pub returns-then-touches_plan : goal.returns-then-touches_plan
+pub returns-then-touches : goal.returns-then-touches
 unfolding checked_plan
-returns-then-touches_plan c =
+returns-then-touches c =
     values-of c.known.result.plan c.put_back.result c.known.ensures ∙ c.put_back.ensures
     ∙ ap (λ (v : List ℕ). apply_diff v (part 0 1230 c.args.change.now.entries)) (values-of c.plan.result.now c.args.plan.now.plan c.plan.ensures.plan)

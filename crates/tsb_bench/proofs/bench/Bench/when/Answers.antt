@@ -18,13 +18,8 @@ loop-change-init c = record {
       c.self.invariant.1 c.of-watched.ensures (c.value-value.ensures c.args.watch c.self.inside.tick (rows_of c.self.inside.cabinet) c.of-watched.ensures (sound-held _ _ _ c.self.invariant.1).by)));
 }
 
-pub undo-requires-clause-held : goal.undo-requires-clause-held
-undo-requires-clause-held c = (c.args.watch, c.loop-change.invariant.at.rows, c.loop-change.invariant.at.holds)
-
-pub undo-requires-clause-few : goal.undo-requires-clause-few
-undo-requires-clause-few c =
-    let at : IsAt c.args.self.now c.args.watch c.loop-change.watched c.loop-change.tick c.value-value.result (c.in-Some.change ∷ c.next.new.self) = subst (IsAt c.args.self.now c.args.watch c.loop-change.watched c.loop-change.tick c.value-value.result) c.in-Some.ensures.steps c.loop-change.invariant.at in
-    at.sound.1.few
+pub undo-requires : goal.undo-requires
+undo-requires c = record { held = (c.args.watch, c.loop-change.invariant.at.rows, c.loop-change.invariant.at.holds) }
 
 pub value-requires : goal.value-requires
 value-requires c =

@@ -1,4 +1,4 @@
-use Rattle.std.proofs.Common.{◌-◌, ◌<◌, ◌≤◌, arith}
+use Rattle.std.proofs.Common.{◌-◌, ◌<◌, arith}
 use Rattle.tsb_objects.specs.Checked.{checked_plan}
 use Rattle.tsb_controller.specs.Layer.{rows_of}
 use Rattle.tsb_controller.proofs.PassLemmas.{rows-stay, passes}

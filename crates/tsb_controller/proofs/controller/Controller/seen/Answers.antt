@@ -1,4 +1,4 @@
-use Rattle.std.proofs.Common.{◌≡◌, ℕ, Option, option_map, refl, sym, ap, ◌∙◌}
+use Rattle.std.proofs.Common.{ℕ, option_map, ap, ◌∙◌}
 use Rattle.tsb_types.specs.declared.stage.Stage.{Stage}
 use Rattle.tsb_objects.specs.Checked.{checked_plan}
 use Rattle.tsb_plan.specs.Plan.{Plan}

@@ -1,8 +1,8 @@
 use Rattle.std.proofs.Common.{◌<◌, length, sym, ◌∙◌, ap, arith, get_or, rules}
 use Rattle.std.proofs.lemmas.Option.{slice_get-get_or}
-use Rattle.tsb_controller.proofs.PartLemmas.{part_taken, part_left, part_room}
-use Rattle.tsb_controller.proofs.record.part_of.Goals as goal
-use Rattle.tsb_controller.proofs.record.part_of.Goals.{in-Some+then-is_one_of, in-Some+else-is_one_of, in_default}
+use Rattle.tsb_records.proofs.PartLemmas.{part_taken, part_left, part_room}
+use Rattle.tsb_records.proofs.parts.part_of.Goals as goal
+use Rattle.tsb_records.proofs.parts.part_of.Goals.{in-Some+then-is_one_of, in-Some+else-is_one_of, in_default}
 
 pub push-requires : goal.push-requires
 push-requires g c = (

@@ -1,6 +1,6 @@
 use Rattle.std.proofs.Common.{◌≡◌, ◌++◌, drop}
 use Rattle.tsb_cells.specs.Diff.{part}
-use Rattle.tsb_controller.proofs.record.part_of.Given as goal
+use Rattle.tsb_records.proofs.parts.part_of.Given as goal
 
 -- the part so far, and the part of what is left, is the part
 abbrev pub invariant-loop-i : goal.invariant-loop-i

@@ -1,0 +1,69 @@
+-- A part of a record's entries, found, collected and put back one by one.
+use Rattle.std.proofs.Common.{◌≡◌, ◌≢◌, ℕ, ◌+◌, ◌-◌, ◌<◌, ◌≤◌, slice_get, Some, drop-cons, List, [], ◌∷◌, ◌++◌, length, drop, sym, ap, arith, ◌∙◌, suc, subst, true, false, cond, ltb, leb, ◌&&◌, append_assoc, length-append}
+use Rattle.std.proofs.lemmas.Option.{get_or_from_slice_get, slice_get_within}
+use Rattle.std.proofs.lemmas.Bool.{cond-true, cond-false}
+use Rattle.std.proofs.lemmas.List.{drop_all}
+use Rattle.tsb_cells.specs.Diff.{AreWithin, apply_diff, part}
+use Rattle.tsb_cells.proofs.PartLemmas.{AreWithin-part}
+
+part-at : (o n i : ℕ) (es : List (ℕ × ℕ)) (e : ℕ × ℕ) → slice_get es i ≡ Some e
+    → part o n (drop i es) ≡ cond (leb o e.0 && ltb e.0 (o + n)) ((e.0 - o, e.1) ∷ part o n (drop (i + 1) es)) (part o n (drop (i + 1) es))
+part-at o n i es e found =
+    let here : i < length es = slice_get_within es i e found in
+    let one : suc i ≡ i + 1 = omega arith in
+    ap (part o n) (drop-cons es i e here ∙ ap (λ (x : ℕ × ℕ). x ∷ drop (suc i) es) (get_or_from_slice_get es i e e found) ∙ ap (λ (m : ℕ). e ∷ drop m es) one)
+
+-- the loop that collects a part goes on by an entry of the layer, or by another
+pub part_taken : (o n i : ℕ) (es out grown : List (ℕ × ℕ)) (e : ℕ × ℕ) → slice_get es i ≡ Some e → (leb o e.0 && ltb e.0 (o + n)) ≡ true
+    → grown ≡ out ++ (e.0 - o, e.1) ∷ [] → out ++ part o n (drop i es) ≡ part o n es → grown ++ part o n (drop (i + 1) es) ≡ part o n es
+part_taken o n i es out grown e found taken grows told =
+    ap (λ (xs : List (ℕ × ℕ)). xs ++ part o n (drop (i + 1) es)) grows
+    ∙ append_assoc out ((e.0 - o, e.1) ∷ []) (part o n (drop (i + 1) es))
+    ∙ ap (λ (xs : List (ℕ × ℕ)). out ++ xs) (sym (part-at o n i es e found ∙ cond-true _ _ _ taken)) ∙ told
+
+pub part_left : (o n i : ℕ) (es out : List (ℕ × ℕ)) (e : ℕ × ℕ) → slice_get es i ≡ Some e → (leb o e.0 && ltb e.0 (o + n)) ≡ false
+    → out ++ part o n (drop i es) ≡ part o n es → out ++ part o n (drop (i + 1) es) ≡ part o n es
+part_left o n i es out e found left told = ap (λ (xs : List (ℕ × ℕ)). out ++ xs) (sym (part-at o n i es e found ∙ cond-false _ _ _ left)) ∙ told
+
+-- an entry of the layer has room
+pub part_room : (o n i m : ℕ) (es out : List (ℕ × ℕ)) (e : ℕ × ℕ) → slice_get es i ≡ Some e → (leb o e.0 && ltb e.0 (o + n)) ≡ true
+    → out ++ part o n (drop i es) ≡ part o n es → length (part o n es) ≤ m → length out < m
+part_room o n i m es out e found taken told few =
+    let whole : length out + length (part o n (drop i es)) ≡ length (part o n es) = sym (length-append out (part o n (drop i es))) ∙ ap length told in
+    let more : length (part o n (drop i es)) ≡ suc (length (part o n (drop (i + 1) es))) = ap length (part-at o n i es e found ∙ cond-true _ _ _ taken) in
+    omega arith
+
+-- a list that begins with an element is not empty
+not-empty : (xs ys : List (ℕ × ℕ)) (x : ℕ × ℕ) → xs ≡ x ∷ ys → xs ≢ []
+not-empty xs ys x is none = let e : x ∷ ys ≡ [] = sym is ∙ none in cc
+
+-- a search that has passed over entries of other cells alone finds one, or passes over one more, or has come to the end
+pub found-taken : (o n i : ℕ) (es : List (ℕ × ℕ)) (e : ℕ × ℕ) → slice_get es i ≡ Some e → (leb o e.0 && ltb e.0 (o + n)) ≡ true
+    → part o n (drop i es) ≡ part o n es → part o n es ≢ []
+found-taken o n i es e found taken so_far =
+    not-empty (part o n es) (part o n (drop (i + 1) es)) (e.0 - o, e.1) (sym so_far ∙ part-at o n i es e found ∙ cond-true _ _ _ taken)
+
+pub found-left : (o n i : ℕ) (es : List (ℕ × ℕ)) (e : ℕ × ℕ) → slice_get es i ≡ Some e → (leb o e.0 && ltb e.0 (o + n)) ≡ false
+    → part o n (drop i es) ≡ part o n es → part o n (drop (i + 1) es) ≡ part o n es
+found-left o n i es e found left so_far = sym (part-at o n i es e found ∙ cond-false _ _ _ left) ∙ so_far
+
+pub found-none : (o n i : ℕ) (es : List (ℕ × ℕ)) → length es ≤ i → part o n (drop i es) ≡ part o n es → part o n es ≡ []
+found-none o n i es over so_far = sym so_far ∙ ap (part o n) (drop_all i es over)
+
+-- the loop that puts entries back puts one of the row, or passes over another, or has come to the end
+pub put-taken : (o n i : ℕ) (es : List (ℕ × ℕ)) (e : ℕ × ℕ) (cells next whole : List ℕ) → slice_get es i ≡ Some e → (leb o e.0 && ltb e.0 (o + n)) ≡ true
+    → next ≡ apply_diff cells ((e.0 - o, e.1) ∷ []) → apply_diff cells (part o n (drop i es)) ≡ whole → apply_diff next (part o n (drop (i + 1) es)) ≡ whole
+put-taken o n i es e cells next whole found taken is so_far =
+    ap (λ (row : List ℕ). apply_diff row (part o n (drop (i + 1) es))) is
+    ∙ sym (ap (apply_diff cells) (part-at o n i es e found ∙ cond-true _ _ _ taken)) ∙ so_far
+
+pub put-left : (o n i : ℕ) (es : List (ℕ × ℕ)) (e : ℕ × ℕ) (cells whole : List ℕ) → slice_get es i ≡ Some e → (leb o e.0 && ltb e.0 (o + n)) ≡ false
+    → apply_diff cells (part o n (drop i es)) ≡ whole → apply_diff cells (part o n (drop (i + 1) es)) ≡ whole
+put-left o n i es e cells whole found left so_far = sym (ap (apply_diff cells) (part-at o n i es e found ∙ cond-false _ _ _ left)) ∙ so_far
+
+pub put-all : (o n i : ℕ) (es : List (ℕ × ℕ)) (cells whole : List ℕ) → length es ≤ i → apply_diff cells (part o n (drop i es)) ≡ whole → cells ≡ whole
+put-all o n i es cells whole over so_far = ap (λ (fs : List (ℕ × ℕ)). apply_diff cells (part o n fs)) (sym (drop_all i es over)) ∙ so_far
+
+-- an entry of the row names a cell of it
+pub one-within : (o n : ℕ) (e : ℕ × ℕ) → (leb o e.0 && ltb e.0 (o + n)) ≡ true → AreWithin n ((e.0 - o, e.1) ∷ [])
+one-within o n e taken = subst (λ (es : List (ℕ × ℕ)). AreWithin n es) (cond-true _ _ _ taken) (AreWithin-part o n (e ∷ []))

@@ -1,0 +1,68 @@
+//! The entries of one row of cells in a record: told, collected, put back.
+ghost use Rattle.std.specs.Prelude.{◌≡◌, ◌≢◌, ℕ, ◌+◌, ◌≤◌, ◌&&◌, nat_le, nat_lt, true, false, [], List, length};
+ghost use Rattle.tsb_cells.specs.Diff.{apply_diff, part};
+
+use arrayvec::ArrayVec;
+use tsb_cells::{Diff, Reversible};
+use tsb_history::Record;
+
+/// Whether it is one of the `count` cells from `offset` on.
+fn is_one_of(cell: u16, offset: u16, count: usize) -> bool
+    requires { offset + count ≤ 65536 }
+    ensures value { result ≡ (nat_le offset cell && nat_lt cell (offset + count)) }
+    ensures from { result ≡ true → offset ≤ cell }
+{
+    offset <= cell && (cell as usize) < offset as usize + count
+}
+
+/// Whether the record has an entry of one of the `count` cells from `offset` on.
+pub fn touches(change: &Record<'_>, offset: u16, count: usize) -> bool
+    requires { offset + count ≤ 65536 }
+    ensures untouched { result ≡ false → part offset count change.now.entries ≡ [] }
+    ensures touched { result ≡ true → part offset count change.now.entries ≢ [] }
+{
+    for i in 0..change.len() {
+        if let Some((cell, _)) = change.entry(i) {
+            if is_one_of(cell, offset, count) {
+                return true;
+            }
+        }
+    }
+    false
+}
+
+/// The record's entries of the `N` cells from `offset` on, numbered from 0.
+pub fn part_of<const N: usize>(change: &Record<'_>, offset: u16) -> Diff<N>
+    requires fits { offset + N ≤ 65536 }
+    requires few { length (part offset N change.now.entries) ≤ N }
+    ensures { result.items ≡ part offset N change.now.entries }
+{
+    let mut entries = ArrayVec::new();
+    for i in 0..change.len() {
+        if let Some((cell, old)) = change.entry(i) {
+            if is_one_of(cell, offset, N) {
+                entries.push((cell - offset, old));
+            }
+        }
+    }
+    entries
+}
+
+/// Puts back what the record says of a row whose `N` cells stand from `offset` on. The row has to be closed, and to take
+/// any values. It builds no list of the entries.
+pub fn undo_part<const N: usize, R: Reversible<N>>(row: &mut R, change: &Record<'_>, offset: u16)
+    requires indexed { N ≤ 65536 }
+    requires fits { offset + N ≤ 65536 }
+    requires closed { R.is_open row.old ≡ false }
+    requires free { (cells : List ℕ) → length cells ≡ N → R.allows cells }
+    ensures cells { R.cells row.new ≡ apply_diff (R.cells row.old) (part offset N change.now.entries) }
+    ensures closed { R.is_open row.new ≡ false }
+{
+    for i in 0..change.len() {
+        if let Some((cell, old)) = change.entry(i) {
+            if is_one_of(cell, offset, N) {
+                row.undo(&[(cell - offset, old)]);
+            }
+        }
+    }
+}
