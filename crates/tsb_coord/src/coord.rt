@@ -1,6 +1,7 @@
 //! Coordination over its cell.
 ghost use Rattle.std.specs.Prelude.{◌≡◌, ◌≢◌, ℕ, ◌+◌, ◌<◌, ◌≤◌, ◌^◌, ◌++◌, true, false, Some, None, IfSome, slice_index, length};
 ghost use Rattle.arrayvec.specs.ArrayVec.{array_vec_len};
+ghost use Rattle.tsb_types.specs.declared.limits.TheConstants.{TICKS};
 ghost use Rattle.tsb_cells.specs.Diff.{diff, shifted};
 ghost use Rattle.tsb_plan.specs.Parts.{is_used};
 ghost use Rattle.tsb_objects.specs.Checked.{checked_plan};
@@ -155,7 +156,7 @@ impl Coord {
     /// What coordination says in tick `now`, at most the last that there is.
     pub fn orders(&self, now: u32, plan: &Checked) -> Coordination
         requires by { IsBy (cells_of self.now) }
-        requires in_time { now ≤ 6000000 }
+        requires in_time { now ≤ TICKS }
         ensures orders { AreOrders now (checked_plan plan.now) (cells_of self.now) result }
     {
         match self.running(plan) {
@@ -174,7 +175,7 @@ impl Coord {
     /// the next tick, where `now` is at one. In free operation it is behind the last tick that there is.
     pub fn due(&self, now: u32, plan: &Checked) -> u32
         requires by { IsBy (cells_of self.now) }
-        requires in_time { now ≤ 6000000 }
+        requires in_time { now ≤ TICKS }
         ensures later { now < result }
         ensures quiet { KeepsOrders now (checked_plan plan.now) (cells_of self.now) result }
         ensures exact { IsExact now (checked_plan plan.now) (cells_of self.now) result }
@@ -192,7 +193,7 @@ impl Coord {
     /// goes on while the bench is tripped.
     pub fn local(&self, now: u32, plan: &Checked) -> Option<u32>
         requires by { IsBy (cells_of self.now) }
-        requires in_time { now ≤ 6000000 }
+        requires in_time { now ≤ TICKS }
         ensures { TellsLocal now (checked_plan plan.now) (cells_of self.now) result }
     {
         match self.running(plan) {
@@ -245,7 +246,7 @@ impl Reversible<CELLS> for Coord {
         self.bank.close()
     }
 
-    fn undo(&mut self, changes: &Diff<CELLS>) {
+    fn undo(&mut self, changes: &[(u16, u32)]) {
         self.bank.undo(changes)
     }
 }

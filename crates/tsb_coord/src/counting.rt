@@ -1,5 +1,6 @@
 //! The local counter.
 ghost use Rattle.std.specs.Prelude.{◌≡◌, ◌≤◌, ◌<◌, true};
+ghost use Rattle.tsb_types.specs.declared.limits.TheConstants.{TICKS};
 ghost use Rattle.tsb_plan.specs.Parts.{cycle, is_used};
 ghost use Rattle.tsb_objects.specs.Checked.{checked_plan};
 ghost use Rattle.tsb_coord.specs.Coordinated.{counter};
@@ -23,7 +24,7 @@ pub(crate) fn cycle_of(plan: &Checked, n: Pattern) -> u32
 #[inline(always)]
 pub(crate) fn counter(plan: &Checked, n: Pattern, now: u32) -> u32
     requires used { is_used (checked_plan plan.now) n ≡ true }
-    requires in_time { now ≤ 6000000 }
+    requires in_time { now ≤ TICKS }
     ensures value { result ≡ counter (checked_plan plan.now) n now }
     ensures below { result < cycle (checked_plan plan.now) n }
 {
