@@ -20,7 +20,7 @@ COMMENT = re.compile(r"`(\w+)`: (.+?), (.+); 0 to ([\d,]+)\.")
 ROW = re.compile(r'\s+(\w+) +"(\w+)" +\d+ \[(\d+) (\d+)\] +\[(?:(absent)|(\d+) (\d+))\] +(structural|free)')
 
 # How the names of objects begin, in the order in which the manual has them.
-STARTS = ["phase", "vehicleDetector", "pedestrianDetector", "overlap", "pattern", "split", "sequence", "preempt", "unit"]
+STARTS = ["phase", "vehicle", "pedestrian", "overlap", "pattern", "split", "sequence", "preempt", "unit"]
 
 
 def comments(source):
@@ -67,14 +67,14 @@ def objects():
     return found
 
 
-def meanings(text):
+def meanings(table):
     """The last cell of each row of a table, by the name in the first."""
-    return {row[1]: row[2] for row in re.finditer(r"^\| `(\w+)` \|.*\| ([^|]+) \|$", text, re.M)}
+    return {row[1]: row[2] for row in re.finditer(r"^\| `(\w+)` \|.*\| ([^|]+) \|$", table, re.M)}
 
 
 def place(name):
     """Where the manual has an object, among those that begin otherwise."""
-    return next(at for at, start in enumerate(STARTS) if name.startswith(start))
+    return next((at for at, start in enumerate(STARTS) if name.startswith(start)), len(STARTS))
 
 
 def spelled(found, meant):
@@ -147,7 +147,7 @@ def main(words):
     table, behind = rest.split(END)
     meant = meanings(table)
     found = objects()
-    new = "\n" + spelled(dict(found), meant)
+    new = "\n" + spelled(found, meant)
     wrong = [f"no meaning: {name}" for name in found if meant.get(name, "?") == "?"]
     wrong += [f"no object of the source: {name}" for name in meant if name not in found]
     if words == ["--check"]:
