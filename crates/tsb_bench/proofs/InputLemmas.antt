@@ -13,6 +13,7 @@ use Rattle.tsb_transact.specs.Cells as desk_cells
 use Rattle.tsb_transact.specs.Cells.{desk_in}
 use Rattle.tsb_transact.specs.Desk.{Desk}
 use Rattle.tsb_step.specs.Cells.{clock_at}
+use Rattle.tsb_step.specs.Good.{IsGood}
 use Rattle.tsb_step.specs.MonitorCells.{lamp_in, trip_in}
 use Rattle.tsb_step.specs.MonitorLaws.{IsMonitorBy}
 use Rattle.tsb_step.specs.State.{State, Tripped}
@@ -112,6 +113,17 @@ untripped-by now (Some t) r none by = absurd cc
 pub none-of : {A : Type 0} (o : Option A) → is_some o ≡ false → o ≡ None
 none-of None h = refl
 none-of (Some x) h = absurd cc
+
+-- what holds of every run holds of a controller that has not tripped, as its tick asks
+pub good-here : (now : ℕ) (a : All) (lamp : Option Lamp) (layers : Rows) → is_some (trip_in a.monitor) ≡ false → lamp ≡ lamp_in a.monitor → layers ≡ a.layers →
+    IsGood (all_in now a) → IsGood (state_of (now + 1 - 1) (untripped (plan_in a.plan) (desk_in a.desk) lamp) layers)
+good-here now a lamp layers calm lit same good =
+    let back : now ≡ now + 1 - 1 = omega arith in
+    subst (λ (n : ℕ). IsGood (state_of n (untripped (plan_in a.plan) (desk_in a.desk) lamp) layers)) back
+    (subst (λ (l : Option Lamp). IsGood (state_of now (untripped (plan_in a.plan) (desk_in a.desk) l) layers)) (sym lit)
+    (subst (λ (r : Rows). IsGood (state_of now (untripped (plan_in a.plan) (desk_in a.desk) (lamp_in a.monitor)) r)) (sym same)
+    (subst (λ (t : Option Tripped). IsGood (state_of now (record { plan = plan_in a.plan; desk = desk_in a.desk; lamp = lamp_in a.monitor; trip = t }) a.layers))
+    (none-of (trip_in a.monitor) calm) good)))
 
 pub some-none : {A : Type 0} (o : Option A) → is_some o ≡ true → o ≡ None → ⊥
 some-none None h e = absurd cc

@@ -192,12 +192,22 @@ fn undo_plan(plan: &mut Checked, change: &Record<'_>)
     ensures { plan.new.plan.values ≡ apply_diff plan.old.plan.values (part 0 PLAN_CELLS change.now.entries) }
 {
     if touches(change, 0, PLAN_CELLS) {
-        *plan = Checked::known(put_back(plan.plan(), change));
+        put_back_plan(plan, change);
     }
 }
 
+/// Makes the plan that it was, with its tables. It stands by itself as few records have a plan's cells, and its room on
+/// the stack takes long to clear.
+#[inline(never)]
+fn put_back_plan(plan: &mut Checked, change: &Record<'_>)
+    requires ranged { AreInRange (apply_diff plan.old.plan.values (part 0 PLAN_CELLS change.now.entries)) }
+    requires passed { first_broken (plan_in (apply_diff plan.old.plan.values (part 0 PLAN_CELLS change.now.entries))) ≡ None }
+    ensures { plan.new.plan.values ≡ apply_diff plan.old.plan.values (part 0 PLAN_CELLS change.now.entries) }
+{
+    *plan = Checked::known(put_back(plan.plan(), change));
+}
+
 /// Puts back what a record tells of the desk.
-#[tactic(auto, using(crate::proofs::PartLemmas::parts))]
 fn undo_desk(desk: &mut Desk, change: &Record<'_>)
     requires shut { is_open desk.old ≡ false }
     requires few { HasFew change.now.entries }
@@ -206,9 +216,22 @@ fn undo_desk(desk: &mut Desk, change: &Record<'_>)
     ensures shut { is_open desk.new ≡ false }
 {
     if touches(change, DESK, tsb_transact::CELLS) {
-        let entries: Diff<{ tsb_transact::CELLS }> = part_of(change, DESK);
-        desk.undo(entries.as_slice());
+        put_back_desk(desk, change);
     }
+}
+
+/// Makes the desk that it was, by itself for the same reason.
+#[inline(never)]
+#[tactic(auto, using(crate::proofs::PartLemmas::parts))]
+fn put_back_desk(desk: &mut Desk, change: &Record<'_>)
+    requires shut { is_open desk.old ≡ false }
+    requires few { HasFew change.now.entries }
+    requires row { IsRow (apply_diff (cells_of desk.old) (part DESK 132 change.now.entries)) }
+    ensures cells { cells_of desk.new ≡ apply_diff (cells_of desk.old) (part DESK 132 change.now.entries) }
+    ensures shut { is_open desk.new ≡ false }
+{
+    let entries: Diff<{ tsb_transact::CELLS }> = part_of(change, DESK);
+    desk.undo(entries.as_slice());
 }
 
 /// Why a tick is refused at tick number `tick`.

@@ -3,6 +3,7 @@
 
 ghost use Rattle.std.specs.Prelude.{◌≡◌, ℕ, ◌+◌, ◌≤◌, [], None, true, is_some, IfSome};
 ghost use Rattle.arrayvec.specs.ArrayVec.{array_vec_len};
+ghost use Rattle.tsb_step.specs.Good.{IsGood};
 ghost use Rattle.tsb_step.specs.Step.{verdict, last_tick};
 ghost use Rattle.tsb_step.specs.declared.inputs.Input.TheVariants as inputs;
 ghost use Rattle.tsb_plan.specs.PlanOf.{plan_in};
@@ -24,6 +25,7 @@ impl Cabinet {
     pub(crate) fn tick(&mut self, tick: u32, row: &Row, out: &mut Changes)
         requires shut { IsShut self.old }
         requires by { AreAllBy tick (rows_of self.old) }
+        requires good { IsGood (all_in tick (rows_of self.old)) }
         requires allowed { verdict (all_in tick (rows_of self.old)) (inputs.Tick row.now) ≡ None }
         requires empty { out.old.items ≡ [] }
         ensures done { IsDone (inputs.Tick row.now) tick (rows_of self.old) (rows_of self.new) out.new.items }

@@ -14,8 +14,10 @@ use Rattle.tsb_heads.specs.Promises.{IsSame, IsLaidOver, IsJudged}
 use Rattle.tsb_heads.specs.Reading.{shown_by, commitment_of, heads_of, heads_of_field}
 use Rattle.tsb_heads.proofs.OwnLemmas.{displays-own, fields-told, judge-same, same-both}
 use Rattle.tsb_transact.specs.Desk.{Desk}
+use Rattle.tsb_step.specs.Good.{IsGood}
 use Rattle.tsb_step.specs.Signs.{display, field, shown, watched}
 use Rattle.tsb_step.specs.State.{State}
+use Rattle.tsb_step.proofs.UnlitLemmas.{unlit_tick}
 use Rattle.tsb_controller.specs.Promises.{ShowsDisplay, ShowsField, IsTicked, IsWatchedTick, IsLit, tripping}
 use Rattle.tsb_controller.specs.Rows.{Rows, Beside, untripped, state_of}
 use Rattle.tsb_controller.specs.Shown.{IsShown}
@@ -85,3 +87,10 @@ pub lit : (was lamp : Option Lamp) (plan : Plan) (rows : Rows) (f g : Field) (fo
 lit was lamp plan rows f g found count before after is now desk =
     watched-now now found plan desk lamp rows (state_of now (untripped plan desk was) rows)
     (judged plan f g (field (state_of now (untripped plan desk was) rows)) (field (state_of now (untripped plan desk lamp) rows)) found count (before now desk) (after now desk) is)
+
+-- while no lamp is lit the monitor finds nothing at a tick, whatever is at the desk
+pub unlit : (now : ℕ) (row : Row) (plan : Plan) (lamp : Option Lamp) (old new : Rows) → is_some lamp ≡ false →
+    (desk : Desk) × IsGood (state_of (now - 1) (untripped plan desk lamp) old) → IsTicked now row plan old new → IsWatchedTick now row lamp plan old new None
+unlit now row plan None old new dark good ticks = λ desk.
+    ticks desk None ∙ sym (unlit_tick (state_of (now - 1) (untripped plan desk None) old) row good.0 good.1 refl refl)
+unlit now row plan (Some lamp) old new dark good ticks = absurd cc

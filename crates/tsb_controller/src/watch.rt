@@ -4,8 +4,10 @@ ghost use Rattle.tsb_objects.specs.Checked.{checked_plan};
 ghost use Rattle.tsb_ring.specs.Cells as rings;
 ghost use Rattle.tsb_heads.specs.Promises.{Flashes, AreApart};
 ghost use Rattle.tsb_step.specs.MonitorLaws.{IsCause};
+ghost use Rattle.tsb_transact.specs.Desk.{Desk};
+ghost use Rattle.tsb_step.specs.Good.{IsGood};
 ghost use Rattle.tsb_step.specs.Step.{last_tick};
-ghost use Rattle.tsb_controller.specs.Rows.{AreBy};
+ghost use Rattle.tsb_controller.specs.Rows.{AreBy, state_of, untripped};
 ghost use Rattle.tsb_controller.specs.Shown.{IsShown};
 ghost use Rattle.tsb_controller.specs.Promises.{ShowsDisplay, ShowsField, IsWatchedTick, IsLit};
 
@@ -50,7 +52,8 @@ impl Controller {
     }
 
     /// Tick `now` of a controller that has not tripped, with what the monitor finds, which compares what the lamps
-    /// showed before with what they show then: why the controller trips, if it does.
+    /// showed before with what they show then: why the controller trips, if it does. While no lamp is lit it finds
+    /// nothing, so that the heads need not be compared.
     pub fn watched_tick(
         &mut self,
         now: u32,
@@ -62,12 +65,17 @@ impl Controller {
         requires begun { 1 ≤ now }
         requires in_time { now ≤ last_tick }
         requires by { AreBy (now - 1) (rows_of self.old) }
+        requires good { (desk : Desk) × IsGood (state_of (now - 1) (untripped (checked_plan plan.now) desk lamp.now) (rows_of self.old)) }
         ensures state { IsWatchedTick now row.now lamp.now (checked_plan plan.now) (rows_of self.old) (rows_of self.new) result }
         ensures cause { IfSome result IsCause }
         ensures by { AreBy now (rows_of self.new) }
         ensures kept { kept_of self.new ≡ kept_of self.old }
         ensures opened { IsOpen self.new }
     {
+        if lamp.is_none() {
+            self.tick(now, row, plan);
+            return None;
+        }
         let before = self.field(lamp, plan);
         self.tick(now, row, plan);
         Monitor::judge(&before, &self.field(lamp, plan), plan)

@@ -7,6 +7,7 @@ use Rattle.tsb_cells.proofs.DiffLemmas.{diff-same}
 use Rattle.tsb_objects.specs.Checked.{checked_plan}
 use Rattle.tsb_plan.specs.PlanOf.{plan_of}
 use Rattle.tsb_heads.specs.declared.monitor.Trip.{Trip}
+use Rattle.tsb_transact.specs.Cells.{desk_in}
 use Rattle.tsb_step.specs.MonitorCells.{lamp_in, trip_in}
 use Rattle.tsb_step.specs.declared.inputs.Input.TheVariants as inputs
 use Rattle.tsb_step.proofs.MonitorLemmas as monitor
@@ -15,7 +16,7 @@ use Rattle.tsb_controller.specs.Promises.{IsWatchedTick}
 use Rattle.tsb_controller.specs.Records.{changes}
 use Rattle.tsb_controller.specs.Rows.{AreBy}
 use Rattle.tsb_bench.specs.Cabinet.{rows_of, IsDone}
-use Rattle.tsb_bench.proofs.InputLemmas.{tick-tripped, tick-done, below-limit, untripped-by, none-of, some-none, trips-some, tripped-now, changes-told, watched-rows}
+use Rattle.tsb_bench.proofs.InputLemmas.{tick-tripped, tick-done, below-limit, untripped-by, good-here, none-of, some-none, trips-some, tripped-now, changes-told, watched-rows}
 use Rattle.tsb_bench.proofs.cabinet.Cabinet.tick.Goals as goal
 
 pub returns-then-is_tripped-clause-done : goal.returns-then-is_tripped-clause-done
@@ -33,6 +34,13 @@ pub watched_tick-found-requires-clause-by : goal.watched_tick-found-requires-cla
 watched_tick-found-requires-clause-by c =
     subst (AreBy _) (sym c.open.ensures.rows)
     (untripped-by c.args.tick (trip_in (rows_of c.args.self.now).monitor) (rows_of c.args.self.now).layers (sym c.is_tripped.ensures ∙ c.if-is_tripped.false) c.requires.by.layers)
+
+pub watched_tick-found-requires-clause-good : goal.watched_tick-found-requires-clause-good
+unfolding checked_plan plan_of
+watched_tick-found-requires-clause-good c = (
+  desk_in (rows_of c.args.self.now).desk,
+  good-here c.args.tick (rows_of c.args.self.now) c.lamp-lamp.result (layers.rows_of c.open.new.self) (sym c.is_tripped.ensures ∙ c.if-is_tripped.false) c.lamp-lamp.ensures c.open.ensures.rows c.requires.good,
+)
 
 pub overflow_add-tick-then-is_some : goal.overflow_add-tick-then-is_some
 overflow_add-tick-then-is_some c = let below : c.args.tick + 1 ≤ 6000000 = below-limit c.args.tick (rows_of c.args.self.now) c.args.row.now c.requires.allowed in omega (arith, below)

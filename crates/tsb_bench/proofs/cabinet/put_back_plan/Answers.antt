@@ -5,7 +5,7 @@ use Rattle.tsb_plan.specs.Objects.{AreInRange}
 use Rattle.tsb_plan.specs.PlanOf.{plan_of, plan_in}
 use Rattle.tsb_rules.specs.Rules.{first_broken}
 use Rattle.tsb_bench.proofs.ValueLemmas.{values-of}
-use Rattle.tsb_bench.proofs.cabinet.undo_plan.Goals as goal
+use Rattle.tsb_bench.proofs.cabinet.put_back_plan.Goals as goal
 
 pub put_back-requires : goal.put_back-requires
 unfolding checked_plan
@@ -19,8 +19,8 @@ known-requires c =
     (c.put_back.ensures ∙ ap (λ (v : List ℕ). apply_diff v (part 0 1230 c.args.change.now.entries)) (values-of c.plan.result.now c.args.plan.now.plan c.plan.ensures.plan))
     ∙ c.requires.passed
 
-pub returns-then-touches : goal.returns-then-touches
+pub returns : goal.returns
 unfolding checked_plan
-returns-then-touches c =
+returns c =
     values-of c.known.result.plan c.put_back.result c.known.ensures ∙ c.put_back.ensures
     ∙ ap (λ (v : List ℕ). apply_diff v (part 0 1230 c.args.change.now.entries)) (values-of c.plan.result.now c.args.plan.now.plan c.plan.ensures.plan)
