@@ -5,6 +5,7 @@ use Rattle.tsb_cells.proofs.DiffLemmas.{AreWithin-diff, apply_diff-diff, diff-sa
 use Rattle.tsb_detect.proofs.ToldLemmas.{detectors-later}
 use Rattle.tsb_phase.proofs.ReadLemmas as phases
 use Rattle.tsb_preempt.proofs.ReadLemmas as preempts
+use Rattle.tsb_controller.specs.declared.first_cell.TheConstants.{DESK, DETECTORS, CALLS, PHASES, RINGS, COORD, PREEMPTS, MONITOR, ALL_CELLS}
 use Rattle.tsb_controller.specs.Records.{changes}
 use Rattle.tsb_controller.specs.Rows.{Rows}
 use Rattle.tsb_controller.specs.Whole.{All, AreAllBy, whole, all_changes, all_put_back, RowsGoBack, EntriesAreWithin, ChangesAreFew, RowsStay, NothingDiffers, ChangesOfTheLayers, ChangesOfTheDesk, ChangesOfACommit}
@@ -18,8 +19,8 @@ differs m n old new by by_new = whole-differs old new (full m old by) (full n ne
 
 pub entries-within : EntriesAreWithin
 entries-within m n old new by by_new =
-    let long : length (whole old) ≡ 1579 = whole-full old (full m old by) in
-    subst (λ (es : List (ℕ × ℕ)). AreWithin 1579 es) (differs m n old new by by_new) (AreWithin-diff 1579 (whole old) (whole new) (omega (arith, long)))
+    let long : length (whole old) ≡ ALL_CELLS = whole-full old (full m old by) in
+    subst (λ (es : List (ℕ × ℕ)). AreWithin ALL_CELLS es) (differs m n old new by by_new) (AreWithin-diff ALL_CELLS (whole old) (whole new) (omega (arith, long)))
 
 pub changes-few : ChangesAreFew
 changes-few m n old new by by_new offset k =
@@ -56,30 +57,30 @@ joined es fs = es ++ fs
 layers-none : (r s : Rows) → r ≡ s → changes r s ≡ []
 unfolding joined
 layers-none r s same =
-    ap₂ joined (shifted-none 1362 _ _ (ap (λ (x : Rows). x.detectors) same))
-    (ap₂ joined (shifted-none 1416 _ _ (ap (λ (x : Rows). x.calls) same))
-    (ap₂ joined (shifted-none 1434 _ _ (ap (λ (x : Rows). x.phases) same))
-    (ap₂ joined (shifted-none 1555 _ _ (ap (λ (x : Rows). x.rings) same))
-    (ap₂ joined (shifted-none 1561 _ _ (ap (λ (x : Rows). x.pattern) same))
-    (shifted-none 1562 _ _ (ap (λ (x : Rows). x.preempts) same))))))
+    ap₂ joined (shifted-none DETECTORS _ _ (ap (λ (x : Rows). x.detectors) same))
+    (ap₂ joined (shifted-none CALLS _ _ (ap (λ (x : Rows). x.calls) same))
+    (ap₂ joined (shifted-none PHASES _ _ (ap (λ (x : Rows). x.phases) same))
+    (ap₂ joined (shifted-none RINGS _ _ (ap (λ (x : Rows). x.rings) same))
+    (ap₂ joined (shifted-none COORD _ _ (ap (λ (x : Rows). x.pattern) same))
+    (shifted-none PREEMPTS _ _ (ap (λ (x : Rows). x.preempts) same))))))
 
 pub changes-layers : ChangesOfTheLayers
 changes-layers a b plan desk =
-    let rest : List (ℕ × ℕ) = changes a.layers b.layers ++ shifted 1572 (diff a.monitor b.monitor) in
-    ap₂ (λ (es fs : List (ℕ × ℕ)). es ++ (fs ++ rest)) (same-none a.plan b.plan plan) (shifted-none 1230 a.desk b.desk desk)
+    let rest : List (ℕ × ℕ) = changes a.layers b.layers ++ shifted MONITOR (diff a.monitor b.monitor) in
+    ap₂ (λ (es fs : List (ℕ × ℕ)). es ++ (fs ++ rest)) (same-none a.plan b.plan plan) (shifted-none DESK a.desk b.desk desk)
 
 pub changes-desk : ChangesOfTheDesk
 unfolding joined
 changes-desk a b plan layers monitor =
-    let edits : List (ℕ × ℕ) = shifted 1230 (diff a.desk b.desk) in
+    let edits : List (ℕ × ℕ) = shifted DESK (diff a.desk b.desk) in
     ap₂ (λ (es fs : List (ℕ × ℕ)). es ++ (edits ++ fs)) (same-none a.plan b.plan plan)
-    (ap₂ joined (layers-none a.layers b.layers layers) (shifted-none 1572 a.monitor b.monitor monitor))
+    (ap₂ joined (layers-none a.layers b.layers layers) (shifted-none MONITOR a.monitor b.monitor monitor))
     ∙ append-nil edits
 
 pub changes-commit : ChangesOfACommit
 changes-commit a b monitor =
-    ap (λ (es : List (ℕ × ℕ)). diff a.plan b.plan ++ (shifted 1230 (diff a.desk b.desk) ++ (changes a.layers b.layers ++ es))) (shifted-none 1572 a.monitor b.monitor monitor)
-    ∙ ap (λ (es : List (ℕ × ℕ)). diff a.plan b.plan ++ (shifted 1230 (diff a.desk b.desk) ++ es)) (append-nil (changes a.layers b.layers))
+    ap (λ (es : List (ℕ × ℕ)). diff a.plan b.plan ++ (shifted DESK (diff a.desk b.desk) ++ (changes a.layers b.layers ++ es))) (shifted-none MONITOR a.monitor b.monitor monitor)
+    ∙ ap (λ (es : List (ℕ × ℕ)). diff a.plan b.plan ++ (shifted DESK (diff a.desk b.desk) ++ es)) (append-nil (changes a.layers b.layers))
 
 pub nothing-differs : NothingDiffers
-nothing-differs a = changes-desk a a refl refl refl ∙ shifted-none 1230 a.desk a.desk refl
+nothing-differs a = changes-desk a a refl refl refl ∙ shifted-none DESK a.desk a.desk refl

@@ -26,6 +26,16 @@ use Rattle.tsb_step.specs.MonitorCells.{lamp_in, trip_in}
 use Rattle.tsb_step.specs.Past.{ticks_of}
 use Rattle.tsb_step.specs.Step.{kind_of}
 use Rattle.tsb_step.proofs.MonitorLemmas as monitor
+use Rattle.tsb_plan.specs.declared.object.TheConstants.{PLAN_CELLS}
+use Rattle.tsb_transact.specs.declared.TheConstants.{CELLS as DESK_CELLS}
+use Rattle.tsb_detect.specs.declared.TheConstants.{CELLS as DETECTOR_CELLS}
+use Rattle.tsb_calls.specs.declared.TheConstants.{CELLS as CALL_CELLS}
+use Rattle.tsb_phase.specs.declared.TheConstants.{CELLS as PHASE_CELLS}
+use Rattle.tsb_ring.specs.declared.TheConstants.{CELLS as RING_CELLS}
+use Rattle.tsb_coord.specs.declared.TheConstants.{CELLS as PATTERN_CELLS}
+use Rattle.tsb_preempt.specs.declared.TheConstants.{CELLS as PREEMPT_CELLS}
+use Rattle.tsb_step.specs.declared.TheConstants.{MONITOR_CELLS}
+use Rattle.tsb_controller.specs.declared.first_cell.TheConstants.{DESK, DETECTORS, CALLS, PHASES, RINGS, COORD, PREEMPTS, MONITOR, ALL_CELLS}
 use Rattle.tsb_controller.specs.Whole.{All, AreFull, AreAllBy, whole, all_in, all_changes, all_put_back, RowsAreTold, RecordsAreJoined, RecordsGoBack, RecordsGiveBack, RecordsAreFew}
 use Rattle.tsb_controller.proofs.FewLemmas.{few}
 use Rattle.tsb_plan.proofs.ToldLemmas.{plan_cells-plan_in}
@@ -87,24 +97,24 @@ layers-behind a b c d e f g = simp (append_assoc)
 
 pub whole-differs : (a b : All) → AreFull a → AreFull b → diff (whole a) (whole b) ≡ all_changes a b
 whole-differs a b long also =
-    first 1230 a.plan b.plan _ _ long.plan also.plan
+    first PLAN_CELLS a.plan b.plan _ _ long.plan also.plan
     ∙ ap (λ (es : List (ℕ × ℕ)). diff a.plan b.plan ++ es)
-    (beside 1230 132 a.desk b.desk _ _ long.desk also.desk
-    ∙ ap (λ (es : List (ℕ × ℕ)). shifted 1230 (diff a.desk b.desk) ++ es)
-    (beside 1362 54 a.layers.detectors b.layers.detectors _ _ long.detectors also.detectors
-    ∙ ap (λ (es : List (ℕ × ℕ)). shifted 1362 (diff a.layers.detectors b.layers.detectors) ++ es)
-    (beside 1416 18 a.layers.calls b.layers.calls _ _ long.calls also.calls
-    ∙ ap (λ (es : List (ℕ × ℕ)). shifted 1416 (diff a.layers.calls b.layers.calls) ++ es)
-    (beside 1434 121 a.layers.phases b.layers.phases _ _ long.phases also.phases
-    ∙ ap (λ (es : List (ℕ × ℕ)). shifted 1434 (diff a.layers.phases b.layers.phases) ++ es)
-    (beside 1555 6 a.layers.rings b.layers.rings _ _ long.rings also.rings
-    ∙ ap (λ (es : List (ℕ × ℕ)). shifted 1555 (diff a.layers.rings b.layers.rings) ++ es)
-    (beside 1561 1 a.layers.pattern b.layers.pattern _ _ long.pattern also.pattern
-    ∙ ap (λ (es : List (ℕ × ℕ)). shifted 1561 (diff a.layers.pattern b.layers.pattern) ++ es)
-    (beside 1562 10 a.layers.preempts b.layers.preempts a.monitor b.monitor long.preempts also.preempts
-    ∙ ap (λ (es : List (ℕ × ℕ)). shifted 1562 (diff a.layers.preempts b.layers.preempts) ++ es) (diff_from-shifted 1572 a.monitor b.monitor))))))
-    ∙ layers-behind (shifted 1362 (diff a.layers.detectors b.layers.detectors)) (shifted 1416 (diff a.layers.calls b.layers.calls)) (shifted 1434 (diff a.layers.phases b.layers.phases)) (shifted 1555 (diff a.layers.rings b.layers.rings)) (shifted 1561 (diff a.layers.pattern b.layers.pattern)) (shifted 1562 (diff a.layers.preempts b.layers.preempts))
-    (shifted 1572 (diff a.monitor b.monitor))))
+    (beside DESK DESK_CELLS a.desk b.desk _ _ long.desk also.desk
+    ∙ ap (λ (es : List (ℕ × ℕ)). shifted DESK (diff a.desk b.desk) ++ es)
+    (beside DETECTORS DETECTOR_CELLS a.layers.detectors b.layers.detectors _ _ long.detectors also.detectors
+    ∙ ap (λ (es : List (ℕ × ℕ)). shifted DETECTORS (diff a.layers.detectors b.layers.detectors) ++ es)
+    (beside CALLS CALL_CELLS a.layers.calls b.layers.calls _ _ long.calls also.calls
+    ∙ ap (λ (es : List (ℕ × ℕ)). shifted CALLS (diff a.layers.calls b.layers.calls) ++ es)
+    (beside PHASES PHASE_CELLS a.layers.phases b.layers.phases _ _ long.phases also.phases
+    ∙ ap (λ (es : List (ℕ × ℕ)). shifted PHASES (diff a.layers.phases b.layers.phases) ++ es)
+    (beside RINGS RING_CELLS a.layers.rings b.layers.rings _ _ long.rings also.rings
+    ∙ ap (λ (es : List (ℕ × ℕ)). shifted RINGS (diff a.layers.rings b.layers.rings) ++ es)
+    (beside COORD PATTERN_CELLS a.layers.pattern b.layers.pattern _ _ long.pattern also.pattern
+    ∙ ap (λ (es : List (ℕ × ℕ)). shifted COORD (diff a.layers.pattern b.layers.pattern) ++ es)
+    (beside PREEMPTS PREEMPT_CELLS a.layers.preempts b.layers.preempts a.monitor b.monitor long.preempts also.preempts
+    ∙ ap (λ (es : List (ℕ × ℕ)). shifted PREEMPTS (diff a.layers.preempts b.layers.preempts) ++ es) (diff_from-shifted MONITOR a.monitor b.monitor))))))
+    ∙ layers-behind (shifted DETECTORS (diff a.layers.detectors b.layers.detectors)) (shifted CALLS (diff a.layers.calls b.layers.calls)) (shifted PHASES (diff a.layers.phases b.layers.phases)) (shifted RINGS (diff a.layers.rings b.layers.rings)) (shifted COORD (diff a.layers.pattern b.layers.pattern)) (shifted PREEMPTS (diff a.layers.preempts b.layers.preempts))
+    (shifted MONITOR (diff a.monitor b.monitor))))
 
 pub records-joined : desk.RowsAreTold → RecordsAreJoined
 records-joined desk_told i m n old new by by_new =
@@ -129,45 +139,45 @@ parts k m n xs ys es long also =
 behind : (m n : ℕ) (xs ys : List ℕ) → length xs ≡ m → length ys ≡ n → length (xs ++ ys) ≡ m + n
 behind m n xs ys long also = length-append xs ys ∙ ap₂ (λ (x y : ℕ). x + y) long also
 
-pub whole-back : (a : All) (es : List (ℕ × ℕ)) → AreFull a → AreWithin 1579 es → apply_diff (whole a) es ≡ whole (all_put_back a es)
+pub whole-back : (a : All) (es : List (ℕ × ℕ)) → AreFull a → AreWithin ALL_CELLS es → apply_diff (whole a) es ≡ whole (all_put_back a es)
 whole-back a es long within =
-    ap (apply_diff (whole a)) (sym (part-own 1579 es within))
-    ∙ parts 0 1230 349 a.plan _ es long.plan l1
-    ∙ ap (λ (xs : List ℕ). apply_diff a.plan (part 0 1230 es) ++ xs)
-    (parts 1230 132 217 a.desk _ es long.desk l2
-    ∙ ap (λ (xs : List ℕ). apply_diff a.desk (part 1230 132 es) ++ xs)
-    (parts 1362 54 163 a.layers.detectors _ es long.detectors l3
-    ∙ ap (λ (xs : List ℕ). apply_diff a.layers.detectors (part 1362 54 es) ++ xs)
-    (parts 1416 18 145 a.layers.calls _ es long.calls l4
-    ∙ ap (λ (xs : List ℕ). apply_diff a.layers.calls (part 1416 18 es) ++ xs)
-    (parts 1434 121 24 a.layers.phases _ es long.phases l5
-    ∙ ap (λ (xs : List ℕ). apply_diff a.layers.phases (part 1434 121 es) ++ xs)
-    (parts 1555 6 18 a.layers.rings _ es long.rings l6
-    ∙ ap (λ (xs : List ℕ). apply_diff a.layers.rings (part 1555 6 es) ++ xs)
-    (parts 1561 1 17 a.layers.pattern _ es long.pattern l7
-    ∙ ap (λ (xs : List ℕ). apply_diff a.layers.pattern (part 1561 1 es) ++ xs)
-    (parts 1562 10 7 a.layers.preempts a.monitor es long.preempts long.monitor)))))))
+    ap (apply_diff (whole a)) (sym (part-own ALL_CELLS es within))
+    ∙ parts 0 PLAN_CELLS (ALL_CELLS - DESK) a.plan _ es long.plan l1
+    ∙ ap (λ (xs : List ℕ). apply_diff a.plan (part 0 PLAN_CELLS es) ++ xs)
+    (parts DESK DESK_CELLS (ALL_CELLS - DETECTORS) a.desk _ es long.desk l2
+    ∙ ap (λ (xs : List ℕ). apply_diff a.desk (part DESK DESK_CELLS es) ++ xs)
+    (parts DETECTORS DETECTOR_CELLS (ALL_CELLS - CALLS) a.layers.detectors _ es long.detectors l3
+    ∙ ap (λ (xs : List ℕ). apply_diff a.layers.detectors (part DETECTORS DETECTOR_CELLS es) ++ xs)
+    (parts CALLS CALL_CELLS (ALL_CELLS - PHASES) a.layers.calls _ es long.calls l4
+    ∙ ap (λ (xs : List ℕ). apply_diff a.layers.calls (part CALLS CALL_CELLS es) ++ xs)
+    (parts PHASES PHASE_CELLS (ALL_CELLS - RINGS) a.layers.phases _ es long.phases l5
+    ∙ ap (λ (xs : List ℕ). apply_diff a.layers.phases (part PHASES PHASE_CELLS es) ++ xs)
+    (parts RINGS RING_CELLS (ALL_CELLS - COORD) a.layers.rings _ es long.rings l6
+    ∙ ap (λ (xs : List ℕ). apply_diff a.layers.rings (part RINGS RING_CELLS es) ++ xs)
+    (parts COORD PATTERN_CELLS (ALL_CELLS - PREEMPTS) a.layers.pattern _ es long.pattern l7
+    ∙ ap (λ (xs : List ℕ). apply_diff a.layers.pattern (part COORD PATTERN_CELLS es) ++ xs)
+    (parts PREEMPTS PREEMPT_CELLS MONITOR_CELLS a.layers.preempts a.monitor es long.preempts long.monitor)))))))
   where
-    l7 : length (a.layers.preempts ++ a.monitor) ≡ 17
-    l7 = behind 10 7 a.layers.preempts a.monitor long.preempts long.monitor
+    l7 : length (a.layers.preempts ++ a.monitor) ≡ ALL_CELLS - PREEMPTS
+    l7 = behind PREEMPT_CELLS MONITOR_CELLS a.layers.preempts a.monitor long.preempts long.monitor
 
-    l6 : length (a.layers.pattern ++ (a.layers.preempts ++ a.monitor)) ≡ 18
-    l6 = behind 1 17 a.layers.pattern _ long.pattern l7
+    l6 : length (a.layers.pattern ++ (a.layers.preempts ++ a.monitor)) ≡ ALL_CELLS - COORD
+    l6 = behind PATTERN_CELLS (ALL_CELLS - PREEMPTS) a.layers.pattern _ long.pattern l7
 
-    l5 : length (a.layers.rings ++ (a.layers.pattern ++ (a.layers.preempts ++ a.monitor))) ≡ 24
-    l5 = behind 6 18 a.layers.rings _ long.rings l6
+    l5 : length (a.layers.rings ++ (a.layers.pattern ++ (a.layers.preempts ++ a.monitor))) ≡ ALL_CELLS - RINGS
+    l5 = behind RING_CELLS (ALL_CELLS - COORD) a.layers.rings _ long.rings l6
 
-    l4 : length (a.layers.phases ++ (a.layers.rings ++ (a.layers.pattern ++ (a.layers.preempts ++ a.monitor)))) ≡ 145
-    l4 = behind 121 24 a.layers.phases _ long.phases l5
+    l4 : length (a.layers.phases ++ (a.layers.rings ++ (a.layers.pattern ++ (a.layers.preempts ++ a.monitor)))) ≡ ALL_CELLS - PHASES
+    l4 = behind PHASE_CELLS (ALL_CELLS - RINGS) a.layers.phases _ long.phases l5
 
-    l3 : length (a.layers.calls ++ (a.layers.phases ++ (a.layers.rings ++ (a.layers.pattern ++ (a.layers.preempts ++ a.monitor))))) ≡ 163
-    l3 = behind 18 145 a.layers.calls _ long.calls l4
+    l3 : length (a.layers.calls ++ (a.layers.phases ++ (a.layers.rings ++ (a.layers.pattern ++ (a.layers.preempts ++ a.monitor))))) ≡ ALL_CELLS - CALLS
+    l3 = behind CALL_CELLS (ALL_CELLS - PHASES) a.layers.calls _ long.calls l4
 
-    l2 : length (a.layers.detectors ++ (a.layers.calls ++ (a.layers.phases ++ (a.layers.rings ++ (a.layers.pattern ++ (a.layers.preempts ++ a.monitor)))))) ≡ 217
-    l2 = behind 54 163 a.layers.detectors _ long.detectors l3
+    l2 : length (a.layers.detectors ++ (a.layers.calls ++ (a.layers.phases ++ (a.layers.rings ++ (a.layers.pattern ++ (a.layers.preempts ++ a.monitor)))))) ≡ ALL_CELLS - DETECTORS
+    l2 = behind DETECTOR_CELLS (ALL_CELLS - CALLS) a.layers.detectors _ long.detectors l3
 
-    l1 : length (a.desk ++ (a.layers.detectors ++ (a.layers.calls ++ (a.layers.phases ++ (a.layers.rings ++ (a.layers.pattern ++ (a.layers.preempts ++ a.monitor))))))) ≡ 349
-    l1 = behind 132 217 a.desk _ long.desk l2
+    l1 : length (a.desk ++ (a.layers.detectors ++ (a.layers.calls ++ (a.layers.phases ++ (a.layers.rings ++ (a.layers.pattern ++ (a.layers.preempts ++ a.monitor))))))) ≡ ALL_CELLS - DESK
+    l1 = behind DESK_CELLS (ALL_CELLS - DETECTORS) a.desk _ long.desk l2
 
 -- ## Reading
 
@@ -213,26 +223,26 @@ module _ (a : All) (long : AreFull a) where
   abbrev t2 : List ℕ
   t2 = a.layers.detectors ++ (a.layers.calls ++ (a.layers.phases ++ (a.layers.rings ++ (a.layers.pattern ++ (a.layers.preempts ++ a.monitor)))))
 
-  n2 : length b2 ≡ 1362
-  n2 = behind 1230 132 a.plan a.desk long.plan long.desk
+  n2 : length b2 ≡ DETECTORS
+  n2 = behind PLAN_CELLS DESK_CELLS a.plan a.desk long.plan long.desk
 
-  n3 : length b3 ≡ 1416
-  n3 = behind 1362 54 b2 a.layers.detectors n2 long.detectors
+  n3 : length b3 ≡ CALLS
+  n3 = behind DETECTORS DETECTOR_CELLS b2 a.layers.detectors n2 long.detectors
 
-  n4 : length b4 ≡ 1434
-  n4 = behind 1416 18 b3 a.layers.calls n3 long.calls
+  n4 : length b4 ≡ PHASES
+  n4 = behind CALLS CALL_CELLS b3 a.layers.calls n3 long.calls
 
-  n5 : length b5 ≡ 1555
-  n5 = behind 1434 121 b4 a.layers.phases n4 long.phases
+  n5 : length b5 ≡ RINGS
+  n5 = behind PHASES PHASE_CELLS b4 a.layers.phases n4 long.phases
 
-  n6 : length b6 ≡ 1561
-  n6 = behind 1555 6 b5 a.layers.rings n5 long.rings
+  n6 : length b6 ≡ COORD
+  n6 = behind RINGS RING_CELLS b5 a.layers.rings n5 long.rings
 
-  n7 : length b7 ≡ 1562
-  n7 = behind 1561 1 b6 a.layers.pattern n6 long.pattern
+  n7 : length b7 ≡ PREEMPTS
+  n7 = behind COORD PATTERN_CELLS b6 a.layers.pattern n6 long.pattern
 
-  n8 : length (b7 ++ a.layers.preempts) ≡ 1572
-  n8 = behind 1562 10 b7 a.layers.preempts n7 long.preempts
+  n8 : length (b7 ++ a.layers.preempts) ≡ MONITOR
+  n8 = behind PREEMPTS PREEMPT_CELLS b7 a.layers.preempts n7 long.preempts
 
   e2 : whole a ≡ b2 ++ t2
   e2 = sym (append_assoc a.plan a.desk t2)
@@ -255,35 +265,35 @@ module _ (a : All) (long : AreFull a) where
   e8 : whole a ≡ (b7 ++ a.layers.preempts) ++ a.monitor
   e8 = e7 ∙ sym (append_assoc b7 a.layers.preempts a.monitor)
 
-  pub whole-full : length (whole a) ≡ 1579
-  whole-full = ap length e8 ∙ behind 1572 7 (b7 ++ a.layers.preempts) a.monitor n8 long.monitor
+  pub whole-full : length (whole a) ≡ ALL_CELLS
+  whole-full = ap length e8 ∙ behind MONITOR MONITOR_CELLS (b7 ++ a.layers.preempts) a.monitor n8 long.monitor
 
-  plan-read : row_at 1230 (whole a) 0 ≡ a.plan
-  plan-read = row-in [] a.plan (a.desk ++ t2) 0 1230 refl long.plan
+  plan-read : row_at PLAN_CELLS (whole a) 0 ≡ a.plan
+  plan-read = row-in [] a.plan (a.desk ++ t2) 0 PLAN_CELLS refl long.plan
 
-  desk-read : row_at 132 (whole a) 1230 ≡ a.desk
-  desk-read = row-in a.plan a.desk t2 1230 132 long.plan long.desk
+  desk-read : row_at DESK_CELLS (whole a) DESK ≡ a.desk
+  desk-read = row-in a.plan a.desk t2 DESK DESK_CELLS long.plan long.desk
 
-  detectors-read : row_at 54 (whole a) 1362 ≡ a.layers.detectors
-  detectors-read = ap (λ (xs : List ℕ). row_at 54 xs 1362) e2 ∙ row-in b2 a.layers.detectors t3 1362 54 n2 long.detectors
+  detectors-read : row_at DETECTOR_CELLS (whole a) DETECTORS ≡ a.layers.detectors
+  detectors-read = ap (λ (xs : List ℕ). row_at DETECTOR_CELLS xs DETECTORS) e2 ∙ row-in b2 a.layers.detectors t3 DETECTORS DETECTOR_CELLS n2 long.detectors
 
-  calls-read : row_at 18 (whole a) 1416 ≡ a.layers.calls
-  calls-read = ap (λ (xs : List ℕ). row_at 18 xs 1416) e3 ∙ row-in b3 a.layers.calls t4 1416 18 n3 long.calls
+  calls-read : row_at CALL_CELLS (whole a) CALLS ≡ a.layers.calls
+  calls-read = ap (λ (xs : List ℕ). row_at CALL_CELLS xs CALLS) e3 ∙ row-in b3 a.layers.calls t4 CALLS CALL_CELLS n3 long.calls
 
-  phases-read : row_at 121 (whole a) 1434 ≡ a.layers.phases
-  phases-read = ap (λ (xs : List ℕ). row_at 121 xs 1434) e4 ∙ row-in b4 a.layers.phases t5 1434 121 n4 long.phases
+  phases-read : row_at PHASE_CELLS (whole a) PHASES ≡ a.layers.phases
+  phases-read = ap (λ (xs : List ℕ). row_at PHASE_CELLS xs PHASES) e4 ∙ row-in b4 a.layers.phases t5 PHASES PHASE_CELLS n4 long.phases
 
-  rings-read : row_at 6 (whole a) 1555 ≡ a.layers.rings
-  rings-read = ap (λ (xs : List ℕ). row_at 6 xs 1555) e5 ∙ row-in b5 a.layers.rings t6 1555 6 n5 long.rings
+  rings-read : row_at RING_CELLS (whole a) RINGS ≡ a.layers.rings
+  rings-read = ap (λ (xs : List ℕ). row_at RING_CELLS xs RINGS) e5 ∙ row-in b5 a.layers.rings t6 RINGS RING_CELLS n5 long.rings
 
-  pattern-read : row_at 1 (whole a) 1561 ≡ a.layers.pattern
-  pattern-read = ap (λ (xs : List ℕ). row_at 1 xs 1561) e6 ∙ row-in b6 a.layers.pattern (a.layers.preempts ++ a.monitor) 1561 1 n6 long.pattern
+  pattern-read : row_at PATTERN_CELLS (whole a) COORD ≡ a.layers.pattern
+  pattern-read = ap (λ (xs : List ℕ). row_at PATTERN_CELLS xs COORD) e6 ∙ row-in b6 a.layers.pattern (a.layers.preempts ++ a.monitor) COORD PATTERN_CELLS n6 long.pattern
 
-  preempts-read : row_at 10 (whole a) 1562 ≡ a.layers.preempts
-  preempts-read = ap (λ (xs : List ℕ). row_at 10 xs 1562) e7 ∙ row-in b7 a.layers.preempts a.monitor 1562 10 n7 long.preempts
+  preempts-read : row_at PREEMPT_CELLS (whole a) PREEMPTS ≡ a.layers.preempts
+  preempts-read = ap (λ (xs : List ℕ). row_at PREEMPT_CELLS xs PREEMPTS) e7 ∙ row-in b7 a.layers.preempts a.monitor PREEMPTS PREEMPT_CELLS n7 long.preempts
 
-  monitor-read : row_at 7 (whole a) 1572 ≡ a.monitor
-  monitor-read = ap (λ (xs : List ℕ). row_at 7 xs 1572) e8 ∙ last (b7 ++ a.layers.preempts) a.monitor 1572 7 n8 long.monitor
+  monitor-read : row_at MONITOR_CELLS (whole a) MONITOR ≡ a.monitor
+  monitor-read = ap (λ (xs : List ℕ). row_at MONITOR_CELLS xs MONITOR) e8 ∙ last (b7 ++ a.layers.preempts) a.monitor MONITOR MONITOR_CELLS n8 long.monitor
 
   pub whole-read : (now : ℕ) → state_in now (whole a) ≡ all_in now a
   unfolding state_in
@@ -308,30 +318,30 @@ same-row w at xs ys vs ws one two same = sym one ∙ ap (λ (row : List ℕ). ro
 -- rows that are the same in one row are the same
 pub whole-same : (a b : All) → AreFull a → AreFull b → whole a ≡ whole b → a ≡ b
 whole-same a b long also same = λ i. record {
-  plan = same-row 1230 0 a.plan b.plan (whole a) (whole b) (plan-read a long) (plan-read b also) same i;
-  desk = same-row 132 1230 a.desk b.desk (whole a) (whole b) (desk-read a long) (desk-read b also) same i;
+  plan = same-row PLAN_CELLS 0 a.plan b.plan (whole a) (whole b) (plan-read a long) (plan-read b also) same i;
+  desk = same-row DESK_CELLS DESK a.desk b.desk (whole a) (whole b) (desk-read a long) (desk-read b also) same i;
   layers = record {
-    detectors = same-row 54 1362 a.layers.detectors b.layers.detectors (whole a) (whole b) (detectors-read a long) (detectors-read b also) same i;
-    calls = same-row 18 1416 a.layers.calls b.layers.calls (whole a) (whole b) (calls-read a long) (calls-read b also) same i;
-    phases = same-row 121 1434 a.layers.phases b.layers.phases (whole a) (whole b) (phases-read a long) (phases-read b also) same i;
-    rings = same-row 6 1555 a.layers.rings b.layers.rings (whole a) (whole b) (rings-read a long) (rings-read b also) same i;
-    pattern = same-row 1 1561 a.layers.pattern b.layers.pattern (whole a) (whole b) (pattern-read a long) (pattern-read b also) same i;
-    preempts = same-row 10 1562 a.layers.preempts b.layers.preempts (whole a) (whole b) (preempts-read a long) (preempts-read b also) same i;
+    detectors = same-row DETECTOR_CELLS DETECTORS a.layers.detectors b.layers.detectors (whole a) (whole b) (detectors-read a long) (detectors-read b also) same i;
+    calls = same-row CALL_CELLS CALLS a.layers.calls b.layers.calls (whole a) (whole b) (calls-read a long) (calls-read b also) same i;
+    phases = same-row PHASE_CELLS PHASES a.layers.phases b.layers.phases (whole a) (whole b) (phases-read a long) (phases-read b also) same i;
+    rings = same-row RING_CELLS RINGS a.layers.rings b.layers.rings (whole a) (whole b) (rings-read a long) (rings-read b also) same i;
+    pattern = same-row PATTERN_CELLS COORD a.layers.pattern b.layers.pattern (whole a) (whole b) (pattern-read a long) (pattern-read b also) same i;
+    preempts = same-row PREEMPT_CELLS PREEMPTS a.layers.preempts b.layers.preempts (whole a) (whole b) (preempts-read a long) (preempts-read b also) same i;
   };
-  monitor = same-row 7 1572 a.monitor b.monitor (whole a) (whole b) (monitor-read a long) (monitor-read b also) same i;
+  monitor = same-row MONITOR_CELLS MONITOR a.monitor b.monitor (whole a) (whole b) (monitor-read a long) (monitor-read b also) same i;
 }
 
 pub back-full : (a : All) (es : List (ℕ × ℕ)) → AreFull a → AreFull (all_put_back a es)
 back-full a es long = record {
-  plan = length-apply_diff a.plan (part 0 1230 es) ∙ long.plan;
-  desk = length-apply_diff a.desk (part 1230 132 es) ∙ long.desk;
-  detectors = length-apply_diff a.layers.detectors (part 1362 54 es) ∙ long.detectors;
-  calls = length-apply_diff a.layers.calls (part 1416 18 es) ∙ long.calls;
-  phases = length-apply_diff a.layers.phases (part 1434 121 es) ∙ long.phases;
-  rings = length-apply_diff a.layers.rings (part 1555 6 es) ∙ long.rings;
-  pattern = length-apply_diff a.layers.pattern (part 1561 1 es) ∙ long.pattern;
-  preempts = length-apply_diff a.layers.preempts (part 1562 10 es) ∙ long.preempts;
-  monitor = length-apply_diff a.monitor (part 1572 7 es) ∙ long.monitor;
+  plan = length-apply_diff a.plan (part 0 PLAN_CELLS es) ∙ long.plan;
+  desk = length-apply_diff a.desk (part DESK DESK_CELLS es) ∙ long.desk;
+  detectors = length-apply_diff a.layers.detectors (part DETECTORS DETECTOR_CELLS es) ∙ long.detectors;
+  calls = length-apply_diff a.layers.calls (part CALLS CALL_CELLS es) ∙ long.calls;
+  phases = length-apply_diff a.layers.phases (part PHASES PHASE_CELLS es) ∙ long.phases;
+  rings = length-apply_diff a.layers.rings (part RINGS RING_CELLS es) ∙ long.rings;
+  pattern = length-apply_diff a.layers.pattern (part COORD PATTERN_CELLS es) ∙ long.pattern;
+  preempts = length-apply_diff a.layers.preempts (part PREEMPTS PREEMPT_CELLS es) ∙ long.preempts;
+  monitor = length-apply_diff a.monitor (part MONITOR MONITOR_CELLS es) ∙ long.monitor;
 }
 
 pub records-back : desk.RowsAreTold → RecordsGoBack

@@ -2,6 +2,12 @@
 -- bench.
 use Rattle.std.specs.Prelude.{ℕ, ◌≤◌, List, ◌++◌, length}
 use Rattle.tsb_cells.specs.Diff.{diff, apply_diff, part, shifted}
+use Rattle.tsb_detect.specs.declared.TheConstants.{CELLS as DETECTOR_CELLS}
+use Rattle.tsb_calls.specs.declared.TheConstants.{CELLS as CALL_CELLS}
+use Rattle.tsb_phase.specs.declared.TheConstants.{CELLS as PHASE_CELLS}
+use Rattle.tsb_ring.specs.declared.TheConstants.{CELLS as RING_CELLS}
+use Rattle.tsb_coord.specs.declared.TheConstants.{CELLS as PATTERN_CELLS}
+use Rattle.tsb_preempt.specs.declared.TheConstants.{CELLS as PREEMPT_CELLS}
 use Rattle.tsb_controller.specs.declared.first_cell.TheConstants.{DETECTORS, CALLS, PHASES, RINGS, COORD, PREEMPTS}
 use Rattle.tsb_controller.specs.Rows.{Rows}
 
@@ -18,12 +24,12 @@ changes old new =
 -- the rows with what a record says of each put back
 abbrev pub put_back : Rows → List (ℕ × ℕ) → Rows
 put_back r es = record {
-  detectors = apply_diff r.detectors (part DETECTORS 54 es);
-  calls = apply_diff r.calls (part CALLS 18 es);
-  phases = apply_diff r.phases (part PHASES 121 es);
-  rings = apply_diff r.rings (part RINGS 6 es);
-  pattern = apply_diff r.pattern (part COORD 1 es);
-  preempts = apply_diff r.preempts (part PREEMPTS 10 es);
+  detectors = apply_diff r.detectors (part DETECTORS DETECTOR_CELLS es);
+  calls = apply_diff r.calls (part CALLS CALL_CELLS es);
+  phases = apply_diff r.phases (part PHASES PHASE_CELLS es);
+  rings = apply_diff r.rings (part RINGS RING_CELLS es);
+  pattern = apply_diff r.pattern (part COORD PATTERN_CELLS es);
+  preempts = apply_diff r.preempts (part PREEMPTS PREEMPT_CELLS es);
 }
 
 -- a record has no more entries of any cells than there are of these, as every difference has

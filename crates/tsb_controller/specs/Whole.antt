@@ -7,6 +7,14 @@ use Rattle.tsb_plan.specs.declared.object.TheConstants.{PLAN_CELLS}
 use Rattle.tsb_plan.specs.PlanOf.{plan_in}
 use Rattle.tsb_transact.specs.Cells as desk
 use Rattle.tsb_transact.specs.Cells.{desk_in}
+use Rattle.tsb_transact.specs.declared.TheConstants.{CELLS as DESK_CELLS}
+use Rattle.tsb_detect.specs.declared.TheConstants.{CELLS as DETECTOR_CELLS}
+use Rattle.tsb_calls.specs.declared.TheConstants.{CELLS as CALL_CELLS}
+use Rattle.tsb_phase.specs.declared.TheConstants.{CELLS as PHASE_CELLS}
+use Rattle.tsb_ring.specs.declared.TheConstants.{CELLS as RING_CELLS}
+use Rattle.tsb_coord.specs.declared.TheConstants.{CELLS as PATTERN_CELLS}
+use Rattle.tsb_preempt.specs.declared.TheConstants.{CELLS as PREEMPT_CELLS}
+use Rattle.tsb_step.specs.declared.TheConstants.{MONITOR_CELLS}
 use Rattle.tsb_step.specs.declared.inputs.Input.{Input}
 use Rattle.tsb_step.specs.Cells.{cells_of, clock_at}
 use Rattle.tsb_step.specs.MonitorCells.{lamp_in, trip_in}
@@ -31,17 +39,17 @@ whole a =
     a.plan ++ (a.desk ++ (a.layers.detectors ++ (a.layers.calls ++ (a.layers.phases ++ (a.layers.rings ++
     (a.layers.pattern ++ (a.layers.preempts ++ a.monitor)))))))
 
--- each row has as many cells as it should: 1579 in all
+-- each row has as many cells as it should
 pub record AreFull (a : All) : Type 0 where
   pub plan : length a.plan ≡ PLAN_CELLS
-  pub desk : length a.desk ≡ 132
-  pub detectors : length a.layers.detectors ≡ 54
-  pub calls : length a.layers.calls ≡ 18
-  pub phases : length a.layers.phases ≡ 121
-  pub rings : length a.layers.rings ≡ 6
-  pub pattern : length a.layers.pattern ≡ 1
-  pub preempts : length a.layers.preempts ≡ 10
-  pub monitor : length a.monitor ≡ 7
+  pub desk : length a.desk ≡ DESK_CELLS
+  pub detectors : length a.layers.detectors ≡ DETECTOR_CELLS
+  pub calls : length a.layers.calls ≡ CALL_CELLS
+  pub phases : length a.layers.phases ≡ PHASE_CELLS
+  pub rings : length a.layers.rings ≡ RING_CELLS
+  pub pattern : length a.layers.pattern ≡ PATTERN_CELLS
+  pub preempts : length a.layers.preempts ≡ PREEMPT_CELLS
+  pub monitor : length a.monitor ≡ MONITOR_CELLS
 
 -- the state in them at tick number `now`
 abbrev pub all_in : ℕ → All → State
@@ -64,9 +72,9 @@ all_changes old new =
 abbrev pub all_put_back : All → List (ℕ × ℕ) → All
 all_put_back a es = record {
   plan = apply_diff a.plan (part 0 PLAN_CELLS es);
-  desk = apply_diff a.desk (part DESK 132 es);
+  desk = apply_diff a.desk (part DESK DESK_CELLS es);
   layers = put_back a.layers es;
-  monitor = apply_diff a.monitor (part MONITOR 7 es);
+  monitor = apply_diff a.monitor (part MONITOR MONITOR_CELLS es);
 }
 
 -- ## Laws

@@ -2,6 +2,7 @@
 //! of the desk, of the six layers in the order of their fields, and of the monitor with the injected lamp.
 
 use tsb_objects::PLAN_CELLS;
+pub use tsb_step::MONITOR_CELLS;
 
 /// The desk's.
 pub const DESK: u16 = PLAN_CELLS as u16;
@@ -29,9 +30,6 @@ pub const MONITOR: u16 = PREEMPTS + tsb_preempt::CELLS as u16;
 
 /// How many cells the six layers have.
 pub const LAYER_CELLS: usize = (MONITOR - DETECTORS) as usize;
-
-/// How many cells the monitor has, with the injected lamp.
-pub const MONITOR_CELLS: usize = 7;
 
 /// All cells of the bench.
 pub const ALL_CELLS: usize = MONITOR as usize + MONITOR_CELLS;

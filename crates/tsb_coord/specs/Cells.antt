@@ -6,6 +6,7 @@
 use Rattle.std.specs.Prelude.{◌≡◌, ℕ, ◌≤◌, List, [], ◌∷◌, length, Option, slice_index}
 use Rattle.tsb_types.specs.Lists.{or_number}
 use Rattle.tsb_plan.specs.Parts.{unless_zero}
+use Rattle.tsb_coord.specs.declared.TheConstants.{CELLS}
 
 -- the pattern that is selected
 abbrev pub pattern_in : List ℕ → Option ℕ
@@ -17,5 +18,5 @@ pattern_cells selected = or_number selected 0 ∷ []
 
 -- the rows that coordination can hold, at any tick
 pub record IsBy (row : List ℕ) : Type 0 where
-  pub full : length row ≡ 1
+  pub full : length row ≡ CELLS
   pub pattern : slice_index row 0 ≤ 16

@@ -9,6 +9,7 @@ ghost use Rattle.tsb_rules.specs.Rules.{first_broken};
 ghost use Rattle.tsb_plan.specs.Running.{running};
 ghost use Rattle.tsb_types.specs.declared.refusal.Refusal.{Refusal};
 ghost use Rattle.tsb_types.specs.Sets.{has};
+ghost use Rattle.tsb_coord.specs.declared.TheConstants.{CELLS};
 ghost use Rattle.tsb_coord.specs.Cells.{pattern_in, IsBy};
 ghost use Rattle.tsb_coord.specs.Coordinated.{refusal};
 ghost use Rattle.tsb_coord.specs.Due.{KeepsOrders, IsExact};
@@ -206,10 +207,10 @@ impl Coord {
     /// has the number `offset` there.
     pub fn close_onto<const M: usize>(&mut self, out: &mut ArrayVec<(u16, u32), M>, offset: u16)
         requires opened { is_open self.old ≡ true }
-        requires fits { offset + 1 ≤ 2 ^ 16 }
-        requires room { array_vec_len out.old + 1 ≤ M }
+        requires fits { offset + CELLS ≤ 2 ^ 16 }
+        requires room { array_vec_len out.old + CELLS ≤ M }
         ensures changes { out.new.items ≡ out.old.items ++ shifted offset (diff (kept_of self.old) (cells_of self.old)) }
-        ensures len { array_vec_len out.new ≤ array_vec_len out.old + 1 }
+        ensures len { array_vec_len out.new ≤ array_vec_len out.old + CELLS }
         ensures cells { cells_of self.new ≡ cells_of self.old }
         ensures closed { is_open self.new ≡ false }
     {
@@ -226,7 +227,7 @@ impl Reversible<CELLS> for Coord {
 
     ghost is_open = { λ s. is_open s };
 
-    ghost allows = { λ row. length row ≡ 1 };
+    ghost allows = { λ row. length row ≡ CELLS };
 
     ghost indexed = { λ s. s.bank.indexed };
 

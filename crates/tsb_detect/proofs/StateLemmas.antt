@@ -16,6 +16,7 @@ use Rattle.tsb_rows.proofs.TableLemmas.{front-read, column-read, length-column, 
 use Rattle.tsb_plan.specs.Plan.{Plan}
 use Rattle.tsb_plan.specs.Parts.{call_phase, unless_zero}
 use Rattle.tsb_plan.specs.declared.object.Object.TheVariants.{VehicleDetectorCallPhase}
+use Rattle.tsb_detect.specs.declared.TheConstants.{CELLS}
 use Rattle.tsb_detect.specs.declared.alarm.Alarm.{Alarm}
 use Rattle.tsb_detect.specs.declared.alarm.Alarm.TheVariants.{NoActivity, MaxPresence, Erratic}
 use Rattle.tsb_detect.specs.declared.greens.Greens.{Greens}
@@ -79,7 +80,7 @@ module _ (now : ℕ) (f : ℕ → Detector) where
   length-changes : length changes ≡ 38
   length-changes = length-column rises (λ d. timer_cell now (f d).change) ∙ ap (λ (n : ℕ). n + 16) length-rises
 
-  length-cells : length (detectors_cells now f) ≡ 54
+  length-cells : length (detectors_cells now f) ≡ CELLS
   length-cells = length-column changes (λ d. timer_cell now (f d).extend) ∙ ap (λ (n : ℕ). n + 16) length-changes
 
   cell-at : (k : ℕ) → k < 6 → slice_index (detectors_cells now f) k ≡ slice_index lists k

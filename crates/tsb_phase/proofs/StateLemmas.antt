@@ -17,6 +17,7 @@ use Rattle.tsb_types.specs.Lists.{run_from}
 use Rattle.tsb_types.specs.Sets.{names, list_of, list_in, is_phase}
 use Rattle.tsb_types.proofs.SetLemmas.{names-list_of, list_of-below}
 use Rattle.tsb_types.proofs.ClipLemmas.{IsAmong, among_16}
+use Rattle.tsb_phase.specs.declared.TheConstants.{CELLS}
 use Rattle.tsb_phase.specs.declared.ending.Ending.{Ending}
 use Rattle.tsb_phase.specs.declared.ending.Ending.TheVariants.{MaxOut, GapOut}
 use Rattle.tsb_phase.specs.declared.phase_row.PhaseRow.{PhaseRow}
@@ -290,7 +291,7 @@ module _ (now : ℕ) (f : ℕ → Phase) where
   abbrev maximums : ℕ → ℕ
   maximums p = number_cell (f p).running_maximum
 
-  full : length (phases_cells now f) ≡ 121
+  full : length (phases_cells now f) ≡ CELLS
   unfolding column
   full = long-all (listed f) timers pedestrian_timers passages conflicts reductions red_reverts maximums refl
 

@@ -16,6 +16,7 @@ use Rattle.tsb_types.specs.Sets.{names, list_of, list_in}
 use Rattle.tsb_types.proofs.RunLemmas.{map-run_from}
 use Rattle.tsb_types.proofs.SetLemmas.{list_of-names, same-list_of}
 use Rattle.tsb_types.proofs.ClipLemmas.{is_phase_from}
+use Rattle.tsb_phase.specs.declared.TheConstants.{CELLS}
 use Rattle.tsb_phase.specs.declared.ending.Ending.TheVariants.{MaxOut, GapOut}
 use Rattle.tsb_phase.specs.DynamicMaximum.{is_same}
 use Rattle.tsb_phase.specs.Cells.{number_in, number_cell, phase_in, phases_cells, IsBy}
@@ -87,7 +88,7 @@ nine (a ∷ (b ∷ (c ∷ (d ∷ (e ∷ (f ∷ (g ∷ (h ∷ (i ∷ rest))))))))
 nine row full = absurd (omega arith)
 
 module _ (now : ℕ) (row : List ℕ) (by : IsBy now row) where
-  full : length row ≡ 121
+  full : length row ≡ CELLS
   full = by.full
 
   lists : (list_of 16 (λ p. is_green (phase_in now row p).interval) ∷ list_of 16 (λ p. is_yellow (phase_in now row p).interval) ∷
@@ -127,7 +128,7 @@ module _ (now : ℕ) (row : List ℕ) (by : IsBy now row) where
       (column row 73 _ (omega (arith, full)) (λ p from to. rw (is_phase_from p from to) (timer_cell-timer_at now _ (by.each p from to).reduction)) (omega arith)))
       (column row 89 _ (omega (arith, full)) (λ p from to. rw (is_phase_from p from to) (timer_cell-timer_at now _ (by.each p from to).red_revert)) (omega arith)))
       (column row 105 _ (omega (arith, full)) (λ p from to. rw (is_phase_from p from to) (number-told _)) (omega arith))
-      ∙ take-whole row 121 full
+      ∙ take-whole row CELLS full
 
 pub rows-told : RowsAreTold
 rows-told = phases-told

@@ -8,6 +8,7 @@ use Rattle.std.proofs.lemmas.List.Sums.{sum_by-cons}
 use Rattle.std.proofs.Math.Path.{fun_ext}
 use Rattle.std.specs.List.{flat_map}
 use Rattle.tsb_plan.specs.declared.object.Object.{Object}
+use Rattle.tsb_plan.specs.declared.object.TheConstants.{PLAN_CELLS}
 use Rattle.tsb_types.specs.Lists.{run_from}
 use Rattle.tsb_plan.specs.Objects.{objects, indices, first_cell, has_index, value_in}
 use Rattle.tsb_plan.specs.Plan.{Plan}
@@ -16,7 +17,7 @@ use Rattle.tsb_types.proofs.RunLemmas.{length-run_from, map-run_from}
 use Rattle.tsb_plan.proofs.TableLemmas.{total}
 
 -- each object has as many cells as indices
-pub length-plan_cells : (plan : Plan) → length (plan_cells plan) ≡ 1230
+pub length-plan_cells : (plan : Plan) → length (plan_cells plan) ≡ PLAN_CELLS
 length-plan_cells plan =
     length-flat_map (λ o. map (plan.value o) (run_from 1 (indices o))) objects
     ∙ ap (λ (f : Object → ℕ). sum_by f objects) (fun_ext (λ o. length-map (run_from 1 (indices o)) (plan.value o) ∙ length-run_from 1 (indices o)))
@@ -62,7 +63,7 @@ some_objects cells (o ∷ os) k placed within =
     ∙ joined (indices o) (sum_by indices os) k cells (omega arith)
     ∙ ap (λ (n : ℕ). take n (drop k cells)) (sym sum)
 
-pub plan_cells-plan_in : (cells : List ℕ) → length cells ≡ 1230 → plan_cells (plan_in cells) ≡ cells
+pub plan_cells-plan_in : (cells : List ℕ) → length cells ≡ PLAN_CELLS → plan_cells (plan_in cells) ≡ cells
 plan_cells-plan_in cells full =
     let enough : 0 + sum_by indices objects ≤ length cells = omega (arith, total) in
     some_objects cells objects 0 all_placed enough ∙ take_all (sum_by indices objects) cells (omega (arith, total))

@@ -4,16 +4,12 @@ ghost use Rattle.tsb_plan.specs.VersionLaws.{TranslateWithin, TranslateApart, Ta
 
 /// What either version has at an index stands at an index of its own in a plan, and takes no value that
 /// the plan's object does not take. A phase's value in a split table and a ring's place in a sequence are
-/// those of the same numbers in version 1 and in a plan.
+/// those of the same numbers in version 1 and in a plan. No two objects have one name.
 pub fn versions_say_the_same()
     ensures within { TranslateWithin }
     ensures apart { TranslateApart }
     ensures values { TakeNoOther }
     ensures splits { KeepSplits }
     ensures places { KeepPlaces }
-{}
-
-/// No two objects have one name.
-pub fn names_are_told_apart()
-    ensures { AreToldByName }
+    ensures names { AreToldByName }
 {}

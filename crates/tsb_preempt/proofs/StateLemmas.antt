@@ -10,6 +10,7 @@ use Rattle.tsb_types.specs.declared.stage.Stage.TheVariants.{Track}
 use Rattle.tsb_types.specs.Lists.{run_from}
 use Rattle.tsb_types.specs.Sets.{names, list_of, list_in}
 use Rattle.tsb_types.proofs.SetLemmas.{names-above, names-list_of, list_of-below}
+use Rattle.tsb_preempt.specs.declared.TheConstants.{CELLS}
 use Rattle.tsb_preempt.specs.declared.serving.Serving.{Serving}
 use Rattle.tsb_preempt.specs.Service.{Service}
 use Rattle.tsb_preempt.specs.Preempts.{Preempts, is_preempt}
@@ -89,7 +90,7 @@ serving-read now (Some s) by = rw (timer_at-timer_cell now s.timer by.timer, tim
 
 -- ten cells that say the preempts f
 record IsTable (now : ℕ) (f : Preempts) (row : List ℕ) : Type 0 where
-  full : length row ≡ 10
+  full : length row ≡ CELLS
   switch : slice_index row 0 ≡ list_of 4 f.switch
   spent : slice_index row 1 ≡ list_of 4 f.spent
   one : slice_index row 2 ≡ timer_cell now (f.delay 1)

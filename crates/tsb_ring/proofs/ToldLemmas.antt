@@ -4,6 +4,7 @@ use Rattle.std.proofs.Common.{◌≡◌, ℕ, ◌==◌, ◌≤◌, List, [], ◌
 use Rattle.std.proofs.lemmas.Bool.{cases_Bool, eqb-true}
 use Rattle.tsb_types.specs.Lists.{or_number}
 use Rattle.tsb_plan.specs.Parts.{unless_zero}
+use Rattle.tsb_ring.specs.declared.TheConstants.{CELLS}
 use Rattle.tsb_ring.specs.Cells.{rings_in, rings_cells, IsBy}
 use Rattle.tsb_ring.specs.Laws.{IsUpTo, IsInRange}
 use Rattle.tsb_ring.specs.Layer.{either, state_with}
@@ -18,7 +19,7 @@ number-told n = elim (cases_Bool (n == 0)) [
   | inr some ↦ rw some refl
 ]
 
-told : (row : List ℕ) → length row ≡ 6 → rings_cells (rings_in row) ≡ row
+told : (row : List ℕ) → length row ≡ CELLS → rings_cells (rings_in row) ≡ row
 unfolding rings_in
 told (a ∷ (b ∷ (c ∷ (d ∷ (e ∷ (f ∷ [])))))) full = rw (number-told a, number-told b, number-told c, number-told d, number-told f) refl
 told (a ∷ (b ∷ (c ∷ (d ∷ (e ∷ (f ∷ (g ∷ rest))))))) full = absurd (omega arith)

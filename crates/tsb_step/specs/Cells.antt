@@ -1,27 +1,38 @@
--- The cells of the whole controller: 1579 in a row, layer after layer, and how they are read at a tick. The
--- clock by which timers are written and read stands still while the controller is tripped.
+-- The cells of the whole controller, layer after layer in one row, and how they are read at a tick. The clock by which
+-- timers are written and read stands still while the controller is tripped.
 --
--- | Cells | Whose |
+-- | Cells from | Whose |
 -- |---|---|
--- | 0 to 1229 | the plan's: of each object in order, its value at each index |
--- | 1230 to 1361 | the desk's |
--- | 1362 to 1415 | the detectors' |
--- | 1416 to 1433 | the calls' |
--- | 1434 to 1554 | the phases' |
--- | 1555 to 1560 | the rings' |
--- | 1561 | the pattern's that is selected |
--- | 1562 to 1571 | the preempts' |
--- | 1572 to 1578 | the monitor's and the injected lamp's |
-use Rattle.std.specs.Prelude.{ℕ, List, ◌++◌, Option, Some, None}
+-- | 0 | the plan's: of each object in order, its value at each index |
+-- | `desk_from` | the desk's |
+-- | `detectors_from` | the detectors' |
+-- | `calls_from` | the calls' |
+-- | `phases_from` | the phases' |
+-- | `rings_from` | the rings' |
+-- | `pattern_from` | the pattern's that is selected |
+-- | `preempts_from` | the preempts' |
+-- | `monitor_from` | the monitor's and the injected lamp's |
+--
+-- `proofs/Examples/CellsExamples.antt` has these numbers.
+use Rattle.std.specs.Prelude.{ℕ, ◌+◌, List, ◌++◌, Option, Some, None}
 use Rattle.tsb_cells.specs.Row.{row_at}
+use Rattle.tsb_plan.specs.declared.object.TheConstants.{PLAN_CELLS}
 use Rattle.tsb_plan.specs.PlanOf.{plan_in, plan_cells}
+use Rattle.tsb_detect.specs.declared.TheConstants.{CELLS as DETECTOR_CELLS}
 use Rattle.tsb_detect.specs.Cells.{detectors_cells, detector_in}
+use Rattle.tsb_transact.specs.declared.TheConstants.{CELLS as DESK_CELLS}
 use Rattle.tsb_transact.specs.Cells.{desk_cells, desk_in}
+use Rattle.tsb_calls.specs.declared.TheConstants.{CELLS as CALL_CELLS}
 use Rattle.tsb_calls.specs.Cells.{memories_cells, memories_in}
+use Rattle.tsb_phase.specs.declared.TheConstants.{CELLS as PHASE_CELLS}
 use Rattle.tsb_phase.specs.Cells.{phases_cells, phase_in}
+use Rattle.tsb_ring.specs.declared.TheConstants.{CELLS as RING_CELLS}
 use Rattle.tsb_ring.specs.Cells.{rings_cells, rings_in}
+use Rattle.tsb_coord.specs.declared.TheConstants.{CELLS as PATTERN_CELLS}
 use Rattle.tsb_coord.specs.Cells.{pattern_cells, pattern_in}
+use Rattle.tsb_preempt.specs.declared.TheConstants.{CELLS as PREEMPT_CELLS}
 use Rattle.tsb_preempt.specs.Cells.{preempts_cells, preempts_in}
+use Rattle.tsb_step.specs.declared.TheConstants.{MONITOR_CELLS}
 use Rattle.tsb_step.specs.MonitorCells.{monitor_cells, lamp_in, trip_in}
 use Rattle.tsb_step.specs.State.{Tripped, State}
 
@@ -51,39 +62,70 @@ cells_of s =
     ++ preempts_cells (clock s) s.preempts
     ++ monitor_cells s.lamp s.trip
 
+-- ## Where the cells of each layer begin
+
+-- the desk's, behind the plan's
+abbrev pub desk_from : ℕ
+desk_from = PLAN_CELLS
+
+-- the vehicle detectors'
+abbrev pub detectors_from : ℕ
+detectors_from = desk_from + DESK_CELLS
+
+-- the calls': vehicle memories, pedestrian memories and counts
+abbrev pub calls_from : ℕ
+calls_from = detectors_from + DETECTOR_CELLS
+
+-- those of phase timing
+abbrev pub phases_from : ℕ
+phases_from = calls_from + CALL_CELLS
+
+-- the rings': last phases, commitments, side and crossing
+abbrev pub rings_from : ℕ
+rings_from = phases_from + PHASE_CELLS
+
+-- that of the selected pattern
+abbrev pub pattern_from : ℕ
+pattern_from = rings_from + RING_CELLS
+
+-- the preempts'
+abbrev pub preempts_from : ℕ
+preempts_from = pattern_from + PATTERN_CELLS
+
+-- those of the trip and the injected lamp
+abbrev pub monitor_from : ℕ
+monitor_from = preempts_from + PREEMPT_CELLS
+
+-- how many cells there are
+abbrev pub all_cells : ℕ
+all_cells = monitor_from + MONITOR_CELLS
+
 -- ## Reading
 
--- the cells of each layer among all of them: 132 of the desk
+-- the cells of each layer among all of them
 abbrev pub desk_row : List ℕ → List ℕ
-desk_row row = row_at 132 row 1230
+desk_row row = row_at DESK_CELLS row desk_from
 
--- 54 of the vehicle detectors
 abbrev pub detectors_row : List ℕ → List ℕ
-detectors_row row = row_at 54 row 1362
+detectors_row row = row_at DETECTOR_CELLS row detectors_from
 
--- 18 of vehicle memories, pedestrian memories and counts
 abbrev pub calls_row : List ℕ → List ℕ
-calls_row row = row_at 18 row 1416
+calls_row row = row_at CALL_CELLS row calls_from
 
--- 121 of phase timing
 abbrev pub phases_row : List ℕ → List ℕ
-phases_row row = row_at 121 row 1434
+phases_row row = row_at PHASE_CELLS row phases_from
 
--- 6 of last phases, commitments, side and crossing
 abbrev pub rings_row : List ℕ → List ℕ
-rings_row row = row_at 6 row 1555
+rings_row row = row_at RING_CELLS row rings_from
 
--- 1 of the selected pattern
 abbrev pub pattern_row : List ℕ → List ℕ
-pattern_row row = row_at 1 row 1561
+pattern_row row = row_at PATTERN_CELLS row pattern_from
 
--- 10 of the preempts
 abbrev pub preempts_row : List ℕ → List ℕ
-preempts_row row = row_at 10 row 1562
+preempts_row row = row_at PREEMPT_CELLS row preempts_from
 
--- 7 of the trip and the injected lamp
 abbrev pub monitor_row : List ℕ → List ℕ
-monitor_row row = row_at 7 row 1572
+monitor_row row = row_at MONITOR_CELLS row monitor_from
 
 -- the clock by which timers are read in all these cells, which tell the trip
 abbrev pub clock_in : ℕ → List ℕ → ℕ
@@ -93,7 +135,7 @@ clock_in now row = clock_at now (trip_in (monitor_row row))
 unfoldable pub state_in : ℕ → List ℕ → State
 state_in now row = record {
   now = now;
-  plan = plan_in (row_at 1230 row 0);
+  plan = plan_in (row_at PLAN_CELLS row 0);
   desk = desk_in (desk_row row);
   pattern = pattern_in (pattern_row row);
   detectors = detector_in (clock_in now row) (detectors_row row);

@@ -5,6 +5,7 @@ use Rattle.tsb_types.specs.declared.lamp.Lamp.{Lamp}
 use Rattle.tsb_types.specs.declared.lamp.Lamp.TheVariants as lamps
 use Rattle.tsb_heads.specs.declared.monitor.Trip.{Trip}
 use Rattle.tsb_heads.specs.declared.monitor.Trip.TheVariants.{Conflict, GreenToRed}
+use Rattle.tsb_step.specs.declared.TheConstants.{MONITOR_CELLS}
 use Rattle.tsb_step.specs.State.{Tripped}
 use Rattle.tsb_step.specs.MonitorCells.{monitor_cells, lamp_in, trip_in}
 
@@ -14,9 +15,9 @@ IsUpTo n k = (1 ≤ k) × (k ≤ n)
 
 -- ## Rows that the monitor can hold at tick `now`
 
--- 7 cells, each in its range, 0 where it has nothing to tell, with no trip of a later tick
+-- so many cells, each in its range, 0 where it has nothing to tell, with no trip of a later tick
 pub record IsMonitorBy (now : ℕ) (row : List ℕ) : Type 0 where
-  pub full : length row ≡ 7
+  pub full : length row ≡ MONITOR_CELLS
   pub cause : slice_index row 0 ≤ 2
   pub untripped : slice_index row 0 ≡ 0 → (slice_index row 1 ≡ 0) × (slice_index row 2 ≡ 0) × (slice_index row 3 ≡ 0)
   pub first : 1 ≤ slice_index row 0 → IsUpTo 16 (slice_index row 1)

@@ -3,6 +3,7 @@ use Rattle.std.specs.Prelude.{ℕ, ◌+◌, nat_lt, Bool, Option, Some, None, is
 use Rattle.tsb_history.specs.declared.kinds.Kind.{Kind}
 use Rattle.tsb_history.specs.declared.kinds.Kind.TheVariants as kinds
 use Rattle.tsb_types.specs.declared.lamp.Lamp.{Lamp}
+use Rattle.tsb_types.specs.declared.limits.TheConstants.{TICKS}
 use Rattle.tsb_types.specs.declared.refusal.Refusal.{Refusal}
 use Rattle.tsb_types.specs.declared.refusal.Refusal.TheVariants.{TickLimit, TooManyEdits}
 use Rattle.tsb_types.specs.declared.row.Row.{Row}
@@ -81,9 +82,9 @@ step s (Abort station) = with_desk desk.after_abort s
 
 -- ## Why an input is refused
 
--- E11: there is no tick after tick 6,000,000
+-- E11: there is no tick after this one
 abbrev pub last_tick : ℕ
-last_tick = 6000000
+last_tick = TICKS
 
 -- E6 where no station owns the desk, E5 where another does; E2 for the object or the index, E3 for the value; E8 for an
 -- edit of a further object where there are 64

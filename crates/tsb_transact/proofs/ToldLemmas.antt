@@ -10,6 +10,7 @@ use Rattle.tsb_plan.specs.Parts.{unless_zero}
 use Rattle.tsb_plan.specs.PlanOf.{put_refusal}
 use Rattle.tsb_rules.specs.declared.rules.Rule.{Rule}
 use Rattle.tsb_rules.specs.declared.rules.Rule.TheVariants.{K1, K2, K3, K4, K5, K6, K7, K8, K9, K10, K11, K12, K13, K14, K15, K16, K17, K18, K19, K20, K21, K22}
+use Rattle.tsb_transact.specs.declared.TheConstants.{CELLS}
 use Rattle.tsb_transact.specs.declared.desk_state.DeskState.{DeskState}
 use Rattle.tsb_transact.specs.declared.desk_state.DeskState.TheVariants.{Normal, Transaction, Verify, Done}
 use Rattle.tsb_transact.specs.declared.edit.Edit.{Edit}
@@ -30,7 +31,7 @@ drop-two row n within =
     ∙ ap (λ (l : List ℕ). slice_index row n ∷ l) (drop_more row (n + 1) 0 within ∙ ap (λ (k : ℕ). slice_index row (n + 1) ∷ drop k row) e)
 
 -- edit k and those behind it
-two-on : (row : List ℕ) (k m : ℕ) → length row ≡ 132 → k + suc m ≡ 65 →
+two-on : (row : List ℕ) (k m : ℕ) → length row ≡ CELLS → k + suc m ≡ 65 →
     drop (2 * k + 2) row ≡ slice_index row (2 * k + 2) ∷ slice_index row (2 * k + 3) ∷ drop (2 * (k + 1) + 2) row
 two-on row k m full last =
     let e : 2 * k + 2 + 1 ≡ 2 * k + 3 = omega arith in
@@ -38,7 +39,7 @@ two-on row k m full last =
     drop-two row (2 * k + 2) (omega (arith, full, last))
     ∙ (λ j. slice_index row (2 * k + 2) ∷ slice_index row (e j) ∷ drop (f j) row)
 
-at-end : (row : List ℕ) (k : ℕ) → length row ≡ 132 → k + 0 ≡ 65 → drop (2 * k + 2) row ≡ []
+at-end : (row : List ℕ) (k : ℕ) → length row ≡ CELLS → k + 0 ≡ 65 → drop (2 * k + 2) row ≡ []
 at-end row k full last = drop_all (2 * k + 2) row (omega (arith, full, last))
 
 blank-run : (row : List ℕ) → IsBy row → (m k : ℕ) → slice_index row 3 < k → k + m ≡ 65 → edit_cells m [] ≡ drop (2 * k + 2) row
@@ -100,7 +101,7 @@ rule-told n within =
       | inr none ↦ let e : n ≡ 0 = omega (arith, none) in ap (λ (k : ℕ). rule_cell (nth_rule rules k)) e ∙ sym e
     ]
 
-head-apart : (row : List ℕ) → length row ≡ 132 →
+head-apart : (row : List ℕ) → length row ≡ CELLS →
     row ≡ slice_index row 0 ∷ slice_index row 1 ∷ slice_index row 2 ∷ slice_index row 3 ∷ drop 4 row
 head-apart row full =
     drop-two row 0 (omega (arith, full)) ∙ ap (λ (l : List ℕ). slice_index row 0 ∷ slice_index row 1 ∷ l) (drop-two row 2 (omega (arith, full)))

@@ -25,7 +25,7 @@ use Rattle.tsb_heads.specs.declared.monitor.Trip.TheVariants.{Conflict, GreenToR
 use Rattle.tsb_transact.specs.declared.desk_state.DeskState.TheVariants.{Transaction}
 use Rattle.tsb_transact.specs.Cells.{desk_in}
 use Rattle.tsb_step.specs.State.{State}
-use Rattle.tsb_step.specs.Cells.{cells_of, state_in, clock}
+use Rattle.tsb_step.specs.Cells.{cells_of, state_in, clock, desk_from, detectors_from, calls_from, phases_from, rings_from, pattern_from, preempts_from, monitor_from, all_cells}
 use Rattle.tsb_step.specs.MonitorCells.{monitor_cells, lamp_in, trip_in}
 
 unfoldable opened : Unit {0}
@@ -58,9 +58,13 @@ busy = record {
 
 -- ## Where they stand
 
-how_many : length (cells_of busy) ≡ 1579
+how_many : length (cells_of busy) ≡ all_cells
 unfolding opened busy
 how_many = refl
+
+first_cells : desk_from ∷ detectors_from ∷ calls_from ∷ phases_from ∷ rings_from ∷ pattern_from ∷ preempts_from ∷ monitor_from ∷ all_cells ∷ [] ≡
+    1230 ∷ 1362 ∷ 1416 ∷ 1434 ∷ 1555 ∷ 1561 ∷ 1562 ∷ 1572 ∷ 1579 ∷ []
+first_cells = refl
 
 -- the plan: phaseEnabled of phase 8, and sequenceData at its index 20, which is phase 8
 plan_cells_stand : slice_index (cells_of busy) 7 ∷ slice_index (cells_of busy) (first_cell SequenceData + 19) ∷ [] ≡ 1 ∷ 8 ∷ []

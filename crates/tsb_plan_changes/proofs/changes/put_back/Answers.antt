@@ -1,6 +1,7 @@
 use Rattle.std.proofs.Common.{◌≡◌, ◌<◌, length, get_or, sym, subst, arith, rules, ◌∙◌}
 use Rattle.std.proofs.lemmas.Option.{slice_get-get_or}
 use Rattle.tsb_cells.specs.Diff.{apply_diff, part}
+use Rattle.tsb_plan.specs.declared.object.TheConstants.{PLAN_CELLS}
 use Rattle.tsb_plan.specs.Objects.{AreInRange}
 use Rattle.tsb_plan_changes.proofs.StepLemmas.{put-taken, put-left, put-all}
 use Rattle.tsb_plan_changes.proofs.changes.put_back.Goals as goal
@@ -10,11 +11,11 @@ pub loop-i-preserved : goal.loop-i-preserved
 loop-i-preserved c =
     elim c.match-entry.branch [
       | in-Some+then-cell-lt-PLAN_CELLS w ↦ record {
-        rest = put-taken 1230 c.loop-i.i c.args.change.now.entries (w.in-Some.cell, w.in-Some.old) c.loop-i.cells _ _
+        rest = put-taken PLAN_CELLS c.loop-i.i c.args.change.now.entries (w.in-Some.cell, w.in-Some.old) c.loop-i.cells _ _
             (sym c.entry.ensures ∙ w.in-Some.is) w.if-cell-lt-PLAN_CELLS.true w.cells-is c.loop-i.invariant.rest;
       }
       | in-Some+else-cell-lt-PLAN_CELLS w ↦ record {
-        rest = rw w.cells-is (put-left 1230 c.loop-i.i c.args.change.now.entries (w.in-Some.cell, w.in-Some.old) c.loop-i.cells _
+        rest = rw w.cells-is (put-left PLAN_CELLS c.loop-i.i c.args.change.now.entries (w.in-Some.cell, w.in-Some.old) c.loop-i.cells _
             (sym c.entry.ensures ∙ w.in-Some.is) w.if-cell-lt-PLAN_CELLS.false c.loop-i.invariant.rest);
       }
       | in_default w ↦
@@ -24,9 +25,9 @@ loop-i-preserved c =
 
 pub of_cells-requires : goal.of_cells-requires
 of_cells-requires c =
-    let is : c.loop-i.cells ≡ apply_diff c.args.plan.now.values (part 0 1230 c.args.change.now.entries) =
-    put-all 1230 c.loop-i.i c.args.change.now.entries c.loop-i.cells _ (omega arith) c.loop-i.invariant.rest in
+    let is : c.loop-i.cells ≡ apply_diff c.args.plan.now.values (part 0 PLAN_CELLS c.args.change.now.entries) =
+    put-all PLAN_CELLS c.loop-i.i c.args.change.now.entries c.loop-i.cells _ (omega arith) c.loop-i.invariant.rest in
     subst AreInRange (sym is) c.requires
 
 pub returns : goal.returns
-returns c = c.of_cells.ensures ∙ put-all 1230 c.loop-i.i c.args.change.now.entries c.loop-i.cells _ (omega arith) c.loop-i.invariant.rest
+returns c = c.of_cells.ensures ∙ put-all PLAN_CELLS c.loop-i.i c.args.change.now.entries c.loop-i.cells _ (omega arith) c.loop-i.invariant.rest
