@@ -14,14 +14,12 @@ use Rattle.tsb_step.specs.Good.{IsGood}
 use Rattle.tsb_step.specs.Past.{Whole, controller, ticks_of, undone, taken_back, earlier, sought, record_of}
 use Rattle.tsb_objects.specs.Checked.{checked_plan}
 use Rattle.tsb_objects.specs.declared.checked.Checked.{Checked}
-use Rattle.tsb_step.specs.Signs.{IsSafe}
 use Rattle.tsb_step.specs.State.{State, start}
 use Rattle.tsb_step.specs.Step.{verdict, kind_of, last_tick}
 use Rattle.tsb_step.specs.declared.inputs.Input.{Input}
 use Rattle.tsb_step.specs.declared.inputs.Input.TheVariants as inputs
 use Rattle.tsb_step.proofs.GoodLemmas.{good_step, good_run}
 use Rattle.tsb_step.proofs.PlaceLemmas.{memory_is_consistent}
-use Rattle.tsb_step.proofs.SafeLemmas.{display_is_safe}
 use Rattle.tsb_controller.specs.Whole.{All, AreAllBy, all_in, all_changes, all_put_back}
 use Rattle.tsb_controller.proofs.WholeLemmas.{records-joined, records-back}
 use Rattle.tsb_controller.proofs.ChangeLemmas.{entries-within, changes-few, rows-back}
@@ -160,10 +158,6 @@ sound-earlier (suc k) now a [] h = sound-earlier k now a [] h
 sound-earlier (suc k) now a (r ∷ rs) h =
     subst (λ (s : State). IsGood (earlier (record { state = s; records = rs }) k).state) (sym (back-said now a r h.0 h.1))
     (sound-earlier k (now - ticks_of r.kind) (all_put_back a r.entries) rs h.2)
-
--- what is shown is safe
-pub safe : (s : State) → IsGood s → IsSafe s
-safe s good = display_is_safe s good
 
 -- ## At power-up
 

@@ -6,6 +6,8 @@ use Rattle.tsb_cells.specs.Diff.{diff, shifted}
 use Rattle.tsb_cells.proofs.DiffLemmas.{diff-same}
 use Rattle.tsb_types.specs.declared.lamp.Lamp.{Lamp}
 use Rattle.tsb_types.specs.declared.row.Row.{Row}
+use Rattle.tsb_types.proofs.OptionLemmas.{is-none}
+use Rattle.tsb_plan.specs.declared.object.TheConstants.{PLAN_CELLS}
 use Rattle.tsb_plan.specs.Plan.{Plan}
 use Rattle.tsb_plan.specs.PlanOf.{plan_in}
 use Rattle.tsb_heads.specs.declared.monitor.Trip.{Trip}
@@ -17,10 +19,11 @@ use Rattle.tsb_step.specs.Good.{IsGood}
 use Rattle.tsb_step.specs.MonitorCells.{lamp_in, trip_in}
 use Rattle.tsb_step.specs.MonitorLaws.{IsMonitorBy}
 use Rattle.tsb_step.specs.State.{State, Tripped}
-use Rattle.tsb_step.specs.Step.{step, verdict, ticked, with_lamp}
+use Rattle.tsb_step.specs.Step.{step, verdict, last_tick, ticked, with_lamp}
 use Rattle.tsb_step.specs.declared.inputs.Input.{Input}
 use Rattle.tsb_step.specs.declared.inputs.Input.TheVariants as inputs
 use Rattle.tsb_step.proofs.MonitorLemmas as monitor
+use Rattle.tsb_controller.specs.declared.first_cell.TheConstants.{DESK, MONITOR}
 use Rattle.tsb_controller.specs.Promises.{IsWatchedTick, IsLit, IsRestarted, tripping}
 use Rattle.tsb_controller.specs.Records.{changes}
 use Rattle.tsb_controller.specs.Rows.{Rows, Beside, AreBy, untripped, state_of}
@@ -47,13 +50,13 @@ layers-done i now old new entries stays by steps new_by told =
     record {
       state = ap (λ (n : ℕ). all_in n rows) stays ∙ steps;
       by = subst (λ (n : ℕ). AreAllBy n rows) (sym stays) (record { plan = by.plan; desk = by.desk; layers = new_by; monitor = by.monitor });
-      entries_are = told ∙ sym (append-nil (changes old.layers new)) ∙ ap (λ (es : List (ℕ × ℕ)). changes old.layers new ++ shifted 1572 es) (sym (diff-same old.monitor))
+      entries_are = told ∙ sym (append-nil (changes old.layers new)) ∙ ap (λ (es : List (ℕ × ℕ)). changes old.layers new ++ shifted MONITOR es) (sym (diff-same old.monitor))
           ∙ sym (changes-layers old rows refl refl);
     }
 
 -- an input that changes the desk alone
 pub desk-done : (i : Input) (now : ℕ) (old : All) (new : List ℕ) (entries : List (ℕ × ℕ)) → next_tick now i ≡ now → AreAllBy now old → desk_cells.IsBy new →
-    record (all_in now old) { desk = desk_in new } ≡ step (all_in now old) i → entries ≡ shifted 1230 (diff old.desk new) → IsDone i now old (record old { desk = new }) entries
+    record (all_in now old) { desk = desk_in new } ≡ step (all_in now old) i → entries ≡ shifted DESK (diff old.desk new) → IsDone i now old (record old { desk = new }) entries
 desk-done i now old new entries stays by new_by steps told =
     let rows : All = record old { desk = new } in
     record {
@@ -98,7 +101,7 @@ tick-tripped now old row by tripped = record {
 }
 
 -- a tick that is taken is none behind the last
-pub below-limit : (now : ℕ) (a : All) (row : Row) → verdict (all_in now a) (inputs.Tick row) ≡ None → now + 1 ≤ 6000000
+pub below-limit : (now : ℕ) (a : All) (row : Row) → verdict (all_in now a) (inputs.Tick row) ≡ None → now + 1 ≤ last_tick
 unfolding verdict
 below-limit now a row allowed = grind (arith, nat_tests)
 
@@ -110,10 +113,6 @@ untripped-by now None r none by = subst (λ (n : ℕ). AreBy n r) back by
     back = omega arith
 untripped-by now (Some t) r none by = absurd cc
 
-pub none-of : {A : Type 0} (o : Option A) → is_some o ≡ false → o ≡ None
-none-of None h = refl
-none-of (Some x) h = absurd cc
-
 -- what holds of every run holds of a controller that has not tripped, as its tick asks
 pub good-here : (now : ℕ) (a : All) (lamp : Option Lamp) (layers : Rows) → is_some (trip_in a.monitor) ≡ false → lamp ≡ lamp_in a.monitor → layers ≡ a.layers →
     IsGood (all_in now a) → IsGood (state_of (now + 1 - 1) (untripped (plan_in a.plan) (desk_in a.desk) lamp) layers)
@@ -123,7 +122,7 @@ good-here now a lamp layers calm lit same good =
     (subst (λ (l : Option Lamp). IsGood (state_of now (untripped (plan_in a.plan) (desk_in a.desk) l) layers)) (sym lit)
     (subst (λ (r : Rows). IsGood (state_of now (untripped (plan_in a.plan) (desk_in a.desk) (lamp_in a.monitor)) r)) (sym same)
     (subst (λ (t : Option Tripped). IsGood (state_of now (record { plan = plan_in a.plan; desk = desk_in a.desk; lamp = lamp_in a.monitor; trip = t }) a.layers))
-    (none-of (trip_in a.monitor) calm) good)))
+    (is-none (trip_in a.monitor) calm) good)))
 
 pub some-none : {A : Type 0} (o : Option A) → is_some o ≡ true → o ≡ None → ⊥
 some-none None h e = absurd cc
@@ -148,7 +147,7 @@ pub tick-done : (now : ℕ) (old new : All) (row : Row) (found : Option Trip) (e
     IsWatchedTick (now + 1) row (lamp_in old.monitor) (plan_in old.plan) old.layers new.layers found → AreBy (now + 1) new.layers →
     new.plan ≡ old.plan → new.desk ≡ old.desk → lamp_in new.monitor ≡ lamp_in old.monitor →
     trip_in new.monitor ≡ option_map (λ cause. record { cause = cause; tick = now + 1 }) found → IsMonitorBy (now + 1) new.monitor →
-    entries ≡ changes old.layers new.layers ++ shifted 1572 (diff old.monitor new.monitor) → IsDone (inputs.Tick row) now old new entries
+    entries ≡ changes old.layers new.layers ++ shifted MONITOR (diff old.monitor new.monitor) → IsDone (inputs.Tick row) now old new entries
 unfolding step
 tick-done now old new row found entries by none watched new_by plan desk lamp trip monitor_by told =
     let back : now + 1 - 1 ≡ now = omega arith in
@@ -183,7 +182,7 @@ pub fault-done : (now : ℕ) (old : All) (new : List ℕ) (lamp : Option Lamp) (
     (is_some (trip_in old.monitor) ≡ true → found ≡ None) →
     (trip_in old.monitor ≡ None → IsLit (lamp_in old.monitor) lamp (plan_in old.plan) old.layers found) →
     lamp_in new ≡ lamp → trip_in new ≡ tripped_by found now (trip_in old.monitor) → IsMonitorBy now new →
-    entries ≡ shifted 1572 (diff old.monitor new) → IsDone (inputs.Fault lamp) now old (record old { monitor = new }) entries
+    entries ≡ shifted MONITOR (diff old.monitor new) → IsDone (inputs.Fault lamp) now old (record old { monitor = new }) entries
 unfolding step
 fault-done now old new lamp found entries by tripped untripped_then lamp_is trip_is monitor_by told = at (trip_in old.monitor) refl
   where
@@ -197,7 +196,7 @@ fault-done now old new lamp found entries by tripped untripped_then lamp_is trip
     read = ap₂ with lamp_is trip_is
 
     told_all : entries ≡ all_changes old rows
-    told_all = told ∙ ap (λ (es : List (ℕ × ℕ)). es ++ shifted 1572 (diff old.monitor new)) (sym (no-changes old.layers)) ∙ sym (changes-layers old rows refl refl)
+    told_all = told ∙ ap (λ (es : List (ℕ × ℕ)). es ++ shifted MONITOR (diff old.monitor new)) (sym (no-changes old.layers)) ∙ sym (changes-layers old rows refl refl)
 
     by_now : AreBy (clock_at now (trip_in new)) old.layers → AreAllBy now rows
     by_now layers = record { plan = by.plan; desk = by.desk; layers = layers; monitor = monitor_by }
@@ -251,7 +250,7 @@ by-now now old by = rows-stay (clock_at now (trip_in old.monitor)) now old.layer
 
 pub reset-done : (now : ℕ) (old new : All) (entries : List (ℕ × ℕ)) → AreAllBy now old → is_some (trip_in old.monitor) ≡ true →
     IsRestarted now old.layers new.layers → AreBy now new.layers → new.plan ≡ old.plan → new.desk ≡ old.desk → lamp_in new.monitor ≡ None → trip_in new.monitor ≡ None →
-    IsMonitorBy now new.monitor → entries ≡ changes old.layers new.layers ++ shifted 1572 (diff old.monitor new.monitor) → IsDone inputs.Reset now old new entries
+    IsMonitorBy now new.monitor → entries ≡ changes old.layers new.layers ++ shifted MONITOR (diff old.monitor new.monitor) → IsDone inputs.Reset now old new entries
 unfolding step
 reset-done now old new entries by tripped restarts new_by plan desk lamp trip monitor_by told = record {
   state = ap (λ (xs : List ℕ). state_of now (record { plan = plan_in xs; desk = desk_in new.desk; lamp = lamp_in new.monitor; trip = trip_in new.monitor }) new.layers) plan
@@ -270,8 +269,8 @@ reset-done now old new entries by tripped restarts new_by plan desk lamp trip mo
 -- ## Commits
 
 pub commit-done : (i : Input) (now : ℕ) (old new : All) (entries : List (ℕ × ℕ)) → next_tick now i ≡ now → AreAllBy now old → all_in now new ≡ step (all_in now old) i →
-    length new.plan ≡ 1230 → desk_cells.IsBy new.desk → AreBy (clock_at now (trip_in old.monitor)) new.layers → new.monitor ≡ old.monitor →
-    entries ≡ diff old.plan new.plan ++ (shifted 1230 (diff old.desk new.desk) ++ changes old.layers new.layers) → IsDone i now old new entries
+    length new.plan ≡ PLAN_CELLS → desk_cells.IsBy new.desk → AreBy (clock_at now (trip_in old.monitor)) new.layers → new.monitor ≡ old.monitor →
+    entries ≡ diff old.plan new.plan ++ (shifted DESK (diff old.desk new.desk) ++ changes old.layers new.layers) → IsDone i now old new entries
 commit-done i now old new entries stays by steps plan desk layers same told = record {
   state = ap (λ (n : ℕ). all_in n new) stays ∙ steps;
   by = subst (λ (n : ℕ). AreAllBy n new) (sym stays) (record {
@@ -293,12 +292,12 @@ changes-told old kept changed closed before after empty kept_is closed_is told =
 
 -- where only the desk was open
 pub desk-input : (i : Input) (now : ℕ) (old : All) (kept changed closed : List ℕ) (before after : List (ℕ × ℕ)) (next : Desk) → next_tick now i ≡ now → AreAllBy now old →
-    desk_cells.IsBy closed → desk_in changed ≡ next → closed ≡ changed → kept ≡ old.desk → before ≡ [] → after ≡ before ++ shifted 1230 (diff kept changed) →
+    desk_cells.IsBy closed → desk_in changed ≡ next → closed ≡ changed → kept ≡ old.desk → before ≡ [] → after ≡ before ++ shifted DESK (diff kept changed) →
     record (all_in now old) { desk = next } ≡ step (all_in now old) i → IsDone i now old (record old { desk = closed }) after
 desk-input i now old kept changed closed before after next stays by closed_by made closed_is kept_is empty told steps =
     desk-done i now old closed after stays by closed_by
     (ap (λ (d : Desk). record (all_in now old) { desk = d }) (ap desk_in closed_is ∙ made) ∙ steps)
-    (told ∙ ap₂ (λ (b : List (ℕ × ℕ)) (k : List ℕ). b ++ shifted 1230 (diff k changed)) empty kept_is ∙ ap (λ (xs : List ℕ). shifted 1230 (diff old.desk xs)) (sym closed_is))
+    (told ∙ ap₂ (λ (b : List (ℕ × ℕ)) (k : List ℕ). b ++ shifted DESK (diff k changed)) empty kept_is ∙ ap (λ (xs : List ℕ). shifted DESK (diff old.desk xs)) (sym closed_is))
 
 -- the entries of a commit, put together from those of the plan, the desk and the layers
 pub commit-told : (plan desk layers start one two all : List (ℕ × ℕ)) → start ≡ [] → one ≡ start ++ plan → two ≡ one ++ desk → all ≡ two ++ layers → all ≡ plan ++ (desk ++ layers)

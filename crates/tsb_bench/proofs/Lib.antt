@@ -8,3 +8,4 @@ pub mod ValueLemmas
 pub mod RefusalLemmas
 pub mod SessionLemmas
 pub mod WatchedLemmas
+pub mod RoomLemmas

@@ -8,6 +8,7 @@ use Rattle.tsb_history.specs.History.{Change}
 use Rattle.tsb_history.specs.declared.kinds.Kind.{Kind}
 use Rattle.tsb_history.specs.declared.kinds.Kind.TheVariants as kinds
 use Rattle.tsb_types.specs.declared.row.Row.{Row}
+use Rattle.tsb_types.proofs.OptionLemmas.{is-none}
 use Rattle.tsb_plan.specs.PlanOf.{plan_in}
 use Rattle.tsb_step.specs.Cells.{clock_at}
 use Rattle.tsb_step.specs.MonitorCells.{lamp_in, trip_in}
@@ -27,7 +28,7 @@ use Rattle.tsb_bench.specs.Cabinet.{rows_of, IsDone, Passes, MayPass, next_tick}
 use Rattle.tsb_bench.specs.Held.{IsSound}
 use Rattle.tsb_bench.specs.declared.cabinet.Cabinet.{Cabinet}
 use Rattle.tsb_bench.proofs.HeldLemmas.{Applied, sound-applied, records-applied, back-applied}
-use Rattle.tsb_bench.proofs.InputLemmas.{by-now, no-changes, none-of, tick-done}
+use Rattle.tsb_bench.proofs.InputLemmas.{by-now, no-changes, tick-done}
 
 -- ## Which ticks may be passed over
 
@@ -87,11 +88,11 @@ module _ (tick : ℕ) (row : Row) (old new : All) (entries : List (ℕ × ℕ)) 
       IsWatchedTick (tick + 1) row (lamp_in new.monitor) (plan_in new.plan) new.layers new.layers None
   watched-here off watched =
       subst (λ (r : Rows). IsWatchedTick (tick + 1) row (lamp_in new.monitor) (plan_in new.plan) r new.layers None) layers-same
-      (watched (none-of (trip_in new.monitor) off))
+      (watched (is-none (trip_in new.monitor) off))
 
 module _ (now : ℕ) (a : All) (row : Row) (by : AreAllBy now a) (off : is_some (trip_in a.monitor) ≡ false) where
   none : trip_in a.monitor ≡ None
-  none = none-of (trip_in a.monitor) off
+  none = is-none (trip_in a.monitor) off
 
   -- rows of a controller that has not tripped can be held at each later tick number
   stays : (t : ℕ) → now ≤ t → AreAllBy t a

@@ -2,7 +2,7 @@
 -- which each record can be taken back.
 use Rattle.std.specs.Prelude.{◌≡◌, ℕ, ◌+◌, ◌-◌, ◌≤◌, List, [], ◌∷◌}
 use Rattle.tsb_cells.specs.Diff.{AreWithin}
-use Rattle.tsb_history.specs.History.{Change}
+use Rattle.tsb_history.specs.History.{Change, size_of}
 use Rattle.tsb_plan.specs.Objects.{AreInRange}
 use Rattle.tsb_transact.specs.Cells.{desk_in}
 use Rattle.tsb_transact.specs.Desk as desk
@@ -14,8 +14,8 @@ use Rattle.tsb_step.specs.Past.{Whole, ticks_of}
 use Rattle.tsb_step.specs.State.{State}
 use Rattle.tsb_step.specs.Step.{last_tick}
 
--- the tick number, the cells, the records, newest first, and the room for one more: a record of n entries has room
--- where n is below it
+-- the tick number, the cells, the records, newest first, and the room: for how many bytes of further records there is
+-- memory
 pub record Held : Type 0 where
   pub tick : ℕ
   pub rows : All
@@ -29,6 +29,10 @@ state_of h = all_in h.tick h.rows
 -- the state with the records
 abbrev pub whole : Held → Whole
 whole h = record { state = state_of h; records = h.records }
+
+-- how many bytes the history has, in its records and in its room
+abbrev pub memory : Held → ℕ
+memory h = size_of h.records + h.room
 
 -- how many of the records are of ticks
 abbrev pub ticks : List Change → ℕ

@@ -4,3 +4,7 @@ pub mod Cabinet
 pub mod Watched
 -- what callers see of a bench, and what it keeps
 pub mod Held
+-- how long the room of the history lasts
+pub mod Room
+-- what laws of runs say of what `play` leaves
+pub mod PlayLaws

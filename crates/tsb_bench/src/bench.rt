@@ -1,9 +1,9 @@
 //! The whole controller, which can be wound back.
 #![tactic(auto, unfolding(tsb_objects::specs::Checked::checked_plan, tsb_plan::specs::PlanOf::plan_of))]
 
-ghost use Rattle.std.specs.Prelude.{◌≡◌, ℕ, ◌+◌, ◌-◌, ◌<◌, ◌≤◌, [], ◌∷◌, None, Some, Err, is_some, OnOk, OnErr, IfOk, IfErr, MatchResult};
+ghost use Rattle.std.specs.Prelude.{◌≡◌, ℕ, ◌+◌, ◌-◌, ◌<◌, ◌≤◌, [], ◌∷◌, length, None, Some, Err, is_some, OnOk, OnErr, IfOk, IfErr, MatchResult};
 ghost use Rattle.tsb_history.specs.declared.kinds.Kind.{Kind as KindValue};
-ghost use Rattle.tsb_history.specs.History.{newest_kind};
+ghost use Rattle.tsb_history.specs.History.{newest_kind, record_size};
 ghost use Rattle.tsb_objects.specs.Checked.{checked_plan};
 ghost use Rattle.tsb_plan.specs.PlanOf.{plan_of};
 ghost use Rattle.tsb_types.specs.declared.refusal.Refusal.TheVariants.{Memory};
@@ -20,7 +20,7 @@ ghost use Rattle.tsb_transact.specs.Cells.{desk_in};
 ghost use Rattle.tsb_transact.specs.Layer.{cells_of};
 ghost use Rattle.tsb_controller.specs.Whole.{AreAllBy, all_in, all_changes};
 ghost use Rattle.tsb_bench.specs.Cabinet.{rows_of, IsShut, IsDone, MayPass, next_tick, most_cells};
-ghost use Rattle.tsb_bench.specs.Held.{state_of, whole, ticks};
+ghost use Rattle.tsb_bench.specs.Held.{state_of, whole, ticks, memory};
 
 use crate::cabinet::{Cabinet, Changes, MOST_CELLS};
 use crate::watched::Watched;
@@ -116,11 +116,13 @@ fn work(
     requires limit { tick ≤ last_tick }
     requires good { IsGood (all_in tick (rows_of cabinet.old)) }
     requires allowed { verdict (all_in tick (rows_of cabinet.old)) input.now ≡ None }
-    requires room { most_cells (kind_of input.now) < history.old.room }
+    requires room { record_size (most_cells (kind_of input.now)) ≤ history.old.room }
     ensures next { result ≡ next_tick tick input.now }
     ensures done { IsDone input.now tick (rows_of cabinet.old) (rows_of cabinet.new) (all_changes (rows_of cabinet.old) (rows_of cabinet.new)) }
     ensures records { history.new.records ≡
         record { kind = kind_of input.now; entries = all_changes (rows_of cabinet.old) (rows_of cabinet.new) } ∷ history.old.records }
+    ensures few { length (all_changes (rows_of cabinet.old) (rows_of cabinet.new)) ≤ most_cells (kind_of input.now) }
+    ensures room { history.old.room ≤ history.new.room + record_size (length (all_changes (rows_of cabinet.old) (rows_of cabinet.new))) }
     ensures shut { IsShut cabinet.new }
     ensures passing { MayPass result cabinet.new }
 {
@@ -135,7 +137,7 @@ impl Bench {
     pub const TICKS: u32 = limits::TICKS;
 
     /// A bench at power-up, which runs this plan: all phases Red, at tick 0. `Memory`, where there is none for the
-    /// desk's edits, is its only refusal.
+    /// desk's edits, is its only refusal. Of the room of its history nothing is said: the first input asks for memory.
     pub fn power_up(alloc: Global, plan: Checked) -> Result<Bench, Refusal>
         ensures { MatchResult result (λ b. whole b ≡ record { state = start (checked_plan plan); records = [] }) (λ e. e ≡ Memory) }
     {
@@ -208,7 +210,8 @@ impl Bench {
     /// Takes an input.
     ///
     /// What a refusal means stands with each input. `Memory` says that memory ran out, and comes only where there is no
-    /// other refusal and the history had to grow. A refused input leaves the bench as it was.
+    /// other refusal and the history had to grow. A refused input leaves the bench as it was. One that is taken leaves
+    /// less room by no more than the bytes of its record.
     pub fn apply(&mut self, input: Input) -> Result<(), Refusal>
         ensures allowed { OnOk result (verdict (state_of self.old) input ≡ None) }
         ensures state { OnOk result (state_of self.new ≡ step (state_of self.old) input) }
@@ -217,8 +220,13 @@ impl Bench {
         ensures back { OnOk result (earlier (whole self.new) 1 ≡ whole self.old) }
         ensures refused { IfErr result (IsRefusal (verdict (state_of self.old) input)) }
         ensures err { OnErr result (self.new ≡ self.old) }
-        // Out of memory only where the history had no room for a record of all the cells that such an input can change.
-        ensures wanting { result ≡ Err Memory → self.old.room ≤ most_cells (kind_of input) }
+        // Its record has no more entries than there are cells that such an input can change.
+        ensures few { OnOk result (length (record_of input (state_of self.old) (state_of self.new)).entries ≤ most_cells (kind_of input)) }
+        // Out of memory only where the history had no room for a record of all these cells.
+        ensures wanting { result ≡ Err Memory → self.old.room < record_size (most_cells (kind_of input)) }
+        // No more of the room is gone than the bytes of its record.
+        ensures room { OnOk result (self.old.room
+            ≤ self.new.room + record_size (length (record_of input (state_of self.old) (state_of self.new)).entries)) }
     {
         if self.cabinet.passes(self.tick, &input) {
             if self.history.reserve(0).is_err() {
@@ -246,12 +254,15 @@ impl Bench {
 
     /// Takes the newest input back, and tells its kind. The whole controller is then as it was before that input.
     ///
-    /// `Nothing` says that no input is left, and nothing has changed. It takes no memory.
+    /// `Nothing` says that no input is left, and nothing has changed. It takes no memory; the bytes of the record are room
+    /// again.
     pub fn undo(&mut self) -> Result<Kind, Nothing>
         ensures kind { IfOk result (λ k. newest_kind self.old.records ≡ Some k) }
         ensures ok { OnOk result (whole self.new ≡ earlier (whole self.old) 1) }
         ensures nothing { OnErr result (self.old.records ≡ []) }
         ensures err { OnErr result (self.new ≡ self.old) }
+        ensures room { self.old.room ≤ self.new.room }
+        ensures memory { memory self.new ≡ memory self.old }
     {
         let Some(change) = self.history.last() else {
             return Err(Nothing);
@@ -274,6 +285,9 @@ impl Bench {
         ensures possible { OnOk result (tick ≤ self.old.tick) }
         ensures nothing { OnErr result (self.old.tick < tick) }
         ensures err { OnErr result (self.new ≡ self.old) }
+        ensures room { self.old.room ≤ self.new.room }
+        // The bytes of the records that it takes back are room again.
+        ensures memory { memory self.new ≡ memory self.old }
     {
         if self.tick < tick {
             return Err(Nothing);
@@ -293,6 +307,8 @@ impl Bench {
         ensures possible { OnOk result (ticks ≤ self.old.tick) }
         ensures nothing { OnErr result (self.old.tick < ticks) }
         ensures err { OnErr result (self.new ≡ self.old) }
+        ensures room { self.old.room ≤ self.new.room }
+        ensures memory { memory self.new ≡ memory self.old }
     {
         if self.tick < ticks {
             return Err(Nothing);
@@ -319,6 +335,7 @@ impl Bench {
     }
 
     /// A bench that is in the same state and has the same history, in memory of its own. `Memory` is its only refusal.
+    /// Of the room of its history nothing is said.
     pub fn clone_in(&self, alloc: Global) -> Result<Bench, Refusal>
         ensures { MatchResult result (λ b. whole b ≡ whole self.now) (λ e. e ≡ Memory) }
     {

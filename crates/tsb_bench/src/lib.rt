@@ -2,7 +2,7 @@
 //! inputs back, with the whole controller as it was.
 //!
 //! [`Bench`] meets the one step of the definitions (`tsb_step`), and the way back of `tsb_past`: what holds of every run
-//! and of every session by them holds of what [`play`] leaves.
+//! and of every session by them holds of what [`play`] leaves: [`plays_keep_the_laws`].
 #![tactic(auto)]
 
 mod bench;
@@ -11,11 +11,15 @@ mod desk_inputs;
 mod layer_inputs;
 mod monitor_cells;
 mod passing;
+mod play_laws;
 mod player;
+mod room_laws;
 mod watched;
 
 pub use bench::{Bench, Nothing};
+pub use play_laws::plays_keep_the_laws;
 pub use player::{answer, play};
+pub use room_laws::room_lasts;
 pub use tsb_history::Kind;
 pub use tsb_past::Answer;
 pub use tsb_step::{Cmd, Input};

@@ -7,7 +7,7 @@ use Rattle.std.proofs.lemmas.Nat.{from_le_bytes-to_le_bytes_2, from_le_bytes-to_
 use Rattle.std.specs.Int.{w16, w32, to_le_bytes}
 use Rattle.tsb_history.specs.declared.kinds.Kind.{Kind}
 use Rattle.tsb_history.specs.declared.kinds.Kind.TheVariants.{Tick, Pattern, Switch, Fault, Reset, Begin, Set, Verify, Commit, Abort}
-use Rattle.tsb_history.specs.History.{Change, older, FitsEntry, FitsRecord}
+use Rattle.tsb_history.specs.History.{Change, older, size_of, FitsEntry, FitsRecord}
 use Rattle.tsb_history.specs.Bytes.{entries_at, count_at, start_at, change_at, changes_at, IsRecordAt, IsLaid, two_at, four_at, kind_of, code_of, entry_bytes, entries_bytes, record_bytes, IsKept, bytes_of}
 use Rattle.tsb_history.proofs.PlaceLemmas.{length-entries_at, changes_same, laid_same, Agree}
 
@@ -152,6 +152,14 @@ pub length-record_bytes : (r : Change) → length (record_bytes r) ≡ 6 * lengt
 length-record_bytes r =
     let three : length (code_of r.kind ∷ to_le_bytes w16 (length r.entries)) ≡ 3 = refl in
     length-append (entries_bytes r.entries) (code_of r.kind ∷ to_le_bytes w16 (length r.entries)) ∙ ap (λ (m : ℕ). m + 3) (length-entries_bytes r.entries)
+
+-- the spelling of records is of as many bytes as they take
+pub length-bytes_of : (rs : List Change) → length (bytes_of rs) ≡ size_of rs
+length-bytes_of [] = refl
+length-bytes_of (r ∷ rs) =
+    length-append (bytes_of rs) (record_bytes r)
+    ∙ ap (λ (m : ℕ). m + length (record_bytes r)) (length-bytes_of rs)
+    ∙ ap (λ (m : ℕ). size_of rs + m) (length-record_bytes r)
 
 -- pushed and popped, the bytes are the spelling of the records
 pub kept-grown : (n : ℕ) (bs cs : List ℕ) (r : Change) → IsKept n bs → FitsRecord r → cs ≡ bs ++ record_bytes r → IsKept (n + 1) cs

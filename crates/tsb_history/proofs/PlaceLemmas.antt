@@ -1,7 +1,7 @@
 -- Reading by places: how many entries and records are read, which one stands at an index, and that
 -- lists of bytes which agree before a place hold the same records before it.
 use Rattle.std.proofs.Common.{◌≡◌, ℕ, zero, suc, ◌+◌, ◌-◌, ◌*◌, ◌<◌, ◌≤◌, List, ◌∷◌, length, get_or, refl, sym, ap, subst, arith, ◌∙◌, slice_get, Some, None}
-use Rattle.tsb_history.specs.History.{Change, newest, newest_kind}
+use Rattle.tsb_history.specs.History.{Change, newest, newest_kind, older, size_of}
 use Rattle.tsb_history.specs.Bytes.{entries_at, count_at, start_at, change_at, changes_at, IsRecordAt, IsLaid, two_at, four_at, kind_of}
 
 -- so many entries are read as are asked for, and so many records
@@ -21,6 +21,14 @@ newest-some (suc n) bs end some = refl
 pub newest_kind-some : (n : ℕ) (bs : List ℕ) (end : ℕ) → (n ≡ 0 → ⊥) → newest_kind (changes_at n bs end) ≡ Some (change_at bs end).kind
 newest_kind-some zero bs end some = absurd (some refl)
 newest_kind-some (suc n) bs end some = refl
+
+-- the newest record takes the bytes from its start on
+pub size-newest : (n : ℕ) (bs : List ℕ) (end : ℕ) → (n ≡ 0 → ⊥) → IsLaid n bs end → size_of (changes_at n bs end) + start_at bs end ≡ size_of (older (changes_at n bs end)) + end
+size-newest zero bs end some laid = absurd (some refl)
+size-newest (suc n) bs end some laid =
+    let fits : 6 * count_at bs end + 3 ≤ end = laid.0.whole in
+    let count : length (entries_at (count_at bs end) bs (start_at bs end)) ≡ count_at bs end = length-entries_at (count_at bs end) bs (start_at bs end) in
+    omega arith
 
 -- an entry that is there, and one that is not
 pub entry-there : (n : ℕ) (bs : List ℕ) (k i : ℕ) → i < n → slice_get (entries_at n bs k) i ≡ Some (two_at bs (k + 6 * i), four_at bs (k + 6 * i + 2))

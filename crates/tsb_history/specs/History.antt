@@ -1,7 +1,7 @@
--- What a history is to its users: a list of records, the newest first, and the room for one more.
+-- What a history is to its users: a list of records, the newest first, and the room for further ones.
 -- A record is what one input changed; the words below speak of the newest record, of those before
--- it, and of the numbers that a record can hold.
-use Rattle.std.specs.Prelude.{ℕ, ◌<◌, Option, Some, None, List, [], ◌∷◌, length, All}
+-- it, of the bytes that records take, and of the numbers that a record can hold.
+use Rattle.std.specs.Prelude.{ℕ, ◌+◌, ◌*◌, ◌<◌, Option, Some, None, List, [], ◌∷◌, length, All}
 use Rattle.tsb_history.specs.declared.kinds.Kind.{Kind}
 
 -- one input: its kind, and each changed cell with the value that it had before
@@ -9,7 +9,17 @@ pub record Change : Type 0 where
   pub kind : Kind
   pub entries : List (ℕ × ℕ)
 
--- the records, newest first; a record of n cells has room where n is below `room`
+-- how many bytes a record of n entries takes: six for each entry, one for the kind and two for their
+-- number
+abbrev pub record_size : ℕ → ℕ
+record_size n = 6 * n + 3
+
+-- how many bytes records take
+abbrev pub size_of : List Change → ℕ
+size_of [] = 0
+size_of (r ∷ rs) = size_of rs + record_size (length r.entries)
+
+-- the records, newest first, and for how many bytes of further records there is memory
 pub record Past : Type 0 where
   pub records : List Change
   pub room : ℕ

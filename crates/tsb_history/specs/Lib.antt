@@ -1,4 +1,4 @@
--- records of inputs, the newest first, and the room for one more
+-- records of inputs, the newest first, the bytes that they take, and the room for further ones
 pub mod History
 -- how records are spelled in bytes, and read from their end
 pub mod Bytes

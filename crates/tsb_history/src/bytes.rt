@@ -37,6 +37,7 @@ pub fn write_record(bytes: &mut Vec<u8>, kind: Kind, entries: &[(u16, u32)])
     requires few { length entries.now < 65536 }
     ensures items { bytes.new.items ≡ bytes.old.items ++ record_bytes (record { kind = kind; entries = entries.now }) }
     ensures fits { All FitsEntry entries.now }
+    ensures capacity { vec_capacity bytes.old ≤ vec_capacity bytes.new }
 {
     for i in 0..entries.len() {
         let (cell, old) = entries[i];

@@ -1,6 +1,9 @@
-use Rattle.std.proofs.Common.{◌∷◌, ◌∙◌, List, ℕ, ap₂, subst}
+use Rattle.std.proofs.Common.{◌≡◌, ◌≤◌, ◌+◌, ◌∷◌, ◌∙◌, List, ℕ, length, ap, ap₂, subst}
+use Rattle.tsb_history.specs.History.{record_size}
 use Rattle.tsb_history.specs.declared.kinds.Kind.{Kind}
-use Rattle.tsb_bench.specs.Cabinet.{rows_of, IsDone}
+use Rattle.tsb_step.specs.Step.{kind_of}
+use Rattle.tsb_controller.specs.Whole.{all_changes}
+use Rattle.tsb_bench.specs.Cabinet.{rows_of, most_cells, IsDone}
 use Rattle.tsb_bench.proofs.bench.work.Goals as goal
 
 pub returns-clause-done : goal.returns-clause-done
@@ -8,5 +11,15 @@ returns-clause-done c = subst (IsDone c.args.input.now c.args.tick (rows_of c.ar
 
 pub returns-clause-records : goal.returns-clause-records
 returns-clause-records c =
-    c.push.ensures
+    c.push.ensures.records
     ∙ ap₂ (λ (k : Kind) (es : List (ℕ × ℕ)). record { kind = k; entries = es } ∷ c.args.history.now.records) c.kind_of.ensures (c.deref.ensures.0 ∙ c.step-tick.ensures.done.entries_are)
+
+pub returns-clause-few : goal.returns-clause-few
+returns-clause-few c =
+    let same : length c.step-tick.new.out.items ≡ length (all_changes (rows_of c.args.cabinet.now) (rows_of c.step-tick.new.self)) = ap length c.step-tick.ensures.done.entries_are in
+    subst (λ (n : ℕ). n ≤ most_cells (kind_of c.args.input.now)) same c.step-tick.ensures.few
+
+pub returns-clause-room : goal.returns-clause-room
+returns-clause-room c =
+    let same : length c.deref.result.now ≡ length (all_changes (rows_of c.args.cabinet.now) (rows_of c.step-tick.new.self)) = ap length (c.deref.ensures.0 ∙ c.step-tick.ensures.done.entries_are) in
+    subst (λ (n : ℕ). c.args.history.now.room ≤ c.push.new.self.room + record_size n) same c.push.ensures.room

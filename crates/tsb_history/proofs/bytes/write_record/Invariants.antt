@@ -8,5 +8,6 @@ abbrev pub invariant-loop-i : goal.invariant-loop-i
 invariant-loop-i l = record {
   room : vec_len l.bytes + 6 * (length l.entries - l.i) + 3 ≤ vec_capacity l.bytes;
   told : l.bytes.items ++ entries_bytes (drop l.i l.entries) ≡ l.fn.bytes.items ++ entries_bytes l.entries;
+  capacity : vec_capacity l.fn.bytes ≤ vec_capacity l.bytes;
   fits : (k : ℕ) (d : ℕ × ℕ) → k < l.i → FitsEntry (get_or l.entries k d);
 }

@@ -1,4 +1,4 @@
-use Rattle.std.proofs.Common.{◌≡◌, ◌+◌, ◌≤◌, [], ◌∷◌, ◌∙◌, List, ap, sym, arith, Option, None, Some, refl}
+use Rattle.std.proofs.Common.{◌≡◌, ◌+◌, ◌≤◌, ℕ, [], ◌∷◌, ◌∙◌, List, length, ap, subst, sym, arith, Option, None, Some, refl}
 use Rattle.tsb_history.specs.History.{Change}
 use Rattle.tsb_history.specs.declared.kinds.Kind.TheVariants as kinds
 use Rattle.std.specs.Prelude.{Result, Err}
@@ -7,10 +7,11 @@ use Rattle.tsb_types.specs.declared.refusal.Refusal.TheVariants.{Memory}
 use Rattle.tsb_controller.specs.Whole.{all_in, all_changes}
 use Rattle.tsb_step.specs.Past.{record_of}
 use Rattle.tsb_step.specs.Step.{kind_of, verdict}
-use Rattle.tsb_bench.specs.Cabinet.{rows_of}
+use Rattle.tsb_bench.specs.Cabinet.{rows_of, most_cells}
 use Rattle.tsb_bench.specs.Held.{Held, state_of, whole}
 use Rattle.tsb_bench.proofs.HeldLemmas.{sound-held}
 use Rattle.tsb_bench.proofs.PassingLemmas.{may-later, sound-passed, records-passed, back-passed, sound-taken, records-taken, back-taken}
+use Rattle.tsb_bench.proofs.RoomLemmas.{newest-told, none-few, none-left, all-left}
 use Rattle.tsb_bench.proofs.RefusalLemmas.{never-memory, refuses}
 use Rattle.tsb_bench.proofs.bench.Bench.apply.Goals as goal
 
@@ -23,20 +24,32 @@ pub invariant_of-self-then-passes : goal.invariant_of-self-then-passes
 invariant_of-self-then-passes c = (
   c.self.invariant.0,
   sound-passed c.args.input c.self.inside.tick c.self.inside.cabinet c.self.inside.history.records c.push.new.self.records c.self.invariant.1 (c.passes.ensures c.if-passes.true)
-      (c.push.ensures ∙ ap (λ (rs : List Change). record { kind = kinds.Tick; entries = [] } ∷ rs) c.reserve.ensures.same),
+      (c.push.ensures.records ∙ ap (λ (rs : List Change). record { kind = kinds.Tick; entries = [] } ∷ rs) c.reserve.ensures.same),
   may-later c.self.inside.tick (c.self.inside.tick + 1) c.self.inside.cabinet (omega arith) c.self.invariant.2,
 )
 
 pub returns-then-passes-clause-records : goal.returns-then-passes-clause-records
 returns-then-passes-clause-records c =
     records-passed c.args.input c.self.inside.tick c.self.inside.cabinet c.self.inside.history.records c.push.new.self.records c.self.invariant.1 (c.passes.ensures c.if-passes.true)
-    (c.push.ensures ∙ ap (λ (rs : List Change). record { kind = kinds.Tick; entries = [] } ∷ rs) c.reserve.ensures.same)
+    (c.push.ensures.records ∙ ap (λ (rs : List Change). record { kind = kinds.Tick; entries = [] } ∷ rs) c.reserve.ensures.same)
     ∙ ap (λ (h : Held). record_of c.args.input (state_of h) (all_in (c.self.inside.tick + 1) (rows_of c.self.inside.cabinet)) ∷ h.records) c.self.view_is
+
+-- the record has no entry
+none-told : (c : goal.After-push) → length (record_of c.args.input (state_of c.args.self.now) (all_in (c.self.inside.tick + 1) (rows_of c.self.inside.cabinet))).entries ≡ 0
+none-told c = sym (newest-told _ _ _ (returns-then-passes-clause-records c)) ∙ newest-told _ _ _ c.push.ensures.records
+
+pub returns-then-passes-clause-few : goal.returns-then-passes-clause-few
+returns-then-passes-clause-few c = none-few _ (most_cells (kind_of c.args.input)) (none-told c)
+
+pub returns-then-passes-clause-room : goal.returns-then-passes-clause-room
+returns-then-passes-clause-room c =
+    none-left c.args.self.now.room c.reserve.new.self.room c.push.new.self.room _ (none-told c)
+    (subst (λ (n : ℕ). n ≤ c.reserve.new.self.room) (ap (λ (h : Held). h.room) c.self.view_is) c.reserve.ensures.room) c.push.ensures.room
 
 pub returns-then-passes-clause-back : goal.returns-then-passes-clause-back
 returns-then-passes-clause-back c =
     back-passed c.args.input c.self.inside.tick c.self.inside.cabinet c.self.inside.history.records c.push.new.self.records c.self.invariant.1 (c.passes.ensures c.if-passes.true)
-    (c.push.ensures ∙ ap (λ (rs : List Change). record { kind = kinds.Tick; entries = [] } ∷ rs) c.reserve.ensures.same)
+    (c.push.ensures.records ∙ ap (λ (rs : List Change). record { kind = kinds.Tick; entries = [] } ∷ rs) c.reserve.ensures.same)
     ∙ ap whole c.self.view_is
 
 -- ## An input that is worked out
@@ -91,3 +104,15 @@ returns-clause-back c =
     c.work-self-inside.new.history.records c.self.invariant.1 (sym c.refusal.ensures ∙ no_refusal c.refusal.result c.in_default.not-Some) c.work-self-inside.ensures.done c.work-self-inside.ensures.next
     (c.work-self-inside.ensures.records ∙ ap (λ (rs : List Change). record { kind = kind_of c.args.input; entries = all_changes (rows_of c.self.inside.cabinet) (rows_of c.work-self-inside.new.cabinet) } ∷ rs) c.reserve-2.ensures.same)
     ∙ ap whole c.self.view_is
+
+-- the record has the entries of the cells that differ
+all-told : (c : goal.After-self-2-1) → length (all_changes (rows_of c.self.inside.cabinet) (rows_of c.work-self-inside.new.cabinet)) ≡ length (record_of c.args.input (state_of c.args.self.now) (all_in c.work-self-inside.result (rows_of c.work-self-inside.new.cabinet))).entries
+all-told c = sym (newest-told _ _ _ c.work-self-inside.ensures.records) ∙ newest-told _ _ _ (returns-clause-records c)
+
+pub returns-clause-few : goal.returns-clause-few
+returns-clause-few c = subst (λ (n : ℕ). n ≤ most_cells (kind_of c.args.input)) (all-told c) c.work-self-inside.ensures.few
+
+pub returns-clause-room : goal.returns-clause-room
+returns-clause-room c =
+    all-left c.args.self.now.room c.reserve-2.new.self.room c.work-self-inside.new.history.room _ _ (all-told c)
+    (subst (λ (n : ℕ). n ≤ c.reserve-2.new.self.room) (ap (λ (h : Held). h.room) c.self.view_is) c.reserve-2.ensures.room) c.work-self-inside.ensures.room

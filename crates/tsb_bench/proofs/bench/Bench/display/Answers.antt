@@ -4,9 +4,10 @@ use Rattle.tsb_plan.specs.PlanOf.{plan_of}
 use Rattle.tsb_heads.specs.Promises.{IsSame}
 use Rattle.tsb_heads.specs.Reading.{heads_of}
 use Rattle.tsb_step.specs.Signs.{display, IsSafe}
+use Rattle.tsb_step.proofs.SafeLemmas.{display_is_safe}
 use Rattle.tsb_bench.specs.Cabinet.{rows_of}
 use Rattle.tsb_bench.specs.Held.{Held, state_of}
-use Rattle.tsb_bench.proofs.HeldLemmas.{sound-held, safe}
+use Rattle.tsb_bench.proofs.HeldLemmas.{sound-held}
 use Rattle.tsb_bench.proofs.InputLemmas.{beside}
 use Rattle.tsb_bench.proofs.bench.Bench.display.Goals as goal
 
@@ -20,4 +21,4 @@ returns-clause-shown c =
     (c.display.ensures c.self.inside.tick (beside (rows_of c.self.inside.cabinet)) refl (sym c.is_tripped.ensures))
 
 pub returns-clause-safe : goal.returns-clause-safe
-returns-clause-safe c = subst (λ (h : Held). IsSafe (state_of h)) c.self.view_is (safe _ (sound-held _ _ _ c.self.invariant.1).good)
+returns-clause-safe c = subst (λ (h : Held). IsSafe (state_of h)) c.self.view_is (display_is_safe _ (sound-held _ _ _ c.self.invariant.1).good)

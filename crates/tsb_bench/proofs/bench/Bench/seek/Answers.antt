@@ -1,4 +1,4 @@
-use Rattle.std.proofs.Common.{◌≡◌, ◌∙◌, sym, ap, subst, rules}
+use Rattle.std.proofs.Common.{◌≡◌, ◌∙◌, sym, ap, subst, rules, arith}
 use Rattle.tsb_past.proofs.PastLemmas.{sought-here, sought-least}
 use Rattle.tsb_step.specs.Past.{Whole, controller, sought, IsLeastBack}
 use Rattle.tsb_bench.specs.Held.{Held, state_of, whole, IsSound}
@@ -15,7 +15,12 @@ pub loop-self-smaller : goal.loop-self-smaller
 loop-self-smaller c = (back c).smaller
 
 pub loop-self-preserved : goal.loop-self-preserved
-loop-self-preserved c = record { ahead = (back c).ahead; same = (back c).same ∙ c.loop-self.invariant.same }
+loop-self-preserved c = record {
+  ahead = (back c).ahead;
+  room = omega (arith, c.undo.ensures.room, c.loop-self.invariant.room);
+  memory = c.undo.ensures.memory ∙ c.loop-self.invariant.memory;
+  same = (back c).same ∙ c.loop-self.invariant.same;
+}
 
 pub returns-clause-ok : goal.returns-clause-ok
 returns-clause-ok c =

@@ -1,10 +1,11 @@
-use Rattle.std.proofs.Common.{◌≡◌, ◌-◌, ◌∙◌, List, ℕ, sym, ap, ap₂, subst}
+use Rattle.std.proofs.Common.{◌≡◌, ◌≤◌, ◌-◌, ◌∙◌, List, ℕ, sym, ap, ap₂, subst}
 use Rattle.tsb_history.specs.History.{Change}
 use Rattle.tsb_controller.specs.Whole.{All, all_in, all_put_back}
 use Rattle.tsb_step.specs.Past.{ticks_of, taken_back}
 use Rattle.tsb_bench.specs.Cabinet.{rows_of}
-use Rattle.tsb_bench.specs.Held.{Held, state_of, IsHeld, IsSound}
+use Rattle.tsb_bench.specs.Held.{Held, state_of, memory, IsHeld, IsSound}
 use Rattle.tsb_bench.proofs.HeldLemmas.{IsNewest, newest-is, sound-held}
+use Rattle.tsb_bench.proofs.RoomLemmas.{more-left}
 use Rattle.tsb_bench.proofs.bench.Bench.undo.Goals as goal
 
 -- the rows before the newest input are such as a bench may have
@@ -48,3 +49,11 @@ returns-clause-ok c =
     })
     ∙ sym (newest c).whole_is
     ∙ ap (λ (h : Held). taken_back (state_of h) h.records) c.self.view_is
+
+pub returns-clause-memory : goal.returns-clause-memory
+returns-clause-memory c = c.pop.ensures.room ∙ ap memory c.self.view_is
+
+pub returns-clause-room : goal.returns-clause-room
+returns-clause-room c =
+    subst (λ (n : ℕ). n ≤ c.pop.new.self.room) (ap (λ (h : Held). h.room) c.self.view_is)
+    (more-left c.self.inside.history.records c.pop.new.self.records c.self.inside.history.room c.pop.new.self.room c.pop.ensures.rest c.pop.ensures.room)
