@@ -1,0 +1,12 @@
+pub mod StretchLemmas
+pub mod IntergreenLemmas
+pub mod WalkLemmas
+pub mod ChoiceLemmas
+pub mod EnabledLemmas
+pub mod RingLemmas
+pub mod ServedLemmas
+pub mod SideSoughtLemmas
+pub mod CrossingRingLemmas
+pub mod CrossingLemmas
+pub mod CoordinationLemmas
+pub mod Examples
