@@ -1,0 +1,78 @@
+-- What the laws refuse: for each a mistake in the definitions, and by computing what comes of it. Beside each stands what
+-- the definitions as they are make of the same.
+use Rattle.std.specs.Prelude.{◌≡◌, ℕ, ◌+◌, ◌-◌, List, [], ◌∷◌, Some, None, refl}
+use Rattle.tsb_cells.specs.declared.timer.Timer.{Timer}
+use Rattle.tsb_cells.specs.declared.timer.Timer.TheVariants.{Off, On}
+use Rattle.tsb_cells.specs.Timer.{advanced, timer_cell, timer_at}
+use Rattle.tsb_cells.specs.Diff.{diff, apply_diff}
+use Rattle.tsb_heads.specs.declared.monitor.Trip.TheVariants.{Conflict}
+use Rattle.tsb_history.specs.declared.kinds.Kind.{Kind}
+use Rattle.tsb_history.specs.declared.kinds.Kind.TheVariants as kinds
+use Rattle.tsb_ring.specs.Rings.{State, Ring1, Ring2, power_up}
+use Rattle.tsb_types.specs.Lists.{or_number}
+use Rattle.tsb_step.specs.Cells.{clock_at}
+use Rattle.tsb_step.specs.Past.{ticks_of}
+
+-- ## Cells tell the state: a clock that goes on while the controller is tripped
+
+-- a timer that was On 12 as the controller tripped at tick 40, read at tick 50
+reads_12 : timer_at (clock_at 50 (Some (record { cause = Conflict 2 4; tick = 40 }))) (timer_cell 40 (On 12)) ≡ On 12
+reads_12 = refl
+
+abbrev clock_goes_on : ℕ → ℕ
+clock_goes_on now = now
+
+would_read_22 : timer_at (clock_goes_on 50) (timer_cell 40 (On 12)) ≡ On 22
+would_read_22 = refl
+
+-- ## Equal cells are equal states: cells without the commitments
+
+abbrev cells_without : State → List ℕ
+cells_without s = or_number (s.last Ring1) 0 ∷ or_number (s.last Ring2) 0 ∷ s.side ∷ or_number s.crossing 0 ∷ []
+
+abbrev committed : State
+committed = record power_up { commitment = λ r. Some 3 }
+
+would_be_equal : cells_without committed ≡ cells_without power_up
+would_be_equal = refl
+
+is_another : committed.commitment Ring1 ≡ Some 3
+is_another = refl
+
+was_none : power_up.commitment Ring1 ≡ None
+was_none = refl
+
+-- ## Pasts are the run: a record with what cells hold after the input
+
+gives_back : apply_diff (1 ∷ 5 ∷ []) (diff (1 ∷ 2 ∷ []) (1 ∷ 5 ∷ [])) ≡ 1 ∷ 2 ∷ []
+gives_back = refl
+
+would_stay : apply_diff (1 ∷ 5 ∷ []) (diff (1 ∷ 5 ∷ []) (1 ∷ 2 ∷ [])) ≡ 1 ∷ 5 ∷ []
+would_stay = refl
+
+-- and one that leaves the tick number
+goes_to_6 : 7 - ticks_of kinds.Tick ≡ 6
+goes_to_6 = refl
+
+abbrev ticks_of_none : Kind → ℕ
+ticks_of_none k = 0
+
+would_be_at_7 : 7 - ticks_of_none kinds.Tick ≡ 7
+would_be_at_7 = refl
+
+-- ## Waiting timers are not written: a cell that counts
+
+-- the cell of a timer that runs on from tick 10 to tick 11
+stays_8 : diff (timer_cell 10 (On 3) ∷ []) (timer_cell 11 (advanced (On 3)) ∷ []) ≡ []
+stays_8 = refl
+
+abbrev counting_cell : Timer → ℕ
+counting_cell Off = 0
+counting_cell (On n) = n + 1
+
+would_be_written : diff (counting_cell (On 3) ∷ []) (counting_cell (advanced (On 3)) ∷ []) ≡ (0, 4) ∷ []
+would_be_written = refl
+
+-- and, the other way round, a timer that begins anew and leaves its cell
+is_written : diff (timer_cell 10 (On 3) ∷ []) (timer_cell 11 (On 0) ∷ []) ≡ (0, 8) ∷ []
+is_written = refl

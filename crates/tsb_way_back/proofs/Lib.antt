@@ -1,0 +1,12 @@
+pub mod PlanLemmas
+pub mod DeskLemmas
+pub mod DetectLemmas
+pub mod CallLemmas
+pub mod PhaseLemmas
+pub mod RingLemmas
+pub mod PreemptLemmas
+pub mod TripLemmas
+pub mod StepLemmas
+pub mod ToldLemmas
+pub mod TimerLemmas
+pub mod Examples

@@ -1,0 +1,37 @@
+-- The runs of which the laws of this crate speak: those of a plan such as the program holds, by inputs whose numbers
+-- are of the program's types.
+use Rattle.std.specs.Prelude.{◌≡◌, ℕ, ◌≤◌, List, [], ◌∷◌}
+use Rattle.tsb_plan.specs.declared.object.Object.{Object}
+use Rattle.tsb_plan.specs.Objects.{greatest}
+use Rattle.tsb_plan.specs.Plan.{Plan}
+use Rattle.tsb_step.specs.declared.inputs.Input.{Input}
+use Rattle.tsb_step.specs.declared.inputs.Input.TheVariants.{Fault, Begin}
+use Rattle.tsb_step.specs.Laws.{IsConsistent}
+use Rattle.tsb_step.specs.MonitorLaws.{IsUpTo, IsLamp}
+use Rattle.tsb_step.specs.Runs.{AreTaken}
+
+-- a plan of 16 phases and 4 sides that breaks no rule, gives nothing where it has no place, and no value over the
+-- greatest of its object
+pub record IsHeld (plan : Plan) : Type 0 where
+  pub consistent : IsConsistent plan
+  pub phases : plan.phase_count ≡ 16
+  pub sides : plan.side_count ≡ 4
+  pub bounded : (o : Object) (i : ℕ) → plan.value o i ≤ greatest o
+
+-- a lamp is of phases 1 to 16 or of overlaps 1 to 4, and the station that begins is 1 to 4: the types of the program
+-- say so. Where another number has to be in its range, an input that has it otherwise is refused
+abbrev pub IsTyped : Input → Type 0
+IsTyped (Fault lamp) = IsLamp lamp
+IsTyped (Begin station) = IsUpTo 4 station
+IsTyped i = Unit {0}
+
+-- each input of a pile is
+abbrev pub AreTyped : List Input → Type 0
+AreTyped [] = Unit {0}
+AreTyped (i ∷ is) = IsTyped i × AreTyped is
+
+-- a run from power-up, each input of which was taken
+pub record IsRun (plan : Plan) (is : List Input) : Type 0 where
+  pub plan_held : IsHeld plan
+  pub taken : AreTaken plan is
+  pub typed : AreTyped is

@@ -1,0 +1,85 @@
+-- The timers that have a cell, which cell that is among all of the controller, and what a tick makes of a timer that
+-- stays Off or runs on.
+use Rattle.std.specs.Prelude.{ℕ, ◌+◌, ◌≤◌, Option, Some, None, List, Contains, is_some, if◌then◌else◌}
+use Rattle.tsb_cells.specs.declared.timer.Timer.{Timer}
+use Rattle.tsb_cells.specs.declared.timer.Timer.TheVariants.{Off}
+use Rattle.tsb_cells.specs.Timer.{advanced}
+use Rattle.tsb_preempt.specs.Service.{Service}
+use Rattle.tsb_step.specs.Cells.{detectors_from, phases_from, preempts_from}
+use Rattle.tsb_step.specs.State.{State}
+
+-- the on-time of a detector is none: while the input is on it is the change timer
+pub data Place : Type 0 where
+  -- of a vehicle detector
+  Change : ℕ → Place
+  Extend : ℕ → Place
+  -- of a phase
+  Interval : ℕ → Place
+  Pedestrian : ℕ → Place
+  Passage : ℕ → Place
+  Conflict : ℕ → Place
+  Reduction : ℕ → Place
+  RedRevert : ℕ → Place
+  -- of a preempt, and of the one in service
+  Delay : ℕ → Place
+  Served : Place
+  Track : Place
+
+-- there are 16 detectors, 16 phases and 4 preempts
+abbrev pub IsPlace : Place → Type 0
+IsPlace (Delay n) = (1 ≤ n) × (n ≤ 4)
+IsPlace Served = Unit {0}
+IsPlace Track = Unit {0}
+IsPlace (Change d) = (1 ≤ d) × (d ≤ 16)
+IsPlace (Extend d) = (1 ≤ d) × (d ≤ 16)
+IsPlace (Interval p) = (1 ≤ p) × (p ≤ 16)
+IsPlace (Pedestrian p) = (1 ≤ p) × (p ≤ 16)
+IsPlace (Passage p) = (1 ≤ p) × (p ≤ 16)
+IsPlace (Conflict p) = (1 ≤ p) × (p ≤ 16)
+IsPlace (Reduction p) = (1 ≤ p) × (p ≤ 16)
+IsPlace (RedRevert p) = (1 ≤ p) × (p ≤ 16)
+
+-- the timers of a service; Off without one
+abbrev pub served : Option Service → Timer
+served None = Off
+served (Some x) = x.timer
+
+abbrev pub tracked : Option Service → Timer
+tracked None = Off
+tracked (Some x) = x.stage_timer
+
+-- the timer of a state
+abbrev pub timer_of : Place → State → Timer
+timer_of (Change d) s = (s.detectors d).change
+timer_of (Extend d) s = (s.detectors d).extend
+timer_of (Interval p) s = (s.phases p).timer
+timer_of (Pedestrian p) s = (s.phases p).pedestrian_timer
+timer_of (Passage p) s = (s.phases p).passage
+timer_of (Conflict p) s = (s.phases p).conflict
+timer_of (Reduction p) s = (s.phases p).reduction
+timer_of (RedRevert p) s = (s.phases p).red_revert
+timer_of (Delay n) s = s.preempts.delay n
+timer_of Served s = served s.preempts.service
+timer_of Track s = tracked s.preempts.service
+
+-- the number of its cell among all of the controller
+abbrev pub cell_of : Place → ℕ
+cell_of (Change d) = detectors_from + (21 + d)
+cell_of (Extend d) = detectors_from + (37 + d)
+cell_of (Interval p) = phases_from + (8 + p)
+cell_of (Pedestrian p) = phases_from + (24 + p)
+cell_of (Passage p) = phases_from + (40 + p)
+cell_of (Conflict p) = phases_from + (56 + p)
+cell_of (Reduction p) = phases_from + (72 + p)
+cell_of (RedRevert p) = phases_from + (88 + p)
+cell_of (Delay n) = preempts_from + (1 + n)
+cell_of Served = preempts_from + 8
+cell_of Track = preempts_from + 9
+
+-- a timer after a tick in which it stayed Off or ran on; in a controller that has tripped timers stand still
+abbrev pub waits : State → Timer → Timer
+waits s t = if is_some s.trip then t else advanced t
+
+-- none of the entries is of this cell
+abbrev pub HasNone : List (ℕ × ℕ) → ℕ → Type 0
+HasNone entries cell = (old : ℕ) → Contains entries (cell, old) → ⊥
