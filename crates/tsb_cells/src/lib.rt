@@ -17,6 +17,3 @@ pub use diff::Diff;
 pub use layout::Layout;
 pub use reversible::{Reversible, abandon};
 pub use timer::Timer;
-
-#[cfg(test)]
-mod tests;

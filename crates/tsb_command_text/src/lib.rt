@@ -7,8 +7,6 @@
 pub mod command;
 mod lamps;
 mod read;
-#[cfg(test)]
-mod tests;
 
 pub use command::{Command, Reading};
 pub use read::{LINE, read_command, reading_of};

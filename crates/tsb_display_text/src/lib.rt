@@ -9,8 +9,6 @@
 mod display_line;
 mod letters;
 mod numbers;
-#[cfg(test)]
-mod tests;
 
 pub use display_line::{LineBytes, WIDTH, line, line_bytes};
 pub use numbers::tick_digits;

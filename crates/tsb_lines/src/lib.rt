@@ -5,8 +5,6 @@
 
 pub mod laws;
 pub mod lines;
-#[cfg(test)]
-mod tests;
 pub mod words;
 
 pub use lines::{is_skipped, next_line, without_return};

@@ -1,6 +1,7 @@
 -- A row of a log: the line that spells it.
 use Rattle.std.specs.Prelude.{ℕ, ◌+◌, ◌*◌, ◌==◌, ◌&&◌, nat_le, List, [], ◌∷◌, if◌then◌else◌, length, take, drop, slice_index, Bool, Option, Some, None}
 use Rattle.tsb_lines.specs.Words.{number_of}
+use Rattle.tsb_types.specs.declared.limits.TheConstants.{TICKS}
 use Rattle.tsb_types.specs.Sets.{set_of_list}
 use Rattle.tsb_log_text.specs.declared.log.LogRow.{LogRow}
 
@@ -14,12 +15,12 @@ abbrev pub list_in_digits : List ℕ → Option ℕ
 list_in_digits [] = Some 0
 list_in_digits (d ∷ ds) = onto_digits d (list_in_digits ds)
 
--- a bench takes 6,000,000 ticks at most, and no row is of tick 0, which is power-up
+-- a bench takes so many ticks at most, and no row is of tick 0, which is power-up
 abbrev pub in_ticks : Option ℕ → Option ℕ
 in_ticks None = None
-in_ticks (Some t) = if nat_le 1 t && nat_le t 6000000 then Some t else None
+in_ticks (Some t) = if nat_le 1 t && nat_le t TICKS then Some t else None
 
--- the tick that digits spell: 1 to 6,000,000
+-- the tick that digits spell: 1 to the last of a bench
 abbrev pub tick_of : List ℕ → Option ℕ
 tick_of digits = in_ticks (number_of digits)
 

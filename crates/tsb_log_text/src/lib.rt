@@ -12,8 +12,6 @@ pub mod log;
 mod read;
 mod row_text;
 mod search;
-#[cfg(test)]
-mod tests;
 
 pub use error::LogError;
 pub use log::{Log, LogRow};

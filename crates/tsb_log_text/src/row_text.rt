@@ -4,6 +4,7 @@ ghost use Rattle.tsb_log_text.specs.Rows.{list_in_digits, row_of, tick_of};
 
 use crate::log::LogRow;
 use tsb_lines::number;
+use tsb_types::limits::TICKS;
 use tsb_types::{NumberSet, Row};
 
 /// The row that a line spells, or `None` where it is no row.
@@ -32,7 +33,7 @@ fn tick(digits: &[u8]) -> Option<u32>
     ensures { result ≡ tick_of digits.now }
 {
     let tick = number(digits)?;
-    if 1 <= tick && tick <= 6_000_000 {
+    if 1 <= tick && tick <= TICKS {
         Some(tick)
     } else {
         None

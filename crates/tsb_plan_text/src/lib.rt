@@ -15,6 +15,3 @@ mod rules;
 pub use error::PlanError;
 pub use read::{LIMIT, read_plan};
 pub use rules::rule_line;
-
-#[cfg(test)]
-mod tests;

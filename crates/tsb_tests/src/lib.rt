@@ -4,13 +4,29 @@
 #[cfg(test)]
 mod bench;
 #[cfg(test)]
+mod cells;
+#[cfg(test)]
+mod commands;
+#[cfg(test)]
 mod desk;
 #[cfg(test)]
+mod display_lines;
+#[cfg(test)]
+mod history;
+#[cfg(test)]
+mod lines;
+#[cfg(test)]
+mod logs;
+#[cfg(test)]
 mod objects;
+#[cfg(test)]
+mod plan_texts;
 #[cfg(test)]
 mod plans;
 #[cfg(test)]
 mod rules;
+#[cfg(test)]
+mod sessions;
 #[cfg(test)]
 mod types;
 #[cfg(test)]

@@ -82,7 +82,7 @@ fn objects_have_names(rt: HostRuntime) {
     assert_eq!(rt; Object::named(Version::One, "overlapType"), None);
     assert_eq!(rt; Object::named(Version::Two, "overlaptype"), None);
     assert_eq!(rt; Object::named(Version::Two, ""), None);
-    version_laws::names_are_told_apart();
+    version_laws::versions_say_the_same();
 }
 
 #[test]

@@ -20,6 +20,3 @@ pub use tsb_objects::{
     Rule, SignalColor, Station, Watch,
 };
 pub use tsb_plan_text::{LIMIT as PLAN_LIMIT, PlanError, read_plan};
-
-#[cfg(test)]
-mod tests;

@@ -1,5 +1,9 @@
-use super::*;
+//! Sessions: whole texts of commands and answers, whatever the reader and the writer do.
+
 use std::io::{self, Read, Write};
+use tsb_text::{
+    Bench, COMMANDS, Checked, Log, Plan, SessionError, line, read_log, read_plan, session,
+};
 
 /// Gives its bytes in pieces, and fails at one of its reads.
 #[derive(Drop)]
@@ -162,7 +166,7 @@ fn answers_whatever_the_pieces(rt: HostRuntime) {
 }
 
 #[test]
-fn a_failing_read_leaves_a_front(rt: HostRuntime) {
+fn a_failing_read_leaves_a_prefix(rt: HostRuntime) {
     for reads in 0..40 {
         let mut out = Vec::new(rt.alloc());
         let mut reader = Pieces {
@@ -181,7 +185,7 @@ fn a_failing_read_leaves_a_front(rt: HostRuntime) {
 }
 
 #[test]
-fn a_failing_write_leaves_a_front(rt: HostRuntime) {
+fn a_failing_write_leaves_a_prefix(rt: HostRuntime) {
     for failure in [Failure::TakesNothing, Failure::Interrupted] {
         for writes in 0..200 {
             let mut out = Narrow {

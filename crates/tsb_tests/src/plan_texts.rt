@@ -1,6 +1,8 @@
-use super::*;
+//! Plan texts, and the lines of their faults.
+
 use std::alloc::{AllocError, Global};
 use tsb_objects::Plan;
+use tsb_plan_text::{LIMIT, PlanError, read_plan};
 
 /// The built-in plan of two phases.
 const TWO: &str =
@@ -55,10 +57,10 @@ fn answer(alloc: Global, text: &str) -> Result<String, AllocError> {
     }
 }
 
-/// What reading a text answers that is `front` with blanks up to the length, printed.
-fn answer_padded(alloc: Global, front: &str, len: usize) -> Result<String, AllocError> {
-    let mut text = String::from_str(alloc, front)?;
-    for _ in front.len()..len {
+/// What reading a text answers that is `start` with blanks up to the length, printed.
+fn answer_padded(alloc: Global, start: &str, len: usize) -> Result<String, AllocError> {
+    let mut text = String::from_str(alloc, start)?;
+    for _ in start.len()..len {
         text.push(' ')?;
     }
     answer(alloc, text.as_str())
@@ -168,7 +170,7 @@ fn bytes_that_are_no_text_are_not_json(rt: HostRuntime) {
 }
 
 #[test]
-fn want_of_memory_is_printed(rt: HostRuntime) {
+fn out_of_memory_is_printed(rt: HostRuntime) {
     let line = format!(in rt.alloc(); "{}", PlanError::Memory).expect(&rt, "memory");
     assert_eq!(rt; line.as_str(), "memory");
 }

@@ -1,4 +1,6 @@
-use super::*;
+//! Command lines, each with the command that it is.
+
+use tsb_command_text::{Command, Reading, read_command, reading_of};
 use tsb_plan::{Object, ObjectId};
 use tsb_types::{Detector, Lamp, Overlap, PedestrianColor, Phase, SignalColor, Station, Watch};
 

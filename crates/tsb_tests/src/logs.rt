@@ -1,5 +1,7 @@
-use super::*;
+//! Logs: rows in force, and the lines of faults.
+
 use std::alloc::Global;
+use tsb_log_text::{Log, laws, read_log};
 use tsb_types::{NumberSet, Row};
 
 const TEXT: &str =

@@ -1,5 +1,7 @@
-use super::{line, line_bytes};
+//! Display lines, letter by letter.
+
 use std::process::Abort;
+use tsb_display_text::{line, line_bytes};
 use tsb_heads::Display;
 use tsb_objects::{Checked, Intervals, Pedestrians, PhaseSet, Plan, Preempt};
 

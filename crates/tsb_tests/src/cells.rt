@@ -1,8 +1,9 @@
+//! Cells: what changed in them, values and timers that are kept in them.
 ghost use Rattle.std.specs.Prelude.{ℕ, List, [], ◌∷◌, slice_index};
 ghost use Rattle.tsb_cells.specs.Timer.{IsWithin, timer_cell, timer_at};
 
-use super::*;
 use arrayvec::ArrayVec;
+use tsb_cells::{Bank, Layout, Reversible, Timer, abandon};
 
 /// Two cells: a count, and since when there is a presence.
 #[derive(Clone, Copy, PartialEq, Eq, Debug)]
@@ -15,7 +16,7 @@ impl Layout<2> for Reading {
     ghost use Rattle.std.specs.Prelude.{refl};
     ghost use Rattle.std.proofs.Common.{ap};
     ghost use Rattle.tsb_cells.specs.TimerLaws.{timer_at-timer_cell};
-    ghost use Rattle.tsb_cells.specs.declared.tests.Reading.{Reading};
+    ghost use Rattle.tsb_tests.specs.declared.cells.Reading.{Reading};
     ghost use Rattle.tsb_cells.specs.declared.timer.Timer.{Timer as TimerValue};
 
     ghost cells = { λ now value. value.count ∷ timer_cell now value.presence ∷ [] };
@@ -44,7 +45,7 @@ impl Layout<2> for Reading {
 }
 
 #[test]
-#[tactic(auto, using(crate::proofs::DiffLemmas::lengths))]
+#[tactic(auto, using(tsb_cells::proofs::DiffLemmas::lengths))]
 fn changes_are_given_and_taken_back(rt: HostRuntime) {
     let mut bank = Bank::<4>::new();
     bank.open();

@@ -1,4 +1,6 @@
-use super::*;
+//! Lines of texts, words of lines, and numbers.
+
+use tsb_lines::{is_skipped, laws, next_line, next_word, number, without_return};
 
 #[test]
 fn lines_end_at_line_feeds(rt: HostRuntime) {
