@@ -5,8 +5,9 @@
 
 FOLDER holds the reference, which is no part of this repository: gen.py and gen_late.py, which make sessions at
 random, and py/tsb_oracle.py, which answers them. KIND is `even` (gen.py: all that a session can do, about evenly),
-`late` (gen_late.py: dynamic maximums, overlaps, detectors that fail, trips, transactions, patterns that stop) or
-`aimed` (session_families.py: what the other two seldom meet). A seed always gives the same session; LO is the first
+`late` (gen_late.py: dynamic maximums, overlaps, detectors that fail, trips, transactions, patterns that stop),
+`aimed` (session_families.py: what the other two seldom meet), `tripped` (trip_families.py: trips at chosen moments, and
+what is done until the reset) or `mangled` (mangled_texts.py: plan texts, logs and commands with bytes changed). A seed always gives the same session; LO is the first
 and HI stands behind the last. Of every so many sessions one stands with its answers in full, where they are short; of
 the others the number of answer lines and a checksum stand. The head of the file that is written says how it reads,
 and count_sessions.py counts what occurs in it.
@@ -21,7 +22,9 @@ import sys
 from itertools import takewhile
 
 import stored_cases
+from mangled_texts import mangled
 from session_families import FAMILIES, brisk, odd_words
+from trip_families import tripped
 
 LONGEST_TOLD = 9000  # bytes of answers
 
@@ -29,6 +32,8 @@ TITLES = {
     "even": "Sessions at random, of plans of 1 to 16 phases: all commands about evenly.",
     "late": "Sessions at random: detectors that fail, maximums that move, overlaps, trips, transactions, cycles of 0.",
     "aimed": "Sessions of what others seldom meet: each rule, refusals, stages, alarms, coincidences, the way back.",
+    "tripped": "Sessions in which the monitor trips: in crossings, in each stage of preempts, in transactions, and back.",
+    "mangled": "Sessions of which the plan text, the log or the commands were mangled: bytes changed at random.",
 }
 
 
@@ -175,16 +180,27 @@ def aimed_session(reference, seed):
     return plan, log.encode(), text + (closing(rng, plan) if rng.random() < 0.3 else b"")
 
 
+def tripped_session(reference, seed):
+    """A session in which the monitor trips."""
+    plan, log, commands = tripped(reference, random.Random(f"tripped {seed}"), seed)
+    return plan, log.encode(), "".join(command + "\n" for command in commands).encode()
+
+
 # --- the whole ---
 
 def session(reference, kind, seed):
     """The name, plan text, log, commands and answers of a session."""
+    name = f"{kind}_{seed}"
+    if kind == "mangled":
+        plan, log, commands = mangled(random.Random(f"mangled {seed}"), seed)
+        return name, plan, log, commands, reference.answers(plan, log, commands)
     if kind == "aimed":
         plan, log, commands = aimed_session(reference, seed)
         name = f"{FAMILIES[seed % len(FAMILIES)].__name__}_{seed}"
+    elif kind == "tripped":
+        plan, log, commands = tripped_session(reference, seed)
     else:
         plan, log, commands = random_session(reference, kind, seed)
-        name = f"{kind}_{seed}"
     text = compact(plan)
     answers = reference.answers(text, log, commands)
     return name, text, shortened(log, last_tick(answers)), commands, answers

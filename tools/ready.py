@@ -64,7 +64,8 @@ def main():
     root = pathlib.Path.cwd()
     found = list(out_of_layout(root))
     found += [it for it in map(misplaced, sorted(root.glob("crates/*/must-fail/*.edit"))) if it]
-    for path in [*root.glob("*.md"), *root.glob("docs/*.md"), *root.glob("examples/*.md")]:
+    for path in [*root.glob("*.md"), *root.glob("docs/*.md"), *root.glob("examples/*.md"),
+                 *root.glob("crates/*/README.md")]:
         found += too_long(path)
     print("\n".join(found) if found else "ready")
     return 1 if found else 0
