@@ -14,7 +14,7 @@ use std::fs;
 use std::io::{self, BufWriter, Write};
 
 /// The files of sessions, without the ending of their names. They are read in the folder that the program is run in.
-const FILES: [&str; 4] = ["aimed", "even", "late", "worked"];
+const FILES: [&str; 6] = ["aimed", "even", "late", "mangled", "tripped", "worked"];
 
 fn main(rt: HostRuntime) -> Result<()> {
     let mut output = BufWriter::new(rt.alloc(), io::writer(&rt))?;
