@@ -4,8 +4,8 @@
 Names, indices, ranges, units and what is structural come from crates/tsb_plan/src/object.rt: its table, and the
 comments of its variants for what an index counts and for units. What an object means is the last cell of its row in
 the manual, and is kept. With `--check` nothing is written. It then fails where the manual's table is another one than
-the source gives, and where a block of the manual that is headed `session NAME` or `file NAME`, or a row of a table that
-begins with a command behind `> `, is not what the examples have.
+the source gives, and where a block of the manual or of the README that is headed `session NAME` or `file NAME`, or a
+row of a table of the manual that begins with a command behind `> `, is not what the examples have.
 """
 import pathlib
 import re
@@ -13,6 +13,7 @@ import sys
 
 SOURCE = pathlib.Path("crates/tsb_plan/src/object.rt")
 MANUAL = pathlib.Path("docs/MANUAL.md")
+README = pathlib.Path("README.md")
 EXAMPLES = pathlib.Path("examples")
 BEGIN, END = "<!-- objects: written by tools/manual_table.py -->", "<!-- end of objects -->"
 
@@ -123,7 +124,7 @@ def stands_in(shown, whole):
 
 
 def other_blocks(text):
-    """What is wrong with the blocks of the manual that show examples."""
+    """What is wrong with the blocks of a document that show examples."""
     for kind, name, block in re.findall(r"^```(session|file) (\S+)\n(.*?)^```$", text, re.M | re.S):
         path = EXAMPLES / (name if kind == "file" else f"{name}.commands")
         if not path.is_file():
@@ -135,6 +136,10 @@ def other_blocks(text):
             is_shown = stands_in(shown_lines(block), list(transcript(name)))
         if not is_shown:
             yield f"the block `{kind} {name}` is not as the example: {block.splitlines()[0]}"
+
+
+def other_rows(text):
+    """The rows of the manual with a command that are not as the example of each command."""
     talk = list(transcript("each_command"))
     for shown in re.findall(r"^\| `(> [^`]+)` \| `([^`]+)` \|", text, re.M):
         if not stands_in(shown, talk):
@@ -156,7 +161,7 @@ def main(words):
         wrong += [f"missing: {line}" for line in now if line not in was]
         if not wrong and was != now:
             wrong.append("the rows stand in another order than the source's")
-        wrong += other_blocks(text)
+        wrong += [*other_blocks(text), *other_blocks(README.read_text()), *other_rows(text)]
     elif words:
         sys.exit("usage: tools/manual_table.py [--check]")
     else:
