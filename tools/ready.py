@@ -2,13 +2,16 @@
 """What the gate would refuse without proving anything, found in seconds: run it at the top before submitting.
 
 It tells of files that are not in the layout of `rt fmt` (run on a copy), of must-fail edits whose old text does not
-stand in their file exactly once, and of lines of documents that are over 120 characters.
+stand in their file exactly once, of lines of documents that are over 120 characters, and of names and paths that
+documents cite and the repository does not have.
 """
 import pathlib
 import shutil
 import subprocess
 import sys
 import tempfile
+
+import cited_names
 
 
 def out_of_layout(root):
@@ -67,6 +70,7 @@ def main():
     for path in [*root.glob("*.md"), *root.glob("docs/*.md"), *root.glob("examples/*.md"),
                  *root.glob("crates/*/README.md")]:
         found += too_long(path)
+    found += cited_names.missing()
     print("\n".join(found) if found else "ready")
     return 1 if found else 0
 
