@@ -4,8 +4,9 @@
 Names, indices, ranges, units and what is structural come from crates/tsb_plan/src/object.rt: its table, and the
 comments of its variants for what an index counts and for units. What an object means is the last cell of its row in
 the manual, and is kept. With `--check` nothing is written. It then fails where the manual's table is another one than
-the source gives, and where a block of the manual or of the README that is headed `session NAME` or `file NAME`, or a
-row of a table of the manual that begins with a command behind `> `, is not what the examples have.
+the source gives, where a block of the manual or of the README that is headed `session NAME` or `file NAME`, or a row of
+a table of the manual that begins with a command behind `> `, is not what the examples have, and where the examples lack
+a command, a word of `when`, a refusal of the manual or a kind of input that is taken back.
 """
 import pathlib
 import re
@@ -19,6 +20,14 @@ BEGIN, END = "<!-- objects: written by tools/manual_table.py -->", "<!-- end of 
 
 COMMENT = re.compile(r"`(\w+)`: (.+?), (.+); 0 to ([\d,]+)\.")
 ROW = re.compile(r'\s+(\w+) +"(\w+)" +\d+ \[(\d+) (\d+)\] +\[(?:(absent)|(\d+) (\d+))\] +(structural|free)')
+
+# What stands in some example: commands, words of `when`, kinds of input that `undo` names.
+COMMANDS = """step back seek undo show when begin set verify commit abort pattern preempt fault reset quit""".split()
+WATCHES = """interval ped call output alarm stage trip""".split()
+KINDS = """tick pattern switch fault reset begin set verify commit abort""".split()
+
+# Refusals that no example has: without memory, and behind 6,000,000 display lines.
+NOT_SHOWN = ["E1", "E11"]
 
 # How the names of objects begin, in the order in which the manual has them.
 STARTS = ["phase", "vehicle", "pedestrian", "overlap", "pattern", "split", "sequence", "preempt", "unit"]
@@ -146,6 +155,18 @@ def other_rows(text):
             yield f"the row of `{shown[0]}` is not as the example"
 
 
+def unshown(text):
+    """What is to stand in some example and does not."""
+    typed = {tuple(line.split()[:2]) for path in EXAMPLES.glob("*.commands") for line in path.read_text().splitlines()}
+    answered = {line for path in EXAMPLES.glob("*.expected") for line in path.read_text().splitlines()}
+    refused = {line.split()[1] for line in answered if line.startswith("refused ")}
+    refusals = re.findall(r"^\| `refused (E\d+) ", text, re.M)
+    yield from (f"no example of `{it}`" for it in COMMANDS if it not in {words[0] for words in typed if words})
+    yield from (f"no example of `when {it}`" for it in WATCHES if ("when", it) not in typed)
+    yield from (f"no example of `undone {it}`" for it in KINDS if f"undone {it}" not in answered)
+    yield from (f"no example of {it}" for it in refusals if it not in refused and it not in NOT_SHOWN)
+
+
 def main(words):
     text = MANUAL.read_text()
     before, rest = text.split(BEGIN + "\n")
@@ -161,7 +182,7 @@ def main(words):
         wrong += [f"missing: {line}" for line in now if line not in was]
         if not wrong and was != now:
             wrong.append("the rows stand in another order than the source's")
-        wrong += [*other_blocks(text), *other_blocks(README.read_text()), *other_rows(text)]
+        wrong += [*other_blocks(text), *other_blocks(README.read_text()), *other_rows(text), *unshown(text)]
     elif words:
         sys.exit("usage: tools/manual_table.py [--check]")
     else:
