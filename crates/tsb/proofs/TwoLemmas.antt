@@ -1,15 +1,10 @@
--- The built-in plan of two phases meets the rules.
-use Rattle.std.proofs.Common.{◌≡◌, ◌∙◌, Option, Some, None, refl, sym, ap}
-use Rattle.tsb_types.specs.Lists.{run_from}
-use Rattle.tsb_plan.specs.Objects.{objects}
+-- As the built-in plan of two phases meets the rules, no rule that it breaks is ever found.
+use Rattle.std.proofs.Common.{◌≡◌, ◌∙◌, Option, Some, None, sym, ap}
 use Rattle.tsb_plan.specs.Plan.{Plan}
 use Rattle.tsb_plan.specs.Two.{two}
 use Rattle.tsb_rules.specs.declared.rules.Rule.{Rule}
-use Rattle.tsb_rules.specs.Rules.{first_broken, broken_by_rings, broken_by_phases, broken_by_parts, broken_by_extensions}
-
-two-meets : first_broken two ≡ None
-unfolding two run_from objects first_broken broken_by_rings broken_by_phases broken_by_parts broken_by_extensions
-two-meets = refl
+use Rattle.tsb_rules.specs.Rules.{first_broken}
+use Rattle.tsb_rules.proofs.TwoLemmas.{two-meets}
 
 not-both : (found : Option Rule) (rule : Rule) → found ≡ None → found ≡ Some rule → ⊥
 not-both found rule none some = cc

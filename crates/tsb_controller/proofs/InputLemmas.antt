@@ -86,7 +86,7 @@ preempts-reset now m old new done by by_new =
     ∙ after-any now m old
 
 -- only one of the four is switched
-switched-one : (plan : Plan) (n : ℕ) (on : Bool) → switch_refusal plan n on ≡ None → is_preempt n ≡ true
+pub switched-one : (plan : Plan) (n : ℕ) (on : Bool) → switch_refusal plan n on ≡ None → is_preempt n ≡ true
 switched-one plan n on allowed = go (is_preempt n) (not on || has_dwell plan n) refl allowed
   where
     go : (a b : Bool) → is_preempt n ≡ a → (if a && b then None else Some NoSuchPreempt) ≡ None → is_preempt n ≡ true

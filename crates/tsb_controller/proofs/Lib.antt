@@ -2,10 +2,11 @@ mod CarryLemmas
 mod PlacedLemmas
 mod MovesLemmas
 mod TickLemmas
+mod LaterLemmas
 mod PassLemmas
 mod StillLemmas
 mod SameLemmas
-mod InputLemmas
+pub mod InputLemmas
 mod WatchLemmas
 mod FewLemmas
 pub mod WholeLemmas

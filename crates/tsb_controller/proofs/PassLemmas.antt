@@ -1,33 +1,27 @@
 -- Behind a tick that changed no cell each tick with the same inputs finds what that one found, up to the one that is due:
 -- so it changes no cell.
-use Rattle.std.proofs.Common.{zero, suc, ◌≡◌, ℕ, ◌+◌, ◌-◌, ◌<◌, ◌≤◌, Bool, true, false, ◌&&◌, if◌then◌else◌, List, Option, Some, None, is_some, is_none, option_map, refl, sym, ap, ap₂, ◌∙◌, inl, inr, arith, subst, slice_index}
+use Rattle.std.proofs.Common.{◌≡◌, ℕ, ◌+◌, ◌-◌, ◌<◌, ◌≤◌, Bool, true, false, ◌&&◌, if◌then◌else◌, List, Option, Some, None, is_some, is_none, refl, sym, ap, ap₂, ◌∙◌, inl, inr, arith, slice_index}
 use Rattle.std.proofs.Math.Path.{fun_ext}
-use Rattle.std.proofs.lemmas.Bool.{cases_Bool, true≢false}
+use Rattle.std.proofs.lemmas.Bool.{cases_Bool}
 use Rattle.std.proofs.lemmas.Bool.Decides.{nat_tests}
 use Rattle.tsb_cells.specs.declared.timer.Timer.{Timer}
-use Rattle.tsb_cells.specs.declared.timer.Timer.TheVariants.{Off, On}
-use Rattle.tsb_cells.specs.Timer.{timer_at}
-use Rattle.tsb_cells.proofs.TimerLemmas.{timer_at-on}
+use Rattle.tsb_cells.specs.declared.timer.Timer.TheVariants.{Off}
 use Rattle.tsb_types.specs.declared.flow.Called.{Called}
 use Rattle.tsb_types.specs.declared.flow.Moves.{Moves}
 use Rattle.tsb_types.specs.declared.flow.Orders.{Orders}
 use Rattle.tsb_types.specs.declared.flow.Timing.{Timing}
-use Rattle.tsb_types.specs.declared.interval.Interval.{Interval}
-use Rattle.tsb_types.specs.declared.interval.Interval.TheVariants.{Red, Green, Yellow, RedClear}
 use Rattle.tsb_types.specs.declared.lamp.Lamp.{Lamp}
 use Rattle.tsb_types.specs.declared.phase_set.PhaseSet.{PhaseSet}
 use Rattle.tsb_types.specs.declared.row.Row.{Row}
-use Rattle.tsb_types.specs.declared.stage.Stage.{Stage}
 use Rattle.tsb_types.specs.Clip.{Agree, clipped, within}
 use Rattle.tsb_types.specs.Flow.{interval_of}
 use Rattle.tsb_types.specs.Intervals.{is_green}
-use Rattle.tsb_types.specs.Sets.{has, has_number, is_phase, list_of, set_of_list}
+use Rattle.tsb_types.specs.Sets.{has, has_number, is_phase}
 use Rattle.tsb_types.proofs.ClipLemmas.{among_16, clipped-agrees, clipped-same, within-agrees}
-use Rattle.tsb_types.proofs.SetLemmas.{names-list_of}
 use Rattle.tsb_plan.specs.Plan.{Plan}
 use Rattle.tsb_plan.specs.Parts.{call_phase}
 use Rattle.tsb_detect.specs.Cells.{detector_in}
-use Rattle.tsb_detect.specs.Detector.{Detector, all_after, is_detector}
+use Rattle.tsb_detect.specs.Detector.{Detector, all_after}
 use Rattle.tsb_detect.specs.Promises as detect
 use Rattle.tsb_detect.proofs.StateLemmas.{same-after, ticks-all}
 use Rattle.tsb_calls.specs.Callable as called_words
@@ -38,20 +32,17 @@ use Rattle.tsb_calls.specs.Memories.{Memories, as_set, has_output}
 use Rattle.tsb_calls.specs.Promises as calls
 use Rattle.tsb_calls.specs.Settled as settled
 use Rattle.tsb_calls.proofs.LookLemmas.{look-alike}
-use Rattle.tsb_phase.specs.Cells as phase_cells
 use Rattle.tsb_phase.specs.Cells.{phase_in}
 use Rattle.tsb_phase.specs.Laws as phase_laws
 use Rattle.tsb_phase.specs.Laws.{IsToldTheSame, MoveAlike}
 use Rattle.tsb_phase.specs.Next as phase_next
-use Rattle.tsb_phase.specs.Next.{new_interval, interval_after}
+use Rattle.tsb_phase.specs.Next.{new_interval}
 use Rattle.tsb_phase.specs.Phase as phase
-use Rattle.tsb_phase.specs.Phase.{Phase, as_read, none_moved}
+use Rattle.tsb_phase.specs.Phase.{none_moved}
 use Rattle.tsb_phase.specs.Promises as phases
 use Rattle.tsb_phase.specs.Promises.{read_in}
 use Rattle.tsb_phase.specs.Ready as timing
-use Rattle.tsb_phase.specs.Ready.{is_over, is_over_in}
 use Rattle.tsb_phase.proofs.OwnLemmas.{looks_only}
-use Rattle.tsb_phase.proofs.ReadLemmas as phase_reading
 use Rattle.tsb_ring.specs.Cells.{rings_in}
 use Rattle.tsb_ring.specs.Moves as ring_moves
 use Rattle.tsb_ring.specs.Moves.{is_ended, is_cleared, is_started}
@@ -61,186 +52,28 @@ use Rattle.tsb_ring.proofs.MoveLemmas.{ends_ready, clears_over}
 use Rattle.tsb_coord.specs.Cells.{pattern_in}
 use Rattle.tsb_coord.specs.Coordinated as coordination
 use Rattle.tsb_coord.specs.Coordinated.{asks_force_off}
-use Rattle.tsb_preempt.specs.Cells.{service_in, preempts_in}
+use Rattle.tsb_preempt.specs.Cells.{preempts_in}
 use Rattle.tsb_preempt.specs.Laws as preempt_laws
 use Rattle.tsb_preempt.specs.Preempts as preempts_words
 use Rattle.tsb_preempt.specs.Preempts.{Preempts, is_preempt, is_outside, wanted_by}
 use Rattle.tsb_preempt.specs.Promises as preempts
-use Rattle.tsb_preempt.specs.Promises.{stage_of}
 use Rattle.tsb_preempt.specs.Service.{Service, service_as_read}
 use Rattle.tsb_preempt.proofs.OwnLemmas.{ticks-as-next}
-use Rattle.tsb_preempt.proofs.ReadLemmas as preempt_reading
 use Rattle.tsb_transact.specs.Desk.{Desk}
 use Rattle.tsb_step.specs.State.{State, interval, pedestrian_part}
 use Rattle.tsb_step.specs.Tick as tick
 use Rattle.tsb_step.specs.Tick.{preempts_given, calls_given, phases_given, rings_given, new_detectors, callable, ready, over, reverted, gapped, runs, hold, omitted, forced, service, service_ended, target, moves, moved, done, next}
 use Rattle.tsb_step.proofs.ClipLemmas.{clipped_holds}
 use Rattle.tsb_controller.specs.Found.{observed}
-use Rattle.tsb_controller.specs.Passing.{wanted_in, ArePhasesStill, AreOthersStill}
+use Rattle.tsb_controller.specs.Passing.{ArePhasesStill, AreOthersStill}
 use Rattle.tsb_controller.specs.Promises.{IsTicked}
 use Rattle.tsb_controller.specs.Rows.{Rows, AreBy, untripped, state_of}
 use Rattle.tsb_controller.proofs.PlacedLemmas.{IsPlaced}
 use Rattle.tsb_controller.proofs.TickLemmas.{green-set, timer-read, called-green, alike-own, stays}
 use Rattle.tsb_controller.proofs.CarryLemmas.{same-interval}
-use Rattle.tsb_detect.proofs.ToldLemmas.{detector-later}
 use Rattle.tsb_phase.proofs.StateLemmas.{outside as at-rest}
-
--- ## Rows at later ticks
-
--- rows that the layers can hold at a tick they can hold at each later one, so also once that is passed over
-pub rows-stay : (m n : ℕ) (r : Rows) → m ≤ n → AreBy m r → AreBy n r
-rows-stay m n r more by = record {
-  detectors = record {
-    full = by.detectors.full;
-    lists = by.detectors.lists;
-    each = λ d from to. detector-later m n r.detectors d more (by.detectors.each d from to);
-  };
-  calls = by.calls;
-  phases = phase_reading.stays-by m n r.phases more by.phases;
-  rings = by.rings;
-  pattern = by.pattern;
-  preempts = preempt_reading.stays-by m n r.preempts more by.preempts;
-}
-
--- ## What rows say at whatever tick they are read
-
-pub part-at : (m n : ℕ) (cells : List ℕ) (p : ℕ) → (phase_in m cells p).pedestrian ≡ (phase_in n cells p).pedestrian
-unfolding phase_in
-part-at m n cells p = elim (cases_Bool (is_phase p)) [
-  | inl on ↦ rw on refl
-  | inr out ↦ rw out refl
-]
-
-output-at : (m n : ℕ) (cells : List ℕ) (d : ℕ) → (detector_in m cells d).output ≡ (detector_in n cells d).output
-unfolding detector_in
-output-at m n cells d = elim (cases_Bool (is_detector d)) [
-  | inl on ↦ rw on refl
-  | inr out ↦ rw out refl
-]
-
-actuated-at : (m n : ℕ) (cells : List ℕ) (d : ℕ) → (detector_in m cells d).actuated ≡ (detector_in n cells d).actuated
-unfolding detector_in
-actuated-at m n cells d = elim (cases_Bool (is_detector d)) [
-  | inl on ↦ rw on refl
-  | inr out ↦ rw out refl
-]
-
-abbrev output_in : (ℕ → Detector) → ℕ → Bool
-output_in f d = (f d).output
-
-abbrev actuated_in : (ℕ → Detector) → ℕ → Bool
-actuated_in f d = (f d).actuated
-
-abbrev number_of : Option Service → Option ℕ
-number_of o = option_map (λ (x : Service). x.preempt) o
-
-number-at : (m n : ℕ) (cells : List ℕ) → number_of (preempts_in m cells).service ≡ number_of (preempts_in n cells).service
-unfolding preempts_in service_in
-number-at m n cells = elim (cases_Bool (is_preempt (slice_index cells 6))) [
-  | inl on ↦ rw on refl
-  | inr out ↦ rw out refl
-]
-
-wanted-at : (m n : ℕ) (plan : Plan) (cells : List ℕ) → wanted_by plan (preempts_in m cells).service ≡ wanted_by plan (preempts_in n cells).service
-unfolding preempts_in service_in
-wanted-at m n plan cells = elim (cases_Bool (is_preempt (slice_index cells 6))) [
-  | inl on ↦ rw on refl
-  | inr out ↦ rw out refl
-]
-
--- service that is in the row before and after a tick did not end
-not-ended : (m n : ℕ) (cells : List ℕ) → (is_some (service_as_read (preempts_in m cells).service) && is_none (preempts_in n cells).service) ≡ false
-unfolding preempts_in service_in
-not-ended m n cells = elim (cases_Bool (is_preempt (slice_index cells 6))) [
-  | inl on ↦ rw on refl
-  | inr out ↦ rw out refl
-]
-
-pub wanted-of : (plan : Plan) (o : Option Service) → wanted_in plan (stage_of o) ≡ wanted_by plan o
-wanted-of plan None = refl
-wanted-of plan (Some s) = refl
-
--- the preempt of a stage is that of the service
-pub number-of : (o : Option Service) → option_map (λ (x : ℕ × Stage). x.0) (stage_of o) ≡ option_map (λ (x : Service). x.preempt) o
-number-of None = refl
-number-of (Some s) = refl
-
--- ## A phase that a tick leaves as it was has not moved
-
-not-begun : (now cell : ℕ) → 1 ≤ now → cell ≤ now - 1 + 1 → timer_at now cell ≡ On 0 → ⊥
-not-begun now zero one early e = absurd cc
-not-begun now (suc c) one early e =
-    let running : On (now + 1 - suc c) ≡ On 0 = sym (timer_at-on now (suc c) (omega arith)) ∙ e in
-    let at_once : now + 1 - suc c ≡ 0 = cc in
-    omega (arith, one, early, at_once)
-
-no-end : (plan : Plan) (m : phase.Moved) (p : ℕ) (w : Phase) (i : Interval) → m.ends p ≡ true → is_green i ≡ true → interval_after plan m p w i ≡ i → ⊥
-no-end plan m p w Red on green e = true≢false (sym green)
-no-end plan m p w Green on green e = let no : Yellow ≡ Green = rw on at e in absurd cc
-no-end plan m p w Yellow on green e = true≢false (sym green)
-no-end plan m p w RedClear on green e = true≢false (sym green)
-
-no-clear : (plan : Plan) (m : phase.Moved) (p : ℕ) (w : Phase) (i : Interval) → m.clears p ≡ true → is_over_in plan p w i ≡ true → interval_after plan m p w i ≡ i → ⊥
-no-clear plan m p w Red on finished e = true≢false (sym finished)
-no-clear plan m p w Green on finished e = true≢false (sym finished)
-no-clear plan m p w Yellow on finished e = let no : Red ≡ Yellow = rw on at e in absurd cc
-no-clear plan m p w RedClear on finished e = let no : Red ≡ RedClear = rw on at e in absurd cc
-
-module _ (now : ℕ) (plan : Plan) (cells : List ℕ) (given : phase.Given) (m : phase.Moved) (p : ℕ) (one : 1 ≤ now) (by : phase_cells.IsBy (now - 1) cells)
-    (same : phase_in now cells p ≡ phase_next.next plan given m p (phase_in (now - 1) cells p)) where
-  abbrev was : Phase
-  was = phase_in (now - 1) cells p
-
-  older : (phase_in now cells p).timer ≡ On 0 → ⊥
-  unfolding phase_in
-  older e = elim (cases_Bool (is_phase p)) [
-    | inl on ↦ (let here : timer_at now (slice_index cells (8 + p)) ≡ On 0 = rw on at e in not-begun now (slice_index cells (8 + p)) one (by.each p (among_16 p on).from (among_16 p on).to).timer here)
-    | inr out ↦ (let no : Off ≡ On 0 = rw out at e in absurd cc)
-  ]
-
-  begun : m.starts p ≡ true → (phase_next.next plan given m p was).timer ≡ On 0
-  begun on = rw on refl
-
-  starts-off : m.starts p ≡ false
-  starts-off = elim (cases_Bool (m.starts p)) [
-    | inl on ↦ absurd (older (ap (λ (x : Phase). x.timer) same ∙ begun on))
-    | inr off ↦ off
-  ]
-
-  after-same : interval_after plan m p (as_read was) was.interval ≡ was.interval
-  after-same =
-      subst (λ (b : Bool). (if b then Green else interval_after plan m p (as_read was) was.interval) ≡ was.interval) starts-off
-      (sym (ap (λ (x : Phase). x.interval) same) ∙ same-interval now (now - 1) cells p)
-
-  ends-off : (m.ends p ≡ true → is_green was.interval ≡ true) → m.ends p ≡ false
-  ends-off greens = elim (cases_Bool (m.ends p)) [
-    | inl on ↦ absurd (no-end plan m p (as_read was) was.interval on (greens on) after-same)
-    | inr off ↦ off
-  ]
-
-  clears-off : (m.clears p ≡ true → is_over plan p (as_read was) ≡ true) → m.clears p ≡ false
-  unfolding is_over
-  clears-off overs = elim (cases_Bool (m.clears p)) [
-    | inl on ↦ absurd (no-clear plan m p (as_read was) was.interval on (overs on) after-same)
-    | inr off ↦ off
-  ]
-
--- ## What a tick tells, as sets
-
-abbrev set : (ℕ → Bool) → PhaseSet
-set f = record { numbers = set_of_list (list_of 16 f) }
-
-set-has : (f : ℕ → Bool) → Agree (has (set f)) f
-set-has f p from to = names-list_of 16 p f from to
-
--- what a tick that was told `c` tells of the phases in a row
-abbrev timing_of : ℕ → Plan → phase.Given → List ℕ → Timing
-timing_of now plan given cells = record {
-  ready = set (λ p. timing.is_ready plan given p (read_in now cells p));
-  over = set (λ p. timing.is_over plan p (read_in now cells p));
-  red_revert_passed = set (λ p. timing.red_revert_passed plan p (read_in now cells p));
-  gapped = set (λ p. timing.is_gapped_now plan given p (read_in now cells p));
-}
+use Rattle.tsb_controller.proofs.ChangeLemmas.{rows-stay}
+use Rattle.tsb_controller.proofs.LaterLemmas.{part-at, output-at, actuated-at, output_in, actuated_in, number_of, number-at, wanted-at, not-ended, starts-off, ends-off, clears-off, set-has, timing_of}
 
 -- ## Two ticks
 --

@@ -1,10 +1,11 @@
 -- What the rows tell of the rings, in the words of the step.
-use Rattle.std.proofs.Common.{zero, suc, ◌≡◌, ℕ, ◌+◌, ◌<◌, ◌≤◌, Bool, ◌||◌, Option, Some, None, is_some, refl, sym, ap, ap₂, ◌∙◌, arith}
+use Rattle.std.proofs.Common.{◌≡◌, ℕ, Bool, ◌||◌, Option, Some, None, is_some, refl, sym, ap, ap₂, ◌∙◌, arith}
 use Rattle.std.specs.List.{list_any}
 use Rattle.tsb_types.specs.declared.flow.Intervals.{Intervals}
 use Rattle.tsb_types.specs.Flow.{interval_of}
 use Rattle.tsb_types.specs.Intervals.{in_service}
 use Rattle.tsb_types.specs.Lists.{run_from}
+use Rattle.tsb_types.proofs.ClipLemmas.{any-agree}
 use Rattle.tsb_plan.specs.Plan.{Plan, phases}
 use Rattle.tsb_plan.specs.PlanOf.{plan_of}
 use Rattle.tsb_objects.specs.declared.checked.Checked.{Checked}
@@ -19,20 +20,13 @@ use Rattle.tsb_step.specs.State.{State, interval}
 use Rattle.tsb_controller.specs.Promises.{TellsServing}
 use Rattle.tsb_controller.specs.Rows.{Rows, Beside, state_of}
 
-any-agree : (f g : ℕ → Bool) (a n : ℕ) → ((p : ℕ) → a ≤ p → p < a + n → f p ≡ g p) → list_any f (run_from a n) ≡ list_any g (run_from a n)
-unfolding run_from
-any-agree f g a zero same = refl
-any-agree f g a (suc n) same =
-    ap₂ (λ (x y : Bool). x || y) (same a (omega arith) (omega arith))
-    (any-agree f g (a + 1) n (λ p from below. same p (omega (arith, from)) (omega (arith, below))))
-
 -- the phases in service, by what phase timing tells of all phases
 pub service-told : (rows : Rows) (i : Intervals) → TellsIntervals rows.phases i → (now : ℕ) (b : Beside) (checked : Checked) → b.plan ≡ checked_plan checked →
     list_any (λ p. in_service (interval_of i p)) (run_from 1 16) ≡ list_any (λ p. in_service (interval (state_of now b rows) p)) (phases b.plan)
 unfolding checked_plan plan_of
 service-told rows i told now b checked same =
-    any-agree (λ p. in_service (interval_of i p)) (λ p. in_service (interval (state_of now b rows) p)) 1 16
-    (λ p from below. ap in_service (told (clock_at now b.trip) p from (omega (arith, below))))
+    any-agree 16 (λ p. in_service (interval_of i p)) (λ p. in_service (interval (state_of now b rows) p)) (omega arith)
+    (λ p from to. ap in_service (told (clock_at now b.trip) p from to))
     ∙ ap (λ (plan : Plan). list_any (λ p. in_service (interval (state_of now b rows) p)) (phases plan)) (sym same)
 
 pub serving-told : (rows : Rows) (i : Intervals) (one two crossing : Option ℕ) →

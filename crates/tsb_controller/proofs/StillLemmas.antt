@@ -17,7 +17,7 @@ use Rattle.tsb_step.specs.Tick.{new_detectors, phases_given, rings_given, moves,
 use Rattle.tsb_controller.specs.Passing.{WatchedTicksAreTicked, WatchedTicksPass}
 use Rattle.tsb_controller.specs.Promises.{IsTicked, IsWatchedTick}
 use Rattle.tsb_controller.specs.Rows.{Rows, untripped, state_of}
-use Rattle.tsb_controller.proofs.PassLemmas.{part-at}
+use Rattle.tsb_controller.proofs.LaterLemmas.{part-at}
 use Rattle.tsb_controller.proofs.CarryLemmas.{same-interval}
 
 -- ## A watched tick is a tick

@@ -1,14 +1,13 @@
 -- Displays and fields look at phases 1 to 16, overlaps and commitments alone, the monitor at the vehicle and pedestrian heads of phases
 -- 1 to 16; and heads that stay are let pass again.
-use Rattle.std.proofs.Common.{zero, suc, ◌≡◌, ℕ, ◌+◌, ◌<◌, ◌≤◌, Bool, true, false, not, ◌&&◌, ◌||◌, if◌then◌else◌, Option, Some, None, is_some, refl, ap, ap₂, ◌∙◌, arith}
-use Rattle.std.specs.List.{list_any}
+use Rattle.std.proofs.Common.{◌≡◌, ℕ, ◌+◌, ◌<◌, ◌≤◌, Bool, true, false, not, ◌&&◌, ◌||◌, if◌then◌else◌, Option, Some, None, is_some, refl, ap, ap₂, ◌∙◌, arith}
 use Rattle.std.specs.Option.{option_map, option_or}
 use Rattle.tsb_types.specs.declared.interval.Interval.{Interval}
 use Rattle.tsb_types.specs.declared.lamp.Lamp.TheVariants as lamps
 use Rattle.tsb_types.specs.declared.lamp.Aspect.{Aspect}
 use Rattle.tsb_types.specs.declared.lamp.Aspect.TheVariants.{Dark, Red, Yellow, Green, FlashingRed}
 use Rattle.tsb_types.specs.Intervals.{is_green, is_yellow, is_red_clear}
-use Rattle.tsb_types.specs.Lists.{first, run_from}
+use Rattle.tsb_types.specs.Lists.{first}
 use Rattle.tsb_plan.specs.Plan.{Plan, phases, ring_of}
 use Rattle.tsb_plan.specs.Parts.{is_included, is_modifier}
 use Rattle.tsb_rules.specs.PatternRules.{some_and}
@@ -24,28 +23,7 @@ use Rattle.tsb_heads.specs.Promises.{IsSame}
 use Rattle.tsb_heads.specs.Laws.{AreAlike, ShowAlike, DisplaysLookOnlyAtTheirOwn, LampsLookOnlyAtTheirOwn, FieldsAreTold, MonitorsLookOnlyAtTheirOwn, StayingHeadsPass, PassedHeadsPassAgain}
 use Rattle.tsb_heads.proofs.SetLemmas.{first-never}
 use Rattle.tsb_types.proofs.FirstLemmas.{first-within}
-
--- ## Runs of phases
-
-any-agree : (n : ℕ) (f g : ℕ → Bool) → n ≤ 16 → ((p : ℕ) → 1 ≤ p → p ≤ 16 → f p ≡ g p) → list_any f (run_from 1 n) ≡ list_any g (run_from 1 n)
-unfolding run_from
-any-agree n f g most same = go 1 n (λ p from to. same p from (omega arith))
-  where
-    go : (a n : ℕ) → ((p : ℕ) → a ≤ p → p < a + n → f p ≡ g p) → list_any f (run_from a n) ≡ list_any g (run_from a n)
-    go a zero here = refl
-    go a (suc n) here =
-        let same_at : f a ≡ g a = here a (omega arith) (omega arith) in
-        rw (same_at, go (a + 1) n (λ p from to. here p (omega arith) (omega arith))) refl
-
-first-agree : (n : ℕ) (f g : ℕ → Bool) → n ≤ 16 → ((p : ℕ) → 1 ≤ p → p ≤ 16 → f p ≡ g p) → first f (run_from 1 n) ≡ first g (run_from 1 n)
-unfolding run_from
-first-agree n f g most same = go 1 n (λ p from to. same p from (omega arith))
-  where
-    go : (a n : ℕ) → ((p : ℕ) → a ≤ p → p < a + n → f p ≡ g p) → first f (run_from a n) ≡ first g (run_from a n)
-    go a zero here = refl
-    go a (suc n) here =
-        let same_at : f a ≡ g a = here a (omega arith) (omega arith) in
-        rw (same_at, go (a + 1) n (λ p from to. here p (omega arith) (omega arith))) refl
+use Rattle.tsb_types.proofs.ClipLemmas.{any-agree, first-agree}
 
 -- ## Displays
 

@@ -1,19 +1,15 @@
 -- A row that the phases can hold at a tick is the table of what it says.
-use Rattle.std.proofs.Common.{◌≡◌, ℕ, ◌+◌, ◌-◌, ◌<◌, ◌≤◌, ◌==◌, Bool, true, false, if◌then◌else◌, List, [], ◌∷◌, ◌++◌, length, take, drop, get_or, slice_index, map, refl, sym, ap, ap₂, ◌∙◌, inl, inr, arith, Some, None, length-take-le, length-drop, get_or-take}
+use Rattle.std.proofs.Common.{◌≡◌, ℕ, ◌+◌, ◌-◌, ◌≤◌, ◌==◌, Bool, true, false, if◌then◌else◌, List, [], ◌∷◌, ◌++◌, length, take, slice_index, refl, sym, ap₂, ◌∙◌, inl, inr, arith, Some, None}
 use Rattle.std.proofs.Math.Seq.{take-add}
-use Rattle.std.proofs.lemmas.List.{get_or-drop}
 use Rattle.std.proofs.lemmas.Bool.{cases_Bool, eqb-true}
 use Rattle.std.proofs.lemmas.Bool.Decides.{nat_tests}
-use Rattle.tsb_cells.specs.Row.{row_at}
 use Rattle.tsb_cells.specs.Timer.{timer_cell}
 use Rattle.tsb_cells.proofs.TimerLemmas.{timer_cell-timer_at}
 use Rattle.tsb_cells.proofs.RowLemmas.{take-whole}
 use Rattle.tsb_types.specs.declared.interval.Interval.TheVariants.{Red, Green, Yellow, RedClear}
 use Rattle.tsb_types.specs.declared.interval.PedestrianInterval.TheVariants.{DontWalk, Walk, PedestrianClear}
 use Rattle.tsb_types.specs.Intervals.{is_green, is_yellow, is_red_clear, is_walk, is_clearance}
-use Rattle.tsb_types.specs.Lists.{run_from}
 use Rattle.tsb_types.specs.Sets.{names, list_of, list_in}
-use Rattle.tsb_types.proofs.RunLemmas.{map-run_from}
 use Rattle.tsb_types.proofs.SetLemmas.{list_of-names, same-list_of}
 use Rattle.tsb_types.proofs.ClipLemmas.{is_phase_from}
 use Rattle.tsb_phase.specs.declared.TheConstants.{CELLS}
@@ -21,19 +17,7 @@ use Rattle.tsb_phase.specs.declared.ending.Ending.TheVariants.{MaxOut, GapOut}
 use Rattle.tsb_phase.specs.DynamicMaximum.{is_same}
 use Rattle.tsb_phase.specs.Cells.{number_in, number_cell, phase_in, phases_cells, IsBy}
 use Rattle.tsb_phase.specs.Laws.{RowsAreTold}
-use Rattle.tsb_rows.proofs.TableLemmas.{list-told, more}
-
--- 16 cells of a row, one of each phase
-column : (row : List ℕ) (o : ℕ) (f : ℕ → ℕ) → o + 16 ≤ length row → ((p : ℕ) → 1 ≤ p → p ≤ 16 → f p ≡ slice_index row (o - 1 + p)) → 1 ≤ o → map f (run_from 1 16) ≡ row_at 16 row o
-column row o f full same from = sym (map-run_from f 1 16 (row_at 16 row o) long at)
-  where
-    long : length (row_at 16 row o) ≡ 16
-    long = length-take-le 16 (drop o row) (omega (arith, length-drop o row))
-
-    at : (k : ℕ) → k < 16 → get_or (row_at 16 row o) k 0 ≡ f (1 + k)
-    at k below =
-        let place : o - 1 + (1 + k) ≡ o + k = omega arith in
-        get_or-take 16 (drop o row) k 0 below ∙ get_or-drop o row k 0 ∙ ap (λ (n : ℕ). get_or row n 0) (sym place) ∙ sym (same (1 + k) (omega arith) (omega arith))
+use Rattle.tsb_rows.proofs.TableLemmas.{list-told, more, column}
 
 -- ## What the lists tell
 
@@ -121,13 +105,13 @@ module _ (now : ℕ) (row : List ℕ) (by : IsBy now row) where
       (more row 41 (λ p. timer_cell now (phase_in now row p).passage) _
       (more row 25 (λ p. timer_cell now (phase_in now row p).pedestrian_timer) _
       (more row 9 (λ p. timer_cell now (phase_in now row p).timer) _ lists
-      (column row 9 _ (omega (arith, full)) (λ p from to. rw (is_phase_from p from to) (timer_cell-timer_at now _ (by.each p from to).timer)) (omega arith)))
-      (column row 25 _ (omega (arith, full)) (λ p from to. rw (is_phase_from p from to) (timer_cell-timer_at now _ (by.each p from to).pedestrian_timer)) (omega arith)))
-      (column row 41 _ (omega (arith, full)) (λ p from to. rw (is_phase_from p from to) (timer_cell-timer_at now _ (by.each p from to).passage)) (omega arith)))
-      (column row 57 _ (omega (arith, full)) (λ p from to. rw (is_phase_from p from to) (timer_cell-timer_at now _ (by.each p from to).conflict)) (omega arith)))
-      (column row 73 _ (omega (arith, full)) (λ p from to. rw (is_phase_from p from to) (timer_cell-timer_at now _ (by.each p from to).reduction)) (omega arith)))
-      (column row 89 _ (omega (arith, full)) (λ p from to. rw (is_phase_from p from to) (timer_cell-timer_at now _ (by.each p from to).red_revert)) (omega arith)))
-      (column row 105 _ (omega (arith, full)) (λ p from to. rw (is_phase_from p from to) (number-told _)) (omega arith))
+      (column row 9 _ (omega (arith, full)) (omega arith) (λ p from to. rw (is_phase_from p from to) (timer_cell-timer_at now _ (by.each p from to).timer))))
+      (column row 25 _ (omega (arith, full)) (omega arith) (λ p from to. rw (is_phase_from p from to) (timer_cell-timer_at now _ (by.each p from to).pedestrian_timer))))
+      (column row 41 _ (omega (arith, full)) (omega arith) (λ p from to. rw (is_phase_from p from to) (timer_cell-timer_at now _ (by.each p from to).passage))))
+      (column row 57 _ (omega (arith, full)) (omega arith) (λ p from to. rw (is_phase_from p from to) (timer_cell-timer_at now _ (by.each p from to).conflict))))
+      (column row 73 _ (omega (arith, full)) (omega arith) (λ p from to. rw (is_phase_from p from to) (timer_cell-timer_at now _ (by.each p from to).reduction))))
+      (column row 89 _ (omega (arith, full)) (omega arith) (λ p from to. rw (is_phase_from p from to) (timer_cell-timer_at now _ (by.each p from to).red_revert))))
+      (column row 105 _ (omega (arith, full)) (omega arith) (λ p from to. rw (is_phase_from p from to) (number-told _)))
       ∙ take-whole row CELLS full
 
 pub rows-told : RowsAreTold

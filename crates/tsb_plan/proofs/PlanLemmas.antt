@@ -72,10 +72,10 @@ in_range-put cells o i v at place full has fits ranged = rw place (record { each
     go p k true it = subst (λ (q : Object). v ≤ greatest q) (order-injective o p (same-parts o p i k it).0) fits
     go p k false it = ranged.each p k
 
--- what is put, and what is given then
-same-itself : (o : Object) (i : ℕ) → is_same o i o i ≡ true
+pub same-itself : (o : Object) (i : ℕ) → is_same o i o i ≡ true
 same-itself o i = grind (arith, nat_tests)
 
+-- what is put, and what is given then
 pub gives_back : (plan : Plan) (id : ObjectId) (v : ℕ) → put_refusal id v ≡ None → got (with_value plan id.object id.index v) id ≡ Ok v
 gives_back plan id v fine = go (has_index id.object id.index) refl fine
   where

@@ -24,11 +24,11 @@ length-plan_cells plan =
     ∙ total
 
 -- the cells of these objects stand one after the other, from the cell k on
-abbrev are_placed : ℕ → List Object → Bool
+abbrev pub are_placed : ℕ → List Object → Bool
 are_placed k [] = true
 are_placed k (o ∷ os) = (first_cell o == k) && are_placed (k + indices o) os
 
-all_placed : are_placed 0 objects ≡ true
+pub all_placed : are_placed 0 objects ≡ true
 unfolding objects first_cell
 all_placed = refl
 

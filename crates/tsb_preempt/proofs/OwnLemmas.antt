@@ -1,12 +1,11 @@
 -- A tick looks at the inputs of preempts 1 to 4 and at the intervals of phases 1 to 16 alone; and what it asks stands.
-use Rattle.std.proofs.Common.{zero, suc, ◌≡◌, ℕ, ◌+◌, ◌-◌, ◌<◌, ◌≤◌, ◌==◌, Bool, true, false, not, ◌&&◌, ◌||◌, Option, Some, None, is_some, is_none, refl, sym, ◌∙◌, ap, ap₂, subst, inl, inr, arith}
-use Rattle.std.specs.List.{list_all}
+use Rattle.std.proofs.Common.{◌≡◌, ℕ, ◌-◌, ◌≤◌, ◌==◌, Bool, true, false, not, ◌&&◌, ◌||◌, Option, Some, None, is_some, is_none, refl, sym, ◌∙◌, ap, ap₂, subst, inl, inr, arith}
 use Rattle.std.proofs.lemmas.Bool.{cases_Bool, true≢false, eqb-true, and_right}
 use Rattle.tsb_types.specs.declared.interval.Interval.{Interval}
 use Rattle.tsb_types.specs.declared.stage.Stage.{Stage}
 use Rattle.tsb_types.specs.declared.stage.Stage.TheVariants.{Track, Dwell, Exit}
 use Rattle.tsb_types.specs.Intervals.{is_green}
-use Rattle.tsb_types.specs.Lists.{run_from}
+use Rattle.tsb_types.proofs.ClipLemmas.{all-agree}
 use Rattle.tsb_plan.specs.Plan.{Plan}
 use Rattle.tsb_plan.specs.Parts.{is_track_phase, is_exit_phase}
 use Rattle.tsb_preempt.specs.Service.{Service, service_as_read, all_green, track_timer, stage_after, with_stage, moved}
@@ -20,16 +19,6 @@ use Rattle.tsb_preempt.proofs.StateLemmas.{all-same, off-outside}
 use Rattle.tsb_preempt.proofs.CompatibleLemmas.{as_read-of-four}
 
 -- ## Intervals
-
-all-agree : (n : ℕ) (f g : ℕ → Bool) → n ≤ 16 → ((p : ℕ) → 1 ≤ p → p ≤ 16 → f p ≡ g p) → list_all f (run_from 1 n) ≡ list_all g (run_from 1 n)
-unfolding run_from
-all-agree n f g most same = go 1 n (λ p from to. same p from (omega arith))
-  where
-    go : (a n : ℕ) → ((p : ℕ) → a ≤ p → p < a + n → f p ≡ g p) → list_all f (run_from a n) ≡ list_all g (run_from a n)
-    go a zero here = refl
-    go a (suc n) here =
-        let same_at : f a ≡ g a = here a (omega arith) (omega arith) in
-        rw (same_at, go (a + 1) n (λ p from to. here p (omega arith) (omega arith))) refl
 
 module _ (plan : Plan) (f g : ℕ → Interval) (count : plan.phase_count ≤ 16) (agree : (p : ℕ) → 1 ≤ p → p ≤ 16 → f p ≡ g p) where
   green-same : (list : ℕ → Bool) → all_green plan f list ≡ all_green plan g list

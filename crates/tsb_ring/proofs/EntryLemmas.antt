@@ -18,7 +18,7 @@ use Rattle.tsb_types.proofs.FirstLemmas.{first-passes}
 use Rattle.tsb_ring.proofs.ClaimLemmas.{one_ring}
 use Rattle.tsb_types.proofs.OptionLemmas.{is-none}
 
-cross_is : (w : Option Want) → wants_cross w ≡ true → w ≡ Some Cross
+pub cross_is : (w : Option Want) → wants_cross w ≡ true → w ≡ Some Cross
 cross_is None h = absurd (cc)
 cross_is (Some (Go p)) h = absurd (cc)
 cross_is (Some Cross) h = refl

@@ -1,2 +1,3 @@
 pub mod RuleLemmas
 pub mod ConsistentLemmas
+pub mod TwoLemmas

@@ -1,77 +1,31 @@
 -- What a ring picks and what a crossing commits to: phases that are called, or that a preempt wants; all are enabled.
-use Rattle.std.proofs.Common.{◌≡◌, ℕ, Bool, true, false, cond, not, ◌&&◌, List, Option, Some, None, is_none, refl, sym, inl, inr, ◌⊎◌, ◌∙◌}
+use Rattle.std.proofs.Common.{◌≡◌, ℕ, Bool, true, false, not, ◌&&◌, Option, Some, None, is_none, refl, sym, inl, inr, ◌∙◌}
 use Rattle.std.proofs.lemmas.Bool.{and_parts}
 use Rattle.std.proofs.lemmas.Option.{cond_some}
-use Rattle.tsb_types.specs.Lists.{first, some_passes, later, not_later, or_else}
 use Rattle.tsb_plan.specs.Plan.{Plan, phases, is_enabled, is_concurrent, has_dual_entry}
-use Rattle.tsb_ring.specs.declared.want.Want.{Want}
-use Rattle.tsb_ring.specs.declared.want.Want.TheVariants.{Go, Cross, Rest, Stop}
+use Rattle.tsb_ring.specs.declared.want.Want.TheVariants.{Go}
 use Rattle.tsb_ring.specs.Rings.{Ring, Ring1, Ring2, State, Given, in_ring, serving}
-use Rattle.tsb_ring.specs.Wants.{go_or, concurrent_with, fits, is_on_side, want_by_calls, is_targeted, serves_target, is_targeted_elsewhere, want_by_target, want_found, is_idle_or_green, want, picked_before, want_of, pick}
+use Rattle.tsb_ring.specs.Wants.{concurrent_with, fits, is_on_side, want_by_calls, is_targeted, serves_target, want_by_target, want_found, is_idle_or_green, want, picked_before, want_of, pick}
 use Rattle.tsb_ring.specs.Crossings.{target_side, may_enter, dual, is_called_in, called_in_ring_1, called_in_ring_2, entry_by_calls, entry_for, entry}
 use Rattle.tsb_ring.proofs.MoveLemmas.{and_three}
-use Rattle.tsb_ring.proofs.WaitLemmas.{cond_is, first-passes, go_cases}
+use Rattle.tsb_ring.proofs.WaitLemmas.{first-passes, called_candidate, targeted_by, targeted_candidate}
 use Rattle.tsb_ring.proofs.WantLemmas.{and_four, pick_want}
+use Rattle.tsb_step.proofs.SideLemmas.{else_cases}
 
 -- ## What a ring picks
 
 by_calls : (plan : Plan) (s : State) (given : Given) (r : Ring) (picked : Option ℕ) (p : ℕ) → want_by_calls plan s given r picked ≡ Go p →
     given.callable p ≡ true
 by_calls plan s given r picked p h =
-    elim (go_cases (first candidate (later (s.last r) (given.sequence r))) rest p h) [
-      | inl k ↦ is_callable_one (later (s.last r) (given.sequence r)) k
-      | inr k ↦
-          elim (cond_is elsewhere Cross again (Go p) k) [
-            | inl two ↦ (let same : Cross ≡ Go p = two.1 in absurd (cc))
-            | inr two ↦
-                elim (go_cases (first candidate (not_later (s.last r) (given.sequence r))) Rest p two.1) [
-                  | inl three ↦ is_callable_one (not_later (s.last r) (given.sequence r)) three
-                  | inr three ↦ (let same : Rest ≡ Go p = three in absurd (cc))
-                ]
-          ]
-    ]
-  where
-    candidate : ℕ → Bool
-    candidate = λ p. in_ring plan r p && is_on_side plan s.side p && given.callable p && fits plan s given r picked p
-
-    elsewhere : Bool
-    elsewhere = some_passes (λ p. given.callable p && not (is_on_side plan s.side p)) (phases plan)
-
-    again : Want
-    again = go_or (first candidate (not_later (s.last r) (given.sequence r))) Rest
-
-    rest : Want
-    rest = cond elsewhere Cross again
-
-    is_callable_one : (ps : List ℕ) → first candidate ps ≡ Some p → given.callable p ≡ true
-    is_callable_one ps k =
-        (and_four (in_ring plan r p) (is_on_side plan s.side p) (given.callable p) (fits plan s given r picked p) (first-passes candidate ps p k)).2
+    (and_four (in_ring plan r p) (is_on_side plan s.side p) (given.callable p) (fits plan s given r picked p) (called_candidate plan s given r picked p h)).2
 
 by_target : (plan : Plan) (s : State) (given : Given) (r : Ring) (picked : Option ℕ) (target : ℕ → Bool) (p : ℕ) →
     want_by_target plan s given r picked target ≡ Go p → (is_targeted plan target p ≡ true) × (serves_target plan target (serving plan given r) ≡ false)
-by_target plan s given r picked target p h =
-    elim (cond_is (serves_target plan target (serving plan given r)) Rest (go_or (first candidate (phases plan)) rest) (Go p) h) [
-      | inl two ↦ (let same : Rest ≡ Go p = two.1 in absurd (cc))
-      | inr two ↦
-          elim (go_cases (first candidate (phases plan)) rest p two.1) [
-            | inl k ↦ (
-              (and_four (in_ring plan r p) (is_on_side plan s.side p) (is_targeted plan target p) (fits plan s given r picked p)
-                  (first-passes candidate (phases plan) p k)).2,
-              two.0,
-            )
-            | inr k ↦
-                elim (cond_is (is_targeted_elsewhere plan s target) Cross Stop (Go p) k) [
-                  | inl three ↦ (let same : Cross ≡ Go p = three.1 in absurd (cc))
-                  | inr three ↦ (let same : Stop ≡ Go p = three.1 in absurd (cc))
-                ]
-          ]
-    ]
-  where
-    candidate : ℕ → Bool
-    candidate = λ p. in_ring plan r p && is_on_side plan s.side p && is_targeted plan target p && fits plan s given r picked p
-
-    rest : Want
-    rest = cond (is_targeted_elsewhere plan s target) Cross Stop
+by_target plan s given r picked target p h = (
+  (and_four (in_ring plan r p) (is_on_side plan s.side p) (is_targeted plan target p) (fits plan s given r picked p)
+      (targeted_candidate plan s given r picked target p h)).2,
+  (targeted_by plan s given r picked target p h).0,
+)
 
 -- a phase is called, or the preempt in service wants it and not the one that its ring serves
 pub data Chosen (plan : Plan) (given : Given) (r : Ring) (p : ℕ) : Type 0 where
@@ -95,10 +49,6 @@ pub pick_chosen : (plan : Plan) (s : State) (given : Given) (r : Ring) (p : ℕ)
 pick_chosen plan s given r p h = want_chosen plan s given r p (pick_want plan s given r p h)
 
 -- ## What a crossing commits to
-
-else_cases : (a b : Option ℕ) (p : ℕ) → or_else a b ≡ Some p → (a ≡ Some p) ⊎ (b ≡ Some p)
-else_cases None b p h = inr h
-else_cases (Some x) b p h = inl h
 
 module _ (plan : Plan) (given : Given) (callable_on : (p : ℕ) → given.callable p ≡ true → is_enabled plan p ≡ true) where
   chosen_enabled : (r : Ring) (p : ℕ) → Chosen plan given r p → is_enabled plan p ≡ true

@@ -21,13 +21,13 @@ use Rattle.tsb_ring.specs.Moves as ring_moves
 use Rattle.tsb_ring.specs.Moves.{is_ended, is_started}
 use Rattle.tsb_ring.specs.Laws.{IsListed, IsSymmetric}
 use Rattle.tsb_ring.proofs.ActLemmas.{starts_alone}
-use Rattle.tsb_ring.proofs.MoveLemmas.{is-Some, ends_ready}
+use Rattle.tsb_ring.proofs.MoveLemmas.{is-Some}
 use Rattle.tsb_ring.proofs.SoundLemmas.{Commits, enters, stands, makes, commits, new_commits}
 use Rattle.tsb_step.specs.declared.inputs.Input.{Input}
 use Rattle.tsb_step.specs.declared.inputs.Input.TheVariants as inputs
 use Rattle.tsb_step.specs.declared.inputs.Input.TheVariants.{Tick}
 use Rattle.tsb_step.specs.State.{State, restarted, interval}
-use Rattle.tsb_step.specs.Tick.{preempts_given, preempts_read, new_service, service, hold, forced, omitted, phases_given, phase_read, ready, rings_given, moves, moved, yellow_done, next}
+use Rattle.tsb_step.specs.Tick.{preempts_given, preempts_read, new_service, service, hold, forced, omitted, phases_given, phase_read, rings_given, moves, moved, yellow_done, next}
 use Rattle.tsb_step.specs.Signs.{watched}
 use Rattle.tsb_step.specs.Step.{with_lamp, reset, step}
 use Rattle.tsb_step.specs.Runs.{replay, AreTaken}
@@ -39,18 +39,16 @@ use Rattle.tsb_step.proofs.GivenLemmas.{symmetric, given}
 use Rattle.tsb_step.proofs.GoodLemmas.{good_run}
 use Rattle.tsb_step.proofs.RestLemmas.{rests_run}
 use Rattle.tsb_step.proofs.StandLemmas.{rings_then}
+use Rattle.tsb_step.proofs.WaitedLemmas.{ended_was_ready}
 use Rattle.tsb_safety.specs.Stretches.{EndsGreen}
 use Rattle.tsb_safety.specs.Coordination.{was_forced_off, OmitsHold}
 use Rattle.tsb_safety.proofs.IntergreenLemmas.{good_then, turns_yellow, started_now, listed_then}
 use Rattle.tsb_safety.proofs.ChoiceLemmas.{pick_not_omitted, entry_not_omitted}
 use Rattle.tsb_safety.proofs.EnabledLemmas.{callable_not_omitted}
-use Rattle.tsb_safety.proofs.ServedLemmas.{count_run, clipped_at, ended_now}
+use Rattle.tsb_safety.proofs.DueLemmas.{count_run, clipped_at}
+use Rattle.tsb_safety.proofs.ServedLemmas.{ended_now}
 
 -- ## A coordinated green that ends
-
-ready_then : (s : State) (row : Row) (p : ℕ) → is_ended (moves s row) p ≡ true → ready s row p ≡ true
-unfolding moves rings_given
-ready_then s row p h = clipped_holds (ready s row) p (ends_ready s.plan s.rings (rings_given s row) p h).1
 
 ended_by_none : (s : State) (row : Row) (p : ℕ) → service s row ≡ None → ended_by (phases_given s row) p ≡ None
 unfolding phases_given
@@ -84,7 +82,7 @@ latched_or_now s row p few listed ended held quiet =
     ]
   where
     ends : may_end s.plan (phases_given s row) p (phase_read s p) ≡ true
-    ends = done_without s.plan (phases_given s row) p (phase_read s p) (ready_then s row p ended) (ended_by_none s row p quiet)
+    ends = done_without s.plan (phases_given s row) p (phase_read s p) (ended_was_ready s row p ended) (ended_by_none s row p quiet)
 
     needs : needs_forced (phases_given s row) p ≡ true
     needs = ap (λ (b : Bool). b && is_none (service s row)) (clipped_at (hold s) s.plan p few listed ∙ held) ∙ ap (λ (o : Option ℕ). is_none o) quiet

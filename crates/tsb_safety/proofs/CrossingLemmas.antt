@@ -24,6 +24,7 @@ use Rattle.tsb_step.specs.Past.{ticks_of}
 use Rattle.tsb_step.specs.Laws.{IsConsistent}
 use Rattle.tsb_step.specs.Good.{IsGood}
 use Rattle.tsb_step.specs.TimeLaws.{held_for, TellsTime, IsSided}
+use Rattle.tsb_step.proofs.ClearLemmas.{one_later}
 use Rattle.tsb_step.proofs.GivenLemmas.{symmetric, given}
 use Rattle.tsb_step.proofs.GoodLemmas.{good_run}
 use Rattle.tsb_step.proofs.IntervalLemmas.{intervals_after}
@@ -32,9 +33,9 @@ use Rattle.tsb_step.proofs.StandLemmas.{rings_then}
 use Rattle.tsb_step.proofs.TellLemmas.{held_on, dark_before, timers_tell_time}
 use Rattle.tsb_safety.specs.Stretches.{IsUntripped, largest, StartsGreen}
 use Rattle.tsb_safety.specs.Crossings.{BeginsCrossing, TakesAtMost, IsCompleted, CompletesWithin}
-use Rattle.tsb_safety.proofs.StretchLemmas.{dark_now, taken_before, one_later, IsSame, Goes, ticks, stays, goes, at_next}
+use Rattle.tsb_safety.proofs.StretchLemmas.{dark_now, taken_before, IsSame, Goes, ticks, stays, goes, at_next}
 use Rattle.tsb_safety.proofs.EnabledLemmas.{callable_on}
-use Rattle.tsb_safety.proofs.ServedLemmas.{largest_now, largest_more, count_run, clipped_at, dark_of, reverts_later, not_over_in_yellow, not_over_in_red_clear, not_lasted}
+use Rattle.tsb_safety.proofs.DueLemmas.{largest_now, largest_more, count_run, clipped_at, dark_of, reverts_later, not_over_in_yellow, not_over_in_red_clear, not_lasted}
 use Rattle.tsb_safety.proofs.SideSoughtLemmas.{goes_to_other}
 use Rattle.tsb_safety.proofs.CrossingRingLemmas.{none_starts, begins_alone, begins_ending, starts_none, none_is_started, is_started_then, goes_on, is_over, side_stays, side_goes, commitment_stays, WaitsFor, clearance_of, revert_of, waits_for_one}
 

@@ -8,24 +8,17 @@ use Rattle.tsb_ring.specs.declared.want.Want.{Want}
 use Rattle.tsb_ring.specs.declared.want.Want.TheVariants.{Go, Cross, Rest, Stop}
 use Rattle.tsb_ring.specs.Rings.{Ring, Ring1, Ring2, other, State, Given, in_ring, serving}
 use Rattle.tsb_ring.specs.Wants.{want_of, taken, pick}
-use Rattle.tsb_ring.specs.Crossings.{wants_cross, wants_no_phase, ring_joins, begins, committed}
+use Rattle.tsb_ring.specs.Crossings.{wants_no_phase, begins, committed}
 use Rattle.tsb_ring.specs.Next.{is_none_or_over, makes_way, may_start, completes, starting, ends, new_commitment, new_side, new_crossing}
 use Rattle.tsb_ring.specs.Moves.{if_passes, ring_moves, moves, is_ended, is_started}
 use Rattle.tsb_ring.specs.Laws.{IsSymmetric, IsGiven, IsSound}
-use Rattle.tsb_ring.proofs.MoveLemmas.{and_three}
+use Rattle.tsb_ring.proofs.MoveLemmas.{begins_joined}
 use Rattle.tsb_ring.proofs.WaitLemmas.{first-passes, is_serving}
 use Rattle.tsb_ring.proofs.WantLemmas.{pick_free}
 use Rattle.tsb_ring.proofs.EntryLemmas.{begins_apart}
 use Rattle.tsb_safety.proofs.RingLemmas.{ring_joins_not}
 
 -- ## As it begins
-
-joins_all : (plan : Plan) (s : State) (given : Given) (r : Ring) → begins plan s given ≡ true → ring_joins plan s given r ≡ true
-unfolding begins
-joins_all plan s given Ring1 h =
-    (and_three (ring_joins plan s given Ring1) (ring_joins plan s given Ring2) (wants_cross (want_of plan s given Ring1) || wants_cross (want_of plan s given Ring2)) h).0
-joins_all plan s given Ring2 h =
-    (and_three (ring_joins plan s given Ring1) (ring_joins plan s given Ring2) (wants_cross (want_of plan s given Ring1) || wants_cross (want_of plan s given Ring2)) h).1
 
 none_taken : (given : Given) (w : Option Want) → wants_no_phase w ≡ true → taken given None w ≡ None
 none_taken given None h = refl
@@ -40,9 +33,9 @@ unfolding starting pick
 begins_alone plan s given r h = go (s.commitment r) (serving plan given r) refl refl
   where
     go : (c o : Option ℕ) → s.commitment r ≡ c → serving plan given r ≡ o → starting plan s given r ≡ None
-    go (Some c) o e k = absurd (ring_joins_not plan s given r c e (joins_all plan s given r h))
+    go (Some c) o e k = absurd (ring_joins_not plan s given r c e (begins_joined plan s given r h))
     go None (Some q) e k = rw (e, k) refl
-    go None None e k = rw (e, k) (none_taken given (want_of plan s given r) (rw k at (joins_all plan s given r h)))
+    go None None e k = rw (e, k) (none_taken given (want_of plan s given r) (rw k at (begins_joined plan s given r h)))
 
 -- the green of each phase in service ends as a crossing begins
 pub begins_ending : (plan : Plan) (s : State) (given : Given) (r : Ring) (p : ℕ) → IsSound plan given.interval s → in_ring plan r p ≡ true →

@@ -1,9 +1,7 @@
 -- Only enabled phases are in service or committed to, through inputs of every kind.
-use Rattle.std.proofs.Common.{◌≡◌, ℕ, ◌+◌, ◌==◌, Bool, true, false, not, ◌&&◌, if◌then◌else◌, List, [], ◌∷◌, Option, Some, None, is_some, refl, sym, ap, ◌∙◌, inl, inr}
-use Rattle.std.proofs.lemmas.Bool.{cases_Bool, and_parts, or_cases}
+use Rattle.std.proofs.Common.{◌≡◌, ℕ, ◌==◌, Bool, true, false, not, ◌&&◌, List, Some, None, refl, sym, ap, ◌∙◌, inl, inr}
+use Rattle.std.proofs.lemmas.Bool.{and_parts, or_cases}
 use Rattle.tsb_types.specs.declared.interval.Interval.{Interval}
-use Rattle.tsb_types.specs.declared.interval.Interval.TheVariants.{Red}
-use Rattle.tsb_types.specs.declared.lamp.Lamp.{Lamp}
 use Rattle.tsb_types.specs.declared.row.Row.{Row}
 use Rattle.tsb_types.specs.Intervals.{is_green, in_service}
 use Rattle.tsb_plan.specs.declared.object.Object.TheVariants.{PhaseEnabled}
@@ -21,21 +19,17 @@ use Rattle.tsb_ring.proofs.SoundLemmas.{Claim, serves, promises, picks, Starting
 use Rattle.tsb_transact.specs.Desk.{with_edits}
 use Rattle.tsb_transact.specs.Commit.{changes_structure}
 use Rattle.tsb_step.specs.declared.inputs.Input.{Input}
-use Rattle.tsb_step.specs.declared.inputs.Input.TheVariants as inputs
-use Rattle.tsb_step.specs.State.{State, start, restarted, interval}
+use Rattle.tsb_step.specs.State.{State, interval}
 use Rattle.tsb_step.specs.Tick.{calls_given, set, callable, rings_given, moves, yellow_done, next}
-use Rattle.tsb_step.specs.Signs.{watched}
-use Rattle.tsb_step.specs.Step.{is_serving, committed, ticked, with_lamp, reset, step, verdict}
 use Rattle.tsb_step.specs.Runs.{replay, AreTaken}
 use Rattle.tsb_step.specs.Laws.{IsConsistent}
 use Rattle.tsb_step.specs.Good.{IsGood}
 use Rattle.tsb_step.proofs.ClipLemmas.{clipped_holds}
-use Rattle.tsb_step.proofs.CommitLemmas.{IsStill, still}
-use Rattle.tsb_step.proofs.EditLemmas.{or_false, kept}
-use Rattle.tsb_step.proofs.FieldLemmas.{not_both_then}
+use Rattle.tsb_step.proofs.CommitLemmas.{still}
+use Rattle.tsb_step.proofs.EditLemmas.{kept}
 use Rattle.tsb_step.proofs.GivenLemmas.{symmetric, given}
-use Rattle.tsb_step.proofs.GoodLemmas.{allowed, good_run}
 use Rattle.tsb_step.proofs.IntervalLemmas.{intervals_after}
+use Rattle.tsb_step.proofs.KeptLemmas.{IsKept, kept_run}
 use Rattle.tsb_safety.proofs.ChoiceLemmas.{pick_enabled, entry_enabled}
 
 -- ## What is callable is enabled, and was not Green
@@ -122,9 +116,6 @@ enabled_still plan interval s idle none = record {
   promised = λ r c e. (let bad : None ≡ Some c = sym (none r) ∙ e in absurd cc);
 }
 
-enabled_at_start : (plan : Plan) → AreEnabledIn (start plan)
-enabled_at_start plan = enabled_still plan (λ p. Red) rings.power_up (λ p h. cc) (λ r. refl)
-
 enabled_next : (s : State) (row : Row) → IsGood s → AreEnabledIn s → AreEnabledIn (next s row)
 unfolding moves rings_given
 enabled_next s row good was =
@@ -132,65 +123,19 @@ enabled_next s row good was =
     (enabled_after s.plan s.rings (rings_given s row) (yellow_done s) (symmetric s.plan good.plan.rules) good.rings (given s row good)
     (callable_on s row) was)
 
-enabled_ticked : (s : State) (row : Row) → IsGood s → AreEnabledIn s → AreEnabledIn (ticked row s)
-unfolding watched
-enabled_ticked s row good was = go (is_some s.trip)
+enabled_committed : (s : State) → changes_structure s.plan s.desk.edits ≡ false → AreEnabledIn s →
+    AreEnabled (with_edits s.plan s.desk.edits) (interval s) s.rings
+enabled_committed s unchanged was = record {
+  serves = λ p h. on p ∙ was.serves p h;
+  promised = λ r c e. on c ∙ was.promised r c e;
+}
   where
-    go : (b : Bool) → AreEnabledIn (if b then record s { now = s.now + 1 } else (if b then next s row else watched s (next s row)))
-    go true = was
-    go false = enabled_next s row good was
+    on : (p : ℕ) → is_enabled (with_edits s.plan s.desk.edits) p ≡ is_enabled s.plan p
+    on p = ap (λ (v : ℕ). v == 1) (kept is_structural s.plan s.desk.edits unchanged PhaseEnabled p refl)
 
-enabled_lit : (s : State) (lamp : Option Lamp) → AreEnabledIn s → AreEnabledIn (with_lamp lamp s)
-unfolding watched
-enabled_lit s lamp was = go (is_some s.trip)
-  where
-    go : (b : Bool) → AreEnabledIn (if b then record s { lamp = lamp } else watched s (record s { lamp = lamp }))
-    go true = was
-    go false = was
-
-enabled_reset : (s : State) → AreEnabledIn s → AreEnabledIn (reset s)
-enabled_reset s was = go (is_some s.trip)
-  where
-    go : (b : Bool) → AreEnabledIn (if b then restarted s else s)
-    go true = enabled_at_start s.plan
-    go false = was
-
-enabled_committed : (s : State) (station : ℕ) → verdict s (inputs.Commit station) ≡ None → IsGood s → AreEnabledIn s → AreEnabledIn (committed s)
-enabled_committed s station taken good was =
-    elim (cases_Bool (changes_structure s.plan s.desk.edits)) [
-      | inr unchanged ↦ rw unchanged (same unchanged)
-      | inl change ↦ rw change (idle (still s good.rings (not_both_then (is_serving s) (changes_structure s.plan s.desk.edits) waits change)))
-    ]
-  where
-    waits : (is_serving s && changes_structure s.plan s.desk.edits) ≡ false
-    waits = (or_false (is_serving s && changes_structure s.plan s.desk.edits) _ (allowed s station taken).waits_not).0
-
-    same : changes_structure s.plan s.desk.edits ≡ false → AreEnabled (with_edits s.plan s.desk.edits) (interval s) s.rings
-    same unchanged = record {
-      serves = λ p h. on p ∙ was.serves p h;
-      promised = λ r c e. on c ∙ was.promised r c e;
-    }
-      where
-        on : (p : ℕ) → is_enabled (with_edits s.plan s.desk.edits) p ≡ is_enabled s.plan p
-        on p = ap (λ (v : ℕ). v == 1) (kept is_structural s.plan s.desk.edits unchanged PhaseEnabled p refl)
-
-    idle : IsStill (interval s) s.rings → AreEnabled (with_edits s.plan s.desk.edits) (interval s) (rings.forgotten s.rings)
-    idle it = enabled_still (with_edits s.plan s.desk.edits) (interval s) (rings.forgotten s.rings) it.none_serves it.none_is_next
-
-enabled_step : (s : State) (i : Input) → verdict s i ≡ None → IsGood s → AreEnabledIn s → AreEnabledIn (step s i)
-unfolding step
-enabled_step s (inputs.Tick row) taken good was = enabled_ticked s row good was
-enabled_step s (inputs.Pattern n) taken good was = was
-enabled_step s (inputs.Switch n on) taken good was = was
-enabled_step s (inputs.Fault lamp) taken good was = enabled_lit s lamp was
-enabled_step s inputs.Reset taken good was = enabled_reset s was
-enabled_step s (inputs.Begin station) taken good was = was
-enabled_step s (inputs.Set station id v) taken good was = was
-enabled_step s (inputs.Verify station) taken good was = was
-enabled_step s (inputs.Commit station) taken good was = enabled_committed s station taken good was
-enabled_step s (inputs.Abort station) taken good was = was
+enabled_kept : IsKept AreEnabled
+enabled_kept = record { still = enabled_still; ticks = enabled_next; commits = enabled_committed }
 
 pub enabled_run : (plan : Plan) (is : List Input) → IsConsistent plan → AreTaken plan is →
     AreEnabled (replay plan is).plan (interval (replay plan is)) (replay plan is).rings
-enabled_run plan [] ok taken = enabled_at_start plan
-enabled_run plan (i ∷ is) ok taken = enabled_step (replay plan is) i taken.1 (good_run plan is ok taken.0) (enabled_run plan is ok taken.0)
+enabled_run plan is ok taken = kept_run AreEnabled enabled_kept plan is ok taken

@@ -20,17 +20,18 @@ use Rattle.tsb_step.specs.Past.{ticks_of}
 use Rattle.tsb_step.specs.Laws.{IsConsistent}
 use Rattle.tsb_step.specs.Good.{IsGood}
 use Rattle.tsb_step.specs.TimeLaws.{held_for, TellsTime}
-use Rattle.tsb_step.proofs.ClearLemmas.{plan_stays, started_was_over}
-use Rattle.tsb_step.proofs.EndLemmas.{ends_in_time}
+use Rattle.tsb_step.proofs.ClearLemmas.{plan_stays, started_was_over, one_later}
+use Rattle.tsb_step.proofs.EndLemmas.{ends_in_time, red_clear_has_lasted}
 use Rattle.tsb_step.proofs.GivenLemmas.{symmetric}
 use Rattle.tsb_step.proofs.GoodLemmas.{good_ticked, good_run}
 use Rattle.tsb_step.proofs.HeldLemmas.{has_held}
 use Rattle.tsb_step.proofs.SafeLemmas.{starts_waiting}
 use Rattle.tsb_step.proofs.TellLemmas.{held_on, held_none, timers_tell_time}
 use Rattle.tsb_step.proofs.WaitedLemmas.{cleared_was_over}
+use Rattle.tsb_step.proofs.YellowLemmas.{lasted_by}
 use Rattle.tsb_safety.specs.Stretches.{IsUntripped, has_held_since, EndsGreen, StartsGreen}
 use Rattle.tsb_safety.specs.Intergreens.{is_clearing, yellow_due, red_clear_due, AreApart, HasCleared}
-use Rattle.tsb_safety.proofs.StretchLemmas.{dark_now, taken_before, since_on, since_off, since_gone, due_now, due_before, one_later, IsSame, Goes, ticks, stays, goes, lasted, at_next}
+use Rattle.tsb_safety.proofs.StretchLemmas.{dark_now, taken_before, since_on, since_off, since_gone, due_now, due_before, IsSame, Goes, ticks, stays, goes, at_next}
 
 -- ## A phase that leaves its clearance is over
 
@@ -60,10 +61,6 @@ unfolding is_over
 over_in_yellow s p e h =
     let both = and_parts (has_reached (phase_read s p).timer (yellow_change s.plan p)) (red_clear s.plan p == 0) (rw e at h) in
     (both.0, eqb-true (red_clear s.plan p) 0 both.1)
-
-pub over_in_red_clear : (s : State) (p : ℕ) → interval s p ≡ RedClear → over s p ≡ true → has_reached (phase_read s p).timer (red_clear s.plan p) ≡ true
-unfolding is_over
-over_in_red_clear s p e h = rw e at h
 
 -- ## How far the clearance has come
 
@@ -223,7 +220,7 @@ module _ (plan : Plan) (base : List Input) (p : ℕ) (ok : IsConsistent plan) wh
       let is_done = over_in_yellow (replay plan (later ++ base)) p e (over_by (rw e refl)) in
       let told : TellsTime plan (later ++ base) p = timers_tell_time plan (later ++ base) ok taken dark p in
       let time : yellow_change (replay plan (later ++ base)).plan p ≤ held_for (λ s. is_yellow (interval s p)) plan (later ++ base) + 1 =
-      lasted ((replay plan (later ++ base)).phases p).timer (held_for (λ s. is_yellow (interval s p)) plan (later ++ base))
+      lasted_by ((replay plan (later ++ base)).phases p).timer (held_for (λ s. is_yellow (interval s p)) plan (later ++ base))
       (yellow_change (replay plan (later ++ base)).plan p) (told.yellow e) is_done.0 in
       let due_y : yellow_due plan p base (Tick row ∷ later) ≡ yellow_change (replay plan (later ++ base)).plan p =
       due_now (λ s. is_yellow (interval s p)) (λ s j. yellow_change s.plan p) plan base later (Tick row) y in
@@ -235,8 +232,8 @@ module _ (plan : Plan) (base : List Input) (p : ℕ) (ok : IsConsistent plan) wh
   at_start row later taken dark over_by (in_red_clear e y c t) =
       let told : TellsTime plan (later ++ base) p = timers_tell_time plan (later ++ base) ok taken dark p in
       let time : red_clear (replay plan (later ++ base)).plan p ≤ held_for (λ s. is_red_clear (interval s p)) plan (later ++ base) + 1 =
-      lasted ((replay plan (later ++ base)).phases p).timer (held_for (λ s. is_red_clear (interval s p)) plan (later ++ base))
-      (red_clear (replay plan (later ++ base)).plan p) (told.red_clear e) (over_in_red_clear (replay plan (later ++ base)) p e (over_by (rw e refl))) in
+      lasted_by ((replay plan (later ++ base)).phases p).timer (held_for (λ s. is_red_clear (interval s p)) plan (later ++ base))
+      (red_clear (replay plan (later ++ base)).plan p) (told.red_clear e) (red_clear_has_lasted (replay plan (later ++ base)) p e (over_by (rw e refl))) in
       let due_y : yellow_due plan p base (Tick row ∷ later) ≡ yellow_due plan p base later =
       due_before (λ s. is_yellow (interval s p)) (λ s j. yellow_change s.plan p) plan base later (Tick row) y in
       let due_c : red_clear_due plan p base (Tick row ∷ later) ≡ red_clear (replay plan (later ++ base)).plan p =

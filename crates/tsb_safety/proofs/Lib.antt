@@ -4,6 +4,7 @@ pub mod WalkLemmas
 pub mod ChoiceLemmas
 pub mod EnabledLemmas
 pub mod RingLemmas
+pub mod DueLemmas
 pub mod ServedLemmas
 pub mod SideSoughtLemmas
 pub mod CrossingRingLemmas

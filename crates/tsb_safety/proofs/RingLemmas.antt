@@ -1,6 +1,6 @@
 -- What one tick makes of a ring that is committed: the commitment starts as soon as its ring is over and its red revert has passed.
-use Rattle.std.proofs.Common.{◌≡◌, ℕ, ◌==◌, Bool, true, false, ◌&&◌, ◌||◌, Option, Some, None, is_some, is_none, refl, sym, ap, inl, inr, ◌⊎◌, ◌∙◌}
-use Rattle.std.proofs.lemmas.Bool.{cases_Bool, and_parts, or_cases, eqb-true, false≢true, false_from_ne_true}
+use Rattle.std.proofs.Common.{◌≡◌, ℕ, Bool, true, false, ◌&&◌, ◌||◌, Option, Some, None, is_some, is_none, refl, sym, inl, inr, ◌⊎◌, ◌∙◌}
+use Rattle.std.proofs.lemmas.Bool.{and_parts, or_cases, false≢true, false_from_ne_true}
 use Rattle.tsb_types.specs.declared.interval.Interval.{Interval}
 use Rattle.tsb_types.specs.declared.interval.Interval.TheVariants.{Red, Green, Yellow, RedClear}
 use Rattle.tsb_types.specs.Intervals.{in_service, is_green}
@@ -11,22 +11,14 @@ use Rattle.tsb_ring.specs.Rings.{Ring, Ring1, Ring2, other, State, Given, in_rin
 use Rattle.tsb_ring.specs.Wants.{want_of, pick}
 use Rattle.tsb_ring.specs.Crossings.{joins_in, joins, ring_joins, begins, target_side, committed}
 use Rattle.tsb_ring.specs.Next.{makes_way, completes, starting, leaves, ends, clears, new_commitment, new_crossing}
-use Rattle.tsb_ring.specs.Moves.{if_passes, ring_moves, moves, is_ended, is_cleared, is_started}
+use Rattle.tsb_ring.specs.Moves.{ring_moves, moves, is_ended, is_cleared, is_started}
 use Rattle.tsb_ring.specs.Laws.{IsSymmetric, IsGiven, IsSound}
-use Rattle.tsb_ring.proofs.ActLemmas.{stays_committed}
-use Rattle.tsb_ring.proofs.MoveLemmas.{and_three, is-Some}
+use Rattle.tsb_ring.proofs.ActLemmas.{stays_committed, begins_not}
+use Rattle.tsb_ring.proofs.MoveLemmas.{is-Some, passed}
 use Rattle.tsb_ring.proofs.WaitLemmas.{first-passes, is_serving}
 use Rattle.tsb_ring.proofs.WantLemmas.{Free, free}
 use Rattle.tsb_ring.proofs.ClaimLemmas.{same_ring, ring_of_is}
 use Rattle.tsb_ring.proofs.SoundLemmas.{Starting, starting_is, Commits, enters, stands, makes, commits, new_commits}
-
-passed : (test : ℕ → Bool) (o : Option ℕ) (p : ℕ) → is p (if_passes test o) ≡ true → (o ≡ Some p) × (test p ≡ true)
-passed test None p h = absurd cc
-passed test (Some q) p h =
-    elim (cases_Bool (test q)) [
-      | inl e ↦ (let k : (q == p) ≡ true = rw e at h in let same : q ≡ p = eqb-true q p k in (ap Some same, rw (← same) e))
-      | inr e ↦ (let no : false ≡ true = rw e at h in absurd cc)
-    ]
 
 -- ## A green that ends
 
@@ -90,14 +82,6 @@ ring_joins_not plan s given r c e h = go (want_of plan s given r) refl
     go : (w : Option Want) → want_of plan s given r ≡ w → ⊥
     go None k = joins_not given (serving plan given r) c (rw (e, k) at h)
     go (Some w) k = (let none : s.commitment r ≡ None = (free plan s given r w k).no_commitment in let bad : None ≡ Some c = sym none ∙ e in absurd cc)
-
-pub begins_not : (plan : Plan) (s : State) (given : Given) (r : Ring) (c : ℕ) → s.commitment r ≡ Some c → begins plan s given ≡ false
-unfolding begins
-begins_not plan s given r c e = false_from_ne_true (begins plan s given) (λ h. go r e h)
-  where
-    go : (x : Ring) → s.commitment x ≡ Some c → begins plan s given ≡ true → ⊥
-    go Ring1 k h = ring_joins_not plan s given Ring1 c k (and_three (ring_joins plan s given Ring1) (ring_joins plan s given Ring2) _ h).0
-    go Ring2 k h = ring_joins_not plan s given Ring2 c k (and_three (ring_joins plan s given Ring1) (ring_joins plan s given Ring2) _ h).1
 
 -- outside a crossing none begins or is completed
 pub stays_outside : (plan : Plan) (s : State) (given : Given) (r : Ring) (c : ℕ) → s.commitment r ≡ Some c → s.crossing ≡ None →

@@ -17,7 +17,8 @@ use Rattle.tsb_ring.specs.Laws.{IsPairwiseConcurrent}
 use Rattle.tsb_ring.proofs.MoveLemmas.{and_three}
 use Rattle.tsb_ring.proofs.WaitLemmas.{cond_is, first-passes}
 use Rattle.tsb_ring.proofs.WantLemmas.{first-among}
-use Rattle.tsb_step.proofs.GivenLemmas.{listed_is_phase}
+use Rattle.tsb_ring.proofs.EntryLemmas.{cross_is}
+use Rattle.tsb_step.proofs.GivenLemmas.{listed_is_phase, among-run}
 
 -- ## Lists
 
@@ -81,15 +82,6 @@ unfolding run_from
 to_rest x a zero rest h = h
 to_rest x a (suc n) rest h = or_right (a == x) _ (to_rest x (a + 1) n rest h)
 
-to_run : (x a n : ℕ) → a ≤ x → x < a + n → among x (run_from a n) ≡ true
-unfolding run_from
-to_run x a zero low high = absurd (omega (arith, low, high))
-to_run x a (suc n) low high =
-    elim (cases_eq a x) [
-      | inl same ↦ rw (eq-eqb a x same) refl
-      | inr other ↦ or_right (a == x) _ (to_run x (a + 1) n (omega (arith, low, other)) (omega (arith, high)))
-    ]
-
 run_has : (x a n : ℕ) → among x (run_from a n) ≡ true → (a ≤ x) × (x < a + n)
 unfolding run_from
 run_has x a zero h = absurd (false≢true h)
@@ -111,7 +103,7 @@ other_is_among : (plan : Plan) (side x : ℕ) → 1 ≤ x → x ≤ plan.side_co
 other_is_among plan side x low high apart =
     elim above_or_below [
       | inl k ↦ to_runs x (side + 1) (plan.side_count - side) (run_from 1 (side - 1)) k (omega (arith, k, high))
-      | inr k ↦ to_rest x (side + 1) (plan.side_count - side) (run_from 1 (side - 1)) (to_run x 1 (side - 1) low (omega (arith, k, low)))
+      | inr k ↦ to_rest x (side + 1) (plan.side_count - side) (run_from 1 (side - 1)) (among-run x 1 (side - 1) low (omega (arith, k, low)))
     ]
   where
     above_or_below : (side + 1 ≤ x) ⊎ (x + 1 ≤ side)
@@ -228,13 +220,6 @@ want_other plan s given r rules called_on pairs h =
     found_other plan s given r (picked_before plan s given r) given.target rules called_on pairs
     (cond_some (is_none s.crossing && is_none (s.commitment r) && is_idle_or_green given (serving plan given r))
     (want_found plan s given r (picked_before plan s given r) given.target) Cross h).1
-
-cross_is : (w : Option Want) → wants_cross w ≡ true → w ≡ Some Cross
-cross_is None h = absurd (cc)
-cross_is (Some (Go p)) h = absurd (cc)
-cross_is (Some Cross) h = refl
-cross_is (Some Rest) h = absurd (cc)
-cross_is (Some Stop) h = absurd (cc)
 
 pub goes_to_other : (plan : Plan) (s : State) (given : Given) → first_broken plan ≡ None → ((p : ℕ) → given.callable p ≡ true → is_enabled plan p ≡ true) →
     IsPairwiseConcurrent plan given.target → begins plan s given ≡ true → target_side plan s given ≡ s.side → ⊥

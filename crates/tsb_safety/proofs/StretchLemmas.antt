@@ -1,10 +1,7 @@
 -- What an input does to the phases and the tick number, and how what has held since a moment goes on from input to input.
-use Rattle.std.proofs.Common.{◌≡◌, ℕ, ◌+◌, ◌≤◌, Bool, true, false, if◌then◌else◌, List, [], ◌∷◌, ◌++◌, Option, None, is_some, refl, ap}
-use Rattle.std.proofs.lemmas.Bool.{leb-true, true≢false}
+use Rattle.std.proofs.Common.{◌≡◌, ℕ, ◌+◌, Bool, true, false, if◌then◌else◌, List, [], ◌∷◌, ◌++◌, Option, None, is_some, refl, ap}
+use Rattle.std.proofs.lemmas.Bool.{true≢false}
 use Rattle.std.proofs.Math.Bool.{and-false}
-use Rattle.tsb_cells.specs.declared.timer.Timer.{Timer}
-use Rattle.tsb_cells.specs.declared.timer.Timer.TheVariants.{On}
-use Rattle.tsb_cells.specs.Timer.{advanced, has_reached}
 use Rattle.tsb_types.specs.declared.lamp.Lamp.{Lamp}
 use Rattle.tsb_types.specs.declared.row.Row.{Row}
 use Rattle.tsb_plan.specs.Plan.{Plan}
@@ -54,16 +51,6 @@ due_now test time plan is later i h = rw h refl
 pub due_before : (test : State → Bool) (time : State → Input → ℕ) (plan : Plan) (is later : List Input) (i : Input) →
     has_held_since test plan is later ≡ false → due test time plan is (i ∷ later) ≡ due test time plan is later
 due_before test time plan is later i h = rw h refl
-
--- ## The tick number
-
-pub one_later : (s : State) (row : Row) → (step s (Tick row)).now ≡ s.now + 1
-unfolding step watched
-one_later s row = go (is_some s.trip)
-  where
-    go : (b : Bool) → (if b then record s { now = s.now + 1 } else (if b then next s row else watched s (next s row))).now ≡ s.now + 1
-    go true = refl
-    go false = refl
 
 -- ## An input that is no tick
 
@@ -127,10 +114,7 @@ goes s (inputs.Verify station) dark = stays refl (record { interval = λ p. refl
 goes s (inputs.Commit station) dark = stays refl (committed_same s)
 goes s (inputs.Abort station) dark = stays refl (record { interval = λ p. refl; part = λ p. refl; now = refl; commitment = λ r. refl; crossing = refl; side = refl })
 
--- ## Timers and phases after a tick
-
-pub lasted : (t : Timer) (n limit : ℕ) → t ≡ On n → has_reached (advanced t) limit ≡ true → limit ≤ n + 1
-lasted t n limit e h = leb-true limit (n + 1) (rw e at h)
+-- ## Phases after a tick
 
 pub at_next : (s : State) (row : Row) (p : ℕ) → s.trip ≡ None → interval (step s (Tick row)) p ≡ interval (next s row) p
 at_next s row p dark = ap (λ (f : ℕ → Phase). (f p).interval) (phases_then s row dark)

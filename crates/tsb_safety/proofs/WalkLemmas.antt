@@ -10,7 +10,7 @@ use Rattle.tsb_plan.specs.Plan.{Plan, is_concurrent}
 use Rattle.tsb_phase.specs.Pedestrian.{ended_by, walk_time, clearance_time}
 use Rattle.tsb_step.specs.declared.inputs.Input.{Input}
 use Rattle.tsb_step.specs.declared.inputs.Input.TheVariants.{Tick}
-use Rattle.tsb_step.specs.State.{State, interval, pedestrian_part}
+use Rattle.tsb_step.specs.State.{interval, pedestrian_part}
 use Rattle.tsb_step.specs.Tick.{phases_given}
 use Rattle.tsb_step.specs.Step.{step, kind_of}
 use Rattle.tsb_step.specs.Runs.{replay, AreTaken}
@@ -18,14 +18,14 @@ use Rattle.tsb_step.specs.Past.{ticks_of}
 use Rattle.tsb_step.specs.Laws.{IsConsistent}
 use Rattle.tsb_step.specs.Good.{IsGood}
 use Rattle.tsb_step.specs.TimeLaws.{held_for, EndsInTime}
-use Rattle.tsb_step.proofs.ClearLemmas.{green_is_not_over}
-use Rattle.tsb_step.proofs.EndLemmas.{ends_in_time}
+use Rattle.tsb_step.proofs.ClearLemmas.{green_is_not_over, one_later}
+use Rattle.tsb_step.proofs.EndLemmas.{ends_in_time, walks_in_green}
 use Rattle.tsb_step.proofs.GoodLemmas.{good_run}
 use Rattle.tsb_step.proofs.HeldLemmas.{has_held}
 use Rattle.tsb_step.proofs.TellLemmas.{is_in_green, held_on, held_none}
 use Rattle.tsb_safety.specs.Stretches.{IsUntripped, has_held_since, EndsGreen, StartsGreen}
 use Rattle.tsb_safety.specs.Intergreens.{in_tick, walk_due, clearance_due, WalksBefore, HasWalked}
-use Rattle.tsb_safety.proofs.StretchLemmas.{dark_now, since_on, since_off, since_gone, due_now, due_before, one_later, IsSame, Goes, ticks, stays, goes}
+use Rattle.tsb_safety.proofs.StretchLemmas.{dark_now, since_on, since_off, since_gone, due_now, due_before, IsSame, Goes, ticks, stays, goes}
 use Rattle.tsb_safety.proofs.IntergreenLemmas.{over_by_then, has_cleared}
 
 -- ## How far the walk has come
@@ -57,14 +57,6 @@ data Course (plan : Plan) (base : List Input) (p : ℕ) (later : List Input) : T
       (replay plan base).now + walk_due plan p base later + clearance_due plan p base later ≤ (replay plan (later ++ base)).now →
       Course plan base p later
   done : Walked plan base p later → Course plan base p later
-
--- a phase that walks or clears is Green
-walks_in_green : (s : State) (p : ℕ) → IsGood s → (pedestrian_part s p ≡ DontWalk → ⊥) → interval s p ≡ Green
-walks_in_green s p good walks =
-    elim (cases_Bool (is_green (interval s p))) [
-      | inl h ↦ is_in_green (interval s p) h
-      | inr h ↦ absurd (walks (good.walks p h))
-    ]
 
 module _ (plan : Plan) (base : List Input) (p : ℕ) (ok : IsConsistent plan) where
   one_more : (i : Input) (later : List Input) → Walked plan base p later → Walked plan base p (i ∷ later)

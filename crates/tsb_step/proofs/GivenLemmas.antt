@@ -35,7 +35,7 @@ listed_is_phase plan p h =
     let below : found.one < 1 + plan.phase_count = found.below in
     record { from_one = omega (arith, same, from); within = omega (arith, same, below) }
 
-among-run : (p a n : ℕ) → a ≤ p → p < a + n → among p (run_from a n) ≡ true
+pub among-run : (p a n : ℕ) → a ≤ p → p < a + n → among p (run_from a n) ≡ true
 unfolding run_from
 among-run p a zero from below = absurd (omega arith)
 among-run p a (suc n) from below =

@@ -9,7 +9,7 @@ use Rattle.tsb_step.specs.Tick.{phases_given, phase_read, rings_given, moves, re
 use Rattle.tsb_step.specs.ClearanceLaws.{HasLasted}
 use Rattle.tsb_step.proofs.ClipLemmas.{clipped_holds}
 
-ended_was_ready : (s : State) (row : Row) (p : ℕ) → is_ended (moves s row) p ≡ true → ready s row p ≡ true
+pub ended_was_ready : (s : State) (row : Row) (p : ℕ) → is_ended (moves s row) p ≡ true → ready s row p ≡ true
 unfolding moves rings_given
 ended_was_ready s row p h = clipped_holds (ready s row) p (ends_ready s.plan s.rings (rings_given s row) p h).1
 

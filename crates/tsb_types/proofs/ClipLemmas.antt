@@ -4,7 +4,7 @@ use Rattle.std.proofs.Math.Path.{fun_ext}
 use Rattle.std.proofs.lemmas.Bool.{cases_Bool}
 use Rattle.std.proofs.lemmas.Bool.Decides.{nat_tests}
 use Rattle.std.proofs.lemmas.List.Sums.{sum_by-cons}
-use Rattle.std.specs.List.{list_all}
+use Rattle.std.specs.List.{list_all, list_any}
 use Rattle.tsb_types.specs.Lists.{first, run_from}
 use Rattle.tsb_types.specs.Sets.{is_phase}
 use Rattle.tsb_types.specs.Clip.{Agree, clipped, within}
@@ -55,6 +55,16 @@ unfolding run_from
 first-agree n f g most same = go 1 n (λ p from to. same p from (omega arith))
   where
     go : (a n : ℕ) → ((p : ℕ) → a ≤ p → p < a + n → f p ≡ g p) → first f (run_from a n) ≡ first g (run_from a n)
+    go a zero here = refl
+    go a (suc n) here =
+        let same_at : f a ≡ g a = here a (omega arith) (omega arith) in
+        rw (same_at, go (a + 1) n (λ p from to. here p (omega arith) (omega arith))) refl
+
+pub any-agree : (n : ℕ) (f g : ℕ → Bool) → n ≤ 16 → Agree f g → list_any f (run_from 1 n) ≡ list_any g (run_from 1 n)
+unfolding run_from
+any-agree n f g most same = go 1 n (λ p from to. same p from (omega arith))
+  where
+    go : (a n : ℕ) → ((p : ℕ) → a ≤ p → p < a + n → f p ≡ g p) → list_any f (run_from a n) ≡ list_any g (run_from a n)
     go a zero here = refl
     go a (suc n) here =
         let same_at : f a ≡ g a = here a (omega arith) (omega arith) in

@@ -12,7 +12,7 @@ use Rattle.tsb_plan.specs.declared.object.Object.TheVariants.{UnitMax2}
 use Rattle.tsb_plan.specs.Plan.{Plan, maximum}
 use Rattle.tsb_phase.specs.declared.ending.Ending.{Ending}
 use Rattle.tsb_phase.specs.declared.ending.Ending.TheVariants.{MaxOut, GapOut}
-use Rattle.tsb_phase.specs.Phase.{Phase, Given, Moved, Held, at_power_up, as_read, held_of}
+use Rattle.tsb_phase.specs.Phase.{Phase, Given, Moved, Held, as_read, held_of}
 use Rattle.tsb_phase.specs.DynamicMaximum.{effective_maximum, maximum_in_use, stepped, running_maximum_after}
 use Rattle.tsb_phase.specs.Green.{waits_for, cars_waiting, reduction_timer, gap, initial, gap_has_expired, gapped_latch, is_gapped, is_by_gap}
 use Rattle.tsb_phase.specs.Pedestrian.{ended_by, walk_time, clearance_time, pedestrian_after, pedestrian_now}
@@ -193,8 +193,3 @@ next-same plan hold given moved p was narrow in_it none =
       gapped_latch-same plan hold given p (held_now moved p (as_read was)) narrow none,
       reduction_timer-same plan hold given p (held_now moved p (as_read was)) narrow none,
     ) refl
-
--- a phase that was as at power-up, and that no ring moves, is as at power-up
-pub stays_at_power_up : (plan : Plan) (given : Given) (moved : Moved) (p : ℕ) (was : Phase) → was ≡ at_power_up →
-    moved.starts p ≡ false → moved.ends p ≡ false → next plan given moved p was ≡ at_power_up
-stays_at_power_up plan given moved p was e starts ends = rw (e, starts, ends) refl

@@ -22,6 +22,7 @@ use Rattle.tsb_ring.specs.Moves.{is_ended, is_started}
 use Rattle.tsb_coord.specs.Coordinated.{serving_order}
 use Rattle.tsb_step.specs.State.{State, interval}
 use Rattle.tsb_step.specs.Tick.{new_service, service, hold, forced, omitted, green_timer, new_detectors, calls_given, set, callable, conflict, pedestrian_call, phases_given, phase_read, ready, over, reverted, gapped, rings_given, moves, moved, done, next, preempts_given, preempts_read}
+use Rattle.tsb_phase.proofs.MoveLemmas.{stays_at_power_up}
 use Rattle.tsb_versions.specs.Widened.{IsNarrow, widened, widened_state, AreOfTable, IsLampWithin}
 use Rattle.tsb_versions.proofs.ListLemmas.{is_narrow, IsSameOnNarrow, IsBeyondNarrow}
 use Rattle.tsb_versions.proofs.PlanLemmas.{zeros, beyond-narrow}
@@ -244,7 +245,7 @@ done-same s row is = λ i. record {
 stays : (s : State) (row : Row) (p : ℕ) → IsNarrowState s → is_narrow p ≡ false → (next s row).phases p ≡ phase.at_power_up
 unfolding moves
 stays s row p is out =
-    phases.stays_at_power_up s.plan (phases_given s row) (moved s row) p (s.phases p) (is.resting p out)
+    stays_at_power_up s.plan (phases_given s row) (moved s row) p (s.phases p) (is.resting p out)
     (not-started s.plan s.rings (rings_given s row) p is.plan is.commitments out)
     (not-ended s.plan s.rings (rings_given s row) p is.plan out)
 
@@ -252,7 +253,7 @@ wide-stays : (s : State) (row : Row) (p : ℕ) → IsNarrowState s → is_narrow
     (next (widened_state s) row).phases p ≡ phase.at_power_up
 unfolding moves
 wide-stays s row p is out =
-    phases.stays_at_power_up (widened s.plan) (phases_given (widened_state s) row) (moved (widened_state s) row) p (s.phases p) (is.resting p out)
+    stays_at_power_up (widened s.plan) (phases_given (widened_state s) row) (moved (widened_state s) row) p (s.phases p) (is.resting p out)
     (ap (λ (m : phase.Moved). m.starts p) (moved-same s row is) ∙ not-started s.plan s.rings (rings_given s row) p is.plan is.commitments out)
     (ap (λ (m : phase.Moved). m.ends p) (moved-same s row is) ∙ not-ended s.plan s.rings (rings_given s row) p is.plan out)
 

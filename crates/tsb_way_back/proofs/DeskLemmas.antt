@@ -1,6 +1,6 @@
 -- A desk stays sound as a station sets a value.
-use Rattle.std.proofs.Common.{suc, ◌≡◌, ◌≢◌, ℕ, ◌<◌, ◌≤◌, ◌==◌, nat_le, Bool, true, false, not, ◌&&◌, if◌then◌else◌, List, [], ◌∷◌, length, All, AllPairs, None, is_some, refl, sym, ap, subst, arith, ◌∙◌, inl, inr}
-use Rattle.std.proofs.lemmas.Bool.{cases_Bool, and_from, true≢false}
+use Rattle.std.proofs.Common.{suc, ◌≡◌, ◌≢◌, ℕ, ◌<◌, ◌≤◌, nat_le, Bool, true, false, not, ◌&&◌, if◌then◌else◌, List, [], ◌∷◌, length, All, AllPairs, None, is_some, refl, sym, ap, subst, arith, ◌∙◌, inl, inr}
+use Rattle.std.proofs.lemmas.Bool.{cases_Bool, true≢false}
 use Rattle.std.proofs.lemmas.Bool.Decides.{nat_tests}
 use Rattle.std.proofs.lemmas.List.Elements.{All-nil, All-cons}
 use Rattle.std.proofs.lemmas.List.Kept.{AllPairs-cons}
@@ -8,7 +8,7 @@ use Rattle.tsb_plan.specs.declared.object.ObjectId.{ObjectId}
 use Rattle.tsb_plan.specs.Objects.{order}
 use Rattle.tsb_plan.specs.Plan.{is_same}
 use Rattle.tsb_plan.specs.PlanOf.{put_refusal}
-use Rattle.tsb_plan.proofs.PlanLemmas.{same-parts}
+use Rattle.tsb_plan.proofs.PlanLemmas.{same-parts, same-itself}
 use Rattle.tsb_plan.proofs.TableLemmas.{order-injective}
 use Rattle.tsb_transact.specs.declared.edit.Edit.{Edit}
 use Rattle.tsb_transact.specs.Desk.{Desk, IsSound, is_open, is_of, has_edit_of, with_edit}
@@ -35,12 +35,9 @@ same-id e x f =
     let both : (order e.id.object ≡ order x.id.object) × (e.id.index ≡ x.id.index) = same-parts e.id.object x.id.object e.id.index x.id.index f in
     λ j. record { object = order-injective e.id.object x.id.object both.0 j; index = both.1 j }
 
-itself : (id : ObjectId) → is_same id.object id.index id.object id.index ≡ true
-itself id = and_from (order id.object == order id.object) (id.index == id.index) (grind (arith, nat_tests)) (grind (arith, nat_tests))
-
 other-id : (e x : Edit) → is_of e.id x ≡ false → x.id ≢ e.id
 other-id e x f same =
-    true≢false (sym (itself e.id) ∙ ap (λ (id : ObjectId). is_same e.id.object e.id.index id.object id.index) (sym same) ∙ f)
+    true≢false (sym (same-itself e.id.object e.id.index) ∙ ap (λ (id : ObjectId). is_same e.id.object e.id.index id.object id.index) (sym same) ∙ f)
 
 once-with : (e : Edit) (es : List Edit) → AllPairs apart es → AllPairs apart (with_edit e es)
 once-with e [] h = AllPairs-cons apart e [] (All-nil (apart e)) h

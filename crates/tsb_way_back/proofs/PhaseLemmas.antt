@@ -226,8 +226,3 @@ runs-unforced now x r = record {
   served = r.served;
   walks = r.walks;
 }
-
--- a phase that is as at power-up, and that no ring moves, stays so
-pub stays-at_power_up : (plan : Plan) (given : Given) (moved : Moved) (p : ℕ) (was : Phase) → was ≡ at_power_up → moved.starts p ≡ false → moved.ends p ≡ false →
-    next plan given moved p was ≡ at_power_up
-stays-at_power_up plan given moved p was e starts ends = rw (e, starts, ends) refl

@@ -14,6 +14,7 @@ use Rattle.tsb_plan.specs.Plan.{Plan, is_same, with_value}
 use Rattle.tsb_plan.specs.PlanOf.{plan_in, plan_cells, plan_of}
 use Rattle.tsb_plan.proofs.TableLemmas.{at-order, order-below, length-objects, order-injective}
 use Rattle.tsb_plan.proofs.PlanLemmas.{same-parts}
+use Rattle.tsb_plan.proofs.ToldLemmas.{are_placed, all_placed}
 use Rattle.tsb_transact.specs.declared.edit.Edit.{Edit}
 use Rattle.tsb_transact.specs.Desk.{with_edits}
 use Rattle.tsb_transact.proofs.DeskLemmas.{value-taken}
@@ -28,14 +29,6 @@ use Rattle.tsb_way_back.specs.Runs.{IsHeld}
 
 abbrev cells_from : (Object → ℕ → ℕ) → List Object → List ℕ
 cells_from v os = flat_map (λ o. map (v o) (run_from 1 (indices o))) os
-
-abbrev are_placed : ℕ → List Object → Bool
-are_placed k [] = true
-are_placed k (o ∷ os) = (first_cell o == k) && are_placed (k + indices o) os
-
-all_placed : are_placed 0 objects ≡ true
-unfolding objects first_cell
-all_placed = refl
 
 behind : (os : List Object) (k j : ℕ) → are_placed k os ≡ true → j < length os → k ≤ first_cell (get_or os j PhaseEnabled)
 behind [] k j placed below = absurd (omega (arith, below))

@@ -1,21 +1,21 @@
 -- Preempts are in range after a tick, and after a switch.
-use Rattle.std.proofs.Common.{◌≡◌, ◌≢◌, ℕ, ◌+◌, ◌<◌, ◌≤◌, ◌==◌, Bool, true, false, not, ◌&&◌, ◌||◌, if◌then◌else◌, Option, Some, None, refl, sym, ap, arith, ◌∙◌, inl, inr}
+use Rattle.std.proofs.Common.{◌≡◌, ◌≢◌, ℕ, ◌+◌, ◌<◌, ◌≤◌, ◌==◌, Bool, true, false, ◌&&◌, ◌||◌, if◌then◌else◌, Option, Some, None, refl, sym, ap, arith, ◌∙◌, inl, inr}
 use Rattle.std.proofs.lemmas.Bool.{cases_Bool, eqb-true, true≢false}
 use Rattle.tsb_cells.specs.declared.timer.Timer.{Timer}
 use Rattle.tsb_cells.specs.declared.timer.Timer.TheVariants.{Off, On}
 use Rattle.tsb_cells.specs.Timer.{advanced, started, is_on, IsWithin}
 use Rattle.tsb_cells.proofs.TimerLemmas.{IsWithin-advanced, IsWithin-started}
 use Rattle.tsb_types.specs.declared.interval.Interval.{Interval}
-use Rattle.tsb_types.specs.declared.refusal.Refusal.TheVariants.{NoSuchPreempt}
 use Rattle.tsb_types.specs.declared.stage.Stage.{Stage}
 use Rattle.tsb_types.specs.declared.stage.Stage.TheVariants.{Track, Dwell, Exit}
 use Rattle.tsb_types.specs.Lists.{first, run_from}
 use Rattle.tsb_types.proofs.FirstLemmas.{first-within}
 use Rattle.tsb_plan.specs.Plan.{Plan}
 use Rattle.tsb_plan.specs.Parts.{is_track_phase}
-use Rattle.tsb_preempt.specs.Service.{Service, service_as_read, has_dwell, all_green, begun, track_timer, while_track, new_stage, with_stage}
+use Rattle.tsb_preempt.specs.Service.{Service, service_as_read, all_green, begun, track_timer, while_track, new_stage, with_stage}
 use Rattle.tsb_preempt.specs.Preempts.{Preempts, Given, at_power_up, after_reset, as_read, is_preempt, has_input, delay_timer, requests, requesting, beginning, if_may_begin, may_begin, going_on, service_by, new_service, dwell_ends, switch_refusal, with_switch, next}
 use Rattle.tsb_preempt.specs.Laws.{IsServiceIn, IsServedIn, IsStateBy}
+use Rattle.tsb_controller.proofs.InputLemmas.{switched-one}
 use Rattle.tsb_way_back.proofs.DetectLemmas.{advanced-on, if-within}
 
 started-on : (t : Timer) → is_on (started t) ≡ true
@@ -148,13 +148,6 @@ preempts-reset now now' was by = record {
 }
 
 -- a switch that is not refused is of one of the four
-switch-of : (plan : Plan) (n : ℕ) (on : Bool) → switch_refusal plan n on ≡ None → is_preempt n ≡ true
-switch-of plan n on h = go (is_preempt n) (not on || has_dwell plan n) h
-  where
-    go : (a b : Bool) → (if a && b then None else Some NoSuchPreempt) ≡ None → a ≡ true
-    go true b k = refl
-    go false b k = cc
-
 pub preempts-switched : (plan : Plan) (now n : ℕ) (on : Bool) (was : Preempts) → switch_refusal plan n on ≡ None → IsStateBy now was →
     IsStateBy now (with_switch n on was)
 preempts-switched plan now n on was allowed by = record {
@@ -166,6 +159,6 @@ preempts-switched plan now n on was allowed by = record {
     at : (k : ℕ) → is_preempt k ≡ false → (if k == n then on else was.switch k) ≡ false
     at k out =
         elim (cases_Bool (k == n)) [
-          | inl same ↦ absurd (true≢false (sym (switch-of plan n on allowed) ∙ ap is_preempt (sym (eqb-true k n same)) ∙ out))
+          | inl same ↦ absurd (true≢false (sym (switched-one plan n on allowed) ∙ ap is_preempt (sym (eqb-true k n same)) ∙ out))
           | inr other ↦ rw other (by.off k out).switch
         ]

@@ -38,12 +38,13 @@ use Rattle.tsb_step.proofs.EditLemmas.{same_phase_count, same_side_count}
 use Rattle.tsb_step.proofs.GivenLemmas.{symmetric, given}
 use Rattle.tsb_step.proofs.GoodLemmas.{good_next, good_step, good_run}
 use Rattle.tsb_step.proofs.PlaceLemmas.{same_refusal}
+use Rattle.tsb_phase.proofs.MoveLemmas.{stays_at_power_up}
 use Rattle.tsb_way_back.specs.Runs.{IsHeld, IsTyped, AreTyped}
 use Rattle.tsb_way_back.proofs.PlanLemmas.{bounded-with}
 use Rattle.tsb_way_back.proofs.DeskLemmas.{sound-set}
 use Rattle.tsb_way_back.proofs.DetectLemmas.{detectors-after, detectors-begin}
 use Rattle.tsb_way_back.proofs.CallLemmas.{IsSettled, memories-after, memories-begin}
-use Rattle.tsb_way_back.proofs.PhaseLemmas.{RunsIn, runs-after, runs-begin, runs-unforced, stays-at_power_up}
+use Rattle.tsb_way_back.proofs.PhaseLemmas.{RunsIn, runs-after, runs-begin, runs-unforced}
 use Rattle.tsb_way_back.proofs.RingLemmas.{none-started, none-ended, rings-after}
 use Rattle.tsb_way_back.proofs.PreemptLemmas.{preempts-after, preempts-begin, preempts-reset, preempts-switched}
 use Rattle.tsb_way_back.proofs.TripLemmas.{tripped-at, judged-trip, clock-now, clock-stands, clock-runs, trip-stays}
@@ -110,7 +111,7 @@ module _ (s : State) (row : Row) (good : IsGood s) (held : IsHeld s.plan) (was :
     detectors = detectors-next;
     memories = memories-after s.plan (calls_given s row) (done s row) s.memories settled was.memories;
     phases = λ p. runs-after s.plan (phases_given s row) (moved s row) p s.now (s.phases p) held.bounded (was.phases p);
-    others = λ p out. stays-at_power_up s.plan (phases_given s row) (moved s row) p (s.phases p) (was.others p out) (starts-none p out) (ends-none p out);
+    others = λ p out. stays_at_power_up s.plan (phases_given s row) (moved s row) p (s.phases p) (was.others p out) (starts-none p out) (ends-none p out);
     rings = rings-next;
     preempts = preempts-after s.plan (preempts_given s row) s.now s.preempts row-none was.preempts;
   }

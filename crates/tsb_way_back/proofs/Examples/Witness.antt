@@ -1,20 +1,19 @@
 -- A run that meets the premises of the laws: on the built-in plan of two phases a tick, a transaction that is opened, a lamp
 -- that a fault lights, and a tick of the controller that it trips.
-use Rattle.std.proofs.Common.{◌≡◌, ℕ, ◌≤◌, nat_le, Bool, true, false, ◌&&◌, if◌then◌else◌, List, [], ◌∷◌, Some, None, is_some, refl, sym, ap, ap₂, subst, arith, ◌∙◌}
+use Rattle.std.proofs.Common.{◌≡◌, ℕ, ◌≤◌, nat_le, Bool, true, false, ◌&&◌, if◌then◌else◌, List, [], ◌∷◌, Some, is_some, refl, sym, ap, ap₂, subst, arith, ◌∙◌}
 use Rattle.std.specs.List.{list_all}
 use Rattle.std.proofs.lemmas.Bool.{and_parts, leb-true, true≢false}
 use Rattle.tsb_cells.specs.declared.timer.Timer.TheVariants.{Off, On}
 use Rattle.tsb_types.specs.declared.lamp.Lamp.TheVariants as lamps
 use Rattle.tsb_types.specs.declared.lamp.SignalColor.TheVariants as signals
-use Rattle.tsb_types.specs.Lists.{run_from}
 use Rattle.tsb_types.specs.Sets.{all_off}
 use Rattle.tsb_plan.specs.declared.object.Object.{Object}
-use Rattle.tsb_plan.specs.Objects.{objects, has_index, greatest}
+use Rattle.tsb_plan.specs.Objects.{has_index, greatest}
 use Rattle.tsb_plan.specs.Plan.{Plan, empty, is_same, with_value, with_values}
 use Rattle.tsb_plan.specs.Two.{two, two_values, fits}
 use Rattle.tsb_plan.proofs.TableLemmas.{order-injective}
 use Rattle.tsb_plan.proofs.PlanLemmas.{same-parts}
-use Rattle.tsb_rules.specs.Rules.{first_broken, broken_by_rings, broken_by_phases, broken_by_parts, broken_by_extensions}
+use Rattle.tsb_rules.proofs.TwoLemmas.{two-meets}
 use Rattle.tsb_step.specs.declared.inputs.Input.{Input}
 use Rattle.tsb_step.specs.declared.inputs.Input.TheVariants.{Tick, Fault, Begin}
 use Rattle.tsb_step.specs.Runs.{replay}
@@ -54,10 +53,6 @@ fits-with (e ∷ es) base all ok =
 two-fits : Fits two.value
 unfolding two
 two-fits = fits-with two_values empty refl (record { none = λ o i out. refl; bounded = λ o i. omega arith })
-
-two-meets : first_broken two ≡ None
-unfolding two run_from objects first_broken broken_by_rings broken_by_phases broken_by_parts broken_by_extensions
-two-meets = refl
 
 two-phases : two.phase_count ≡ 16
 unfolding two

@@ -1,7 +1,8 @@
 use Rattle.std.proofs.Common.{◌-◌, ◌<◌, arith}
 use Rattle.tsb_objects.specs.Checked.{checked_plan}
 use Rattle.tsb_controller.specs.Layer.{rows_of}
-use Rattle.tsb_controller.proofs.PassLemmas.{rows-stay, passes}
+use Rattle.tsb_controller.proofs.ChangeLemmas.{rows-stay}
+use Rattle.tsb_controller.proofs.PassLemmas.{passes}
 use Rattle.tsb_controller.proofs.PlacedLemmas.{placed}
 use Rattle.tsb_controller.proofs.controller.Controller.due.Goals as goal
 

@@ -5,7 +5,7 @@ use Rattle.tsb_plan.specs.Plan.{Plan}
 use Rattle.tsb_preempt.specs.Cells.{preempts_in}
 use Rattle.tsb_preempt.specs.Layer.{cells_of}
 use Rattle.tsb_controller.specs.Passing.{wanted_in}
-use Rattle.tsb_controller.proofs.PassLemmas.{wanted-of, number-of}
+use Rattle.tsb_controller.proofs.LaterLemmas.{wanted-of, number-of}
 use Rattle.tsb_controller.proofs.controller.Controller.seen.Goals as goal
 
 pub returns : goal.returns
