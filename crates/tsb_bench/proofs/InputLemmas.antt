@@ -23,7 +23,7 @@ use Rattle.tsb_step.specs.Step.{step, verdict, last_tick, ticked, with_lamp}
 use Rattle.tsb_step.specs.declared.inputs.Input.{Input}
 use Rattle.tsb_step.specs.declared.inputs.Input.TheVariants as inputs
 use Rattle.tsb_step.proofs.MonitorLemmas as monitor
-use Rattle.tsb_controller.specs.declared.first_cell.TheConstants.{DESK, MONITOR}
+use Rattle.tsb_step.specs.declared.first_cell.TheConstants.{DESK, MONITOR}
 use Rattle.tsb_controller.specs.Promises.{IsWatchedTick, IsLit, IsRestarted, tripping}
 use Rattle.tsb_controller.specs.Records.{changes}
 use Rattle.tsb_controller.specs.Rows.{Rows, Beside, AreBy, untripped, state_of}

@@ -15,6 +15,7 @@ use Rattle.tsb_step.specs.MonitorCells.{lamp_in, trip_in}
 use Rattle.tsb_step.specs.Past.{record_of, taken_back}
 use Rattle.tsb_step.specs.State.{Tripped}
 use Rattle.tsb_step.specs.Step.{verdict, kind_of, last_tick}
+use Rattle.tsb_step.specs.declared.first_cell.TheConstants.{DESK, MONITOR}
 use Rattle.tsb_step.specs.declared.inputs.Input.{Input}
 use Rattle.tsb_step.specs.declared.inputs.Input.TheVariants as inputs
 use Rattle.tsb_step.proofs.MonitorLemmas as monitor
@@ -63,9 +64,9 @@ layers-none old new e =
     (omega (
       arith,
       none,
-      length-append (diff old.plan new.plan) (shifted 1230 (diff old.desk new.desk) ++ (changes old.layers new.layers ++ shifted 1572 (diff old.monitor new.monitor))),
-      length-append (shifted 1230 (diff old.desk new.desk)) (changes old.layers new.layers ++ shifted 1572 (diff old.monitor new.monitor)),
-      length-append (changes old.layers new.layers) (shifted 1572 (diff old.monitor new.monitor)),
+      length-append (diff old.plan new.plan) (shifted DESK (diff old.desk new.desk) ++ (changes old.layers new.layers ++ shifted MONITOR (diff old.monitor new.monitor))),
+      length-append (shifted DESK (diff old.desk new.desk)) (changes old.layers new.layers ++ shifted MONITOR (diff old.monitor new.monitor)),
+      length-append (changes old.layers new.layers) (shifted MONITOR (diff old.monitor new.monitor)),
     ))
 
 pub nothing-out : (es : List (ℕ × ℕ)) → (length es == 0) ≡ true → es ≡ []
@@ -110,7 +111,7 @@ module _ (now : ℕ) (a : All) (row : Row) (by : AreAllBy now a) (off : is_some 
       tick-done t a a row None [] (stays t from) none
       (pass now (t + 1) row (lamp_in a.monitor) (plan_in a.plan) a.layers watched (quiet (t + 1) (omega arith) (omega arith)))
       (rows-stay now (t + 1) a.layers (omega arith) (by-now now a by)) refl refl refl none (monitor.rows-stay now (t + 1) a.monitor (omega arith) by.monitor)
-      (sym (ap₂ (λ (es fs : List (ℕ × ℕ)). es ++ shifted 1572 fs) (no-changes a.layers) (diff-same a.monitor)))
+      (sym (ap₂ (λ (es fs : List (ℕ × ℕ)). es ++ shifted MONITOR fs) (no-changes a.layers) (diff-same a.monitor)))
 
 -- ## Once an input was taken
 

@@ -21,9 +21,6 @@ pub newest-told : (all older : List Change) (r : Change) → all ≡ r ∷ older
 unfolding entries-of
 newest-told all older r is = ap entries-of is
 
-pub none-few : (n most : ℕ) → n ≡ 0 → n ≤ most
-none-few n most none = omega arith
-
 -- a record of no entry takes 3 bytes
 pub none-left : (old mid new n : ℕ) → n ≡ 0 → old ≤ mid → mid ≤ new + 3 → old ≤ new + record_size n
 none-left old mid new n none reserved pushed = omega arith

@@ -10,7 +10,7 @@ use Rattle.tsb_step.specs.declared.inputs.Input.TheVariants.{Tick}
 use Rattle.tsb_ring.specs.Rings.{forgotten}
 use Rattle.tsb_step.specs.State.{State, Tripped}
 use Rattle.tsb_step.specs.Step.{step, verdict, kind_of, last_tick}
-use Rattle.tsb_controller.specs.declared.first_cell.TheConstants.{ALL_CELLS}
+use Rattle.tsb_step.specs.declared.first_cell.TheConstants.{ALL_CELLS}
 use Rattle.tsb_controller.specs.Layer as layers
 use Rattle.tsb_controller.specs.Layer.{IsClosed}
 use Rattle.tsb_controller.specs.Whole.{All, AreAllBy, all_in, all_changes}

@@ -6,7 +6,7 @@ use Rattle.tsb_history.specs.History.{Change, size_of}
 use Rattle.tsb_plan.specs.Objects.{AreInRange}
 use Rattle.tsb_transact.specs.Cells.{desk_in}
 use Rattle.tsb_transact.specs.Desk as desk
-use Rattle.tsb_controller.specs.declared.first_cell.TheConstants.{ALL_CELLS}
+use Rattle.tsb_step.specs.declared.first_cell.TheConstants.{ALL_CELLS}
 use Rattle.tsb_controller.specs.Records.{HasFew}
 use Rattle.tsb_controller.specs.Whole.{All, AreAllBy, all_in, all_put_back}
 use Rattle.tsb_step.specs.Good.{IsGood}

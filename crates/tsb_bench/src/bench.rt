@@ -27,11 +27,11 @@ use crate::watched::Watched;
 use arrayvec::ArrayVec;
 use std::alloc::Global;
 use std::marker::Model;
-use tsb_controller::first_cell::ALL_CELLS;
 use tsb_heads::Display;
 use tsb_history::{History, Kind};
 use tsb_objects::{Checked, Plan, Preempt, Refusal, Stage, limits};
 use tsb_step::Input;
+use tsb_step::first_cell::ALL_CELLS;
 use tsb_transact::Desk;
 use tsb_types::Watch;
 

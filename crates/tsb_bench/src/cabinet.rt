@@ -12,10 +12,11 @@ ghost use Rattle.tsb_rules.specs.Rules.{first_broken};
 ghost use Rattle.tsb_types.specs.declared.refusal.Refusal.TheVariants.{Memory, TickLimit};
 ghost use Rattle.tsb_transact.specs.Layer.{cells_of, is_open};
 ghost use Rattle.tsb_transact.specs.Rows.{IsRow};
+ghost use Rattle.tsb_transact.specs.declared.TheConstants.{CELLS as DESK_CELLS};
 ghost use Rattle.tsb_step.specs.Good.{IsGood};
 ghost use Rattle.tsb_step.specs.State.{start};
 ghost use Rattle.tsb_step.specs.Step.{verdict, last_tick, kind_of};
-ghost use Rattle.tsb_controller.specs.declared.first_cell.TheConstants.{DESK};
+ghost use Rattle.tsb_step.specs.declared.first_cell.TheConstants.{DESK};
 ghost use Rattle.tsb_controller.specs.Records.{HasFew};
 ghost use Rattle.tsb_controller.specs.Whole.{AreAllBy, all_in, all_put_back};
 ghost use Rattle.tsb_bench.specs.Cabinet.{rows_of, IsShut, IsDone, MayPass, next_tick, most_cells};
@@ -26,12 +27,12 @@ use arrayvec::ArrayVec;
 use std::alloc::Global;
 use tsb_cells::{Diff, Reversible};
 use tsb_controller::Controller;
-use tsb_controller::first_cell::{ALL_CELLS, DESK, LAYER_CELLS, MONITOR, MONITOR_CELLS};
 use tsb_history::Record;
 use tsb_objects::{Checked, PLAN_CELLS, Refusal, limits};
 use tsb_plan_changes::put_back;
 use tsb_records::{part_of, touches, undo_part};
-use tsb_step::Input;
+use tsb_step::first_cell::{ALL_CELLS, DESK, LAYER_CELLS, MONITOR};
+use tsb_step::{Input, MONITOR_CELLS};
 use tsb_transact::Desk;
 
 /// The most cells that an input changes which is no commit: the layers' and the monitor's, or the desk's, which are fewer.
@@ -169,7 +170,7 @@ impl Cabinet {
         requires few { HasFew change.now.entries }
         requires ranged { AreInRange (apply_diff (rows_of self.old).plan (part 0 PLAN_CELLS change.now.entries)) }
         requires passed { first_broken (plan_in (apply_diff (rows_of self.old).plan (part 0 PLAN_CELLS change.now.entries))) ≡ None }
-        requires desk { IsRow (apply_diff (rows_of self.old).desk (part DESK 132 change.now.entries)) }
+        requires desk { IsRow (apply_diff (rows_of self.old).desk (part DESK DESK_CELLS change.now.entries)) }
         ensures rows { rows_of self.new ≡ all_put_back (rows_of self.old) change.now.entries }
         ensures shut { IsShut self.new }
         ensures passing { (tick : ℕ) → MayPass tick self.new }
@@ -211,8 +212,8 @@ fn put_back_plan(plan: &mut Checked, change: &Record<'_>)
 fn undo_desk(desk: &mut Desk, change: &Record<'_>)
     requires shut { is_open desk.old ≡ false }
     requires few { HasFew change.now.entries }
-    requires row { IsRow (apply_diff (cells_of desk.old) (part DESK 132 change.now.entries)) }
-    ensures cells { cells_of desk.new ≡ apply_diff (cells_of desk.old) (part DESK 132 change.now.entries) }
+    requires row { IsRow (apply_diff (cells_of desk.old) (part DESK DESK_CELLS change.now.entries)) }
+    ensures cells { cells_of desk.new ≡ apply_diff (cells_of desk.old) (part DESK DESK_CELLS change.now.entries) }
     ensures shut { is_open desk.new ≡ false }
 {
     if touches(change, DESK, tsb_transact::CELLS) {
@@ -226,8 +227,8 @@ fn undo_desk(desk: &mut Desk, change: &Record<'_>)
 fn put_back_desk(desk: &mut Desk, change: &Record<'_>)
     requires shut { is_open desk.old ≡ false }
     requires few { HasFew change.now.entries }
-    requires row { IsRow (apply_diff (cells_of desk.old) (part DESK 132 change.now.entries)) }
-    ensures cells { cells_of desk.new ≡ apply_diff (cells_of desk.old) (part DESK 132 change.now.entries) }
+    requires row { IsRow (apply_diff (cells_of desk.old) (part DESK DESK_CELLS change.now.entries)) }
+    ensures cells { cells_of desk.new ≡ apply_diff (cells_of desk.old) (part DESK DESK_CELLS change.now.entries) }
     ensures shut { is_open desk.new ≡ false }
 {
     let entries: Diff<{ tsb_transact::CELLS }> = part_of(change, DESK);

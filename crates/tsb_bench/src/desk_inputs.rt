@@ -18,15 +18,15 @@ ghost use Rattle.tsb_controller.specs.Records.{changes};
 ghost use Rattle.tsb_controller.specs.Rows.{Beside, state_of};
 ghost use Rattle.tsb_controller.specs.Whole.{AreAllBy, all_in};
 ghost use Rattle.tsb_bench.specs.Cabinet.{rows_of, IsShut, IsDone, forgotten_if};
-ghost use Rattle.tsb_controller.specs.declared.first_cell.TheConstants.{ALL_CELLS, LAYER_CELLS};
+ghost use Rattle.tsb_step.specs.declared.first_cell.TheConstants.{ALL_CELLS, LAYER_CELLS};
 ghost use Rattle.tsb_bench.specs.declared.cabinet.TheConstants.{MOST_CELLS};
 
 use crate::cabinet::{Cabinet, Changes};
 use tsb_cells::Reversible;
 use tsb_controller::Controller;
-use tsb_controller::first_cell::DESK;
 use tsb_objects::{Checked, ObjectId, Refusal, Station};
 use tsb_plan_changes::differences_onto;
+use tsb_step::first_cell::DESK;
 use tsb_transact::Desk;
 
 impl Cabinet {

@@ -9,12 +9,13 @@ ghost use Rattle.tsb_step.specs.MonitorCells.{lamp_in, trip_in, trip_cells, lamp
 ghost use Rattle.tsb_step.specs.MonitorLaws.{IsMonitorBy, IsCause, IsLamp};
 ghost use Rattle.tsb_step.specs.State.{Tripped};
 ghost use Rattle.tsb_bench.specs.Cabinet.{tripped_by};
-ghost use Rattle.tsb_controller.specs.declared.first_cell.TheConstants.{MONITOR};
+ghost use Rattle.tsb_step.specs.declared.first_cell.TheConstants.{MONITOR};
 
 use arrayvec::ArrayVec;
 use tsb_cells::{Bank, Reversible};
-use tsb_controller::first_cell::{MONITOR, MONITOR_CELLS};
 use tsb_heads::Trip;
+use tsb_step::MONITOR_CELLS;
+use tsb_step::first_cell::MONITOR;
 use tsb_types::{Lamp, Overlap, PedestrianColor, Phase, SignalColor};
 
 /// The cell that tells why the controller has tripped; 0 where it has not.

@@ -5,7 +5,7 @@ use Rattle.tsb_cells.proofs.DiffLemmas.{AreWithin-diff, apply_diff-diff, diff-sa
 use Rattle.tsb_detect.proofs.ToldLemmas.{detectors-later}
 use Rattle.tsb_phase.proofs.ReadLemmas as phases
 use Rattle.tsb_preempt.proofs.ReadLemmas as preempts
-use Rattle.tsb_controller.specs.declared.first_cell.TheConstants.{DESK, DETECTORS, CALLS, PHASES, RINGS, COORD, PREEMPTS, MONITOR, ALL_CELLS}
+use Rattle.tsb_step.specs.declared.first_cell.TheConstants.{DESK, DETECTORS, CALLS, PHASES, RINGS, COORD, PREEMPTS, MONITOR, ALL_CELLS}
 use Rattle.tsb_controller.specs.Records.{changes}
 use Rattle.tsb_controller.specs.Rows.{Rows}
 use Rattle.tsb_controller.specs.Whole.{All, AreAllBy, whole, all_changes, all_put_back, RowsGoBack, EntriesAreWithin, ChangesAreFew, RowsStay, NothingDiffers, ChangesOfTheLayers, ChangesOfTheDesk, ChangesOfACommit}

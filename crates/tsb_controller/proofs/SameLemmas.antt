@@ -2,7 +2,7 @@
 use Rattle.std.proofs.Common.{◌≡◌, ℕ, List, [], ◌∷◌, ◌++◌, length, refl, sym, ap, ◌∙◌}
 use Rattle.tsb_cells.specs.Diff.{diff, apply_diff, shifted}
 use Rattle.tsb_cells.proofs.DiffLemmas.{apply_diff-diff}
-use Rattle.tsb_controller.specs.declared.first_cell.TheConstants.{DETECTORS, CALLS, PHASES, RINGS, COORD, PREEMPTS}
+use Rattle.tsb_step.specs.declared.first_cell.TheConstants.{DETECTORS, CALLS, PHASES, RINGS, COORD, PREEMPTS}
 use Rattle.tsb_controller.specs.Passing.{UnchangedRowsAreSame}
 
 first-none : (xs ys : List (ℕ × ℕ)) → xs ++ ys ≡ [] → xs ≡ []

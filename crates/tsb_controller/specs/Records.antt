@@ -8,7 +8,7 @@ use Rattle.tsb_phase.specs.declared.TheConstants.{CELLS as PHASE_CELLS}
 use Rattle.tsb_ring.specs.declared.TheConstants.{CELLS as RING_CELLS}
 use Rattle.tsb_coord.specs.declared.TheConstants.{CELLS as PATTERN_CELLS}
 use Rattle.tsb_preempt.specs.declared.TheConstants.{CELLS as PREEMPT_CELLS}
-use Rattle.tsb_controller.specs.declared.first_cell.TheConstants.{DETECTORS, CALLS, PHASES, RINGS, COORD, PREEMPTS}
+use Rattle.tsb_step.specs.declared.first_cell.TheConstants.{DETECTORS, CALLS, PHASES, RINGS, COORD, PREEMPTS}
 use Rattle.tsb_controller.specs.Rows.{Rows}
 
 -- the cells that differ, each by its number among all cells, with what it held before

@@ -22,7 +22,7 @@ use Rattle.tsb_step.specs.MonitorLaws.{IsMonitorBy}
 use Rattle.tsb_step.specs.Past.{record_of, undone, ticks_of}
 use Rattle.tsb_step.specs.State.{State}
 use Rattle.tsb_step.specs.Step.{kind_of}
-use Rattle.tsb_controller.specs.declared.first_cell.TheConstants.{DESK, MONITOR, ALL_CELLS}
+use Rattle.tsb_step.specs.declared.first_cell.TheConstants.{DESK, MONITOR, ALL_CELLS}
 use Rattle.tsb_controller.specs.Records.{changes, put_back, HasFew}
 use Rattle.tsb_controller.specs.Rows.{Rows, AreBy, state_of}
 

@@ -8,7 +8,6 @@
 
 mod carry;
 pub mod controller;
-pub mod first_cell;
 mod inputs;
 pub mod laws;
 pub mod passing;

@@ -1,15 +1,15 @@
 //! The record of what changes in the layers, and the way back by it.
 ghost use Rattle.std.specs.Prelude.{◌≡◌, ◌+◌, ◌≤◌, ◌++◌};
 ghost use Rattle.arrayvec.specs.ArrayVec.{array_vec_len};
-ghost use Rattle.tsb_controller.specs.declared.first_cell.TheConstants.{LAYER_CELLS};
+ghost use Rattle.tsb_step.specs.declared.first_cell.TheConstants.{LAYER_CELLS};
 ghost use Rattle.tsb_controller.specs.Records.{changes, put_back};
 
 use crate::controller::Controller;
-use crate::first_cell::{CALLS, COORD, DETECTORS, PHASES, PREEMPTS, RINGS};
 use arrayvec::ArrayVec;
 use tsb_cells::Reversible;
 use tsb_history::Record;
 use tsb_records::undo_part;
+use tsb_step::first_cell::{CALLS, COORD, DETECTORS, PHASES, PREEMPTS, RINGS};
 
 impl Controller {
     ghost use Rattle.tsb_controller.specs.Layer.{rows_of, kept_of, IsOpen, IsClosed};

@@ -199,8 +199,8 @@ module _ (nine : List ℕ) (a b c d e f g : ℕ → ℕ) (long : length nine ≡
   long-6 : length (nine ++ column a ++ column b ++ column c ++ column d ++ column e ++ column f) ≡ 105
   long-6 = longer (nine ++ column a ++ column b ++ column c ++ column d ++ column e) f 89 105 long-5 refl
 
-  long-all : length (nine ++ column a ++ column b ++ column c ++ column d ++ column e ++ column f ++ column g) ≡ 121
-  long-all = longer (nine ++ column a ++ column b ++ column c ++ column d ++ column e ++ column f) g 105 121 long-6 refl
+  long-all : length (nine ++ column a ++ column b ++ column c ++ column d ++ column e ++ column f ++ column g) ≡ CELLS
+  long-all = longer (nine ++ column a ++ column b ++ column c ++ column d ++ column e ++ column f) g 105 CELLS long-6 refl
 
   module _ (p : ℕ) (from : 1 ≤ p) (to : p ≤ 16) where
     at-a : get_or (nine ++ column a ++ column b ++ column c ++ column d ++ column e ++ column f ++ column g) (8 + p) 0 ≡ a p

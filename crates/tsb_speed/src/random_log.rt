@@ -1,5 +1,6 @@
 //! Logs at random.
 ghost use Rattle.std.specs.Prelude.{◌<◌, ◌≤◌};
+ghost use Rattle.tsb_step.specs.Step.{last_tick};
 
 use crate::random::Random;
 use std::alloc::{AllocError, Global};
@@ -38,7 +39,7 @@ impl Inputs {
 
     /// Changes the inputs that change at this tick, and tells whether there are any.
     fn change(&mut self, tick: u32) -> bool
-        requires { tick ≤ 6000000 }
+        requires { tick ≤ last_tick }
     {
         let mut is_changed = false;
         for k in 0..INPUTS {

@@ -4,16 +4,16 @@
 -- | Cells from | Whose |
 -- |---|---|
 -- | 0 | the plan's: of each object in order, its value at each index |
--- | `desk_from` | the desk's |
--- | `detectors_from` | the detectors' |
--- | `calls_from` | the calls' |
--- | `phases_from` | the phases' |
--- | `rings_from` | the rings' |
--- | `pattern_from` | the pattern's that is selected |
--- | `preempts_from` | the preempts' |
--- | `monitor_from` | the monitor's and the injected lamp's |
+-- | `first_cell.DESK` | the desk's |
+-- | `first_cell.DETECTORS` | the detectors' |
+-- | `first_cell.CALLS` | the calls' |
+-- | `first_cell.PHASES` | the phases' |
+-- | `first_cell.RINGS` | the rings' |
+-- | `first_cell.COORD` | the pattern's that is selected |
+-- | `first_cell.PREEMPTS` | the preempts' |
+-- | `first_cell.MONITOR` | the monitor's and the injected lamp's |
 --
--- `proofs/Examples/CellsExamples.antt` has these numbers.
+-- These numbers stand in `src/first_cell.rt`, each as a sum; `proofs/Examples/CellsExamples.antt` has them in digits.
 use Rattle.std.specs.Prelude.{ℕ, ◌+◌, List, ◌++◌, Option, Some, None}
 use Rattle.tsb_cells.specs.Row.{row_at}
 use Rattle.tsb_plan.specs.declared.object.TheConstants.{PLAN_CELLS}
@@ -33,6 +33,7 @@ use Rattle.tsb_coord.specs.Cells.{pattern_cells, pattern_in}
 use Rattle.tsb_preempt.specs.declared.TheConstants.{CELLS as PREEMPT_CELLS}
 use Rattle.tsb_preempt.specs.Cells.{preempts_cells, preempts_in}
 use Rattle.tsb_step.specs.declared.TheConstants.{MONITOR_CELLS}
+use Rattle.tsb_step.specs.declared.first_cell.TheConstants as first_cell
 use Rattle.tsb_step.specs.MonitorCells.{monitor_cells, lamp_in, trip_in}
 use Rattle.tsb_step.specs.State.{Tripped, State}
 
@@ -62,70 +63,32 @@ cells_of s =
     ++ preempts_cells (clock s) s.preempts
     ++ monitor_cells s.lamp s.trip
 
--- ## Where the cells of each layer begin
-
--- the desk's, behind the plan's
-abbrev pub desk_from : ℕ
-desk_from = PLAN_CELLS
-
--- the vehicle detectors'
-abbrev pub detectors_from : ℕ
-detectors_from = desk_from + DESK_CELLS
-
--- the calls': vehicle memories, pedestrian memories and counts
-abbrev pub calls_from : ℕ
-calls_from = detectors_from + DETECTOR_CELLS
-
--- those of phase timing
-abbrev pub phases_from : ℕ
-phases_from = calls_from + CALL_CELLS
-
--- the rings': last phases, commitments, side and crossing
-abbrev pub rings_from : ℕ
-rings_from = phases_from + PHASE_CELLS
-
--- that of the selected pattern
-abbrev pub pattern_from : ℕ
-pattern_from = rings_from + RING_CELLS
-
--- the preempts'
-abbrev pub preempts_from : ℕ
-preempts_from = pattern_from + PATTERN_CELLS
-
--- those of the trip and the injected lamp
-abbrev pub monitor_from : ℕ
-monitor_from = preempts_from + PREEMPT_CELLS
-
--- how many cells there are
-abbrev pub all_cells : ℕ
-all_cells = monitor_from + MONITOR_CELLS
-
 -- ## Reading
 
 -- the cells of each layer among all of them
 abbrev pub desk_row : List ℕ → List ℕ
-desk_row row = row_at DESK_CELLS row desk_from
+desk_row row = row_at DESK_CELLS row first_cell.DESK
 
 abbrev pub detectors_row : List ℕ → List ℕ
-detectors_row row = row_at DETECTOR_CELLS row detectors_from
+detectors_row row = row_at DETECTOR_CELLS row first_cell.DETECTORS
 
 abbrev pub calls_row : List ℕ → List ℕ
-calls_row row = row_at CALL_CELLS row calls_from
+calls_row row = row_at CALL_CELLS row first_cell.CALLS
 
 abbrev pub phases_row : List ℕ → List ℕ
-phases_row row = row_at PHASE_CELLS row phases_from
+phases_row row = row_at PHASE_CELLS row first_cell.PHASES
 
 abbrev pub rings_row : List ℕ → List ℕ
-rings_row row = row_at RING_CELLS row rings_from
+rings_row row = row_at RING_CELLS row first_cell.RINGS
 
 abbrev pub pattern_row : List ℕ → List ℕ
-pattern_row row = row_at PATTERN_CELLS row pattern_from
+pattern_row row = row_at PATTERN_CELLS row first_cell.COORD
 
 abbrev pub preempts_row : List ℕ → List ℕ
-preempts_row row = row_at PREEMPT_CELLS row preempts_from
+preempts_row row = row_at PREEMPT_CELLS row first_cell.PREEMPTS
 
 abbrev pub monitor_row : List ℕ → List ℕ
-monitor_row row = row_at MONITOR_CELLS row monitor_from
+monitor_row row = row_at MONITOR_CELLS row first_cell.MONITOR
 
 -- the clock by which timers are read in all these cells, which tell the trip
 abbrev pub clock_in : ℕ → List ℕ → ℕ

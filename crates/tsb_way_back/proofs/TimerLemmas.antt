@@ -13,22 +13,31 @@ use Rattle.tsb_cells.proofs.ChangeLemmas.{tells_each_change}
 use Rattle.tsb_cells.proofs.TimerLemmas.{timer_at-timer_cell, timer_cell-timer_at, timer_cell-le, timer_cell-advanced, timer_at-next, IsWithin-timer_at}
 use Rattle.tsb_types.specs.declared.row.Row.{Row}
 use Rattle.tsb_types.proofs.ClipLemmas.{is_phase_from}
+use Rattle.tsb_plan.specs.declared.object.TheConstants.{PLAN_CELLS}
 use Rattle.tsb_plan.specs.Plan.{Plan}
+use Rattle.tsb_detect.specs.declared.TheConstants.{CELLS as DETECTOR_CELLS}
 use Rattle.tsb_detect.specs.Detector.{Detector}
 use Rattle.tsb_detect.specs.Cells as detect
 use Rattle.tsb_detect.specs.Cells.{detector_in}
 use Rattle.tsb_detect.proofs.StateLemmas as detect_states
+use Rattle.tsb_calls.specs.declared.TheConstants.{CELLS as CALL_CELLS}
+use Rattle.tsb_phase.specs.declared.TheConstants.{CELLS as PHASE_CELLS}
 use Rattle.tsb_phase.specs.Phase.{Phase}
 use Rattle.tsb_phase.specs.Cells as phases
 use Rattle.tsb_phase.specs.Cells.{phase_in}
 use Rattle.tsb_phase.proofs.StateLemmas as phase_states
+use Rattle.tsb_ring.specs.declared.TheConstants.{CELLS as RING_CELLS}
+use Rattle.tsb_coord.specs.declared.TheConstants.{CELLS as PATTERN_CELLS}
+use Rattle.tsb_preempt.specs.declared.TheConstants.{CELLS as PREEMPT_CELLS}
 use Rattle.tsb_preempt.specs.Preempts.{Preempts, is_preempt}
 use Rattle.tsb_preempt.specs.Cells as preempts
 use Rattle.tsb_preempt.specs.Cells.{service_in, preempts_in}
 use Rattle.tsb_preempt.proofs.ResetLemmas.{is_preempt-from}
 use Rattle.tsb_preempt.proofs.StateLemmas as preempt_states
 use Rattle.tsb_heads.specs.Monitoring.{judge}
+use Rattle.tsb_transact.specs.declared.TheConstants.{CELLS as DESK_CELLS}
 use Rattle.tsb_controller.specs.Whole.{All, AreFull, whole}
+use Rattle.tsb_step.specs.declared.first_cell.TheConstants.{DETECTORS, PHASES, PREEMPTS, ALL_CELLS}
 use Rattle.tsb_step.specs.declared.inputs.Input.{Input}
 use Rattle.tsb_step.specs.declared.inputs.Input.TheVariants.{Tick}
 use Rattle.tsb_step.specs.Cells.{cells_of, clock}
@@ -78,29 +87,29 @@ module _ (a : All) (long : AreFull a) where
   abbrev from-desk : List ℕ
   from-desk = a.desk ++ from-detectors
 
-  at-detectors : (k : ℕ) → k < 54 → slice_index (whole a) (1362 + k) ≡ slice_index a.layers.detectors k
+  at-detectors : (k : ℕ) → k < DETECTOR_CELLS → slice_index (whole a) (DETECTORS + k) ≡ slice_index a.layers.detectors k
   at-detectors k below =
-      skip a.plan from-desk 1230 (1362 + k) (132 + k) long.plan (omega arith)
-      ∙ skip a.desk from-detectors 132 (132 + k) k long.desk refl
+      skip a.plan from-desk PLAN_CELLS (DETECTORS + k) (DESK_CELLS + k) long.plan (omega arith)
+      ∙ skip a.desk from-detectors DESK_CELLS (DESK_CELLS + k) k long.desk refl
       ∙ get_or-append a.layers.detectors from-calls 0 k (omega (arith, below, long.detectors))
 
-  at-phases : (k : ℕ) → k < 121 → slice_index (whole a) (1434 + k) ≡ slice_index a.layers.phases k
+  at-phases : (k : ℕ) → k < PHASE_CELLS → slice_index (whole a) (PHASES + k) ≡ slice_index a.layers.phases k
   at-phases k below =
-      skip a.plan from-desk 1230 (1434 + k) (204 + k) long.plan (omega arith)
-      ∙ skip a.desk from-detectors 132 (204 + k) (72 + k) long.desk (omega arith)
-      ∙ skip a.layers.detectors from-calls 54 (72 + k) (18 + k) long.detectors (omega arith)
-      ∙ skip a.layers.calls from-phases 18 (18 + k) k long.calls refl
+      skip a.plan from-desk PLAN_CELLS (PHASES + k) (DESK_CELLS + (DETECTOR_CELLS + (CALL_CELLS + k))) long.plan (omega arith)
+      ∙ skip a.desk from-detectors DESK_CELLS (DESK_CELLS + (DETECTOR_CELLS + (CALL_CELLS + k))) (DETECTOR_CELLS + (CALL_CELLS + k)) long.desk refl
+      ∙ skip a.layers.detectors from-calls DETECTOR_CELLS (DETECTOR_CELLS + (CALL_CELLS + k)) (CALL_CELLS + k) long.detectors refl
+      ∙ skip a.layers.calls from-phases CALL_CELLS (CALL_CELLS + k) k long.calls refl
       ∙ get_or-append a.layers.phases from-rings 0 k (omega (arith, below, long.phases))
 
-  at-preempts : (k : ℕ) → k < 10 → slice_index (whole a) (1562 + k) ≡ slice_index a.layers.preempts k
+  at-preempts : (k : ℕ) → k < PREEMPT_CELLS → slice_index (whole a) (PREEMPTS + k) ≡ slice_index a.layers.preempts k
   at-preempts k below =
-      skip a.plan from-desk 1230 (1562 + k) (332 + k) long.plan (omega arith)
-      ∙ skip a.desk from-detectors 132 (332 + k) (200 + k) long.desk (omega arith)
-      ∙ skip a.layers.detectors from-calls 54 (200 + k) (146 + k) long.detectors (omega arith)
-      ∙ skip a.layers.calls from-phases 18 (146 + k) (128 + k) long.calls (omega arith)
-      ∙ skip a.layers.phases from-rings 121 (128 + k) (7 + k) long.phases (omega arith)
-      ∙ skip a.layers.rings from-pattern 6 (7 + k) (1 + k) long.rings (omega arith)
-      ∙ skip a.layers.pattern from-preempts 1 (1 + k) k long.pattern refl
+      skip a.plan from-desk PLAN_CELLS (PREEMPTS + k) (DESK_CELLS + (DETECTOR_CELLS + (CALL_CELLS + (PHASE_CELLS + (RING_CELLS + (PATTERN_CELLS + k)))))) long.plan (omega arith)
+      ∙ skip a.desk from-detectors DESK_CELLS (DESK_CELLS + (DETECTOR_CELLS + (CALL_CELLS + (PHASE_CELLS + (RING_CELLS + (PATTERN_CELLS + k)))))) (DETECTOR_CELLS + (CALL_CELLS + (PHASE_CELLS + (RING_CELLS + (PATTERN_CELLS + k))))) long.desk refl
+      ∙ skip a.layers.detectors from-calls DETECTOR_CELLS (DETECTOR_CELLS + (CALL_CELLS + (PHASE_CELLS + (RING_CELLS + (PATTERN_CELLS + k))))) (CALL_CELLS + (PHASE_CELLS + (RING_CELLS + (PATTERN_CELLS + k)))) long.detectors refl
+      ∙ skip a.layers.calls from-phases CALL_CELLS (CALL_CELLS + (PHASE_CELLS + (RING_CELLS + (PATTERN_CELLS + k)))) (PHASE_CELLS + (RING_CELLS + (PATTERN_CELLS + k))) long.calls refl
+      ∙ skip a.layers.phases from-rings PHASE_CELLS (PHASE_CELLS + (RING_CELLS + (PATTERN_CELLS + k))) (RING_CELLS + (PATTERN_CELLS + k)) long.phases refl
+      ∙ skip a.layers.rings from-pattern RING_CELLS (RING_CELLS + (PATTERN_CELLS + k)) (PATTERN_CELLS + k) long.rings refl
+      ∙ skip a.layers.pattern from-preempts PATTERN_CELLS (PATTERN_CELLS + k) k long.pattern refl
       ∙ get_or-append a.layers.preempts behind-preempts 0 k (omega (arith, below, long.preempts))
 
 -- ## What the cell of a timer holds
@@ -225,17 +234,17 @@ module _ (s : State) (is : IsOfRun s) where
   abbrev row-preempts : List ℕ
   row-preempts = (rows-of s).layers.preempts
 
-  detector-there : (k : ℕ) (t : Timer) → k < 54 → Keeps (clock s) (slice_index row-detect k) t → Keeps (clock s) (slice_index (cells_of s) (1362 + k)) t
+  detector-there : (k : ℕ) (t : Timer) → k < DETECTOR_CELLS → Keeps (clock s) (slice_index row-detect k) t → Keeps (clock s) (slice_index (cells_of s) (DETECTORS + k)) t
   detector-there k t below it =
-      moved-cell (clock s) _ _ t (ap (λ (xs : List ℕ). slice_index xs (1362 + k)) (cells-whole s) ∙ at-detectors (rows-of s) (full-rows s is) k below) it
+      moved-cell (clock s) _ _ t (ap (λ (xs : List ℕ). slice_index xs (DETECTORS + k)) (cells-whole s) ∙ at-detectors (rows-of s) (full-rows s is) k below) it
 
-  phase-there : (k : ℕ) (t : Timer) → k < 121 → Keeps (clock s) (slice_index row-phases k) t → Keeps (clock s) (slice_index (cells_of s) (1434 + k)) t
+  phase-there : (k : ℕ) (t : Timer) → k < PHASE_CELLS → Keeps (clock s) (slice_index row-phases k) t → Keeps (clock s) (slice_index (cells_of s) (PHASES + k)) t
   phase-there k t below it =
-      moved-cell (clock s) _ _ t (ap (λ (xs : List ℕ). slice_index xs (1434 + k)) (cells-whole s) ∙ at-phases (rows-of s) (full-rows s is) k below) it
+      moved-cell (clock s) _ _ t (ap (λ (xs : List ℕ). slice_index xs (PHASES + k)) (cells-whole s) ∙ at-phases (rows-of s) (full-rows s is) k below) it
 
-  preempt-there : (k : ℕ) (t : Timer) → k < 10 → Keeps (clock s) (slice_index row-preempts k) t → Keeps (clock s) (slice_index (cells_of s) (1562 + k)) t
+  preempt-there : (k : ℕ) (t : Timer) → k < PREEMPT_CELLS → Keeps (clock s) (slice_index row-preempts k) t → Keeps (clock s) (slice_index (cells_of s) (PREEMPTS + k)) t
   preempt-there k t below it =
-      moved-cell (clock s) _ _ t (ap (λ (xs : List ℕ). slice_index xs (1562 + k)) (cells-whole s) ∙ at-preempts (rows-of s) (full-rows s is) k below) it
+      moved-cell (clock s) _ _ t (ap (λ (xs : List ℕ). slice_index xs (PREEMPTS + k)) (cells-whole s) ∙ at-preempts (rows-of s) (full-rows s is) k below) it
 
   by-detect : detect.IsBy (clock s) row-detect
   by-detect = (layers-by s is).detectors
@@ -268,7 +277,7 @@ module _ (s : State) (is : IsOfRun s) where
   place-keeps Served at = preempt-there 8 _ (omega arith) (keeps-served (clock s) row-preempts s.preempts by-preempts read-preempts)
   place-keeps Track at = preempt-there 9 _ (omega arith) (keeps-tracked (clock s) row-preempts s.preempts by-preempts read-preempts)
 
-place-below : (w : Place) → IsPlace w → cell_of w < 1579
+place-below : (w : Place) → IsPlace w → cell_of w < ALL_CELLS
 place-below (Change d) at = omega (arith, at.1)
 place-below (Extend d) at = omega (arith, at.1)
 place-below (Interval p) at = omega (arith, at.1)

@@ -1,5 +1,5 @@
 -- What the cells of the states of a run tell, and what the records of a run give back.
-use Rattle.std.proofs.Common.{◌≡◌, ℕ, ◌≤◌, false, List, [], ◌∷◌, ◌++◌, length, drop, Option, sym, ap, ap₂, subst, ◌∙◌, append_assoc}
+use Rattle.std.proofs.Common.{◌≡◌, ℕ, ◌≤◌, false, List, [], ◌∷◌, length, drop, Option, sym, ap, ap₂, subst, ◌∙◌}
 use Rattle.tsb_types.specs.declared.interval.PedestrianInterval.TheVariants.{DontWalk}
 use Rattle.tsb_types.specs.Intervals.{is_green}
 use Rattle.tsb_plan.specs.Plan.{Plan}
@@ -27,7 +27,8 @@ use Rattle.tsb_past.specs.Past.{after}
 use Rattle.tsb_past.proofs.PastLemmas as past
 use Rattle.tsb_controller.specs.Rows.{AreBy}
 use Rattle.tsb_controller.specs.Whole.{All, AreFull, AreAllBy, whole, all_in}
-use Rattle.tsb_controller.proofs.WholeLemmas.{full, whole-full, whole-read}
+use Rattle.tsb_controller.proofs.WholeLemmas.{full, whole-full, whole-read, regrouped}
+use Rattle.tsb_step.specs.declared.first_cell.TheConstants.{ALL_CELLS}
 use Rattle.tsb_step.specs.declared.inputs.Input.{Input}
 use Rattle.tsb_step.specs.Cells.{cells_of, state_in, clock, clock_at}
 use Rattle.tsb_step.specs.Good.{IsGood}
@@ -63,9 +64,6 @@ rows-of s = record {
   };
   monitor = monitor_cells s.lamp s.trip;
 }
-
-regrouped : (a b c d e f g h i : List ℕ) → ((((((((a ++ b) ++ c) ++ d) ++ e) ++ f) ++ g) ++ h) ++ i) ≡ a ++ (b ++ (c ++ (d ++ (e ++ (f ++ (g ++ (h ++ i)))))))
-regrouped a b c d e f g h i = simp (append_assoc)
 
 pub cells-whole : (s : State) → cells_of s ≡ whole (rows-of s)
 unfolding cells_of
@@ -176,7 +174,7 @@ module _ (s : State) (is : IsOfRun s) where
   pub cells-tell : state_in s.now (cells_of s) ≡ s
   cells-tell = ap (state_in s.now) (cells-whole s) ∙ whole-read (rows-of s) full-rows s.now ∙ rows-read
 
-  pub cells-full : length (cells_of s) ≡ 1579
+  pub cells-full : length (cells_of s) ≡ ALL_CELLS
   cells-full = ap length (cells-whole s) ∙ whole-full (rows-of s) full-rows
 
 -- ## Laws of cells

@@ -5,7 +5,7 @@ use Rattle.tsb_cells.specs.declared.timer.Timer.{Timer}
 use Rattle.tsb_cells.specs.declared.timer.Timer.TheVariants.{Off}
 use Rattle.tsb_cells.specs.Timer.{advanced}
 use Rattle.tsb_preempt.specs.Service.{Service}
-use Rattle.tsb_step.specs.Cells.{detectors_from, phases_from, preempts_from}
+use Rattle.tsb_step.specs.declared.first_cell.TheConstants as first_cell
 use Rattle.tsb_step.specs.State.{State}
 
 -- the on-time of a detector is none: while the input is on it is the change timer
@@ -64,17 +64,17 @@ timer_of Track s = tracked s.preempts.service
 
 -- the number of its cell among all of the controller
 abbrev pub cell_of : Place → ℕ
-cell_of (Change d) = detectors_from + (21 + d)
-cell_of (Extend d) = detectors_from + (37 + d)
-cell_of (Interval p) = phases_from + (8 + p)
-cell_of (Pedestrian p) = phases_from + (24 + p)
-cell_of (Passage p) = phases_from + (40 + p)
-cell_of (Conflict p) = phases_from + (56 + p)
-cell_of (Reduction p) = phases_from + (72 + p)
-cell_of (RedRevert p) = phases_from + (88 + p)
-cell_of (Delay n) = preempts_from + (1 + n)
-cell_of Served = preempts_from + 8
-cell_of Track = preempts_from + 9
+cell_of (Change d) = first_cell.DETECTORS + (21 + d)
+cell_of (Extend d) = first_cell.DETECTORS + (37 + d)
+cell_of (Interval p) = first_cell.PHASES + (8 + p)
+cell_of (Pedestrian p) = first_cell.PHASES + (24 + p)
+cell_of (Passage p) = first_cell.PHASES + (40 + p)
+cell_of (Conflict p) = first_cell.PHASES + (56 + p)
+cell_of (Reduction p) = first_cell.PHASES + (72 + p)
+cell_of (RedRevert p) = first_cell.PHASES + (88 + p)
+cell_of (Delay n) = first_cell.PREEMPTS + (1 + n)
+cell_of Served = first_cell.PREEMPTS + 8
+cell_of Track = first_cell.PREEMPTS + 9
 
 -- a timer after a tick in which it stayed Off or ran on; in a controller that has tripped timers stand still
 abbrev pub waits : State → Timer → Timer

@@ -24,8 +24,9 @@ use Rattle.tsb_preempt.specs.Cells.{service_in, preempts_in}
 use Rattle.tsb_heads.specs.declared.monitor.Trip.TheVariants.{Conflict, GreenToRed}
 use Rattle.tsb_transact.specs.declared.desk_state.DeskState.TheVariants.{Transaction}
 use Rattle.tsb_transact.specs.Cells.{desk_in}
+use Rattle.tsb_step.specs.declared.first_cell.TheConstants.{DESK, DETECTORS, CALLS, PHASES, RINGS, COORD, PREEMPTS, MONITOR, ALL_CELLS}
 use Rattle.tsb_step.specs.State.{State}
-use Rattle.tsb_step.specs.Cells.{cells_of, state_in, clock, desk_from, detectors_from, calls_from, phases_from, rings_from, pattern_from, preempts_from, monitor_from, all_cells}
+use Rattle.tsb_step.specs.Cells.{cells_of, state_in, clock}
 use Rattle.tsb_step.specs.MonitorCells.{monitor_cells, lamp_in, trip_in}
 
 unfoldable opened : Unit {0}
@@ -58,11 +59,11 @@ busy = record {
 
 -- ## Where they stand
 
-how_many : length (cells_of busy) ≡ all_cells
+how_many : length (cells_of busy) ≡ ALL_CELLS
 unfolding opened busy
 how_many = refl
 
-first_cells : desk_from ∷ detectors_from ∷ calls_from ∷ phases_from ∷ rings_from ∷ pattern_from ∷ preempts_from ∷ monitor_from ∷ all_cells ∷ [] ≡
+first_cells : DESK ∷ DETECTORS ∷ CALLS ∷ PHASES ∷ RINGS ∷ COORD ∷ PREEMPTS ∷ MONITOR ∷ ALL_CELLS ∷ [] ≡
     1230 ∷ 1362 ∷ 1416 ∷ 1434 ∷ 1555 ∷ 1561 ∷ 1562 ∷ 1572 ∷ 1579 ∷ []
 first_cells = refl
 

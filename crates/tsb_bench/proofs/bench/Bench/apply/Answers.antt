@@ -4,21 +4,22 @@ use Rattle.tsb_history.specs.declared.kinds.Kind.TheVariants as kinds
 use Rattle.std.specs.Prelude.{Result, Err}
 use Rattle.tsb_types.specs.declared.refusal.Refusal.{Refusal}
 use Rattle.tsb_types.specs.declared.refusal.Refusal.TheVariants.{Memory}
+use Rattle.tsb_preempt.proofs.ResetLemmas.{le-zero}
 use Rattle.tsb_controller.specs.Whole.{all_in, all_changes}
 use Rattle.tsb_step.specs.Past.{record_of}
-use Rattle.tsb_step.specs.Step.{kind_of, verdict}
+use Rattle.tsb_step.specs.Step.{kind_of, verdict, last_tick}
 use Rattle.tsb_bench.specs.Cabinet.{rows_of, most_cells}
 use Rattle.tsb_bench.specs.Held.{Held, state_of, whole}
 use Rattle.tsb_bench.proofs.HeldLemmas.{sound-held}
 use Rattle.tsb_bench.proofs.PassingLemmas.{may-later, sound-passed, records-passed, back-passed, sound-taken, records-taken, back-taken}
-use Rattle.tsb_bench.proofs.RoomLemmas.{newest-told, none-few, none-left, all-left}
+use Rattle.tsb_bench.proofs.RoomLemmas.{newest-told, none-left, all-left}
 use Rattle.tsb_bench.proofs.RefusalLemmas.{never-memory, refuses}
 use Rattle.tsb_bench.proofs.bench.Bench.apply.Goals as goal
 
 -- ## A tick that is passed over
 
 pub overflow_add-self : goal.overflow_add-self
-overflow_add-self c = let below : c.self.inside.tick ≤ 6000000 = (sound-held _ _ _ c.self.invariant.1).limit in omega (arith, below)
+overflow_add-self c = let below : c.self.inside.tick ≤ last_tick = (sound-held _ _ _ c.self.invariant.1).limit in omega (arith, below)
 
 pub invariant_of-self-then-passes : goal.invariant_of-self-then-passes
 invariant_of-self-then-passes c = (
@@ -39,7 +40,7 @@ none-told : (c : goal.After-push) → length (record_of c.args.input (state_of c
 none-told c = sym (newest-told _ _ _ (returns-then-passes-clause-records c)) ∙ newest-told _ _ _ c.push.ensures.records
 
 pub returns-then-passes-clause-few : goal.returns-then-passes-clause-few
-returns-then-passes-clause-few c = none-few _ (most_cells (kind_of c.args.input)) (none-told c)
+returns-then-passes-clause-few c = le-zero _ (most_cells (kind_of c.args.input)) (none-told c)
 
 pub returns-then-passes-clause-room : goal.returns-then-passes-clause-room
 returns-then-passes-clause-room c =

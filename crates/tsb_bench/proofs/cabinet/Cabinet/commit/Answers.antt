@@ -9,6 +9,7 @@ use Rattle.tsb_step.specs.Cells.{clock_at}
 use Rattle.tsb_step.specs.MonitorCells.{trip_in}
 use Rattle.tsb_step.specs.Step.{verdict}
 use Rattle.tsb_step.specs.declared.inputs.Input.TheVariants as inputs
+use Rattle.tsb_step.specs.declared.first_cell.TheConstants.{DESK}
 use Rattle.tsb_controller.specs.Layer as layers
 use Rattle.tsb_controller.specs.Records.{changes}
 use Rattle.tsb_controller.specs.Whole.{All}
@@ -41,10 +42,10 @@ returns-clause-done c =
     (ap desk_in c.close_onto.ensures.cells ∙ c.committed_plan-plan.ensures.desk) refl (c.forget_if.ensures.state c.args.tick))
     c.committed_plan-plan.result.plan.full c.close_onto.new.self.row.by
     (c.forget_if.ensures.by (clock_at c.args.tick (trip_in (rows_of c.args.self.now).monitor)) c.requires.by.layers) refl
-    (commit-told (diff (rows_of c.args.self.now).plan c.committed_plan-plan.result.plan.values) (shifted 1230 (diff (rows_of c.args.self.now).desk (desk.cells_of c.close_onto.new.self)))
+    (commit-told (diff (rows_of c.args.self.now).plan c.committed_plan-plan.result.plan.values) (shifted DESK (diff (rows_of c.args.self.now).desk (desk.cells_of c.close_onto.new.self)))
     (changes (rows_of c.args.self.now).layers (layers.rows_of c.forget_if.new.controller)) c.args.out.now.items c.differences_onto.new.out.items c.close_onto.new.out.items c.forget_if.new.out.items
     c.requires.empty
     (c.differences_onto.ensures.changes ∙ ap₂ (λ (xs ys : List ℕ). c.args.out.now.items ++ diff xs ys) (values-of c.plan.result.now c.args.self.now.plan.plan c.plan.ensures.plan)
     (values-of c.plan-2.result.now c.committed_plan-plan.result.plan c.plan-2.ensures.plan))
-    (c.close_onto.ensures.changes ∙ ap₂ (λ (xs ys : List ℕ). c.differences_onto.new.out.items ++ shifted 1230 (diff xs ys)) (c.committed_plan-plan.ensures.kept ∙ c.open.ensures.kept) (sym c.close_onto.ensures.cells))
+    (c.close_onto.ensures.changes ∙ ap₂ (λ (xs ys : List ℕ). c.differences_onto.new.out.items ++ shifted DESK (diff xs ys)) (c.committed_plan-plan.ensures.kept ∙ c.open.ensures.kept) (sym c.close_onto.ensures.cells))
     c.forget_if.ensures.changes)

@@ -3,6 +3,7 @@ use Rattle.tsb_cells.specs.Bank as bank
 use Rattle.tsb_cells.specs.Diff.{diff, shifted}
 use Rattle.tsb_step.specs.State.{restarted}
 use Rattle.tsb_step.specs.declared.inputs.Input.TheVariants as inputs
+use Rattle.tsb_step.specs.declared.first_cell.TheConstants.{MONITOR}
 use Rattle.tsb_controller.specs.Layer as layers
 use Rattle.tsb_controller.specs.Rows.{Rows, Beside, AreBy, untripped, state_of}
 use Rattle.tsb_bench.specs.Cabinet.{rows_of, IsDone}
@@ -28,6 +29,6 @@ returns-clause-done c =
     c.clear.new.out.items c.requires.by (sym c.is_tripped.ensures ∙ c.if-not-is_tripped.false)
     (λ (b : Beside). ap (state_of c.args.tick (untripped b.plan b.desk None)) c.close_onto.ensures.rows ∙ c.reset.ensures.state b ∙ ap (λ (r : Rows). restarted (state_of c.args.tick b r)) c.open.ensures.rows)
     (subst (AreBy c.args.tick) (sym c.close_onto.ensures.rows) c.reset.ensures.by) refl refl (says c).lamp_is (says c).trip_is (says c).by
-    (c.clear.ensures.changes ∙ ap (λ (es : List (ℕ × ℕ)). es ++ shifted 1572 (diff (rows_of c.args.self.now).monitor (bank.cells_of c.clear.new.self.bank)))
+    (c.clear.ensures.changes ∙ ap (λ (es : List (ℕ × ℕ)). es ++ shifted MONITOR (diff (rows_of c.args.self.now).monitor (bank.cells_of c.clear.new.self.bank)))
     (changes-told (rows_of c.args.self.now).layers (layers.kept_of c.reset.new.self) (layers.rows_of c.reset.new.self) (layers.rows_of c.close_onto.new.self)
     c.args.out.now.items c.close_onto.new.out.items c.requires.empty (c.reset.ensures.kept ∙ c.open.ensures.kept) c.close_onto.ensures.rows c.close_onto.ensures.changes))

@@ -9,9 +9,11 @@ use Rattle.tsb_plan.specs.PlanOf.{plan_of}
 use Rattle.tsb_types.proofs.OptionLemmas.{is-none}
 use Rattle.tsb_heads.specs.declared.monitor.Trip.{Trip}
 use Rattle.tsb_transact.specs.Cells.{desk_in}
+use Rattle.tsb_step.specs.Step.{last_tick}
 use Rattle.tsb_step.specs.MonitorCells.{lamp_in, trip_in}
 use Rattle.tsb_step.specs.declared.inputs.Input.TheVariants as inputs
 use Rattle.tsb_step.proofs.MonitorLemmas as monitor
+use Rattle.tsb_step.specs.declared.first_cell.TheConstants.{MONITOR}
 use Rattle.tsb_controller.specs.Layer as layers
 use Rattle.tsb_controller.specs.Promises.{IsWatchedTick}
 use Rattle.tsb_controller.specs.Records.{changes}
@@ -26,7 +28,7 @@ returns-then-is_tripped-clause-done c =
     (tick-tripped c.args.tick (rows_of c.args.self.now) c.args.row.now c.requires.by (sym c.is_tripped.ensures ∙ c.if-is_tripped.true))
 
 pub overflow_add-tick : goal.overflow_add-tick
-overflow_add-tick c = let below : c.args.tick + 1 ≤ 6000000 = below-limit c.args.tick (rows_of c.args.self.now) c.args.row.now c.requires.allowed in omega (arith, below)
+overflow_add-tick c = let below : c.args.tick + 1 ≤ last_tick = below-limit c.args.tick (rows_of c.args.self.now) c.args.row.now c.requires.allowed in omega (arith, below)
 
 pub watched_tick-found-requires-clause-in_time : goal.watched_tick-found-requires-clause-in_time
 watched_tick-found-requires-clause-in_time c = below-limit c.args.tick (rows_of c.args.self.now) c.args.row.now c.requires.allowed
@@ -44,7 +46,7 @@ watched_tick-found-requires-clause-good c = (
 )
 
 pub overflow_add-tick-then-is_some : goal.overflow_add-tick-then-is_some
-overflow_add-tick-then-is_some c = let below : c.args.tick + 1 ≤ 6000000 = below-limit c.args.tick (rows_of c.args.self.now) c.args.row.now c.requires.allowed in omega (arith, below)
+overflow_add-tick-then-is_some c = let below : c.args.tick + 1 ≤ last_tick = below-limit c.args.tick (rows_of c.args.self.now) c.args.row.now c.requires.allowed in omega (arith, below)
 
 pub set-requires : goal.set-requires
 set-requires c =
@@ -84,7 +86,7 @@ returns-then-is_some-clause-done c =
     (layers.rows_of c.watched_tick-found.new.self) (layers.rows_of c.close_onto.new.self) c.watched_tick-found.result c.lamp-lamp.ensures c.open.ensures.rows c.close_onto.ensures.rows c.watched_tick-found.ensures.state)
     (subst (AreBy (c.args.tick + 1)) (sym c.close_onto.ensures.rows) c.watched_tick-found.ensures.by) refl refl (c.set.ensures.lamp ∙ c.lamp-lamp.ensures)
     (c.set.ensures.trip ∙ tripped-now (c.args.tick + 1) c.watched_tick-found.result (trip_in (rows_of c.args.self.now).monitor) (is-none (trip_in (rows_of c.args.self.now).monitor) (sym c.is_tripped.ensures ∙ c.if-is_tripped.false))) c.set.ensures.by
-    (c.set.ensures.changes ∙ ap (λ (es : List (ℕ × ℕ)). es ++ shifted 1572 (diff (rows_of c.args.self.now).monitor (bank.cells_of c.set.new.self.bank))) (changes-told (rows_of c.args.self.now).layers (layers.kept_of c.watched_tick-found.new.self) (layers.rows_of c.watched_tick-found.new.self) (layers.rows_of c.close_onto.new.self)
+    (c.set.ensures.changes ∙ ap (λ (es : List (ℕ × ℕ)). es ++ shifted MONITOR (diff (rows_of c.args.self.now).monitor (bank.cells_of c.set.new.self.bank))) (changes-told (rows_of c.args.self.now).layers (layers.kept_of c.watched_tick-found.new.self) (layers.rows_of c.watched_tick-found.new.self) (layers.rows_of c.close_onto.new.self)
     c.args.out.now.items c.close_onto.new.out.items c.requires.empty (c.watched_tick-found.ensures.kept ∙ c.open.ensures.kept) c.close_onto.ensures.rows c.close_onto.ensures.changes))
 
 pub returns-else-is_some-clause-done : goal.returns-else-is_some-clause-done
@@ -99,4 +101,4 @@ returns-else-is_some-clause-done c =
     ((is-none (trip_in (rows_of c.args.self.now).monitor) (sym c.is_tripped.ensures ∙ c.if-is_tripped.false)) ∙ ap (option_map (λ (cause : Trip). record { cause = cause; tick = c.args.tick + 1 })) (sym none))
     (monitor.rows-stay c.args.tick (c.args.tick + 1) (rows_of c.args.self.now).monitor (omega arith) c.requires.by.monitor)
     (changes-told (rows_of c.args.self.now).layers (layers.kept_of c.watched_tick-found.new.self) (layers.rows_of c.watched_tick-found.new.self) (layers.rows_of c.close_onto.new.self)
-    c.args.out.now.items c.close_onto.new.out.items c.requires.empty (c.watched_tick-found.ensures.kept ∙ c.open.ensures.kept) c.close_onto.ensures.rows c.close_onto.ensures.changes ∙ sym (append-nil _) ∙ ap (λ (es : List (ℕ × ℕ)). changes (rows_of c.args.self.now).layers (layers.rows_of c.close_onto.new.self) ++ shifted 1572 es) (sym (diff-same (rows_of c.args.self.now).monitor)))
+    c.args.out.now.items c.close_onto.new.out.items c.requires.empty (c.watched_tick-found.ensures.kept ∙ c.open.ensures.kept) c.close_onto.ensures.rows c.close_onto.ensures.changes ∙ sym (append-nil _) ∙ ap (λ (es : List (ℕ × ℕ)). changes (rows_of c.args.self.now).layers (layers.rows_of c.close_onto.new.self) ++ shifted MONITOR es) (sym (diff-same (rows_of c.args.self.now).monitor)))

@@ -1,6 +1,7 @@
 use Rattle.std.proofs.Common.{◌∙◌, ◌+◌, ◌≤◌, sym, arith, None}
 use Rattle.tsb_objects.specs.Checked.{checked_plan}
 use Rattle.tsb_plan.specs.PlanOf.{plan_in, plan_of}
+use Rattle.tsb_step.specs.Step.{last_tick}
 use Rattle.tsb_step.specs.MonitorCells.{lamp_in}
 use Rattle.tsb_bench.specs.Cabinet.{rows_of}
 use Rattle.tsb_bench.proofs.InputLemmas.{below-limit}
@@ -8,7 +9,7 @@ use Rattle.tsb_bench.proofs.PassingLemmas.{nothing-out, by-before, watched-here,
 use Rattle.tsb_bench.proofs.cabinet.Cabinet.work_tick.Goals as goal
 
 pub overflow_add-tick : goal.overflow_add-tick
-overflow_add-tick c = let below : c.args.tick + 1 ≤ 6000000 = below-limit c.args.tick (rows_of c.args.self.now) c.args.row.now c.requires.allowed in omega (arith, below)
+overflow_add-tick c = let below : c.args.tick + 1 ≤ last_tick = below-limit c.args.tick (rows_of c.args.self.now) c.args.row.now c.requires.allowed in omega (arith, below)
 
 pub due-due-requires-clause-in_time : goal.due-due-requires-clause-in_time
 due-due-requires-clause-in_time c = below-limit c.args.tick (rows_of c.args.self.now) c.args.row.now c.requires.allowed

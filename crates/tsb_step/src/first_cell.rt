@@ -1,10 +1,10 @@
-//! The numbers of first cells among all cells of the bench, and how many cells there are. The cells are those of the plan,
-//! of the desk, of the six layers in the order of their fields, and of the monitor with the injected lamp.
+//! The numbers of first cells among all cells of the controller, and how many cells there are. The cells are those of the
+//! plan, of the desk, of the six layers, and of the monitor with the injected lamp.
 
+use crate::MONITOR_CELLS;
 use tsb_objects::PLAN_CELLS;
-pub use tsb_step::MONITOR_CELLS;
 
-/// The desk's.
+/// The desk's, behind the plan's.
 pub const DESK: u16 = PLAN_CELLS as u16;
 
 /// The detectors'.
@@ -31,5 +31,5 @@ pub const MONITOR: u16 = PREEMPTS + tsb_preempt::CELLS as u16;
 /// How many cells the six layers have.
 pub const LAYER_CELLS: usize = (MONITOR - DETECTORS) as usize;
 
-/// All cells of the bench.
+/// How many cells there are.
 pub const ALL_CELLS: usize = MONITOR as usize + MONITOR_CELLS;
