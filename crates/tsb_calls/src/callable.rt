@@ -11,16 +11,7 @@ ghost use Rattle.tsb_calls.specs.Layer.{AreMemories};
 
 use crate::observed::Observed;
 use crate::recalls::{with_pedestrians, with_recall};
-use tsb_objects::{Called, Checked, Phase, PhaseSet};
-
-/// A phase has a number from 1 to 16.
-#[inline(always)]
-fn known(p: Phase)
-    ensures from { 1 ≤ p }
-    ensures within { p ≤ 16 }
-{
-    let _number = p.number();
-}
+use tsb_objects::{Called, Checked, PhaseSet};
 
 /// Whether a set has a phase.
 #[inline(always)]
@@ -29,7 +20,7 @@ fn has_some(set: PhaseSet) -> bool
 {
     match set.first() {
         Some(p) => {
-            known(p);
+            p.known();
             true
         }
         None => false,

@@ -16,7 +16,7 @@ fn known(phase: Option<Phase>)
     ensures { IsOne phase }
 {
     if let Some(phase) = phase {
-        let _number = phase.number();
+        phase.known();
     }
 }
 

@@ -38,7 +38,7 @@ fn has_service(intervals: &Intervals) -> bool
         .union(intervals.red_clear);
     match served.first() {
         Some(phase) => {
-            let _number = phase.number();
+            phase.known();
             true
         }
         None => false,

@@ -5,7 +5,6 @@ ghost use Rattle.tsb_types.specs.declared.limits.TheConstants.{TICKS};
 ghost use Rattle.tsb_cells.specs.Diff.{diff, shifted};
 ghost use Rattle.tsb_plan.specs.Parts.{is_used};
 ghost use Rattle.tsb_objects.specs.Checked.{checked_plan};
-ghost use Rattle.tsb_rules.specs.Rules.{first_broken};
 ghost use Rattle.tsb_plan.specs.Running.{running};
 ghost use Rattle.tsb_types.specs.declared.refusal.Refusal.{Refusal};
 ghost use Rattle.tsb_types.specs.Sets.{has};
@@ -31,17 +30,6 @@ const FREE_SEQUENCE: u8 = 1;
 #[derive(Clone, Copy)]
 pub struct Coord {
     bank: Bank<CELLS>,
-}
-
-/// A pattern has a number from 1 to 16, and a checked plan breaks no rule.
-#[inline(always)]
-fn known(n: Pattern, plan: &Checked)
-    ensures from { 1 ≤ n }
-    ensures within { n ≤ 16 }
-    ensures consistent { first_broken (checked_plan plan.now) ≡ None }
-{
-    let _number = n.number();
-    let _plan = plan.plan();
 }
 
 /// What is asked in free operation: nothing.
@@ -184,7 +172,8 @@ impl Coord {
         match self.running(plan) {
             None => TICKS + 1,
             Some(n) => {
-                known(n, plan);
+                n.known();
+                let _consistent = plan.plan();
                 now + ticks_to_next(plan, n, counter(plan, n, now))
             }
         }

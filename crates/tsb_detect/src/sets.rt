@@ -1,17 +1,8 @@
 //! Sets of detectors: `NumberSet`, by detectors in place of numbers.
-ghost use Rattle.std.specs.Prelude.{◌≡◌, ◌≢◌, ℕ, ◌<◌, ◌≤◌, true, false, None, IfSome};
-ghost use Rattle.tsb_types.specs.Sets.{has_number, size_of_numbers};
+ghost use Rattle.std.specs.Prelude.{◌≡◌, ◌≢◌, ℕ, ◌≤◌, true, false};
+ghost use Rattle.tsb_types.specs.Sets.{has_number};
 
 use tsb_objects::{Detector, NumberSet};
-
-/// A detector has a number from 1 to 16.
-#[inline(always)]
-pub(crate) fn known(d: Detector)
-    ensures from { 1 ≤ d }
-    ensures within { d ≤ 16 }
-{
-    let _number = d.number();
-}
 
 /// Whether a set has the detector.
 #[inline(always)]
@@ -38,25 +29,6 @@ pub(crate) fn joined(set: NumberSet, d: Detector, on: bool) -> NumberSet
     ensures others { (e : ℕ) → e ≢ d → has_number result e ≡ has_number set e }
 {
     set.joined(d.number(), on)
-}
-
-/// Takes the first detector out of a set.
-#[inline(always)]
-pub(crate) fn pop(set: &mut NumberSet) -> Option<Detector>
-    ensures none { result ≡ None → (d : ℕ) → has_number set.old d ≡ false }
-    ensures had { IfSome result (λ d. has_number set.old d ≡ true) }
-    ensures taken { IfSome result (λ d. has_number set.new d ≡ false) }
-    ensures others { IfSome result (λ d. (e : ℕ) → e ≢ d → has_number set.new e ≡ has_number set.old e) }
-    ensures empty { result ≡ None → set.new ≡ set.old }
-    ensures smaller { IfSome result (λ d. size_of_numbers set.new < size_of_numbers set.old) }
-{
-    match set.first() {
-        None => None,
-        Some(number) => {
-            *set = set.with(number, false);
-            Some(Detector::of(number))
-        }
-    }
 }
 
 /// The numbers that one of two sets has and the other has not.

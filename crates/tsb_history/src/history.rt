@@ -67,9 +67,8 @@ impl History {
         ensures records { self.new.records ≡ record { kind = kind; entries = entries.now } ∷ self.old.records }
         ensures room { self.old.room ≤ self.new.room + record_size (length entries.now) }
     {
-        let _ = &self.bytes;
-        write_record(&mut self.bytes, kind, entries);
         self.count += 1;
+        write_record(&mut self.bytes, kind, entries);
     }
 
     /// The newest record, or `None` where there is no record.

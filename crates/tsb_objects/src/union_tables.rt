@@ -89,7 +89,7 @@ fn conflicts_of(plan: &Plan, q: Phase) -> PhaseSet
     requires { first_broken (plan_of plan.now) ≡ None }
     ensures { (p : ℕ) → 1 ≤ p → p ≤ 16 → has result p ≡ (not (q == p) && not (is_concurrent (plan_of plan.now) p q)) }
 {
-    let _number = q.number();
+    q.known();
     let others = PhaseSet::from_list(u16::MAX).with(q, false);
     others.difference(plan.concurrency(q))
 }

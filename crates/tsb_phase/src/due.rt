@@ -14,7 +14,7 @@ use crate::conditions::Conditions;
 use crate::dynamic::maximum_in_use;
 use crate::green::{count, has_reached, run_green};
 use crate::pedestrian::{clearance_time, ended_by, is_resting_in_walk, pedestrian_of, walk_time};
-use crate::phase_row::{PhaseRow, known};
+use crate::phase_row::PhaseRow;
 use crate::phases::Phases;
 use crate::rows::RED_REVERTS;
 use crate::times::{gap, initial, ticks_to_gap};
@@ -243,7 +243,6 @@ impl Phases {
         let mut due = self.due_to_revert(now, plan);
         let mut rest = self.in_service();
         while let Some(p) = rest.pop() {
-            known(p);
             let was = self.load(p);
             let turns = due_of(now, plan, conditions, p, &was);
             due = due.min(turns);

@@ -4,7 +4,7 @@ ghost use Rattle.tsb_types.specs.Sets.{has, names, list_in};
 ghost use Rattle.tsb_rows.specs.Rows.{Elsewhere};
 ghost use Rattle.tsb_phase.specs.Rows.{row_in, list_of_row, cell_of_row, with_list, with_cell};
 
-use crate::phase_row::{PhaseRow, known};
+use crate::phase_row::PhaseRow;
 use crate::phases::Phases;
 use tsb_objects::{Phase, PhaseSet};
 use tsb_rows::{phases, put, put_phases};
@@ -123,7 +123,7 @@ impl Phases {
         ensures kept { kept_of self.new ≡ kept_of self.old }
         ensures opened { is_open self.new ≡ true }
     {
-        known(p);
+        p.known();
         let changed = phases(&self.bank, k).with(p, on);
         put_phases(&mut self.bank, k, changed);
     }

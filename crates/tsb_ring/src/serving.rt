@@ -19,7 +19,7 @@ use tsb_objects::{Checked, Phase, PhaseSet, Ring};
 pub(crate) fn of_ring(plan: &Checked, r: Ring) -> PhaseSet
     ensures { (p : ℕ) → has result p ≡ in_ring (checked_plan plan.now) (ring_numbered r) p }
 {
-    let _number = r.number();
+    r.known();
     plan.ring(r)
 }
 

@@ -84,6 +84,15 @@ impl<const KIND: u8, const MOST: u8> Number<KIND, MOST> {
         self.number
     }
 
+    /// Tells a proof its range. A contract sees the plain number, so a caller knows no more of it than a clause says.
+    #[inline(always)]
+    pub fn known(self)
+        ensures from { 1 ≤ self.entry }
+        ensures within { self.entry ≤ MOST }
+    {
+        let _number = self.number;
+    }
+
     /// The first `N` things, in ascending order.
     fn first<const N: usize>() -> [Self; N]
         requires some { 1 ≤ N }

@@ -1,5 +1,5 @@
 //! Sets of phases.
-ghost use Rattle.std.specs.Prelude.{◌≡◌, ◌≢◌, ℕ, ◌<◌, ◌&&◌, ◌||◌, not, true, false, None, IfSome};
+ghost use Rattle.std.specs.Prelude.{◌≡◌, ◌≢◌, ℕ, ◌<◌, ◌≤◌, ◌&&◌, ◌||◌, not, true, false, None, IfSome};
 ghost use Rattle.tsb_types.specs.Sets.{names, has, size};
 
 use crate::number_set::NumberSet;
@@ -115,6 +115,8 @@ impl PhaseSet {
     /// The least phase of the set, or `None` where it has none.
     pub fn first(self) -> Option<Phase>
         ensures none { result ≡ None → (p : ℕ) → has self p ≡ false }
+        ensures from { IfSome result (λ p. 1 ≤ p) }
+        ensures within { IfSome result (λ p. p ≤ 16) }
         ensures had { IfSome result (λ p. has self p ≡ true) }
         ensures least { IfSome result (λ p. (q : ℕ) → q < p → has self q ≡ false) }
     {
@@ -127,6 +129,8 @@ impl PhaseSet {
     /// Takes the least phase out of the set and gives it, or `None` where there is none.
     pub fn pop(&mut self) -> Option<Phase>
         ensures none { result ≡ None → (p : ℕ) → has self.old p ≡ false }
+        ensures from { IfSome result (λ p. 1 ≤ p) }
+        ensures within { IfSome result (λ p. p ≤ 16) }
         ensures had { IfSome result (λ p. has self.old p ≡ true) }
         ensures least { IfSome result (λ p. (q : ℕ) → q < p → has self.old q ≡ false) }
         ensures taken { IfSome result (λ p. has self.new p ≡ false) }

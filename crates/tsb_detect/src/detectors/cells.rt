@@ -5,7 +5,7 @@ ghost use Rattle.tsb_detect.specs.Rows.{row_in, list_of_row, cell_of_row, with_l
 
 use crate::detector_row::DetectorRow;
 use crate::detectors::Detectors;
-use crate::sets::{has, known, with};
+use crate::sets::{has, with};
 use tsb_objects::{Detector, NumberSet};
 use tsb_rows::{list, put};
 
@@ -90,7 +90,7 @@ impl Detectors {
         ensures opened { is_open self.new ≡ true }
     {
         if was != on {
-            known(d);
+            d.known();
             let changed = with(list(&self.bank, k), d, on);
             tsb_rows::put_list(&mut self.bank, k, changed);
         }

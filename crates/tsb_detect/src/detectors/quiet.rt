@@ -7,7 +7,7 @@ ghost use Rattle.tsb_detect.specs.Rows.{row_in, is_tested};
 
 use crate::detectors::Detectors;
 use crate::diagnostics::{MINUTE, steady_limit, timed};
-use crate::sets::{has, pop};
+use crate::sets::has;
 use tsb_objects::{Checked, Detector, NumberSet, Plan};
 
 /// How many ticks after `now` a detector is looked at for its time, where that is within a minute: its input has been on
@@ -47,7 +47,7 @@ impl Detectors {
     {
         let mut soonest = MINUTE - now % MINUTE;
         let mut rest = timed(inputs, plan);
-        while let Some(d) = pop(&mut rest) {
+        while let Some(d) = rest.pop_detector() {
             let change = self.change(now, d);
             soonest = soonest.min(wait(now, plan.plan(), d, has(inputs, d), change));
         }

@@ -11,7 +11,7 @@ use super::cells::{ACTUATIONS, CHANGES, EXTENDS, INPUTS, OUTPUTS, RISES};
 use crate::detectors::Detectors;
 use crate::greens::Greens;
 use crate::output::{green_of, sound_row};
-use crate::sets::{differing, has, joined, known, pop};
+use crate::sets::{differing, has, joined};
 use tsb_objects::{Detector, NumberSet, Plan};
 use tsb_rows::list;
 
@@ -78,8 +78,7 @@ impl Detectors {
     {
         let mut on = inputs.difference(moved);
         let mut rest = moved;
-        while let Some(d) = pop(&mut rest) {
-            known(d);
+        while let Some(d) = rest.pop_detector() {
             let output = self.visit_sound(now, inputs, greens, plan, d);
             on = joined(on, d, output);
         }

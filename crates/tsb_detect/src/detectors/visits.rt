@@ -12,7 +12,7 @@ use crate::detectors::Detectors;
 use crate::diagnostics::{MINUTE, is_tested, timed};
 use crate::greens::Greens;
 use crate::output::{green_of, next_row};
-use crate::sets::{all, differing, has, joined, known, pop};
+use crate::sets::{all, differing, has, joined};
 use tsb_objects::{Checked, Detector, NumberSet, Plan};
 use tsb_rows::list;
 
@@ -53,7 +53,7 @@ impl Detectors {
         ensures value { result ≡ (row_in (cells_of self.now) d).change }
         ensures range { result ≤ now + 1 }
     {
-        known(d);
+        d.known();
         self.cell(CHANGES, d)
     }
 
@@ -67,7 +67,7 @@ impl Detectors {
     {
         let mut found = NumberSet::empty();
         let mut rest = timed(inputs, plan);
-        while let Some(d) = pop(&mut rest) {
+        while let Some(d) = rest.pop_detector() {
             let change = self.change(now, d);
             let on = is_tested(now, plan.plan(), d, has(inputs, d), change);
             found = joined(found, d, on);
@@ -130,7 +130,7 @@ impl Detectors {
         ensures opened { is_open self.new ≡ true }
     {
         let mut rest = visited;
-        while let Some(d) = pop(&mut rest) {
+        while let Some(d) = rest.pop_detector() {
             self.visit(now, inputs, greens, plan, d);
         }
     }

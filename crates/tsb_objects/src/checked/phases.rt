@@ -99,7 +99,7 @@ impl Checked {
         ensures column { (p : ℕ) → has result p ≡ is_concurrent (checked_plan self.now) p q }
         ensures row { (p : ℕ) → has result p ≡ is_concurrent (checked_plan self.now) q p }
     {
-        let _number = q.number();
+        q.known();
         self.plan.concurrency(q)
     }
 

@@ -7,10 +7,10 @@ use Rattle.tsb_controller.proofs.readers.has_service.Goals as goal
 
 pub returns-in-Some : goal.returns-in-Some
 returns-in-Some c =
-    let is = c.number-number.ensures in
+    let is = c.known.ensures in
     sym (any-one (λ p. in_service (interval_of c.args.intervals.now p)) 1 16 c.in-Some.phase
     (sym (c.union-served.ensures c.in-Some.phase ∙ rw (c.union.ensures c.in-Some.phase) (served _ _ _)) ∙ c.in-Some.ensures.had)
-    (omega (arith, is.same, is.from_one)) (omega (arith, is.same, is.within)))
+    is.from (omega (arith, is.within)))
 
 pub returns-in-None : goal.returns-in-None
 returns-in-None c =

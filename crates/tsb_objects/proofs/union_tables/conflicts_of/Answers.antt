@@ -1,4 +1,4 @@
-use Rattle.std.proofs.Common.{◌≡◌, ℕ, ◌≤◌, ◌==◌, ◌&&◌, not, Bool, false, refl, sym, ◌∙◌, ap₂, inl, inr, subst, arith}
+use Rattle.std.proofs.Common.{◌≡◌, ℕ, ◌≤◌, ◌==◌, ◌&&◌, not, Bool, false, refl, sym, ◌∙◌, ap₂, inl, inr, subst}
 use Rattle.std.proofs.lemmas.Bool.Decides.{eqb_tells}
 use Rattle.tsb_plan.specs.PlanOf.{plan_of}
 use Rattle.tsb_types.specs.Sets.{has}
@@ -10,8 +10,8 @@ pub returns : goal.returns
 unfolding plan_of
 returns c = λ p from within.
     let q : ℕ = c.args.q in
-    let first : 1 ≤ q = omega (arith, c.number-number.ensures.same, c.number-number.ensures.from_one) in
-    let last : q ≤ 16 = omega (arith, c.number-number.ensures.same, c.number-number.ensures.within) in
+    let first : 1 ≤ q = c.known.ensures.from in
+    let last : q ≤ 16 = c.known.ensures.within in
     let other : has c.with-others.result p ≡ not (q == p) =
     elim (eqb_tells q p) [
       | inl same ↦ subst (λ (n : ℕ). has c.with-others.result n ≡ false) same.1 c.with-others.ensures.set ∙ sym (rw same.0 refl)

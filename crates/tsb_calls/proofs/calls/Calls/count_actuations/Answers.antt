@@ -28,7 +28,7 @@ loop-d-preserved c =
           ∙ ap (λ (n : ℕ). counted_to (has c.args.green p) n one) (held.told p from within)
           ∙ counted-twice (has c.args.green p) was far one
           ∙ ap (λ (n : ℕ). counted_to (has c.args.green p) was n)
-          (count-taken (λ e. calls (checked_plan c.args.plan.now) e p) (has_number c.args.actuated) (has_number c.loop-d.rest) (has_number c.pop.new.set) d
+          (count-taken (λ e. calls (checked_plan c.args.plan.now) e p) (has_number c.args.actuated) (has_number c.loop-d.rest) (has_number c.pop_detector.new.self) d
           c.in-Some.ensures.from c.in-Some.ensures.within had c.in-Some.ensures.had c.in-Some.ensures.taken c.in-Some.ensures.others);
       small = λ p from within.
           let one : ℕ = if calls (checked_plan c.args.plan.now) d p then 1 else 0 in

@@ -30,7 +30,7 @@ loop-d-preserved c =
           ];
       left = λ e in_rest.
           elim (eqb_tells e d) [
-            | inl same ↦ absurd (both_ways (has_number c.pop.new.set d) seen.taken (subst (λ (n : ℕ). has_number c.pop.new.set n ≡ true) same.1 in_rest))
+            | inl same ↦ absurd (both_ways (has_number c.pop_detector.new.self d) seen.taken (subst (λ (n : ℕ). has_number c.pop_detector.new.self n ≡ true) same.1 in_rest))
             | inr other ↦ put.others e other.1 ∙ held.left e (sym (seen.others e other.1) ∙ in_rest)
           ];
     }

@@ -45,7 +45,7 @@ loop-d-preserved c =
           ];
       left = λ e from within in_rest.
           elim (eqb_tells e d) [
-            | inl same ↦ absurd (both_ways (has_number c.pop.new.set d) seen.taken (subst (λ (n : ℕ). has_number c.pop.new.set n ≡ true) same.1 in_rest))
+            | inl same ↦ absurd (both_ways (has_number c.pop_detector.new.self d) seen.taken (subst (λ (n : ℕ). has_number c.pop_detector.new.self n ≡ true) same.1 in_rest))
             | inr other ↦ made.others e from within other.1 ∙ held.left e from within (sym (seen.others e other.1) ∙ in_rest)
           ];
       lists = λ k small below. made.lists k (held.lists k small below) below;

@@ -29,15 +29,15 @@ loop-d-init c = record {
 }
 
 pub visit_sound-output-requires-clause-part : goal.visit_sound-output-requires-clause-part
-visit_sound-output-requires-clause-part c = part _ _ _ _ _ (c.requires.sound c.in-Some.d c.known.ensures.from c.known.ensures.within)
+visit_sound-output-requires-clause-part c = part _ _ _ _ _ (c.requires.sound c.in-Some.d c.in-Some.ensures.from c.in-Some.ensures.within)
 
 pub visit_sound-output-requires-clause-no_alarm : goal.visit_sound-output-requires-clause-no_alarm
 visit_sound-output-requires-clause-no_alarm c =
     let d : ℕ = c.in-Some.d in
     let plan : Plan = plan_of c.args.plan.now in
     subst (λ (r : DetectorRow). new_alarm plan d c.args.now (has_number c.args.inputs d) (detector_of c.args.now r) ≡ None)
-    (sym (c.loop-d.invariant.left d c.known.ensures.from c.known.ensures.within c.in-Some.ensures.had))
-    (no-alarm c.args.now plan d _ _ (c.requires.sound d c.known.ensures.from c.known.ensures.within))
+    (sym (c.loop-d.invariant.left d c.in-Some.ensures.from c.in-Some.ensures.within c.in-Some.ensures.had))
+    (no-alarm c.args.now plan d _ _ (c.requires.sound d c.in-Some.ensures.from c.in-Some.ensures.within))
 
 pub loop-d-preserved : goal.loop-d-preserved
 loop-d-preserved c =
@@ -53,7 +53,7 @@ loop-d-preserved c =
     let green : ℕ → Timer = λ e. green_timer_of now c.args.greens.now (call_phase plan e) in
     let first = cells_of c.args.self.now in
     let new = cells_of c.visit_sound-output.new.self in
-    let left = held.left d c.known.ensures.from c.known.ensures.within seen.had in
+    let left = held.left d c.in-Some.ensures.from c.in-Some.ensures.within seen.had in
     let this : IsVisit now plan d (x d) (green d) (row_in first d) (row_with (x d) (on d) (row_in first d) (row_in new d)) =
     subst (λ (o : Bool). IsVisit now plan d (x d) (green d) (row_in first d) (row_with (x d) o (row_in first d) (row_in new d))) (sym put.set)
     (subst (λ (r : DetectorRow). IsVisit now plan d (x d) (green d) r (row_with (x d) c.visit_sound-output.result r (row_in new d))) left made.visit) in
@@ -70,12 +70,12 @@ loop-d-preserved c =
           ];
       left = λ e from within in_rest.
           elim (eqb_tells e d) [
-            | inl same ↦ absurd (both_ways (has_number c.pop.new.set d) seen.taken (subst (λ (n : ℕ). has_number c.pop.new.set n ≡ true) same.1 in_rest))
+            | inl same ↦ absurd (both_ways (has_number c.pop_detector.new.self d) seen.taken (subst (λ (n : ℕ). has_number c.pop_detector.new.self n ≡ true) same.1 in_rest))
             | inr other ↦ made.others e from within other.1 ∙ held.left e from within (sym (seen.others e other.1) ∙ in_rest)
           ];
       off = λ e in_rest.
           elim (eqb_tells e d) [
-            | inl same ↦ absurd (both_ways (has_number c.pop.new.set d) seen.taken (subst (λ (n : ℕ). has_number c.pop.new.set n ≡ true) same.1 in_rest))
+            | inl same ↦ absurd (both_ways (has_number c.pop_detector.new.self d) seen.taken (subst (λ (n : ℕ). has_number c.pop_detector.new.self n ≡ true) same.1 in_rest))
             | inr other ↦ put.others e other.1 ∙ held.off e (sym (seen.others e other.1) ∙ in_rest)
           ];
       none = λ e from within.

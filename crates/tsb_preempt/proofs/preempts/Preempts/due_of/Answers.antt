@@ -21,6 +21,6 @@ returns c =
       serves = λ t by before. (let early : t < c.service_due.result = omega arith in c.service_due.ensures t by early);
     } in
     record {
-      quiet = quiet c.args.now plan c.args.row.now c.args.intervals.now cells c.inputs-inputs.result c.list-spent.result c.load-was.result c.min.result c.requires.by nothing;
-      orders = standing c.args.now plan c.args.row.now c.args.intervals.now cells c.inputs-inputs.result c.list-spent.result c.load-was.result c.min.result c.requires.by nothing;
+      quiet = λ now by. quiet now plan c.args.row.now c.args.intervals.now cells c.inputs-inputs.result c.list-spent.result c.load-was.result c.min.result by nothing;
+      orders = λ now by. standing now plan c.args.row.now c.args.intervals.now cells c.inputs-inputs.result c.list-spent.result c.load-was.result c.min.result by nothing;
     }
