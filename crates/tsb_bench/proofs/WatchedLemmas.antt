@@ -7,7 +7,7 @@ use Rattle.tsb_step.specs.Past.{pasts, ticks_of, undone}
 use Rattle.tsb_step.specs.State.{State}
 use Rattle.tsb_step.specs.Watches as step
 use Rattle.tsb_step.specs.Watches.{watched, TellsLastChange}
-use Rattle.tsb_controller.specs.Whole.{All, all_in, all_put_back}
+use Rattle.tsb_controller.specs.Whole.{All, AreAllBy, all_in, all_put_back}
 use Rattle.tsb_bench.specs.declared.watched.Watched.{Watched}
 use Rattle.tsb_bench.specs.declared.watched.Value.{Value}
 use Rattle.tsb_bench.specs.declared.watched.Value.TheVariants as values
@@ -41,16 +41,20 @@ told-apart v w same = sym (untold-told v) ∙ ap untold same ∙ untold-told w
 
 -- ## The search
 
+-- the value is what is watched, wherever the layer is that of some rows
+abbrev pub Tells : Watch → Watched → Value → Type 0
+Tells w x value = (now : ℕ) (a : All) → Holds w a x → AreAllBy now a → told value ≡ watched w (all_in now a)
+
 -- where it stands: the layer, the tick number and the value are those of rows from which the records left lead back
 pub record IsAt (h : Held) (w : Watch) (x : Watched) (tick : ℕ) (value : Value) (left : List Change) : Type 0 where
   pub rows : All
   pub sound : IsSound tick rows left
   pub holds : Holds w rows x
-  pub same : told value ≡ watched w (all_in tick rows)
+  pub tells : Tells w x value
   pub goes : (t : Option ℕ) → TellsLastChange w (pasts (all_in tick rows) left) t → TellsLastChange w (pasts (state_of h) h.records) t
 
-pub at-start : (h : Held) (w : Watch) (x : Watched) (value : Value) → IsSound h.tick h.rows h.records → Holds w h.rows x → told value ≡ watched w (state_of h) → IsAt h w x h.tick value h.records
-at-start h w x value sound holds same = record { rows = h.rows; sound = sound; holds = holds; same = same; goes = λ t told. told }
+pub at-start : (h : Held) (w : Watch) (x : Watched) (value : Value) → IsSound h.tick h.rows h.records → Holds w h.rows x → Tells w x value → IsAt h w x h.tick value h.records
+at-start h w x value sound holds tells = record { rows = h.rows; sound = sound; holds = holds; tells = tells; goes = λ t told. told }
 
 -- of the states of a run, the one before is another
 changed-here : (w : Watch) (s before : State) (rs : List Change) → watched w s ≢ watched w before → TellsLastChange w (s ∷ pasts before rs) (Some s.now)
@@ -77,26 +81,37 @@ module _ (h : Held) (w : Watch) (x : Watched) (tick : ℕ) (value : Value) (r : 
   before : undone r (all_in tick at.rows) ≡ all_in (tick - ticks_of r.kind) back
   before = back-said tick at.rows r at.sound.0 at.sound.1
 
+  -- the value of the rows that are left
+  here : told value ≡ watched w (all_in tick at.rows)
+  here = at.tells tick at.rows at.holds at.sound.0.by
+
   -- the value was another before
-  pub found : (y : Watched) (old : Value) → told old ≡ watched w (all_in (tick - ticks_of r.kind) back) → old ≢ value → TellsLastChange w (pasts (state_of h) h.records) (Some tick)
-  found y old old_is differs =
+  pub found : (old : Value) → told old ≡ watched w (all_in (tick - ticks_of r.kind) back) → old ≢ value → TellsLastChange w (pasts (state_of h) h.records) (Some tick)
+  found old old_is differs =
       at.goes (Some tick)
       (changed-here w (all_in tick at.rows) (undone r (all_in tick at.rows)) rs
-      (λ e. differs (told-apart old value (old_is ∙ ap (watched w) (sym before) ∙ sym e ∙ sym at.same))))
+      (λ e. differs (told-apart old value (old_is ∙ ap (watched w) (sym before) ∙ sym e ∙ sym here))))
 
   -- the value was the same before
-  pub goes-on : (y : Watched) (old : Value) → Holds w back y → told old ≡ watched w (all_in (tick - ticks_of r.kind) back) → old ≡ value → IsAt h w y (tick - ticks_of r.kind) value rs
-  goes-on y old holds old_is same =
-      let told_is : told value ≡ watched w (all_in (tick - ticks_of r.kind) back) = ap told (sym same) ∙ old_is in
-      record {
-        rows = back;
-        sound = at.sound.2;
-        holds = holds;
-        same = told_is;
-        goes = λ t tells. at.goes t
-            (same-here w (all_in tick at.rows) (undone r (all_in tick at.rows)) rs t (sym at.same ∙ told_is ∙ ap (watched w) (sym before))
-            (subst (λ (s : State). TellsLastChange w (pasts s rs) t) (sym before) tells));
-      }
+  goes-on : (y : Watched) → Holds w back y → Tells w y value → IsAt h w y (tick - ticks_of r.kind) value rs
+  goes-on y holds tells = record {
+    rows = back;
+    sound = at.sound.2;
+    holds = holds;
+    tells = tells;
+    goes = λ t then. at.goes t
+        (same-here w (all_in tick at.rows) (undone r (all_in tick at.rows)) rs t
+        (sym here ∙ tells (tick - ticks_of r.kind) back holds back-held.by ∙ ap (watched w) (sym before))
+        (subst (λ (s : State). TellsLastChange w (pasts s rs) t) (sym before) then));
+  }
+
+  -- another layer tells the same
+  pub goes-on-same : (y : Watched) (old : Value) → Holds w back y → Tells w y old → old ≡ value → IsAt h w y (tick - ticks_of r.kind) value rs
+  goes-on-same y old holds tells same = goes-on y holds (subst (Tells w y) same tells)
+
+  -- a record of no cells changes nothing
+  pub goes-past : r.entries ≡ [] → IsAt h w x (tick - ticks_of r.kind) value rs
+  goes-past none = goes-on x (subst (λ (es : List (ℕ × ℕ)). Holds w (all_put_back at.rows es) x) (sym none) at.holds) at.tells
 
 -- no record is left
 pub none-left : (h : Held) (w : Watch) (x : Watched) (tick : ℕ) (value : Value) → IsAt h w x tick value [] → TellsLastChange w (pasts (state_of h) h.records) None

@@ -325,9 +325,11 @@ impl Bench {
         let value = watched.value();
         let mut tick = self.tick;
         for change in self.history.walk_back() {
-            watched.undo(&change);
-            if !watched.value().is_same(&value) {
-                return Some(tick);
+            if !change.is_empty() {
+                watched.undo(&change);
+                if !watched.value().is_same(&value) {
+                    return Some(tick);
+                }
             }
             tick -= ticks_of(change.kind());
         }
