@@ -6,7 +6,7 @@ use Rattle.tsb.specs.declared.asked.Asked.TheVariants as asks
 use Rattle.tsb.specs.declared.asked.WordsError.{WordsError}
 use Rattle.tsb_plan.specs.Two.{two}
 use Rattle.tsb_text.specs.declared.error.SessionError.{SessionError}
-use Rattle.tsb_text.specs.Answers.{Given}
+use Rattle.tsb_text.specs.Answers.{Setup}
 use Rattle.tsb_text.specs.Ended.{Ended}
 use Rattle.tsb.specs.Read.{HasPlan, HasNoPlan, HasLog, HasNoLog}
 use Rattle.tsb.specs.Statuses.{after_session, after_words}
@@ -25,7 +25,7 @@ Judged status wanted text old new =
     ((status ≡ wanted) × IfSome text (λ line. Appends old new (line ++ 10 ∷ []))) ⊎ (status ≡ 3)
 
 -- a session on this plan and log ended with this status
-abbrev pub Talked : ℕ → Given → Option (List ℕ) → Option (List ℕ) → Option (List ℕ) → Option (List ℕ) → Type 0
+abbrev pub Talked : ℕ → Setup → Option (List ℕ) → Option (List ℕ) → Option (List ℕ) → Option (List ℕ) → Type 0
 Talked status given input left old new =
     (result : Result (Unit {0}) SessionError) × (status ≡ after_session result) × Ended result given input left old new
 
@@ -33,7 +33,7 @@ Talked status given input left old new =
 -- one of them gives none, or with 3
 abbrev pub Ran : ℕ → Option (List ℕ) → Option (List ℕ) → Option (List ℕ) → Option (List ℕ) → Option (List ℕ) → Option (List ℕ) → Type 0
 Ran status plan log input left old new =
-    ((given : Given) × HasPlan plan given.plan × HasLog log given.log × Talked status given input left old new)
+    ((given : Setup) × HasPlan plan given.plan × HasLog log given.log × Talked status given input left old new)
     ⊎ (((status ≡ 1) × (HasNoPlan plan ⊎ HasNoLog log) × (new ≡ old))
     ⊎ ((status ≡ 3) × (new ≡ old)))
 

@@ -24,11 +24,11 @@ use Rattle.tsb_controller.specs.Whole.{All, AreAllBy, all_in, all_changes, all_p
 use Rattle.tsb_controller.proofs.WholeLemmas.{records-joined, records-back}
 use Rattle.tsb_controller.proofs.ChangeLemmas.{entries-within, changes-few, rows-back}
 use Rattle.tsb_bench.specs.Cabinet.{IsDone, next_tick}
-use Rattle.tsb_bench.specs.Held.{Held, state_of, whole, ticks, IsHeld, CanUndo, IsSound}
+use Rattle.tsb_bench.specs.Held.{Held, state_of, whole, ticks, IsHeld, CanUndo, HasSoundPast}
 
 -- ## The newest state
 
-pub sound-held : (now : ℕ) (a : All) (rs : List Change) → IsSound now a rs → IsHeld now a
+pub sound-held : (now : ℕ) (a : All) (rs : List Change) → HasSoundPast now a rs → IsHeld now a
 sound-held now a [] h = h.0
 sound-held now a (r ∷ rs) h = h.0
 
@@ -70,13 +70,13 @@ pub record Applied (i : Input) (now : ℕ) (old new : All) (entries : List (ℕ 
   pub allowed : verdict (all_in now old) i ≡ None
   pub done : IsDone i now old new entries
   pub ranged : AreInRange new.plan
-  pub desk : desk.IsSound (desk_in new.desk)
+  pub desk : desk.IsSoundDesk (desk_in new.desk)
 
 -- the record that it leaves
 abbrev change_of : Input → All → All → Change
 change_of i old new = record { kind = kind_of i; entries = all_changes old new }
 
-module _ (i : Input) (now : ℕ) (old new : All) (entries : List (ℕ × ℕ)) (rs left : List Change) (sound : IsSound now old rs) (did : Applied i now old new entries)
+module _ (i : Input) (now : ℕ) (old new : All) (entries : List (ℕ × ℕ)) (rs left : List Change) (sound : HasSoundPast now old rs) (did : Applied i now old new entries)
     (told : left ≡ record { kind = kind_of i; entries = entries } ∷ rs) where
   held : IsHeld now old
   held = sound-held now old rs sound
@@ -103,11 +103,11 @@ module _ (i : Input) (now : ℕ) (old new : All) (entries : List (ℕ × ℕ)) (
   put-back : all_put_back new (all_changes old new) ≡ old
   put-back = rows-back now (next_tick now i) old new held.by did.done.by
 
-  sound-before : IsSound (next_tick now i - ticks_of (kind_of i)) (all_put_back new (all_changes old new)) rs
-  sound-before = subst (λ (a : All). IsSound (next_tick now i - ticks_of (kind_of i)) a rs) (sym put-back) (subst (λ (n : ℕ). IsSound n old rs) (sym (moved i now).0) sound)
+  sound-before : HasSoundPast (next_tick now i - ticks_of (kind_of i)) (all_put_back new (all_changes old new)) rs
+  sound-before = subst (λ (a : All). HasSoundPast (next_tick now i - ticks_of (kind_of i)) a rs) (sym put-back) (subst (λ (n : ℕ). HasSoundPast n old rs) (sym (moved i now).0) sound)
 
-  pub sound-applied : IsSound (next_tick now i) new left
-  sound-applied = subst (λ (qs : List Change). IsSound (next_tick now i) new qs) (sym told-changes) (held-after, can-undo, sound-before)
+  pub sound-applied : HasSoundPast (next_tick now i) new left
+  sound-applied = subst (λ (qs : List Change). HasSoundPast (next_tick now i) new qs) (sym told-changes) (held-after, can-undo, sound-before)
 
   pub records-applied : left ≡ record_of i (all_in now old) (all_in (next_tick now i) new) ∷ rs
   records-applied = told-changes ∙ ap (λ (r : Change). r ∷ rs) (sym (records-joined rows_are_told i now (next_tick now i) old new held.by did.done.by))
@@ -124,10 +124,10 @@ module _ (i : Input) (now : ℕ) (old new : All) (entries : List (ℕ × ℕ)) (
 -- the newest record can be taken back, and what is before it is sound
 pub record IsNewest (now : ℕ) (a : All) (rs : List Change) (r : Change) : Type 0 where
   pub can : CanUndo now r
-  pub before : IsSound (now - ticks_of r.kind) (all_put_back a r.entries) (older rs)
+  pub before : HasSoundPast (now - ticks_of r.kind) (all_put_back a r.entries) (older rs)
   pub whole_is : taken_back (all_in now a) rs ≡ record { state = all_in (now - ticks_of r.kind) (all_put_back a r.entries); records = older rs }
 
-pub newest-is : (now : ℕ) (a : All) (rs : List Change) (r : Change) → IsSound now a rs → newest rs ≡ Some r → IsNewest now a rs r
+pub newest-is : (now : ℕ) (a : All) (rs : List Change) (r : Change) → HasSoundPast now a rs → newest rs ≡ Some r → IsNewest now a rs r
 newest-is now a [] r sound is = absurd (cc)
 newest-is now a (q ∷ rs) r sound is =
     let same : q ≡ r = cc in
@@ -144,7 +144,7 @@ kind-newest (q ∷ rs) r is = cc
 -- ## All that is earlier
 
 -- the tick records are as many as the tick number
-pub sound-ticks : (now : ℕ) (a : All) (rs : List Change) → IsSound now a rs → now ≡ ticks rs
+pub sound-ticks : (now : ℕ) (a : All) (rs : List Change) → HasSoundPast now a rs → now ≡ ticks rs
 sound-ticks now a [] h = h.1
 sound-ticks now a (r ∷ rs) h =
     let rest : now - ticks_of r.kind ≡ ticks rs = sound-ticks (now - ticks_of r.kind) (all_put_back a r.entries) rs h.2 in
@@ -152,7 +152,7 @@ sound-ticks now a (r ∷ rs) h =
     omega arith
 
 -- each earlier state is good
-pub sound-earlier : (k now : ℕ) (a : All) (rs : List Change) → IsSound now a rs → IsGood (earlier (record { state = all_in now a; records = rs }) k).state
+pub sound-earlier : (k now : ℕ) (a : All) (rs : List Change) → HasSoundPast now a rs → IsGood (earlier (record { state = all_in now a; records = rs }) k).state
 sound-earlier zero now a rs h = (sound-held now a rs h).good
 sound-earlier (suc k) now a [] h = sound-earlier k now a [] h
 sound-earlier (suc k) now a (r ∷ rs) h =
@@ -166,8 +166,8 @@ pub good-start : (checked : Checked) → IsGood (start (checked_plan checked))
 unfolding checked_plan
 good-start checked = good_run (checked_plan checked) [] (memory_is_consistent checked.plan checked.passed) tt
 
-pub sound-start : (a : All) (rs : List Change) → AreAllBy 0 a → AreInRange a.plan → desk.IsSound (desk_in a.desk) → IsGood (all_in 0 a) → rs ≡ [] → IsSound 0 a rs
-sound-start a rs by ranged desk_sound good none = subst (λ (qs : List Change). IsSound 0 a qs) (sym none)
+pub sound-start : (a : All) (rs : List Change) → AreAllBy 0 a → AreInRange a.plan → desk.IsSoundDesk (desk_in a.desk) → IsGood (all_in 0 a) → rs ≡ [] → HasSoundPast 0 a rs
+sound-start a rs by ranged desk_sound good none = subst (λ (qs : List Change). HasSoundPast 0 a qs) (sym none)
     (record { limit = omega arith; by = by; ranged = ranged; desk = desk_sound; good = good }, refl)
 
 -- ## One step of the way back
@@ -190,14 +190,14 @@ ticks_of-le kinds.Commit = omega arith
 ticks_of-le kinds.Abort = omega arith
 
 -- an undo that answers Ok, at a tick number above t
-goes-on : (t : ℕ) (h new : Held) → t < h.tick → IsSound h.tick h.rows h.records → 0 < length h.records → whole new ≡ taken_back (state_of h) h.records → GoesBack t h new
+goes-on : (t : ℕ) (h new : Held) → t < h.tick → HasSoundPast h.tick h.rows h.records → 0 < length h.records → whole new ≡ taken_back (state_of h) h.records → GoesBack t h new
 goes-on t h new above sound some is = record {
   ahead = (let tick_is : new.tick ≡ (taken_back (state_of h) h.records).state.now = ap (λ (w : Whole). w.state.now) is in rw tick_is (at h.records sound));
   same = ap (λ (w : Whole). sought t w.state w.records) is ∙ sym (sought-back controller t (state_of h) h.records (λ e. omega arith));
   smaller = (let records_are : new.records ≡ (taken_back (state_of h) h.records).records = ap (λ (w : Whole). w.records) is in rw records_are (shorter h.records some));
 }
   where
-    at : (rs : List Change) → IsSound h.tick h.rows rs → t ≤ (taken_back (state_of h) rs).state.now
+    at : (rs : List Change) → HasSoundPast h.tick h.rows rs → t ≤ (taken_back (state_of h) rs).state.now
     at [] good = omega arith
     at (r ∷ rs) good =
         let now_is : (undone r (state_of h)).now ≡ h.tick - ticks_of r.kind = ap (λ (s : State). s.now) (back-said h.tick h.rows r good.0 good.1) in
@@ -207,11 +207,11 @@ goes-on t h new above sound some is = record {
     shorter [] less = absurd (omega arith)
     shorter (r ∷ rs) less = omega arith
 
-sound-some : (now : ℕ) (a : All) (rs : List Change) → IsSound now a rs → 0 < now → 0 < length rs
+sound-some : (now : ℕ) (a : All) (rs : List Change) → HasSoundPast now a rs → 0 < now → 0 < length rs
 sound-some now a [] sound less = absurd (omega (arith, sound.1))
 sound-some now a (r ∷ rs) sound less = omega arith
 
-pub goes-back : {K N : Type 0} (t : ℕ) (h new : Held) (answer : Result K N) → IsSound h.tick h.rows h.records → t ≤ h.tick → (h.tick ≡ t → ⊥) →
+pub goes-back : {K N : Type 0} (t : ℕ) (h new : Held) (answer : Result K N) → HasSoundPast h.tick h.rows h.records → t ≤ h.tick → (h.tick ≡ t → ⊥) →
     OnOk answer (whole new ≡ taken_back (state_of h) h.records) → OnErr answer (h.records ≡ []) → GoesBack t h new
 goes-back t h new (Ok k) sound ahead other is none =
     let above : t < h.tick = omega arith in goes-on t h new above sound (sound-some h.tick h.rows h.records sound (omega arith)) is

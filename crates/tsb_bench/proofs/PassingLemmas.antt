@@ -26,7 +26,7 @@ use Rattle.tsb_controller.specs.Rows.{Rows, AreBy}
 use Rattle.tsb_controller.specs.Whole.{All, AreAllBy, all_in, all_changes}
 use Rattle.tsb_controller.proofs.ChangeLemmas.{rows-stay}
 use Rattle.tsb_bench.specs.Cabinet.{rows_of, IsDone, Passes, MayPass, next_tick}
-use Rattle.tsb_bench.specs.Held.{IsSound}
+use Rattle.tsb_bench.specs.Held.{HasSoundPast}
 use Rattle.tsb_bench.specs.declared.cabinet.Cabinet.{Cabinet}
 use Rattle.tsb_bench.proofs.HeldLemmas.{Applied, sound-applied, records-applied, back-applied}
 use Rattle.tsb_bench.proofs.InputLemmas.{by-now, no-changes, tick-done}
@@ -115,14 +115,14 @@ module _ (now : ℕ) (a : All) (row : Row) (by : AreAllBy now a) (off : is_some 
 
 -- ## Once an input was taken
 
-module _ (i : Input) (now after : ℕ) (c new : Cabinet) (entries : List (ℕ × ℕ)) (rs left : List Change) (sound : IsSound now (rows_of c) rs)
+module _ (i : Input) (now after : ℕ) (c new : Cabinet) (entries : List (ℕ × ℕ)) (rs left : List Change) (sound : HasSoundPast now (rows_of c) rs)
     (is_allowed : verdict (all_in now (rows_of c)) i ≡ None) (done : IsDone i now (rows_of c) (rows_of new) entries) (next : after ≡ next_tick now i)
     (told : left ≡ record { kind = kind_of i; entries = entries } ∷ rs) where
   applied : Applied i now (rows_of c) (rows_of new) entries
   applied = record { allowed = is_allowed; done = done; ranged = new.plan.plan.ranged; desk = new.desk.row.sound }
 
-  pub sound-taken : IsSound after (rows_of new) left
-  sound-taken = subst (λ (n : ℕ). IsSound n (rows_of new) left) (sym next) (sound-applied i now (rows_of c) (rows_of new) entries rs left sound applied told)
+  pub sound-taken : HasSoundPast after (rows_of new) left
+  sound-taken = subst (λ (n : ℕ). HasSoundPast n (rows_of new) left) (sym next) (sound-applied i now (rows_of c) (rows_of new) entries rs left sound applied told)
 
   pub records-taken : left ≡ record_of i (all_in now (rows_of c)) (all_in after (rows_of new)) ∷ rs
   records-taken =
@@ -134,12 +134,12 @@ module _ (i : Input) (now after : ℕ) (c new : Cabinet) (entries : List (ℕ ×
       ap (λ (n : ℕ). taken_back (all_in n (rows_of new)) left) next ∙ back-applied i now (rows_of c) (rows_of new) entries rs left sound applied told
 
 -- a tick that was passed over
-module _ (i : Input) (now : ℕ) (c : Cabinet) (rs left : List Change) (sound : IsSound now (rows_of c) rs) (passes : Passes i now (rows_of c))
+module _ (i : Input) (now : ℕ) (c : Cabinet) (rs left : List Change) (sound : HasSoundPast now (rows_of c) rs) (passes : Passes i now (rows_of c))
     (told : left ≡ record { kind = kinds.Tick; entries = [] } ∷ rs) where
   told-kind : left ≡ record { kind = kind_of i; entries = [] } ∷ rs
   told-kind = told ∙ ap (λ (k : Kind). record { kind = k; entries = [] } ∷ rs) (sym passes.kind)
 
-  pub sound-passed : IsSound (now + 1) (rows_of c) left
+  pub sound-passed : HasSoundPast (now + 1) (rows_of c) left
   sound-passed = sound-taken i now (now + 1) c c [] rs left sound passes.allowed passes.done (sym passes.next) told-kind
 
   pub records-passed : left ≡ record_of i (all_in now (rows_of c)) (all_in (now + 1) (rows_of c)) ∷ rs

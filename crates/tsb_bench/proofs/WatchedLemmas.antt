@@ -11,7 +11,7 @@ use Rattle.tsb_controller.specs.Whole.{All, AreAllBy, all_in, all_put_back}
 use Rattle.tsb_bench.specs.declared.watched.Watched.{Watched}
 use Rattle.tsb_bench.specs.declared.watched.Value.{Value}
 use Rattle.tsb_bench.specs.declared.watched.Value.TheVariants as values
-use Rattle.tsb_bench.specs.Held.{Held, state_of, IsHeld, IsSound}
+use Rattle.tsb_bench.specs.Held.{Held, state_of, IsHeld, HasSoundPast}
 use Rattle.tsb_bench.specs.Watched.{Holds, told}
 use Rattle.tsb_bench.proofs.HeldLemmas.{back-said}
 
@@ -48,12 +48,12 @@ Tells w x value = (now : ℕ) (a : All) → Holds w a x → AreAllBy now a → t
 -- where it stands: the layer, the tick number and the value are those of rows from which the records left lead back
 pub record IsAt (h : Held) (w : Watch) (x : Watched) (tick : ℕ) (value : Value) (left : List Change) : Type 0 where
   pub rows : All
-  pub sound : IsSound tick rows left
+  pub sound : HasSoundPast tick rows left
   pub holds : Holds w rows x
   pub tells : Tells w x value
   pub goes : (t : Option ℕ) → TellsLastChange w (pasts (all_in tick rows) left) t → TellsLastChange w (pasts (state_of h) h.records) t
 
-pub at-start : (h : Held) (w : Watch) (x : Watched) (value : Value) → IsSound h.tick h.rows h.records → Holds w h.rows x → Tells w x value → IsAt h w x h.tick value h.records
+pub at-start : (h : Held) (w : Watch) (x : Watched) (value : Value) → HasSoundPast h.tick h.rows h.records → Holds w h.rows x → Tells w x value → IsAt h w x h.tick value h.records
 at-start h w x value sound holds tells = record { rows = h.rows; sound = sound; holds = holds; tells = tells; goes = λ t told. told }
 
 -- of the states of a run, the one before is another
@@ -73,7 +73,7 @@ module _ (h : Held) (w : Watch) (x : Watched) (tick : ℕ) (value : Value) (r : 
   pub back-held : IsHeld (tick - ticks_of r.kind) back
   back-held = go rs at.sound.2
     where
-      go : (rs : List Change) → IsSound (tick - ticks_of r.kind) back rs → IsHeld (tick - ticks_of r.kind) back
+      go : (rs : List Change) → HasSoundPast (tick - ticks_of r.kind) back rs → IsHeld (tick - ticks_of r.kind) back
       go [] sound = sound.0
       go (q ∷ qs) sound = sound.0
 

@@ -47,7 +47,7 @@ pub record IsHeld (now : ℕ) (a : All) : Type 0 where
   pub limit : now ≤ last_tick
   pub by : AreAllBy now a
   pub ranged : AreInRange a.plan
-  pub desk : desk.IsSound (desk_in a.desk)
+  pub desk : desk.IsSoundDesk (desk_in a.desk)
   pub good : IsGood (all_in now a)
 
 -- a record that can be taken back at tick number `now`
@@ -57,6 +57,6 @@ pub record CanUndo (now : ℕ) (r : Change) : Type 0 where
   pub tick : ticks_of r.kind ≤ now
 
 -- the rows, and those with the newest record taken back, and so on to the oldest, at tick number 0
-abbrev pub IsSound : ℕ → All → List Change → Type 0
-IsSound now a [] = IsHeld now a × (now ≡ 0)
-IsSound now a (r ∷ rs) = IsHeld now a × CanUndo now r × IsSound (now - ticks_of r.kind) (all_put_back a r.entries) rs
+abbrev pub HasSoundPast : ℕ → All → List Change → Type 0
+HasSoundPast now a [] = IsHeld now a × (now ≡ 0)
+HasSoundPast now a (r ∷ rs) = IsHeld now a × CanUndo now r × HasSoundPast (now - ticks_of r.kind) (all_put_back a r.entries) rs

@@ -54,13 +54,13 @@ pub struct Bench {
 
 impl Model for Bench {
     ghost use Rattle.tsb_bench.specs.Cabinet.{rows_of, IsShut, MayPass};
-    ghost use Rattle.tsb_bench.specs.Held.{Held, IsSound};
+    ghost use Rattle.tsb_bench.specs.Held.{Held, HasSoundPast};
 
     ghost Value = { Held };
 
     ghost view = { λ a. record { tick = a.tick; rows = rows_of a.cabinet; records = a.history.records; room = a.history.room } };
 
-    ghost invariant = { λ a. IsShut a.cabinet × IsSound a.tick (rows_of a.cabinet) a.history.records × MayPass a.tick a.cabinet };
+    ghost invariant = { λ a. IsShut a.cabinet × HasSoundPast a.tick (rows_of a.cabinet) a.history.records × MayPass a.tick a.cabinet };
 }
 
 /// The kind of an input.

@@ -1,6 +1,6 @@
 //! Answers to cases.
 
-use crate::case::Given;
+use crate::case::Run;
 use crate::ticks::write_rows;
 use anyhow::Result;
 use std::alloc::Global;
@@ -10,11 +10,11 @@ use tsb_text::{read_log, read_plan, session};
 /// Writes the answer to what is given. To a plan text it is its first fault, or `plan ok`; to a log its first fault, or
 /// a line for each tick that is asked for; to a session the first fault of its plan or else of its log, or else its
 /// text.
-pub fn answer<W: Write>(alloc: Global, given: Given, output: &mut W) -> Result<()> {
+pub fn answer<W: Write>(alloc: Global, given: Run, output: &mut W) -> Result<()> {
     match given {
-        Given::Plan(text) => judge(alloc, text, output),
-        Given::Log(text, ticks) => tell_rows(alloc, text, ticks, output),
-        Given::Session(plan, log, commands) => talk(alloc, plan, log, commands, output),
+        Run::Plan(text) => judge(alloc, text, output),
+        Run::Log(text, ticks) => tell_rows(alloc, text, ticks, output),
+        Run::Session(plan, log, commands) => talk(alloc, plan, log, commands, output),
     }
 }
 

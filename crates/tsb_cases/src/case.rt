@@ -6,12 +6,12 @@ pub struct Case<'a> {
     /// The name, which stands before the answer.
     pub name: &'a [u8],
     /// What is run.
-    pub given: Given<'a>,
+    pub given: Run<'a>,
 }
 
 /// What is run.
 #[derive(Clone, Copy, Debug)]
-pub enum Given<'a> {
+pub enum Run<'a> {
     /// A plan text, to be judged.
     Plan(&'a [u8]),
     /// A log, and the ticks whose rows are asked for, as words of a line.

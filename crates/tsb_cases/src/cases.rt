@@ -4,7 +4,7 @@ ghost use Rattle.tsb_lines.specs.Lines.{lines_of};
 ghost use Rattle.tsb_cases.specs.Cases.{IsCase, IsFirst, IsGiven, IsNext, headed};
 
 use crate::answer::answer;
-use crate::case::{Case, Given};
+use crate::case::{Case, Run};
 use crate::error::CaseError;
 use crate::piece::take_piece;
 use anyhow::Result;
@@ -60,22 +60,22 @@ fn read_case<'a>(head: &'a [u8], text: &'a [u8]) -> Option<(Case<'a>, &'a [u8])>
     Some((Case { name, given }, rest))
 }
 
-fn read_given<'a>(kind: &[u8], words: &'a [u8], text: &'a [u8]) -> Option<(Given<'a>, &'a [u8])>
+fn read_given<'a>(kind: &[u8], words: &'a [u8], text: &'a [u8]) -> Option<(Run<'a>, &'a [u8])>
     ensures { IfSome result (λ found. IsGiven found.0 kind.now words.now text.now found.1.now) }
 {
     if kind == b"plan".as_slice() {
         let (plan, _, rest) = read_piece(words, text)?;
-        return Some((Given::Plan(plan), rest));
+        return Some((Run::Plan(plan), rest));
     }
     if kind == b"log".as_slice() {
         let (log, ticks, rest) = read_piece(words, text)?;
-        return Some((Given::Log(log, ticks), rest));
+        return Some((Run::Log(log, ticks), rest));
     }
     if kind == b"session".as_slice() {
         let (plan, words, rest) = read_piece(words, text)?;
         let (log, words, rest) = read_piece(words, rest)?;
         let (commands, _, rest) = read_piece(words, rest)?;
-        return Some((Given::Session(plan, log, commands), rest));
+        return Some((Run::Session(plan, log, commands), rest));
     }
     None
 }

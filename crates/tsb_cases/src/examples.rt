@@ -1,7 +1,7 @@
 //! The examples: what each writes, beside what it is to write.
 
 use crate::answer::answer;
-use crate::case::Given;
+use crate::case::Run;
 use anyhow::{Context, Result};
 use std::fs;
 use std::io::Write;
@@ -31,10 +31,10 @@ fn run_example<R: Files + AllocGlobal, W: Write>(rt: &R, line: &str, output: &mu
     if let Some(log) = words.next() {
         let log = read(rt, log, "")?;
         let commands = read(rt, name, ".commands")?;
-        let given = Given::Session(&plan, &log, &commands);
+        let given = Run::Session(&plan, &log, &commands);
         answer(rt.alloc(), given, &mut written)?;
     } else {
-        answer(rt.alloc(), Given::Plan(&plan), &mut written)?;
+        answer(rt.alloc(), Run::Plan(&plan), &mut written)?;
     }
     compare(name, &written, &expected, output)
 }

@@ -1,4 +1,4 @@
--- A run of commands keeps pace with the pile of inputs that remain: what each answer of a bench needs, and one command more.
+-- A run of commands keeps pace with the list of inputs that remain: what each answer of a bench needs, and one command more.
 use Rattle.std.proofs.Common.{reverse, ◌≡◌, ℕ, ◌+◌, ◌-◌, ◌<◌, ◌≤◌, List, [], ◌∷◌, ◌++◌, length, refl, sym, ap, subst, arith, ◌∙◌, zero, suc, true, false, cond, eqb, Option, Some, None, take, drop, get_or, take_all}
 use Rattle.std.specs.List.{fold}
 use Rattle.std.proofs.lemmas.List.Sums.{fold-append}
@@ -88,7 +88,7 @@ module _ {State Input Change : Type 0} (m : Machine State Input Change) (start :
   now-there : (w : Whole State Change) (is : List Input) → Follows m start w is → m.now w.state ≡ m.now (replay m start is)
   now-there w is f = ap (λ (s : State). m.now s) (follows-state w is f)
 
-  -- the replay of a pile is the steps of its inputs, the oldest first
+  -- the replay of a list is the steps of its inputs, the oldest first
   pub replay-fold : (is : List Input) → replay m start is ≡ fold m.step start (reverse is)
   replay-fold [] = refl
   replay-fold (i ∷ is) =

@@ -30,7 +30,7 @@ module _ {State Input Change : Type 0} (m : Machine State Input Change) where
 module _ {State Input Change : Type 0} (m : Machine State Input Change) (start : State) where
   -- ## The premise, of runs
 
-  -- the record of each input of a pile takes it back, from power-up on
+  -- the record of each input of a list takes it back, from power-up on
   abbrev pub GiveBack : List Input → Type 0
   GiveBack [] = Unit {0}
   GiveBack (i ∷ is) = GiveBack is × GivesBack m (replay m start is) i
@@ -42,7 +42,7 @@ module _ {State Input Change : Type 0} (m : Machine State Input Change) (start :
     pub stays : (s : State) (i : Input) → IsGood s → CanCome s i → IsGood (m.step s i)
     pub back : (s : State) (i : Input) → IsGood s → CanCome s i → GivesBack m s i
 
-  -- each input of a pile could come where it came
+  -- each input of a list could come where it came
   abbrev pub HaveCome : (State → Input → Type 0) → List Input → Type 0
   HaveCome can [] = Unit {0}
   HaveCome can (i ∷ is) = HaveCome can is × can (replay m start is) i

@@ -20,12 +20,12 @@ pub record Machine (State Input Change : Type 0) : Type 0 where
   pub kind : Change → Kind
 
 module _ {State Input Change : Type 0} (m : Machine State Input Change) (start : State) where
-  -- the state after a pile of inputs
+  -- the state after a list of inputs
   abbrev pub replay : List Input → State
   replay [] = start
   replay (i ∷ is) = m.step (replay is) i
 
-  -- each input of the pile was taken: there was no verdict against it where it came
+  -- each input of the list was taken: there was no verdict against it where it came
   abbrev pub AreTaken : List Input → Type 0
   AreTaken [] = Unit {0}
   AreTaken (i ∷ is) = AreTaken is × (m.verdict (replay is) i ≡ None)
@@ -45,7 +45,7 @@ module _ {State Input Change : Type 0} (m : Machine State Input Change) (start :
   back_to t [] = []
   back_to t (i ∷ is) = if m.now (replay (i ∷ is)) == t then i ∷ is else back_to t is
 
--- what an undo leaves of a pile of inputs; of none it leaves none
+-- what an undo leaves of a list of inputs; of none it leaves none
 abbrev pub without_newest : {Input : Type 0} → List Input → List Input
 without_newest [] = []
 without_newest (i ∷ is) = is

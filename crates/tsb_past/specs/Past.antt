@@ -40,6 +40,6 @@ module _ {State Input Change : Type 0} (m : Machine State Input Change) where
   abbrev pub applied : Input → Whole State Change → Whole State Change
   applied i w = record { state = m.step w.state i; records = m.record_of i w.state (m.step w.state i) ∷ w.records }
 
--- the whole after a pile of inputs, from the state at power-up
+-- the whole after a list of inputs, from the state at power-up
 abbrev pub after : {State Input Change : Type 0} → Machine State Input Change → State → List Input → Whole State Change
 after m start is = record { state = replay m start is; records = records_of m start is }

@@ -6,7 +6,7 @@ use Rattle.tsb_types.specs.declared.interval.PedestrianInterval.{PedestrianInter
 use Rattle.tsb_types.specs.declared.interval.PedestrianInterval.TheVariants.{DontWalk, Walk, PedestrianClear}
 use Rattle.tsb_types.proofs.ClipLemmas.{sum-agree}
 use Rattle.tsb_plan.specs.Plan.{Plan}
-use Rattle.tsb_phase.specs.Phase.{Phase, Given, Moved, Held, as_read, held_of, none_held}
+use Rattle.tsb_phase.specs.Phase.{Phase, Given, Moved, GreenHeld, as_read, held_of, none_held}
 use Rattle.tsb_phase.specs.Green.{waits_for, cars_waiting, reduction_timer, gapped_latch, is_gapped}
 use Rattle.tsb_phase.specs.Pedestrian.{ended_by, pedestrian_after, pedestrian_now}
 use Rattle.tsb_phase.specs.Ready.{is_gapped_now, is_ready, green_is_done}
@@ -21,14 +21,14 @@ module _ (plan : Plan) (g h : Given) (count : plan.phase_count ≤ 16) (same : A
       sum-agree plan.phase_count (λ q. if waits_for plan g p q then g.count q else 0) (λ q. if waits_for plan h p q then h.count q else 0)
       count (λ q a b. rw (same.callable q a b, same.count q a b) refl)
 
-  reduction-same : (held : Held) → reduction_timer plan g p held ≡ reduction_timer plan h p held
+  reduction-same : (held : GreenHeld) → reduction_timer plan g p held ≡ reduction_timer plan h p held
   unfolding reduction_timer
   reduction-same held = rw (cars-same, same.conflict p from to) refl
 
-  latch-same : (held : Held) → gapped_latch plan g p held ≡ gapped_latch plan h p held
+  latch-same : (held : GreenHeld) → gapped_latch plan g p held ≡ gapped_latch plan h p held
   latch-same held = rw (reduction-same held, same.conflict p from to, same.count p from to, same.output p from to) refl
 
-  gapped-same : (held : Held) → is_gapped plan g p held ≡ is_gapped plan h p held
+  gapped-same : (held : GreenHeld) → is_gapped plan g p held ≡ is_gapped plan h p held
   gapped-same held = rw (reduction-same held, same.conflict p from to, same.count p from to, same.output p from to) refl
 
   gapped_now-same : (w : Phase) → is_gapped_now plan g p w ≡ is_gapped_now plan h p w

@@ -1,4 +1,4 @@
--- The edits of a desk are one for each object at each index, whatever the run; so a commit changes values just where the
+-- The edits of a desk are one for each object at each index, whatever the run; so a commit changes values exactly where the
 -- plan after it differs from the plan before it.
 use Rattle.std.proofs.Common.{◌≡◌, ℕ, ◌==◌, Bool, true, false, not, ◌&&◌, ◌||◌, List, [], ◌∷◌, refl, sym, ap, ◌∙◌, inl, inr, arith}
 use Rattle.std.proofs.lemmas.Bool.{cases_Bool, and_from, and_parts, and_left, and_right, or_from, eqb-true}

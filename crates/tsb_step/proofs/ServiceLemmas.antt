@@ -16,7 +16,7 @@ use Rattle.tsb_preempt.specs.Preempts.{Preempts, Given, has_input, requests, req
 use Rattle.tsb_preempt.specs.Service.{Service, has_track, has_dwell, has_exit, stage_phases, begun, ends_track, ends_dwell, ends_exit, stage_after, new_stage, with_stage, moved}
 use Rattle.tsb_ring.proofs.WaitLemmas.{cond_is, first-passes}
 use Rattle.tsb_ring.proofs.WantLemmas.{first-among}
-use Rattle.tsb_step.specs.Laws.{has_stage, IsServed}
+use Rattle.tsb_step.specs.Laws.{has_stage, HasPhases}
 use Rattle.tsb_step.specs.Good.{IsInStage}
 
 -- ## Preempts by number
@@ -181,5 +181,5 @@ compatible plan x rules h = go x.stage
     go Dwell = sound.dwell
     go Exit = sound.exit
 
-pub served : (plan : Plan) (x : Service) → first_broken plan ≡ None → IsInStage plan x → IsServed plan x
+pub served : (plan : Plan) (x : Service) → first_broken plan ≡ None → IsInStage plan x → HasPhases plan x
 served plan x rules h = record { preempt = h.preempt; some = h.some; compatible = compatible plan x rules h }

@@ -1,5 +1,5 @@
 -- What holds of every run of the controller, as statements: that what it shows is safe, that starts wait for what they
--- do not go with, that rings act in either order, and that a preempt in service has phases to serve. A run is a pile of
+-- do not go with, that rings act in either order, and that a preempt in service has phases to serve. A run is a list of
 -- inputs of any kind, each of which was taken, from power-up with a plan that breaks no rule.
 --
 -- All are proved, each as the contract of a function that does nothing (src/laws.rt).
@@ -93,14 +93,14 @@ has_stage plan n Exit = has_exit plan n
 
 -- the preempt in service is one of the four; the list of its stage is not empty, and names enabled phases that are
 -- pairwise concurrent
-pub record IsServed (plan : Plan) (x : Service) : Type 0 where
+pub record HasPhases (plan : Plan) (x : Service) : Type 0 where
   pub preempt : is_preempt x.preempt ≡ true
   pub some : has_stage plan x.preempt x.stage ≡ true
   pub compatible : AreCompatible plan (stage_phases plan x.preempt x.stage)
 
 -- A preempt in service, if there is one, has phases to serve in its stage, and they go together.
 abbrev pub ServesPreempt : State → Type 0
-ServesPreempt s = (x : Service) → s.preempts.service ≡ Some x → IsServed s.plan x
+ServesPreempt s = (x : Service) → s.preempts.service ≡ Some x → HasPhases s.plan x
 
 -- So it is after every run, whatever lists of phases were committed.
 abbrev pub PreemptsHavePhases : Type 0

@@ -6,10 +6,10 @@ use Rattle.tsb_step.specs.declared.inputs.Input.{Input}
 use Rattle.tsb_step.specs.State.{State, start}
 use Rattle.tsb_step.specs.Past.{controller}
 
--- the state after a pile of inputs, the newest first, from power-up with a plan
+-- the state after a list of inputs, the newest first, from power-up with a plan
 abbrev pub replay : Plan → List Input → State
 replay plan is = machine.replay controller (start plan) is
 
--- each input of the pile was taken: there was no verdict against it where it came
+-- each input of the list was taken: there was no verdict against it where it came
 abbrev pub AreTaken : Plan → List Input → Type 0
 AreTaken plan is = machine.AreTaken controller (start plan) is

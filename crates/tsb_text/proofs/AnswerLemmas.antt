@@ -23,7 +23,7 @@ use Rattle.tsb_log_text.specs.Logs.{row_at}
 use Rattle.tsb_types.specs.declared.row.Row.{Row}
 use Rattle.std.proofs.lemmas.List.{append-nil}
 use Rattle.tsb_text.specs.declared.error.WriteError.{WriteError}
-use Rattle.tsb_text.specs.Answers.{Given, Asked, Steps, Answers, next_tick, told, refused_line, display_line}
+use Rattle.tsb_text.specs.Answers.{Setup, Asked, Steps, Answers, next_tick, told, refused_line, display_line}
 use Rattle.tsb_text.specs.Talk.{Stands, Done, StepsOn}
 use Rattle.tsb_text.specs.Written.{Said, Wrote, with_feed}
 use Rattle.tsb_text.proofs.TextLemmas.{some-steps}
@@ -33,13 +33,13 @@ pub follows-state : (plan : Plan) (w : Whole) (is : List Input) → Follows plan
 follows-state plan w is f = past.follows-state controller (start plan) w is f
 
 -- a line that is an answer was said, or a fault came before it
-pub done-said : (r : Result (Unit {0}) WriteError) (given : Given) (log : List LogRow) (bench : Whole) (P : List ℕ → List Input → Type 0) (a b : Option (List ℕ)) (p q line : List ℕ) (left : List Input)
+pub done-said : (r : Result (Unit {0}) WriteError) (given : Setup) (log : List LogRow) (bench : Whole) (P : List ℕ → List Input → Type 0) (a b : Option (List ℕ)) (p q line : List ℕ) (left : List Input)
     → OnOk r (Said a b p q (with_feed line)) → OnErr r (Said a b p q []) → Stands given log bench left → P (with_feed line) left → Done r given log bench P a b p q
 done-said (Ok u) given log bench P a b p q line left ok err stands so = (left, stands, record { text = with_feed line; said = ok; so = so })
 done-said (Err e) given log bench P a b p q line left ok err stands so = record { text = []; said = err; so = (with_feed line, left, so) }
 
 -- the bench was asked
-pub ask-done : (r : Result (Unit {0}) WriteError) (given : Given) (log : List LogRow) (is : List Input) (cmd : Cmd) (old new : Held) (result answer : Answer) (a b : Option (List ℕ)) (p q line : List ℕ)
+pub ask-done : (r : Result (Unit {0}) WriteError) (given : Setup) (log : List LogRow) (is : List Input) (cmd : Cmd) (old new : Held) (result answer : Answer) (a b : Option (List ℕ)) (p q line : List ℕ)
     → Stands given log (whole old) is → ((plan : Plan) → play.Answers controller (start plan) watched (whole old) cmd result (whole new)) → result ≡ answer → line ≡ told cmd answer (state_of new)
     → OnOk r (Said a b p q (with_feed line)) → OnErr r (Said a b p q []) → Done r given log (whole new) (Asked given is cmd) a b p q
 ask-done r given log is cmd old new result answer a b p q line stands answers same tells ok err =
@@ -51,25 +51,25 @@ ask-done r given log is cmd old new result answer a b p q line stands answers sa
     (record { answer = answer; right = right.0; left = refl; line = ap with_feed (tells ∙ ap (told cmd answer) state) })
 
 -- the display line of now
-pub show-done : (r : Result (Unit {0}) WriteError) (given : Given) (log : List LogRow) (is : List Input) (bench : Held) (a b : Option (List ℕ)) (p q line : List ℕ)
+pub show-done : (r : Result (Unit {0}) WriteError) (given : Setup) (log : List LogRow) (is : List Input) (bench : Held) (a b : Option (List ℕ)) (p q line : List ℕ)
     → Stands given log (whole bench) is → line ≡ display_line (state_of bench)
     → OnOk r (Said a b p q (with_feed line)) → OnErr r (Said a b p q []) → Done r given log (whole bench) (Answers given is Show) a b p q
 show-done r given log is bench a b p q line stands tells ok err =
     let state : state_of bench ≡ replay given.plan is = follows-state given.plan (whole bench) is stands.follows in
     done-said r given log (whole bench) (Answers given is Show) a b p q line is ok err stands (ap with_feed (tells ∙ ap display_line state), refl)
 
-pub quit-done : (given : Given) (log : List LogRow) (is : List Input) (bench : Whole) (a : Option (List ℕ)) (p : List ℕ) → Stands given log bench is → Done (Ok tt) given log bench (Answers given is Quit) a a p p
+pub quit-done : (given : Setup) (log : List LogRow) (is : List Input) (bench : Whole) (a : Option (List ℕ)) (p : List ℕ) → Stands given log bench is → Done (Ok tt) given log bench (Answers given is Quit) a a p p
 quit-done given log is bench a p stands = (is, stands, record { text = []; said = said-nothing a p; so = (refl, refl) })
 
 -- ## Ticks
 
 -- so far: the ticks that are to come answer the rest
-pub record Stepping (given : Given) (log : List LogRow) (is : List Input) (n : ℕ) (bench : Whole) (k : ℕ) (a b : Option (List ℕ)) (p q : List ℕ) : Type 0 where
+pub record Stepping (given : Setup) (log : List LogRow) (is : List Input) (n : ℕ) (bench : Whole) (k : ℕ) (a b : Option (List ℕ)) (p q : List ℕ) : Type 0 where
   pub now : List Input
   pub stands : Stands given log bench now
   pub wrote : Wrote a b p q (StepsOn given is n now k)
 
-pub steps-start : (given : Given) (log : List LogRow) (is : List Input) (n k : ℕ) (bench : Whole) (a : Option (List ℕ)) (p : List ℕ) → k ≡ n → Stands given log bench is → Stepping given log is n bench k a a p p
+pub steps-start : (given : Setup) (log : List LogRow) (is : List Input) (n k : ℕ) (bench : Whole) (a : Option (List ℕ)) (p : List ℕ) → k ≡ n → Stands given log bench is → Stepping given log is n bench k a a p p
 steps-start given log is n k bench a p all stands = record {
   now = is;
   stands = stands;
@@ -77,13 +77,13 @@ steps-start given log is n k bench a p all stands = record {
 }
 
 -- the tick that the bench takes is the next one, with the log's row
-tick-next : (given : Given) (log : List LogRow) (now : List Input) (bench : Held) (row : Row) (t : ℕ) → Stands given log (whole bench) now → row ≡ row_at log t → t ≡ bench.tick + 1 → Tick row ≡ next_tick given now
+tick-next : (given : Setup) (log : List LogRow) (now : List Input) (bench : Held) (row : Row) (t : ℕ) → Stands given log (whole bench) now → row ≡ row_at log t → t ≡ bench.tick + 1 → Tick row ≡ next_tick given now
 tick-next given log now bench row t stands is at =
     let state : bench.tick ≡ (replay given.plan now).now = ap (λ (s : State). s.now) (follows-state given.plan (whole bench) now stands.follows) in
     ap Tick (is ∙ ap (row_at log) (at ∙ ap (λ (n : ℕ). n + 1) state) ∙ ap (λ (l : List LogRow). row_at l ((replay given.plan now).now + 1)) (sym stands.same))
 
 -- a tick was taken, where these steps are left
-step-on : (given : Given) (is : List Input) (n : ℕ) (now : List Input) (k left : ℕ) (said line : List ℕ) → left ≡ suc k → StepsOn given is n now left said → IsRight given.plan now (Apply (next_tick given now)) Took
+step-on : (given : Setup) (is : List Input) (n : ℕ) (now : List Input) (k left : ℕ) (said line : List ℕ) → left ≡ suc k → StepsOn given is n now left said → IsRight given.plan now (Apply (next_tick given now)) Took
     → line ≡ display_line (replay given.plan (next_tick given now ∷ now)) → StepsOn given is n (next_tick given now ∷ now) k (said ++ with_feed line)
 step-on given is n now k left said line one on right tells = λ text last steps.
     subst (λ (v : List ℕ). Steps given is n v last) (sym (append_assoc said (with_feed line) text))
@@ -91,12 +91,12 @@ step-on given is n now k left said line one on right tells = λ text last steps.
     (inl (text, record { right = right; line = ap (λ (v : List ℕ). with_feed v ++ text) tells }, steps))))
 
 -- what a taken tick tells of the bench
-record Taken (given : Given) (log : List LogRow) (now : List Input) (new : Held) (line : List ℕ) : Type 0 where
+record Taken (given : Setup) (log : List LogRow) (now : List Input) (new : Held) (line : List ℕ) : Type 0 where
   right : IsRight given.plan now (Apply (next_tick given now)) Took
   stands : Stands given log (whole new) (next_tick given now ∷ now)
   tells : line ≡ display_line (replay given.plan (next_tick given now ∷ now))
 
-taken : (given : Given) (log : List LogRow) (now : List Input) (old new : Held) (row : Row) (t : ℕ) (line : List ℕ) → Stands given log (whole old) now → row ≡ row_at log t → t ≡ old.tick + 1
+taken : (given : Setup) (log : List LogRow) (now : List Input) (old new : Held) (row : Row) (t : ℕ) (line : List ℕ) → Stands given log (whole old) now → row ≡ row_at log t → t ≡ old.tick + 1
     → ((plan : Plan) (inputs : List Input) → Follows plan (whole old) inputs → IsRight plan inputs (Apply (Tick row)) Took × Follows plan (whole new) (Tick row ∷ inputs))
     → line ≡ display_line (state_of new) → Taken given log now new line
 taken given log now old new row t line stands is at took tells =
@@ -109,7 +109,7 @@ taken given log now old new row t line stands is at took tells =
       tells = tells ∙ ap display_line (follows-state given.plan (whole new) (next_tick given now ∷ now) both.1);
     }
 
-pub steps-more : (given : Given) (log : List LogRow) (is : List Input) (n : ℕ) (old new : Held) (left k : ℕ) (row : Row) (t : ℕ) (a b c : Option (List ℕ)) (p q r line : List ℕ) → Stepping given log is n (whole old) left a b p q
+pub steps-more : (given : Setup) (log : List LogRow) (is : List Input) (n : ℕ) (old new : Held) (left k : ℕ) (row : Row) (t : ℕ) (a b c : Option (List ℕ)) (p q r line : List ℕ) → Stepping given log is n (whole old) left a b p q
     → left ≡ suc k → row ≡ row_at log t → t ≡ old.tick + 1
     → ((plan : Plan) (inputs : List Input) → Follows plan (whole old) inputs → IsRight plan inputs (Apply (Tick row)) Took × Follows plan (whole new) (Tick row ∷ inputs))
     → line ≡ display_line (state_of new) → Said b c q r (with_feed line) → Stepping given log is n (whole new) k a c p r
@@ -125,7 +125,7 @@ steps-more given log is n old new left k row t a b c p q r line s one is-row at 
       };
     }
 
-pub steps-fault : (given : Given) (log : List LogRow) (is : List Input) (n : ℕ) (old new : Held) (left k : ℕ) (row : Row) (t : ℕ) (a b c : Option (List ℕ)) (p q r line : List ℕ) (e : WriteError) → Stepping given log is n (whole old) left a b p q
+pub steps-fault : (given : Setup) (log : List LogRow) (is : List Input) (n : ℕ) (old new : Held) (left k : ℕ) (row : Row) (t : ℕ) (a b c : Option (List ℕ)) (p q r line : List ℕ) (e : WriteError) → Stepping given log is n (whole old) left a b p q
     → left ≡ suc k → row ≡ row_at log t → t ≡ old.tick + 1
     → ((plan : Plan) (inputs : List Input) → Follows plan (whole old) inputs → IsRight plan inputs (Apply (Tick row)) Took × Follows plan (whole new) (Tick row ∷ inputs))
     → line ≡ display_line (state_of new) → Said b c q r [] → Done (Err e) given log (whole new) (Steps given is n) a c p r
@@ -143,7 +143,7 @@ steps-fault given log is n old new left k row t a b c p q r line e s one is-row 
       );
     }
 
-pub steps-refused : (given : Given) (log : List LogRow) (is : List Input) (n : ℕ) (old new : Held) (left k : ℕ) (row : Row) (t : ℕ) (a b c : Option (List ℕ)) (p q r line : List ℕ) (refusal : Refusal) (result : Result (Unit {0}) WriteError)
+pub steps-refused : (given : Setup) (log : List LogRow) (is : List Input) (n : ℕ) (old new : Held) (left k : ℕ) (row : Row) (t : ℕ) (a b c : Option (List ℕ)) (p q r line : List ℕ) (refusal : Refusal) (result : Result (Unit {0}) WriteError)
     → Stepping given log is n (whole old) left a b p q → left ≡ suc k → row ≡ row_at log t → t ≡ old.tick + 1
     → ((plan : Plan) (inputs : List Input) → Follows plan (whole old) inputs → IsRight plan inputs (Apply (Tick row)) (Refused refusal) × Follows plan (whole new) inputs)
     → line ≡ refused_line refusal → OnOk result (Said b c q r (with_feed line)) → OnErr result (Said b c q r []) → Done result given log (whole new) (Steps given is n) a c p r
@@ -170,7 +170,7 @@ steps-refused given log is n old new left k row t a b c p q r line refusal resul
       so = (with_feed line, s.now, subst (λ (v : List ℕ). Steps given is n v s.now) (sym (append_assoc s.wrote.text [] (with_feed line))) steps);
     }
 
-pub steps-end : (given : Given) (log : List LogRow) (is : List Input) (n : ℕ) (bench : Whole) (k : ℕ) (a b : Option (List ℕ)) (p q : List ℕ) → Stepping given log is n bench k a b p q → k ≡ 0 → Done (Ok tt) given log bench (Steps given is n) a b p q
+pub steps-end : (given : Setup) (log : List LogRow) (is : List Input) (n : ℕ) (bench : Whole) (k : ℕ) (a b : Option (List ℕ)) (p q : List ℕ) → Stepping given log is n bench k a b p q → k ≡ 0 → Done (Ok tt) given log bench (Steps given is n) a b p q
 steps-end given log is n bench k a b p q s none = (
   s.now,
   s.stands,

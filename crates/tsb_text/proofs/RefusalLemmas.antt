@@ -1,4 +1,4 @@
--- No input is refused for want of memory by what it asks: the verdict on it is another refusal, or none.
+-- No input is refused as out of memory by what it asks: the verdict on it is another refusal, or none.
 use Rattle.std.proofs.Common.{◌≡◌, ◌≢◌, ℕ, Bool, true, false, ◌&&◌, if◌then◌else◌, Option, Some, None, nat_le, nat_lt, ◌==◌, ◌||◌, not, length, is_some}
 use Rattle.tsb_types.specs.declared.refusal.Refusal.{Refusal}
 use Rattle.tsb_types.specs.declared.refusal.Refusal.TheVariants.{Memory, NoSuchObject, OutOfRange, Busy, NotOwner, NotOpen, NotVerified, TooManyEdits, NoSuchPattern, NoSuchPreempt, TickLimit, InService}

@@ -14,7 +14,7 @@ use Rattle.tsb_text.specs.declared.error.SessionError.TheVariants.{Memory, Read,
 use Rattle.tsb_text.specs.declared.error.WriteError.{WriteError}
 use Rattle.tsb_text.specs.declared.talk.Flow.{Flow}
 use Rattle.tsb_text.specs.declared.talk.Flow.TheVariants.{On, Over}
-use Rattle.tsb_text.specs.Answers.{Given}
+use Rattle.tsb_text.specs.Answers.{Setup}
 use Rattle.tsb_text.specs.Text.{IsText}
 use Rattle.tsb_text.specs.Ended.{Carries, IsWhole, IsBegun, Quits, AnswersWhole, Ended, EndedSo}
 use Rattle.tsb_text.specs.Talk.{Stands, Went, Finished, Holds, HeldAfter, Going, as_session}
@@ -40,7 +40,7 @@ consumes-kept (Some xs) None c x h k = absurd h
 consumes-kept (Some xs) (Some ys) None x h k = absurd k
 consumes-kept (Some xs) (Some ys) (Some zs) x h k = h ∙ ap (λ (v : List ℕ). x ++ v) (sym k)
 
-pub going-start : (given : Given) (log : List LogRow) (bench : Whole) (held : List ℕ) (i o : Option (List ℕ)) (waits : List ℕ) → held ≡ [] → waits ≡ [] → Stands given log bench [] → Going given log bench held 16777216 i i o o waits
+pub going-start : (given : Setup) (log : List LogRow) (bench : Whole) (held : List ℕ) (i o : Option (List ℕ)) (waits : List ℕ) → held ≡ [] → waits ≡ [] → Stands given log bench [] → Going given log bench held 16777216 i i o o waits
 going-start given log bench held i o waits empty none stands = record {
   inputs = [];
   stands = stands;
@@ -64,13 +64,13 @@ take-front (suc n) [] ys e = absurd (omega (arith, e))
 take-front (suc n) (x ∷ xs) ys e = ap (λ (v : List ℕ). x ∷ v) (take-front n xs ys (omega (arith, e)))
 
 -- what was said in all
-EndedText : Result (Unit {0}) SessionError → Given → Option (List ℕ) → List ℕ → List ℕ → List ℕ → Type 0
+EndedText : Result (Unit {0}) SessionError → Setup → Option (List ℕ) → List ℕ → List ℕ → List ℕ → Type 0
 EndedText (Ok u) given left read waits said = (waits ≡ []) × ((IsAtEnd left × IsText given [] read said) ⊎ (Quits read × IsWhole given [] read said))
 EndedText (Err Memory) given left read waits said = ⊥
 EndedText (Err e) given left read waits said = (IsAtEnd left × (rest : List ℕ) × IsText given [] read (said ++ rest)) ⊎ IsBegun given [] read said
 
 -- what went out begins what was said
-ended-front : (given : Given) (left : Option (List ℕ)) (read waits said gone : List ℕ) → said ≡ gone ++ waits
+ended-front : (given : Setup) (left : Option (List ℕ)) (read waits said gone : List ℕ) → said ≡ gone ++ waits
     → ((IsAtEnd left × (rest : List ℕ) × IsText given [] read (said ++ rest)) ⊎ IsBegun given [] read said)
     → (IsAtEnd left × (rest : List ℕ) × IsText given [] read (gone ++ rest)) ⊎ IsBegun given [] read gone
 ended-front given left read waits said gone e x = elim x [
@@ -81,7 +81,7 @@ ended-front given left read waits said gone e x = elim x [
     front : (rest : List ℕ) → said ++ rest ≡ gone ++ (waits ++ rest)
     front rest = ap (λ (v : List ℕ). v ++ rest) e ∙ append_assoc gone waits rest
 
-ended-so : (r : Result (Unit {0}) SessionError) (given : Given) (left : Option (List ℕ)) (read waits said gone : List ℕ) → said ≡ gone ++ waits → EndedText r given left read waits said → EndedSo r given left read gone
+ended-so : (r : Result (Unit {0}) SessionError) (given : Setup) (left : Option (List ℕ)) (read waits said gone : List ℕ) → said ≡ gone ++ waits → EndedText r given left read waits said → EndedSo r given left read gone
 unfolding EndedText
 ended-so (Ok u) given left read waits said gone e x =
     let all : said ≡ gone = e ∙ ap (λ (v : List ℕ). gone ++ v) x.0 ∙ append-nil gone in
@@ -95,13 +95,13 @@ ended-so (Err Write) given left read waits said gone e x = ended-front given lef
 ended-so (Err TooLarge) given left read waits said gone e x = ended-front given left read waits said gone e x
 
 -- where nothing waits, all whole lines were answered
-whole-answered : (given : Given) (left : List Input) (bytes held waits said gone : List ℕ) → said ≡ gone ++ waits → waits ≡ [] → HasNoFeed held → Carries given [] bytes left held said → AnswersWhole given bytes gone
+whole-answered : (given : Setup) (left : List Input) (bytes held waits said gone : List ℕ) → said ≡ gone ++ waits → waits ≡ [] → HasNoFeed held → Carries given [] bytes left held said → AnswersWhole given bytes gone
 whole-answered given left bytes held waits said gone e none clean k =
     let all : said ≡ gone = e ∙ ap (λ (v : List ℕ). gone ++ v) none ∙ append-nil gone in
     record { left = left; held = held; unfinished = clean; carries = record { on = λ more text t. subst (λ (v : List ℕ). IsText given [] (bytes ++ more) (v ++ text)) all (k.on more text t) } }
 
 -- an end at which no more than 16 MiB were read
-ended : (r : Result (Unit {0}) SessionError) (given : Given) (i l o n : Option (List ℕ)) (read waits : List ℕ) → Consumes i l read → Wrote o n [] waits (EndedText r given l read waits) → (r ≡ Err TooLarge → ⊥) → (r ≡ Err Read → ⊥) → length read ≤ 16777216
+ended : (r : Result (Unit {0}) SessionError) (given : Setup) (i l o n : Option (List ℕ)) (read waits : List ℕ) → Consumes i l read → Wrote o n [] waits (EndedText r given l read waits) → (r ≡ Err TooLarge → ⊥) → (r ≡ Err Read → ⊥) → length read ≤ 16777216
     → Ended r given i l o n
 ended r given i l o n read waits taken wrote small sound most = record {
   read = read;
@@ -115,12 +115,12 @@ ended r given i l o n read waits taken wrote small sound most = record {
 }
 
 -- what goes on begins a text
-begun-going : (given : Given) (is : List Input) (read held said : List ℕ) → Carries given [] read is held said → IsBegun given [] read said
+begun-going : (given : Setup) (is : List Input) (read held said : List ℕ) → Carries given [] read is held said → IsBegun given [] read said
 begun-going given is read held said k =
     record { rest = λ more. let some : (t : List ℕ) × IsText given is (held ++ more) t = some-text given is (held ++ more) in (some.0, k.on more some.0 some.1) }
 
 -- a read failed
-pub ended-read : (given : Given) (log : List LogRow) (bench : Whole) (held : List ℕ) (budget : ℕ) (i l l2 o n : Option (List ℕ)) (waits : List ℕ) → Going given log bench held budget i l o n waits → waits ≡ [] → HasNoFeed held → Keeps l l2
+pub ended-read : (given : Setup) (log : List LogRow) (bench : Whole) (held : List ℕ) (budget : ℕ) (i l l2 o n : Option (List ℕ)) (waits : List ℕ) → Going given log bench held budget i l o n waits → waits ≡ [] → HasNoFeed held → Keeps l l2
     → Ended (Err Read) given i l2 o n
 unfolding EndedText
 ended-read given log bench held budget i l l2 o n waits g none clean k =
@@ -138,7 +138,7 @@ ended-read given log bench held budget i l l2 o n waits g none clean k =
     }
 
 -- a byte stands behind those that may be read
-pub ended-large : (given : Given) (log : List LogRow) (bench : Whole) (held : List ℕ) (budget : ℕ) (i l l2 o n : Option (List ℕ)) (waits : List ℕ) (count most : ℕ) (piece : List ℕ) → Going given log bench held budget i l o n waits → waits ≡ [] → HasNoFeed held → Consumes l l2 piece
+pub ended-large : (given : Setup) (log : List LogRow) (bench : Whole) (held : List ℕ) (budget : ℕ) (i l l2 o n : Option (List ℕ)) (waits : List ℕ) (count most : ℕ) (piece : List ℕ) → Going given log bench held budget i l o n waits → waits ≡ [] → HasNoFeed held → Consumes l l2 piece
     → budget < count → count ≡ length piece → count ≤ most → (budget < most → most ≤ 1) → Ended (Err TooLarge) given i l2 o n
 unfolding EndedText
 ended-large given log bench held budget i l l2 o n waits count most piece g none clean k over long room one =
@@ -171,9 +171,9 @@ never-large (Ok u) h = cc
 never-large (Err e) h = cc
 
 -- the end of what is read
-pub ended-end : (given : Given) (log : List LogRow) (bench : Whole) (held : List ℕ) (budget : ℕ) (i l l2 o n n2 : Option (List ℕ)) (waits waits2 : List ℕ) (r : Result (Unit {0}) WriteError) (count : ℕ) (buf : List ℕ)
+pub ended-end : (given : Setup) (log : List LogRow) (bench : Whole) (held : List ℕ) (budget : ℕ) (i l l2 o n n2 : Option (List ℕ)) (waits waits2 : List ℕ) (r : Result (Unit {0}) WriteError) (count : ℕ) (buf : List ℕ)
     → Going given log bench held budget i l o n waits → count ≡ 0 → Consumes l l2 (take count buf) → IsAtEnd l2
-    → ((given : Given) (inputs : List Input) → Stands given log bench inputs → Wrote n n2 waits waits2 (Finished r given inputs held waits2)) → Ended (as_session r) given i l2 o n2
+    → ((given : Setup) (inputs : List Input) → Stands given log bench inputs → Wrote n n2 waits waits2 (Finished r given inputs held waits2)) → Ended (as_session r) given i l2 o n2
 unfolding EndedText
 ended-end given log bench held budget i l l2 o n n2 waits waits2 r count buf g none k end finish =
     ended (as_session r) given i l2 o n2 (g.read ++ []) waits2 (consumes-more i l l2 g.read [] g.taken (subst (λ (m : ℕ). Consumes l l2 (take m buf)) none k))
@@ -198,9 +198,9 @@ ended-end given log bench held budget i l l2 o n n2 waits waits2 r count buf g n
     }
 
 -- a fault within the answers to a piece
-pub ended-fault : (given : Given) (log : List LogRow) (bench bench2 : Whole) (held held2 : List ℕ) (budget : ℕ) (i l l2 o n n2 : Option (List ℕ)) (waits waits2 : List ℕ) (count : ℕ) (piece : List ℕ)
+pub ended-fault : (given : Setup) (log : List LogRow) (bench bench2 : Whole) (held held2 : List ℕ) (budget : ℕ) (i l l2 o n n2 : Option (List ℕ)) (waits waits2 : List ℕ) (count : ℕ) (piece : List ℕ)
     → Going given log bench held budget i l o n waits → Consumes l l2 piece → count ≡ length piece → count ≤ budget
-    → ((given : Given) (inputs : List Input) → Stands given log bench inputs → Wrote n n2 waits waits2 (IsBegun given inputs (held ++ piece))) → Ended (Err Write) given i l2 o n2
+    → ((given : Setup) (inputs : List Input) → Stands given log bench inputs → Wrote n n2 waits waits2 (IsBegun given inputs (held ++ piece))) → Ended (Err Write) given i l2 o n2
 unfolding EndedText
 ended-fault given log bench bench2 held held2 budget i l l2 o n n2 waits waits2 count piece g k long fits went =
     let w : Wrote o n2 [] waits2 (IsBegun given [] (g.read ++ piece)) = joined (Err _) given log [] g.read g.inputs held piece bench2 held2 o n n2 [] waits waits2 g.wrote (went given g.inputs g.stands) in
@@ -208,9 +208,9 @@ ended-fault given log bench bench2 held held2 budget i l l2 o n n2 waits waits2 
     (λ x. cc) (λ x. cc) (let f : length g.read + budget ≡ 16777216 = g.fits in let all : length (g.read ++ piece) ≡ length g.read + length piece = length-append g.read piece in omega (arith, f, all, long, fits))
 
 -- a line ended it, and what waited then was written, or was not
-pub ended-over : (given : Given) (log : List LogRow) (bench bench2 : Whole) (held held2 : List ℕ) (budget : ℕ) (i l l2 o n n2 n3 : Option (List ℕ)) (waits waits2 waits3 : List ℕ) (r : Result (Unit {0}) WriteError) (f : Flow) (count : ℕ) (piece : List ℕ)
+pub ended-over : (given : Setup) (log : List LogRow) (bench bench2 : Whole) (held held2 : List ℕ) (budget : ℕ) (i l l2 o n n2 n3 : Option (List ℕ)) (waits waits2 waits3 : List ℕ) (r : Result (Unit {0}) WriteError) (f : Flow) (count : ℕ) (piece : List ℕ)
     → Going given log bench held budget i l o n waits → Consumes l l2 piece → count ≡ length piece → count ≤ budget → f ≡ Over
-    → ((given : Given) (inputs : List Input) → Stands given log bench inputs → Went (Ok f) given inputs (held ++ piece) log bench2 held2 n n2 waits waits2)
+    → ((given : Setup) (inputs : List Input) → Stands given log bench inputs → Went (Ok f) given inputs (held ++ piece) log bench2 held2 n n2 waits waits2)
     → ((before : List ℕ) → Holds before held → HeldAfter (Ok f) (before ++ piece) held2) → Said n2 n3 waits2 waits3 [] → OnOk r (waits3 ≡ []) → Ended (as_session r) given i l2 o n3
 unfolding EndedText
 ended-over given log bench bench2 held held2 budget i l l2 o n n2 n3 waits waits2 waits3 r f count piece g k long fits over went keeps said ok =
@@ -236,9 +236,9 @@ ended-over given log bench bench2 held held2 budget i l l2 o n n2 n3 waits waits
     }
 
 -- a piece more
-pub going-more : (given : Given) (log : List LogRow) (bench bench2 : Whole) (held held2 : List ℕ) (budget : ℕ) (i l l2 o n n2 n3 : Option (List ℕ)) (waits waits2 waits3 : List ℕ) (f : Flow) (count : ℕ) (piece : List ℕ)
+pub going-more : (given : Setup) (log : List LogRow) (bench bench2 : Whole) (held held2 : List ℕ) (budget : ℕ) (i l l2 o n n2 n3 : Option (List ℕ)) (waits waits2 waits3 : List ℕ) (f : Flow) (count : ℕ) (piece : List ℕ)
     → Going given log bench held budget i l o n waits → Consumes l l2 piece → count ≡ length piece → count ≤ budget → f ≡ On
-    → ((given : Given) (inputs : List Input) → Stands given log bench inputs → Went (Ok f) given inputs (held ++ piece) log bench2 held2 n n2 waits waits2)
+    → ((given : Setup) (inputs : List Input) → Stands given log bench inputs → Went (Ok f) given inputs (held ++ piece) log bench2 held2 n n2 waits waits2)
     → ((before : List ℕ) → Holds before held → HeldAfter (Ok f) (before ++ piece) held2) → Said n2 n3 waits2 waits3 [] → Going given log bench2 held2 (budget - count) i l2 o n3 waits3
 going-more given log bench bench2 held held2 budget i l l2 o n n2 n3 waits waits2 waits3 f count piece g k long fits on went keeps said =
     let w : Went (Ok On) given [] (g.read ++ piece) log bench2 held2 o n2 [] waits2 = joined (Ok On) given log [] g.read g.inputs held piece bench2 held2 o n n2 [] waits waits2 g.wrote
@@ -258,9 +258,9 @@ going-more given log bench bench2 held held2 budget i l l2 o n n2 n3 waits waits
     }
 
 -- a fault in writing what waited behind a piece
-pub ended-send : (given : Given) (log : List LogRow) (bench bench2 : Whole) (held held2 : List ℕ) (budget : ℕ) (i l l2 o n n2 n3 : Option (List ℕ)) (waits waits2 waits3 : List ℕ) (f : Flow) (count : ℕ) (piece : List ℕ)
+pub ended-send : (given : Setup) (log : List LogRow) (bench bench2 : Whole) (held held2 : List ℕ) (budget : ℕ) (i l l2 o n n2 n3 : Option (List ℕ)) (waits waits2 waits3 : List ℕ) (f : Flow) (count : ℕ) (piece : List ℕ)
     → Going given log bench held budget i l o n waits → Consumes l l2 piece → count ≡ length piece → count ≤ budget → f ≡ On
-    → ((given : Given) (inputs : List Input) → Stands given log bench inputs → Went (Ok f) given inputs (held ++ piece) log bench2 held2 n n2 waits waits2)
+    → ((given : Setup) (inputs : List Input) → Stands given log bench inputs → Went (Ok f) given inputs (held ++ piece) log bench2 held2 n n2 waits waits2)
     → ((before : List ℕ) → Holds before held → HeldAfter (Ok f) (before ++ piece) held2) → Said n2 n3 waits2 waits3 [] → Ended (Err Write) given i l2 o n3
 unfolding EndedText
 ended-send given log bench bench2 held held2 budget i l l2 o n n2 n3 waits waits2 waits3 f count piece g k long fits on went keeps said =
@@ -269,7 +269,7 @@ ended-send given log bench bench2 held held2 budget i l l2 o n n2 n3 waits waits
     (λ h. cc) (λ h. cc) (let f : length x.read + (budget - count) ≡ 16777216 = x.fits in omega (arith, f))
 
 -- the same bench, the same bytes held
-pub going-same : (given : Given) (log : List LogRow) (old new : Held) (held held2 : List ℕ) (budget : ℕ) (i l o n : Option (List ℕ)) (waits : List ℕ) → new ≡ old → held2 ≡ held → Going given log (whole old) held budget i l o n waits
+pub going-same : (given : Setup) (log : List LogRow) (old new : Held) (held held2 : List ℕ) (budget : ℕ) (i l o n : Option (List ℕ)) (waits : List ℕ) → new ≡ old → held2 ≡ held → Going given log (whole old) held budget i l o n waits
     → Going given log (whole new) held2 budget i l o n waits
 going-same given log old new held held2 budget i l o n waits bench bytes g =
     subst (λ (b : Held). Going given log (whole b) held2 budget i l o n waits) (sym bench) (subst (λ (h : List ℕ). Going given log (whole old) h budget i l o n waits) (sym bytes) g)

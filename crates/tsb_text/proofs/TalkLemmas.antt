@@ -15,7 +15,7 @@ use Rattle.tsb_log_text.specs.declared.log.LogRow.{LogRow}
 use Rattle.tsb_text.specs.declared.error.WriteError.{WriteError}
 use Rattle.tsb_text.specs.declared.talk.Flow.{Flow}
 use Rattle.tsb_text.specs.declared.talk.Flow.TheVariants.{On, Over}
-use Rattle.tsb_text.specs.Answers.{Given, Answers}
+use Rattle.tsb_text.specs.Answers.{Setup, Answers}
 use Rattle.tsb_text.specs.Text.{Says, IsAnswered, IsText}
 use Rattle.tsb_text.specs.Ended.{Carries, IsWhole, IsBegun}
 use Rattle.tsb_text.specs.Talk.{Stands, Done, Obeyed, Went, Finished}
@@ -26,11 +26,11 @@ use Rattle.tsb_text.proofs.HeldLemmas.{front-more}
 
 -- ## A line
 
-pub obeyed-skip : (given : Given) (log : List LogRow) (is : List Input) (bench : Whole) (r : Reading) (a : Option (List ℕ)) (p : List ℕ) → r ≡ Skip → Stands given log bench is → Obeyed (Ok On) given is r log bench a a p p
+pub obeyed-skip : (given : Setup) (log : List LogRow) (is : List Input) (bench : Whole) (r : Reading) (a : Option (List ℕ)) (p : List ℕ) → r ≡ Skip → Stands given log bench is → Obeyed (Ok On) given is r log bench a a p p
 obeyed-skip given log is bench r a p e stands =
     (is, stands, record { text = []; said = said-nothing a p; so = λ lines rest h. subst (λ (x : Reading). Says given x is rest (λ new text. IsAnswered given new lines text)) (sym e) h })
 
-pub obeyed-bad : (given : Given) (log : List LogRow) (is : List Input) (bench : Whole) (r : Reading) (a b : Option (List ℕ)) (p q line : List ℕ) → r ≡ Bad → line ≡ codes "bad command" → Stands given log bench is
+pub obeyed-bad : (given : Setup) (log : List LogRow) (is : List Input) (bench : Whole) (r : Reading) (a b : Option (List ℕ)) (p q line : List ℕ) → r ≡ Bad → line ≡ codes "bad command" → Stands given log bench is
     → Said a b p q (with_feed line) → Obeyed (Ok On) given is r log bench a b p q
 obeyed-bad given log is bench r a b p q line e tells stands said = (
   is,
@@ -43,7 +43,7 @@ obeyed-bad given log is bench r a b p q line e tells stands said = (
   },
 )
 
-pub obeyed-bad_fault : (given : Given) (log : List LogRow) (is : List Input) (bench : Whole) (r : Reading) (a b : Option (List ℕ)) (p q : List ℕ) (fault : WriteError) → r ≡ Bad → Said a b p q []
+pub obeyed-bad_fault : (given : Setup) (log : List LogRow) (is : List Input) (bench : Whole) (r : Reading) (a b : Option (List ℕ)) (p q : List ℕ) (fault : WriteError) → r ≡ Bad → Said a b p q []
     → Obeyed (Err fault) given is r log bench a b p q
 obeyed-bad_fault given log is bench r a b p q fault e said = record {
   text = [];
@@ -54,11 +54,11 @@ obeyed-bad_fault given log is bench r a b p q fault e said = record {
   );
 }
 
-pub obeyed-leave : (given : Given) (log : List LogRow) (is : List Input) (bench : Whole) (r : Reading) (a : Option (List ℕ)) (p : List ℕ) → r ≡ Leave → Obeyed (Ok Over) given is r log bench a a p p
+pub obeyed-leave : (given : Setup) (log : List LogRow) (is : List Input) (bench : Whole) (r : Reading) (a : Option (List ℕ)) (p : List ℕ) → r ≡ Leave → Obeyed (Ok Over) given is r log bench a a p p
 obeyed-leave given log is bench r a p e =
     record { text = []; said = said-nothing a p; so = λ lines. subst (λ (x : Reading). Says given x is [] (λ new text. IsAnswered given new lines text)) (sym e) refl }
 
-pub obeyed-do : (given : Given) (log : List LogRow) (is : List Input) (bench : Whole) (r : Reading) (c : Command) (a b : Option (List ℕ)) (p q : List ℕ) → r ≡ Do c
+pub obeyed-do : (given : Setup) (log : List LogRow) (is : List Input) (bench : Whole) (r : Reading) (c : Command) (a b : Option (List ℕ)) (p q : List ℕ) → r ≡ Do c
     → Done (Ok tt) given log bench (Answers given is c) a b p q → Obeyed (Ok On) given is r log bench a b p q
 obeyed-do given log is bench r c a b p q e done = (
   done.0,
@@ -71,7 +71,7 @@ obeyed-do given log is bench r c a b p q e done = (
   },
 )
 
-pub obeyed-do_fault : (given : Given) (log : List LogRow) (is : List Input) (bench : Whole) (r : Reading) (c : Command) (a b : Option (List ℕ)) (p q : List ℕ) (fault : WriteError) → r ≡ Do c
+pub obeyed-do_fault : (given : Setup) (log : List LogRow) (is : List Input) (bench : Whole) (r : Reading) (c : Command) (a b : Option (List ℕ)) (p q : List ℕ) (fault : WriteError) → r ≡ Do c
     → Done (Err fault) given log bench (Answers given is c) a b p q → Obeyed (Err fault) given is r log bench a b p q
 obeyed-do_fault given log is bench r c a b p q fault e done = record {
   text = done.text;
@@ -89,7 +89,7 @@ obeyed-do_fault given log is bench r c a b p q fault e done = record {
 whole-line : (h more : List ℕ) → HasNoFeed h → lines_of ((h ++ 10 ∷ []) ++ more) ≡ without_return h ∷ lines_of more
 whole-line h more f = ap lines_of (append_assoc h (10 ∷ []) more) ∙ lines-joined h more f
 
-pub went-line : (r : Result Flow WriteError) (given : Given) (log : List LogRow) (is : List Input) (bench : Whole) (asked : Reading) (h line held : List ℕ) (a b : Option (List ℕ)) (p q : List ℕ)
+pub went-line : (r : Result Flow WriteError) (given : Setup) (log : List LogRow) (is : List Input) (bench : Whole) (asked : Reading) (h line held : List ℕ) (a b : Option (List ℕ)) (p q : List ℕ)
     → HasNoFeed h → asked ≡ reading line → line ≡ without_return h → held ≡ [] → Obeyed r given is asked log bench a b p q → Went r given is (h ++ 10 ∷ []) log bench held a b p q
 went-line r given log is bench asked h line held a b p q f reads lines empty obeyed =
     at r (subst (λ (x : Reading). Obeyed r given is x log bench a b p q) (reads ∙ ap reading lines) obeyed)
@@ -110,11 +110,11 @@ went-line r given log is bench asked h line held a b p q f reads lines empty obe
     at (Ok Over) o = record { text = o.text; said = o.said; so = record { all = λ more. goes o.text more [] (o.so (lines_of more)) } }
     at (Err e) o = record { text = o.text; said = o.said; so = record { rest = λ more. ((o.so (lines_of more)).0, goes (o.text ++ (o.so (lines_of more)).0) more [] (o.so (lines_of more)).1) } }
 
-pub went-kept : (given : Given) (log : List LogRow) (is : List Input) (bench : Whole) (bytes held : List ℕ) (a : Option (List ℕ)) (p : List ℕ) → held ≡ bytes → Stands given log bench is → Went (Ok On) given is bytes log bench held a a p p
+pub went-kept : (given : Setup) (log : List LogRow) (is : List Input) (bench : Whole) (bytes held : List ℕ) (a : Option (List ℕ)) (p : List ℕ) → held ≡ bytes → Stands given log bench is → Went (Ok On) given is bytes log bench held a a p p
 went-kept given log is bench bytes held a p same stands =
     (is, stands, record { text = []; said = said-nothing a p; so = record { on = λ more text t. subst (λ (v : List ℕ). IsText given is (v ++ more) text) same t } })
 
-pub went-cut : (given : Given) (log : List LogRow) (is : List Input) (bench : Whole) (h : List ℕ) (b : ℕ) (a : Option (List ℕ)) (p : List ℕ) → HasNoFeed h → 202 ≤ length h → (b ≡ 10 → ⊥) → Stands given log bench is
+pub went-cut : (given : Setup) (log : List LogRow) (is : List Input) (bench : Whole) (h : List ℕ) (b : ℕ) (a : Option (List ℕ)) (p : List ℕ) → HasNoFeed h → 202 ≤ length h → (b ≡ 10 → ⊥) → Stands given log bench is
     → Went (Ok On) given is (h ++ b ∷ []) log bench h a a p p
 went-cut given log is bench h b a p f long n stands = (
   is,
@@ -128,7 +128,7 @@ went-cut given log is bench h b a p f long n stands = (
 
 -- ## One piece after another
 
-pub joined : (r : Result Flow WriteError) (given : Given) (log : List LogRow) (is : List Input) (bytes : List ℕ) (now : List Input) (h piece : List ℕ) (bench : Whole) (held : List ℕ) (a b c : Option (List ℕ)) (p q w : List ℕ)
+pub joined : (r : Result Flow WriteError) (given : Setup) (log : List LogRow) (is : List Input) (bytes : List ℕ) (now : List Input) (h piece : List ℕ) (bench : Whole) (held : List ℕ) (a b c : Option (List ℕ)) (p q w : List ℕ)
     → Wrote a b p q (Carries given is bytes now h) → Went r given now (h ++ piece) log bench held b c q w → Went r given is (bytes ++ piece) log bench held a c p w
 joined (Ok On) given log is bytes now h piece bench held a b c p q w k went = (
   went.0,
@@ -161,7 +161,7 @@ joined (Err e) given log is bytes now h piece bench held a b c p q w k went = re
 }
 
 -- what the first of these bytes brought
-pub record Talking (given : Given) (log : List LogRow) (is : List Input) (bytes : List ℕ) (bench : Whole) (held : List ℕ) (a b : Option (List ℕ)) (p q : List ℕ) : Type 0 where
+pub record Talking (given : Setup) (log : List LogRow) (is : List Input) (bytes : List ℕ) (bench : Whole) (held : List ℕ) (a b : Option (List ℕ)) (p q : List ℕ) : Type 0 where
   pub now : List Input
   pub stands : Stands given log bench now
   pub wrote : Wrote a b p q (Carries given is bytes now held)
@@ -170,15 +170,15 @@ front-all : (h bytes : List ℕ) (i x : ℕ) → i < length bytes → x ≡ get_
 front-all h bytes i x lt is =
     ap (λ (v : List ℕ). v ++ drop (i + 1) bytes) (front-more h bytes i x lt is) ∙ append_assoc h (take (i + 1) bytes) (drop (i + 1) bytes) ∙ ap (λ (v : List ℕ). h ++ v) (take-append-drop (i + 1) bytes)
 
-pub talking-start : (given : Given) (log : List LogRow) (is : List Input) (h bytes : List ℕ) (bench : Whole) (a : Option (List ℕ)) (p : List ℕ) → Stands given log bench is → Talking given log is (h ++ take 0 bytes) bench h a a p p
+pub talking-start : (given : Setup) (log : List LogRow) (is : List Input) (h bytes : List ℕ) (bench : Whole) (a : Option (List ℕ)) (p : List ℕ) → Stands given log bench is → Talking given log is (h ++ take 0 bytes) bench h a a p p
 talking-start given log is h bytes bench a p stands = record {
   now = is;
   stands = stands;
   wrote = record { text = []; said = said-nothing a p; so = record { on = λ more text t. subst (λ (v : List ℕ). IsText given is (v ++ more) text) (sym (append-nil h)) t } };
 }
 
-pub talking-more : (given : Given) (log : List LogRow) (is : List Input) (h bytes : List ℕ) (i x : ℕ) (old new : Whole) (held next : List ℕ) (f : Flow) (a b c : Option (List ℕ)) (p q w : List ℕ) → i < length bytes → x ≡ get_or bytes i 0 → f ≡ On
-    → Talking given log is (h ++ take i bytes) old held a b p q → ((given : Given) (inputs : List Input) → Stands given log old inputs → Went (Ok f) given inputs (held ++ x ∷ []) log new next b c q w)
+pub talking-more : (given : Setup) (log : List LogRow) (is : List Input) (h bytes : List ℕ) (i x : ℕ) (old new : Whole) (held next : List ℕ) (f : Flow) (a b c : Option (List ℕ)) (p q w : List ℕ) → i < length bytes → x ≡ get_or bytes i 0 → f ≡ On
+    → Talking given log is (h ++ take i bytes) old held a b p q → ((given : Setup) (inputs : List Input) → Stands given log old inputs → Went (Ok f) given inputs (held ++ x ∷ []) log new next b c q w)
     → Talking given log is (h ++ take (i + 1) bytes) new next a c p w
 talking-more given log is h bytes i x old new held next f a b c p q w lt e on t went =
     let step : Went (Ok On) given t.now (held ++ x ∷ []) log new next b c q w = subst (λ (y : Flow). Went (Ok y) given t.now (held ++ x ∷ []) log new next b c q w) on (went given t.now t.stands) in
@@ -186,37 +186,37 @@ talking-more given log is h bytes i x old new held next f a b c p q w lt e on t 
     record { now = all.0; stands = all.1; wrote = subst (λ (v : List ℕ). Wrote a c p w (Carries given is v all.0 next)) (front-more h bytes i x lt e) all.2 }
 
 -- more bytes behind a line that ended it, or behind a fault
-whole-more : (given : Given) (is : List Input) (bytes more : List ℕ) (a b : Option (List ℕ)) (p q : List ℕ) → Wrote a b p q (IsWhole given is bytes) → Wrote a b p q (IsWhole given is (bytes ++ more))
+whole-more : (given : Setup) (is : List Input) (bytes more : List ℕ) (a b : Option (List ℕ)) (p q : List ℕ) → Wrote a b p q (IsWhole given is bytes) → Wrote a b p q (IsWhole given is (bytes ++ more))
 whole-more given is bytes more a b p q w =
     record { text = w.text; said = w.said; so = record { all = λ rest. subst (λ (v : List ℕ). IsText given is v w.text) (sym (append_assoc bytes more rest)) (w.so.all (more ++ rest)) } }
 
-pub begun-more : (given : Given) (is : List Input) (bytes more : List ℕ) (a b : Option (List ℕ)) (p q : List ℕ) → Wrote a b p q (IsBegun given is bytes) → Wrote a b p q (IsBegun given is (bytes ++ more))
+pub begun-more : (given : Setup) (is : List Input) (bytes more : List ℕ) (a b : Option (List ℕ)) (p q : List ℕ) → Wrote a b p q (IsBegun given is bytes) → Wrote a b p q (IsBegun given is (bytes ++ more))
 begun-more given is bytes more a b p q w =
     record { text = w.text; said = w.said; so = record { rest = λ rest. ((w.so.rest (more ++ rest)).0, subst (λ (v : List ℕ). IsText given is v (w.text ++ (w.so.rest (more ++ rest)).0)) (sym (append_assoc bytes more rest)) (w.so.rest (more ++ rest)).1) } }
 
-pub talking-over : (given : Given) (log : List LogRow) (is : List Input) (h bytes : List ℕ) (i x : ℕ) (old new : Whole) (held next : List ℕ) (f : Flow) (a b c : Option (List ℕ)) (p q w : List ℕ) → i < length bytes → x ≡ get_or bytes i 0 → f ≡ Over
-    → Talking given log is (h ++ take i bytes) old held a b p q → ((given : Given) (inputs : List Input) → Stands given log old inputs → Went (Ok f) given inputs (held ++ x ∷ []) log new next b c q w)
+pub talking-over : (given : Setup) (log : List LogRow) (is : List Input) (h bytes : List ℕ) (i x : ℕ) (old new : Whole) (held next : List ℕ) (f : Flow) (a b c : Option (List ℕ)) (p q w : List ℕ) → i < length bytes → x ≡ get_or bytes i 0 → f ≡ Over
+    → Talking given log is (h ++ take i bytes) old held a b p q → ((given : Setup) (inputs : List Input) → Stands given log old inputs → Went (Ok f) given inputs (held ++ x ∷ []) log new next b c q w)
     → Wrote a c p w (IsWhole given is (h ++ bytes))
 talking-over given log is h bytes i x old new held next f a b c p q w lt e over t went =
     let step : Went (Ok Over) given t.now (held ++ x ∷ []) log new next b c q w = subst (λ (y : Flow). Went (Ok y) given t.now (held ++ x ∷ []) log new next b c q w) over (went given t.now t.stands) in
     subst (λ (v : List ℕ). Wrote a c p w (IsWhole given is v)) (front-all h bytes i x lt e)
     (whole-more given is ((h ++ take i bytes) ++ x ∷ []) (drop (i + 1) bytes) a c p w (joined (Ok Over) given log is (h ++ take i bytes) t.now held (x ∷ []) new next a b c p q w t.wrote step))
 
-pub talking-fault : (given : Given) (log : List LogRow) (is : List Input) (h bytes : List ℕ) (i x : ℕ) (old new : Whole) (held next : List ℕ) (fault : WriteError) (a b c : Option (List ℕ)) (p q w : List ℕ) → i < length bytes → x ≡ get_or bytes i 0
-    → Talking given log is (h ++ take i bytes) old held a b p q → ((given : Given) (inputs : List Input) → Stands given log old inputs → Wrote b c q w (IsBegun given inputs (held ++ x ∷ [])))
+pub talking-fault : (given : Setup) (log : List LogRow) (is : List Input) (h bytes : List ℕ) (i x : ℕ) (old new : Whole) (held next : List ℕ) (fault : WriteError) (a b c : Option (List ℕ)) (p q w : List ℕ) → i < length bytes → x ≡ get_or bytes i 0
+    → Talking given log is (h ++ take i bytes) old held a b p q → ((given : Setup) (inputs : List Input) → Stands given log old inputs → Wrote b c q w (IsBegun given inputs (held ++ x ∷ [])))
     → Wrote a c p w (IsBegun given is (h ++ bytes))
 talking-fault given log is h bytes i x old new held next fault a b c p q w lt e t went =
     subst (λ (v : List ℕ). Wrote a c p w (IsBegun given is v)) (front-all h bytes i x lt e)
     (begun-more given is ((h ++ take i bytes) ++ x ∷ []) (drop (i + 1) bytes) a c p w (joined (Err fault) given log is (h ++ take i bytes) t.now held (x ∷ []) new next a b c p q w t.wrote (went given t.now t.stands)))
 
-pub talking-end : (given : Given) (log : List LogRow) (is : List Input) (h bytes : List ℕ) (i : ℕ) (bench : Whole) (held : List ℕ) (a b : Option (List ℕ)) (p q : List ℕ) → length bytes ≤ i
+pub talking-end : (given : Setup) (log : List LogRow) (is : List Input) (h bytes : List ℕ) (i : ℕ) (bench : Whole) (held : List ℕ) (a b : Option (List ℕ)) (p q : List ℕ) → length bytes ≤ i
     → Talking given log is (h ++ take i bytes) bench held a b p q → Went (Ok On) given is (h ++ bytes) log bench held a b p q
 talking-end given log is h bytes i bench held a b p q le t =
     (t.now, t.stands, subst (λ (v : List ℕ). Wrote a b p q (Carries given is (h ++ v) t.now held)) (take_all i bytes le) t.wrote)
 
 -- ## The end of the input
 
-pub finished-fault : (given : Given) (log : List LogRow) (is : List Input) (bench : Whole) (asked : Reading) (h : List ℕ) (a b : Option (List ℕ)) (p q : List ℕ) (e : WriteError) → HasNoFeed h → asked ≡ reading h
+pub finished-fault : (given : Setup) (log : List LogRow) (is : List Input) (bench : Whole) (asked : Reading) (h : List ℕ) (a b : Option (List ℕ)) (p q : List ℕ) (e : WriteError) → HasNoFeed h → asked ≡ reading h
     → Obeyed (Err e) given is asked log bench a b p q → Wrote a b p q (Finished (Err e) given is h q)
 finished-fault given log is bench asked h a b p q e f reads o = record {
   text = o.text;
@@ -228,7 +228,7 @@ finished-fault given log is bench asked h a b p q e f reads o = record {
 }
 
 -- the last line was answered, and what waited then was written
-pub finished-sent : (flow : Flow) (r : Result (Unit {0}) WriteError) (given : Given) (log : List LogRow) (is : List Input) (bench : Whole) (asked : Reading) (h : List ℕ) (a b c : Option (List ℕ)) (p q w : List ℕ) → HasNoFeed h → asked ≡ reading h
+pub finished-sent : (flow : Flow) (r : Result (Unit {0}) WriteError) (given : Setup) (log : List LogRow) (is : List Input) (bench : Whole) (asked : Reading) (h : List ℕ) (a b c : Option (List ℕ)) (p q w : List ℕ) → HasNoFeed h → asked ≡ reading h
     → Obeyed (Ok flow) given is asked log bench a b p q → Said b c q w [] → OnOk r (w ≡ []) → Wrote a c p w (Finished r given is h w)
 finished-sent flow r given log is bench asked h a b c p q w f reads o said ok = ends (said-of flow o) r ok
   where

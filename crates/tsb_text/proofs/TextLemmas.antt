@@ -20,21 +20,21 @@ use Rattle.tsb_command_text.specs.declared.command.Reading.{Reading}
 use Rattle.tsb_command_text.specs.declared.command.Reading.TheVariants.{Skip, Bad, Leave, Do}
 use Rattle.tsb_command_text.specs.Readings.{reading}
 use Rattle.tsb_lines.specs.Lines.{lines_of, split, ended, onto_first, without_return, HasNoFeed}
-use Rattle.tsb_text.specs.Answers.{Given, Asked, Steps, Answers, next_tick}
+use Rattle.tsb_text.specs.Answers.{Setup, Asked, Steps, Answers, next_tick}
 use Rattle.tsb_text.specs.Text.{Says, IsAnswered, IsText}
 use Rattle.tsb_text.proofs.RefusalLemmas.{never-memory, as-refusal}
 use Rattle.tsb_text.proofs.WatchLemmas.{some-change}
 
 -- ## There is an answer to each command: one that does not run out of memory
 
-right-input : (given : Given) (is : List Input) (i : Input) → IsRight given.plan is (asks.Apply i) Took ⊎ ((e : Refusal) × IsRight given.plan is (asks.Apply i) (Refused e))
+right-input : (given : Setup) (is : List Input) (i : Input) → IsRight given.plan is (asks.Apply i) Took ⊎ ((e : Refusal) × IsRight given.plan is (asks.Apply i) (Refused e))
 right-input given is i = at (verdict (replay given.plan is) i) refl
   where
     at : (found : Option Refusal) → verdict (replay given.plan is) i ≡ found → IsRight given.plan is (asks.Apply i) Took ⊎ ((e : Refusal) × IsRight given.plan is (asks.Apply i) (Refused e))
     at None e = inl e
     at (Some x) e = inr (x, as-refusal (verdict (replay given.plan is) i) x (never-memory (replay given.plan is) i) e)
 
-pub some-steps : (given : Given) (n : ℕ) (is : List Input) → (text : List ℕ) × (left : List Input) × Steps given is n text left
+pub some-steps : (given : Setup) (n : ℕ) (is : List Input) → (text : List ℕ) × (left : List Input) × Steps given is n text left
 some-steps given zero is = ([], is, (refl, refl))
 some-steps given (suc n) is = elim (right-input given is (next_tick given is)) [
   | inl took ↦
@@ -43,39 +43,39 @@ some-steps given (suc n) is = elim (right-input given is (next_tick given is)) [
   | inr refused ↦ (_, is, inr (record { refusal = refused.0; right = refused.1; line = refl; left = refl }))
 ]
 
-asked : (given : Given) (is : List Input) (cmd : Cmd) (a : Answer) → IsRight given.plan is cmd a → (text : List ℕ) × (left : List Input) × Asked given is cmd text left
+asked : (given : Setup) (is : List Input) (cmd : Cmd) (a : Answer) → IsRight given.plan is cmd a → (text : List ℕ) × (left : List Input) × Asked given is cmd text left
 asked given is cmd a right = (_, _, record { answer = a; right = right; left = refl; line = refl })
 
-some-input : (given : Given) (is : List Input) (i : Input) → (text : List ℕ) × (left : List Input) × Asked given is (asks.Apply i) text left
+some-input : (given : Setup) (is : List Input) (i : Input) → (text : List ℕ) × (left : List Input) × Asked given is (asks.Apply i) text left
 some-input given is i = elim (right-input given is i) [
   | inl took ↦ asked given is (asks.Apply i) Took took
   | inr refused ↦ asked given is (asks.Apply i) (Refused refused.0) refused.1
 ]
 
-some-when : (given : Given) (is : List Input) (watch : Watch) → (text : List ℕ) × (left : List Input) × Asked given is (asks.When watch) text left
+some-when : (given : Setup) (is : List Input) (watch : Watch) → (text : List ℕ) × (left : List Input) × Asked given is (asks.When watch) text left
 some-when given is watch =
     let change : (t : Option ℕ) × TellsLastChange watch (run given.plan is) t = some-change watch (run given.plan is) in
     asked given is (asks.When watch) (Changed change.0) change.1
 
-some-back : (given : Given) (is : List Input) (n : ℕ) → (text : List ℕ) × (left : List Input) × Asked given is (asks.Back n) text left
+some-back : (given : Setup) (is : List Input) (n : ℕ) → (text : List ℕ) × (left : List Input) × Asked given is (asks.Back n) text left
 some-back given is n = at (nat_lt (replay given.plan is).now n) refl
   where
     at : (b : Bool) → nat_lt (replay given.plan is).now n ≡ b → (text : List ℕ) × (left : List Input) × Asked given is (asks.Back n) text left
     at true e = asked given is (asks.Back n) Nothing (search (rules, e))
     at false e = asked given is (asks.Back n) Moved (search (rules, e))
 
-some-seek : (given : Given) (is : List Input) (t : ℕ) → (text : List ℕ) × (left : List Input) × Asked given is (asks.Seek t) text left
+some-seek : (given : Setup) (is : List Input) (t : ℕ) → (text : List ℕ) × (left : List Input) × Asked given is (asks.Seek t) text left
 some-seek given is t = at (nat_lt (replay given.plan is).now t) refl
   where
     at : (b : Bool) → nat_lt (replay given.plan is).now t ≡ b → (text : List ℕ) × (left : List Input) × Asked given is (asks.Seek t) text left
     at true e = asked given is (asks.Seek t) Nothing (search (rules, e))
     at false e = asked given is (asks.Seek t) Moved (search (rules, e))
 
-some-undo : (given : Given) (is : List Input) → (text : List ℕ) × (left : List Input) × Asked given is asks.Undo text left
+some-undo : (given : Setup) (is : List Input) → (text : List ℕ) × (left : List Input) × Asked given is asks.Undo text left
 some-undo given [] = asked given [] asks.Undo Nothing refl
 some-undo given (i ∷ is) = asked given (i ∷ is) asks.Undo (Undone (kind_of i)) refl
 
-pub some-answer : (given : Given) (is : List Input) (c : Command) → (text : List ℕ) × (left : List Input) × Answers given is c text left
+pub some-answer : (given : Setup) (is : List Input) (c : Command) → (text : List ℕ) × (left : List Input) × Answers given is c text left
 some-answer given is (Step n) = some-steps given n is
 some-answer given is (Back n) = some-back given is n
 some-answer given is (Seek t) = some-seek given is t
@@ -93,18 +93,18 @@ some-answer given is (Preempt n on) = some-input given is (inputs.Switch n on)
 some-answer given is (Fault lamp) = some-input given is (inputs.Fault lamp)
 some-answer given is Reset = some-input given is inputs.Reset
 
-pub some-says : (given : Given) (r : Reading) (is : List Input) (Rest : List Input → List ℕ → Type 0) → ((new : List Input) → (t : List ℕ) × Rest new t) → (t : List ℕ) × Says given r is t Rest
+pub some-says : (given : Setup) (r : Reading) (is : List Input) (Rest : List Input → List ℕ → Type 0) → ((new : List Input) → (t : List ℕ) × Rest new t) → (t : List ℕ) × Says given r is t Rest
 some-says given Skip is Rest k = k is
 some-says given Bad is Rest k = (_, ((k is).0, refl, (k is).1))
 some-says given Leave is Rest k = ([], refl)
 some-says given (Do c) is Rest k = let a : (text : List ℕ) × (left : List Input) × Answers given is c text left = some-answer given is c in
     (a.0 ++ (k a.1).0, (a.0, (k a.1).0, a.1, a.2, refl, (k a.1).1))
 
-pub some-answered : (given : Given) (ls : List (List ℕ)) (is : List Input) → (t : List ℕ) × IsAnswered given is ls t
+pub some-answered : (given : Setup) (ls : List (List ℕ)) (is : List Input) → (t : List ℕ) × IsAnswered given is ls t
 some-answered given [] is = ([], refl)
 some-answered given (l ∷ ls) is = some-says given (reading l) is (λ new rest. IsAnswered given new ls rest) (λ new. some-answered given ls new)
 
-pub some-text : (given : Given) (is : List Input) (bytes : List ℕ) → (t : List ℕ) × IsText given is bytes t
+pub some-text : (given : Setup) (is : List Input) (bytes : List ℕ) → (t : List ℕ) × IsText given is bytes t
 some-text given is bytes = some-answered given (lines_of bytes) is
 
 -- ## Of a long line the first 202 bytes tell as much as all
@@ -145,7 +145,7 @@ pub reading-returned : (raw : List ℕ) → 202 ≤ length raw → reading (with
 reading-returned raw long = let more : length raw ≤ suc (length (without_return raw)) = length-without raw in reading-long (without_return raw) (omega (arith, more, long))
 
 -- where the first of these lines is long, another long line in its place is answered so as well
-cut-lines : (given : Given) (is : List Input) (l m : List ℕ) (ls : List (List ℕ)) (t : List ℕ) → 202 ≤ length l → 202 ≤ length m → IsAnswered given is (ended (l ∷ ls)) t → IsAnswered given is (ended (m ∷ ls)) t
+cut-lines : (given : Setup) (is : List Input) (l m : List ℕ) (ls : List (List ℕ)) (t : List ℕ) → 202 ≤ length l → 202 ≤ length m → IsAnswered given is (ended (l ∷ ls)) t → IsAnswered given is (ended (m ∷ ls)) t
 cut-lines given is l m [] t long too a =
     let was : reading l ≡ Bad = reading-long l (omega (arith, long)) in
     let now : reading m ≡ Bad = reading-long m (omega (arith, too)) in
@@ -155,7 +155,7 @@ cut-lines given is l m (k ∷ ks) t long too a =
     let now : reading (without_return m) ≡ Bad = reading-returned m too in
     subst (λ (r : Reading). Says given r is t (λ new rest. IsAnswered given new (ended (k ∷ ks)) rest)) (was ∙ sym now) a
 
-cut-first : (given : Given) (is : List Input) (h : List ℕ) (b : ℕ) (ls : List (List ℕ)) (t : List ℕ) → 202 ≤ length h → IsAnswered given is (ended (onto_line h ls)) t → IsAnswered given is (ended (onto_line h (onto_first b ls))) t
+cut-first : (given : Setup) (is : List Input) (h : List ℕ) (b : ℕ) (ls : List (List ℕ)) (t : List ℕ) → 202 ≤ length h → IsAnswered given is (ended (onto_line h ls)) t → IsAnswered given is (ended (onto_line h (onto_first b ls))) t
 unfolding onto_line
 cut-first given is h b [] t long a = cut-lines given is h (h ++ b ∷ []) [] t long (let e : length (h ++ b ∷ []) ≡ length h + 1 = length-append h (b ∷ []) in omega (arith, e, long)) a
 cut-first given is h b (l ∷ ls) t long a =
@@ -163,7 +163,7 @@ cut-first given is h b (l ∷ ls) t long a =
     (let e : length (h ++ l) ≡ length h + length l = length-append h l in omega (arith, e, long))
     (let e : length (h ++ b ∷ l) ≡ length h + suc (length l) = length-append h (b ∷ l) in omega (arith, e, long)) a
 
-pub text-cut : (given : Given) (is : List Input) (h : List ℕ) (b : ℕ) (more t : List ℕ) → HasNoFeed h → 202 ≤ length h → (b ≡ 10 → ⊥) → IsText given is (h ++ more) t → IsText given is (h ++ b ∷ more) t
+pub text-cut : (given : Setup) (is : List Input) (h : List ℕ) (b : ℕ) (more t : List ℕ) → HasNoFeed h → 202 ≤ length h → (b ≡ 10 → ⊥) → IsText given is (h ++ more) t → IsText given is (h ++ b ∷ more) t
 text-cut given is h b more t f long n x =
     let front : IsAnswered given is (ended (onto_line h (split more))) t = subst (λ (ls : List (List ℕ)). IsAnswered given is (ended ls) t) (split-front h more f) x in
     let next : split (b ∷ more) ≡ onto_first b (split more) = elim (eqb_tells b 10) [ inl z ↦ absurd (n z.1) | inr on ↦ rw on.0 refl ] in

@@ -25,7 +25,7 @@ use Rattle.tsb_log_text.specs.Logs.{row_at}
 use Rattle.tsb_text.specs.Written.{with_feed}
 
 -- what a session is given: the plan, and the rows of the log
-pub record Given : Type 0 where
+pub record Setup : Type 0 where
   pub plan : Plan
   pub log : List LogRow
 
@@ -103,37 +103,37 @@ told cmd (Changed tick) s = when_line tick
 -- Inputs are piled up, the newest first, and the state is that of their replay.
 
 -- a command that asks the bench once: it is answered by what tells a right answer
-pub record Asked (given : Given) (is : List Input) (cmd : Cmd) (text : List ℕ) (new : List Input) : Type 0 where
+pub record Asked (given : Setup) (is : List Input) (cmd : Cmd) (text : List ℕ) (new : List Input) : Type 0 where
   pub answer : Answer
   pub right : IsRight given.plan is cmd answer
   pub left : new ≡ remaining_after given.plan is cmd answer
   pub line : text ≡ with_feed (told cmd answer (replay given.plan new))
 
 -- the next tick, with the log's row
-abbrev pub next_tick : Given → List Input → Input
+abbrev pub next_tick : Setup → List Input → Input
 next_tick given is = inputs.Tick (row_at given.log ((replay given.plan is).now + 1))
 
 -- the tick is taken, and leaves these inputs; the display line after it, and then this
-pub record Ticked (given : Given) (is : List Input) (text rest : List ℕ) : Type 0 where
+pub record Ticked (given : Setup) (is : List Input) (text rest : List ℕ) : Type 0 where
   pub right : IsRight given.plan is (asks.Apply (next_tick given is)) Took
   pub line : text ≡ with_feed (display_line (replay given.plan (next_tick given is ∷ is))) ++ rest
 
 -- the tick is refused, and leaves all as it was. Out of memory the bench may refuse any tick.
-pub record Stopped (given : Given) (is : List Input) (text : List ℕ) (new : List Input) : Type 0 where
+pub record Stopped (given : Setup) (is : List Input) (text : List ℕ) (new : List Input) : Type 0 where
   pub refusal : Refusal
   pub right : IsRight given.plan is (asks.Apply (next_tick given is)) (Refused refusal)
   pub line : text ≡ with_feed (refused_line refusal)
   pub left : new ≡ is
 
 -- so many ticks, up to one that is refused
-abbrev pub Steps : Given → List Input → ℕ → List ℕ → List Input → Type 0
+abbrev pub Steps : Setup → List Input → ℕ → List ℕ → List Input → Type 0
 Steps given is zero text new = (text ≡ []) × (new ≡ is)
 Steps given is (suc n) text new =
     ((rest : List ℕ) × Ticked given is text rest × Steps given (next_tick given is ∷ is) n rest new)
     ⊎ Stopped given is text new
 
 -- the answer to a command where these inputs remain, and the inputs that remain then
-abbrev pub Answers : Given → List Input → Command → List ℕ → List Input → Type 0
+abbrev pub Answers : Setup → List Input → Command → List ℕ → List Input → Type 0
 Answers given is (Step n) text new = Steps given is n text new
 Answers given is Show text new = (text ≡ with_feed (display_line (replay given.plan is))) × (new ≡ is)
 -- it ends the session, which answers no line then

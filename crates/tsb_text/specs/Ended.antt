@@ -7,19 +7,19 @@ use Rattle.tsb_command_text.specs.Readings.{reading}
 use Rattle.tsb_lines.specs.Lines.{HasNoFeed, without_return}
 use Rattle.tsb_text.specs.declared.error.SessionError.{SessionError}
 use Rattle.tsb_text.specs.declared.error.SessionError.TheVariants.{Memory, Read, TooLarge}
-use Rattle.tsb_text.specs.Answers.{Given}
+use Rattle.tsb_text.specs.Answers.{Setup}
 use Rattle.tsb_text.specs.Text.{IsText}
 
 -- what may be said for these bytes and any more is this, and then what may be said for those held and the more
-pub record Carries (given : Given) (inputs : List Input) (bytes : List ℕ) (left : List Input) (held said : List ℕ) : Type 0 where
+pub record Carries (given : Setup) (inputs : List Input) (bytes : List ℕ) (left : List Input) (held said : List ℕ) : Type 0 where
   pub on : (more text : List ℕ) → IsText given left (held ++ more) text → IsText given inputs (bytes ++ more) (said ++ text)
 
 -- this is the text, whatever comes behind these bytes
-pub record IsWhole (given : Given) (inputs : List Input) (bytes said : List ℕ) : Type 0 where
+pub record IsWhole (given : Setup) (inputs : List Input) (bytes said : List ℕ) : Type 0 where
   pub all : (more : List ℕ) → IsText given inputs (bytes ++ more) said
 
 -- this begins a text, whatever comes behind these bytes
-pub record IsBegun (given : Given) (inputs : List Input) (bytes said : List ℕ) : Type 0 where
+pub record IsBegun (given : Setup) (inputs : List Input) (bytes said : List ℕ) : Type 0 where
   pub rest : (more : List ℕ) → (rest : List ℕ) × IsText given inputs (bytes ++ more) (said ++ rest)
 
 -- nothing stands behind the last line feed
@@ -39,7 +39,7 @@ pub record Quits (bytes : List ℕ) : Type 0 where
 -- how a session ended, after these bytes were read: it wrote a text of theirs, at the end of the input or where a line
 -- was `quit`, and then whatever comes behind; or after a fault a prefix of one, whatever comes behind them or at the
 -- end of the input. With no memory to begin with it has read nothing and written nothing.
-abbrev pub EndedSo : Result (Unit {0}) SessionError → Given → Option (List ℕ) → List ℕ → List ℕ → Type 0
+abbrev pub EndedSo : Result (Unit {0}) SessionError → Setup → Option (List ℕ) → List ℕ → List ℕ → Type 0
 EndedSo (Ok u) given left read written = (IsAtEnd left × IsText given [] read written) ⊎ (Quits read × IsWhole given [] read written)
 EndedSo (Err Memory) given left read written = (read ≡ []) × (written ≡ [])
 EndedSo (Err e) given left read written =
@@ -47,14 +47,14 @@ EndedSo (Err e) given left read written =
 
 -- all whole lines of these bytes were answered: whatever comes behind, a text is what was written, and then what may be
 -- said for an unfinished line and the bytes behind
-pub record AnswersWhole (given : Given) (bytes written : List ℕ) : Type 0 where
+pub record AnswersWhole (given : Setup) (bytes written : List ℕ) : Type 0 where
   pub left : List Input
   pub held : List ℕ
   pub unfinished : HasNoFeed held
   pub carries : Carries given [] bytes left held written
 
 -- the bytes that it read, and those that it wrote: no others went to the writer
-pub record Ended (result : Result (Unit {0}) SessionError) (given : Given) (input left old new : Option (List ℕ)) : Type 0 where
+pub record Ended (result : Result (Unit {0}) SessionError) (given : Setup) (input left old new : Option (List ℕ)) : Type 0 where
   pub read : List ℕ
   pub taken : Consumes input left read
   pub written : List ℕ

@@ -13,20 +13,20 @@ use Rattle.tsb_text.specs.declared.error.SessionError.TheVariants.{Write}
 use Rattle.tsb_text.specs.declared.error.WriteError.{WriteError}
 use Rattle.tsb_text.specs.declared.talk.Flow.{Flow}
 use Rattle.tsb_text.specs.declared.talk.Flow.TheVariants.{On, Over}
-use Rattle.tsb_text.specs.Answers.{Given, Steps}
+use Rattle.tsb_text.specs.Answers.{Setup, Steps}
 use Rattle.tsb_text.specs.Text.{Says, IsAnswered, IsText}
 use Rattle.tsb_text.specs.Ended.{Carries, IsWhole, IsBegun, EndsLine, Quits}
 use Rattle.tsb_text.specs.Written.{Wrote}
 
 -- a bench has come from power-up by these inputs, under what was given
-pub record Stands (given : Given) (log : List LogRow) (bench : Whole) (inputs : List Input) : Type 0 where
+pub record Stands (given : Setup) (log : List LogRow) (bench : Whole) (inputs : List Input) : Type 0 where
   pub same : given.log ≡ log
   pub follows : Follows given.plan bench inputs
 
 -- ## What was said of an answer
 
 -- all of an answer was said, and the bench goes on from the inputs that it leaves; or a fault came within it
-abbrev pub Done : Result (Unit {0}) WriteError → Given → List LogRow → Whole → (List ℕ → List Input → Type 0)
+abbrev pub Done : Result (Unit {0}) WriteError → Setup → List LogRow → Whole → (List ℕ → List Input → Type 0)
     → Option (List ℕ) → Option (List ℕ) → List ℕ → List ℕ → Type 0
 Done (Ok u) given log bench IsAnswer old new waited waits = (left : List Input)
     × Stands given log bench left × Wrote old new waited waits (λ text. IsAnswer text left)
@@ -34,28 +34,28 @@ Done (Err e) given log bench IsAnswer old new waited waits =
     Wrote old new waited waits (λ text. (rest : List ℕ) × (left : List Input) × IsAnswer (text ++ rest) left)
 
 -- so many ticks are answered by this, and then by what answers k ticks from these inputs on
-abbrev pub StepsOn : Given → List Input → ℕ → List Input → ℕ → List ℕ → Type 0
+abbrev pub StepsOn : Setup → List Input → ℕ → List Input → ℕ → List ℕ → Type 0
 StepsOn given inputs n now k said =
     (text : List ℕ) (last : List Input) → Steps given now k text last → Steps given inputs n (said ++ text) last
 
 -- ## What was said of a line
 
 -- this answers the line, and then what answers the lines behind it
-abbrev pub AnswersLine : Given → List Input → Reading → List Input → List ℕ → Type 0
+abbrev pub AnswersLine : Setup → List Input → Reading → List Input → List ℕ → Type 0
 AnswersLine given inputs reading left said = (lines : List (List ℕ)) (rest : List ℕ) → IsAnswered given left lines rest
     → Says given reading inputs (said ++ rest) (λ new text. IsAnswered given new lines text)
 
 -- this answers the line and all lines behind it
-abbrev pub AnswersAll : Given → List Input → Reading → List ℕ → Type 0
+abbrev pub AnswersAll : Setup → List Input → Reading → List ℕ → Type 0
 AnswersAll given inputs reading said = (lines : List (List ℕ)) → Says given reading inputs said (λ new text. IsAnswered given new lines text)
 
 -- this begins what answers the line and those behind it
-abbrev pub BeginsLine : Given → List Input → Reading → List ℕ → Type 0
+abbrev pub BeginsLine : Setup → List Input → Reading → List ℕ → Type 0
 BeginsLine given inputs reading said =
     (lines : List (List ℕ)) → (rest : List ℕ) × Says given reading inputs (said ++ rest) (λ new text. IsAnswered given new lines text)
 
 -- a line was answered: the session goes on, or the line ends it, or a fault came within
-abbrev pub Obeyed : Result Flow WriteError → Given → List Input → Reading → List LogRow → Whole
+abbrev pub Obeyed : Result Flow WriteError → Setup → List Input → Reading → List LogRow → Whole
     → Option (List ℕ) → Option (List ℕ) → List ℕ → List ℕ → Type 0
 Obeyed (Ok On) given inputs reading log bench old new waited waits = (left : List Input)
     × Stands given log bench left × Wrote old new waited waits (AnswersLine given inputs reading left)
@@ -82,7 +82,7 @@ HeldAfter (Ok Over) bytes held = Quits bytes
 HeldAfter (Err e) bytes held = Unit {0}
 
 -- bytes were taken: the session goes on with those held, or a line ended it, or a fault did
-abbrev pub Went : Result Flow WriteError → Given → List Input → List ℕ → List LogRow → Whole → List ℕ
+abbrev pub Went : Result Flow WriteError → Setup → List Input → List ℕ → List LogRow → Whole → List ℕ
     → Option (List ℕ) → Option (List ℕ) → List ℕ → List ℕ → Type 0
 Went (Ok On) given inputs bytes log bench held old new waited waits = (left : List Input)
     × Stands given log bench left × Wrote old new waited waits (Carries given inputs bytes left held)
@@ -90,7 +90,7 @@ Went (Ok Over) given inputs bytes log bench held old new waited waits = Wrote ol
 Went (Err e) given inputs bytes log bench held old new waited waits = Wrote old new waited waits (IsBegun given inputs bytes)
 
 -- at the end of the input the bytes held are the last line
-abbrev pub Finished : Result (Unit {0}) WriteError → Given → List Input → List ℕ → List ℕ → List ℕ → Type 0
+abbrev pub Finished : Result (Unit {0}) WriteError → Setup → List Input → List ℕ → List ℕ → List ℕ → Type 0
 Finished (Ok u) given inputs held waits said = (waits ≡ []) × IsText given inputs held said
 Finished (Err e) given inputs held waits said = (rest : List ℕ) × IsText given inputs held (said ++ rest)
 
@@ -102,7 +102,7 @@ as_session (Ok u) = Ok u
 as_session (Err e) = Err Write
 
 -- the bytes that were read so far, of which this many more may come, and what was said for them
-pub record Going (given : Given) (log : List LogRow) (bench : Whole) (held : List ℕ) (budget : ℕ) (input left old new : Option (List ℕ)) (waits : List ℕ) : Type 0 where
+pub record Going (given : Setup) (log : List LogRow) (bench : Whole) (held : List ℕ) (budget : ℕ) (input left old new : Option (List ℕ)) (waits : List ℕ) : Type 0 where
   pub inputs : List Input
   pub stands : Stands given log bench inputs
   pub read : List ℕ

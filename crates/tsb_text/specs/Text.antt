@@ -5,11 +5,11 @@ use Rattle.tsb_command_text.specs.declared.command.Reading.{Reading}
 use Rattle.tsb_command_text.specs.declared.command.Reading.TheVariants.{Skip, Bad, Leave, Do}
 use Rattle.tsb_command_text.specs.Readings.{reading}
 use Rattle.tsb_lines.specs.Lines.{lines_of}
-use Rattle.tsb_text.specs.Answers.{Given, Answers}
+use Rattle.tsb_text.specs.Answers.{Setup, Answers}
 use Rattle.tsb_text.specs.Written.{with_feed}
 
 -- what is answered to a line, where Rest says what may be to the lines behind it
-abbrev pub Says : Given → Reading → List Input → List ℕ → (List Input → List ℕ → Type 0) → Type 0
+abbrev pub Says : Setup → Reading → List Input → List ℕ → (List Input → List ℕ → Type 0) → Type 0
 Says given Skip inputs text Rest = Rest inputs text
 Says given Bad inputs text Rest = (rest : List ℕ) × (text ≡ with_feed (codes "bad command") ++ rest) × Rest inputs rest
 Says given Leave inputs text Rest = text ≡ []
@@ -17,10 +17,10 @@ Says given (Do c) inputs text Rest =
     (answer rest : List ℕ) × (new : List Input) × Answers given inputs c answer new × (text ≡ answer ++ rest) × Rest new rest
 
 -- a text that a session may write to these lines, where these inputs remain
-abbrev pub IsAnswered : Given → List Input → List (List ℕ) → List ℕ → Type 0
+abbrev pub IsAnswered : Setup → List Input → List (List ℕ) → List ℕ → Type 0
 IsAnswered given inputs [] text = text ≡ []
 IsAnswered given inputs (l ∷ ls) text = Says given (reading l) inputs text (λ new rest. IsAnswered given new ls rest)
 
 -- a text that a session may write to these bytes, where these inputs remain
-abbrev pub IsText : Given → List Input → List ℕ → List ℕ → Type 0
+abbrev pub IsText : Setup → List Input → List ℕ → List ℕ → Type 0
 IsText given inputs bytes text = IsAnswered given inputs (lines_of bytes) text

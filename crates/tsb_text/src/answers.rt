@@ -9,7 +9,7 @@ ghost use Rattle.tsb_step.specs.declared.inputs.Input.TheVariants.{Tick};
 ghost use Rattle.tsb_step.specs.Play.{Follows, IsRight};
 ghost use Rattle.tsb_bench.specs.Held.{whole};
 ghost use Rattle.tsb_log_text.specs.declared.log.LogRow.{LogRow};
-ghost use Rattle.tsb_text.specs.Answers.{Given, Answers, Asked, Steps, when_line};
+ghost use Rattle.tsb_text.specs.Answers.{Setup, Answers, Asked, Steps, when_line};
 ghost use Rattle.tsb_text.specs.Talk.{Stands, Done};
 ghost use Rattle.tsb_text.specs.Written.{Said, with_feed};
 
@@ -33,7 +33,7 @@ pub(crate) fn obey<W: Write>(
     pending: &mut Pending,
     writer: &mut W,
 ) -> Result<(), WriteError>
-    ensures { (given : Given) (inputs : List InputValue) → Stands given log.now (whole bench.old) inputs
+    ensures { (given : Setup) (inputs : List InputValue) → Stands given log.now (whole bench.old) inputs
         → Done result given log.now (whole bench.new) (Answers given inputs command) (W.contents writer.old) (W.contents writer.new) pending.old pending.new }
 {
     match command {
@@ -67,7 +67,7 @@ fn step<W: Write>(
     pending: &mut Pending,
     writer: &mut W,
 ) -> Result<(), WriteError>
-    ensures { (given : Given) (inputs : List InputValue) → Stands given log.now (whole bench.old) inputs
+    ensures { (given : Setup) (inputs : List InputValue) → Stands given log.now (whole bench.old) inputs
         → Done result given log.now (whole bench.new) (Steps given inputs ticks) (W.contents writer.old) (W.contents writer.new) pending.old pending.new }
 {
     for _i in 0..ticks {
@@ -108,7 +108,7 @@ fn apply<W: Write>(
     pending: &mut Pending,
     writer: &mut W,
 ) -> Result<(), WriteError>
-    ensures { (given : Given) (log : List LogRow) (inputs : List InputValue) → Stands given log (whole bench.old) inputs
+    ensures { (given : Setup) (log : List LogRow) (inputs : List InputValue) → Stands given log (whole bench.old) inputs
         → Done result given log (whole bench.new) (Asked given inputs (Apply input)) (W.contents writer.old) (W.contents writer.new) pending.old pending.new }
 {
     ask(bench, Ask::Apply(input), pending, writer)
@@ -121,7 +121,7 @@ fn ask<W: Write>(
     pending: &mut Pending,
     writer: &mut W,
 ) -> Result<(), WriteError>
-    ensures { (given : Given) (log : List LogRow) (inputs : List InputValue) → Stands given log (whole bench.old) inputs
+    ensures { (given : Setup) (log : List LogRow) (inputs : List InputValue) → Stands given log (whole bench.old) inputs
         → Done result given log (whole bench.new) (Asked given inputs command) (W.contents writer.old) (W.contents writer.new) pending.old pending.new }
 {
     match answer(bench, command) {

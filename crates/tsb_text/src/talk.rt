@@ -5,7 +5,7 @@ ghost use Rattle.tsb_lines.specs.Lines.{HasNoFeed};
 ghost use Rattle.tsb_objects.specs.Checked.{checked_plan};
 ghost use Rattle.tsb_step.specs.declared.inputs.Input.{Input};
 ghost use Rattle.tsb_bench.specs.Held.{whole};
-ghost use Rattle.tsb_text.specs.Answers.{Given};
+ghost use Rattle.tsb_text.specs.Answers.{Setup};
 ghost use Rattle.tsb_text.specs.Ended.{Ended};
 ghost use Rattle.tsb_text.specs.Talk.{Stands, Obeyed, Went, Finished, Holds, HeldAfter, as_session};
 ghost use Rattle.tsb_text.specs.declared.talk.Flow.TheVariants.{Over};
@@ -57,7 +57,7 @@ impl Talk {
         asked: Reading,
         writer: &mut W,
     ) -> Result<Flow, WriteError>
-        ensures obeyed { (given : Given) (inputs : List Input) → Stands given log.now (whole self.old.bench) inputs
+        ensures obeyed { (given : Setup) (inputs : List Input) → Stands given log.now (whole self.old.bench) inputs
             → Obeyed result given inputs asked log.now (whole self.new.bench) (W.contents writer.old) (W.contents writer.new) self.old.pending self.new.pending }
         ensures held { self.new.held ≡ self.old.held }
         ensures over { result ≡ Ok Over → asked ≡ Leave }
@@ -86,7 +86,7 @@ impl Talk {
     /// Takes one byte more.
     fn feed<W: Write>(&mut self, log: &Log, byte: u8, writer: &mut W) -> Result<Flow, WriteError>
         requires { HasNoFeed self.old.held.items }
-        ensures went { (given : Given) (inputs : List Input) → Stands given log.now (whole self.old.bench) inputs
+        ensures went { (given : Setup) (inputs : List Input) → Stands given log.now (whole self.old.bench) inputs
             → Went result given inputs (self.old.held.items ++ byte ∷ []) log.now (whole self.new.bench) self.new.held.items (W.contents writer.old) (W.contents writer.new) self.old.pending self.new.pending }
         ensures clean { HasNoFeed self.new.held.items }
         ensures holds { (bytes : List ℕ) → Holds bytes self.old.held.items → HeldAfter result (bytes ++ byte ∷ []) self.new.held.items }
@@ -110,7 +110,7 @@ impl Talk {
         writer: &mut W,
     ) -> Result<Flow, WriteError>
         requires { HasNoFeed self.old.held.items }
-        ensures went { (given : Given) (inputs : List Input) → Stands given log.now (whole self.old.bench) inputs
+        ensures went { (given : Setup) (inputs : List Input) → Stands given log.now (whole self.old.bench) inputs
             → Went result given inputs (self.old.held.items ++ bytes.now) log.now (whole self.new.bench) self.new.held.items (W.contents writer.old) (W.contents writer.new) self.old.pending self.new.pending }
         ensures clean { HasNoFeed self.new.held.items }
         ensures holds { (before : List ℕ) → Holds before self.old.held.items → HeldAfter result (before ++ bytes.now) self.new.held.items }
@@ -127,7 +127,7 @@ impl Talk {
     /// Answers what stands behind the last line feed, at the end of the input, and writes all that waits.
     fn finish<W: Write>(&mut self, log: &Log, writer: &mut W) -> Result<(), WriteError>
         requires { HasNoFeed self.old.held.items }
-        ensures { (given : Given) (inputs : List Input) → Stands given log.now (whole self.old.bench) inputs
+        ensures { (given : Setup) (inputs : List Input) → Stands given log.now (whole self.old.bench) inputs
             → Wrote (W.contents writer.old) (W.contents writer.new) self.old.pending self.new.pending (Finished result given inputs self.old.held.items self.new.pending) }
     {
         let asked = reading_of(&self.held);
@@ -157,7 +157,7 @@ impl Talk {
     ) -> Result<(), SessionError>
         requires held { self.old.held.items ≡ [] }
         requires waits { self.old.pending ≡ [] }
-        ensures { (given : Given) → Stands given log.now (whole self.old.bench) []
+        ensures { (given : Setup) → Stands given log.now (whole self.old.bench) []
             → Ended result given (R.remaining reader.old) (R.remaining reader.new) (W.contents writer.old) (W.contents writer.new) }
     {
         let mut chunk = [0; CHUNK];

@@ -14,7 +14,7 @@ use Rattle.tsb_transact.specs.declared.TheConstants.{CELLS}
 use Rattle.tsb_transact.specs.declared.desk_state.DeskState.{DeskState}
 use Rattle.tsb_transact.specs.declared.desk_state.DeskState.TheVariants.{Normal, Transaction, Verify, Done}
 use Rattle.tsb_transact.specs.declared.edit.Edit.{Edit}
-use Rattle.tsb_transact.specs.Desk.{Desk, IsSound}
+use Rattle.tsb_transact.specs.Desk.{Desk, IsSoundDesk}
 use Rattle.tsb_transact.specs.Cells.{IsBy, IsEditRow, IsBlankRow, desk_in, desk_cells, edit_cells, edit_in, owner_cell, state_cell, rule_cell, state_of, nth_rule, rules, place_of, id_at}
 use Rattle.tsb_transact.specs.Laws.{IsInRange}
 use Rattle.tsb_transact.specs.Rows.{IsRow}
@@ -312,4 +312,4 @@ module _ (d : Desk) (r : IsInRange d) where
   }
 
 pub states_are_read : (d : Desk) → IsInRange d → (desk_in (desk_cells d) ≡ d) × IsRow (desk_cells d)
-states_are_read d r = (read d r, record { by = table-by d r; sound = subst IsSound (sym (read d r)) r.sound })
+states_are_read d r = (read d r, record { by = table-by d r; sound = subst IsSoundDesk (sym (read d r)) r.sound })

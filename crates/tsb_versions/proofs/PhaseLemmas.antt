@@ -12,7 +12,7 @@ use Rattle.tsb_plan.specs.declared.object.Object.TheVariants.{UnitMax2}
 use Rattle.tsb_plan.specs.Plan.{Plan, maximum}
 use Rattle.tsb_phase.specs.declared.ending.Ending.{Ending}
 use Rattle.tsb_phase.specs.declared.ending.Ending.TheVariants.{MaxOut, GapOut}
-use Rattle.tsb_phase.specs.Phase.{Phase, Given, Moved, Held, as_read, held_of}
+use Rattle.tsb_phase.specs.Phase.{Phase, Given, Moved, GreenHeld, as_read, held_of}
 use Rattle.tsb_phase.specs.DynamicMaximum.{effective_maximum, maximum_in_use, stepped, running_maximum_after}
 use Rattle.tsb_phase.specs.Green.{waits_for, cars_waiting, reduction_timer, gap, initial, gap_has_expired, gapped_latch, is_gapped, is_by_gap}
 use Rattle.tsb_phase.specs.Pedestrian.{ended_by, walk_time, clearance_time, pedestrian_after, pedestrian_now}
@@ -62,7 +62,7 @@ cars_waiting-same plan hold given p narrow none =
     sum-same plan (λ q. if waits_for plan given p q then given.count q else 0) (λ q. if waits_for plan given p q then given.count q else 0) narrow
     (λ q in_it. refl) (λ q out. rw (none q out) refl)
 
-reduction_timer-same : (plan : Plan) (hold : ℕ → Bool) (given : Given) (p : ℕ) (held : Held) → IsNarrow plan →
+reduction_timer-same : (plan : Plan) (hold : ℕ → Bool) (given : Given) (p : ℕ) (held : GreenHeld) → IsNarrow plan →
     IsBeyondNarrow given.callable false →
     reduction_timer (widened plan) (wide_given hold given) p held ≡ reduction_timer plan given p held
 unfolding reduction_timer
@@ -77,19 +77,19 @@ initial-same : (plan : Plan) (p cars : ℕ) → initial (widened plan) p cars �
 unfolding initial
 initial-same plan p cars = refl
 
-gap_has_expired-same : (plan : Plan) (hold : ℕ → Bool) (given : Given) (p : ℕ) (held : Held) → IsNarrow plan →
+gap_has_expired-same : (plan : Plan) (hold : ℕ → Bool) (given : Given) (p : ℕ) (held : GreenHeld) → IsNarrow plan →
     IsBeyondNarrow given.callable false →
     gap_has_expired (widened plan) (wide_given hold given) p held ≡ gap_has_expired plan given p held
 gap_has_expired-same plan hold given p held narrow none =
     rw (reduction_timer-same plan hold given p held narrow none, gap-same plan p (reduction_timer plan given p held)) refl
 
-gapped_latch-same : (plan : Plan) (hold : ℕ → Bool) (given : Given) (p : ℕ) (held : Held) → IsNarrow plan →
+gapped_latch-same : (plan : Plan) (hold : ℕ → Bool) (given : Given) (p : ℕ) (held : GreenHeld) → IsNarrow plan →
     IsBeyondNarrow given.callable false →
     gapped_latch (widened plan) (wide_given hold given) p held ≡ gapped_latch plan given p held
 gapped_latch-same plan hold given p held narrow none =
     rw (gap_has_expired-same plan hold given p held narrow none, initial-same plan p (given.count p)) refl
 
-is_gapped-same : (plan : Plan) (hold : ℕ → Bool) (given : Given) (p : ℕ) (held : Held) → IsNarrow plan →
+is_gapped-same : (plan : Plan) (hold : ℕ → Bool) (given : Given) (p : ℕ) (held : GreenHeld) → IsNarrow plan →
     IsBeyondNarrow given.callable false →
     is_gapped (widened plan) (wide_given hold given) p held ≡ is_gapped plan given p held
 is_gapped-same plan hold given p held narrow none =

@@ -1,4 +1,4 @@
--- Both benches after a pile of inputs.
+-- Both benches after a list of inputs.
 use Rattle.std.proofs.Common.{◌≡◌, ◌≢◌, ◌↔◌, ℕ, ◌<◌, true, false, List, [], ◌∷◌, map, refl, arith, sym, ◌∙◌, true≢false, ap, ap₂, subst, inl, inr}
 use Rattle.std.proofs.Math.Path.{fun_ext}
 use Rattle.std.proofs.lemmas.Bool.{cases_Bool}

@@ -61,7 +61,7 @@ QuadIsWide = IsWideOf narrow_quad quad
 
 -- ## Runs
 
--- what is said of both benches after any pile of inputs within version 1's ranges
+-- what is said of both benches after any list of inputs within version 1's ranges
 abbrev pub OfBothBenches : (Plan → List Input → Plan → List Input → Type 0) → Type 0
 OfBothBenches fact = (narrow wide : Plan) (is : List Input) → IsNarrow narrow → SaysTheSame narrow wide → AreWithin is →
     fact narrow is wide (map widened_input is)

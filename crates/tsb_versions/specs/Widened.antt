@@ -91,7 +91,7 @@ widened_desk desk = record desk { edits = map widened_edit desk.edits }
 abbrev pub widened_state : State → State
 widened_state s = record s { plan = widened s.plan; desk = widened_desk s.desk }
 
--- each input of a pile is within version 1's ranges
+-- each input of a list is within version 1's ranges
 abbrev pub AreWithin : List Input → Type 0
 AreWithin [] = Unit {0}
 AreWithin (i ∷ is) = IsWithin i × AreWithin is

@@ -28,10 +28,10 @@ pub fn benches_show_the_same()
     ensures states { StatesAgree }
 {}
 
-/// Both benches refuse the same inputs, each for the same cause, and so they take the same piles of inputs.
+/// Both benches refuse the same inputs, each for the same cause, and so they take the same inputs.
 pub fn benches_take_the_same()
     ensures refusals { RefusalsAgree }
-    ensures piles { TakeTheSame }
+    ensures same { TakeTheSame }
 {}
 
 /// In the bench of 16 phases those beyond the eighth are not enabled, and stay as they were at power-up.

@@ -11,7 +11,7 @@ use Rattle.tsb_plan.specs.PlanOf.{put_refusal}
 use Rattle.tsb_plan.proofs.PlanLemmas.{same-parts, same-itself}
 use Rattle.tsb_plan.proofs.TableLemmas.{order-injective}
 use Rattle.tsb_transact.specs.declared.edit.Edit.{Edit}
-use Rattle.tsb_transact.specs.Desk.{Desk, IsSound, is_open, is_of, has_edit_of, with_edit}
+use Rattle.tsb_transact.specs.Desk.{Desk, IsSoundDesk, is_open, is_of, has_edit_of, with_edit}
 use Rattle.tsb_transact.specs.Calls.{has_no_room, with_set}
 
 -- ## Edits with one more
@@ -82,8 +82,8 @@ room-with id e es it few room =
 
 -- ## The desk
 
-pub sound-set : (id : ObjectId) (v : ℕ) (d : Desk) → IsSound d → is_some d.owner ≡ true → put_refusal id v ≡ None →
-    has_no_room id d.edits ≡ false → IsSound (with_set id v d)
+pub sound-set : (id : ObjectId) (v : ℕ) (d : Desk) → IsSoundDesk d → is_some d.owner ≡ true → put_refusal id v ≡ None →
+    has_no_room id d.edits ≡ false → IsSoundDesk (with_set id v d)
 sound-set id v d sound owned taken room =
     let e : Edit = record { id = id; value = v } in
     record {

@@ -16,7 +16,7 @@ use Rattle.tsb_plan.specs.Objects.{greatest}
 use Rattle.tsb_plan.specs.Plan.{Plan, maximum, dynamic_maximum_limit, dynamic_maximum_step}
 use Rattle.tsb_phase.specs.declared.ending.Ending.{Ending}
 use Rattle.tsb_phase.specs.declared.ending.Ending.TheVariants.{MaxOut, GapOut}
-use Rattle.tsb_phase.specs.Phase.{Phase, Given, Moved, Held, at_power_up, as_read, held_of, none_held}
+use Rattle.tsb_phase.specs.Phase.{Phase, Given, Moved, GreenHeld, at_power_up, as_read, held_of, none_held}
 use Rattle.tsb_phase.specs.DynamicMaximum.{is_dynamic, is_same, highest_maximum, effective_maximum, counts_endings, stepped}
 use Rattle.tsb_phase.specs.Green.{begins_reduction, begun, reduction_timer}
 use Rattle.tsb_phase.specs.Pedestrian.{pedestrian_now, pedestrian_timer_in}
@@ -83,7 +83,7 @@ part-on Walk PedestrianClear t on h = refl
 
 -- ## What a green keeps
 
-record HeldIn (now : ℕ) (h : Held) : Type 0 where
+record HeldIn (now : ℕ) (h : GreenHeld) : Type 0 where
   passage : IsWithin now h.passage
   conflict : IsWithin now h.conflict
   reduction : IsWithin now h.reduction

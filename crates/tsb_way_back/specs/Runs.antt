@@ -25,7 +25,7 @@ IsTyped (Fault lamp) = IsLamp lamp
 IsTyped (Begin station) = IsUpTo 4 station
 IsTyped i = Unit {0}
 
--- each input of a pile is
+-- each input of a list is
 abbrev pub AreTyped : List Input → Type 0
 AreTyped [] = Unit {0}
 AreTyped (i ∷ is) = IsTyped i × AreTyped is

@@ -13,7 +13,7 @@ use Rattle.tsb_plan.specs.Quad.{quad}
 use Rattle.tsb_plan.specs.Two.{two}
 use Rattle.tsb_phase.specs.declared.ending.Ending.{Ending}
 use Rattle.tsb_phase.specs.declared.ending.Ending.TheVariants.{MaxOut}
-use Rattle.tsb_phase.specs.Phase.{Phase, Given, Held, none_held, held_of}
+use Rattle.tsb_phase.specs.Phase.{Phase, Given, GreenHeld, none_held, held_of}
 use Rattle.tsb_phase.specs.Green.{conflict_timer, begins_reduction, cars_waiting, reduction_timer, gap, initial, initial_has_passed, gap_has_expired, gapped_latch, is_gapped, has_maxed_out, forced_latch}
 use Rattle.tsb_phase.specs.DynamicMaximum.{maximum_in_use, effective_maximum, stepped, running_maximum_after}
 use Rattle.tsb_phase.specs.Pedestrian.{pedestrian_now}
@@ -27,7 +27,7 @@ use Rattle.tsb_phase.proofs.Examples.MaximumExamples.{growing, green_since}
 
 -- ## The reduction timer is On only in ticks in which one of its causes stands
 
-abbrev pub momentary_reduction : Plan → Given → ℕ → Held → Timer
+abbrev pub momentary_reduction : Plan → Given → ℕ → GreenHeld → Timer
 momentary_reduction plan given p held =
     if given.conflict p && begins_reduction plan given p held then started held.reduction else Off
 
@@ -119,11 +119,11 @@ walks = refl
 
 -- ## The gapped latch stands when a commit has enabled simultaneous gap
 
-abbrev pub latch_of_itself : Plan → Given → ℕ → Held → Bool
+abbrev pub latch_of_itself : Plan → Given → ℕ → GreenHeld → Bool
 latch_of_itself plan given p held =
     given.conflict p && (held.gapped || (initial_has_passed plan given p held && gap_has_expired plan given p held))
 
-abbrev pub latched : Held
+abbrev pub latched : GreenHeld
 latched = record (held 80 Off (On 12) Off) { gapped = true }
 
 latch_falls : gapped_latch plan driven_on 1 latched ≡ false
@@ -154,7 +154,7 @@ to_its_gap = refl
 
 -- ## The maximum ends a green while a pattern runs
 
-abbrev pub maxed_out_in_pattern : Plan → Given → ℕ → Held → Bool
+abbrev pub maxed_out_in_pattern : Plan → Given → ℕ → GreenHeld → Bool
 maxed_out_in_pattern plan given p held = has_reached (conflict_timer given p held) (maximum plan p)
 
 no_maximum : has_maxed_out plan (record driven_on { runs = Some 1 }) 1 (held 300 Off (On 200) Off) None ≡ false

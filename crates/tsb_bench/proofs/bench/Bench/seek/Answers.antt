@@ -1,14 +1,14 @@
 use Rattle.std.proofs.Common.{◌≡◌, ◌∙◌, sym, ap, subst, rules, arith}
 use Rattle.tsb_past.proofs.PastLemmas.{sought-here, sought-least}
 use Rattle.tsb_step.specs.Past.{Whole, controller, sought, IsLeastBack}
-use Rattle.tsb_bench.specs.Held.{Held, state_of, whole, IsSound}
+use Rattle.tsb_bench.specs.Held.{Held, state_of, whole, HasSoundPast}
 use Rattle.tsb_bench.proofs.HeldLemmas.{GoesBack, goes-back}
 use Rattle.tsb_bench.proofs.bench.Bench.seek.Goals as goal
 
 back : (c : goal.After-undo) → GoesBack c.args.tick c.loop-self.self c.undo.new.self
 back c =
     goes-back c.args.tick c.loop-self.self c.undo.new.self c.undo.result
-    (subst (λ (h : Held). IsSound h.tick h.rows h.records) c.self-in-loop-self.view_is c.self-in-loop-self.invariant.1) c.loop-self.invariant.ahead
+    (subst (λ (h : Held). HasSoundPast h.tick h.rows h.records) c.self-in-loop-self.view_is c.self-in-loop-self.invariant.1) c.loop-self.invariant.ahead
     (λ e. c.loop-self-test.true (ap (λ (h : Held). h.tick) c.self-in-loop-self.view_is ∙ e)) c.undo.ensures.ok c.undo.ensures.nothing
 
 pub loop-self-smaller : goal.loop-self-smaller

@@ -3,7 +3,7 @@ use Rattle.tsb_history.specs.History.{Change}
 use Rattle.tsb_controller.specs.Whole.{All, all_in, all_put_back}
 use Rattle.tsb_step.specs.Past.{ticks_of, taken_back}
 use Rattle.tsb_bench.specs.Cabinet.{rows_of}
-use Rattle.tsb_bench.specs.Held.{Held, state_of, memory, IsHeld, IsSound}
+use Rattle.tsb_bench.specs.Held.{Held, state_of, memory, IsHeld, HasSoundPast}
 use Rattle.tsb_bench.proofs.HeldLemmas.{IsNewest, newest-is, sound-held}
 use Rattle.tsb_bench.proofs.RoomLemmas.{more-left}
 use Rattle.tsb_bench.proofs.bench.Bench.undo.Goals as goal
@@ -34,9 +34,9 @@ ticks-are c = c.ticks_of.ensures ∙ ap ticks_of c.kind-kind.ensures
 pub invariant_of-self : goal.invariant_of-self
 invariant_of-self c = (
   c.undo.ensures.shut,
-  subst (λ (t : ℕ). IsSound (c.self.inside.tick - t) (rows_of c.undo.new.self) c.pop.new.self.records) (sym (ticks-are c))
-      (subst (λ (a : All). IsSound (c.self.inside.tick - ticks_of c.in-Some.change.kind) a c.pop.new.self.records) (sym c.undo.ensures.rows)
-      (subst (λ (rs : List Change). IsSound (c.self.inside.tick - ticks_of c.in-Some.change.kind) (all_put_back (rows_of c.self.inside.cabinet) c.in-Some.change.entries) rs) (sym c.pop.ensures.rest)
+  subst (λ (t : ℕ). HasSoundPast (c.self.inside.tick - t) (rows_of c.undo.new.self) c.pop.new.self.records) (sym (ticks-are c))
+      (subst (λ (a : All). HasSoundPast (c.self.inside.tick - ticks_of c.in-Some.change.kind) a c.pop.new.self.records) (sym c.undo.ensures.rows)
+      (subst (λ (rs : List Change). HasSoundPast (c.self.inside.tick - ticks_of c.in-Some.change.kind) (all_put_back (rows_of c.self.inside.cabinet) c.in-Some.change.entries) rs) (sym c.pop.ensures.rest)
       (newest c).before)),
   c.undo.ensures.passing (c.self.inside.tick - c.ticks_of.result),
 )

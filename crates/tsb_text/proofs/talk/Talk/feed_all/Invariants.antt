@@ -2,14 +2,14 @@ use Rattle.std.proofs.Common.{◌++◌, take, List, ℕ}
 use Rattle.tsb_step.specs.declared.inputs.Input.{Input}
 use Rattle.tsb_bench.specs.Held.{whole}
 use Rattle.tsb_lines.specs.Lines.{HasNoFeed}
-use Rattle.tsb_text.specs.Answers.{Given}
+use Rattle.tsb_text.specs.Answers.{Setup}
 use Rattle.tsb_text.specs.Talk.{Stands, Holds}
 use Rattle.tsb_text.proofs.TalkLemmas.{Talking}
 use Rattle.tsb_text.proofs.talk.Talk.feed_all.Given as goal
 
 abbrev pub invariant-loop-byte : goal.invariant-loop-byte
 invariant-loop-byte g l = record {
-  talking : (given : Given) (is : List Input) → Stands given l.log (whole l.fn.self.bench) is
+  talking : (given : Setup) (is : List Input) → Stands given l.log (whole l.fn.self.bench) is
       → Talking given l.log is (l.fn.self.held.items ++ take l.byte-index l.bytes) (whole l.self.bench) l.self.held.items
       (g.W.Write.contents l.fn.writer) (g.W.Write.contents l.writer) l.fn.self.pending l.self.pending;
   clean : HasNoFeed l.self.held.items;
