@@ -1,3 +1,8 @@
 -- Computed mistakes that the laws of safety refuse, and runs that meet their premises.
 pub mod SafetyMistakes
 pub mod SafetyWitnesses
+pub mod PlanFits
+pub mod TickRuns
+pub mod CommitmentRuns
+pub mod CrossingRuns
+pub mod CoordinationRuns
