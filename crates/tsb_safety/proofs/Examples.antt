@@ -6,3 +6,4 @@ pub mod TickRuns
 pub mod CommitmentRuns
 pub mod CrossingRuns
 pub mod CoordinationRuns
+pub mod RunMistakes
