@@ -38,7 +38,7 @@ found_chosen plan s given r picked None p e h = is_called (by_calls plan s given
 found_chosen plan s given r picked (Some target) p e h =
     let both = by_target plan s given r picked target p h in is_wanted target e both.0 both.1
 
-want_chosen : (plan : Plan) (s : State) (given : Given) (r : Ring) (p : ℕ) → want_of plan s given r ≡ Some (Go p) → Chosen plan given r p
+pub want_chosen : (plan : Plan) (s : State) (given : Given) (r : Ring) (p : ℕ) → want_of plan s given r ≡ Some (Go p) → Chosen plan given r p
 unfolding want_of want
 want_chosen plan s given r p h =
     found_chosen plan s given r (picked_before plan s given r) given.target p refl

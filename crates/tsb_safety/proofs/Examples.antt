@@ -6,4 +6,5 @@ pub mod TickRuns
 pub mod CommitmentRuns
 pub mod CrossingRuns
 pub mod CoordinationRuns
+pub mod AllRedRuns
 pub mod RunMistakes

@@ -10,4 +10,6 @@ pub mod SideSoughtLemmas
 pub mod CrossingRingLemmas
 pub mod CrossingLemmas
 pub mod CoordinationLemmas
+pub mod AllRedRingLemmas
+pub mod AllRedLemmas
 pub mod Examples

@@ -22,7 +22,7 @@ use Rattle.tsb_step.proofs.GivenLemmas.{listed_is_phase, among-run}
 
 -- ## Lists
 
-none_first : (test : ℕ → Bool) (ps : List ℕ) (p : ℕ) → among p ps ≡ true → test p ≡ true → first test ps ≡ None → ⊥
+pub none_first : (test : ℕ → Bool) (ps : List ℕ) (p : ℕ) → among p ps ≡ true → test p ≡ true → first test ps ≡ None → ⊥
 none_first test [] p h k e = false≢true h
 none_first test (q ∷ qs) p h k e =
     elim (cases_Bool (test q)) [
@@ -33,19 +33,19 @@ none_first test (q ∷ qs) p h k e =
       ]
     ]
 
-record Found (test : ℕ → Bool) (ps : List ℕ) : Type 0 where
+pub record Found (test : ℕ → Bool) (ps : List ℕ) : Type 0 where
   pub one : ℕ
   pub listed : among one ps ≡ true
   pub passes : test one ≡ true
 
-some_found : (test : ℕ → Bool) (ps : List ℕ) → some_passes test ps ≡ true → Found test ps
+pub some_found : (test : ℕ → Bool) (ps : List ℕ) → some_passes test ps ≡ true → Found test ps
 some_found test ps h = go (first test ps) refl h
   where
     go : (o : Option ℕ) → first test ps ≡ o → is_some o ≡ true → Found test ps
     go None e k = absurd (false≢true k)
     go (Some q) e k = record { one = q; listed = first-among test ps q e; passes = first-passes test ps q e }
 
-found_some : (test : ℕ → Bool) (ps : List ℕ) (p : ℕ) → among p ps ≡ true → test p ≡ true → some_passes test ps ≡ true
+pub found_some : (test : ℕ → Bool) (ps : List ℕ) (p : ℕ) → among p ps ≡ true → test p ≡ true → some_passes test ps ≡ true
 found_some test ps p h k = go (first test ps) refl
   where
     go : (o : Option ℕ) → first test ps ≡ o → is_some o ≡ true

@@ -8,3 +8,5 @@ pub mod Commitments
 pub mod Crossings
 -- that coordinated greens end by their force-off, and that what is omitted is not served
 pub mod Coordination
+-- for how long all red lasts while some phase is wanted
+pub mod AllRed

@@ -2,6 +2,7 @@
 ghost use Rattle.tsb_safety.specs.Intergreens.{IntergreensHold, WalksAreCleared};
 ghost use Rattle.tsb_safety.specs.Commitments.{CommitmentsAreServed, EnabledAreServed};
 ghost use Rattle.tsb_safety.specs.Crossings.{CrossingsComplete};
+ghost use Rattle.tsb_safety.specs.AllRed.{AllRedEnds};
 ghost use Rattle.tsb_safety.specs.Coordination.{CoordinatedEndByForceOff, OmittedAreNotServed};
 
 /// Between the end of a green and the start of a phase that is not concurrent with its phase lies at least the yellow
@@ -38,4 +39,10 @@ pub fn coordinated_end_by_force_off()
 /// no ring commits to it anew.
 pub fn omitted_are_not_served()
     ensures { OmittedAreNotServed }
+{}
+
+/// All red ends: while a preempt in service has a phase to serve, or else some phase is callable, all red lasts for the
+/// largest red revert time and two ticks at most, whatever inputs come.
+pub fn all_red_ends()
+    ensures { AllRedEnds }
 {}
