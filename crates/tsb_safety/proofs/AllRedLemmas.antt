@@ -1,11 +1,11 @@
 -- All red ends: a run through all red, in which some phase is wanted in each tick, is short.
-use Rattle.std.proofs.Common.{◌≡◌, ℕ, ◌+◌, ◌<◌, ◌≤◌, ◌==◌, nat_le, Bool, true, false, not, ◌&&◌, ◌||◌, if◌then◌else◌, List, [], ◌∷◌, ◌++◌, Option, Some, None, is_some, refl, sym, ap, subst, inl, inr, ◌⊎◌, arith, ◌∙◌}
+use Rattle.std.proofs.Common.{◌≡◌, ℕ, ◌+◌, ◌<◌, ◌≤◌, ◌==◌, nat_le, Bool, true, false, not, ◌&&◌, ◌||◌, if◌then◌else◌, List, [], ◌∷◌, ◌++◌, Option, Some, None, is_some, option_map, refl, sym, ap, subst, inl, inr, ◌⊎◌, arith, ◌∙◌}
 use Rattle.std.proofs.lemmas.Bool.{cases_Bool, and_parts, eqb-true, eq-eqb, leb-true, true≢false, false≢true}
 use Rattle.std.proofs.lemmas.Bool.Decides.{nat_tests}
 use Rattle.tsb_types.specs.declared.interval.Interval.TheVariants.{Green}
 use Rattle.tsb_types.specs.declared.row.Row.{Row}
 use Rattle.tsb_types.specs.Intervals.{is_green, is_yellow, in_service}
-use Rattle.tsb_types.specs.Lists.{first, among}
+use Rattle.tsb_types.specs.Lists.{first, some_passes, among}
 use Rattle.tsb_plan.specs.Parts.{is_used}
 use Rattle.tsb_plan.specs.Plan.{Plan, phases, is_enabled, ring_of, red_revert, sequence}
 use Rattle.tsb_plan.specs.Running.{running, sequence_in_effect}
@@ -14,7 +14,8 @@ use Rattle.tsb_rules.specs.Rules.{first_broken}
 use Rattle.tsb_rules.proofs.ConsistentLemmas.{placed, first_lists, whole, used_lists}
 use Rattle.tsb_ring.specs.Rings as rings
 use Rattle.tsb_ring.specs.Rings.{Ring, Ring1, Ring2, number, in_ring, serving}
-use Rattle.tsb_ring.specs.Wants.{is_targeted}
+use Rattle.tsb_preempt.specs.Preempts.{wanted_by}
+use Rattle.tsb_preempt.specs.Service.{Service, stage_phases}
 use Rattle.tsb_ring.specs.Crossings.{target_side}
 use Rattle.tsb_ring.specs.Next.{starting, new_crossing, next as rings_next}
 use Rattle.tsb_ring.specs.Moves.{is_started}
@@ -23,24 +24,25 @@ use Rattle.tsb_ring.proofs.WaitLemmas.{first-passes}
 use Rattle.tsb_step.specs.declared.inputs.Input.{Input}
 use Rattle.tsb_step.specs.declared.inputs.Input.TheVariants.{Tick}
 use Rattle.tsb_step.specs.State.{State, interval}
-use Rattle.tsb_step.specs.Tick.{target, callable, rings_given, moves, reverted, yellow_done, next}
+use Rattle.tsb_step.specs.Tick.{new_service, service, callable, rings_given, moves, reverted, yellow_done, next}
 use Rattle.tsb_step.specs.Step.{step, kind_of}
 use Rattle.tsb_step.specs.Runs.{replay, AreTaken}
 use Rattle.tsb_step.specs.Past.{ticks_of}
 use Rattle.tsb_step.specs.Laws.{IsConsistent}
 use Rattle.tsb_step.specs.Good.{IsPatternNumber, IsGood}
 use Rattle.tsb_step.specs.TimeLaws.{held_for}
-use Rattle.tsb_step.proofs.GivenLemmas.{listed_is_phase, enabled_is_listed, symmetric, given}
+use Rattle.tsb_step.proofs.GivenLemmas.{listed_is_phase, enabled_is_listed, symmetric, new_in_stage, given}
 use Rattle.tsb_step.proofs.GoodLemmas.{good_run}
 use Rattle.tsb_step.proofs.StandLemmas.{rings_then}
 use Rattle.tsb_step.proofs.TellLemmas.{held_on}
 use Rattle.tsb_safety.specs.Stretches.{IsUntripped, largest}
-use Rattle.tsb_safety.specs.AllRed.{IsAllRed, HasBeenRed, is_wanted_by, is_wanted, HasBeenWanted}
+use Rattle.tsb_safety.specs.AllRed.{IsAllRed, HasBeenRed, is_wanted, HasBeenWanted, IsInRange}
 use Rattle.tsb_safety.proofs.StretchLemmas.{dark_now, one_later, IsSame, Goes, ticks, stays, goes, at_next}
 use Rattle.tsb_safety.proofs.EnabledLemmas.{callable_on}
 use Rattle.tsb_safety.proofs.ServedLemmas.{largest_now, largest_more, count_run, clipped_at, dark_of, reverts_later}
 use Rattle.tsb_safety.proofs.SideSoughtLemmas.{Found, some_found}
 use Rattle.tsb_safety.proofs.CrossingRingLemmas.{is_over}
+use Rattle.tsb_safety.proofs.PreemptPhaseLemmas.{in_range_run, Wants, wants_one}
 use Rattle.tsb_safety.proofs.AllRedRingLemmas.{IsServing, SomeWanted, by_target, by_calls, completes_now, starts_committed, started_by, Outcome, starts, enters, outcome}
 
 -- ## What the rings are given
@@ -82,7 +84,7 @@ idle_now s row r red = go (first test (phases s.plan)) refl
     go None e = e
     go (Some p) e = absurd (true≢false (sym (and_parts (in_ring s.plan r p) (in_service (interval s p)) (first-passes test (phases s.plan) p e)).1 ∙ red p))
 
-module _ (s : State) (row : Row) (good : IsGood s) (few : s.plan.phase_count ≤ 16) where
+module _ (s : State) (row : Row) (good : IsGood s) (few : s.plan.phase_count ≤ 16) (range : IsInRange s.plan) where
   listed_on : (p : ℕ) → is_enabled s.plan p ≡ true → IsListed s.plan p
   listed_on p on = enabled_is_listed s.plan good.plan p on
 
@@ -111,16 +113,17 @@ module _ (s : State) (row : Row) (good : IsGood s) (few : s.plan.phase_count ≤
   }
 
   wanted_now : is_wanted s (Tick row) ≡ true → SomeWanted s.plan (rings_given s row)
-  unfolding rings_given
-  wanted_now h = go (target s row) refl h
+  unfolding rings_given new_service
+  wanted_now h = go (new_service s row) refl
     where
-      go : (o : Option (ℕ → Bool)) → target s row ≡ o → is_wanted_by s row o ≡ true → SomeWanted s.plan (rings_given s row)
-      go None e k =
-          let q : Found (callable s row) (phases s.plan) = some_found (callable s row) (phases s.plan) k in
-          by_calls q.one e (clipped_at (callable s row) s.plan q.one few q.listed ∙ q.passes)
-      go (Some list) e k =
-          let q : Found (is_targeted s.plan list) (phases s.plan) = some_found (is_targeted s.plan list) (phases s.plan) k in
-          by_target list q.one e q.listed q.passes
+      go : (o : Option Service) → new_service s row ≡ o → SomeWanted s.plan (rings_given s row)
+      go None e =
+          let none : is_some (service s row) ≡ false = ap (λ (x : Option Service). is_some (option_map (λ y. y.preempt) x)) e in
+          let q : Found (callable s row) (phases s.plan) = some_found (callable s row) (phases s.plan) (rw none at h) in
+          by_calls q.one (ap (λ (x : Option Service). wanted_by s.plan x) e) (clipped_at (callable s row) s.plan q.one few q.listed ∙ q.passes)
+      go (Some x) e =
+          let w : Wants s.plan x = wants_one s.plan x good.plan.rules few range (new_in_stage s row good x e) in
+          by_target (stage_phases s.plan x.preempt x.stage) w.one (ap (λ (y : Option Service). wanted_by s.plan y) e) w.listed w.targeted
 
 -- ## A tick
 
@@ -129,7 +132,7 @@ pub data After (s : State) (row : Row) : Type 0 where
   fresh : is_some s.rings.crossing ≡ true → (step s (Tick row)).rings.crossing ≡ None → After s row
   crosses : (d : ℕ) (r : Ring) (c : ℕ) → (step s (Tick row)).rings.crossing ≡ Some d → (step s (Tick row)).rings.commitment r ≡ Some c → After s row
 
-module _ (s : State) (row : Row) (good : IsGood s) (few : s.plan.phase_count ≤ 16) (dark : s.trip ≡ None) (red : IsAllRed s) (still : IsAllRed (step s (Tick row))) (back : (p : ℕ) → reverted s p ≡ true) where
+module _ (s : State) (row : Row) (good : IsGood s) (few : s.plan.phase_count ≤ 16) (range : IsInRange s.plan) (dark : s.trip ≡ None) (red : IsAllRed s) (still : IsAllRed (step s (Tick row))) (back : (p : ℕ) → reverted s p ≡ true) where
   idle : (r : Ring) → serving s.plan (rings_given s row) r ≡ None
   idle r = idle_now s row r red
 
@@ -141,7 +144,7 @@ module _ (s : State) (row : Row) (good : IsGood s) (few : s.plan.phase_count ≤
       true≢false (sym (ap in_service green) ∙ still p)
 
   back_all : (r : Ring) (c : ℕ) → s.rings.commitment r ≡ Some c → (rings_given s row).reverted c ≡ true
-  back_all r c e = reverted_on s row good few back c (good.rings.owned r c e).1
+  back_all r c e = reverted_on s row good few range back c (good.rings.owned r c e).1
 
   -- no commitment outlasts it
   pub none_committed : (r : Ring) (c : ℕ) → s.rings.commitment r ≡ Some c → ⊥
@@ -173,7 +176,7 @@ module _ (s : State) (row : Row) (good : IsGood s) (few : s.plan.phase_count ≤
   begins_crossing : s.rings.crossing ≡ None → is_wanted s (Tick row) ≡ true → After s row
   unfolding rings_next new_crossing
   begins_crossing out wanted =
-      go (outcome s.plan s.rings (rings_given s row) idle out free (serving_now s row good few back) good.plan.rules told.pairwise (wanted_now s row good few wanted))
+      go (outcome s.plan s.rings (rings_given s row) idle out free (serving_now s row good few range back) good.plan.rules told.pairwise (wanted_now s row good few range wanted))
     where
       go : Outcome s.plan s.rings (rings_given s row) → After s row
       go (starts r p e) = absurd (none_starts r p e)
@@ -194,7 +197,7 @@ red_now : (plan : Plan) (is later : List Input) → HasBeenRed plan is later →
 red_now plan is [] h = h
 red_now plan is (i ∷ later) h = h.1
 
-module _ (plan : Plan) (base : List Input) (n : ℕ) (ok : IsConsistent plan) (few : plan.phase_count ≤ 16) where
+module _ (plan : Plan) (base : List Input) (n : ℕ) (ok : IsConsistent plan) (range : IsInRange plan) (few : plan.phase_count ≤ 16) where
   -- how far it has come: red reverts may not have passed; or no crossing is under way, and no ring is committed; or a crossing
   -- is under way that commits a ring
   data Progress (later : List Input) : Type 0 where
@@ -210,6 +213,9 @@ module _ (plan : Plan) (base : List Input) (n : ℕ) (ok : IsConsistent plan) (f
 
   few_now : (is : List Input) → (replay plan is).plan.phase_count ≤ 16
   few_now is = let same = count_run plan is in omega (arith, same, few)
+
+  range_now : (later : List Input) → AreTaken plan (later ++ base) → IsInRange (replay plan (later ++ base)).plan
+  range_now later taken = in_range_run plan (later ++ base) ok taken range
 
   held_red : (i : Input) (later : List Input) (p : ℕ) → IsAllRed (replay plan (later ++ base)) → IsAllRed (replay plan (i ∷ (later ++ base))) →
       held_for (λ s. not (is_green (interval s p) || is_yellow (interval s p))) plan (i ∷ (later ++ base))
@@ -274,18 +280,18 @@ module _ (plan : Plan) (base : List Input) (n : ℕ) (ok : IsConsistent plan) (f
       by long (crosses d r c e f) (early h) = crossing_now r c f (omega (arith, clock, h))
       by long (crosses d r c e f) (free_now k h) = crossing_now r c f (omega (arith, clock, h))
       by long (crosses d r c e f) (crossing_now x y k h) =
-          absurd (none_committed (replay plan (later ++ base)) row (good_run plan (later ++ base) ok taken) (few_now (later ++ base)) dark was now (back long) x y k)
+          absurd (none_committed (replay plan (later ++ base)) row (good_run plan (later ++ base) ok taken) (few_now (later ++ base)) (range_now later taken) dark was now (back long) x y k)
       by long (fresh u e) (early h) = free_now e (omega (arith, clock, h))
       by long (fresh u e) (free_now k h) = absurd (true≢false (sym u ∙ ap is_some k))
       by long (fresh u e) (crossing_now x y k h) =
-          absurd (none_committed (replay plan (later ++ base)) row (good_run plan (later ++ base) ok taken) (few_now (later ++ base)) dark was now (back long) x y k)
+          absurd (none_committed (replay plan (later ++ base)) row (good_run plan (later ++ base) ok taken) (few_now (later ++ base)) (range_now later taken) dark was now (back long) x y k)
 
       progress : (b : Bool) → nat_le (s.now + 1) ((replay plan base).now + n) ≡ b → Progress (Tick row ∷ later)
       progress true h = let soon : s.now + 1 ≤ (replay plan base).now + n = leb-true (s.now + 1) ((replay plan base).now + n) h in early (omega (arith, clock, soon))
       progress false h =
           let long : (replay plan base).now + n < (replay plan (later ++ base)).now + 1 = grind (arith, nat_tests, h) in
           by long
-          (after_it (replay plan (later ++ base)) row (good_run plan (later ++ base) ok taken) (few_now (later ++ base)) dark was now (back long) wanted)
+          (after_it (replay plan (later ++ base)) row (good_run plan (later ++ base) ok taken) (few_now (later ++ base)) (range_now later taken) dark was now (back long) wanted)
           stage.progress
 
   limit_before : (i : Input) (later : List Input) → ((p : ℕ) → largest (λ x. red_revert x p) plan base (i ∷ later) ≤ n) → (p : ℕ) →
@@ -318,14 +324,14 @@ module _ (plan : Plan) (base : List Input) (n : ℕ) (ok : IsConsistent plan) (f
       one_on i later taken (dark_now plan base later dark.0) red wanted (limit_before i later limit)
       (stage later taken.0 dark.0 red.0 wanted.0 (limit_before i later limit))
 
-pub all_red_ends : (plan : Plan) (base later : List Input) (n : ℕ) → IsConsistent plan → plan.phase_count ≤ 16 →
+pub all_red_ends : (plan : Plan) (base later : List Input) (n : ℕ) → IsConsistent plan → IsInRange plan → plan.phase_count ≤ 16 →
     AreTaken plan (later ++ base) → IsUntripped plan base later → HasBeenRed plan base later → HasBeenWanted plan base later →
     ((p : ℕ) → largest (λ x. red_revert x p) plan base later ≤ n) →
     (replay plan (later ++ base)).now ≤ (replay plan base).now + n + 2
-all_red_ends plan base later n ok few taken dark red wanted limit =
-    go (stage plan base n ok few later taken dark red wanted limit).progress
+all_red_ends plan base later n ok range few taken dark red wanted limit =
+    go (stage plan base n ok range few later taken dark red wanted limit).progress
   where
-    go : Progress plan base n ok few later → (replay plan (later ++ base)).now ≤ (replay plan base).now + n + 2
+    go : Progress plan base n ok range few later → (replay plan (later ++ base)).now ≤ (replay plan base).now + n + 2
     go (early h) = omega (arith, h)
     go (free_now e h) = omega (arith, h)
     go (crossing_now r c e h) = omega (arith, h)

@@ -10,6 +10,7 @@ pub mod SideSoughtLemmas
 pub mod CrossingRingLemmas
 pub mod CrossingLemmas
 pub mod CoordinationLemmas
+pub mod PreemptPhaseLemmas
 pub mod AllRedRingLemmas
 pub mod AllRedLemmas
 pub mod Examples

@@ -1,10 +1,11 @@
 -- A run from power-up that meets all premises of the law of all red, and a mistake that the law refuses.
-use Rattle.std.proofs.Common.{◌≡◌, ℕ, ◌+◌, ◌≤◌, Bool, true, false, ◌&&◌, List, [], ◌∷◌, ◌++◌, Option, Some, None, refl, sym, ap, inl, inr, arith, ◌∙◌}
+use Rattle.std.proofs.Common.{◌≡◌, ℕ, ◌+◌, ◌≤◌, Bool, true, false, ◌&&◌, List, [], ◌∷◌, ◌++◌, Option, Some, None, refl, sym, ap, ap₂, inl, inr, arith, ◌∙◌}
 use Rattle.std.proofs.lemmas.Bool.{cases_Bool, true≢false}
 use Rattle.tsb_types.specs.Intervals.{in_service}
 use Rattle.tsb_types.specs.Lists.{some_passes}
 use Rattle.tsb_types.specs.declared.interval.Interval.{Interval}
 use Rattle.tsb_types.specs.declared.interval.Interval.TheVariants.{Red, Green, Yellow, RedClear}
+use Rattle.tsb_plan.specs.declared.object.Object.{Object}
 use Rattle.tsb_plan.specs.declared.object.Object.TheVariants.{PhaseRedRevert, UnitRedRevert}
 use Rattle.tsb_plan.specs.Objects.{greatest}
 use Rattle.tsb_plan.specs.Plan.{Plan, phases, red_revert}
@@ -20,13 +21,15 @@ use Rattle.tsb_step.specs.Tick.{rings_given}
 use Rattle.tsb_step.specs.Runs.{replay, AreTaken}
 use Rattle.tsb_step.specs.Laws.{IsConsistent}
 use Rattle.tsb_step.specs.Good.{IsGood}
+use Rattle.tsb_step.specs.Tables.{greatest_for, greatest_of}
+use Rattle.tsb_step.proofs.PlaceLemmas.{same_greatest}
 use Rattle.tsb_step.proofs.ClearLemmas.{plan_stays}
 use Rattle.tsb_step.proofs.GoodLemmas.{good_run}
 use Rattle.tsb_step.proofs.Examples.Scenes.{opened, vehicle}
 use Rattle.tsb_safety.specs.Stretches.{IsUntripped, largest}
-use Rattle.tsb_safety.specs.AllRed.{IsAllRed, HasBeenRed, is_wanted, HasBeenWanted}
+use Rattle.tsb_safety.specs.AllRed.{IsAllRed, HasBeenRed, is_wanted, HasBeenWanted, IsInRange}
 use Rattle.tsb_safety.proofs.SideSoughtLemmas.{found_some}
-use Rattle.tsb_safety.proofs.Examples.CoordinationRuns.{omits, omits_fits, omits_count, omits_consistent}
+use Rattle.tsb_safety.proofs.Examples.CoordinationRuns.{omits, omits_fits, omits_count, omits_sides, omits_consistent}
 
 -- ## All red at power-up, and in the next tick a crossing to 3, which is called
 
@@ -62,6 +65,7 @@ begins = refl
 
 record AllRed (plan : Plan) (base later : List Input) (n : ℕ) : Type 0 where
   consistent : IsConsistent plan
+  range : IsInRange plan
   few : plan.phase_count ≤ 16
   taken : AreTaken plan (later ++ base)
   untripped : IsUntripped plan base later
@@ -69,9 +73,14 @@ record AllRed (plan : Plan) (base later : List Input) (n : ℕ) : Type 0 where
   wanted : HasBeenWanted plan base later
   limit : (p : ℕ) → largest (λ x. red_revert x p) plan base later ≤ n
 
+-- with 16 phases and 4 sides the greatest values are those of the table of objects
+same_greatest_of : (o : Object) → greatest_of omits o ≡ greatest o
+same_greatest_of o = ap₂ (λ (n d : ℕ). greatest_for n d o) omits_count omits_sides ∙ same_greatest o
+
 an_all_red : AllRed omits [] called 255
 an_all_red = record {
   consistent = omits_consistent;
+  range = λ o i. (let most : omits.value o i ≤ greatest o = omits_fits.bounded o i in let same = same_greatest_of o in omega (arith, most, same));
   few = (let count = omits_count in omega (arith, count));
   taken = taken;
   untripped = (refl, dark);

@@ -155,6 +155,10 @@ pub omits_count : omits.phase_count ≡ 16
 unfolding quad omits
 omits_count = refl
 
+pub omits_sides : omits.side_count ≡ 4
+unfolding quad omits
+omits_sides = refl
+
 omits_breaks_none : first_broken omits ≡ None
 unfolding opened omits
 omits_breaks_none = refl
