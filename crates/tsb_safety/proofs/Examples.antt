@@ -6,5 +6,6 @@ pub mod TickRuns
 pub mod CommitmentRuns
 pub mod CrossingRuns
 pub mod CoordinationRuns
+pub mod ClearanceRuns
 pub mod AllRedRuns
 pub mod RunMistakes

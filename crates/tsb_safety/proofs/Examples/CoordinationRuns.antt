@@ -32,7 +32,7 @@ use Rattle.tsb_safety.proofs.Examples.TickRuns.{dark_after}
 abbrev early_values : List (Object × ℕ × ℕ)
 early_values = (PhaseYellowChange, 2, 38) ∷ (PhaseYellowChange, 6, 38) ∷ (PatternOffsetTime, 1, 5) ∷ (PhaseMinimumGreen, 2, 0) ∷ []
 
-unfoldable early : Plan
+unfoldable pub early : Plan
 early = with_values quad early_values
 
 early_fits : Fits greatest early.value
@@ -47,13 +47,13 @@ early_breaks_none : first_broken early ≡ None
 unfolding opened early
 early_breaks_none = refl
 
-early_consistent : IsConsistent early
+pub early_consistent : IsConsistent early
 early_consistent = consistent greatest early early_count early_breaks_none early_fits
 
-abbrev selected : List Input
+abbrev pub selected : List Input
 selected = Tick all_off ∷ Pattern 1 ∷ []
 
-selected_taken : AreTaken early selected
+pub selected_taken : AreTaken early selected
 unfolding opened early
 selected_taken = ((tt, refl), refl)
 
@@ -61,7 +61,7 @@ selected_dark : (replay early selected).trip ≡ None
 unfolding opened early
 selected_dark = refl
 
-selected_unlit : is_unlit early selected ≡ true
+pub selected_unlit : is_unlit early selected ≡ true
 selected_unlit = refl
 
 was_green : interval (replay early selected) 2 ≡ Green
@@ -106,10 +106,10 @@ a_coordination = record {
 
 -- ## The same green clears in time, and at local 0
 
-abbrev now : State
+abbrev pub now : State
 now = replay early selected
 
-is_on : is_enabled now.plan 2 ≡ true
+pub is_on : is_enabled now.plan 2 ≡ true
 unfolding opened early
 is_on = refl
 
@@ -117,15 +117,15 @@ is_ended_now : is_ended (moves now (vehicle 1)) 2 ≡ true
 unfolding opened early
 is_ended_now = refl
 
-clears_in_48 : clearance now.plan 2 ≡ 48
+pub clears_in_48 : clearance now.plan 2 ≡ 48
 unfolding opened early
 clears_in_48 = refl
 
-ticked_1 : now.now ≡ 1
+pub ticked_1 : now.now ≡ 1
 unfolding opened early
 ticked_1 = refl
 
-ends_now : EndsNow (replay early selected) (λ k. vehicle 1) 2
+pub ends_now : EndsNow (replay early selected) (λ k. vehicle 1) 2
 ends_now = record {
   enabled = is_on;
   ends = is_ended_now;

@@ -53,6 +53,11 @@ module _ (plan : Plan) (row : Row) (is : List Input) where
       same_max (time (replay plan (ticks row (suc n) ++ is)).plan) (largest time plan is (ticks row n)) (time (replay plan is).plan) (ap time (plan_then (suc n)))
       (largest_then time n)
 
+  -- the same ticks with rows by their number
+  pub after_same : (n : ℕ) → after_ticks (replay plan is) (λ k. row) n ≡ replay plan (ticks row n ++ is)
+  after_same zero = refl
+  after_same (suc n) = ap (λ (s : State). step s (Tick row)) (after_same n)
+
   pub all_taken : (n : ℕ) → AreTaken plan is → (replay plan is).now + n ≤ 1000 → AreTaken plan (ticks row n ++ is)
   all_taken zero taken few = taken
   all_taken (suc n) taken few = (
@@ -73,13 +78,8 @@ module _ (plan : Plan) (row : Row) (is : List Input) where
     none_trips zero few = dark_then 0 few
     none_trips (suc n) few = (none_trips n (omega (arith, few)), dark_then (suc n) few)
 
-    -- the same ticks with rows by their number
     pub dark_after : (n : ℕ) → (replay plan is).now + n ≤ 1000 → (after_ticks (replay plan is) (λ k. row) n).trip ≡ None
-    dark_after n few = ap (λ (s : State). s.trip) (same n) ∙ dark_then n few
-      where
-        same : (n : ℕ) → after_ticks (replay plan is) (λ k. row) n ≡ replay plan (ticks row n ++ is)
-        same zero = refl
-        same (suc n) = ap (λ (s : State). step s (Tick row)) (same n)
+    dark_after n few = ap (λ (s : State). s.trip) (after_same n) ∙ dark_then n few
 
 -- where the run before them ends in `mid`, too
 pub none_trips_since : (plan : Plan) (row : Row) (is mid : List Input) (n : ℕ) → IsConsistent plan → AreTaken plan (mid ++ is) →
