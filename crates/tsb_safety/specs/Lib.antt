@@ -10,3 +10,5 @@ pub mod Crossings
 pub mod Coordination
 -- for how long all red lasts while some phase is wanted
 pub mod AllRed
+-- within what time a preempt reaches its dwell: stated, not proved
+pub mod PreemptDwells
