@@ -24,7 +24,7 @@ from itertools import takewhile
 import stored_cases
 from mangled_texts import mangled
 from session_families import FAMILIES, brisk, odd_words
-from trip_families import tripped
+from trip_families import trips
 
 LONGEST_TOLD = 9000  # bytes of answers
 
@@ -182,7 +182,7 @@ def aimed_session(reference, seed):
 
 def tripped_session(reference, seed):
     """A session in which the monitor trips."""
-    plan, log, commands = tripped(reference, random.Random(f"tripped {seed}"), seed)
+    plan, log, commands = trips(reference, random.Random(f"tripped {seed}"), seed)
     return plan, log.encode(), "".join(command + "\n" for command in commands).encode()
 
 

@@ -21,6 +21,17 @@ MOMENTS = {
 }
 LISTS = ["preemptDwellPhase", "preemptTrackPhase", "preemptExitPhase"]
 DURING = ["in a transaction", "with edits that are verified", "in no transaction"]
+AT_A_TICK = {
+    "in a preempt's track, all red": lambda s: s.stage == "Track" and is_red(s),
+    "in a preempt's dwell, all red": lambda s: s.stage == "Dwell" and is_red(s),
+    "in a preempt's exit, all red": lambda s: s.stage == "Exit" and is_red(s),
+    "in a crossing, all red": lambda s: s.cross is not None and is_red(s),
+}
+
+
+def is_red(state):
+    """Whether no head of a phase shows green or yellow, so that a lamp of one conflicts with none yet."""
+    return not set("GY") & set(state.interval[1:])
 
 
 class Run:
@@ -85,7 +96,7 @@ def plan_of_stages(reference, rng):
 
 def come_to(run, rng, moment):
     """Brings a moment about, if it comes."""
-    holds = MOMENTS[moment]
+    holds = {**MOMENTS, **AT_A_TICK}[moment]
     if "pattern" in moment:
         run.do(f"pattern {rng.randint(1, 2)}")
     run.go_until(lambda s: False, rng.randint(1, 40))
@@ -112,10 +123,10 @@ def lamps_that_trip(run, rng, kind):
     return []
 
 
-def trip(run, rng):
-    """Lights lamps that trip the monitor."""
+def trip(run, rng, *first):
+    """Lights lamps that trip the monitor, in the first of these ways in which there are such."""
     kinds = ["at once", "behind another", "at a tick"]
-    for kind in rng.sample(kinds, len(kinds)):
+    for kind in [*first, *rng.sample(kinds, len(kinds))]:
         lamps = lamps_that_trip(run, rng, kind)
         if lamps:
             run.do(*(f"fault {lamp}" for lamp in lamps))
@@ -179,3 +190,78 @@ def tripped(reference, rng, turn):
     run.do("show", "when trip", "when stage", f"when interval {rng.randint(1, 8)}", f"when call {rng.randint(1, 8)}")
     way_back(run, rng)
     return plan, log, run.commands
+
+
+STRUCTURAL = [[("phaseConcurrency", 1, 32), ("phaseConcurrency", 5, 2)], [("overlapIncludedPhases", 4, 130)],
+              [("overlapIncludedPhases", 2, 0), ("phaseMaximum1", 2, 9)]]
+OF_LISTS = [[("preemptDwellPhase", 1, 34)], [("preemptDwellPhase", 2, 34)], [("preemptDwellPhase", 3, 34)],
+            [("preemptDwellPhase", 4, 34)], [("preemptExitPhase", 1, 0), ("preemptExitPhase", 2, 17)]]
+
+
+def undone(run, rng, most):
+    """Takes inputs back one by one with the display of each, to the very first if there are no more than this."""
+    for _ in range(min(len(run.session.inputs), most) + 1):
+        run.do("undo", "show")
+    run.do("when trip", "when stage", f"step {rng.randint(1, 40)}", "show", "seek 0", "show", "undo")
+
+
+def at_rest(reference, rng, turn):
+    """A trip while no phase is in service, at power-up or behind a reset: commits of the structure take effect."""
+    plan, station = plan_of_stages(reference, rng), rng.randint(1, 4)
+    run = Run(reference, plan, "")
+    if turn % 2:
+        come_to(run, rng, rng.choice(list(MOMENTS)))
+        trip(run, rng)
+        run.do("reset", "show")
+    first, second = rng.sample([rng.choice(STRUCTURAL), rng.choice(OF_LISTS), an_edit(rng)], 2)
+    run.do(*commit(station, first)[:rng.choice([-1, -2, -3])] if turn // 2 % 2 else [])
+    trip(run, rng, "behind another")
+    run.do("show", "when trip", *commit(station, first), "show", "pattern 1", f"preempt {rng.randint(1, 4)} on")
+    run.do(*commit(station % 4 + 1, second), f"step {rng.randint(1, 3)}", "undo", "show", "fault none", "show")
+    run.do(*commit(station, rng.choice(STRUCTURAL)), "reset", "show", f"step {rng.randint(1, 20)}")
+    undone(run, rng, 70)
+    return plan, "", run.commands
+
+
+def at_a_tick(reference, rng, turn):
+    """A lamp that conflicts with no phase yet, and trips the monitor at the tick at which the next phase starts."""
+    moment = list(AT_A_TICK)[turn % len(AT_A_TICK)]
+    plan, station = plan_of_stages(reference, rng), rng.randint(1, 4)
+    log = pulses(rng, range(1, 9), 300)
+    run, edits = Run(reference, plan, log), rng.choice([an_edit(rng), rng.choice(OF_LISTS)])
+    come_to(run, rng, moment)
+    run.do(*commit(station, edits)[:[-2, -3, 0][turn // len(AT_A_TICK) % 3]])
+    trip(run, rng, *["at a tick"] * 5)
+    run.do("show", "when trip", "when stage")
+    while_tripped(run, rng, station)
+    run.do("reset", "show", f"step {rng.randint(1, 20)}")
+    way_back(run, rng)
+    return plan, log, run.commands
+
+
+def refused_until_reset(reference, rng, turn):
+    """A commit that has to wait is refused while the monitor has tripped in service, and taken behind the reset."""
+    moment = list(MOMENTS)[turn % len(MOMENTS)]
+    plan, station = plan_of_stages(reference, rng), rng.randint(1, 4)
+    log = pulses(rng, range(1, 9), 300) if rng.random() < 0.5 else ""
+    run = Run(reference, plan, log)
+    come_to(run, rng, moment)
+    edits = rng.choice(OF_LISTS if "preempt" in moment and rng.random() < 0.5 else STRUCTURAL)
+    run.do(*commit(station, edits)[:-2])
+    trip(run, rng)
+    run.do("show", f"commit {station}", *rng.sample(["pattern 1", "preempt 1 off", "step 2", "fault none"], 2))
+    run.do(f"commit {station}", "reset", "show", f"commit {station}", "show", "when trip", f"step {rng.randint(1, 30)}")
+    way_back(run, rng)
+    return plan, log, run.commands
+
+
+# The sessions from this one on are of these families in turn. Those before are of the first, which came before them.
+FIRST_OF_LATER = 240
+LATER = [at_rest, at_a_tick, refused_until_reset]
+
+
+def trips(reference, rng, seed):
+    """The session of a seed."""
+    if seed < FIRST_OF_LATER:
+        return tripped(reference, rng, seed)
+    return LATER[seed % len(LATER)](reference, rng, seed // len(LATER))
