@@ -4,13 +4,15 @@
 Each run has its words, its input, and the exact bytes that it must write on standard output and on standard error, with
 the status that it must end with. Plans, logs and sessions, with what they are answered, are those of `examples/`; lines
 of faults are those of docs/MANUAL.md. The program runs in a folder that holds a copy of the examples and some files
-more, and that is taken away afterwards.
+more, and that is taken away afterwards. The last session goes through all 6,000,000 ticks that there are.
 """
+import itertools
 import pathlib
 import shutil
 import subprocess
 import sys
 import tempfile
+import threading
 
 EXAMPLES = pathlib.Path("examples")
 USAGE = b"usage: tsb check PLAN or tsb run PLAN LOG\n"
@@ -24,6 +26,13 @@ TWELVE = "zw\u00f6lf.json"
 # Each read of this one fails, also for root.
 TORN = "/proc/self/mem"
 ENDLESS, FULL = "/dev/zero", "/dev/full"
+
+TICKS = 6_000_000
+
+# What phases 2 and 4 of the built-in plan show from tick 1 on, again and again, and for how many ticks: 10 and 8 s of
+# green, 3 of yellow, 1 of red clearance.
+SHOWN = [("G", "R", 100), ("Y", "R", 30), ("R", "R", 10), ("R", "G", 80), ("R", "Y", 30), ("R", "R", 10)]
+CYCLE = [f"-{second}-{fourth}" for second, fourth, ticks in SHOWN for _ in range(ticks)]
 
 
 class Run:
@@ -121,6 +130,8 @@ def stream_runs():
     """Standard streams that fail, commands that are too long, and an input that ends in a line."""
     session = (EXAMPLES / "step_and_back.expected").read_bytes()
     too_long = b"step 1\nback 1\n".ljust(LONGEST_COMMANDS + 1, b"\n")
+    undos = LONGEST_COMMANDS // len(b"undo\n")
+    yield Run([], 0, b"nothing\n" * undos, b"", b"undo\n" * undos)
     for words in [[], ["run", "two.json", "empty.log"]]:
         yield Run(words, 0)
         yield Run(words, 0, session, b"", b"step 1\nback 1")
@@ -132,6 +143,42 @@ def stream_runs():
     yield Run(["what"], 2, stderr=FULL)
     yield Run(["check", "none.json"], 3, stderr=FULL)
     yield Run(["run", "two.json", "same_tick.log"], 1, stderr=FULL)
+
+
+def line(tick, heads):
+    """The display line of the built-in plan, with a line feed."""
+    return f"{tick} {heads}------------ {'-' * 16} ---- 0 ----\n"
+
+
+def all_lines():
+    """The answers of a session that steps through all ticks, and to what it asks behind them, in pieces."""
+    lines = "".join(line("%07d", heads) for heads in CYCLE)
+    for first in range(1, TICKS - len(CYCLE), len(CYCLE)):
+        yield (lines % tuple(range(first, first + len(CYCLE)))).encode()
+    rest = TICKS % len(CYCLE)
+    yield "".join(line(TICKS - rest + k + 1, CYCLE[k]) for k in range(rest)).encode()
+    last, change = line(TICKS, CYCLE[rest - 1]), TICKS - rest + CYCLE.index("-R-G") + 1
+    yield f"refused E11 TickLimit\n{last}tick {change}\nnever\n{line('0000000', '-R-R')}nothing\n".encode()
+
+
+def longest_session(program):
+    """What a session through all ticks answers otherwise: its answers are compared as they come."""
+    steps = b"step 1000000\n" * (TICKS // 1_000_000)
+    with subprocess.Popen([program], stdin=subprocess.PIPE, stdout=subprocess.PIPE) as session:
+        limit = threading.Timer(120, session.kill)
+        limit.start()
+        session.stdin.write(steps + b"step 1\nshow\nwhen interval 2\nwhen trip\nseek 0\nundo\n")
+        session.stdin.close()
+        for wanted in itertools.chain(all_lines(), [b""]):
+            answers = session.stdout.read(len(wanted) or 1)
+            if answers != wanted:
+                session.kill()
+                break
+        status = session.wait()
+        limit.cancel()
+    if answers != wanted:
+        return [f"all ticks: answers are {shown(answers)}, not {shown(wanted)}"]
+    return [f"all ticks: status is {status}, not 0"] if status else []
 
 
 def fill(folder):
@@ -161,7 +208,8 @@ def main(words):
         fill(folder)
         for run in runs:
             wrong += [f"{run.words} {run.places or ''}: {it}" for it in run.differences(program, folder)]
-    print("\n".join(wrong) if wrong else f"program: {len(runs)} runs as expected")
+    wrong += longest_session(program)
+    print("\n".join(wrong) if wrong else f"program: {len(runs) + 1} runs as expected")
     return 1 if wrong else 0
 
 
