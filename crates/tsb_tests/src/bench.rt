@@ -203,8 +203,8 @@ fn keeps_plans_that_break_a_rule_out(rt: HostRuntime) {
     assert_eq!(rt; *bench.plan(), Plan::two());
 }
 
-/// With ample memory no tick is refused up to the last one that there is, and all can be taken back. An unproved run
-/// by `rt try`, which watches each access, does not end in its time.
+/// With ample memory no tick is refused up to the last one that there is, the bench can be copied there, and all can be
+/// taken back. An unproved run by `rt try`, which watches each access, does not end in its time.
 #[test]
 fn runs_to_the_last_tick(rt: HostRuntime) {
     let Ok(plan) = Checked::new(Plan::two()) else {
@@ -222,6 +222,14 @@ fn runs_to_the_last_tick(rt: HostRuntime) {
     }
     assert_eq!(rt; bench.now(), Bench::TICKS);
     assert_eq!(rt; bench.apply(tick()), Err(Refusal::TickLimit));
+    let Ok(mut copy) = bench.clone_in(rt.alloc()) else {
+        assert!(rt; false);
+        return;
+    };
+    assert_eq!(rt; copy.now(), Bench::TICKS);
+    assert_eq!(rt; copy.apply(tick()), Err(Refusal::TickLimit));
+    assert_eq!(rt; copy.seek(0), Ok(()));
+    assert_eq!(rt; copy.undo(), Err(Nothing));
     assert_eq!(rt; bench.seek(0), Ok(()));
     assert_eq!(rt; bench.undo(), Err(Nothing));
 }

@@ -2,6 +2,8 @@
 #![tactic(auto)]
 
 #[cfg(test)]
+mod ample_memory;
+#[cfg(test)]
 mod bench;
 #[cfg(test)]
 mod cells;
@@ -9,6 +11,8 @@ mod cells;
 mod commands;
 #[cfg(test)]
 mod desk;
+#[cfg(test)]
+mod devices;
 #[cfg(test)]
 mod display_lines;
 #[cfg(test)]

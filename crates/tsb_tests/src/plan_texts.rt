@@ -163,6 +163,72 @@ fn a_text_of_the_limit_is_read(rt: HostRuntime) {
     assert_eq!(rt; larger.as_str(), "plan: too large");
 }
 
+/// A text of the limit is told its fault as a short one is.
+#[test]
+fn a_text_of_the_limit_is_judged(rt: HostRuntime) {
+    let wanted = [
+        ("", "plan: not JSON"),
+        ("what", "plan: not JSON"),
+        ("[]", "plan: not a table"),
+        ("{}", "plan: version"),
+        (r#"{"version":1}"#, "plan: rule K1"),
+        (
+            r#"{"version":1,"phaseWalk":{"2":256}}"#,
+            "plan: phaseWalk.2: out of range",
+        ),
+        (SHORT_YELLOW, "plan: rule K8"),
+    ];
+    for (text, line) in &wanted {
+        let given = answer_padded(rt.alloc(), text, LIMIT).expect(&rt, "memory");
+        assert_eq!(rt; given.as_str(), *line);
+    }
+}
+
+/// What reading a text answers that is `start`, so many times `piece`, then `end`, and then what stands behind the first
+/// brace of the built-in plan of two phases.
+fn answer_repeated(
+    alloc: Global,
+    start: &str,
+    piece: &str,
+    times: usize,
+    end: &str,
+) -> Result<String, AllocError> {
+    let mut text = String::from_str(alloc, start)?;
+    for _ in 0..times {
+        text.push_str(piece)?;
+    }
+    text.push_str(end)?;
+    text.push_str(TWO.strip_prefix('{').unwrap_or(TWO))?;
+    answer(alloc, text.as_str())
+}
+
+/// As many members, as many indices of one object, and as many numbers in a list as fit are read: all are beyond 65,536.
+#[test]
+fn many_members_are_read(rt: HostRuntime) {
+    let wanted = [
+        ("{", r#""version":2,"#, 87_000, "", "read"),
+        ("{", r#""a":[],"#, 140_000, "", "plan: a: no such object"),
+        (
+            r#"{"phaseWalk":{"#,
+            r#""2":1,"#,
+            170_000,
+            r#""2":0},"#,
+            "read",
+        ),
+        (
+            r#"{"phaseWalk":["#,
+            "0,",
+            500_000,
+            "0],",
+            "plan: phaseWalk: not a table",
+        ),
+    ];
+    for (start, piece, times, end, line) in &wanted {
+        let given = answer_repeated(rt.alloc(), start, piece, *times, end).expect(&rt, "memory");
+        assert_eq!(rt; given.as_str(), *line);
+    }
+}
+
 #[test]
 fn bytes_that_are_no_text_are_not_json(rt: HostRuntime) {
     let text = [b'"', 255, b'"'];

@@ -1,0 +1,275 @@
+//! Sessions whose reader or writer fails once, at each of its calls in turn, and would go on behind that.
+
+use std::alloc::Global;
+use std::io::{self, ErrorKind, Read, Write};
+use tsb_text::{Checked, Log, Plan, SessionError, session};
+
+const INPUT: &[u8] =
+    b"step 2\nshow\r\n\n# none\nback 1\nwhat\nundo\nundo\nundo\nbegin 1\npattern 3\nstep 3\nabort 1\nwhen interval 2\nshow";
+
+const OUTPUT: &[u8] = b"0000001 -G-R------------ ---------------- ---- 0 ----
+0000002 -G-R------------ ---------------- ---- 0 ----
+0000002 -G-R------------ ---------------- ---- 0 ----
+0000001 -G-R------------ ---------------- ---- 0 ----
+bad command
+undone tick
+nothing
+nothing
+ok
+refused E9 NoSuchPattern
+0000001 -G-R------------ ---------------- ---- 0 ----
+0000002 -G-R------------ ---------------- ---- 0 ----
+0000003 -G-R------------ ---------------- ---- 0 ----
+ok
+tick 0000001
+0000003 -G-R------------ ---------------- ---- 0 ----
+";
+
+/// What a call does in place of what was asked.
+#[derive(Clone, Copy)]
+enum Odd {
+    Fails(ErrorKind),
+    /// It gives or takes no byte.
+    IsIdle,
+}
+
+const FAILURES: [Odd; 4] = [
+    Odd::Fails(ErrorKind::Interrupted),
+    Odd::Fails(ErrorKind::WouldBlock),
+    Odd::Fails(ErrorKind::BrokenPipe),
+    Odd::Fails(ErrorKind::OutOfMemory),
+];
+
+/// How many calls there are before the odd one, or that it is behind.
+#[derive(Clone, Copy)]
+struct Count {
+    left: Option<usize>,
+    odd: Odd,
+}
+
+impl Count {
+    /// So many calls before the odd one.
+    fn of(calls: usize, odd: Odd) -> Count {
+        Count {
+            left: Some(calls),
+            odd,
+        }
+    }
+
+    /// None is odd.
+    fn none() -> Count {
+        Count {
+            left: None,
+            odd: Odd::IsIdle,
+        }
+    }
+
+    /// Counts a call, and tells what it does if it is the odd one.
+    fn next(&mut self) -> Option<Odd> {
+        match self.left {
+            None => None,
+            Some(0) => {
+                self.left = None;
+                Some(self.odd)
+            }
+            Some(calls) => {
+                self.left = Some(calls - 1);
+                None
+            }
+        }
+    }
+}
+
+/// Gives its bytes in pieces.
+#[derive(Drop)]
+struct Pieces<'a> {
+    left: &'a [u8],
+    piece: usize,
+    reads: Count,
+}
+
+impl Read for Pieces<'_> {
+    fn read(&mut self, buf: &mut [u8]) -> io::Result<usize> {
+        match self.reads.next() {
+            Some(Odd::Fails(kind)) => return Err(io::Error::from(kind)),
+            Some(Odd::IsIdle) => return Ok(0),
+            None => {}
+        }
+        let count = self.piece.min(buf.len()).min(self.left.len());
+        let (now, later) = self.left.split_at(count);
+        buf[..count].copy_from_slice(now);
+        self.left = later;
+        Ok(count)
+    }
+}
+
+/// Takes bytes in pieces, as far as they are those of `OUTPUT`.
+#[derive(Drop)]
+struct Taker {
+    taken: usize,
+    is_prefix: bool,
+    piece: usize,
+    writes: Count,
+    flushes: Count,
+}
+
+impl Taker {
+    /// One that takes so many bytes at a time.
+    fn of(piece: usize) -> Taker {
+        Taker {
+            taken: 0,
+            is_prefix: true,
+            piece,
+            writes: Count::none(),
+            flushes: Count::none(),
+        }
+    }
+}
+
+impl Write for Taker {
+    fn write(&mut self, buf: &[u8]) -> io::Result<usize> {
+        match self.writes.next() {
+            Some(Odd::Fails(kind)) => return Err(io::Error::from(kind)),
+            Some(Odd::IsIdle) => return Ok(0),
+            None => {}
+        }
+        let count = self.piece.min(buf.len());
+        let wanted = &OUTPUT[self.taken.min(OUTPUT.len())..];
+        self.is_prefix = self.is_prefix && wanted.starts_with(&buf[..count]);
+        self.taken = self.taken.saturating_add(count);
+        Ok(count)
+    }
+
+    fn flush(&mut self) -> io::Result<()> {
+        match self.flushes.next() {
+            Some(Odd::Fails(kind)) => Err(io::Error::from(kind)),
+            _ => Ok(()),
+        }
+    }
+}
+
+/// Runs a session with the built-in plan of two phases and an empty log.
+fn talk<R: Read, W: Write>(
+    alloc: Global,
+    reader: &mut R,
+    writer: &mut W,
+) -> Option<Result<(), SessionError>> {
+    let plan = Checked::new(Plan::two()).ok()?;
+    Some(session(alloc, plan, &Log::empty(alloc), reader, writer))
+}
+
+/// How many bytes of answers there are to these commands, if they are those that `OUTPUT` begins with.
+fn answered(alloc: Global, commands: &[u8]) -> Option<usize> {
+    let mut reader = commands;
+    let mut writer = Taker::of(usize::MAX);
+    match talk(alloc, &mut reader, &mut writer) {
+        Some(Ok(())) if writer.is_prefix => Some(writer.taken),
+        _ => None,
+    }
+}
+
+/// The whole lines among the first bytes of the commands.
+fn whole_lines(count: usize) -> &'static [u8] {
+    let mut end = 0;
+    for place in 0..count.min(INPUT.len()) {
+        if INPUT[place] == b'\n' {
+            end = place + 1;
+        }
+    }
+    &INPUT[..end.min(INPUT.len())]
+}
+
+/// A reader fails at each of its reads. All lines that were read until then are answered, and nothing is read behind it.
+#[test]
+fn a_read_that_fails_ends_a_session(rt: HostRuntime) {
+    for piece in [1, 7, 4096] {
+        for odd in FAILURES {
+            for calls in 0..=INPUT.len() {
+                let read = calls.saturating_mul(piece).min(INPUT.len());
+                let mut writer = Taker::of(usize::MAX);
+                let mut reader = Pieces {
+                    left: INPUT,
+                    piece,
+                    reads: Count::of(calls, odd),
+                };
+                let ended = talk(rt.alloc(), &mut reader, &mut writer);
+                if reader.reads.left.is_some() {
+                    assert!(rt; matches!(ended, Some(Ok(()))));
+                    break;
+                }
+                assert!(rt; matches!(ended, Some(Err(SessionError::Read))));
+                assert!(rt; writer.is_prefix);
+                assert_eq!(rt; Some(writer.taken), answered(rt.alloc(), whole_lines(read)));
+                assert_eq!(rt; reader.left.len(), INPUT.len() - read);
+            }
+        }
+    }
+}
+
+/// A reader gives no byte, at each of its reads: that is the end of the commands.
+#[test]
+fn a_read_of_nothing_is_the_end(rt: HostRuntime) {
+    for calls in 0..=INPUT.len() {
+        let mut writer = Taker::of(usize::MAX);
+        let mut reader = Pieces {
+            left: INPUT,
+            piece: 1,
+            reads: Count::of(calls, Odd::IsIdle),
+        };
+        let ended = talk(rt.alloc(), &mut reader, &mut writer);
+        assert!(rt; matches!(ended, Some(Ok(()))));
+        assert_eq!(rt; reader.left.len(), INPUT.len() - calls);
+    }
+}
+
+/// A writer fails or takes no byte, at each of its writes. What it took is a prefix of the answers.
+#[test]
+fn a_write_that_fails_ends_a_session(rt: HostRuntime) {
+    for piece in [1, 7, 4096] {
+        for odd in [
+            FAILURES[0],
+            FAILURES[1],
+            FAILURES[2],
+            FAILURES[3],
+            Odd::IsIdle,
+        ] {
+            for calls in 0..=OUTPUT.len() {
+                let mut writer = Taker::of(piece);
+                writer.writes = Count::of(calls, odd);
+                let mut reader = INPUT;
+                let ended = talk(rt.alloc(), &mut reader, &mut writer);
+                assert!(rt; writer.is_prefix);
+                if writer.writes.left.is_some() {
+                    assert!(rt; matches!(ended, Some(Ok(()))));
+                    assert_eq!(rt; writer.taken, OUTPUT.len());
+                    break;
+                }
+                assert!(rt; matches!(ended, Some(Err(SessionError::Write))));
+            }
+        }
+    }
+}
+
+/// A writer does not pass on what it took, at each of its flushes.
+#[test]
+fn a_flush_that_fails_ends_a_session(rt: HostRuntime) {
+    for odd in FAILURES {
+        for calls in 0..=2 * INPUT.len() {
+            let mut writer = Taker::of(usize::MAX);
+            writer.flushes = Count::of(calls, odd);
+            let mut reader = Pieces {
+                left: INPUT,
+                piece: 1,
+                reads: Count::none(),
+            };
+            let ended = talk(rt.alloc(), &mut reader, &mut writer);
+            assert!(rt; writer.is_prefix);
+            if writer.flushes.left.is_some() {
+                assert!(rt; matches!(ended, Some(Ok(()))));
+                assert_eq!(rt; writer.taken, OUTPUT.len());
+                break;
+            }
+            assert!(rt; matches!(ended, Some(Err(SessionError::Write))));
+        }
+    }
+}
