@@ -1,0 +1,68 @@
+//! The commands that are played.
+
+use std::alloc::{AllocError, Global};
+use tsb_bench::{Cmd, Input};
+use tsb_objects::{Lamp, Object, ObjectId, Phase, Row, SignalColor, Station, Watch};
+
+/// Inputs of every kind but ticks, none of them refused on the built-in plan of eight phases.
+fn inputs() -> [Input; 13] {
+    let (first, second) = (Station::of(1), Station::of(2));
+    let maximum = ObjectId {
+        object: Object::PhaseMaximum1,
+        index: 2,
+    };
+    [
+        Input::Pattern(1),
+        Input::Pattern(0),
+        Input::Switch(1, true),
+        Input::Switch(1, false),
+        Input::Fault(Some(Lamp::Phase(Phase::of(3), SignalColor::Green))),
+        Input::Reset,
+        Input::Fault(None),
+        Input::Begin(first),
+        Input::Set(first, maximum, 30),
+        Input::Verify(first),
+        Input::Commit(first),
+        Input::Begin(second),
+        Input::Abort(second),
+    ]
+}
+
+/// When phase 2 changed last, before 40 ticks are taken back and then, and one input more taken back.
+fn way_back() -> [Cmd; 4] {
+    [
+        Cmd::When(Watch::Interval(Phase::of(2))),
+        Cmd::Back(40),
+        Cmd::When(Watch::Interval(Phase::of(2))),
+        Cmd::Undo,
+    ]
+}
+
+/// Puts so many ticks behind the commands.
+fn put_ticks(commands: &mut Vec<Cmd>, ticks: usize) -> Result<(), AllocError> {
+    for _ in 0..ticks {
+        commands.push(Cmd::Apply(Input::Tick(Row::all_off())))?;
+    }
+    Ok(())
+}
+
+/// The commands without the one of this number, from 1 on, if there is one: ticks, the way back, and inputs of each kind
+/// thrice.
+pub fn commands(alloc: Global, left_out: u32) -> Result<Vec<Cmd>, AllocError> {
+    let mut commands = Vec::new(alloc);
+    put_ticks(&mut commands, 100)?;
+    for command in way_back() {
+        commands.push(command)?;
+    }
+    for _round in 0..3 {
+        put_ticks(&mut commands, 2)?;
+        for input in inputs() {
+            commands.push(Cmd::Apply(input))?;
+        }
+    }
+    let place = left_out as usize;
+    if 0 < place && place <= commands.len() {
+        let _ = commands.remove(place - 1);
+    }
+    Ok(commands)
+}
