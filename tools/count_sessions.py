@@ -22,6 +22,8 @@ def counting(bench, found):
         def apply(self, given):
             before = self.states[-1]
             refusal = super().apply(given)
+            if before.trip:
+                found[while_tripped(given, before, refusal)] += 1
             if refusal:
                 found["refusal " + " ".join(refusal.split(" ")[:2])] += 1
             else:
@@ -30,9 +32,11 @@ def counting(bench, found):
 
         def answer(self, command, out):
             found["command " + {"switch": "preempt"}.get(command[0], command[0])] += 1
-            size = len(out)
+            size, states = len(out), list(self.states)
             super().answer(command, out)
             count_answer(found, command, out[size:])
+            undone = states[len(self.states) - 1:]
+            found["trips taken back"] += sum(bool(y.trip and not x.trip) for x, y in zip(undone, undone[1:]))
 
     return Counting
 
@@ -44,13 +48,35 @@ def count_change(found, given, before, after):
     if given[0] == "verify" and after.rule:
         found[f"rule K{after.rule:02}"] += 1
     if given[0] == "commit":
-        changed = {name for (name, index), value in before.edits if before.plan[name][index] != value}
-        kind = "structural" if changed & before.lim.structural else "other" if changed else "unchanged"
-        found[f"commit {kind}"] += 1
+        found[f"commit {kind_of_commit(before)}"] += 1
     if after.trip and not before.trip:
-        found[f"trip {after.trip[1]} at a {'tick' if given[0] == 'tick' else 'fault'}"] += 1
+        cause = f"at a {'tick' if given[0] == 'tick' else 'fault'}"
+        found[f"trip {after.trip[1]} {cause}"] += 1
+        for place in places(before):
+            found[f"trip in {place} {cause}"] += 1
     if given[0] == "reset":
         found["reset of a tripped bench" if before.trip else "reset of another"] += 1
+
+
+def kind_of_commit(before):
+    """What the edits of a commit change."""
+    changed = {name for (name, index), value in before.edits if before.plan[name][index] != value}
+    return "structural" if changed & before.lim.structural else "other" if changed else "unchanged"
+
+
+def places(state):
+    """What goes on in a state."""
+    found = ["a crossing"] * (state.cross is not None) + ["a transaction"] * (state.owner is not None)
+    found += [f"the stage {state.stage}"] if state.service else []
+    return found or (["service"] if "G" in state.interval[1:] else ["no service"])
+
+
+def while_tripped(given, before, refusal):
+    """The name of an input that is given while the monitor has tripped."""
+    kind = {"switch": "preempt"}.get(given[0], given[0])
+    if refusal:
+        return f"tripped: {kind}, refused {refusal.split(' ')[0]}"
+    return f"tripped: {kind}" + (f" {kind_of_commit(before)}" if kind == "commit" else "")
 
 
 def count_tick(found, before, after):
