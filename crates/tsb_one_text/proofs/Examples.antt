@@ -1,0 +1,3 @@
+-- A session that meets the premises, and mistakes that the laws refuse.
+pub mod Witness
+pub mod Mistakes

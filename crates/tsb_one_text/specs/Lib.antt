@@ -1,0 +1,2 @@
+-- that a session has one text, but for memory
+pub mod Laws
