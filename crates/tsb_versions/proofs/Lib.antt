@@ -18,4 +18,5 @@ pub mod StepLemmas
 pub mod RefusalLemmas
 pub mod RunLemmas
 pub mod PutLemmas
+pub mod TextLemmas
 pub mod Examples

@@ -4,3 +4,5 @@ pub mod Widened
 pub mod BuiltIn
 -- that both benches show and refuse the same
 pub mod Laws
+-- plan texts of version 1, and the plans that they name and give
+pub mod Texts

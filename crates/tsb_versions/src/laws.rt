@@ -1,6 +1,7 @@
 //! What holds of the bench of 8 phases and 2 sides and of that of 16 and 4, each law the contract of a function that does
 //! nothing.
 ghost use Rattle.tsb_versions.specs.Laws.{BreakTheSameRule, CountersAgree, FieldsAgree, HeadsAgree, OthersRest, PutsMakeNarrowPlans, PutsMakeWidePlans, QuadIsWide, RefusalsAgree, StagesAgree, StatesAgree, TakeTheSame, TwoIsWide, WidePlansSayTheSame};
+ghost use Rattle.tsb_versions.specs.Texts.{NamedPlansBreakNoRule, ReadBenchesGoAlike, TextsGiveWidePlans, TextsNameNarrowPlans};
 
 /// The plan of 16 phases and 4 sides that says what a plan of version 1 says, at the translated indices, is the wide
 /// plan, and it breaks the same rule first, or none as well.
@@ -37,4 +38,14 @@ pub fn benches_take_the_same()
 /// In the bench of 16 phases those beyond the eighth are not enabled, and stay as they were at power-up.
 pub fn other_phases_rest()
     ensures { OthersRest }
+{}
+
+/// A plan text of version 1 that is read names a plan of version 1, and gives the wide plan that says the same. The plan
+/// that it names breaks no rule, and a bench of 8 phases and 2 sides would do with it what one of 16 and 4 does with the
+/// plan that is read.
+pub fn texts_of_version_1_are_wide()
+    ensures narrow { TextsNameNarrowPlans }
+    ensures wide { TextsGiveWidePlans }
+    ensures rules { NamedPlansBreakNoRule }
+    ensures alike { ReadBenchesGoAlike }
 {}
