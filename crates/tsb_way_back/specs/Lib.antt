@@ -4,3 +4,5 @@ pub mod Runs
 pub mod Timers
 -- the laws
 pub mod Laws
+-- the desk after every run
+pub mod Desk

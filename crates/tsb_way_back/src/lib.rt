@@ -6,4 +6,5 @@
 //! Each law is the contract of a function that does nothing.
 #![tactic(auto)]
 
+pub mod desk_laws;
 pub mod laws;
