@@ -1,4 +1,6 @@
 pub mod AnswerLemmas
 pub mod PartLemmas
 pub mod TextLemmas
+pub mod PlainLemmas
+pub mod ThereLemmas
 pub mod Examples

@@ -50,6 +50,16 @@ TextsPartAtMemory = OfTwoTexts AreEqualButForMemory
 abbrev pub OneText : Type 0
 OneText = OfTwoTexts (λ text other. tells_memory text ≡ false → tells_memory other ≡ false → text ≡ other)
 
+-- a text to these bytes that does not tell that memory ran out
+pub record Untold (given : Given) (inputs : List Input) (bytes : List ℕ) : Type 0 where
+  pub text : List ℕ
+  pub so : IsText given inputs bytes text
+  pub none : tells_memory text ≡ false
+
+-- There is one to all bytes, and so, by the law before, no other.
+abbrev pub SomeTextIsUntold : Type 0
+SomeTextIsUntold = (given : Given) (inputs : List Input) (bytes : List ℕ) → Untold given inputs bytes
+
 -- ## Sessions
 
 -- what `session` promises where it answers Ok, of a reader that has these bytes

@@ -1,4 +1,5 @@
 use Rattle.tsb_one_text.proofs.TextLemmas.{texts-part, one-text}
+use Rattle.tsb_one_text.proofs.ThereLemmas.{there-is}
 use Rattle.tsb_one_text.proofs.laws.texts_are_equal_but_for_memory.Goals as goal
 
 pub returns-clause-part : goal.returns-clause-part
@@ -6,3 +7,6 @@ returns-clause-part c = texts-part
 
 pub returns-clause-one : goal.returns-clause-one
 returns-clause-one c = one-text
+
+pub returns-clause-some : goal.returns-clause-some
+returns-clause-some c = there-is
