@@ -8,3 +8,5 @@ pub mod Places
 pub mod Steps
 -- what holds of logs, told without how they are read
 pub mod Laws
+-- the line that tells a fault
+pub mod FaultLines

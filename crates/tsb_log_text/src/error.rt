@@ -1,20 +1,35 @@
 //! Why a text is no log.
 
-use thiserror::Error;
+ghost use Rattle.std.specs.Prelude.{Some};
+ghost use Rattle.tsb_log_text.specs.FaultLines.{log_fault};
+
+use std::error::Error;
+use std::fmt;
 
 /// Why a text is no log. Lines count from 1, and those that are skipped count too.
-#[derive(Clone, Copy, Debug, Error, PartialEq, Eq)]
+#[derive(Clone, Copy, Debug, PartialEq, Eq)]
 pub enum LogError {
     /// Memory ran out. A fault of a line may stand behind it.
-    #[error("memory")]
     Memory,
     /// The text has over `LIMIT` bytes.
-    #[error("log: too large")]
     TooLarge,
     /// This line is the first with a fault: it is no row, or its tick is not 1 to 6,000,000.
-    #[error("log line {0}: malformed")]
     Malformed(u32),
     /// This line is the first with a fault: its tick is not above that of the row before it.
-    #[error("log line {0}: tick order")]
     TickOrder(u32),
 }
+
+impl fmt::Display for LogError {
+    ghost output = { λ fault. Some (log_fault fault) };
+
+    fn fmt<W: fmt::Write>(&self, f: &mut fmt::Formatter<W>) -> fmt::Result {
+        match self {
+            LogError::Memory => f.write_str("memory"),
+            LogError::TooLarge => f.write_str("log: too large"),
+            LogError::Malformed(line) => write!(f, "log line {line}: malformed"),
+            LogError::TickOrder(line) => write!(f, "log line {line}: tick order"),
+        }
+    }
+}
+
+impl Error for LogError {}

@@ -6,3 +6,5 @@ pub mod PlanText
 pub mod PlanTextSays
 -- how a rule is told
 pub mod RuleLines
+-- the line that tells a fault
+pub mod FaultLines
