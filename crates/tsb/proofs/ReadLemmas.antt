@@ -1,30 +1,51 @@
--- A text whose fault is told gives no plan and no log.
-use Rattle.std.proofs.Common.{◌≡◌, List, refl}
-use Rattle.std.specs.Prelude.{Result, Err}
+-- What reading a file comes to, by what its text gave, and what is told of it.
+use Rattle.std.proofs.Common.{ℕ, List, Option, inl, inr}
+use Rattle.std.specs.Prelude.{Result, Ok, Err, Some}
+use Rattle.tsb_objects.specs.declared.checked.Checked.{Checked}
+use Rattle.tsb_objects.specs.Checked.{checked_plan}
 use Rattle.tsb_plan.specs.Plan.{Plan}
 use Rattle.tsb_plan_text.specs.declared.error.PlanError.{PlanError}
 use Rattle.tsb_plan_text.specs.declared.error.PlanError.TheVariants as told
-use Rattle.tsb_plan_text.specs.PlanErrors.{Error, Tells}
+use Rattle.tsb_plan_text.specs.PlanErrors as plans
+use Rattle.tsb_plan_text.specs.PlanText.{reading}
 use Rattle.tsb_log_text.specs.declared.error.LogError.{LogError}
 use Rattle.tsb_log_text.specs.declared.error.LogError.TheVariants as logs
 use Rattle.tsb_log_text.specs.declared.log.LogRow.{LogRow}
-use Rattle.tsb_log_text.specs.Logs.{Gives}
+use Rattle.tsb_log_text.specs.FaultLines.{log_fault}
+use Rattle.tsb_log_text.specs.Logs.{Gives, log_of}
+use Rattle.tsb.specs.declared.files.FileError.TheVariants as files
+use Rattle.tsb.specs.declared.run.ReadError.{ReadError}
+use Rattle.tsb.specs.declared.run.ReadError.TheVariants as faults
+use Rattle.tsb.specs.Ends.{Stops}
+use Rattle.tsb.specs.Lines.{Refuses}
+use Rattle.tsb.specs.Read.{HasPlan, IsFront, LogRead, PlanRead, log_made, plan_made}
 
-pub told-fault : (e : PlanError) (read : Result Plan Error) → (e ≡ told.Memory → ⊥) → Tells e read → (fault : Error) × (read ≡ Err fault)
-told-fault told.Memory read other tells = absurd (other refl)
-told-fault told.TooLarge read other tells = (_, tells)
-told-fault told.NotJson read other tells = (_, tells)
-told-fault told.NotATable read other tells = (_, tells)
-told-fault told.Version read other tells = (_, tells)
-told-fault (told.NoSuchObject name) read other tells = (_, tells)
-told-fault (told.ObjectNotATable o) read other tells = (_, tells)
-told-fault (told.NoSuchIndex o index) read other tells = (_, tells)
-told-fault (told.NotAWholeNumber o index) read other tells = (_, tells)
-told-fault (told.OutOfRange o index) read other tells = (_, tells)
-told-fault (told.Rule r) read other tells = (_, tells)
+pub plan-read : (answer : Result Checked PlanError) (known : Option (List ℕ)) (text : List ℕ) → IsFront known 1048577 text
+    → plans.Gives checked_plan answer (reading text) → PlanRead (plan_made answer) known
+plan-read (Ok plan) known text front gives = (text, front, gives)
+plan-read (Err told.Memory) known text front gives = tt
+plan-read (Err told.TooLarge) known text front gives = (text, front, gives, λ is. cc)
+plan-read (Err told.NotJson) known text front gives = (text, front, gives, λ is. cc)
+plan-read (Err told.NotATable) known text front gives = (text, front, gives, λ is. cc)
+plan-read (Err told.Version) known text front gives = (text, front, gives, λ is. cc)
+plan-read (Err (told.NoSuchObject name)) known text front gives = (text, front, gives, λ is. cc)
+plan-read (Err (told.ObjectNotATable o)) known text front gives = (text, front, gives, λ is. cc)
+plan-read (Err (told.NoSuchIndex o index)) known text front gives = (text, front, gives, λ is. cc)
+plan-read (Err (told.NotAWholeNumber o index)) known text front gives = (text, front, gives, λ is. cc)
+plan-read (Err (told.OutOfRange o index)) known text front gives = (text, front, gives, λ is. cc)
+plan-read (Err (told.Rule r)) known text front gives = (text, front, gives, λ is. cc)
 
-pub log-fault : (e : LogError) (read : Result (List LogRow) LogError) → (e ≡ logs.Memory → ⊥) → Gives (Err e) read → (fault : LogError) × (read ≡ Err fault)
-log-fault logs.Memory read other tells = absurd (other refl)
-log-fault logs.TooLarge read other tells = (_, tells)
-log-fault (logs.Malformed n) read other tells = (_, tells)
-log-fault (logs.TickOrder n) read other tells = (_, tells)
+pub log-read : (answer : Result (List LogRow) LogError) (known : Option (List ℕ)) (text : List ℕ) → IsFront known 67108865 text
+    → Gives answer (log_of text) → LogRead (log_made answer) known
+log-read (Ok rows) known text front gives = (text, front, gives)
+log-read (Err logs.Memory) known text front gives = tt
+log-read (Err logs.TooLarge) known text front gives = (text, front, gives)
+log-read (Err (logs.Malformed n)) known text front gives = (text, front, gives)
+log-read (Err (logs.TickOrder n)) known text front gives = (text, front, gives)
+
+-- a log that is not had ends `run` where there is a plan
+pub stops-log : (fault : ReadError LogError) (found : Plan) (status : ℕ) (plan log told tells : Option (List ℕ)) → HasPlan plan found → LogRead (Err fault) log
+    → Refuses (λ (e : LogError). Some (log_fault e)) fault status told tells → Stops status plan log told tells
+stops-log (faults.Failed why) found status plan log old new has read fails = inr (inr (why, fails))
+stops-log (faults.Refused why) found status plan log old new has read (inl line) = inr (inl (line.0, found, has, why, read, line.1))
+stops-log (faults.Refused why) found status plan log old new has read (inr none) = inr (inr (files.Memory, none))

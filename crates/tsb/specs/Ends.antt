@@ -1,49 +1,75 @@
--- How the program ends, and what it has then written on its output.
-use Rattle.std.specs.Prelude.{◌≡◌, ◌⊎◌, ℕ, List, [], ◌∷◌, ◌++◌, IfSome, Option, Result, Ok, Err, codes}
+-- How the program ends, and what it has then written on its output and of faults.
+--
+-- Of each stream there are the bytes before and after: `input` and `left`, `old` and `new`, `told` and `tells`.
+use Rattle.std.specs.Prelude.{◌≡◌, ◌⊎◌, ℕ, List, [], Option, Result, Ok, Err, codes}
 use Rattle.std.specs.Io.KnownBytes.{Appends}
-use Rattle.tsb.specs.declared.asked.Asked.{Asked}
-use Rattle.tsb.specs.declared.asked.Asked.TheVariants as asks
-use Rattle.tsb.specs.declared.asked.WordsError.{WordsError}
-use Rattle.tsb_plan.specs.Two.{two}
-use Rattle.tsb_text.specs.declared.error.SessionError.{SessionError}
-use Rattle.tsb_text.specs.Answers.{Setup}
-use Rattle.tsb_text.specs.Ended.{Ended}
-use Rattle.tsb.specs.Read.{HasPlan, HasNoPlan, HasLog, HasNoLog}
-use Rattle.tsb.specs.Statuses.{after_session, after_words}
+use Rattle.tsb_words.specs.declared.Asked.{Asked}
+use Rattle.tsb_words.specs.declared.Asked.TheVariants as asks
+use Rattle.tsb_words.specs.declared.WordsError.{WordsError}
 use Rattle.tsb_plan.specs.Plan.{Plan}
+use Rattle.tsb_plan.specs.Two.{two}
+use Rattle.tsb_plan_text.specs.declared.error.PlanError.{PlanError}
+use Rattle.tsb_log_text.specs.declared.error.LogError.{LogError}
+use Rattle.tsb_text.specs.declared.error.SessionError.{SessionError}
+use Rattle.tsb_text.specs.declared.error.SessionError.TheVariants.{Write}
+use Rattle.tsb_text.specs.Answers.{Given}
+use Rattle.tsb_text.specs.Ended.{Ended}
+use Rattle.tsb.specs.Lines.{AppendsFront, Fails, FailsToRead, TellsWords, plan_line, log_line}
+use Rattle.tsb.specs.Read.{HasPlan, RefusesPlan, HasLog, RefusesLog}
 
--- how a check of the plan in a file ended: with 0 it wrote `plan ok` of a plan, with 1 the text gives none
-abbrev pub Checks : ℕ → Option (List ℕ) → Option (List ℕ) → Option (List ℕ) → Type 0
-Checks status file old new =
-    ((status ≡ 0) × (plan : Plan) × HasPlan file plan × Appends old new (codes "plan ok\n"))
-    ⊎ (((status ≡ 1) × HasNoPlan file)
-    ⊎ (status ≡ 3))
+-- what is found of the plan in a file: with 0 that its text gives one, with 1 the fault that it has
+abbrev pub Finds : Option (List ℕ) → ℕ → List ℕ → Type 0
+Finds file status line =
+    ((status ≡ 0) × (line ≡ codes "plan ok\n") × (plan : Plan) × HasPlan file plan)
+    ⊎ ((status ≡ 1) × (fault : PlanError) × (line ≡ plan_line fault) × RefusesPlan file fault)
 
--- a line was written and the program ends with the status wanted, or the write failed
-abbrev pub Judged : ℕ → ℕ → Option (List ℕ) → Option (List ℕ) → Option (List ℕ) → Type 0
-Judged status wanted text old new =
-    ((status ≡ wanted) × IfSome text (λ line. Appends old new (line ++ 10 ∷ []))) ⊎ (status ≡ 3)
+-- a line was written, nothing else was told, and the program ends with the status wanted; or the writer failed, which is
+-- told, with no more than the first bytes of the line written
+abbrev pub Judged : ℕ → ℕ → List ℕ → Option (List ℕ) → Option (List ℕ) → Option (List ℕ) → Option (List ℕ) → Type 0
+Judged status wanted line old new told tells =
+    ((status ≡ wanted) × Appends old new line × (tells ≡ told))
+    ⊎ (AppendsFront old new line × Fails Write status told tells)
 
--- a session on this plan and log ended with this status
-abbrev pub Talked : ℕ → Setup → Option (List ℕ) → Option (List ℕ) → Option (List ℕ) → Option (List ℕ) → Type 0
-Talked status given input left old new =
-    (result : Result (Unit {0}) SessionError) × (status ≡ after_session result) × Ended result given input left old new
+-- how a check of the plan in a file ended: what was found was written; or the file or memory failed, which is told, and
+-- nothing was written
+abbrev pub Checks : ℕ → Option (List ℕ) → Option (List ℕ) → Option (List ℕ) → Option (List ℕ) → Option (List ℕ) → Type 0
+Checks status file old new told tells =
+    ((wanted : ℕ) × (line : List ℕ) × Finds file wanted line × Judged status wanted line old new told tells)
+    ⊎ ((new ≡ old) × FailsToRead status told tells)
 
--- how `run` ended on the files of a plan and a log: after a session; or, with nothing written on output, with 1 because
--- one of them gives none, or with 3
-abbrev pub Ran : ℕ → Option (List ℕ) → Option (List ℕ) → Option (List ℕ) → Option (List ℕ) → Option (List ℕ) → Option (List ℕ) → Type 0
-Ran status plan log input left old new =
-    ((given : Setup) × HasPlan plan given.plan × HasLog log given.log × Talked status given input left old new)
-    ⊎ (((status ≡ 1) × (HasNoPlan plan ⊎ HasNoLog log) × (new ≡ old))
-    ⊎ ((status ≡ 3) × (new ≡ old)))
+-- a session ended well with 0 and nothing told, or by a fault, with 3 and its line
+abbrev pub EndsSo : Result (Unit {0}) SessionError → ℕ → Option (List ℕ) → Option (List ℕ) → Type 0
+EndsSo (Ok u) status told tells = (status ≡ 0) × (tells ≡ told)
+EndsSo (Err fault) status told tells = Fails fault status told tells
+
+-- a session on this plan and log ended so
+abbrev pub Talked : ℕ → Given → Option (List ℕ) → Option (List ℕ) → Option (List ℕ) → Option (List ℕ) → Option (List ℕ) → Option (List ℕ) → Type 0
+Talked status given input left old new told tells =
+    (result : Result (Unit {0}) SessionError) × Ended result given input left old new × EndsSo result status told tells
+
+-- there is no session: with 1 because the plan is refused, or because there is a plan and the log is refused, each told by
+-- its own line; or because a file or memory failed
+abbrev pub Stops : ℕ → Option (List ℕ) → Option (List ℕ) → Option (List ℕ) → Option (List ℕ) → Type 0
+Stops status plan log told tells =
+    ((status ≡ 1) × (fault : PlanError) × RefusesPlan plan fault × AppendsFront told tells (plan_line fault))
+    ⊎ (((status ≡ 1) × (found : Plan) × HasPlan plan found × (fault : LogError) × RefusesLog log fault × AppendsFront told tells (log_line fault))
+    ⊎ FailsToRead status told tells)
+
+-- how `run` ended on the files of a plan and a log: after a session, or with nothing read and nothing answered
+abbrev pub Ran : ℕ → Option (List ℕ) → Option (List ℕ) → Option (List ℕ) → Option (List ℕ) → Option (List ℕ) → Option (List ℕ) → Option (List ℕ) → Option (List ℕ) → Type 0
+Ran status plan log input left old new told tells =
+    ((given : Given) × HasPlan plan given.plan × HasLog log given.log × Talked status given input left old new told tells)
+    ⊎ ((left ≡ input) × (new ≡ old) × Stops status plan log told tells)
 
 -- how the built-in plan of two phases was run with an empty log
-abbrev pub RanBuiltIn : ℕ → Option (List ℕ) → Option (List ℕ) → Option (List ℕ) → Option (List ℕ) → Type 0
-RanBuiltIn status input left old new = Talked status (record { plan = two; log = [] }) input left old new
+abbrev pub RanBuiltIn : ℕ → Option (List ℕ) → Option (List ℕ) → Option (List ℕ) → Option (List ℕ) → Option (List ℕ) → Option (List ℕ) → Type 0
+RanBuiltIn status input left old new told tells =
+    Talked status (record { plan = two; log = [] }) input left old new told tells
 
 -- what was done for what the words ask, where files has the known bytes of each path
-abbrev pub Did : Result Asked WordsError → ℕ → (List ℕ → Option (List ℕ)) → Option (List ℕ) → Option (List ℕ) → Option (List ℕ) → Option (List ℕ) → Type 0
-Did (Ok (asks.Check plan)) status files input left old new = Checks status (files plan.now) old new
-Did (Ok (asks.Run plan log)) status files input left old new = Ran status (files plan.now) (files log.now) input left old new
-Did (Ok asks.BuiltIn) status files input left old new = RanBuiltIn status input left old new
-Did (Err fault) status files input left old new = (status ≡ after_words fault) × (new ≡ old)
+abbrev pub Did : Result Asked WordsError → ℕ → (List ℕ → Option (List ℕ)) → Option (List ℕ) → Option (List ℕ) → Option (List ℕ) → Option (List ℕ) → Option (List ℕ) → Option (List ℕ) → Type 0
+Did (Ok (asks.Check plan)) status files input left old new told tells = (left ≡ input) × Checks status (files plan.now) old new told tells
+Did (Ok (asks.Run plan log)) status files input left old new told tells =
+    Ran status (files plan.now) (files log.now) input left old new told tells
+Did (Ok asks.BuiltIn) status files input left old new told tells = RanBuiltIn status input left old new told tells
+Did (Err fault) status files input left old new told tells = (left ≡ input) × (new ≡ old) × TellsWords fault status told tells

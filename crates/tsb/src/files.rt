@@ -1,7 +1,8 @@
 //! Where files come from.
 
 ghost use Rattle.std.specs.Prelude.{◌≡◌, ℕ, List, Option, None, IfOk};
-ghost use Rattle.tsb.specs.Read.{IsFront};
+ghost use Rattle.std.specs.IoError.{error_kind};
+ghost use Rattle.tsb.specs.Read.{IsFront, file_fault};
 
 use std::alloc::Global;
 use std::fs::File;
@@ -44,6 +45,8 @@ pub enum FileError {
 }
 
 impl From<io::Error> for FileError {
+    ghost from_gives = { λ error fault. fault ≡ file_fault (error_kind error) };
+
     fn from(error: io::Error) -> FileError {
         match error.kind() {
             ErrorKind::OutOfMemory => FileError::Memory,

@@ -2,16 +2,14 @@
 //! alone runs one on the built-in plan of two phases with an empty log.
 #![tactic(auto)]
 
-mod asked;
 mod files;
 mod run;
 
-use crate::asked::WordsError;
 use crate::files::Disk;
 use crate::run::{run_words, tell_words_fault};
 use std::env;
-use std::io::ErrorKind;
 use std::process::ExitCode;
+use tsb_words::WordsError;
 
 fn main(rt: HostRuntime) -> ExitCode {
     let status = match words_given(&rt) {
@@ -28,19 +26,9 @@ fn main(rt: HostRuntime) -> ExitCode {
     ExitCode::from(status)
 }
 
-/// The words that the program was given, of which the first is its name. Those that are not UTF-8 are bad words.
+/// The words that the program was given, of which the first is its name.
 fn words_given(rt: &HostRuntime) -> Result<Vec<String>, WordsError> {
-    let mut words = Vec::new(rt.alloc());
-    match env::args(rt) {
-        Ok(args) => {
-            for word in args {
-                words.push(word).map_err(|_| WordsError::Memory)?;
-            }
-            Ok(words)
-        }
-        Err(error) if error.kind() == ErrorKind::OutOfMemory => Err(WordsError::Memory),
-        Err(_) => Err(WordsError::Bad),
-    }
+    Ok(env::args(rt)?.collect(rt.alloc())?)
 }
 
 #[cfg(test)]

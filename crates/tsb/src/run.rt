@@ -1,26 +1,26 @@
 //! What the program does for its words.
 
-ghost use Rattle.std.specs.Prelude.{◌≡◌, ◌++◌, ◌∷◌, [], IfSome, Result};
-ghost use Rattle.tsb.specs.declared.asked.Asked.{Asked};
-ghost use Rattle.tsb.specs.declared.asked.WordsError.{WordsError};
+ghost use Rattle.std.specs.Prelude.{◌≡◌, ◌++◌, ◌∷◌, [], IfOk, IfSome, OnOk, Result, map, string_bytes};
 ghost use Rattle.std.specs.Io.KnownBytes.{Appends};
+ghost use Rattle.tsb_words.specs.declared.Asked.{Asked};
+ghost use Rattle.tsb_words.specs.declared.WordsError.{WordsError};
+ghost use Rattle.tsb_words.specs.Words.{Spells};
 ghost use Rattle.tsb_objects.specs.Checked.{checked_plan};
-ghost use Rattle.tsb.specs.Statuses.{number, after_fault, after_words};
-ghost use Rattle.tsb.specs.Read.{PlanRead, LogRead};
+ghost use Rattle.tsb.specs.Lines.{AppendsFront, Fails, Refuses, TellsWords, failure_line, failure_of};
+ghost use Rattle.tsb.specs.Statuses.{number};
+ghost use Rattle.tsb.specs.Read.{PlanRead, LogRead, plan_made, log_made};
 ghost use Rattle.tsb.specs.Ends.{Checks, Judged, Ran, RanBuiltIn, Did, Talked};
 
-use crate::asked::{Asked, WordsError, read_words};
 use crate::files::{FileError, Files, read_file};
-use std::alloc::Global;
+use std::alloc::{AllocError, Global};
 use std::convert::AsStr;
 use std::fmt::Display;
 use std::io::{Read, Write};
 use tsb_text::{
-    Checked, LOG_LIMIT, Log, LogError, PLAN_LIMIT, Plan, PlanError, read_log, read_plan, session,
+    Checked, LOG_LIMIT, Log, LogError, PLAN_LIMIT, Plan, PlanError, SessionError, read_log,
+    read_plan, session,
 };
-
-/// How to use the program.
-const USAGE: &str = "usage: tsb check PLAN or tsb run PLAN LOG";
+use tsb_words::{Asked, WordsError, read_words};
 
 /// What the program ends with.
 #[derive(Clone, Copy, Debug, PartialEq, Eq)]
@@ -62,8 +62,8 @@ pub fn run_words<S: AsStr, F: Files, R: Read, W: Write, E: Write>(
     output: &mut W,
     errors: &mut E,
 ) -> u8
-    ensures { (asked : Result Asked WordsError) × Did asked result (F.bytes files.now)
-        (R.remaining input.old) (R.remaining input.new) (W.contents output.old) (W.contents output.new) }
+    ensures { (answer : Result Asked WordsError) × Spells (map S.text words.now) answer × Did answer result (F.bytes files.now)
+        (R.remaining input.old) (R.remaining input.new) (W.contents output.old) (W.contents output.new) (E.contents errors.old) (E.contents errors.new) }
 {
     match read_words(alloc, words) {
         Ok(Asked::Check(plan)) => check(alloc, plan, files, output, errors),
@@ -75,30 +75,74 @@ pub fn run_words<S: AsStr, F: Files, R: Read, W: Write, E: Write>(
 
 /// Tells why words ask for nothing, and gives the status that the program ends with.
 pub fn tell_words_fault<E: Write>(errors: &mut E, fault: WordsError) -> u8
-    ensures { result ≡ after_words fault }
+    ensures { TellsWords fault result (E.contents errors.old) (E.contents errors.new) }
 {
     match fault {
-        WordsError::Memory => tell(errors, Status::Failed, "memory"),
-        WordsError::Bad => tell(errors, Status::BadWords, USAGE),
+        WordsError::Memory => fail(errors, SessionError::Memory),
+        WordsError::Bad => tell(
+            errors,
+            Status::BadWords,
+            b"usage: tsb check PLAN or tsb run PLAN LOG\n",
+        ),
+    }
+}
+
+/// Tells that a read, a write or memory failed.
+fn fail<E: Write>(errors: &mut E, fault: SessionError) -> u8
+    ensures { Fails fault result (E.contents errors.old) (E.contents errors.new) }
+{
+    tell(errors, Status::Failed, failure_line(fault))
+}
+
+/// The line of a failure.
+fn failure_line(fault: SessionError) -> &'static [u8]
+    ensures { result.now ≡ failure_line fault }
+{
+    match fault {
+        SessionError::Memory => b"memory\n",
+        SessionError::Read => b"read fault\n",
+        SessionError::Write => b"write fault\n",
+        SessionError::TooLarge => b"commands: too large\n",
     }
 }
 
 /// Writes a line, and gives the number of the status. Where the line can't be written, nobody can be told of it.
-fn tell<E: Write, T: Display + Drop>(errors: &mut E, status: Status, text: T) -> u8
-    ensures { result ≡ number status }
+fn tell<E: Write>(errors: &mut E, status: Status, line: &[u8]) -> u8
+    ensures status { result ≡ number status }
+    ensures line { AppendsFront (E.contents errors.old) (E.contents errors.new) line.now }
 {
-    let _ = writeln!(errors, "{text}");
-    let _ = errors.flush();
+    let _ = write_line(errors, line);
     status.number()
+}
+
+/// A write failed, was interrupted or took no byte, or the writer did not pass on what it had taken.
+#[derive(Clone, Copy, Debug, PartialEq, Eq)]
+struct WriteError;
+
+/// Writes a line, and has the writer pass it on.
+fn write_line<W: Write>(writer: &mut W, line: &[u8]) -> Result<(), WriteError>
+    ensures whole { OnOk result (Appends (W.contents writer.old) (W.contents writer.new) line.now) }
+    ensures front { AppendsFront (W.contents writer.old) (W.contents writer.new) line.now }
+{
+    let mut gone = 0;
+    while gone < line.len() {
+        match writer.write(&line[gone..]) {
+            Ok(0) => return Err(WriteError),
+            Ok(count) => gone += count,
+            Err(_) => return Err(WriteError),
+        }
+    }
+    match writer.flush() {
+        Ok(()) => Ok(()),
+        Err(_) => Err(WriteError),
+    }
 }
 
 /// Why there is no plan or log.
 #[derive(Drop)]
 enum ReadError<T> {
-    /// Its file was not read.
-    File(FileError),
-    /// There was no memory for it.
-    Memory,
+    /// Its file was not read, or there was no memory for it.
+    Failed(FileError),
     /// It was refused.
     Refused(T),
 }
@@ -107,10 +151,17 @@ enum ReadError<T> {
 fn plan_of<F: Files>(alloc: Global, files: &F, path: &str) -> Result<Checked, ReadError<PlanError>>
     ensures { PlanRead result (F.bytes files.now path.now) }
 {
-    let text = read_file(alloc, files, path, PLAN_LIMIT + 1).map_err(ReadError::File)?;
-    match read_plan(alloc, &text) {
+    let text = read_file(alloc, files, path, PLAN_LIMIT + 1).map_err(ReadError::Failed)?;
+    plan_made(read_plan(alloc, &text))
+}
+
+/// What was made of a plan's text.
+fn plan_made(answer: Result<Checked, PlanError>) -> Result<Checked, ReadError<PlanError>>
+    ensures { result ≡ plan_made answer }
+{
+    match answer {
         Ok(plan) => Ok(plan),
-        Err(PlanError::Memory) => Err(ReadError::Memory),
+        Err(PlanError::Memory) => Err(ReadError::Failed(FileError::Memory)),
         Err(fault) => Err(ReadError::Refused(fault)),
     }
 }
@@ -119,27 +170,49 @@ fn plan_of<F: Files>(alloc: Global, files: &F, path: &str) -> Result<Checked, Re
 fn log_of<F: Files>(alloc: Global, files: &F, path: &str) -> Result<Log, ReadError<LogError>>
     ensures { LogRead result (F.bytes files.now path.now) }
 {
-    let text = read_file(alloc, files, path, LOG_LIMIT + 1).map_err(ReadError::File)?;
-    match read_log(alloc, &text) {
+    let text = read_file(alloc, files, path, LOG_LIMIT + 1).map_err(ReadError::Failed)?;
+    log_made(read_log(alloc, &text))
+}
+
+/// What was made of a log's text.
+fn log_made(answer: Result<Log, LogError>) -> Result<Log, ReadError<LogError>>
+    ensures { result ≡ log_made answer }
+{
+    match answer {
         Ok(log) => Ok(log),
-        Err(LogError::Memory) => Err(ReadError::Memory),
+        Err(LogError::Memory) => Err(ReadError::Failed(FileError::Memory)),
         Err(fault) => Err(ReadError::Refused(fault)),
     }
 }
 
-/// Tells why there is no plan or log.
-fn refuse<E: Write, T: Display + Drop>(errors: &mut E, fault: ReadError<T>) -> u8
-    ensures { result ≡ after_fault fault }
+/// The failure of a file that was not read.
+fn failure_of(fault: FileError) -> SessionError
+    ensures { result ≡ failure_of fault }
 {
     match fault {
-        ReadError::File(FileError::Read) => tell(errors, Status::Failed, "read fault"),
-        ReadError::File(FileError::Memory) | ReadError::Memory => tell(
-            errors,
-            Status::Failed,
-            "memory",
-        ),
-        ReadError::Refused(fault) => tell(errors, Status::Refused, fault),
+        FileError::Memory => SessionError::Memory,
+        FileError::Read => SessionError::Read,
     }
+}
+
+/// Tells why there is no plan or log.
+fn refuse<E: Write, T: Display + Drop>(alloc: Global, errors: &mut E, fault: ReadError<T>) -> u8
+    ensures { Refuses T.output fault result (E.contents errors.old) (E.contents errors.new) }
+{
+    match fault {
+        ReadError::Failed(fault) => fail(errors, failure_of(fault)),
+        ReadError::Refused(fault) => match line_of(alloc, fault) {
+            Ok(line) => tell(errors, Status::Refused, line.as_bytes()),
+            Err(_) => fail(errors, SessionError::Memory),
+        },
+    }
+}
+
+/// The line of a fault.
+fn line_of<T: Display + Drop>(alloc: Global, fault: T) -> Result<String, AllocError>
+    ensures { IfOk result (λ line. IfSome (T.output fault) (λ text. string_bytes line ≡ text ++ 10 ∷ [])) }
+{
+    format!(in alloc; "{fault}\n")
 }
 
 /// Judges a plan.
@@ -150,28 +223,28 @@ fn check<F: Files, W: Write, E: Write>(
     output: &mut W,
     errors: &mut E,
 ) -> u8
-    ensures { Checks result (F.bytes files.now path.now) (W.contents output.old) (W.contents output.new) }
+    ensures { Checks result (F.bytes files.now path.now)
+        (W.contents output.old) (W.contents output.new) (E.contents errors.old) (E.contents errors.new) }
 {
     match plan_of(alloc, files, path) {
-        Ok(_) => judge(output, errors, Status::Done, "plan ok"),
-        Err(ReadError::Refused(fault)) => judge(output, errors, Status::Refused, fault),
-        Err(fault) => refuse(errors, fault),
+        Ok(_) => judge(output, errors, Status::Done, b"plan ok\n"),
+        Err(ReadError::Refused(fault)) => match line_of(alloc, fault) {
+            Ok(line) => judge(output, errors, Status::Refused, line.as_bytes()),
+            Err(_) => fail(errors, SessionError::Memory),
+        },
+        Err(ReadError::Failed(fault)) => fail(errors, failure_of(fault)),
     }
 }
 
 /// Writes what was found of a plan.
-fn judge<W: Write, E: Write, T: Display + Drop>(
-    output: &mut W,
-    errors: &mut E,
-    status: Status,
-    text: T,
-) -> u8
-    ensures { Judged result (number status) (T.output text) (W.contents output.old) (W.contents output.new) }
+fn judge<W: Write, E: Write>(output: &mut W, errors: &mut E, status: Status, line: &[u8]) -> u8
+    ensures { Judged result (number status) line.now
+        (W.contents output.old) (W.contents output.new) (E.contents errors.old) (E.contents errors.new) }
 {
-    if writeln!(output, "{text}").is_err() || output.flush().is_err() {
-        return tell(errors, Status::Failed, "write fault");
+    match write_line(output, line) {
+        Ok(()) => status.number(),
+        Err(_) => fail(errors, SessionError::Write),
     }
-    status.number()
 }
 
 /// Runs a session on a plan and a log.
@@ -184,16 +257,16 @@ fn run<F: Files, R: Read, W: Write, E: Write>(
     output: &mut W,
     errors: &mut E,
 ) -> u8
-    ensures { Ran result (F.bytes files.now plan.now) (F.bytes files.now log.now)
-        (R.remaining input.old) (R.remaining input.new) (W.contents output.old) (W.contents output.new) }
+    ensures { Ran result (F.bytes files.now plan.now) (F.bytes files.now log.now) (R.remaining input.old) (R.remaining input.new)
+        (W.contents output.old) (W.contents output.new) (E.contents errors.old) (E.contents errors.new) }
 {
     let checked = match plan_of(alloc, files, plan) {
         Ok(checked) => checked,
-        Err(fault) => return refuse(errors, fault),
+        Err(fault) => return refuse(alloc, errors, fault),
     };
     let rows = match log_of(alloc, files, log) {
         Ok(rows) => rows,
-        Err(fault) => return refuse(errors, fault),
+        Err(fault) => return refuse(alloc, errors, fault),
     };
     talk(alloc, checked, &rows, input, output, errors)
 }
@@ -205,13 +278,13 @@ fn run_built_in<R: Read, W: Write, E: Write>(
     output: &mut W,
     errors: &mut E,
 ) -> u8
-    ensures { RanBuiltIn result
-        (R.remaining input.old) (R.remaining input.new) (W.contents output.old) (W.contents output.new) }
+    ensures { RanBuiltIn result (R.remaining input.old) (R.remaining input.new)
+        (W.contents output.old) (W.contents output.new) (E.contents errors.old) (E.contents errors.new) }
 {
     match Checked::new(Plan::two()) {
         Ok(plan) => talk(alloc, plan, &Log::empty(alloc), input, output, errors),
         // It meets the rules.
-        Err(rule) => tell(errors, Status::Refused, PlanError::Rule(rule)),
+        Err(rule) => refuse(alloc, errors, ReadError::Refused(PlanError::Rule(rule))),
     }
 }
 
@@ -224,11 +297,11 @@ fn talk<R: Read, W: Write, E: Write>(
     output: &mut W,
     errors: &mut E,
 ) -> u8
-    ensures { Talked result (record { plan = checked_plan plan; log = log.now })
-        (R.remaining input.old) (R.remaining input.new) (W.contents output.old) (W.contents output.new) }
+    ensures { Talked result (record { plan = checked_plan plan; log = log.now }) (R.remaining input.old) (R.remaining input.new)
+        (W.contents output.old) (W.contents output.new) (E.contents errors.old) (E.contents errors.new) }
 {
     match session(alloc, plan, log, input, output) {
         Ok(()) => Status::Done.number(),
-        Err(fault) => tell(errors, Status::Failed, fault),
+        Err(fault) => fail(errors, fault),
     }
 }

@@ -1,6 +1,6 @@
 use super::*;
 use crate::files::Files;
-use std::io::{self, Read, Write};
+use std::io::{self, ErrorKind, Read, Write};
 use tsb_text::PLAN_LIMIT;
 
 const TWO: &[u8] =
@@ -15,6 +15,10 @@ const QUAD: &[u8] =
     br#"{"version":1,"phaseEnabled":{"1":1,"2":1,"3":1,"4":1,"5":1,"6":1,"7":1,"8":1},"phaseRing":{"1":1,"2":1,"3":1,"4":1,"5":2,"6":2,"7":2,"8":2},"phaseSide":{"1":1,"2":1,"3":2,"4":2,"5":1,"6":1,"7":2,"8":2},"phaseConcurrency":{"1":48,"2":48,"3":192,"4":192,"5":3,"6":3,"7":12,"8":12},"phaseMinimumGreen":{"1":5,"2":5,"3":5,"4":5,"5":5,"6":5,"7":5,"8":5},"phaseMaximum1":{"1":20,"2":20,"3":20,"4":20,"5":20,"6":20,"7":20,"8":20},"phaseMaximum2":{"1":20,"2":20,"3":20,"4":20,"5":20,"6":20,"7":20,"8":20},"phasePassage":{"1":20,"2":20,"3":20,"4":20,"5":20,"6":20,"7":20,"8":20},"phaseMinimumGap":{"1":20,"2":20,"3":20,"4":20,"5":20,"6":20,"7":20,"8":20},"phaseYellowChange":{"1":30,"2":30,"3":30,"4":30,"5":30,"6":30,"7":30,"8":30},"phaseRedClear":{"1":10,"2":10,"3":10,"4":10,"5":10,"6":10,"7":10,"8":10},"phaseWalk":{"2":4},"phasePedestrianClear":{"2":6},"phaseMinRecall":{"2":1,"6":1},"phaseDualEntry":{"2":1,"4":1,"6":1,"8":1},"vehicleDetectorCallPhase":{"1":1,"2":2,"3":3,"4":4,"5":5,"6":6,"7":7,"8":8},"pedestrianDetectorCallPhase":{"2":2},"overlapIncludedPhases":{"1":3},"unitRedRevert":{"1":20},"sequenceData":{"1":1,"2":2,"3":3,"4":4,"9":5,"10":6,"11":7,"12":8},"patternCycleTime":{"1":80,"2":80},"patternOffsetTime":{"2":79},"patternSplitNumber":{"1":1,"2":1},"patternSequenceNumber":{"1":1,"2":1},"splitTime":{"1":15,"2":25,"3":15,"4":25,"5":15,"6":25,"7":15,"8":25},"splitCoordPhase":{"2":1,"6":1},"preemptDwellPhase":{"1":132,"2":72},"preemptMinimumGreen":{"1":2,"2":2},"preemptMinimumWalk":{"1":2,"2":2},"preemptEnterPedClear":{"1":3,"2":3},"preemptMinimumDuration":{"1":10}}"#;
 
 const LOG: &[u8] = b"0000100 0010010000000000 00000000 0000\n";
+
+/// Its second row is of the tick of the first.
+const TWICE: &[u8] =
+    b"0000100 0010010000000000 00000000 0000\n0000100 0000000000000000 00000000 0000\n";
 
 const QUAD_SESSION: &[u8] = b"0000001 RGRRRGRR-------- -D-------------- G--- 0 ----
 0000000 RRRRRRRR-------- -D-------------- R--- 0 ----
@@ -86,9 +90,11 @@ impl Files for Desk {
             "full" => Ok(spaced(TWO, PLAN_LIMIT - TWO.len())),
             "large" => Ok(spaced(TWO, PLAN_LIMIT - TWO.len() + 1)),
             "endless" => Ok(spaced(b"", usize::MAX)),
+            "--help" => Ok(spaced(TWO, 0)),
             "log" => Ok(spaced(LOG, 0)),
             "empty" => Ok(spaced(b"", 0)),
             "bad log" => Ok(spaced(b"what\n", 0)),
+            "same tick" => Ok(spaced(TWICE, 0)),
             "torn" => Ok(torn(TWO, ErrorKind::UnexpectedEof)),
             "torn log" => Ok(torn(LOG, ErrorKind::UnexpectedEof)),
             "no memory" => Ok(torn(TWO, ErrorKind::OutOfMemory)),
@@ -133,13 +139,41 @@ impl Write for Stuck {
     }
 }
 
-/// Whether these words end with this status, and write this output and these errors.
+/// Keeps what it takes until it is flushed, as a buffered writer does.
+#[derive(Drop)]
+struct Buffered {
+    kept: Vec<u8>,
+    passed_on: Vec<u8>,
+}
+
+impl Write for Buffered {
+    fn write(&mut self, buf: &[u8]) -> io::Result<usize> {
+        self.kept.write(buf)
+    }
+
+    fn flush(&mut self) -> io::Result<()> {
+        self.passed_on.write_all(self.kept.as_slice())?;
+        self.kept.clear();
+        Ok(())
+    }
+}
+
+/// A writer that has taken nothing.
+fn nothing_taken(rt: &HostRuntime) -> Buffered {
+    Buffered {
+        kept: Vec::new(rt.alloc()),
+        passed_on: Vec::new(rt.alloc()),
+    }
+}
+
+/// Whether these words end with this status, and write this output and these errors. Both writers are buffered, and what
+/// they do not pass on is not written.
 fn gives(rt: &HostRuntime, words: &[&str], status: u8, output: &[u8], errors: &[u8]) -> bool {
     let mut commands = b"step 1\nback 1\n".as_slice();
-    let mut out = Vec::new(rt.alloc());
-    let mut err = Vec::new(rt.alloc());
+    let mut out = nothing_taken(rt);
+    let mut err = nothing_taken(rt);
     let ended = run_words(rt.alloc(), words, &Desk, &mut commands, &mut out, &mut err);
-    ended == status && out.as_slice() == output && err.as_slice() == errors
+    ended == status && out.passed_on.as_slice() == output && err.passed_on.as_slice() == errors
 }
 
 #[test]
@@ -170,7 +204,30 @@ fn what_is_refused_ends_with_1(rt: HostRuntime) {
     assert!(rt; gives(&rt, &["tsb", "check", "short"], 1, rule, b""));
     assert!(rt; gives(&rt, &["tsb", "run", "short", "log"], 1, b"", rule));
     assert!(rt; gives(&rt, &["tsb", "run", "two", "bad log"], 1, b"", line));
+    let order = b"log line 2: tick order\n";
+    assert!(rt; gives(&rt, &["tsb", "run", "two", "same tick"], 1, b"", order));
+    assert!(rt; gives(&rt, &["tsb", "run", "short", "none"], 1, b"", rule));
     assert!(rt; gives(&rt, &["tsb", "run", "short", "bad log"], 1, b"", rule));
+}
+
+/// A word `--` is passed over once, and what stands behind it is a file, also one that looks like a flag.
+#[test]
+fn files_may_stand_behind_hyphens(rt: HostRuntime) {
+    for words in [
+        ["tsb", "check", "--", "two"].as_slice(),
+        &["tsb", "check", "two", "--"],
+        &["tsb", "check", "--", "--help"],
+    ] {
+        assert!(rt; gives(&rt, words, 0, b"plan ok\n", b""), "{words:?}");
+    }
+    for words in [
+        ["tsb", "--"].as_slice(),
+        &["tsb", "run", "--", "two", "log"],
+        &["tsb", "run", "two", "--", "log"],
+        &["tsb", "run", "--", "--help", "log"],
+    ] {
+        assert!(rt; gives(&rt, words, 0, SESSION, b""), "{words:?}");
+    }
 }
 
 #[test]
@@ -192,6 +249,14 @@ fn bad_words_end_with_2(rt: HostRuntime) {
         &["tsb", "check", "--help"],
         &["tsb", "check", "two", "--what"],
         &["tsb", ""],
+        &["tsb", "--", "two"],
+        &["tsb", "--", "check", "two"],
+        &["tsb", "check", "--"],
+        &["tsb", "check", "--", "two", "--"],
+        &["tsb", "run", "--", "two"],
+        &["tsb", "-"],
+        &["tsb", "check", "-x"],
+        &["tsb", "check", "-1"],
     ] {
         assert!(rt; gives(&rt, words, 2, b"", usage), "{words:?}");
     }

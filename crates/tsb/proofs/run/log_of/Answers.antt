@@ -1,15 +1,9 @@
 use Rattle.std.proofs.Common.{rules}
 use Rattle.tsb.specs.Read.{IsFront}
-use Rattle.tsb.proofs.ReadLemmas.{log-fault}
+use Rattle.tsb.proofs.ReadLemmas.{log-read}
 use Rattle.tsb.proofs.run.log_of.Goals as goal
-
-pub returns-in-Ok : goal.returns-in-Ok
-returns-in-Ok g c =
-    let front : IsFront (g.F.Files.bytes c.args.files.now c.args.path.now) 67108865 c.deref.result.now = search rules in
-    (c.deref.result.now, front, c.in-Ok.ensures)
 
 pub returns : goal.returns
 returns g c =
     let front : IsFront (g.F.Files.bytes c.args.files.now c.args.path.now) 67108865 c.deref.result.now = search rules in
-    let (fault, is) = log-fault c.in-Err.fault _ (search rules) c.in-Err.ensures in
-    (c.deref.result.now, front, fault, is)
+    rw c.log_made.ensures (log-read c.read_log.result _ c.deref.result.now front c.read_log.ensures)
