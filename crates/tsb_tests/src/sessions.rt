@@ -1,5 +1,6 @@
 //! Sessions: whole texts of commands and answers, whatever the reader and the writer do.
 
+use std::cell::Cell;
 use std::io::{self, Read, Write};
 use tsb_text::{
     Bench, COMMANDS, Checked, Log, Plan, SessionError, line, read_log, read_plan, session,
@@ -23,6 +24,48 @@ impl Read for Pieces<'_> {
         let (now, later) = self.left.split_at(count);
         buf[..count].copy_from_slice(now);
         self.left = later;
+        Ok(count)
+    }
+}
+
+/// How many bytes a terminal was given, and how many of them it shows: those given before the last flush.
+#[derive(Drop)]
+struct Screen {
+    given: Cell<usize>,
+    shown: Cell<usize>,
+}
+
+impl Write for &Screen {
+    fn write(&mut self, buf: &[u8]) -> io::Result<usize> {
+        self.given.set(self.given.get().saturating_add(buf.len()));
+        Ok(buf.len())
+    }
+
+    fn flush(&mut self) -> io::Result<()> {
+        self.shown.set(self.given.get());
+        Ok(())
+    }
+}
+
+/// Somebody who types a line over and over, and stops where the answer to the last one is not shown.
+#[derive(Drop)]
+struct Typist<'a> {
+    screen: &'a Screen,
+    line: &'a [u8],
+    answer: usize,
+    typed: usize,
+    lines: usize,
+}
+
+impl Read for Typist<'_> {
+    fn read(&mut self, buf: &mut [u8]) -> io::Result<usize> {
+        let count = self.line.len();
+        let late = self.screen.shown.get() != self.typed.saturating_mul(self.answer);
+        if late || self.typed >= self.lines || buf.len() < count {
+            return Ok(0);
+        }
+        self.typed += 1;
+        buf[..count].copy_from_slice(self.line);
         Ok(count)
     }
 }
@@ -217,6 +260,32 @@ fn a_writer_that_passes_nothing_on_is_a_fault(rt: HostRuntime) {
             Some(Err(SessionError::Write))
         )
     );
+}
+
+/// Each answer is written and flushed before more is read, be it short or longer than what is written at once.
+#[test]
+fn answers_are_shown_before_each_read(rt: HostRuntime) {
+    for (line, answer) in [
+        (b"show\n".as_slice(), 54),
+        (b"what\n", 12),
+        (b"step 200\n", 10_800),
+        (b"# none\n", 0),
+    ] {
+        let screen = Screen {
+            given: Cell::new(0),
+            shown: Cell::new(0),
+        };
+        let mut typist = Typist {
+            screen: &screen,
+            line,
+            answer,
+            typed: 0,
+            lines: 20,
+        };
+        assert!(rt; matches!(talk(&rt, &mut typist, &mut &screen), Some(Ok(()))));
+        assert_eq!(rt; typist.typed, 20);
+        assert_eq!(rt; screen.shown.get(), 20 * answer);
+    }
 }
 
 /// A session takes 16 MiB, and not a byte more.
