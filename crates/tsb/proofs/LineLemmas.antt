@@ -2,12 +2,7 @@
 use Rattle.std.proofs.Common.{◌≡◌, ◌∙◌, ℕ, ◌+◌, ◌-◌, List, ◌++◌, length, take, drop, Option, Some, None, sym, ap, subst, append_assoc, arith, take_all, length-drop}
 use Rattle.std.proofs.lemmas.List.{take-append-drop, drop-drop}
 use Rattle.std.specs.Io.KnownBytes.{Appends}
-
-appends-more : (a b c : Option (List ℕ)) (x y : List ℕ) → Appends a b x → Appends b c y → Appends a c (x ++ y)
-appends-more None b c x y h k = tt
-appends-more (Some xs) None c x y h k = absurd h
-appends-more (Some xs) (Some ys) None x y h k = absurd k
-appends-more (Some xs) (Some ys) (Some zs) x y h k = k ∙ ap (λ (v : List ℕ). v ++ y) h ∙ append_assoc xs x y
+use Rattle.tsb_text.proofs.WrittenLemmas.{appends-more}
 
 -- of a line all but what is left has gone out
 pub record Gone (old new : Option (List ℕ)) (line left : List ℕ) : Type 0 where

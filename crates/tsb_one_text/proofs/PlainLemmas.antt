@@ -23,6 +23,7 @@ use Rattle.tsb_step.specs.State.{State}
 use Rattle.tsb_past.specs.declared.commands.Command.TheVariants.{Apply}
 use Rattle.tsb_display_text.specs.Line.{digit, letter, pedestrian_letter, tick_field, local_field, preempt_digit, line_of}
 use Rattle.tsb_lines.specs.Lines.{split}
+use Rattle.tsb_step.proofs.EditLemmas.{or_false}
 use Rattle.tsb_text.specs.Answers.{preempt_in_service, display_line, refused_line, busy_line, undone_line, verified_line, taken_line, when_line}
 use Rattle.tsb_text.specs.Written.{with_feed}
 use Rattle.tsb_one_text.specs.Laws.{memory_line, tells_memory}
@@ -37,14 +38,10 @@ pub record IsPlain (line : List ℕ) : Type 0 where
   pub one : has_feed line ≡ false
   pub other : bytes_eq memory_line line ≡ false
 
-none-of : (x y : Bool) → (x || y) ≡ false → (x ≡ false) × (y ≡ false)
-none-of false y h = (refl, h)
-none-of true y h = absurd (true≢false h)
-
 split-line : (line text : List ℕ) → has_feed line ≡ false → split (line ++ 10 ∷ text) ≡ line ∷ split text
 split-line [] text none = refl
 split-line (b ∷ line) text none =
-    let parts : ((b == 10) ≡ false) × (has_feed line ≡ false) = none-of (b == 10) (has_feed line) none in
+    let parts : ((b == 10) ≡ false) × (has_feed line ≡ false) = or_false (b == 10) (has_feed line) none in
     rw (parts.0, split-line line text parts.1) refl
 
 -- such a line adds nothing to what a text tells of memory
@@ -86,7 +83,7 @@ more b line first rest = record { none = rw first rest.none }
 both : (line rest : List ℕ) → has_feed line ≡ false → IsFeedless rest → IsFeedless (line ++ rest)
 both [] rest first next = next
 both (b ∷ line) rest first next =
-    let parts : ((b == 10) ≡ false) × (has_feed line ≡ false) = none-of (b == 10) (has_feed line) first in
+    let parts : ((b == 10) ≡ false) × (has_feed line ≡ false) = or_false (b == 10) (has_feed line) first in
     more b (line ++ rest) parts.0 (both line rest parts.1 next)
 
 each : (f : ℕ → ℕ) (ps : List ℕ) → ((p : ℕ) → (f p == 10) ≡ false) → has_feed (map f ps) ≡ false

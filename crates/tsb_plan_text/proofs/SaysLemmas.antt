@@ -35,15 +35,15 @@ use Rattle.tsb_plan_text.specs.PlanTextSays.{number_at, number_for, SaysThese, S
 
 -- ---- what was accepted
 
-or_ok : {A : Type 0} (o : Option A) (f : Error) (next : A → Result Plan Error) (q : Plan) → or_fault o f next ≡ Ok q → (x : A) × (o ≡ Some x) × (next x ≡ Ok q)
+pub or_ok : {A : Type 0} (o : Option A) (f : Error) (next : A → Result Plan Error) (q : Plan) → or_fault o f next ≡ Ok q → (x : A) × (o ≡ Some x) × (next x ≡ Ok q)
 or_ok None f next q e = absurd (grind (arith, e))
 or_ok (Some x) f next q e = (x, refl, e)
 
-then_ok : (r : Result Plan Error) (next : Plan → Result Plan Error) (q : Plan) → then_on r next ≡ Ok q → (p : Plan) × (r ≡ Ok p) × (next p ≡ Ok q)
+pub then_ok : (r : Result Plan Error) (next : Plan → Result Plan Error) (q : Plan) → then_on r next ≡ Ok q → (p : Plan) × (r ≡ Ok p) × (next p ≡ Ok q)
 then_ok (Err f) next q e = absurd (grind (arith, e))
 then_ok (Ok p) next q e = (p, refl, e)
 
-if_ok : (b : Bool) (p q : Plan) (f : Error) → (if b then Ok p else Err f) ≡ Ok q → p ≡ q
+pub if_ok : (b : Bool) (p q : Plan) (f : Error) → (if b then Ok p else Err f) ≡ Ok q → p ≡ q
 if_ok true p q f e = grind (arith, e)
 if_ok false p q f e = absurd (grind (arith, e))
 
@@ -276,7 +276,7 @@ says_these apart v ms plan rises e = record {
 
 -- ---- a text
 
-short : (b : Bool) (r : Result Plan Error) (q : Plan) → (if b then Err too_large else r) ≡ Ok q → r ≡ Ok q
+pub short : (b : Bool) (r : Result Plan Error) (q : Plan) → (if b then Err too_large else r) ≡ Ok q → r ≡ Ok q
 short true r q e = absurd (grind (arith, e))
 short false r q e = e
 

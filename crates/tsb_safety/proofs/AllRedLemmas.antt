@@ -31,39 +31,22 @@ use Rattle.tsb_step.specs.Past.{ticks_of}
 use Rattle.tsb_step.specs.Laws.{IsConsistent}
 use Rattle.tsb_step.specs.Good.{IsPatternNumber, IsGood}
 use Rattle.tsb_step.specs.TimeLaws.{held_for}
-use Rattle.tsb_step.proofs.GivenLemmas.{listed_is_phase, enabled_is_listed, symmetric, new_in_stage, given}
+use Rattle.tsb_step.proofs.GivenLemmas.{lists_now, lists_ring, listed_is_phase, enabled_is_listed, symmetric, new_in_stage, given}
 use Rattle.tsb_step.proofs.GoodLemmas.{good_run}
 use Rattle.tsb_step.proofs.StandLemmas.{rings_then}
 use Rattle.tsb_step.proofs.TellLemmas.{held_on}
 use Rattle.tsb_safety.specs.Stretches.{IsUntripped, largest}
 use Rattle.tsb_safety.specs.AllRed.{IsAllRed, HasBeenRed, is_wanted, HasBeenWanted, IsInRange}
-use Rattle.tsb_safety.proofs.StretchLemmas.{dark_now, one_later, IsSame, Goes, ticks, stays, goes, at_next}
+use Rattle.tsb_step.proofs.ClearLemmas.{one_later}
+use Rattle.tsb_safety.proofs.StretchLemmas.{dark_now, IsSame, Goes, ticks, stays, goes, at_next}
 use Rattle.tsb_safety.proofs.EnabledLemmas.{callable_on}
-use Rattle.tsb_safety.proofs.ServedLemmas.{largest_now, largest_more, count_run, clipped_at, dark_of, reverts_later}
+use Rattle.tsb_safety.proofs.DueLemmas.{largest_now, largest_more, count_run, clipped_at, dark_of, reverts_later}
 use Rattle.tsb_safety.proofs.SideSoughtLemmas.{Found, some_found}
 use Rattle.tsb_safety.proofs.CrossingRingLemmas.{is_over}
 use Rattle.tsb_safety.proofs.PreemptPhaseLemmas.{in_range_run, Wants, wants_one}
 use Rattle.tsb_safety.proofs.AllRedRingLemmas.{IsServing, SomeWanted, by_target, by_calls, completes_now, starts_committed, started_by, Outcome, starts, enters, outcome}
 
 -- ## What the rings are given
-
--- the sequence in effect lists the rings
-lists_now : (plan : Plan) → first_broken plan ≡ None → (selected : Option ℕ) → ((n : ℕ) → selected ≡ Some n → IsPatternNumber n) →
-    ListsRings plan (sequence_in_effect plan (running plan selected))
-lists_now plan rules None numbered = first_lists plan rules
-lists_now plan rules (Some n) numbered = go (is_used plan n) refl
-  where
-    go : (b : Bool) → is_used plan n ≡ b → ListsRings plan (sequence_in_effect plan (if b then Some n else None))
-    go false e = first_lists plan rules
-    go true e =
-        let it : IsPatternNumber n = numbered n refl in
-        let w : IsWhole plan n = whole plan rules n it.from_one it.within e in
-        let lists : ListsRings plan w.its_sequence = used_lists plan rules n w.its_sequence w.its_split w.in_use in
-        rw w.in_use.sequence lists
-
-lists_ring : (plan : Plan) (s : ℕ) (r : Ring) → ListsRings plan s → ListsRing plan (number r) (sequence plan s (number r))
-lists_ring plan s Ring1 lists = lists.first
-lists_ring plan s Ring2 lists = lists.second
 
 ring_is : (plan : Plan) (p : ℕ) → 1 ≤ ring_of plan p → ring_of plan p ≤ 2 → (r : Ring) × (in_ring plan r p ≡ true)
 ring_is plan p low high =

@@ -1,7 +1,7 @@
 -- What one tick makes of two rings that are idle, where each phase has passed its red revert: a commitment starts; where there is
 -- none, some phase starts, or a crossing begins that commits a ring.
 use Rattle.std.proofs.Common.{◌≡◌, ℕ, ◌==◌, Bool, true, false, not, ◌&&◌, ◌||◌, if◌then◌else◌, List, [], ◌∷◌, Option, Some, None, is_some, is_none, refl, sym, ap, subst, inl, inr, ◌⊎◌, ◌∙◌}
-use Rattle.std.proofs.lemmas.Bool.{cases_Bool, and_parts, or_cases, eq-eqb, true≢false, false≢true}
+use Rattle.std.proofs.lemmas.Bool.{cases_Bool, and_parts, or_cases, or_left, or_right, eq-eqb, true≢false, false≢true}
 use Rattle.tsb_types.specs.Intervals.{in_service}
 use Rattle.tsb_types.specs.Lists.{first, some_passes, among, is, after, up_to, later, not_later, or_else, or_number}
 use Rattle.tsb_plan.specs.Plan.{Plan, phases, is_enabled, side_of, sides_after}
@@ -21,13 +21,6 @@ use Rattle.tsb_safety.proofs.SideSoughtLemmas.{Found, none_first, some_found, fo
 use Rattle.tsb_safety.proofs.CrossingRingLemmas.{begins_alone}
 
 -- ## Lists
-
-or_right : (x y : Bool) → y ≡ true → (x || y) ≡ true
-or_right true y h = refl
-or_right false y h = h
-
-or_left : (x y : Bool) → x ≡ true → (x || y) ≡ true
-or_left x y h = rw h refl
 
 -- what is in a list comes later than a phase or not
 split_at : (l p : ℕ) (ps : List ℕ) → among p ps ≡ true → (among p (after l ps) ≡ true) ⊎ (among p (up_to l ps) ≡ true)

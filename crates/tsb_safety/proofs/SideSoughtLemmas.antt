@@ -1,6 +1,6 @@
 -- A crossing that begins goes to another side than the one that is served.
 use Rattle.std.proofs.Common.{zero, suc, ◌≡◌, ◌≢◌, ℕ, nat_le, ◌+◌, ◌-◌, ◌<◌, ◌≤◌, ◌==◌, Bool, true, false, cond, not, ◌&&◌, ◌||◌, List, [], ◌∷◌, ◌++◌, Option, Some, None, is_some, is_none, refl, sym, ap, inl, inr, ◌⊎◌, ◌∙◌, arith}
-use Rattle.std.proofs.lemmas.Bool.{cases_Bool, cases_eq, and_parts, or_cases, eqb-true, eq-eqb, leb-true, true≢false, false≢true}
+use Rattle.std.proofs.lemmas.Bool.{or_right, cases_Bool, cases_eq, and_parts, or_cases, eqb-true, eq-eqb, leb-true, true≢false, false≢true}
 use Rattle.std.proofs.lemmas.Bool.Decides.{nat_tests}
 use Rattle.std.proofs.lemmas.Option.{cond_some}
 use Rattle.tsb_types.specs.Lists.{first, some_passes, among, run_from, later, not_later, or_number}
@@ -51,10 +51,6 @@ found_some test ps p h k = go (first test ps) refl
     go : (o : Option ℕ) → first test ps ≡ o → is_some o ≡ true
     go None e = absurd (none_first test ps p h k e)
     go (Some q) e = refl
-
-or_right : (x y : Bool) → y ≡ true → (x || y) ≡ true
-or_right true y h = refl
-or_right false y h = h
 
 in_runs : (x a n : ℕ) (rest : List ℕ) → among x (run_from a n ++ rest) ≡ true → ((a ≤ x) × (x < a + n)) ⊎ (among x rest ≡ true)
 unfolding run_from

@@ -84,7 +84,7 @@ symmetric plan rules p q h k go = (together plan rules p q (listed_is_phase plan
 -- ## Sequences
 
 -- the sequence in effect lists the rings
-lists_now : (plan : Plan) → first_broken plan ≡ None → (selected : Option ℕ) → ((n : ℕ) → selected ≡ Some n → IsPatternNumber n) →
+pub lists_now : (plan : Plan) → first_broken plan ≡ None → (selected : Option ℕ) → ((n : ℕ) → selected ≡ Some n → IsPatternNumber n) →
     ListsRings plan (sequence_in_effect plan (running plan selected))
 lists_now plan rules None numbered = first_lists plan rules
 lists_now plan rules (Some n) numbered = go (is_used plan n) refl
@@ -97,7 +97,7 @@ lists_now plan rules (Some n) numbered = go (is_used plan n) refl
         let lists : ListsRings plan w.its_sequence = used_lists plan rules n w.its_sequence w.its_split w.in_use in
         rw w.in_use.sequence lists
 
-lists_ring : (plan : Plan) (s : ℕ) (r : Ring) → ListsRings plan s → ListsRing plan (number r) (sequence plan s (number r))
+pub lists_ring : (plan : Plan) (s : ℕ) (r : Ring) → ListsRings plan s → ListsRing plan (number r) (sequence plan s (number r))
 lists_ring plan s Ring1 lists = lists.first
 lists_ring plan s Ring2 lists = lists.second
 

@@ -9,7 +9,7 @@ appends-nothing : (a : Option (List ℕ)) → Appends a a []
 appends-nothing None = tt
 appends-nothing (Some xs) = sym (append-nil xs)
 
-appends-more : (a b c : Option (List ℕ)) (x y : List ℕ) → Appends a b x → Appends b c y → Appends a c (x ++ y)
+pub appends-more : (a b c : Option (List ℕ)) (x y : List ℕ) → Appends a b x → Appends b c y → Appends a c (x ++ y)
 appends-more None b c x y h k = tt
 appends-more (Some xs) None c x y h k = absurd h
 appends-more (Some xs) (Some ys) None x y h k = absurd k

@@ -23,22 +23,9 @@ use Rattle.tsb_step.specs.declared.inputs.Input.{Input}
 use Rattle.tsb_versions.specs.Widened.{IsNarrow, narrowed, AreWithin}
 use Rattle.tsb_versions.specs.Laws.{SaysTheSame}
 use Rattle.tsb_versions.specs.Texts.{IsOfVersion1, named_plan, GoesAlike}
+use Rattle.tsb_plan_text.proofs.SaysLemmas.{or_ok, then_ok, if_ok, short}
 use Rattle.tsb_versions.proofs.DeskLemmas.{from-one, row_index-back, translated-row, translated-flat}
 use Rattle.tsb_versions.proofs.RunLemmas.{break_the_same_rule, heads_agree, states_agree, take_the_same}
-
--- ## What was accepted
-
-or-ok : {A : Type 0} (o : Option A) (f : Error) (next : A → Result Plan Error) (q : Plan) → or_fault o f next ≡ Ok q → (x : A) × (o ≡ Some x) × (next x ≡ Ok q)
-or-ok None f next q e = absurd (grind (arith, e))
-or-ok (Some x) f next q e = (x, refl, e)
-
-then-ok : (r : Result Plan Error) (next : Plan → Result Plan Error) (q : Plan) → then_on r next ≡ Ok q → (p : Plan) × (r ≡ Ok p) × (next p ≡ Ok q)
-then-ok (Err f) next q e = absurd (grind (arith, e))
-then-ok (Ok p) next q e = (p, refl, e)
-
-if-ok : (b : Bool) (p q : Plan) (f : Error) → (if b then Ok p else Err f) ≡ Ok q → p ≡ q
-if-ok true p q f e = grind (arith, e)
-if-ok false p q f e = absurd (grind (arith, e))
 
 -- ## What is read so far
 
@@ -61,20 +48,20 @@ put-read v plan o i n few is = record { phases = is.phases; sides = is.sides; bo
 entry-within : (v : Version) (plan : Plan) (o : Object) (i n : ℕ) (q : Plan) (f : Error) (b : Bool) → nat_le n (greatest_in v o) ≡ b →
     (if b then Ok (with_value plan o i n) else Err f) ≡ Ok q → IsRead v plan → IsRead v q
 entry-within v plan o i n q f true few e is =
-    subst (IsRead v) (if-ok true (with_value plan o i n) q f e) (put-read v plan o i n (leb-true n (greatest_in v o) few) is)
+    subst (IsRead v) (if_ok true (with_value plan o i n) q f e) (put-read v plan o i n (leb-true n (greatest_in v o) few) is)
 entry-within v plan o i n q f false few e is = absurd (grind (arith, e))
 
 entry-read : (v : Version) (o : Object) (text : List ℕ) (d : Data) (p q : Plan) → IsRead v p → with_entry v o text d p ≡ Ok q → IsRead v q
 unfolding with_entry
 entry-read v o text d p q is e =
-    let i = or-ok (index_named (indices_in v o) text) (no_such_index o text) _ q e in
-    let n = or-ok (whole_number d) (not_a_whole_number o text) _ q i.2 in
+    let i = or_ok (index_named (indices_in v o) text) (no_such_index o text) _ q e in
+    let n = or_ok (whole_number d) (not_a_whole_number o text) _ q i.2 in
     entry-within v p o (translated v o i.0) n.0 q (out_of_range o text) (nat_le n.0 (greatest_in v o)) refl n.2 is
 
 table-read : (v : Version) (o : Object) (table : Members) (p q : Plan) → IsRead v p → with_table v o table p ≡ Ok q → IsRead v q
-table-read v o no_members p q is e = subst (IsRead v) (if-ok true p q too_large e) is
+table-read v o no_members p q is e = subst (IsRead v) (if_ok true p q too_large e) is
 table-read v o (member text d rest) p q is e =
-    let first = then-ok (with_entry v o text d p) (with_table v o rest) q e in
+    let first = then_ok (with_entry v o text d p) (with_table v o rest) q e in
     table-read v o rest first.0 q (entry-read v o text d p first.0 is first.1) first.2
 
 member-read : (v : Version) (name : List ℕ) (d : Data) (p q : Plan) → IsRead v p → with_member v name d p ≡ Ok q → IsRead v q
@@ -84,16 +71,16 @@ member-read v name d p q is e = judged (bytes_eq name (codes "version")) e
     judged : (b : Bool) →
         (if b then Ok p else
         or_fault (object_named v name) (no_such_object name) (λ o. or_fault (as_object d) (object_not_a_table o) (λ table. with_table v o table p))) ≡ Ok q → IsRead v q
-    judged true e = subst (IsRead v) (if-ok true p q too_large e) is
+    judged true e = subst (IsRead v) (if_ok true p q too_large e) is
     judged false e =
-        let o = or-ok (object_named v name) (no_such_object name) _ q e in
-        let t = or-ok (as_object d) (object_not_a_table o.0) _ q o.2 in
+        let o = or_ok (object_named v name) (no_such_object name) _ q e in
+        let t = or_ok (as_object d) (object_not_a_table o.0) _ q o.2 in
         table-read v o.0 t.0 p q is t.2
 
 members-read : (v : Version) (ms : Members) (p q : Plan) → IsRead v p → with_members v ms p ≡ Ok q → IsRead v q
-members-read v no_members p q is e = subst (IsRead v) (if-ok true p q too_large e) is
+members-read v no_members p q is e = subst (IsRead v) (if_ok true p q too_large e) is
 members-read v (member name d rest) p q is e =
-    let first = then-ok (with_member v name d p) (with_members v rest) q e in
+    let first = then_ok (with_member v name d p) (with_members v rest) q e in
     members-read v rest first.0 q (member-read v name d p first.0 is first.1) first.2
 
 -- ## A text
@@ -109,10 +96,6 @@ record WasRead (text : List ℕ) (plan : Plan) : Type 0 where
   made : with_members version members empty ≡ Ok plan
   right : first_broken plan ≡ None
 
-short-ok : (b : Bool) (r : Result Plan Error) (q : Plan) → (if b then Err too_large else r) ≡ Ok q → r ≡ Ok q
-short-ok true r q e = absurd (grind (arith, e))
-short-ok false r q e = e
-
 -- a plan that passed the rules is the plan that was made
 record Passed (p q : Plan) : Type 0 where
   same : p ≡ q
@@ -124,17 +107,17 @@ passed p q e = judged (first_broken p) refl e
   where
     judged : (r : Option Rule) → first_broken p ≡ r → unless_broken r p ≡ Ok q → Passed p q
     judged None none e =
-        let same : p ≡ q = if-ok true p q too_large e in
+        let same : p ≡ q = if_ok true p q too_large e in
         record { same = same; right = subst (λ (x : Plan). first_broken x ≡ None) same none }
     judged (Some r) none e = absurd (grind (arith, e))
 
 was-read : (text : List ℕ) (plan : Plan) → reading text ≡ Ok plan → WasRead text plan
 unfolding reading data_plan
 was-read text plan e =
-    let d = or-ok (data_of text) not_json (λ d. then_on (data_plan d) checked) plan (short-ok (nat_lt limit (length text)) _ plan e) in
-    let p = then-ok (data_plan d.0) checked plan d.2 in
-    let ms = or-ok (as_object d.0) not_a_table _ p.0 p.1 in
-    let v = or-ok (version_in ms.0) no_version _ p.0 ms.2 in
+    let d = or_ok (data_of text) not_json (λ d. then_on (data_plan d) checked) plan (short (nat_lt limit (length text)) _ plan e) in
+    let p = then_ok (data_plan d.0) checked plan d.2 in
+    let ms = or_ok (as_object d.0) not_a_table _ p.0 p.1 in
+    let v = or_ok (version_in ms.0) no_version _ p.0 ms.2 in
     let pass = passed p.0 plan p.2 in
     record {
       value = d.0;

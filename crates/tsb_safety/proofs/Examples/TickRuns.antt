@@ -15,7 +15,7 @@ use Rattle.tsb_step.specs.ClearanceLaws.{after_ticks}
 use Rattle.tsb_step.proofs.ClearLemmas.{plan_stays}
 use Rattle.tsb_step.proofs.TripLemmas.{faults_alone_trip}
 use Rattle.tsb_safety.specs.Stretches.{IsUntripped, largest}
-use Rattle.tsb_safety.proofs.StretchLemmas.{one_later}
+use Rattle.tsb_step.proofs.ClearLemmas.{one_later}
 
 -- so many ticks with these inputs on
 abbrev pub ticks : Row → ℕ → List Input
