@@ -7,6 +7,7 @@ use Rattle.tsb_cells.specs.Row.{row_at}
 use Rattle.tsb_heads.specs.declared.monitor.Trip.{Trip}
 use Rattle.tsb_heads.specs.declared.monitor.Trip.TheVariants.{Conflict, GreenToRed}
 use Rattle.tsb_types.specs.declared.lamp.Lamp.{Lamp}
+use Rattle.tsb_step.specs.declared.TheConstants.{MONITOR_CELLS}
 use Rattle.tsb_step.specs.MonitorCells.{monitor_cells, trip_cells, lamp_cells, lamp_in, trip_in, cause_of}
 use Rattle.tsb_step.specs.MonitorLaws.{IsMonitorBy, IsCause, IsTrip, IsLamp}
 use Rattle.tsb_step.specs.State.{Tripped}
@@ -67,5 +68,5 @@ set-some now lamp cause new trip lit caused read is =
     says now lamp (Some (record { cause = cause; tick = now })) new lit (caused, omega arith) (is ∙ ap (λ (xs : List ℕ). xs ++ lamp_cells lamp) read)
 
 -- a row that was cleared
-pub cleared : (now : ℕ) (row : List ℕ) → row ≡ replicate 7 0 → Says now None None row
+pub cleared : (now : ℕ) (row : List ℕ) → row ≡ replicate MONITOR_CELLS 0 → Says now None None row
 cleared now row is = says now None None row tt tt is

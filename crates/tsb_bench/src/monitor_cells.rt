@@ -9,6 +9,7 @@ ghost use Rattle.tsb_step.specs.MonitorCells.{lamp_in, trip_in, trip_cells, lamp
 ghost use Rattle.tsb_step.specs.MonitorLaws.{IsMonitorBy, IsCause, IsLamp};
 ghost use Rattle.tsb_step.specs.State.{Tripped};
 ghost use Rattle.tsb_bench.specs.Cabinet.{tripped_by};
+ghost use Rattle.tsb_step.specs.declared.TheConstants.{MONITOR_CELLS};
 ghost use Rattle.tsb_step.specs.declared.first_cell.TheConstants.{MONITOR};
 
 use arrayvec::ArrayVec;
@@ -104,7 +105,7 @@ fn trip_row(cause: &Trip, now: u32) -> [u32; 4]
 impl MonitorCells {
     /// No trip and no lamp.
     pub(crate) fn new() -> MonitorCells
-        ensures cells { cells_of result.bank ≡ replicate 7 0 }
+        ensures cells { cells_of result.bank ≡ replicate MONITOR_CELLS 0 }
         ensures shut { is_open result.bank ≡ false }
     {
         MonitorCells { bank: Bank::new() }
@@ -164,12 +165,12 @@ impl MonitorCells {
         requires shut { is_open self.old.bank ≡ false }
         requires by { IsMonitorBy now (cells_of self.old.bank) }
         requires cause { IfSome found.now IsCause }
-        requires room { array_vec_len out.old + 7 ≤ M }
+        requires room { array_vec_len out.old + MONITOR_CELLS ≤ M }
         ensures lamp { lamp_in (cells_of self.new.bank) ≡ lamp.now }
         ensures trip { trip_in (cells_of self.new.bank) ≡ tripped_by found.now now (trip_in (cells_of self.old.bank)) }
         ensures by { IsMonitorBy now (cells_of self.new.bank) }
         ensures changes { out.new.items ≡ out.old.items ++ shifted MONITOR (diff (cells_of self.old.bank) (cells_of self.new.bank)) }
-        ensures len { array_vec_len out.new ≤ array_vec_len out.old + 7 }
+        ensures len { array_vec_len out.new ≤ array_vec_len out.old + MONITOR_CELLS }
         ensures shut { is_open self.new.bank ≡ false }
     {
         let trip = match found {
@@ -182,10 +183,10 @@ impl MonitorCells {
     /// Forgets the trip and the lamp. The cells that change go to `out`.
     pub(crate) fn clear<const M: usize>(&mut self, out: &mut ArrayVec<(u16, u32), M>)
         requires shut { is_open self.old.bank ≡ false }
-        requires room { array_vec_len out.old + 7 ≤ M }
-        ensures cells { cells_of self.new.bank ≡ replicate 7 0 }
+        requires room { array_vec_len out.old + MONITOR_CELLS ≤ M }
+        ensures cells { cells_of self.new.bank ≡ replicate MONITOR_CELLS 0 }
         ensures changes { out.new.items ≡ out.old.items ++ shifted MONITOR (diff (cells_of self.old.bank) (cells_of self.new.bank)) }
-        ensures len { array_vec_len out.new ≤ array_vec_len out.old + 7 }
+        ensures len { array_vec_len out.new ≤ array_vec_len out.old + MONITOR_CELLS }
         ensures shut { is_open self.new.bank ≡ false }
     {
         self.store(&[0; 4], &[0; 3], out);
@@ -199,10 +200,10 @@ impl MonitorCells {
         out: &mut ArrayVec<(u16, u32), M>,
     )
         requires shut { is_open self.old.bank ≡ false }
-        requires room { array_vec_len out.old + 7 ≤ M }
+        requires room { array_vec_len out.old + MONITOR_CELLS ≤ M }
         ensures cells { cells_of self.new.bank ≡ trip.now ++ lamp.now }
         ensures changes { out.new.items ≡ out.old.items ++ shifted MONITOR (diff (cells_of self.old.bank) (cells_of self.new.bank)) }
-        ensures len { array_vec_len out.new ≤ array_vec_len out.old + 7 }
+        ensures len { array_vec_len out.new ≤ array_vec_len out.old + MONITOR_CELLS }
         ensures shut { is_open self.new.bank ≡ false }
     {
         self.bank.open();

@@ -10,7 +10,7 @@ use Rattle.tsb_plan.specs.Parts.{unless_zero}
 use Rattle.tsb_plan.specs.PlanOf.{put_refusal}
 use Rattle.tsb_rules.specs.declared.rules.Rule.{Rule}
 use Rattle.tsb_rules.specs.declared.rules.Rule.TheVariants.{K1, K2, K3, K4, K5, K6, K7, K8, K9, K10, K11, K12, K13, K14, K15, K16, K17, K18, K19, K20, K21, K22}
-use Rattle.tsb_transact.specs.declared.TheConstants.{CELLS}
+use Rattle.tsb_transact.specs.declared.TheConstants.{CELLS, MOST_EDITS}
 use Rattle.tsb_transact.specs.declared.desk_state.DeskState.{DeskState}
 use Rattle.tsb_transact.specs.declared.desk_state.DeskState.TheVariants.{Normal, Transaction, Verify, Done}
 use Rattle.tsb_transact.specs.declared.edit.Edit.{Edit}
@@ -111,7 +111,7 @@ unfolding desk_in
 rows_are_told row by =
     let n : ℕ = slice_index row 3 in
     let count : length (map (edit_in row) (run_from 1 n)) ≡ n = length-edits row 1 n in
-    let rest : edit_cells 64 (map (edit_in row) (run_from 1 n)) ≡ drop 4 row = edit-run row by 64 1 n (omega arith) refl (omega arith) in
+    let rest : edit_cells MOST_EDITS (map (edit_in row) (run_from 1 n)) ≡ drop 4 row = edit-run row by MOST_EDITS 1 n (omega arith) refl (omega arith) in
     (λ j. owner-told (slice_index row 0) j ∷ state-told (slice_index row 1) by.state j ∷ rule-told (slice_index row 2) by.rule j ∷ count j ∷ rest j)
     ∙ sym (head-apart row by.full)
 
@@ -158,12 +158,12 @@ cells-behind (suc m) (x ∷ es) (suc i) below over =
     cells-next (place_of x.id) x.value (edit_cells m es) i 0 0 (cells-behind m es i (omega (arith, below)) (omega (arith, over)))
 
 -- the cells of edit k of a desk's table, from 1
-table-place : (d : Desk) (k place value : ℕ) → 1 ≤ k → AreCells (edit_cells 64 d.edits) (k - 1) place value → slice_index (desk_cells d) (2 * k + 2) ≡ place
+table-place : (d : Desk) (k place value : ℕ) → 1 ≤ k → AreCells (edit_cells MOST_EDITS d.edits) (k - 1) place value → slice_index (desk_cells d) (2 * k + 2) ≡ place
 table-place d k place value from c =
     let e : 2 * k + 2 ≡ suc (suc (suc (suc (2 * (k - 1))))) = omega (arith, from) in
     ap (λ (n : ℕ). slice_index (desk_cells d) n) e ∙ c.place
 
-table-value : (d : Desk) (k place value : ℕ) → 1 ≤ k → AreCells (edit_cells 64 d.edits) (k - 1) place value → slice_index (desk_cells d) (2 * k + 3) ≡ value
+table-value : (d : Desk) (k place value : ℕ) → 1 ≤ k → AreCells (edit_cells MOST_EDITS d.edits) (k - 1) place value → slice_index (desk_cells d) (2 * k + 3) ≡ value
 table-value d k place value from c =
     let e : 2 * k + 3 ≡ suc (suc (suc (suc (2 * (k - 1) + 1)))) = omega (arith, from) in
     ap (λ (n : ℕ). slice_index (desk_cells d) n) e ∙ c.value
@@ -252,14 +252,14 @@ module _ (d : Desk) (r : IsInRange d) where
   taken : (i : ℕ) → i < length d.edits → put_refusal (get_or d.edits i first).id (get_or d.edits i first).value ≡ None
   taken i below = All-get_or (λ (e : Edit). put_refusal e.id e.value ≡ None) d.edits i first below r.sound.taken
 
-  cells-of : (i : ℕ) → i < length d.edits → AreCells (edit_cells 64 d.edits) i (place_of (get_or d.edits i first).id) (get_or d.edits i first).value
-  cells-of i below = cells-at 64 d.edits i first (omega (arith, below, r.sound.room)) below
+  cells-of : (i : ℕ) → i < length d.edits → AreCells (edit_cells MOST_EDITS d.edits) i (place_of (get_or d.edits i first).id) (get_or d.edits i first).value
+  cells-of i below = cells-at MOST_EDITS d.edits i first (omega (arith, below, r.sound.room)) below
 
   edit-read : (i : ℕ) → i < length d.edits → edit_in (desk_cells d) (1 + i) ≡ get_or d.edits i first
   edit-read i below =
       let e : Edit = get_or d.edits i first in
-      let c : AreCells (edit_cells 64 d.edits) (1 + i - 1) (place_of e.id) e.value =
-      subst (λ (k : ℕ). AreCells (edit_cells 64 d.edits) k (place_of e.id) e.value) (omega arith) (cells-of i below) in
+      let c : AreCells (edit_cells MOST_EDITS d.edits) (1 + i - 1) (place_of e.id) e.value =
+      subst (λ (k : ℕ). AreCells (edit_cells MOST_EDITS d.edits) k (place_of e.id) e.value) (omega arith) (cells-of i below) in
       let place : slice_index (desk_cells d) (2 * (1 + i) + 2) ≡ place_of e.id = table-place d (1 + i) (place_of e.id) e.value (omega arith) c in
       let value : slice_index (desk_cells d) (2 * (1 + i) + 3) ≡ e.value = table-value d (1 + i) (place_of e.id) e.value (omega arith) c in
       let id : id_at (slice_index (desk_cells d) (2 * (1 + i) + 2)) ≡ e.id = ap id_at place ∙ at-place e.id (index-taken e.id e.value (taken i below)) in
@@ -286,8 +286,8 @@ module _ (d : Desk) (r : IsInRange d) where
       let e : Edit = get_or d.edits i first in
       let same : edit_in (desk_cells d) (1 + i) ≡ e = edit-read i below in
       let has : has_index e.id.object e.id.index ≡ true = index-taken e.id e.value (taken i below) in
-      let c : AreCells (edit_cells 64 d.edits) (1 + i - 1) (place_of e.id) e.value =
-      subst (λ (k : ℕ). AreCells (edit_cells 64 d.edits) k (place_of e.id) e.value) (omega arith) (cells-of i below) in
+      let c : AreCells (edit_cells MOST_EDITS d.edits) (1 + i - 1) (place_of e.id) e.value =
+      subst (λ (k : ℕ). AreCells (edit_cells MOST_EDITS d.edits) k (place_of e.id) e.value) (omega arith) (cells-of i below) in
       let place : slice_index (desk_cells d) (2 * (1 + i) + 2) ≡ place_of e.id = table-place d (1 + i) (place_of e.id) e.value (omega arith) c in
       record {
         place_from = rw place (place-from e.id has);
@@ -295,14 +295,14 @@ module _ (d : Desk) (r : IsInRange d) where
         value = subst (λ (x : Edit). x.value ≤ greatest x.id.object) (sym same) (value-taken e.id e.value (taken i below));
       }
 
-  blank-row-at : (k : ℕ) → length d.edits < k → k ≤ 64 → IsBlankRow (desk_cells d) k
+  blank-row-at : (k : ℕ) → length d.edits < k → k ≤ MOST_EDITS → IsBlankRow (desk_cells d) k
   blank-row-at k over within =
-      let c : AreCells (edit_cells 64 d.edits) (k - 1) 0 0 = cells-behind 64 d.edits (k - 1) (omega (arith, over, within)) (omega (arith, over)) in
+      let c : AreCells (edit_cells MOST_EDITS d.edits) (k - 1) 0 0 = cells-behind MOST_EDITS d.edits (k - 1) (omega (arith, over, within)) (omega (arith, over)) in
       record { place = table-place d k 0 0 (omega (arith, over)) c; value = table-value d k 0 0 (omega (arith, over)) c }
 
   table-by : IsBy (desk_cells d)
   table-by = record {
-    full = ap (λ (n : ℕ). suc (suc (suc (suc n)))) (length-cells 64 d.edits);
+    full = ap (λ (n : ℕ). suc (suc (suc (suc n)))) (length-cells MOST_EDITS d.edits);
     owner = owner-within d.owner r.owner;
     state = state-within d.state;
     rule = rule-within d.rule;

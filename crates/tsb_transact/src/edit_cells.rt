@@ -8,6 +8,7 @@ ghost use Rattle.tsb_cells.specs.Bank.{cells_of, kept_of, is_open};
 ghost use Rattle.tsb_plan.specs.Objects.{greatest};
 ghost use Rattle.tsb_plan.specs.declared.object.TheConstants.{PLAN_CELLS};
 ghost use Rattle.tsb_plan.specs.PlanOf.{put_refusal};
+ghost use Rattle.tsb_transact.specs.declared.TheConstants.{MOST_EDITS};
 ghost use Rattle.tsb_transact.specs.Calls.{has_no_room, with_set};
 ghost use Rattle.tsb_transact.specs.Cells.{IsBy, desk_in, id_at};
 ghost use Rattle.tsb_transact.specs.Desk.{closed};
@@ -26,7 +27,7 @@ use tsb_objects::{ObjectId, Refusal};
 /// A map without edits, with room for 64. E1 is its only refusal.
 pub fn empty_map(alloc: Global) -> Result<IndexMap<u32, u32>, Refusal>
     ensures empty { UnlessMemory (λ edits. edits.entries ≡ []) result }
-    ensures room { UnlessMemory (λ edits. 64 ≤ index_map_len edits + spare edits) result }
+    ensures room { UnlessMemory (λ edits. MOST_EDITS ≤ index_map_len edits + spare edits) result }
 {
     match IndexMap::with_capacity(alloc, MOST_EDITS) {
         Ok(edits) => Ok(edits),
@@ -37,9 +38,9 @@ pub fn empty_map(alloc: Global) -> Result<IndexMap<u32, u32>, Refusal>
 /// Makes the map that of the cells' edits. Its room for 64 is kept, so no memory is taken.
 pub fn refill(edits: &mut IndexMap<u32, u32>, bank: &Bank<CELLS>)
     requires row { IsRow (cells_of bank.now) }
-    requires room { 64 ≤ index_map_len edits.old + spare edits.old }
+    requires room { MOST_EDITS ≤ index_map_len edits.old + spare edits.old }
     ensures entries { edits.new.entries ≡ pairs_in (cells_of bank.now) }
-    ensures room { 64 ≤ index_map_len edits.new + spare edits.new }
+    ensures room { MOST_EDITS ≤ index_map_len edits.new + spare edits.new }
 {
     edits.clear();
     for k in 0..bank.get(COUNT) as usize {
@@ -87,16 +88,16 @@ fn add_edit(bank: &mut Bank<CELLS>, edits: &mut IndexMap<u32, u32>, place: u32, 
     requires opened { is_open bank.old ≡ true }
     requires by { IsBy (cells_of bank.old) }
     requires tied { edits.old.entries ≡ pairs_in (cells_of bank.old) }
-    requires room { 64 ≤ index_map_len edits.old + spare edits.old }
+    requires room { MOST_EDITS ≤ index_map_len edits.old + spare edits.old }
     requires from { 1 ≤ place }
     requires to { place ≤ PLAN_CELLS }
     requires fits { value ≤ greatest (id_at place).object }
-    requires space { slice_index (cells_of bank.old) 3 < 64 }
+    requires space { slice_index (cells_of bank.old) 3 < MOST_EDITS }
     requires absent { get nat_eq edits.old place ≡ None }
     ensures by { IsBy (cells_of bank.new) }
     ensures entries { edits.new.entries ≡ insert_entry nat_eq edits.old.entries place value }
     ensures tied { edits.new.entries ≡ pairs_in (cells_of bank.new) }
-    ensures room { 64 ≤ index_map_len edits.new + spare edits.new }
+    ensures room { MOST_EDITS ≤ index_map_len edits.new + spare edits.new }
     ensures head { (j : ℕ) → j < 3 → slice_index (cells_of bank.new) j ≡ slice_index (cells_of bank.old) j }
     ensures kept { kept_of bank.new ≡ kept_of bank.old }
     ensures opened { is_open bank.new ≡ true }
@@ -113,15 +114,15 @@ fn put_edit(bank: &mut Bank<CELLS>, edits: &mut IndexMap<u32, u32>, place: u32, 
     requires opened { is_open bank.old ≡ true }
     requires by { IsBy (cells_of bank.old) }
     requires tied { edits.old.entries ≡ pairs_in (cells_of bank.old) }
-    requires room { 64 ≤ index_map_len edits.old + spare edits.old }
+    requires room { MOST_EDITS ≤ index_map_len edits.old + spare edits.old }
     requires from { 1 ≤ place }
     requires to { place ≤ PLAN_CELLS }
     requires fits { value ≤ greatest (id_at place).object }
-    requires space { get nat_eq edits.old place ≡ None → slice_index (cells_of bank.old) 3 < 64 }
+    requires space { get nat_eq edits.old place ≡ None → slice_index (cells_of bank.old) 3 < MOST_EDITS }
     ensures by { IsBy (cells_of bank.new) }
     ensures entries { edits.new.entries ≡ insert_entry nat_eq edits.old.entries place value }
     ensures tied { edits.new.entries ≡ pairs_in (cells_of bank.new) }
-    ensures room { 64 ≤ index_map_len edits.new + spare edits.new }
+    ensures room { MOST_EDITS ≤ index_map_len edits.new + spare edits.new }
     ensures head { (j : ℕ) → j < 3 → slice_index (cells_of bank.new) j ≡ slice_index (cells_of bank.old) j }
     ensures kept { kept_of bank.new ≡ kept_of bank.old }
     ensures opened { is_open bank.new ≡ true }
@@ -142,12 +143,12 @@ pub fn edit_transaction(
     requires opened { is_open bank.old ≡ true }
     requires row { IsRow (cells_of bank.old) }
     requires tied { edits.old.entries ≡ pairs_in (cells_of bank.old) }
-    requires room { 64 ≤ index_map_len edits.old + spare edits.old }
+    requires room { MOST_EDITS ≤ index_map_len edits.old + spare edits.old }
     requires owned { is_some (desk_in (cells_of bank.old)).owner ≡ true }
     requires taken { put_refusal id value ≡ None }
     requires space { has_no_room id (desk_in (cells_of bank.old)).edits ≡ false }
     ensures leaves { Leaves (with_set id value (desk_in (cells_of bank.old))) edits.new.entries (cells_of bank.new) }
-    ensures room { 64 ≤ index_map_len edits.new + spare edits.new }
+    ensures room { MOST_EDITS ≤ index_map_len edits.new + spare edits.new }
     ensures kept { kept_of bank.new ≡ kept_of bank.old }
     ensures opened { is_open bank.new ≡ true }
 {
@@ -160,9 +161,9 @@ pub fn edit_transaction(
 /// Closes the transaction: no station owns the desk, and there are no edits.
 pub fn close_transaction(bank: &mut Bank<CELLS>, edits: &mut IndexMap<u32, u32>)
     requires opened { is_open bank.old ≡ true }
-    requires room { 64 ≤ index_map_len edits.old + spare edits.old }
+    requires room { MOST_EDITS ≤ index_map_len edits.old + spare edits.old }
     ensures leaves { Leaves closed edits.new.entries (cells_of bank.new) }
-    ensures room { 64 ≤ index_map_len edits.new + spare edits.new }
+    ensures room { MOST_EDITS ≤ index_map_len edits.new + spare edits.new }
     ensures kept { kept_of bank.new ≡ kept_of bank.old }
     ensures opened { is_open bank.new ≡ true }
 {

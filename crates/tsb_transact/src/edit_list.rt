@@ -3,6 +3,7 @@ ghost use Rattle.std.specs.Prelude.{◌≡◌, ◌&&◌, ◌≤◌, true, slice_
 ghost use Rattle.tsb_cells.specs.Bank.{cells_of};
 ghost use Rattle.tsb_plan.specs.Objects.{has_index};
 ghost use Rattle.tsb_plan.specs.PlanOf.{plan_of};
+ghost use Rattle.tsb_transact.specs.declared.TheConstants.{MOST_EDITS};
 ghost use Rattle.tsb_transact.specs.Cells.{IsBy, desk_in, edit_in};
 ghost use Rattle.tsb_transact.specs.Commit.{changes, changes_some, is_preempt_list};
 ghost use Rattle.tsb_transact.specs.Desk.{with_edits};
@@ -19,7 +20,7 @@ use tsb_objects::{Object, Plan, is_structural};
 /// Edit `k`, from 1.
 pub fn edit(bank: &Bank<CELLS>, k: usize) -> Edit
     requires from { 1 ≤ k }
-    requires within { k ≤ 64 }
+    requires within { k ≤ MOST_EDITS }
     ensures { result ≡ edit_in (cells_of bank.now) k }
 {
     Edit {
@@ -31,7 +32,7 @@ pub fn edit(bank: &Bank<CELLS>, k: usize) -> Edit
 /// All edits, in order.
 #[tactic(auto, unfolding(crate::specs::Cells::desk_in))]
 pub fn edits(bank: &Bank<CELLS>) -> ArrayVec<Edit, MOST_EDITS>
-    requires { slice_index (cells_of bank.now) 3 ≤ 64 }
+    requires { slice_index (cells_of bank.now) 3 ≤ MOST_EDITS }
     ensures { result.items ≡ (desk_in (cells_of bank.now)).edits }
 {
     let mut list = ArrayVec::new();

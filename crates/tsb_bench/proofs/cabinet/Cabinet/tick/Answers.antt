@@ -13,7 +13,7 @@ use Rattle.tsb_step.specs.Step.{last_tick}
 use Rattle.tsb_step.specs.MonitorCells.{lamp_in, trip_in}
 use Rattle.tsb_step.specs.declared.inputs.Input.TheVariants as inputs
 use Rattle.tsb_step.proofs.MonitorLemmas as monitor
-use Rattle.tsb_step.specs.declared.first_cell.TheConstants.{MONITOR}
+use Rattle.tsb_step.specs.declared.first_cell.TheConstants.{LAYER_CELLS, MONITOR}
 use Rattle.tsb_controller.specs.Layer as layers
 use Rattle.tsb_controller.specs.Promises.{IsWatchedTick}
 use Rattle.tsb_controller.specs.Records.{changes}
@@ -51,7 +51,7 @@ overflow_add-tick-then-is_some c = let below : c.args.tick + 1 ≤ last_tick = b
 pub set-requires : goal.set-requires
 set-requires c =
     let none : length c.args.out.now.items ≡ 0 = ap length c.requires.empty in
-    let few : array_vec_len c.close_onto.new.out ≤ array_vec_len c.args.out.now + 210 = c.close_onto.ensures.len in (
+    let few : array_vec_len c.close_onto.new.out ≤ array_vec_len c.args.out.now + LAYER_CELLS = c.close_onto.ensures.len in (
       omega arith,
       (
         c.requires.shut.monitor,
