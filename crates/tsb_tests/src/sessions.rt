@@ -1,4 +1,4 @@
-//! Sessions: whole texts of commands and answers, whatever the reader and the writer do.
+//! Sessions: whole texts of commands and answers, whatever the reader's pieces.
 
 use std::cell::Cell;
 use std::io::{self, Read, Write};
@@ -87,60 +87,6 @@ impl Read for Blanks {
     }
 }
 
-const ROOM: usize = 2048;
-
-/// How a write ends that does not succeed.
-#[derive(Clone, Copy)]
-enum Failure {
-    TakesNothing,
-    Interrupted,
-}
-
-/// Takes few bytes at a time, and fails from one of its writes on.
-#[derive(Drop)]
-struct Narrow {
-    room: [u8; ROOM],
-    len: usize,
-    takes: usize,
-    fails_at: usize,
-    failure: Failure,
-}
-
-impl Write for Narrow {
-    fn write(&mut self, buf: &[u8]) -> io::Result<usize> {
-        if self.fails_at == 0 || self.len > ROOM {
-            return match self.failure {
-                Failure::TakesNothing => Ok(0),
-                Failure::Interrupted => Err(io::Error::from(io::ErrorKind::Interrupted)),
-            };
-        }
-        self.fails_at -= 1;
-        let taken = self.takes.min(buf.len()).min(ROOM - self.len);
-        let end = self.len + taken;
-        self.room[self.len..end].copy_from_slice(&buf[..taken]);
-        self.len = end;
-        Ok(taken)
-    }
-
-    fn flush(&mut self) -> io::Result<()> {
-        Ok(())
-    }
-}
-
-/// Takes all bytes, and never passes them on.
-#[derive(Drop)]
-struct Stuck;
-
-impl Write for Stuck {
-    fn write(&mut self, buf: &[u8]) -> io::Result<usize> {
-        Ok(buf.len())
-    }
-
-    fn flush(&mut self) -> io::Result<()> {
-        Err(io::Error::from(io::ErrorKind::Interrupted))
-    }
-}
-
 const INPUT: &[u8] =
     b"step 2\r\n\n# none\n   \n # a comment begins its line\nback 1\nwhat\nstep\nstep x\nstep 4294967296\nstep 1 1\nstep 0000000001\nstep 00000000001\nstep 0\nshow\nshow it\n\tshow\n  undo  \nseek 5\nback  1\nundo\nundo it\nSTEP 1\nshow\r\r\nbegin 5\nfault W1 G\nset 1 phaseWalk 2\nstep 99999999999\nseek 0\nshow";
 
@@ -205,86 +151,6 @@ fn answers_whatever_the_pieces(rt: HostRuntime) {
         };
         assert!(rt; matches!(talk(&rt, &mut reader, &mut out), Some(Ok(()))));
         assert_eq!(rt; out.as_slice(), OUTPUT);
-    }
-}
-
-#[test]
-fn a_failing_read_leaves_a_prefix(rt: HostRuntime) {
-    for reads in 0..40 {
-        let mut out = Vec::new(rt.alloc());
-        let mut reader = Pieces {
-            left: INPUT,
-            piece: 7,
-            fails_at: reads,
-        };
-        assert!(rt;
-            matches!(
-                talk(&rt, &mut reader, &mut out),
-                Some(Err(SessionError::Read))
-            )
-        );
-        assert!(rt; OUTPUT.starts_with(out.as_slice()));
-    }
-}
-
-#[test]
-fn a_failing_write_leaves_a_prefix(rt: HostRuntime) {
-    for failure in [Failure::TakesNothing, Failure::Interrupted] {
-        for writes in 0..200 {
-            let mut out = Narrow {
-                room: [0; ROOM],
-                len: 0,
-                takes: 3,
-                fails_at: writes,
-                failure,
-            };
-            let mut reader = INPUT;
-            assert!(rt;
-                matches!(
-                    talk(&rt, &mut reader, &mut out),
-                    Some(Err(SessionError::Write))
-                )
-            );
-            let end = out.len.min(ROOM);
-            assert!(rt; OUTPUT.starts_with(&out.room[..end]));
-        }
-    }
-}
-
-#[test]
-fn a_writer_that_passes_nothing_on_is_a_fault(rt: HostRuntime) {
-    let mut reader = b"show\n".as_slice();
-    assert!(rt;
-        matches!(
-            talk(&rt, &mut reader, &mut Stuck),
-            Some(Err(SessionError::Write))
-        )
-    );
-}
-
-/// Each answer is written and flushed before more is read, be it short or longer than what is written at once.
-#[test]
-fn answers_are_shown_before_each_read(rt: HostRuntime) {
-    for (line, answer) in [
-        (b"show\n".as_slice(), 54),
-        (b"what\n", 12),
-        (b"step 200\n", 10_800),
-        (b"# none\n", 0),
-    ] {
-        let screen = Screen {
-            given: Cell::new(0),
-            shown: Cell::new(0),
-        };
-        let mut typist = Typist {
-            screen: &screen,
-            line,
-            answer,
-            typed: 0,
-            lines: 20,
-        };
-        assert!(rt; matches!(talk(&rt, &mut typist, &mut &screen), Some(Ok(()))));
-        assert_eq!(rt; typist.typed, 20);
-        assert_eq!(rt; screen.shown.get(), 20 * answer);
     }
 }
 
