@@ -1,6 +1,6 @@
 //! Answers to commands.
 
-ghost use Rattle.std.specs.Prelude.{◌≡◌, ◌+◌, [], ◌∷◌, List, MatchResult, OnErr, OnOk};
+ghost use Rattle.std.specs.Prelude.{◌≡◌, ◌+◌, [], ◌∷◌, List, MatchResult, OnErr, OnOk, true};
 ghost use Rattle.tsb_plan.specs.Plan as words;
 ghost use Rattle.tsb_past.specs.declared.commands.Answer.TheVariants.{Took, Refused};
 ghost use Rattle.tsb_past.specs.declared.commands.Command.TheVariants.{Apply};
@@ -33,8 +33,9 @@ pub(crate) fn obey<W: Write>(
     pending: &mut Pending,
     writer: &mut W,
 ) -> Result<(), WriteError>
-    ensures { (given : Setup) (inputs : List InputValue) → Stands given log.now (whole bench.old) inputs
-        → Done result given log.now (whole bench.new) (Answers given inputs command) (W.contents writer.old) (W.contents writer.new) pending.old pending.new }
+    ensures done { (given : Given) (inputs : List InputValue) → Stands given log.now (whole bench.old) inputs
+        → Done result given log.now (whole bench.new) (Answers given inputs command) (W.contents writer.old) (W.contents writer.new) pending.old.waits pending.new.waits }
+    ensures blame { OnErr result (pending.new.watch.failed ≡ true) }
 {
     match command {
         Command::Step(ticks) => step(bench, log, place, ticks, pending, writer),
@@ -67,8 +68,9 @@ fn step<W: Write>(
     pending: &mut Pending,
     writer: &mut W,
 ) -> Result<(), WriteError>
-    ensures { (given : Setup) (inputs : List InputValue) → Stands given log.now (whole bench.old) inputs
-        → Done result given log.now (whole bench.new) (Steps given inputs ticks) (W.contents writer.old) (W.contents writer.new) pending.old pending.new }
+    ensures done { (given : Given) (inputs : List InputValue) → Stands given log.now (whole bench.old) inputs
+        → Done result given log.now (whole bench.new) (Steps given inputs ticks) (W.contents writer.old) (W.contents writer.new) pending.old.waits pending.new.waits }
+    ensures blame { OnErr result (pending.new.watch.failed ≡ true) }
 {
     for _i in 0..ticks {
         let row = log.row(next_tick(bench), place);
@@ -108,8 +110,9 @@ fn apply<W: Write>(
     pending: &mut Pending,
     writer: &mut W,
 ) -> Result<(), WriteError>
-    ensures { (given : Setup) (log : List LogRow) (inputs : List InputValue) → Stands given log (whole bench.old) inputs
-        → Done result given log (whole bench.new) (Asked given inputs (Apply input)) (W.contents writer.old) (W.contents writer.new) pending.old pending.new }
+    ensures done { (given : Given) (log : List LogRow) (inputs : List InputValue) → Stands given log (whole bench.old) inputs
+        → Done result given log (whole bench.new) (Asked given inputs (Apply input)) (W.contents writer.old) (W.contents writer.new) pending.old.waits pending.new.waits }
+    ensures blame { OnErr result (pending.new.watch.failed ≡ true) }
 {
     ask(bench, Ask::Apply(input), pending, writer)
 }
@@ -121,8 +124,9 @@ fn ask<W: Write>(
     pending: &mut Pending,
     writer: &mut W,
 ) -> Result<(), WriteError>
-    ensures { (given : Setup) (log : List LogRow) (inputs : List InputValue) → Stands given log (whole bench.old) inputs
-        → Done result given log (whole bench.new) (Asked given inputs command) (W.contents writer.old) (W.contents writer.new) pending.old pending.new }
+    ensures done { (given : Given) (log : List LogRow) (inputs : List InputValue) → Stands given log (whole bench.old) inputs
+        → Done result given log (whole bench.new) (Asked given inputs command) (W.contents writer.old) (W.contents writer.new) pending.old.waits pending.new.waits }
+    ensures blame { OnErr result (pending.new.watch.failed ≡ true) }
 {
     match answer(bench, command) {
         Answer::Took => pending.say(writer, taken_line(&command, bench)),
@@ -140,8 +144,9 @@ fn say_change<W: Write>(
     pending: &mut Pending,
     writer: &mut W,
 ) -> Result<(), WriteError>
-    ensures ok { OnOk result (Said (W.contents writer.old) (W.contents writer.new) pending.old pending.new (with_feed (when_line tick))) }
-    ensures fault { OnErr result (Said (W.contents writer.old) (W.contents writer.new) pending.old pending.new []) }
+    ensures ok { OnOk result (Said (W.contents writer.old) (W.contents writer.new) pending.old.waits pending.new.waits (with_feed (when_line tick))) }
+    ensures fault { OnErr result (Said (W.contents writer.old) (W.contents writer.new) pending.old.waits pending.new.waits []) }
+    ensures blame { OnErr result (pending.new.watch.failed ≡ true) }
 {
     match tick {
         Some(tick) => pending.say(writer, &tick_line(tick)),

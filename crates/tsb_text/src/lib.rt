@@ -8,6 +8,8 @@ mod error;
 mod lines;
 mod pending;
 mod talk;
+mod waiting;
+mod watch;
 
 pub use error::SessionError;
 pub use lines::line;

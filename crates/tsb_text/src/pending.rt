@@ -1,45 +1,28 @@
 //! Answers on their way out.
-#![tactic(auto)]
 
-ghost use Rattle.std.specs.Prelude.{◌≡◌, ◌≤◌, [], length, OnOk, OnErr};
+ghost use Rattle.std.specs.Prelude.{◌≡◌, ◌≤◌, [], length, OnErr, OnOk, true};
 ghost use Rattle.tsb_text.specs.Written.{Said, with_feed};
 
 use crate::error::WriteError;
-use arrayvec::ArrayVec;
+use crate::waiting::Waiting;
+use crate::watch::Watch;
 use std::io::Write;
-use std::marker::Model;
 
-/// How many bytes of answers are put together before they are written.
-const ROOM: usize = 8192;
-
-/// Answers that were said and have not gone out yet.
+/// Answers that were said and have not gone out yet, and what has become of the writer's calls.
 #[derive(Drop)]
 pub(crate) struct Pending {
-    bytes: ArrayVec<u8, ROOM>,
-    /// How many of the bytes have gone out.
-    gone: usize,
-}
-
-impl Model for Pending {
-    ghost use Rattle.std.specs.Prelude.{ℕ, List, drop, length, ◌≤◌};
-
-    ghost Value = { List ℕ };
-
-    ghost view = { λ a. drop a.gone a.bytes.items };
-
-    ghost invariant = { λ a. a.gone ≤ length a.bytes.items };
+    waits: Waiting,
+    watch: Watch,
 }
 
 impl Pending {
-    /// The greatest length of a line with its line feed, in bytes.
-    const LINE: usize = 64;
-
     pub(crate) fn new() -> Pending
-        ensures { result ≡ [] }
+        ensures waits { result.waits ≡ [] }
+        ensures flushed { result.watch.flushed ≡ true }
     {
         Pending {
-            bytes: ArrayVec::new(),
-            gone: 0,
+            waits: Waiting::new(),
+            watch: Watch::new(),
         }
     }
 
@@ -47,34 +30,21 @@ impl Pending {
     /// the line was not said.
     pub(crate) fn say<W: Write>(&mut self, writer: &mut W, line: &[u8]) -> Result<(), WriteError>
         requires { length line.now ≤ 63 }
-        ensures ok { OnOk result (Said (W.contents writer.old) (W.contents writer.new) self.old self.new (with_feed line.now)) }
-        ensures fault { OnErr result (Said (W.contents writer.old) (W.contents writer.new) self.old self.new []) }
+        ensures ok { OnOk result (Said (W.contents writer.old) (W.contents writer.new) self.old.waits self.new.waits (with_feed line.now)) }
+        ensures fault { OnErr result (Said (W.contents writer.old) (W.contents writer.new) self.old.waits self.new.waits []) }
+        ensures blame { OnErr result (self.new.watch.failed ≡ true) }
     {
-        if self.bytes.remaining_capacity() < Self::LINE {
-            self.send(writer)?;
-            self.gone = 0;
-            self.bytes.clear();
-            let _ = self.bytes.try_extend_from_slice(line);
-            self.bytes.push(b'\n');
-            return Ok(());
-        }
-        let _ = self.bytes.try_extend_from_slice(line);
-        self.bytes.push(b'\n');
-        Ok(())
+        self.waits.say(&mut self.watch, writer, line)
     }
 
-    /// Writes all that waits, by a loop of its own: an interrupted write, or one that takes no byte, is a fault.
+    /// Writes all that waits, and has the writer pass it on.
     pub(crate) fn send<W: Write>(&mut self, writer: &mut W) -> Result<(), WriteError>
-        ensures said { Said (W.contents writer.old) (W.contents writer.new) self.old self.new [] }
-        ensures ok { OnOk result (self.new ≡ []) }
+        ensures said { Said (W.contents writer.old) (W.contents writer.new) self.old.waits self.new.waits [] }
+        ensures ok { OnOk result (self.new.waits ≡ []) }
+        ensures flushed { OnOk result (self.new.watch.flushed ≡ true) }
+        ensures blame { OnErr result (self.new.watch.failed ≡ true) }
     {
-        while self.gone < self.bytes.len() {
-            match writer.write(&self.bytes[self.gone..]) {
-                Ok(0) => return Err(WriteError),
-                Ok(count) => self.gone += count,
-                Err(_) => return Err(WriteError),
-            }
-        }
-        Ok(())
+        self.waits.send(&mut self.watch, writer)?;
+        self.watch.flush(writer)
     }
 }

@@ -1,6 +1,8 @@
 //! Sessions: commands in, answers out.
 
-ghost use Rattle.std.specs.Prelude.{◌≡◌, ◌∷◌, [], ◌++◌, ℕ, List, Ok, OnOk};
+ghost use Rattle.std.specs.Prelude.{◌≡◌, ◌∷◌, [], ◌++◌, ℕ, List, Err, Ok, OnErr, OnOk, true};
+ghost use Rattle.std.specs.Io.{ReadsAtMost};
+ghost use Rattle.std.specs.Io.KnownBytes.{ReadConsumes};
 ghost use Rattle.tsb_lines.specs.Lines.{HasNoFeed};
 ghost use Rattle.tsb_objects.specs.Checked.{checked_plan};
 ghost use Rattle.tsb_step.specs.declared.inputs.Input.{Input};
@@ -8,6 +10,7 @@ ghost use Rattle.tsb_bench.specs.Held.{whole};
 ghost use Rattle.tsb_text.specs.Answers.{Setup};
 ghost use Rattle.tsb_text.specs.Ended.{Ended};
 ghost use Rattle.tsb_text.specs.Talk.{Stands, Obeyed, Went, Finished, Holds, HeldAfter, as_session};
+ghost use Rattle.tsb_text.specs.declared.error.SessionError.TheVariants.{Write};
 ghost use Rattle.tsb_text.specs.declared.talk.Flow.TheVariants.{Over};
 ghost use Rattle.tsb_command_text.specs.declared.command.Reading.TheVariants.{Leave};
 ghost use Rattle.tsb_text.specs.Written.{Said, Wrote};
@@ -17,7 +20,7 @@ use crate::error::{SessionError, WriteError};
 use crate::pending::Pending;
 use arrayvec::ArrayVec;
 use std::alloc::Global;
-use std::io::{Read, Write};
+use std::io::{self, Read, Write};
 use tsb_bench::Bench;
 use tsb_command_text::{LINE, Reading, reading_of};
 use tsb_lines::without_return;
@@ -57,9 +60,10 @@ impl Talk {
         asked: Reading,
         writer: &mut W,
     ) -> Result<Flow, WriteError>
-        ensures obeyed { (given : Setup) (inputs : List Input) → Stands given log.now (whole self.old.bench) inputs
-            → Obeyed result given inputs asked log.now (whole self.new.bench) (W.contents writer.old) (W.contents writer.new) self.old.pending self.new.pending }
+        ensures obeyed { (given : Given) (inputs : List Input) → Stands given log.now (whole self.old.bench) inputs
+            → Obeyed result given inputs asked log.now (whole self.new.bench) (W.contents writer.old) (W.contents writer.new) self.old.pending.waits self.new.pending.waits }
         ensures held { self.new.held ≡ self.old.held }
+        ensures blame { OnErr result (self.new.pending.watch.failed ≡ true) }
         ensures over { result ≡ Ok Over → asked ≡ Leave }
     {
         match asked {
@@ -86,9 +90,10 @@ impl Talk {
     /// Takes one byte more.
     fn feed<W: Write>(&mut self, log: &Log, byte: u8, writer: &mut W) -> Result<Flow, WriteError>
         requires { HasNoFeed self.old.held.items }
-        ensures went { (given : Setup) (inputs : List Input) → Stands given log.now (whole self.old.bench) inputs
-            → Went result given inputs (self.old.held.items ++ byte ∷ []) log.now (whole self.new.bench) self.new.held.items (W.contents writer.old) (W.contents writer.new) self.old.pending self.new.pending }
+        ensures went { (given : Given) (inputs : List Input) → Stands given log.now (whole self.old.bench) inputs
+            → Went result given inputs (self.old.held.items ++ byte ∷ []) log.now (whole self.new.bench) self.new.held.items (W.contents writer.old) (W.contents writer.new) self.old.pending.waits self.new.pending.waits }
         ensures clean { HasNoFeed self.new.held.items }
+        ensures blame { OnErr result (self.new.pending.watch.failed ≡ true) }
         ensures holds { (bytes : List ℕ) → Holds bytes self.old.held.items → HeldAfter result (bytes ++ byte ∷ []) self.new.held.items }
     {
         if byte == b'\n' {
@@ -110,9 +115,10 @@ impl Talk {
         writer: &mut W,
     ) -> Result<Flow, WriteError>
         requires { HasNoFeed self.old.held.items }
-        ensures went { (given : Setup) (inputs : List Input) → Stands given log.now (whole self.old.bench) inputs
-            → Went result given inputs (self.old.held.items ++ bytes.now) log.now (whole self.new.bench) self.new.held.items (W.contents writer.old) (W.contents writer.new) self.old.pending self.new.pending }
+        ensures went { (given : Given) (inputs : List Input) → Stands given log.now (whole self.old.bench) inputs
+            → Went result given inputs (self.old.held.items ++ bytes.now) log.now (whole self.new.bench) self.new.held.items (W.contents writer.old) (W.contents writer.new) self.old.pending.waits self.new.pending.waits }
         ensures clean { HasNoFeed self.new.held.items }
+        ensures blame { OnErr result (self.new.pending.watch.failed ≡ true) }
         ensures holds { (before : List ℕ) → Holds before self.old.held.items → HeldAfter result (before ++ bytes.now) self.new.held.items }
     {
         for byte in bytes {
@@ -127,8 +133,9 @@ impl Talk {
     /// Answers what stands behind the last line feed, at the end of the input, and writes all that waits.
     fn finish<W: Write>(&mut self, log: &Log, writer: &mut W) -> Result<(), WriteError>
         requires { HasNoFeed self.old.held.items }
-        ensures { (given : Setup) (inputs : List Input) → Stands given log.now (whole self.old.bench) inputs
-            → Wrote (W.contents writer.old) (W.contents writer.new) self.old.pending self.new.pending (Finished result given inputs self.old.held.items self.new.pending) }
+        ensures finished { (given : Given) (inputs : List Input) → Stands given log.now (whole self.old.bench) inputs
+            → Wrote (W.contents writer.old) (W.contents writer.new) self.old.pending.waits self.new.pending.waits (Finished result given inputs self.old.held.items self.new.pending.waits) }
+        ensures blame { OnErr result (self.new.pending.watch.failed ≡ true) }
     {
         let asked = reading_of(&self.held);
         let _ = self.answer(log, asked, writer)?;
@@ -137,15 +144,13 @@ impl Talk {
 
     /// Writes all that waits, and has the writer pass it on.
     fn send<W: Write>(&mut self, writer: &mut W) -> Result<(), WriteError>
-        ensures said { Said (W.contents writer.old) (W.contents writer.new) self.old.pending self.new.pending [] }
-        ensures ok { OnOk result (self.new.pending ≡ []) }
+        ensures said { Said (W.contents writer.old) (W.contents writer.new) self.old.pending.waits self.new.pending.waits [] }
+        ensures ok { OnOk result (self.new.pending.waits ≡ []) }
+        ensures flushed { OnOk result (self.new.pending.watch.flushed ≡ true) }
+        ensures blame { OnErr result (self.new.pending.watch.failed ≡ true) }
         ensures rest { (self.new.bench ≡ self.old.bench) × (self.new.held ≡ self.old.held) }
     {
-        self.pending.send(writer)?;
-        match writer.flush() {
-            Ok(()) => Ok(()),
-            Err(_) => Err(WriteError),
-        }
+        self.pending.send(writer)
     }
 
     /// Reads commands and answers them, up to a line that ends the session or the end of what is read.
@@ -156,16 +161,18 @@ impl Talk {
         writer: &mut W,
     ) -> Result<(), SessionError>
         requires held { self.old.held.items ≡ [] }
-        requires waits { self.old.pending ≡ [] }
-        ensures { (given : Setup) → Stands given log.now (whole self.old.bench) []
+        requires waits { self.old.pending.waits ≡ [] }
+        requires flushed { self.old.pending.watch.flushed ≡ true }
+        ensures ended { (given : Given) → Stands given log.now (whole self.old.bench) []
             → Ended result given (R.remaining reader.old) (R.remaining reader.new) (W.contents writer.old) (W.contents writer.new) }
+        ensures blame { result ≡ Err Write → self.new.pending.watch.failed ≡ true }
     {
         let mut chunk = [0; CHUNK];
         let mut left = COMMANDS;
         loop {
             let most = left.min(CHUNK).max(1);
             let room = &mut chunk[..most];
-            let count = match reader.read(room) {
+            let count = match read_more(reader, room, &self.pending) {
                 Ok(count) => count,
                 Err(_) => return Err(SessionError::Read),
             };
@@ -191,6 +198,16 @@ impl Talk {
             }
         }
     }
+}
+
+/// Reads more commands, once all that was answered has gone out and was flushed.
+fn read_more<R: Read>(reader: &mut R, room: &mut [u8], pending: &Pending) -> io::Result<usize>
+    requires sent { pending.now.waits ≡ [] }
+    requires flushed { pending.now.watch.flushed ≡ true }
+    ensures bound { ReadsAtMost result room.new }
+    ensures bytes { ReadConsumes (R.remaining reader.old) (R.remaining reader.new) result room.new }
+{
+    reader.read(room)
 }
 
 /// What a session ends with after this.

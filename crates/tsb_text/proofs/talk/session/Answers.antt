@@ -9,5 +9,5 @@ use Rattle.tsb_text.proofs.talk.session.Goals as goal
 -- the bench at power-up has come by no input
 pub returns : goal.returns
 returns g c =
-    c.run.ensures (record { plan = checked_plan c.args.plan; log = c.args.log.now })
+    c.run.ensures.ended (record { plan = checked_plan c.args.plan; log = c.args.log.now })
     (record { same = refl; follows = follows-start controller (start (checked_plan c.args.plan)) (whole c.in-Ok.bench) c.in-Ok.ensures })

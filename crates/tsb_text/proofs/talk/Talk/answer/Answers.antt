@@ -9,4 +9,4 @@ returns-in_err-say-in-Bad-clause-obeyed g c given is s = let p = err_from_is_err
 
 pub returns-in_err-obey-in-Do-clause-obeyed : goal.returns-in_err-obey-in-Do-clause-obeyed
 returns-in_err-obey-in-Do-clause-obeyed g c given is s = let p = err_from_is_err_and c.from_residual-in_err-obey-in-Do.result c.from_residual-in_err-obey-in-Do.ensures.1 in
-    rw p.1 (obeyed-do_fault given c.args.log.now is (whole c.obey.new.bench) c.args.asked c.in-Do.command _ _ _ _ c.in_err-obey-in-Do.field-0.0 c.in-Do.is (c.in_err-obey-in-Do.ensures given is s))
+    rw p.1 (obeyed-do_fault given c.args.log.now is (whole c.obey.new.bench) c.args.asked c.in-Do.command _ _ _ _ c.in_err-obey-in-Do.field-0.0 c.in-Do.is (c.in_err-obey-in-Do.ensures.done given is s))

@@ -11,7 +11,7 @@ abbrev pub invariant-loop-byte : goal.invariant-loop-byte
 invariant-loop-byte g l = record {
   talking : (given : Setup) (is : List Input) → Stands given l.log (whole l.fn.self.bench) is
       → Talking given l.log is (l.fn.self.held.items ++ take l.byte-index l.bytes) (whole l.self.bench) l.self.held.items
-      (g.W.Write.contents l.fn.writer) (g.W.Write.contents l.writer) l.fn.self.pending l.self.pending;
+      (g.W.Write.contents l.fn.writer) (g.W.Write.contents l.writer) l.fn.self.pending.waits l.self.pending.waits;
   clean : HasNoFeed l.self.held.items;
   holds : (before : List ℕ) → Holds before l.fn.self.held.items → Holds (before ++ take l.byte-index l.bytes) l.self.held.items;
 }

@@ -1,4 +1,4 @@
-use Rattle.std.proofs.Common.{◌≡◌, []}
+use Rattle.std.proofs.Common.{◌≡◌, [], true}
 use Rattle.tsb_bench.specs.Held.{whole}
 use Rattle.tsb_lines.specs.Lines.{HasNoFeed}
 use Rattle.tsb_text.specs.Answers.{Setup}
@@ -7,10 +7,11 @@ use Rattle.tsb_text.proofs.talk.Talk.run.Given as goal
 
 abbrev pub invariant-loop-count : goal.invariant-loop-count
 invariant-loop-count g l = record {
-  going : (given : Setup) → Stands given l.log (whole l.fn.self.bench) []
-      → Going given l.log (whole l.self.bench) l.self.held.items l.left (g.R.Read.remaining l.fn.reader) (g.R.Read.remaining l.reader) (g.W.Write.contents l.fn.writer) (g.W.Write.contents l.writer) l.self.pending;
+  going : (given : Given) → Stands given l.log (whole l.fn.self.bench) []
+      → Going given l.log (whole l.self.bench) l.self.held.items l.left (g.R.Read.remaining l.fn.reader) (g.R.Read.remaining l.reader) (g.W.Write.contents l.fn.writer) (g.W.Write.contents l.writer) l.self.pending.waits;
   clean : HasNoFeed l.self.held.items;
-  sent : l.self.pending ≡ [];
+  sent : l.self.pending.waits ≡ [];
+  flushed : l.self.pending.watch.flushed ≡ true;
 }
 
 abbrev pub decreases-loop-count : goal.decreases-loop-count

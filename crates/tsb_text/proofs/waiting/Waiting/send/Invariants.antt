@@ -1,6 +1,6 @@
 use Rattle.std.proofs.Common.{[], ◌≤◌, ◌-◌, drop, length}
 use Rattle.tsb_text.specs.Written.{Said}
-use Rattle.tsb_text.proofs.pending.Pending.send.Given as goal
+use Rattle.tsb_text.proofs.waiting.Waiting.send.Given as goal
 
 abbrev pub invariant-loop-self : goal.invariant-loop-self
 invariant-loop-self g l = record {

@@ -1,7 +1,7 @@
 use Rattle.std.proofs.Common.{[], List, ℕ, rules, drop, subst}
 use Rattle.tsb_text.specs.Written.{Said}
 use Rattle.tsb_text.proofs.WrittenLemmas.{said-nothing, said-gone, said-kept}
-use Rattle.tsb_text.proofs.pending.Pending.send.Goals as goal
+use Rattle.tsb_text.proofs.waiting.Waiting.send.Goals as goal
 
 pub loop-self-init : goal.loop-self-init
 loop-self-init g c = record {
