@@ -100,11 +100,16 @@ def word_runs():
         ["check"], ["run"], ["run", "two.json"], ["what"], ["two.json"], [""], ["check", "two.json", "two.json"],
         ["run", "two.json", "empty.log", "empty.log"], ["--help"], ["-h"], ["help"], ["--version"], ["--what"],
         ["check", "--help"], ["check", "two.json", "--what"], ["check", "--what"], ["Check", "two.json"],
+        ["check", "-x"], ["--", "two.json"], ["--", "check", "two.json"], ["check", "--"],
+        ["check", "--", "two.json", "--"],
         [b"\xff"], ["check", b"\xff.json"], ["run", "two.json", b"\xc3"], [b"\xff", "two.json"],
     ]:
         yield Run(words, 2, b"", USAGE, b"step 1\n")
     for path in ["./two.json", ".two.json", "folder/../two.json", "with spaces/two.json", TWELVE, "check", "run"]:
         yield Run(["check", path], 0, OK)
+    for words in [["check", "--", "two.json"], ["check", "two.json", "--"], ["check", "--", "--help"]]:
+        yield Run(words, 0, OK)
+    yield Run(["run", "--", "two.json", "empty.log"], 0)
     yield Run(["check", "two.json "], 1, RULE)
     yield Run(["check", " two.json"], 1, RULE)
 
@@ -187,7 +192,7 @@ def fill(folder):
     for name in ["folder", "with spaces"]:
         (folder / name).mkdir()
     plan = (folder / "two.json").read_bytes()
-    for name in [".two.json", "with spaces/two.json", TWELVE, "check", "run"]:
+    for name in [".two.json", "with spaces/two.json", TWELVE, "check", "run", "--help"]:
         (folder / name).write_bytes(plan)
     (folder / "longest.json").write_bytes(plan.ljust(LONGEST_PLAN))
     (folder / "too_long.json").write_bytes(plan.ljust(LONGEST_PLAN + 1))

@@ -17,6 +17,7 @@ use Rattle.tsb_plan.specs.Two.{two}
 use Rattle.tsb_plan_text.specs.declared.error.PlanError.{PlanError}
 use Rattle.tsb_log_text.specs.declared.error.LogError.{LogError}
 use Rattle.tsb_text.specs.declared.error.SessionError.{SessionError}
+use Rattle.tsb_text.specs.declared.error.SessionError.TheVariants.{Write}
 use Rattle.tsb_text.specs.Answers.{Setup}
 use Rattle.tsb_text.specs.Ended.{Ended}
 use Rattle.tsb.specs.Lines.{AppendsFront, Fails, FailsToRead, TellsWords, plan_line, log_line}
@@ -40,13 +41,29 @@ abbrev pub Talked : ℕ → Setup → Option (List ℕ) → Option (List ℕ) �
 Talked status given input left old new =
     (result : Result (Unit {0}) SessionError) × (status ≡ after_session result) × Ended result given input left old new
 
--- how `run` ended on the files of a plan and a log: after a session; or, with nothing written on output, with 1 because
--- one of them gives none, or with 3
-abbrev pub Ran : ℕ → Option (List ℕ) → Option (List ℕ) → Option (List ℕ) → Option (List ℕ) → Option (List ℕ) → Option (List ℕ) → Type 0
-Ran status plan log input left old new =
-    ((given : Setup) × HasPlan plan given.plan × HasLog log given.log × Talked status given input left old new)
-    ⊎ (((status ≡ 1) × (HasNoPlan plan ⊎ HasNoLog log) × (new ≡ old))
-    ⊎ ((status ≡ 3) × (new ≡ old)))
+-- a session ended well with 0 and nothing told, or by a fault, with 3 and its line
+abbrev pub EndsSo : Result (Unit {0}) SessionError → ℕ → Option (List ℕ) → Option (List ℕ) → Type 0
+EndsSo (Ok u) status told tells = (status ≡ 0) × (tells ≡ told)
+EndsSo (Err fault) status told tells = Fails fault status told tells
+
+-- a session on this plan and log ended so
+abbrev pub Talked : ℕ → Setup → Option (List ℕ) → Option (List ℕ) → Option (List ℕ) → Option (List ℕ) → Option (List ℕ) → Option (List ℕ) → Type 0
+Talked status given input left old new told tells =
+    (result : Result (Unit {0}) SessionError) × Ended result given input left old new × EndsSo result status told tells
+
+-- there is no session: with 1 because the plan is refused, or because there is a plan and the log is refused, each told by
+-- its own line; or because a file or memory failed
+abbrev pub Stops : ℕ → Option (List ℕ) → Option (List ℕ) → Option (List ℕ) → Option (List ℕ) → Type 0
+Stops status plan log told tells =
+    ((status ≡ 1) × (fault : PlanError) × RefusesPlan plan fault × AppendsFront told tells (plan_line fault))
+    ⊎ (((status ≡ 1) × (found : Plan) × HasPlan plan found × (fault : LogError) × RefusesLog log fault × AppendsFront told tells (log_line fault))
+    ⊎ FailsToRead status told tells)
+
+-- how `run` ended on the files of a plan and a log: after a session, or with nothing read and nothing answered
+abbrev pub Ran : ℕ → Option (List ℕ) → Option (List ℕ) → Option (List ℕ) → Option (List ℕ) → Option (List ℕ) → Option (List ℕ) → Option (List ℕ) → Option (List ℕ) → Type 0
+Ran status plan log input left old new told tells =
+    ((given : Setup) × HasPlan plan given.plan × HasLog log given.log × Talked status given input left old new told tells)
+    ⊎ ((left ≡ input) × (new ≡ old) × Stops status plan log told tells)
 
 -- how the built-in plan of two phases was run with an empty log
 abbrev pub RanBuiltIn : ℕ → Option (List ℕ) → Option (List ℕ) → Option (List ℕ) → Option (List ℕ) → Option (List ℕ) → Option (List ℕ) → Type 0

@@ -33,7 +33,7 @@ pub(crate) fn obey<W: Write>(
     pending: &mut Pending,
     writer: &mut W,
 ) -> Result<(), WriteError>
-    ensures done { (given : Given) (inputs : List InputValue) → Stands given log.now (whole bench.old) inputs
+    ensures done { (given : Setup) (inputs : List InputValue) → Stands given log.now (whole bench.old) inputs
         → Done result given log.now (whole bench.new) (Answers given inputs command) (W.contents writer.old) (W.contents writer.new) pending.old.waits pending.new.waits }
     ensures blame { OnErr result (pending.new.watch.failed ≡ true) }
 {
@@ -68,7 +68,7 @@ fn step<W: Write>(
     pending: &mut Pending,
     writer: &mut W,
 ) -> Result<(), WriteError>
-    ensures done { (given : Given) (inputs : List InputValue) → Stands given log.now (whole bench.old) inputs
+    ensures done { (given : Setup) (inputs : List InputValue) → Stands given log.now (whole bench.old) inputs
         → Done result given log.now (whole bench.new) (Steps given inputs ticks) (W.contents writer.old) (W.contents writer.new) pending.old.waits pending.new.waits }
     ensures blame { OnErr result (pending.new.watch.failed ≡ true) }
 {
@@ -110,7 +110,7 @@ fn apply<W: Write>(
     pending: &mut Pending,
     writer: &mut W,
 ) -> Result<(), WriteError>
-    ensures done { (given : Given) (log : List LogRow) (inputs : List InputValue) → Stands given log (whole bench.old) inputs
+    ensures done { (given : Setup) (log : List LogRow) (inputs : List InputValue) → Stands given log (whole bench.old) inputs
         → Done result given log (whole bench.new) (Asked given inputs (Apply input)) (W.contents writer.old) (W.contents writer.new) pending.old.waits pending.new.waits }
     ensures blame { OnErr result (pending.new.watch.failed ≡ true) }
 {
@@ -124,7 +124,7 @@ fn ask<W: Write>(
     pending: &mut Pending,
     writer: &mut W,
 ) -> Result<(), WriteError>
-    ensures done { (given : Given) (log : List LogRow) (inputs : List InputValue) → Stands given log (whole bench.old) inputs
+    ensures done { (given : Setup) (log : List LogRow) (inputs : List InputValue) → Stands given log (whole bench.old) inputs
         → Done result given log (whole bench.new) (Asked given inputs command) (W.contents writer.old) (W.contents writer.new) pending.old.waits pending.new.waits }
     ensures blame { OnErr result (pending.new.watch.failed ≡ true) }
 {

@@ -60,7 +60,7 @@ impl Talk {
         asked: Reading,
         writer: &mut W,
     ) -> Result<Flow, WriteError>
-        ensures obeyed { (given : Given) (inputs : List Input) → Stands given log.now (whole self.old.bench) inputs
+        ensures obeyed { (given : Setup) (inputs : List Input) → Stands given log.now (whole self.old.bench) inputs
             → Obeyed result given inputs asked log.now (whole self.new.bench) (W.contents writer.old) (W.contents writer.new) self.old.pending.waits self.new.pending.waits }
         ensures held { self.new.held ≡ self.old.held }
         ensures blame { OnErr result (self.new.pending.watch.failed ≡ true) }
@@ -90,7 +90,7 @@ impl Talk {
     /// Takes one byte more.
     fn feed<W: Write>(&mut self, log: &Log, byte: u8, writer: &mut W) -> Result<Flow, WriteError>
         requires { HasNoFeed self.old.held.items }
-        ensures went { (given : Given) (inputs : List Input) → Stands given log.now (whole self.old.bench) inputs
+        ensures went { (given : Setup) (inputs : List Input) → Stands given log.now (whole self.old.bench) inputs
             → Went result given inputs (self.old.held.items ++ byte ∷ []) log.now (whole self.new.bench) self.new.held.items (W.contents writer.old) (W.contents writer.new) self.old.pending.waits self.new.pending.waits }
         ensures clean { HasNoFeed self.new.held.items }
         ensures blame { OnErr result (self.new.pending.watch.failed ≡ true) }
@@ -115,7 +115,7 @@ impl Talk {
         writer: &mut W,
     ) -> Result<Flow, WriteError>
         requires { HasNoFeed self.old.held.items }
-        ensures went { (given : Given) (inputs : List Input) → Stands given log.now (whole self.old.bench) inputs
+        ensures went { (given : Setup) (inputs : List Input) → Stands given log.now (whole self.old.bench) inputs
             → Went result given inputs (self.old.held.items ++ bytes.now) log.now (whole self.new.bench) self.new.held.items (W.contents writer.old) (W.contents writer.new) self.old.pending.waits self.new.pending.waits }
         ensures clean { HasNoFeed self.new.held.items }
         ensures blame { OnErr result (self.new.pending.watch.failed ≡ true) }
@@ -133,7 +133,7 @@ impl Talk {
     /// Answers what stands behind the last line feed, at the end of the input, and writes all that waits.
     fn finish<W: Write>(&mut self, log: &Log, writer: &mut W) -> Result<(), WriteError>
         requires { HasNoFeed self.old.held.items }
-        ensures finished { (given : Given) (inputs : List Input) → Stands given log.now (whole self.old.bench) inputs
+        ensures finished { (given : Setup) (inputs : List Input) → Stands given log.now (whole self.old.bench) inputs
             → Wrote (W.contents writer.old) (W.contents writer.new) self.old.pending.waits self.new.pending.waits (Finished result given inputs self.old.held.items self.new.pending.waits) }
         ensures blame { OnErr result (self.new.pending.watch.failed ≡ true) }
     {
@@ -163,7 +163,7 @@ impl Talk {
         requires held { self.old.held.items ≡ [] }
         requires waits { self.old.pending.waits ≡ [] }
         requires flushed { self.old.pending.watch.flushed ≡ true }
-        ensures ended { (given : Given) → Stands given log.now (whole self.old.bench) []
+        ensures ended { (given : Setup) → Stands given log.now (whole self.old.bench) []
             → Ended result given (R.remaining reader.old) (R.remaining reader.new) (W.contents writer.old) (W.contents writer.new) }
         ensures blame { result ≡ Err Write → self.new.pending.watch.failed ≡ true }
     {

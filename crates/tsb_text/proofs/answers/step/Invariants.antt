@@ -7,5 +7,5 @@ use Rattle.tsb_text.proofs.AnswerLemmas.{Stepping}
 use Rattle.tsb_text.proofs.answers.step.Given as goal
 
 abbrev pub invariant-loop-i : goal.invariant-loop-i
-invariant-loop-i g l = (given : Given) (is : List Input) → Stands given l.log (whole l.fn.bench) is
+invariant-loop-i g l = (given : Setup) (is : List Input) → Stands given l.log (whole l.fn.bench) is
     → Stepping given l.log is l.ticks (whole l.bench) (l.ticks - l._i) (g.W.Write.contents l.fn.writer) (g.W.Write.contents l.writer) l.fn.pending.waits l.pending.waits

@@ -7,7 +7,7 @@ use Rattle.tsb_text.proofs.talk.Talk.run.Given as goal
 
 abbrev pub invariant-loop-count : goal.invariant-loop-count
 invariant-loop-count g l = record {
-  going : (given : Given) → Stands given l.log (whole l.fn.self.bench) []
+  going : (given : Setup) → Stands given l.log (whole l.fn.self.bench) []
       → Going given l.log (whole l.self.bench) l.self.held.items l.left (g.R.Read.remaining l.fn.reader) (g.R.Read.remaining l.reader) (g.W.Write.contents l.fn.writer) (g.W.Write.contents l.writer) l.self.pending.waits;
   clean : HasNoFeed l.self.held.items;
   sent : l.self.pending.waits ≡ [];
