@@ -4,6 +4,7 @@ pub mod SafetyWitnesses
 pub mod PlanFits
 pub mod TickRuns
 pub mod CommitmentRuns
+pub mod WalkRuns
 pub mod CrossingRuns
 pub mod CoordinationRuns
 pub mod ClearanceRuns

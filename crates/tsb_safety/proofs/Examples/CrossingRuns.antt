@@ -1,32 +1,28 @@
--- Runs from power-up that meet all premises of a law at once, as far as a crossing is completed: of crossings, of walks, and of
--- phases that are enabled.
-use Rattle.std.proofs.Common.{suc, ◌≡◌, ◌≢◌, ℕ, ◌+◌, ◌<◌, ◌≤◌, true, false, max, List, [], ◌∷◌, ◌++◌, Some, None, refl, sym, ap, subst, inl, inr, arith, append_assoc, ◌∙◌}
+-- A run from power-up that meets all premises of the laws of crossings and of enabled phases, as far as the crossing is completed.
+use Rattle.std.proofs.Common.{suc, ◌≡◌, ◌≢◌, ℕ, ◌+◌, ◌<◌, ◌≤◌, true, false, max, List, [], ◌∷◌, ◌++◌, Some, None, refl, sym, ap, subst, inl, inr, arith, ◌∙◌}
 use Rattle.tsb_types.specs.Sets.{all_off}
-use Rattle.tsb_types.specs.declared.interval.Interval.TheVariants.{Green}
-use Rattle.tsb_types.specs.declared.interval.PedestrianInterval.TheVariants.{DontWalk, Walk}
 use Rattle.tsb_types.specs.declared.row.Row.{Row}
 use Rattle.tsb_types.specs.Intervals.{in_service}
 use Rattle.tsb_plan.specs.declared.object.Object.{Object}
 use Rattle.tsb_plan.specs.declared.object.Object.TheVariants.{PhaseYellowChange, PhaseRedClear, PhaseRedRevert, UnitRedRevert, PhasePedRecall, PreemptMinimumGreen, PreemptMinimumWalk, PreemptEnterPedClear}
 use Rattle.tsb_plan.specs.Objects.{greatest}
-use Rattle.tsb_plan.specs.Plan.{Plan, is_concurrent, yellow_change, red_clear, red_revert, with_values}
+use Rattle.tsb_plan.specs.Plan.{Plan, yellow_change, red_clear, red_revert, with_values}
 use Rattle.tsb_plan.specs.Quad.{quad}
 use Rattle.tsb_rules.specs.Rules.{first_broken}
 use Rattle.tsb_ring.specs.Rings.{Ring, Ring1}
 use Rattle.tsb_step.specs.declared.inputs.Input.{Input}
 use Rattle.tsb_step.specs.declared.inputs.Input.TheVariants.{Tick, Switch}
-use Rattle.tsb_step.specs.State.{start, interval, pedestrian_part}
+use Rattle.tsb_step.specs.State.{start, interval}
 use Rattle.tsb_step.specs.Step.{step}
 use Rattle.tsb_step.specs.Runs.{replay, AreTaken}
 use Rattle.tsb_step.specs.Laws.{IsConsistent, is_unlit}
 use Rattle.tsb_step.proofs.ClearLemmas.{plan_stays}
 use Rattle.tsb_step.proofs.Examples.Scenes.{opened}
 use Rattle.tsb_safety.specs.Stretches.{IsUntripped, largest, StartsGreen}
-use Rattle.tsb_safety.specs.Intergreens.{WalksBefore}
 use Rattle.tsb_safety.specs.Crossings.{BeginsCrossing, TakesAtMost, IsCompleted, CompletesWithin}
 use Rattle.tsb_safety.proofs.CrossingLemmas.{completes_in_time}
 use Rattle.tsb_safety.proofs.Examples.PlanFits.{Fits, values_fit, quad_fits, consistent}
-use Rattle.tsb_safety.proofs.Examples.TickRuns.{ticks, now_then, plan_then, largest_then, all_taken, none_trips, none_trips_since, AreTicks, older_ticks}
+use Rattle.tsb_safety.proofs.Examples.TickRuns.{ticks, now_then, plan_then, largest_then, all_taken, none_trips, AreTicks, older_ticks}
 use Rattle.tsb_safety.proofs.Examples.CommitmentRuns.{IsKnown}
 
 -- ## A crossing that a preempt asks for in the second tick: it ends the walk of 2 and the greens of 2 and 6 at once
@@ -161,60 +157,6 @@ starts_3 = go (completes_in_time quick (Switch 1 true ∷ walked) (ticks all_off
           started = subst (λ (l : List Input). StartsGreen quick (l ++ crossed) h.next 3) it.same (h.started Ring1 3 commits_to_3);
         }
     go (inr h) = let clock = now_then quick all_off crossed 41 in absurd (omega (arith, clock, h))
-
--- ## Walks are cleared
-
-record WalkThenStart (plan : Plan) (is later : List Input) (row next : Row) (p q : ℕ) : Type 0 where
-  consistent : IsConsistent plan
-  taken : AreTaken plan (later ++ (Tick row ∷ is))
-  walks : WalksBefore plan is row p later next q
-
-no_walk : pedestrian_part (replay quick []) 2 ≡ DontWalk
-no_walk = refl
-
-walks : pedestrian_part (replay quick walked) 2 ≡ Walk
-unfolding opened quick
-walks = refl
-
-dark_1 : (replay quick walked).trip ≡ None
-unfolding opened quick
-dark_1 = refl
-
-dark_switched : (replay quick (Switch 1 true ∷ walked)).trip ≡ None
-unfolding opened quick
-dark_switched = refl
-
-dark_2 : (replay quick crossed).trip ≡ None
-unfolding opened quick
-dark_2 = refl
-
-are_apart : is_concurrent quick 2 3 ≡ false
-unfolding opened quick
-are_apart = refl
-
-abbrev since : List Input
-since = Tick all_off ∷ Switch 1 true ∷ []
-
-few_3 : starts_3.count ≤ 500
-few_3 = let fewer = starts_3.fewer in omega (arith, fewer)
-
-joined : (ticks all_off starts_3.count ++ since) ++ walked ≡ ticks all_off starts_3.count ++ crossed
-joined = append_assoc (ticks all_off starts_3.count) since walked
-
-a_walk : WalkThenStart quick [] (ticks all_off starts_3.count ++ since) all_off starts_3.next 2 3
-a_walk = record {
-  consistent = known.consistent;
-  taken = subst (λ (l : List Input). AreTaken quick l) (sym joined) (all_taken quick all_off crossed starts_3.count taken (in_time starts_3.count few_3));
-  walks = record {
-    no_walk = λ h. (let bad : DontWalk ≡ Walk = sym no_walk ∙ h in absurd cc);
-    walks = walks;
-    untripped = none_trips_since quick all_off walked since starts_3.count known.consistent taken unlit (in_time starts_3.count few_3) ((dark_1, dark_switched), dark_2);
-    started = subst (λ (l : List Input). StartsGreen quick l starts_3.next 3) (sym joined) starts_3.started;
-    apart = ap (λ (x : Plan). is_concurrent x 2 3)
-        (ap (λ (l : List Input). (replay quick l).plan) joined ∙ plan_then quick all_off crossed starts_3.count ∙ same_plan)
-        ∙ are_apart;
-  };
-}
 
 -- ## Enabled phases are served
 

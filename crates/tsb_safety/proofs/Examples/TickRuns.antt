@@ -66,7 +66,7 @@ module _ (plan : Plan) (row : Row) (is : List Input) where
         taken_then (replay plan (ticks row n ++ is)) row (omega (arith, few, before))),
   )
 
-  unlit_then : (n : ℕ) → is_unlit plan is ≡ true → is_unlit plan (ticks row n ++ is) ≡ true
+  pub unlit_then : (n : ℕ) → is_unlit plan is ≡ true → is_unlit plan (ticks row n ++ is) ≡ true
   unlit_then zero h = h
   unlit_then (suc n) h = unlit_then n h
 
