@@ -26,7 +26,7 @@ IsFront known most bytes = IfSome known (λ all. bytes ≡ take most all)
 abbrev pub HasPlan : Option (List ℕ) → Plan → Type 0
 HasPlan known plan = (text : List ℕ) × IsFront known 1048577 text × (reading text ≡ Ok plan)
 
--- the file has a text that gives no plan, for this fault, which is not want of memory
+-- the file has a text that gives no plan, for this fault, which is not out of memory
 abbrev pub RefusesPlan : Option (List ℕ) → PlanError → Type 0
 RefusesPlan known fault =
     (text : List ℕ) × IsFront known 1048577 text × Tells fault (reading text) × (fault ≡ told.Memory → ⊥)
@@ -39,18 +39,18 @@ HasLog known rows = (text : List ℕ) × IsFront known 67108865 text × (log_of 
 abbrev pub RefusesLog : Option (List ℕ) → LogError → Type 0
 RefusesLog known fault = (text : List ℕ) × IsFront known 67108865 text × (log_of text ≡ Err fault)
 
--- want of memory is told as such, and each other fault of a device as a file that was not read
+-- out of memory is told as such, and each other fault of a device as a file that was not read
 abbrev pub file_fault : ErrorKind → FileError
 file_fault device.OutOfMemory = files.Memory
 file_fault kind = files.Read
 
--- what was made of a plan's text: want of memory is no refusal
+-- what was made of a plan's text: out of memory is no refusal
 abbrev pub plan_made : Result Checked PlanError → Result Checked (ReadError PlanError)
 plan_made (Ok plan) = Ok plan
 plan_made (Err told.Memory) = Err (faults.Failed files.Memory)
 plan_made (Err fault) = Err (faults.Refused fault)
 
--- what was made of a log's text: want of memory is no refusal
+-- what was made of a log's text: out of memory is no refusal
 abbrev pub log_made : Result (List LogRow) LogError → Result (List LogRow) (ReadError LogError)
 log_made (Ok rows) = Ok rows
 log_made (Err logs.Memory) = Err (faults.Failed files.Memory)

@@ -14,7 +14,7 @@ use Rattle.tsb_text.specs.Written.{with_feed}
 
 -- ## Out of memory, in a text
 
--- what answers a command that the bench refuses for want of memory
+-- what answers a command that the bench refuses as out of memory
 abbrev pub memory_line : List ℕ
 memory_line = refused_line Memory
 

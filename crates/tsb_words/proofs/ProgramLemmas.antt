@@ -214,7 +214,7 @@ answers-error : (wish : Option Wish) (k : ErrorKind) → wish ≡ None → Spell
 answers-error wish OutOfMemory none = tt
 answers-error wish k none = none
 
--- an error is bad words, or want of memory
+-- an error is bad words, or out of memory
 pub spelled-error : (words : List Text) (e : Error) → HasKind (fault_of program words) e → SpelledBy (wish_of (drop 1 words)) (Err (words_fault (kind_of e)))
 spelled-error words e (inl memory) = subst (λ (k : ErrorKind). SpelledBy (wish_of (drop 1 words)) (Err (words_fault k))) (sym memory) tt
 spelled-error words e (inr among) =

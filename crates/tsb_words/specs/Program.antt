@@ -37,7 +37,7 @@ abbrev pub asked_by : Option (Text × List Row) → Option Wish
 asked_by None = Some built_in
 asked_by (Some met) = asked_for (bytes_eq met.0 (codes "check")) (first_of (codes "PLAN") met.1) (first_of (codes "LOG") met.1)
 
--- want of memory is told as such, and all else that `clap` answers as bad words, help among it
+-- out of memory is told as such, and all else that `clap` answers as bad words, help among it
 abbrev pub words_fault : ErrorKind → WordsError
 words_fault kinds.OutOfMemory = Memory
 words_fault kind = Bad
