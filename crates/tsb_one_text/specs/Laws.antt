@@ -1,5 +1,5 @@
--- What holds of the texts of sessions, as statements. What a session writes is one of the texts that the definition gives
--- (`IsText` of tsb_text). It leaves open where memory runs out, and nothing else.
+-- What holds of the texts of sessions, as statements. What a session writes is one of the texts that the definition
+-- gives (`IsText` of tsb_text). It leaves open where memory runs out, and nothing else.
 --
 -- All are proved, each as the contract of a function that does nothing (src/laws.rt).
 use Rattle.std.specs.Prelude.{◌≡◌, ◌⊎◌, ℕ, Bool, false, List, ◌++◌, Option, Some, Ok, bytes_eq}

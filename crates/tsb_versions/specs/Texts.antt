@@ -1,5 +1,5 @@
--- Plan texts of version 1: the plan of 8 phases and 2 sides that a text names, and what holds of it and of the plan that
--- is read, as statements. How a text is read, or refused, stands in tsb_plan_text.
+-- Plan texts of version 1: the plan of 8 phases and 2 sides that a text names, and what holds of it and of the plan
+-- that is read, as statements. How a text is read, or refused, stands in tsb_plan_text.
 --
 -- All are proved, as the contract of a function that does nothing (src/laws.rt).
 use Rattle.std.specs.Prelude.{◌≡◌, ◌↔◌, ℕ, List, map, if◌then◌else◌, Some, None, Ok}
@@ -25,8 +25,8 @@ pub record IsOfVersion1 (text : List ℕ) (members : Members) : Type 0 where
   pub is_table : as_object value ≡ Some members
   pub tells : version_in members ≡ Some One
 
--- the plan of 8 phases and 2 sides that the members of a text name: at an index of version 1 the number that stands under
--- the object's name and the index, and 0 where none does
+-- the plan of 8 phases and 2 sides that the members of a text name: at an index of version 1 the number that stands
+-- under the object's name and the index, and 0 where none does
 abbrev pub named_plan : Members → Plan
 named_plan members = record {
   phase_count = 8;
@@ -50,9 +50,9 @@ TextsGiveWidePlans = OfReadTexts (λ members plan. SaysTheSame (named_plan membe
 abbrev pub NamedPlansBreakNoRule : Type 0
 NamedPlansBreakNoRule = OfReadTexts (λ members plan. first_broken (named_plan members) ≡ None)
 
--- what a bench of 16 phases and 4 sides does with the plan that is read, beside what one of 8 and 2 does with the plan that
--- is named: both take the same inputs, show the same heads, and are in the same state but for the translated plan and
--- edits
+-- what a bench of 16 phases and 4 sides does with the plan that is read, beside what one of 8 and 2 does with the plan
+-- that is named: both take the same inputs, show the same heads, and are in the same state but for the translated plan
+-- and edits
 pub record GoesAlike (named read : Plan) (is : List Input) : Type 0 where
   pub taken : AreTaken named is ↔ AreTaken read (map widened_input is)
   pub heads : display (replay read (map widened_input is)) ≡ display (replay named is)

@@ -40,9 +40,9 @@ pub fn other_phases_rest()
     ensures { OthersRest }
 {}
 
-/// A plan text of version 1 that is read names a plan of version 1, and gives the wide plan that says the same. The plan
-/// that it names breaks no rule, and a bench of 8 phases and 2 sides would do with it what one of 16 and 4 does with the
-/// plan that is read.
+/// A plan text of version 1 that is read names a plan of version 1, and gives the wide plan that says the same. The
+/// plan that it names breaks no rule, and a bench of 8 phases and 2 sides would do with it what one of 16 and 4 does
+/// with the plan that is read.
 pub fn texts_of_version_1_are_wide()
     ensures narrow { TextsNameNarrowPlans }
     ensures wide { TextsGiveWidePlans }

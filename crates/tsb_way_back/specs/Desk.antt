@@ -1,5 +1,5 @@
--- What holds of the desk after every run, as statements. Both are proved, each as a clause of the contract of a function
--- that does nothing (src/desk_laws.rt).
+-- What holds of the desk after every run, as statements. Both are proved, each as a clause of the contract of a
+-- function that does nothing (src/desk_laws.rt).
 use Rattle.std.specs.Prelude.{◌≡◌, None}
 use Rattle.tsb_rules.specs.Rules.{first_broken}
 use Rattle.tsb_transact.specs.declared.desk_state.DeskState.TheVariants.{Done}
@@ -7,8 +7,8 @@ use Rattle.tsb_transact.specs.Desk.{with_edits}
 use Rattle.tsb_step.specs.Good.{AreFit}
 use Rattle.tsb_step.specs.Laws.{OfEveryRun}
 
--- While the desk is in Done its edits, laid over the plan in effect, break no rule: so a commit that is not refused puts no
--- other plan into effect.
+-- While the desk is in Done its edits, laid over the plan in effect, break no rule: so a commit that is not refused
+-- puts no other plan into effect.
 abbrev pub VerifiedEditsBreakNoRule : Type 0
 VerifiedEditsBreakNoRule = OfEveryRun (λ s. s.desk.state ≡ Done → first_broken (with_edits s.plan s.desk.edits) ≡ None)
 

@@ -1,5 +1,5 @@
--- What the laws refuse: for each a mistake in the definitions, and by computing what comes of it. Beside each stands what
--- the definitions as they are make of the same.
+-- What the laws refuse: for each a mistake in the definitions, and by computing what comes of it. Beside each stands
+-- what the definitions as they are make of the same.
 use Rattle.std.proofs.Common.{◌≡◌, ℕ, suc, ◌<◌, ◌≤◌, false, List, [], ◌∷◌, codes, bytes_eq, refl, arith}
 use Rattle.tsb_history.specs.declared.kinds.Kind.TheVariants as kinds
 use Rattle.tsb_plan.specs.Two.{two}

@@ -1,5 +1,6 @@
--- A session that meets the premises of the laws: on the built-in plan of two phases a tick, a transaction that is opened
--- and taken back, and more ticks back than there are; and the same session where there is no memory for the tick.
+-- A session that meets the premises of the laws: on the built-in plan of two phases a tick, a transaction that is
+-- opened and taken back, and more ticks back than there are; and the same session where there is no memory for the
+-- tick.
 use Rattle.std.proofs.Common.{◌≡◌, ℕ, ◌<◌, true, false, List, [], ◌∷◌, Some, Result, Ok, Err, length, codes, refl, arith, inl, inr}
 use Rattle.tsb_history.specs.declared.kinds.Kind.TheVariants as kinds
 use Rattle.tsb_types.specs.declared.refusal.Refusal.TheVariants.{Memory}

@@ -1,5 +1,6 @@
--- A plan text of version 1 that is read, by computing: one phase, in ring 2, whose place in the sequence stands at index 9
--- in version 1 and at 17 in a plan. And mistakes: without the translation, and of numbers beyond version 1's ranges.
+-- A plan text of version 1 that is read, by computing: one phase, in ring 2, whose place in the sequence stands at
+-- index 9 in version 1 and at 17 in a plan. And mistakes: without the translation, and of numbers beyond version 1's
+-- ranges.
 use Rattle.std.specs.Prelude.{◌≡◌, ℕ, List, [], ◌∷◌, Ok, Err, codes, refl}
 use Rattle.std.specs.Fmt.{digits}
 use Rattle.std.specs.Str.{is_utf8, chars}
