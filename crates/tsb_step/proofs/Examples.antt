@@ -10,3 +10,6 @@ pub mod TimeMistakes
 pub mod CellsExamples
 pub mod DeskLawMistakes
 pub mod TimeLawMistakes
+pub mod TimeRuns
+pub mod EndMistakes
+pub mod OtherRuns
