@@ -1,0 +1,80 @@
+//! The fields of a line of CSV.
+ghost use Rattle.std.specs.Prelude.{◌≡◌, ◌<◌, List, ℕ, IfSome, MatchOption, Some, None, length, option_map, slice_get};
+ghost use Rattle.tsb_event_text.specs.Fields.{are_there, fields_from, fields_of, led_by};
+ghost use Rattle.tsb_event_text.specs.Fields.{Plain, Quoted};
+
+use memchr::memchr;
+
+/// The first field of a line, and what stands behind its comma, if one follows. `None` where a quote is out of place:
+/// one that nothing closes, or that closes a field and has anything but a comma or the end behind it.
+pub(crate) fn next_field(line: &[u8]) -> Option<(&[u8], Option<&[u8]>)>
+    ensures first { MatchOption result (fields_of line.now ≡ None)
+        (λ cut. fields_of line.now ≡ led_by cut.0.now (option_map (λ rest. fields_of rest.now) cut.1)) }
+    ensures less { IfSome result (λ cut. IfSome cut.1 (λ rest. length rest.now < length line.now)) }
+{
+    if line.is_empty() || line[0] != b'"' {
+        return Some(plain_field(line));
+    }
+    quoted_field(&line[1..])
+}
+
+/// The rest of a field that no quote began, and what stands behind its comma.
+fn plain_field(line: &[u8]) -> (&[u8], Option<&[u8]>)
+    ensures first { fields_from Plain line.now ≡ led_by result.0.now (option_map (λ rest. fields_of rest.now) result.1) }
+    ensures less { IfSome result.1 (λ rest. length rest.now < length line.now) }
+{
+    match memchr(b',', line) {
+        None => (line, None),
+        Some(end) => (&line[..end], Some(&line[end + 1..])),
+    }
+}
+
+/// The rest of a field that a quote began, and what stands behind its comma.
+fn quoted_field(line: &[u8]) -> Option<(&[u8], Option<&[u8]>)>
+    ensures first { MatchOption result (fields_from Quoted line.now ≡ None)
+        (λ cut. fields_from Quoted line.now ≡ led_by cut.0.now (option_map (λ rest. fields_of rest.now) cut.1)) }
+    ensures less { IfSome result (λ cut. IfSome cut.1 (λ rest. length rest.now < length line.now)) }
+{
+    let end = memchr(b'"', line)?;
+    let behind = &line[end + 1..];
+    if behind.is_empty() {
+        return Some((&line[..end], None));
+    }
+    if behind[0] != b',' {
+        return None;
+    }
+    Some((&line[..end], Some(&behind[1..])))
+}
+
+/// Whether a line has fields: no quote is out of place.
+pub(crate) fn has_fields(line: &[u8]) -> bool
+    ensures { result ≡ are_there (fields_of line.now) }
+{
+    let mut rest = line;
+    loop {
+        let Some((_, behind)) = next_field(rest) else {
+            return false;
+        };
+        let Some(more) = behind else {
+            return true;
+        };
+        rest = more;
+    }
+}
+
+/// The field in this place, from 0, of a line that has fields.
+pub(crate) fn field_at(line: &[u8], place: usize) -> Option<&[u8]>
+    ensures { (fields : List (List ℕ)) → fields_of line.now ≡ Some fields
+        → option_map (λ field. field.now) result ≡ slice_get fields place }
+{
+    let mut rest = line;
+    let mut left = place;
+    loop {
+        let (field, behind) = next_field(rest)?;
+        if left == 0 {
+            return Some(field);
+        }
+        rest = behind?;
+        left -= 1;
+    }
+}

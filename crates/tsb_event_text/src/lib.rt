@@ -1,0 +1,15 @@
+//! Rows of controllers' high-resolution event logs, as exports write them: lines of CSV.
+//!
+//! A line has a device, a time, a code and a parameter, each in a field that a header names, or in this order. Nothing
+//! here takes memory, and nothing reads more than one line. Codes are numbers here: what they say of inputs is told
+//! where events are used.
+#![tactic(auto)]
+
+mod columns;
+mod fields;
+mod rows;
+mod times;
+
+pub use columns::{Column, Columns, header};
+pub use rows::{EventRow, event_row};
+pub use times::{Moment, read_moment};

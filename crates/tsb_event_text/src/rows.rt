@@ -1,0 +1,54 @@
+//! Rows of events.
+ghost use Rattle.std.specs.Prelude.{◌≡◌, option_map};
+ghost use Rattle.tsb_event_text.specs.Rows.{is_asked, row_of};
+
+use crate::columns::Columns;
+use crate::fields::{field_at, has_fields};
+use crate::times::{Moment, read_moment};
+use tsb_lines::number;
+
+/// What a row of events says.
+#[derive(Clone, Copy, Debug, PartialEq, Eq)]
+pub struct EventRow {
+    /// Whether it counts: it is of the device that is asked for, or none is asked for.
+    pub ours: bool,
+    /// When it happened.
+    pub moment: Moment,
+    /// What happened: a number of the Indiana enumerations of event codes.
+    pub code: u32,
+    /// To which channel, phase or the like.
+    pub parameter: u32,
+}
+
+/// The row that a line spells, with its columns in these places, or `None` where it spells none: a quote is out of
+/// place, a column is missing, or its time, code or parameter is none. Codes and parameters are numbers of up to 10
+/// digits, of at most 4,294,967,295. `asked` is the device whose events count, byte for byte; where it is `None`, those
+/// of each device do.
+#[tactic(auto, unfolding(crate::specs::Rows::row_of))]
+pub fn event_row(line: &[u8], columns: Columns, asked: Option<&[u8]>) -> Option<EventRow>
+    ensures { result ≡ row_of columns (option_map (λ device. device.now) asked.entry) line.now }
+{
+    if !has_fields(line) {
+        return None;
+    }
+    let device = field_at(line, columns.device)?;
+    let time = field_at(line, columns.time)?;
+    let code = field_at(line, columns.code)?;
+    let parameter = field_at(line, columns.parameter)?;
+    Some(EventRow {
+        ours: is_asked(asked, device),
+        moment: read_moment(time)?,
+        code: number(code)?,
+        parameter: number(parameter)?,
+    })
+}
+
+/// Whether events of a device count.
+fn is_asked(asked: Option<&[u8]>, device: &[u8]) -> bool
+    ensures { result ≡ is_asked (option_map (λ asked. asked.now) asked.entry) device.now }
+{
+    match asked {
+        None => true,
+        Some(asked) => device == asked,
+    }
+}
