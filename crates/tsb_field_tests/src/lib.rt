@@ -1,0 +1,5 @@
+//! Tests of the crates of field files. A crate with tests is proved a second time with them, so they stand here.
+#![tactic(auto)]
+
+#[cfg(test)]
+mod event_rows;
