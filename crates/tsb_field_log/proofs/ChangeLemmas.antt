@@ -1,0 +1,103 @@
+-- Rows where inputs differ from the row before.
+use Rattle.std.proofs.Common.{◌≡◌, ℕ, ◌+◌, ◌^◌, ◌<◌, ◌≤◌, Bool, true, false, eqb, ◌&&◌, zero, suc, List, [], ◌∷◌, ◌++◌, refl, sym, ap, ◌∙◌, arith, inl, inr}
+use Rattle.std.proofs.lemmas.Bool.{le-leb}
+use Rattle.std.proofs.lemmas.Bool.Decides.{leb_tells, eqb_tells}
+use Rattle.tsb_types.specs.declared.row.Row.{Row}
+use Rattle.tsb_log_text.specs.Logs.{Rises, row_from}
+use Rattle.tsb_log_text.specs.declared.log.LogRow.{LogRow}
+use Rattle.tsb_field_log.specs.Changes.{same_row, change, changes}
+
+and-both : (x y : Bool) → (x && y) ≡ true → (x ≡ true) × (y ≡ true)
+and-both true y e = (refl, e)
+and-both false y e = absurd (cc)
+
+same-word : (a b : ℕ) → eqb a b ≡ true → a ≡ b
+same-word a b e = elim (eqb_tells a b) [ inl z ↦ z.1 | inr z ↦ absurd (let no : eqb a b ≡ false = z.0 in cc) ]
+
+abbrev made : ℕ → ℕ → ℕ → Row
+made x y z = record { vehicles = record { word = x }; pedestrians = record { word = y }; preempts = record { word = z } }
+
+-- rows of the same inputs are one
+pub same-is : (a b : Row) → same_row a b ≡ true → a ≡ b
+same-is a b e =
+    let (both, preempts) = and-both (eqb a.vehicles.word b.vehicles.word && eqb a.pedestrians.word b.pedestrians.word) (eqb a.preempts.word b.preempts.word) e in
+    let (vehicles, pedestrians) = and-both (eqb a.vehicles.word b.vehicles.word) (eqb a.pedestrians.word b.pedestrians.word) both in
+    let v : a.vehicles.word ≡ b.vehicles.word = same-word a.vehicles.word b.vehicles.word vehicles in
+    let p : a.pedestrians.word ≡ b.pedestrians.word = same-word a.pedestrians.word b.pedestrians.word pedestrians in
+    let n : a.preempts.word ≡ b.preempts.word = same-word a.preempts.word b.preempts.word preempts in
+    ap (λ (w : ℕ). made w a.pedestrians.word a.preempts.word) v ∙ ap (λ (w : ℕ). made b.vehicles.word w a.preempts.word) p ∙ ap (λ (w : ℕ). made b.vehicles.word b.pedestrians.word w) n
+
+-- what holds of the rows behind a change, where it is one and where it is none
+by-change : (P : List LogRow → Type 0) (tick : ℕ) (before now : Row) (rest : List LogRow) → (now ≡ before → P rest) → P (record { tick = tick; row = now } ∷ rest) → P (change tick before now ++ rest)
+by-change P tick before now rest same other = at (same_row now before) refl
+  where
+    at : (b : Bool) → same_row now before ≡ b → P (change tick before now ++ rest)
+    at true e = rw e (same (same-is now before e))
+    at false e = rw e other
+
+-- ## The row in force
+
+-- behind the tick of a change
+change-force : (tick : ℕ) (before now : Row) (rest : List LogRow) (u : ℕ) → tick ≤ u → row_from before (change tick before now ++ rest) u ≡ row_from now rest u
+change-force tick before now rest u le =
+    by-change (λ rows. row_from before rows u ≡ row_from now rest u) tick before now rest (λ same. ap (λ (r : Row). row_from r rest u) (sym same)) (rw (le-leb tick u le) refl)
+
+-- before its first tick
+before-first : (inputs : ℕ → Row) (held before : Row) (tick count u : ℕ) → u < tick → row_from held (changes inputs before tick count) u ≡ held
+unfolding changes
+before-first inputs held before tick zero u lt = refl
+before-first inputs held before tick (suc count) u lt =
+    by-change (λ rows. row_from held rows u ≡ held) tick before (inputs tick) (changes inputs (inputs tick) (suc tick) count)
+    (λ same. before-first inputs held (inputs tick) (suc tick) count u (omega (arith, lt)))
+    (elim (leb_tells tick u) [ inl le ↦ absurd (let no : tick ≤ u = le.1 in omega (arith, no, lt)) | inr gt ↦ rw gt.0 refl ])
+
+-- within its ticks
+pub in-force : (inputs : ℕ → Row) (before : Row) (tick count u : ℕ) → tick ≤ u → u < tick + count → row_from before (changes inputs before tick count) u ≡ inputs u
+unfolding changes
+in-force inputs before tick zero u le lt = absurd (omega (arith, le, lt))
+in-force inputs before tick (suc count) u le lt =
+    change-force tick before (inputs tick) (changes inputs (inputs tick) (suc tick) count) u le ∙ elim (eqb_tells tick u) [
+      | inl same ↦
+          let here : tick ≡ u = same.1 in
+          before-first inputs (inputs tick) (inputs tick) (suc tick) count u (omega (arith, here)) ∙ ap inputs here
+      | inr other ↦
+          let apart : tick ≡ u → ⊥ = other.1 in
+          in-force inputs (inputs tick) (suc tick) count u (omega (arith, le, apart)) (omega (arith, lt))
+    ]
+
+-- ticks rise
+pub rising : (inputs : ℕ → Row) (before : Row) (tick count last : ℕ) → last < tick → Rises last (changes inputs before tick count)
+unfolding changes
+rising inputs before tick zero last lt = tt
+rising inputs before tick (suc count) last lt =
+    by-change (λ rows. Rises last rows) tick before (inputs tick) (changes inputs (inputs tick) (suc tick) count)
+    (λ same. rising inputs (inputs tick) (suc tick) count last (omega (arith, lt))) (lt, rising inputs (inputs tick) (suc tick) count tick (omega arith))
+
+-- ## Rows that a line can spell
+
+-- the numbers of its inputs are those that there are, and its tick is one of a bench
+pub record IsRow (r : LogRow) : Type 0 where
+  pub from_one : 1 ≤ r.tick
+  pub within : r.tick ≤ 6000000
+  pub vehicles : r.row.vehicles.word < 2 ^ 16
+  pub pedestrians : r.row.pedestrians.word < 2 ^ 8
+  pub preempts : r.row.preempts.word < 2 ^ 4
+
+abbrev pub AreRows : List LogRow → Type 0
+AreRows [] = Unit {0}
+AreRows (r ∷ rs) = IsRow r × AreRows rs
+
+pub record IsFit (row : Row) : Type 0 where
+  pub vehicles : row.vehicles.word < 2 ^ 16
+  pub pedestrians : row.pedestrians.word < 2 ^ 8
+  pub preempts : row.preempts.word < 2 ^ 4
+
+pub are-rows : (inputs : ℕ → Row) (before : Row) (tick count : ℕ) → ((t : ℕ) → IsFit (inputs t)) → 1 ≤ tick → tick + count ≤ 6000001 → AreRows (changes inputs before tick count)
+unfolding changes
+are-rows inputs before tick zero fit one most = tt
+are-rows inputs before tick (suc count) fit one most =
+    by-change (λ rows. AreRows rows) tick before (inputs tick) (changes inputs (inputs tick) (suc tick) count)
+    (λ same. are-rows inputs (inputs tick) (suc tick) count fit (omega (arith, one)) (omega (arith, most))) (
+      record { from_one = one; within = omega (arith, most); vehicles = (fit tick).vehicles; pedestrians = (fit tick).pedestrians; preempts = (fit tick).preempts },
+      are-rows inputs (inputs tick) (suc tick) count fit (omega (arith, one)) (omega (arith, most)),
+    )

@@ -1,0 +1,5 @@
+pub mod Examples
+pub mod TickLemmas
+pub mod ChangeLemmas
+pub mod TextLemmas
+pub mod LawLemmas

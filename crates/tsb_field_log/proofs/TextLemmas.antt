@@ -1,0 +1,170 @@
+-- The text of a log is read as its rows.
+use Rattle.std.proofs.Common.{◌≡◌, ℕ, ◌+◌, ◌-◌, ◌*◌, ◌/◌, ◌%◌, ◌^◌, ◌<◌, ◌≤◌, Bool, true, false, eqb, leb, zero, suc, List, [], ◌∷◌, ◌++◌, length, map, refl, ap, ◌∙◌, arith, inl, inr, Option, Some, Ok, length-append, if◌then◌else◌}
+use Rattle.std.proofs.lemmas.Bool.{le-leb}
+use Rattle.std.proofs.lemmas.Bool.Decides.{eqb_tells}
+use Rattle.tsb_lines.specs.Lines.{lines_of, without_return, is_skipped, HasNoFeed}
+use Rattle.tsb_lines.specs.Words.{number_from, number_of, at_most}
+use Rattle.tsb_lines.proofs.LineLemmas.{lines-joined}
+use Rattle.tsb_types.specs.Sets.{has_number, number_of_bits}
+use Rattle.tsb_types.specs.declared.number_set.NumberSet.{NumberSet}
+use Rattle.tsb_types.proofs.SetLemmas.{list_of-names_within}
+use Rattle.tsb_log_text.specs.Rows.{row_of, row_with, tick_of, in_ticks, list_in_digits, onto_digits}
+use Rattle.tsb_log_text.specs.Logs.{log_of, Rises}
+use Rattle.tsb_log_text.specs.Laws.{heeded}
+use Rattle.tsb_log_text.specs.declared.log.LogRow.{LogRow}
+use Rattle.tsb_log_text.proofs.LawLemmas.{the-rows}
+use Rattle.tsb_field_log.specs.LogText.{digit, tick_digits, mark, marks, set_marks, row_line, log_text}
+use Rattle.tsb_field_log.proofs.ChangeLemmas.{IsRow, AreRows}
+
+-- ## Digits
+
+digit-read : (n d : ℕ) (ds : List ℕ) → d < 10 → number_from n ((48 + d) ∷ ds) ≡ number_from (n * 10 + d) ds
+digit-read n d ds lt =
+    let low : leb 48 (48 + d) ≡ true = le-leb 48 (48 + d) (omega arith) in
+    let high : leb (48 + d) 57 ≡ true = le-leb (48 + d) 57 (omega (arith, lt)) in
+    let same : n * 10 + (48 + d - 48) ≡ n * 10 + d = omega arith in
+    rw (low, high, same) refl
+
+-- a digit behind those of the number above it
+digit-next : (t n m unit : ℕ) (ds : List ℕ) → n * 10 + t / unit % 10 ≡ m → number_from n (digit t unit ∷ ds) ≡ number_from m ds
+digit-next t n m unit ds e = digit-read n (t / unit % 10) ds (omega arith) ∙ ap (λ (k : ℕ). number_from k ds) e
+
+ten-millions : (t : ℕ) → t < 10000000 → number_from 0 (tick_digits t) ≡ Some t
+ten-millions t lt =
+    digit-next t 0 (t / 1000000) 1000000 (digit t 100000 ∷ digit t 10000 ∷ digit t 1000 ∷ digit t 100 ∷ digit t 10 ∷ digit t 1 ∷ []) (omega (arith, lt))
+    ∙ digit-next t (t / 1000000) (t / 100000) 100000 (digit t 10000 ∷ digit t 1000 ∷ digit t 100 ∷ digit t 10 ∷ digit t 1 ∷ []) (omega arith)
+    ∙ digit-next t (t / 100000) (t / 10000) 10000 (digit t 1000 ∷ digit t 100 ∷ digit t 10 ∷ digit t 1 ∷ []) (omega arith)
+    ∙ digit-next t (t / 10000) (t / 1000) 1000 (digit t 100 ∷ digit t 10 ∷ digit t 1 ∷ []) (omega arith)
+    ∙ digit-next t (t / 1000) (t / 100) 100 (digit t 10 ∷ digit t 1 ∷ []) (omega arith)
+    ∙ digit-next t (t / 100) (t / 10) 10 (digit t 1 ∷ []) (omega arith)
+    ∙ digit-next t (t / 10) t 1 [] (omega arith)
+
+tick-read : (t : ℕ) → 1 ≤ t → t ≤ 6000000 → tick_of (tick_digits t) ≡ Some t
+tick-read t one most =
+    let small : leb t 4294967295 ≡ true = le-leb t 4294967295 (omega (arith, most)) in
+    let number : number_of (tick_digits t) ≡ Some t = ap (at_most 4294967295) (ten-millions t (omega (arith, most))) ∙ rw small refl in
+    let low : leb 1 t ≡ true = le-leb 1 t one in
+    let high : leb t 6000000 ≡ true = le-leb t 6000000 most in
+    ap in_ticks number ∙ rw (low, high) refl
+
+-- ## Marks
+
+mark-read : (b : Bool) (m : ℕ) → onto_digits (mark b) (Some m) ≡ Some ((if b then 1 else 0) + 2 * m)
+mark-read true m = refl
+mark-read false m = let e : 2 * m ≡ 0 + 2 * m = omega arith in ap (λ (k : ℕ). Some k) e
+
+marks-read : (n : ℕ) (on : ℕ → Bool) → list_in_digits (marks n on) ≡ Some (number_of_bits n on)
+unfolding number_of_bits
+marks-read zero on = refl
+marks-read (suc n) on = ap (onto_digits (mark (on 0))) (marks-read n (λ k. on (suc k))) ∙ mark-read (on 0) (number_of_bits n (λ k. on (suc k)))
+
+set-read : (n : ℕ) (set : NumberSet) → set.word < 2 ^ n → list_in_digits (set_marks n set) ≡ Some set.word
+set-read n set fits = marks-read n (λ k. has_number set (suc k)) ∙ ap (λ (k : ℕ). Some k) (list_of-names_within n set.word fits)
+
+-- ## The line of a row
+
+line-parts : (r : LogRow) → row_of (row_line r) ≡ row_with (tick_of (tick_digits r.tick)) (list_in_digits (set_marks 16 r.row.vehicles)) (list_in_digits (set_marks 8 r.row.pedestrians)) (list_in_digits (set_marks 4 r.row.preempts))
+unfolding row_of row_line
+line-parts r = refl
+
+line-read : (r : LogRow) → IsRow r → row_of (row_line r) ≡ Some r
+line-read r is =
+    let t : tick_of (tick_digits r.tick) ≡ Some r.tick = tick-read r.tick is.from_one is.within in
+    let v : list_in_digits (set_marks 16 r.row.vehicles) ≡ Some r.row.vehicles.word = set-read 16 r.row.vehicles is.vehicles in
+    let p : list_in_digits (set_marks 8 r.row.pedestrians) ≡ Some r.row.pedestrians.word = set-read 8 r.row.pedestrians is.pedestrians in
+    let n : list_in_digits (set_marks 4 r.row.preempts) ≡ Some r.row.preempts.word = set-read 4 r.row.preempts is.preempts in
+    line-parts r
+    ∙ ap (λ (o : Option ℕ). row_with o (list_in_digits (set_marks 16 r.row.vehicles)) (list_in_digits (set_marks 8 r.row.pedestrians)) (list_in_digits (set_marks 4 r.row.preempts))) t
+    ∙ ap (λ (o : Option ℕ). row_with (Some r.tick) o (list_in_digits (set_marks 8 r.row.pedestrians)) (list_in_digits (set_marks 4 r.row.preempts))) v
+    ∙ ap (λ (o : Option ℕ). row_with (Some r.tick) (Some r.row.vehicles.word) o (list_in_digits (set_marks 4 r.row.preempts))) p
+    ∙ ap (λ (o : Option ℕ). row_with (Some r.tick) (Some r.row.vehicles.word) (Some r.row.pedestrians.word) o) n
+
+-- none of its bytes ends it
+feedless-append : (xs ys : List ℕ) → HasNoFeed xs → HasNoFeed ys → HasNoFeed (xs ++ ys)
+feedless-append [] ys f g = g
+feedless-append (x ∷ xs) ys f g = (f.0, feedless-append xs ys f.1 g)
+
+mark-feedless : (b : Bool) → mark b ≡ 10 → ⊥
+mark-feedless true e = cc
+mark-feedless false e = cc
+
+marks-feedless : (n : ℕ) (on : ℕ → Bool) → HasNoFeed (marks n on)
+marks-feedless zero on = tt
+marks-feedless (suc n) on = (mark-feedless (on 0), marks-feedless n (λ k. on (suc k)))
+
+digit-feedless : (t unit : ℕ) → digit t unit ≡ 10 → ⊥
+digit-feedless t unit e = absurd (omega (arith, e))
+
+tick-feedless : (t : ℕ) → HasNoFeed (tick_digits t)
+tick-feedless t =
+    (digit-feedless t 1000000, (digit-feedless t 100000, (digit-feedless t 10000, (digit-feedless t 1000, (digit-feedless t 100, (digit-feedless t 10, (digit-feedless t 1, tt)))))))
+
+space-feedless : ◌≡◌ {A = ℕ} 32 10 → ⊥
+space-feedless e = cc
+
+line-feedless : (r : LogRow) → HasNoFeed (row_line r)
+unfolding row_line
+line-feedless r =
+    feedless-append (tick_digits r.tick) (32 ∷ set_marks 16 r.row.vehicles ++ (32 ∷ set_marks 8 r.row.pedestrians ++ (32 ∷ set_marks 4 r.row.preempts))) (tick-feedless r.tick) (
+      space-feedless,
+      feedless-append (set_marks 16 r.row.vehicles) (32 ∷ set_marks 8 r.row.pedestrians ++ (32 ∷ set_marks 4 r.row.preempts)) (marks-feedless 16 (λ k. has_number r.row.vehicles (suc k))) (
+        space-feedless,
+        feedless-append (set_marks 8 r.row.pedestrians) (32 ∷ set_marks 4 r.row.preempts) (marks-feedless 8 (λ k. has_number r.row.pedestrians (suc k)))
+            (space-feedless, marks-feedless 4 (λ k. has_number r.row.preempts (suc k))),
+      ),
+    )
+
+mark-no-return : (b : Bool) → eqb (mark b) 13 ≡ false
+mark-no-return true = refl
+mark-no-return false = refl
+
+line-no-return : (r : LogRow) → without_return (row_line r) ≡ row_line r
+unfolding row_line
+line-no-return r = rw (mark-no-return (has_number r.row.preempts 4)) refl
+
+line-heeded : (r : LogRow) → is_skipped (row_line r) ≡ false
+unfolding row_line
+line-heeded r =
+    let space : eqb (digit r.tick 1000000) 32 ≡ false = other (digit r.tick 1000000) 32 (omega arith) in
+    let hash : eqb (digit r.tick 1000000) 35 ≡ false = other (digit r.tick 1000000) 35 (omega arith) in
+    rw (space, hash) refl
+  where
+    other : (a b : ℕ) → b < a → eqb a b ≡ false
+    other a b lt = elim (eqb_tells a b) [ inl z ↦ absurd (let e : a ≡ b = z.1 in omega (arith, e, lt)) | inr z ↦ z.0 ]
+
+pub line-length : (r : LogRow) → length (row_line r) ≡ 38
+unfolding row_line
+line-length r = refl
+
+-- ## The text
+
+text-lines : (rs : List LogRow) → lines_of (log_text rs) ≡ map row_line rs ++ [] ∷ []
+unfolding log_text
+text-lines [] = refl
+text-lines (r ∷ rs) =
+    lines-joined (row_line r) (log_text rs) (line-feedless r) ∙ ap (λ (l : List ℕ). l ∷ lines_of (log_text rs)) (line-no-return r)
+    ∙ ap (λ (ls : List (List ℕ)). row_line r ∷ ls) (text-lines rs)
+
+heeded-line : (line : List ℕ) (lines : List (List ℕ)) → is_skipped line ≡ false → heeded (line ∷ lines) ≡ line ∷ heeded lines
+heeded-line line lines e = rw e refl
+
+rows-read : (rs : List LogRow) → AreRows rs → map row_of (heeded (map row_line rs ++ [] ∷ [])) ≡ map Some rs
+rows-read [] is = refl
+rows-read (r ∷ rs) is =
+    ap (map row_of) (heeded-line (row_line r) (map row_line rs ++ [] ∷ []) (line-heeded r))
+    ∙ ap (λ (o : Option LogRow). o ∷ map row_of (heeded (map row_line rs ++ [] ∷ []))) (line-read r is.0)
+    ∙ ap (λ (os : List (Option LogRow)). Some r ∷ os) (rows-read rs is.1)
+
+-- rows that rise are read back from their text
+pub text-read : (rs : List LogRow) → AreRows rs → Rises 0 rs → length (log_text rs) ≤ 67108864 → log_of (log_text rs) ≡ Ok rs
+text-read rs is rises fits =
+    (the-rows (log_text rs) rs).1 (fits, (ap (λ (ls : List (List ℕ)). map row_of (heeded ls)) (text-lines rs) ∙ rows-read rs is), rises)
+
+pub text-length : (rs : List LogRow) → length (log_text rs) ≡ 39 * length rs
+unfolding log_text
+text-length [] = refl
+text-length (r ∷ rs) =
+    let all : length (row_line r ++ 10 ∷ log_text rs) ≡ length (row_line r) + suc (length (log_text rs)) = length-append (row_line r) (10 ∷ log_text rs) in
+    let line : length (row_line r) ≡ 38 = line-length r in
+    let rest : length (log_text rs) ≡ 39 * length rs = text-length rs in
+    omega (arith, all, line, rest)

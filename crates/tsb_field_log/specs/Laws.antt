@@ -1,0 +1,51 @@
+-- What holds of the logs that are written, in words that do not retrace how they are. Each law here is the contract of a
+-- function in src/laws.rt.
+use Rattle.std.specs.Prelude.{◌≡◌, ◌⊎◌, ◌↔◌, ℕ, ◌+◌, ◌*◌, ◌<◌, ◌≤◌, true, false, List, length, Contains, Ok}
+use Rattle.tsb_types.specs.Sets.{has_number}
+use Rattle.tsb_types.specs.declared.limits.TheConstants.{TICKS}
+use Rattle.tsb_log_text.specs.Logs.{log_of, row_at}
+use Rattle.tsb_field_log.specs.Inputs.{is_of, on_at, most_inputs}
+use Rattle.tsb_field_log.specs.Ticks.{begin_of, is_on_in, input_on, row_in}
+use Rattle.tsb_field_log.specs.Changes.{rows_of}
+use Rattle.tsb_field_log.specs.LogText.{log_text}
+use Rattle.tsb_field_log.specs.declared.inputs.Kind.TheVariants.{Vehicle, Pedestrian, Preempt}
+use Rattle.tsb_field_log.specs.declared.inputs.Wire.{Wire}
+use Rattle.tsb_field_log.specs.declared.inputs.InputEvent.{InputEvent}
+
+-- the moment lies in the tick
+abbrev pub IsIn : ℕ → ℕ → ℕ → Type 0
+IsIn from tick moment = (begin_of from tick ≤ moment) × (moment < begin_of from (tick + 1))
+
+-- a wire is on in a tick at some moment of which it is on, or in which it is switched on, though off again at the same
+-- moment; so no pulse is lost
+abbrev pub OnAtSomeMoment : ℕ → Wire → ℕ → List InputEvent → Type 0
+OnAtSomeMoment from wire tick events =
+    ((moment : ℕ) × IsIn from tick moment × (on_at false wire moment events ≡ true))
+    ⊎ ((event : InputEvent) × Contains events event × (is_of wire event ≡ true) × (event.on ≡ true) × IsIn from tick event.nanos)
+
+abbrev pub AreOnAtSomeMoment : Type 0
+AreOnAtSomeMoment = (from : ℕ) (wire : Wire) (tick : ℕ) (events : List InputEvent) → 1 ≤ tick
+    → (is_on_in from wire tick events ≡ true) ↔ OnAtSomeMoment from wire tick events
+
+-- what is written is a log, of those rows, where it has at most 64 MiB
+abbrev pub AreLogs : Type 0
+AreLogs = (from : ℕ) (wires : List Wire) (events : List InputEvent)
+    → length (log_text (rows_of (row_in from wires events))) ≤ 67108864
+    → log_of (log_text (rows_of (row_in from wires events))) ≡ Ok (rows_of (row_in from wires events))
+
+-- and each row has 39 bytes
+abbrev pub AreLong : Type 0
+AreLong = (from : ℕ) (wires : List Wire) (events : List InputEvent)
+    → length (log_text (rows_of (row_in from wires events))) ≡ 39 * length (rows_of (row_in from wires events))
+
+-- the row in force at a tick of a bench has the inputs of that tick
+abbrev pub AreInForce : Type 0
+AreInForce = (from : ℕ) (wires : List Wire) (events : List InputEvent) (tick : ℕ) → 1 ≤ tick → tick ≤ TICKS
+    → row_at (rows_of (row_in from wires events)) tick ≡ row_in from wires events tick
+
+-- and these are on in it: exactly those to which a wire leads that is on in that tick
+abbrev pub AreTheInputs : Type 0
+AreTheInputs = (from : ℕ) (wires : List Wire) (events : List InputEvent) (tick number : ℕ) → 1 ≤ number
+    → (number ≤ most_inputs Vehicle → has_number (row_in from wires events tick).vehicles number ≡ input_on from wires events tick Vehicle number)
+    × (number ≤ most_inputs Pedestrian → has_number (row_in from wires events tick).pedestrians number ≡ input_on from wires events tick Pedestrian number)
+    × (number ≤ most_inputs Preempt → has_number (row_in from wires events tick).preempts number ≡ input_on from wires events tick Preempt number)

@@ -1,0 +1,75 @@
+//! Inputs of a bench, and what events say of them.
+ghost use Rattle.std.specs.Prelude.{◌≡◌};
+ghost use Rattle.tsb_field_log.specs.Inputs.{is_of, most_inputs, signal_of};
+
+/// A kind of input.
+#[derive(Clone, Copy, Debug, PartialEq, Eq)]
+pub enum Kind {
+    /// A vehicle detector.
+    Vehicle,
+    /// A pedestrian detector.
+    Pedestrian,
+    /// A preempt input.
+    Preempt,
+}
+
+impl Kind {
+    /// How many inputs of this kind a bench has.
+    pub fn most(self) -> u8
+        ensures { result ≡ most_inputs self }
+    {
+        match self {
+            Kind::Vehicle => 16,
+            Kind::Pedestrian => 8,
+            Kind::Preempt => 4,
+        }
+    }
+}
+
+/// What an event says of an input: its kind, and whether it is switched on or off.
+#[derive(Clone, Copy, Debug, PartialEq, Eq)]
+pub struct Signal {
+    pub kind: Kind,
+    pub on: bool,
+}
+
+impl Signal {
+    /// What an event code of the Indiana enumerations says of an input: 82 and 81 switch a vehicle detector on and off,
+    /// 90 and 89 a pedestrian detector, 102 and 104 a preempt input. `None` for all other codes.
+    pub fn of_code(code: u32) -> Option<Signal>
+        ensures { result ≡ signal_of code }
+    {
+        let (kind, on) = match code {
+            82 => (Kind::Vehicle, true),
+            81 => (Kind::Vehicle, false),
+            90 => (Kind::Pedestrian, true),
+            89 => (Kind::Pedestrian, false),
+            102 => (Kind::Preempt, true),
+            104 => (Kind::Preempt, false),
+            _ => return None,
+        };
+        Some(Signal { kind, on })
+    }
+}
+
+/// A channel of a controller that leads to an input of a bench. Several may lead to one input, and one to several.
+#[derive(Clone, Copy, Debug, PartialEq, Eq)]
+pub struct Wire {
+    pub kind: Kind,
+    /// The controller's number.
+    pub channel: u32,
+    /// The bench's number, from 1 to the most that there are of the kind.
+    pub input: u8,
+}
+
+/// An input that is switched on or off.
+#[derive(Clone, Copy, Debug, PartialEq, Eq)]
+pub struct InputEvent {
+    /// The moment, in nanoseconds, as a `Moment` of an event row counts them.
+    pub nanos: u128,
+    pub kind: Kind,
+    /// The controller's number.
+    pub channel: u32,
+    /// Whether it is switched on.
+    pub on: bool,
+}
