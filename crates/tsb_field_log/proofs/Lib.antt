@@ -3,3 +3,5 @@ pub mod TickLemmas
 pub mod ChangeLemmas
 pub mod TextLemmas
 pub mod LawLemmas
+pub mod LeadLemmas
+pub mod FieldLemmas

@@ -2,8 +2,14 @@
 pub mod Inputs
 -- ticks of a field, and the inputs that are on in each
 pub mod Ticks
+-- inputs that a bench has, and the wires that lead to them
+pub mod Wires
+-- what is kept of each wire from event to event
+pub mod Leads
 -- the rows of a log: where inputs differ from the row before
 pub mod Changes
+-- how far a field has come by its events
+pub mod Fields
 -- the text of a log
 pub mod LogText
 -- what holds of the logs that are written

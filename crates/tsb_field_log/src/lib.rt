@@ -5,7 +5,10 @@
 //! lost. A row is written where inputs differ from the row before.
 #![tactic(auto)]
 
+mod field;
 mod inputs;
 pub mod laws;
+mod leads;
 
+pub use field::{Field, Rows};
 pub use inputs::{InputEvent, Kind, Signal, Wire};

@@ -1,6 +1,5 @@
 -- One-line mistakes, each with an example that tells it from the definition.
-use Rattle.std.specs.Prelude.{◌≡◌, ℕ, ◌+◌, ◌-◌, ◌*◌, ◌&&◌, ◌||◌, nat_lt, Bool, true, false, List, [], ◌∷◌, map, if◌then◌else◌, refl}
-use Rattle.tsb_field_log.specs.declared.inputs.Wire.{Wire}
+use Rattle.std.specs.Prelude.{◌≡◌, ℕ, ◌+◌, ◌&&◌, ◌||◌, nat_lt, Bool, true, false, List, [], ◌∷◌, map, if◌then◌else◌, refl}
 use Rattle.tsb_field_log.specs.declared.inputs.InputEvent.{InputEvent}
 use Rattle.tsb_field_log.specs.Inputs.{is_of, on_at, switched_on}
 use Rattle.tsb_field_log.specs.Ticks.{begin_of}
