@@ -37,8 +37,14 @@ fn times_are_moments(rt: HostRuntime) {
         read_moment(b"2026-11-23 00:00:00"),
         at(EPOCH + SEVEN + 61_200, 0)
     );
-    assert_eq!(rt; read_moment(b"1972-02-29 00:00:00"), at(EPOCH + 789 * 86_400, 0));
-    assert_eq!(rt; read_moment(b"1972-03-01 00:00:00"), at(EPOCH + 790 * 86_400, 0));
+    assert_eq!(rt;
+        read_moment(b"1972-02-29 00:00:00"),
+        at(EPOCH + 789 * 86_400, 0)
+    );
+    assert_eq!(rt;
+        read_moment(b"1972-03-01 00:00:00"),
+        at(EPOCH + 790 * 86_400, 0)
+    );
 }
 
 #[test]
