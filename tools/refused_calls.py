@@ -119,11 +119,16 @@ def text_of(commands):
 # --- memory ---
 
 def before_answers(program, wrong):
-    """Where memory is refused before the first answer, the program says so and ends with 3, or tells of bad words."""
+    """Where memory is refused before the first answer, the program says so and ends with 3, or tells of bad words. One
+    request, behind those for the words given, is for what it can do without: refused, it changes nothing."""
     for words in GOOD + BAD:
+        whole, unneeded = program.run(words)[:3], 0
         allowed = [(3, b"", MEMORY)] + [(2, b"", USAGE)] * (words in BAD)
         for number, ended in program.sweep(words):
-            wrong.compare(f"{words}, request {number}", ended, *allowed)
+            if words in GOOD and ended[:3] == whole and not unneeded:
+                unneeded = number
+            else:
+                wrong.compare(f"{words}, request {number}", ended, *allowed)
 
 
 def answers_of(command):
@@ -188,16 +193,14 @@ def reads(program, wrong):
 
 
 def writes(program, wrong):
-    """Fails each write. An interrupted one of a line alone is tried again; one of a session is not."""
+    """Fails each write; one that is interrupted is not tried again."""
     text = text_of(INPUTS + WAY_BACK)
-    for words, is_session in [(RUN, True), (["check", PLAN], False), (["what"], False)]:
+    for words in [RUN, ["check", PLAN], ["what"]]:
         whole = program.run(words, text)
         for error in [errno.EIO, errno.EINTR, 0]:
             for number, ended in program.sweep(words, text, kind="write", error=error, piece=PIECE):
                 what = f"{words}, write {number}, error {error}"
-                if error == errno.EINTR and not is_session:
-                    wrong.compare(what, ended, whole[:3])
-                elif words == ["what"]:
+                if words == ["what"]:
                     wrong.compare(what, ended, *((2, b"", whole.errors[:k]) for k in range(len(whole.errors))))
                 else:
                     wrong.compare(what, ended, *((3, whole.output[:k], WRITE) for k in range(len(whole.output))))
