@@ -8,5 +8,6 @@ pub mod WalkRuns
 pub mod CrossingRuns
 pub mod CoordinationRuns
 pub mod ClearanceRuns
+pub mod RedRevertRuns
 pub mod AllRedRuns
 pub mod RunMistakes
