@@ -1,7 +1,5 @@
--- The built-in plan of two phases meets the rules.
-use Rattle.std.proofs.Common.{◌≡◌, ◌∙◌, Option, Some, None, refl, ap}
-use Rattle.tsb_types.specs.Lists.{run_from}
-use Rattle.tsb_plan.specs.Objects.{objects}
+-- As the built-in plan of two phases meets the rules, no rule that it breaks is ever found.
+use Rattle.std.proofs.Common.{◌≡◌, ◌∙◌, Option, Some, None, ap}
 use Rattle.tsb_plan.specs.Plan.{Plan}
 use Rattle.tsb_plan.specs.Two.{two}
 use Rattle.tsb_rules.specs.declared.rules.Rule.{Rule}

@@ -3,15 +3,9 @@
 -- Of each stream there are the bytes before and after: `input` and `left`, `old` and `new`, `told` and `tells`.
 use Rattle.std.specs.Prelude.{◌≡◌, ◌⊎◌, ℕ, List, [], Option, Result, Ok, Err, codes}
 use Rattle.std.specs.Io.KnownBytes.{Appends}
-use Rattle.tsb.specs.declared.asked.Asked.{Asked}
-use Rattle.tsb.specs.declared.asked.Asked.TheVariants as asks
-use Rattle.tsb.specs.declared.asked.WordsError.{WordsError}
-use Rattle.tsb_plan.specs.Two.{two}
-use Rattle.tsb_text.specs.declared.error.SessionError.{SessionError}
-use Rattle.tsb_text.specs.Answers.{Setup}
-use Rattle.tsb_text.specs.Ended.{Ended}
-use Rattle.tsb.specs.Read.{HasPlan, HasNoPlan, HasLog, HasNoLog}
-use Rattle.tsb.specs.Statuses.{after_session, after_words}
+use Rattle.tsb_words.specs.declared.Asked.{Asked}
+use Rattle.tsb_words.specs.declared.Asked.TheVariants as asks
+use Rattle.tsb_words.specs.declared.WordsError.{WordsError}
 use Rattle.tsb_plan.specs.Plan.{Plan}
 use Rattle.tsb_plan.specs.Two.{two}
 use Rattle.tsb_plan_text.specs.declared.error.PlanError.{PlanError}
@@ -36,10 +30,12 @@ Judged status wanted line old new told tells =
     ((status ≡ wanted) × Appends old new line × (tells ≡ told))
     ⊎ (AppendsFront old new line × Fails Write status told tells)
 
--- a session on this plan and log ended with this status
-abbrev pub Talked : ℕ → Setup → Option (List ℕ) → Option (List ℕ) → Option (List ℕ) → Option (List ℕ) → Type 0
-Talked status given input left old new =
-    (result : Result (Unit {0}) SessionError) × (status ≡ after_session result) × Ended result given input left old new
+-- how a check of the plan in a file ended: what was found was written; or the file or memory failed, which is told, and
+-- nothing was written
+abbrev pub Checks : ℕ → Option (List ℕ) → Option (List ℕ) → Option (List ℕ) → Option (List ℕ) → Option (List ℕ) → Type 0
+Checks status file old new told tells =
+    ((wanted : ℕ) × (line : List ℕ) × Finds file wanted line × Judged status wanted line old new told tells)
+    ⊎ ((new ≡ old) × FailsToRead status told tells)
 
 -- a session ended well with 0 and nothing told, or by a fault, with 3 and its line
 abbrev pub EndsSo : Result (Unit {0}) SessionError → ℕ → Option (List ℕ) → Option (List ℕ) → Type 0

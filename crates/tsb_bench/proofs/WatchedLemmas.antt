@@ -53,8 +53,8 @@ pub record IsAt (h : Held) (w : Watch) (x : Watched) (tick : ℕ) (value : Value
   pub tells : Tells w x value
   pub goes : (t : Option ℕ) → TellsLastChange w (pasts (all_in tick rows) left) t → TellsLastChange w (pasts (state_of h) h.records) t
 
-pub at-start : (h : Held) (w : Watch) (x : Watched) (value : Value) → HasSoundPast h.tick h.rows h.records → Holds w h.rows x → told value ≡ watched w (state_of h) → IsAt h w x h.tick value h.records
-at-start h w x value sound holds same = record { rows = h.rows; sound = sound; holds = holds; same = same; goes = λ t told. told }
+pub at-start : (h : Held) (w : Watch) (x : Watched) (value : Value) → HasSoundPast h.tick h.rows h.records → Holds w h.rows x → Tells w x value → IsAt h w x h.tick value h.records
+at-start h w x value sound holds tells = record { rows = h.rows; sound = sound; holds = holds; tells = tells; goes = λ t told. told }
 
 -- of the states of a run, the one before is another
 changed-here : (w : Watch) (s before : State) (rs : List Change) → watched w s ≢ watched w before → TellsLastChange w (s ∷ pasts before rs) (Some s.now)

@@ -18,7 +18,7 @@ use Rattle.tsb_command_text.specs.declared.command.Reading.{Reading}
 use Rattle.tsb_command_text.specs.declared.command.Reading.TheVariants.{Skip, Bad, Leave, Do}
 use Rattle.tsb_command_text.specs.Readings.{reading}
 use Rattle.tsb_lines.specs.Lines.{lines_of}
-use Rattle.tsb_text.specs.Answers.{Given, Asked, Steps, Answers, told, next_tick, refused_line, display_line}
+use Rattle.tsb_text.specs.Answers.{Setup, Asked, Steps, Answers, told, next_tick, refused_line, display_line}
 use Rattle.tsb_text.specs.Text.{Says, IsAnswered}
 use Rattle.tsb_text.specs.Written.{with_feed}
 use Rattle.tsb_text.proofs.RefusalLemmas.{never-memory, as-refusal}
@@ -27,20 +27,20 @@ use Rattle.tsb_one_text.specs.Laws.{tells_memory, Untold}
 use Rattle.tsb_one_text.proofs.PlainLemmas.{IsPlain, plain-before, display-plain, taken-plain, refused-plain, undone-plain, when-plain, nothing-plain, bad-plain}
 
 -- an answer to a command that adds nothing to what a text tells of memory
-record Plain (given : Given) (is : List Input) (c : Command) : Type 0 where
+record Plain (given : Setup) (is : List Input) (c : Command) : Type 0 where
   text : List ℕ
   left : List Input
   answers : Answers given is c text left
   tells : (rest : List ℕ) → tells_memory (text ++ rest) ≡ tells_memory rest
 
 -- the same of the answer to what asks the bench once, and of ticks
-record PlainAsked (given : Given) (is : List Input) (cmd : Cmd) : Type 0 where
+record PlainAsked (given : Setup) (is : List Input) (cmd : Cmd) : Type 0 where
   text : List ℕ
   left : List Input
   answers : Asked given is cmd text left
   tells : (rest : List ℕ) → tells_memory (text ++ rest) ≡ tells_memory rest
 
-record PlainSteps (given : Given) (is : List Input) (n : ℕ) : Type 0 where
+record PlainSteps (given : Setup) (is : List Input) (n : ℕ) : Type 0 where
   text : List ℕ
   left : List Input
   answers : Steps given is n text left
@@ -48,7 +48,7 @@ record PlainSteps (given : Given) (is : List Input) (n : ℕ) : Type 0 where
 
 -- ## What asks the bench once
 
-asked : (given : Given) (is : List Input) (cmd : Cmd) (a : Answer) → IsRight given.plan is cmd a →
+asked : (given : Setup) (is : List Input) (cmd : Cmd) (a : Answer) → IsRight given.plan is cmd a →
     IsPlain (told cmd a (replay given.plan (remaining_after given.plan is cmd a))) → PlainAsked given is cmd
 asked given is cmd a right plain = record {
   text = with_feed (told cmd a (replay given.plan (remaining_after given.plan is cmd a)));
@@ -58,12 +58,12 @@ asked given is cmd a right plain = record {
 }
 
 -- the verdict's answer to an input: that memory ran out is none
-record IsRefused (given : Given) (is : List Input) (i : Input) : Type 0 where
+record IsRefused (given : Setup) (is : List Input) (i : Input) : Type 0 where
   refusal : Refusal
   right : IsRight given.plan is (asks.Apply i) (Refused refusal)
   other : refusal ≢ Memory
 
-right-input : (given : Given) (is : List Input) (i : Input) → IsRight given.plan is (asks.Apply i) Took ⊎ IsRefused given is i
+right-input : (given : Setup) (is : List Input) (i : Input) → IsRight given.plan is (asks.Apply i) Took ⊎ IsRefused given is i
 right-input given is i = at (verdict (replay given.plan is) i) refl
   where
     never : verdict (replay given.plan is) i ≢ Some Memory
@@ -77,38 +77,38 @@ right-input given is i = at (verdict (replay given.plan is) i) refl
       other = λ h. never (e ∙ ap Some h);
     })
 
-input-told : (given : Given) (is : List Input) (i : Input) → PlainAsked given is (asks.Apply i)
+input-told : (given : Setup) (is : List Input) (i : Input) → PlainAsked given is (asks.Apply i)
 input-told given is i = elim (right-input given is i) [
   | inl took ↦ asked given is (asks.Apply i) Took took (taken-plain i (replay given.plan (i ∷ is)))
   | inr refused ↦ asked given is (asks.Apply i) (Refused refused.refusal) refused.right (refused-plain refused.refusal refused.other)
 ]
 
-undo-told : (given : Given) (is : List Input) → PlainAsked given is asks.Undo
+undo-told : (given : Setup) (is : List Input) → PlainAsked given is asks.Undo
 undo-told given [] = asked given [] asks.Undo Nothing refl nothing-plain
 undo-told given (i ∷ is) = asked given (i ∷ is) asks.Undo (Undone (kind_of i)) refl (undone-plain (kind_of i))
 
-back-told : (given : Given) (is : List Input) (n : ℕ) → PlainAsked given is (asks.Back n)
+back-told : (given : Setup) (is : List Input) (n : ℕ) → PlainAsked given is (asks.Back n)
 back-told given is n = at (nat_lt (replay given.plan is).now n) refl
   where
     at : (b : Bool) → nat_lt (replay given.plan is).now n ≡ b → PlainAsked given is (asks.Back n)
     at true e = asked given is (asks.Back n) Nothing (search (rules, e)) nothing-plain
     at false e = asked given is (asks.Back n) Moved (search (rules, e)) (display-plain (replay given.plan (remaining_after given.plan is (asks.Back n) Moved)))
 
-seek-told : (given : Given) (is : List Input) (t : ℕ) → PlainAsked given is (asks.Seek t)
+seek-told : (given : Setup) (is : List Input) (t : ℕ) → PlainAsked given is (asks.Seek t)
 seek-told given is t = at (nat_lt (replay given.plan is).now t) refl
   where
     at : (b : Bool) → nat_lt (replay given.plan is).now t ≡ b → PlainAsked given is (asks.Seek t)
     at true e = asked given is (asks.Seek t) Nothing (search (rules, e)) nothing-plain
     at false e = asked given is (asks.Seek t) Moved (search (rules, e)) (display-plain (replay given.plan (remaining_after given.plan is (asks.Seek t) Moved)))
 
-when-told : (given : Given) (is : List Input) (watch : Watch) → PlainAsked given is (asks.When watch)
+when-told : (given : Setup) (is : List Input) (watch : Watch) → PlainAsked given is (asks.When watch)
 when-told given is watch =
     let change : (t : Option ℕ) × TellsLastChange watch (run given.plan is) t = some-change watch (run given.plan is) in
     asked given is (asks.When watch) (Changed change.0) change.1 (when-plain change.0)
 
 -- ## Ticks
 
-stop-told : (given : Given) (is : List Input) (n : ℕ) → IsRefused given is (next_tick given is) → PlainSteps given is (suc n)
+stop-told : (given : Setup) (is : List Input) (n : ℕ) → IsRefused given is (next_tick given is) → PlainSteps given is (suc n)
 stop-told given is n refused = record {
   text = with_feed (refused_line refused.refusal);
   left = is;
@@ -116,7 +116,7 @@ stop-told given is n refused = record {
   tells = λ rest. plain-before (refused_line refused.refusal) rest (refused-plain refused.refusal refused.other);
 }
 
-tick-told : (given : Given) (is : List Input) (n : ℕ) → IsRight given.plan is (asks.Apply (next_tick given is)) Took → PlainSteps given (next_tick given is ∷ is) n → PlainSteps given is (suc n)
+tick-told : (given : Setup) (is : List Input) (n : ℕ) → IsRight given.plan is (asks.Apply (next_tick given is)) Took → PlainSteps given (next_tick given is ∷ is) n → PlainSteps given is (suc n)
 tick-told given is n took later =
     let line : List ℕ = display_line (replay given.plan (next_tick given is ∷ is)) in
     record {
@@ -129,7 +129,7 @@ tick-told given is n took later =
           ∙ later.tells rest;
     }
 
-steps-told : (given : Given) (n : ℕ) (is : List Input) → PlainSteps given is n
+steps-told : (given : Setup) (n : ℕ) (is : List Input) → PlainSteps given is n
 steps-told given zero is = record { text = []; left = is; answers = (refl, refl); tells = λ rest. refl }
 steps-told given (suc n) is = elim (right-input given is (next_tick given is)) [
   | inl took ↦ tick-told given is n took (steps-told given n (next_tick given is ∷ is))
@@ -138,7 +138,7 @@ steps-told given (suc n) is = elim (right-input given is (next_tick given is)) [
 
 -- ## Every command
 
-command-told : (given : Given) (is : List Input) (c : Command) → Plain given is c
+command-told : (given : Setup) (is : List Input) (c : Command) → Plain given is c
 command-told given is (Step n) = let a : PlainSteps given is n = steps-told given n is in record { text = a.text; left = a.left; answers = a.answers; tells = a.tells }
 command-told given is (Back n) = let a : PlainAsked given is (asks.Back n) = back-told given is n in record { text = a.text; left = a.left; answers = a.answers; tells = a.tells }
 command-told given is (Seek t) = let a : PlainAsked given is (asks.Seek t) = seek-told given is t in record { text = a.text; left = a.left; answers = a.answers; tells = a.tells }
@@ -168,7 +168,7 @@ record Told (P : List ℕ → Type 0) : Type 0 where
   so : P text
   tells : tells_memory text ≡ false
 
-says-told : (given : Given) (r : Reading) (is : List Input) (Rest : List Input → List ℕ → Type 0) → ((new : List Input) → Told (Rest new)) → Told (λ text. Says given r is text Rest)
+says-told : (given : Setup) (r : Reading) (is : List Input) (Rest : List Input → List ℕ → Type 0) → ((new : List Input) → Told (Rest new)) → Told (λ text. Says given r is text Rest)
 says-told given Skip is Rest later = let next : Told (Rest is) = later is in record { text = next.text; so = next.so; tells = next.tells }
 says-told given Bad is Rest later =
     let next : Told (Rest is) = later is in
@@ -183,14 +183,14 @@ says-told given (Do c) is Rest later =
     let next : Told (Rest a.left) = later a.left in
     record { text = a.text ++ next.text; so = (a.text, next.text, a.left, a.answers, refl, next.so); tells = a.tells next.text ∙ next.tells }
 
-lines-told : (given : Given) (ls : List (List ℕ)) (is : List Input) → Told (IsAnswered given is ls)
+lines-told : (given : Setup) (ls : List (List ℕ)) (is : List Input) → Told (IsAnswered given is ls)
 lines-told given [] is = record { text = []; so = refl; tells = refl }
 lines-told given (l ∷ ls) is =
     let all : Told (λ text. Says given (reading l) is text (λ new rest. IsAnswered given new ls rest)) =
     says-told given (reading l) is (λ new rest. IsAnswered given new ls rest) (λ new. lines-told given ls new) in
     record { text = all.text; so = all.so; tells = all.tells }
 
-pub there-is : (given : Given) (is : List Input) (bytes : List ℕ) → Untold given is bytes
+pub there-is : (given : Setup) (is : List Input) (bytes : List ℕ) → Untold given is bytes
 there-is given is bytes =
     let all : Told (IsAnswered given is (lines_of bytes)) = lines-told given (lines_of bytes) is in
     record { text = all.text; so = all.so; none = all.tells }

@@ -7,7 +7,7 @@ use Rattle.std.specs.List.{list_any}
 use Rattle.tsb_types.specs.declared.refusal.Refusal.TheVariants.{Memory}
 use Rattle.tsb_step.specs.declared.inputs.Input.{Input}
 use Rattle.tsb_lines.specs.Lines.{split}
-use Rattle.tsb_text.specs.Answers.{Given, refused_line}
+use Rattle.tsb_text.specs.Answers.{Setup, refused_line}
 use Rattle.tsb_text.specs.Ended.{EndsLine, Ended}
 use Rattle.tsb_text.specs.Text.{IsText}
 use Rattle.tsb_text.specs.Written.{with_feed}
@@ -39,7 +39,7 @@ AreEqualButForMemory text other = (text ≡ other) ⊎ (PartsAtMemory text other
 
 -- what is said of any two texts that a session may write to the same bytes, where these inputs remain
 abbrev pub OfTwoTexts : (List ℕ → List ℕ → Type 0) → Type 0
-OfTwoTexts fact = (given : Given) (inputs : List Input) (bytes text other : List ℕ) → IsText given inputs bytes text →
+OfTwoTexts fact = (given : Setup) (inputs : List Input) (bytes text other : List ℕ) → IsText given inputs bytes text →
     IsText given inputs bytes other → fact text other
 
 -- Two texts to the same bytes part nowhere but where one of them tells that memory ran out.
@@ -51,19 +51,19 @@ abbrev pub OneText : Type 0
 OneText = OfTwoTexts (λ text other. tells_memory text ≡ false → tells_memory other ≡ false → text ≡ other)
 
 -- a text to these bytes that does not tell that memory ran out
-pub record Untold (given : Given) (inputs : List Input) (bytes : List ℕ) : Type 0 where
+pub record Untold (given : Setup) (inputs : List Input) (bytes : List ℕ) : Type 0 where
   pub text : List ℕ
   pub so : IsText given inputs bytes text
   pub none : tells_memory text ≡ false
 
 -- There is one to all bytes, and so, by the law before, no other.
 abbrev pub SomeTextIsUntold : Type 0
-SomeTextIsUntold = (given : Given) (inputs : List Input) (bytes : List ℕ) → Untold given inputs bytes
+SomeTextIsUntold = (given : Setup) (inputs : List Input) (bytes : List ℕ) → Untold given inputs bytes
 
 -- ## Sessions
 
 -- what `session` promises where it answers Ok, of a reader that has these bytes
-pub record Session (given : Given) (bytes : List ℕ) : Type 0 where
+pub record Session (given : Setup) (bytes : List ℕ) : Type 0 where
   pub left : Option (List ℕ)
   pub old : Option (List ℕ)
   pub new : Option (List ℕ)
@@ -71,5 +71,5 @@ pub record Session (given : Given) (bytes : List ℕ) : Type 0 where
 
 -- So two sessions over the same plan, log and bytes have written the same, where neither told that memory ran out.
 abbrev pub SessionsWriteOneText : Type 0
-SessionsWriteOneText = (given : Given) (bytes : List ℕ) (session other : Session given bytes) → tells_memory session.ended.written ≡ false →
+SessionsWriteOneText = (given : Setup) (bytes : List ℕ) (session other : Session given bytes) → tells_memory session.ended.written ≡ false →
     tells_memory other.ended.written ≡ false → session.ended.written ≡ other.ended.written

@@ -1,4 +1,4 @@
-//! Sessions: whole texts of commands and answers, whatever the reader's pieces.
+//! Sessions: whole texts of commands and answers, whatever the reader's pieces, each shown before more is read.
 
 use std::cell::Cell;
 use std::io::{self, Read, Write};
@@ -151,6 +151,32 @@ fn answers_whatever_the_pieces(rt: HostRuntime) {
         };
         assert!(rt; matches!(talk(&rt, &mut reader, &mut out), Some(Ok(()))));
         assert_eq!(rt; out.as_slice(), OUTPUT);
+    }
+}
+
+/// Each answer is written and flushed before more is read, be it short or longer than what is written at once.
+#[test]
+fn answers_are_shown_before_each_read(rt: HostRuntime) {
+    for (line, answer) in [
+        (b"show\n".as_slice(), 54),
+        (b"what\n", 12),
+        (b"step 200\n", 10_800),
+        (b"# none\n", 0),
+    ] {
+        let screen = Screen {
+            given: Cell::new(0),
+            shown: Cell::new(0),
+        };
+        let mut typist = Typist {
+            screen: &screen,
+            line,
+            answer,
+            typed: 0,
+            lines: 20,
+        };
+        assert!(rt; matches!(talk(&rt, &mut typist, &mut &screen), Some(Ok(()))));
+        assert_eq!(rt; typist.typed, 20);
+        assert_eq!(rt; screen.shown.get(), 20 * answer);
     }
 }
 

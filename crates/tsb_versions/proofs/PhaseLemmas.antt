@@ -12,7 +12,7 @@ use Rattle.tsb_plan.specs.declared.object.Object.TheVariants.{UnitMax2}
 use Rattle.tsb_plan.specs.Plan.{Plan, maximum}
 use Rattle.tsb_phase.specs.declared.ending.Ending.{Ending}
 use Rattle.tsb_phase.specs.declared.ending.Ending.TheVariants.{MaxOut, GapOut}
-use Rattle.tsb_phase.specs.Phase.{Phase, Given, Moved, GreenHeld, at_power_up, as_read, held_of}
+use Rattle.tsb_phase.specs.Phase.{Phase, Given, Moved, GreenHeld, as_read, held_of}
 use Rattle.tsb_phase.specs.DynamicMaximum.{effective_maximum, maximum_in_use, stepped, running_maximum_after}
 use Rattle.tsb_phase.specs.Green.{waits_for, cars_waiting, reduction_timer, gap, initial, gap_has_expired, gapped_latch, is_gapped, is_by_gap}
 use Rattle.tsb_phase.specs.Pedestrian.{ended_by, walk_time, clearance_time, pedestrian_after, pedestrian_now}

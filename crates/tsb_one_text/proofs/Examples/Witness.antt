@@ -13,7 +13,7 @@ use Rattle.tsb_command_text.specs.Commands.{command_of_one, command_of_two}
 use Rattle.tsb_display_text.specs.Line.{line_of}
 use Rattle.tsb_text.specs.declared.error.SessionError.{SessionError}
 use Rattle.tsb_text.specs.declared.error.SessionError.TheVariants.{TooLarge, Read}
-use Rattle.tsb_text.specs.Answers.{Given, next_tick}
+use Rattle.tsb_text.specs.Answers.{Setup, next_tick}
 use Rattle.tsb_text.specs.Text.{IsText}
 use Rattle.tsb_one_text.specs.Laws.{tells_memory, Session}
 
@@ -22,7 +22,7 @@ unfoldable pub opened : Unit {0}
 unfolding scenes.opened two command_of_one command_of_two line_of
 opened = tt
 
-abbrev pub given : Given
+abbrev pub given : Setup
 given = record { plan = two; log = [] }
 
 abbrev pub commands : List ℕ
