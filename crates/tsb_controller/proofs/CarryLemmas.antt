@@ -109,7 +109,3 @@ carried m now timing c plan r0 r1 r2 r3 r4 r5 r6 apart one two three four five s
     six q from to ∙ ap (λ (x : Phase). if is q m.second.starts then started_by plan g q x else x) (five q from to)
     ∙ again (is q m.first.starts) (is q m.second.starts) (started_by plan g q) (phase_in now r4 q) refl in
     starts ∙ ap (once_started plan g (moved_by m) q) (clears ∙ ap (once_cleared (moved_by m) q) ends)
-
-pub or_first : (a b : Bool) → a ≡ true → (a || b) ≡ true
-or_first true b h = refl
-or_first false b h = absurd cc

@@ -1,7 +1,7 @@
 -- The local counter a yellow change and a red clearance behind a force-off instant.
 use Rattle.std.proofs.Common.{zero, suc, ◌≡◌, ℕ, ◌+◌, ◌-◌, ◌*◌, ◌/◌, ◌%◌, ◌<◌, ◌≤◌, nat_le, Bool, true, false, ◌&&◌, if◌then◌else◌, Option, Some, None, refl, arith, sym, ap, ◌∙◌}
 use Rattle.std.proofs.Math.Nat.{div-add-mod', mod-lt, mod-add-mod, add-mul-mod_self_right, mul-mod_left}
-use Rattle.std.proofs.lemmas.Bool.{leb-true}
+use Rattle.std.proofs.lemmas.Bool.{and_parts, leb-true}
 use Rattle.std.proofs.lemmas.Bool.Decides.{nat_tests}
 use Rattle.tsb_types.specs.Lists.{run_from, first, or_number}
 use Rattle.tsb_plan.specs.Plan.{Plan, is_enabled, yellow_change, red_clear}
@@ -11,7 +11,6 @@ use Rattle.tsb_rules.specs.Consistent.{IsPhase, IsWhole}
 use Rattle.tsb_rules.specs.PatternRules.{split_end}
 use Rattle.tsb_rules.specs.Rules.{first_broken}
 use Rattle.tsb_rules.proofs.ConsistentLemmas.{whole, coordinated}
-use Rattle.tsb_rules.proofs.RuleLemmas.{both}
 use Rattle.tsb_coord.specs.Coordinated.{counter, local, residue_of_difference, end_in, end_of, instant_from, reference, instant_by, force_off, agree, asks_force_off, is_pattern}
 use Rattle.tsb_coord.specs.Laws.{clear_of}
 
@@ -93,8 +92,8 @@ first_passes test a (suc n) c e =
 
 in_range : (plan : Plan) (n : ℕ) → is_pattern plan n ≡ true → (1 ≤ n) × (n ≤ 16) × (is_used plan n ≡ true)
 in_range plan n is =
-    let parts = both (nat_le 1 n && nat_le n 16) (is_used plan n) is in
-    let ends = both (nat_le 1 n) (nat_le n 16) parts.0 in
+    let parts = and_parts (nat_le 1 n && nat_le n 16) (is_used plan n) is in
+    let ends = and_parts (nat_le 1 n) (nat_le n 16) parts.0 in
     (leb-true 1 n ends.0, leb-true n 16 ends.1, parts.1)
 
 its_parts : (plan : Plan) → first_broken plan ≡ None → (n : ℕ) → is_pattern plan n ≡ true → IsWhole plan n

@@ -1,15 +1,11 @@
 -- Rows where inputs differ from the row before.
 use Rattle.std.proofs.Common.{◌≡◌, ℕ, ◌+◌, ◌^◌, ◌<◌, ◌≤◌, Bool, true, false, eqb, ◌&&◌, zero, suc, List, [], ◌∷◌, ◌++◌, refl, sym, ap, ◌∙◌, arith, inl, inr}
-use Rattle.std.proofs.lemmas.Bool.{le-leb}
+use Rattle.std.proofs.lemmas.Bool.{le-leb, and_parts}
 use Rattle.std.proofs.lemmas.Bool.Decides.{leb_tells, eqb_tells}
 use Rattle.tsb_types.specs.declared.row.Row.{Row}
 use Rattle.tsb_log_text.specs.Logs.{Rises, row_from}
 use Rattle.tsb_log_text.specs.declared.log.LogRow.{LogRow}
 use Rattle.tsb_field_log.specs.Changes.{same_row, change, changes}
-
-and-both : (x y : Bool) → (x && y) ≡ true → (x ≡ true) × (y ≡ true)
-and-both true y e = (refl, e)
-and-both false y e = absurd (cc)
 
 same-word : (a b : ℕ) → eqb a b ≡ true → a ≡ b
 same-word a b e = elim (eqb_tells a b) [ inl z ↦ z.1 | inr z ↦ absurd (let no : eqb a b ≡ false = z.0 in cc) ]
@@ -20,8 +16,8 @@ made x y z = record { vehicles = record { word = x }; pedestrians = record { wor
 -- rows of the same inputs are one
 pub same-is : (a b : Row) → same_row a b ≡ true → a ≡ b
 same-is a b e =
-    let (both, preempts) = and-both (eqb a.vehicles.word b.vehicles.word && eqb a.pedestrians.word b.pedestrians.word) (eqb a.preempts.word b.preempts.word) e in
-    let (vehicles, pedestrians) = and-both (eqb a.vehicles.word b.vehicles.word) (eqb a.pedestrians.word b.pedestrians.word) both in
+    let (both, preempts) = and_parts (eqb a.vehicles.word b.vehicles.word && eqb a.pedestrians.word b.pedestrians.word) (eqb a.preempts.word b.preempts.word) e in
+    let (vehicles, pedestrians) = and_parts (eqb a.vehicles.word b.vehicles.word) (eqb a.pedestrians.word b.pedestrians.word) both in
     let v : a.vehicles.word ≡ b.vehicles.word = same-word a.vehicles.word b.vehicles.word vehicles in
     let p : a.pedestrians.word ≡ b.pedestrians.word = same-word a.pedestrians.word b.pedestrians.word pedestrians in
     let n : a.preempts.word ≡ b.preempts.word = same-word a.preempts.word b.preempts.word preempts in

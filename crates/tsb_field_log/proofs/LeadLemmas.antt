@@ -1,6 +1,6 @@
 -- What is kept of each wire says what is on in the present tick.
 use Rattle.std.proofs.Common.{◌≡◌, ℕ, ◌+◌, ◌^◌, ◌<◌, ◌≤◌, Bool, true, false, ◌&&◌, ◌||◌, ◌==◌, leb, ltb, zero, length, get_or, drop, add-one, suc, List, [], ◌∷◌, ◌++◌, map, refl, sym, ap, ◌∙◌, arith, inl, inr, if◌then◌else◌}
-use Rattle.std.proofs.lemmas.Bool.{le-leb, lt-ltb}
+use Rattle.std.proofs.lemmas.Bool.{le-leb, lt-ltb, and_left, and_right}
 use Rattle.std.proofs.lemmas.Bool.Decides.{leb_tells}
 use Rattle.std.proofs.lemmas.List.{drop_all}
 use Rattle.std.proofs.Math.Seq.{drop-cons}
@@ -47,10 +47,6 @@ and-true : (x : Bool) → (x && true) ≡ x
 and-true true = refl
 and-true false = refl
 
-and-false : (x : Bool) → (x && false) ≡ false
-and-false true = refl
-and-false false = refl
-
 abbrev kept : Wire → Bool → Bool → Bool → Lead
 kept wire on begun raised = record { wire = wire; on = on; begun = begun; raised = raised }
 
@@ -82,11 +78,11 @@ untouched-wire from tick es e wire le lt =
     let begun : on_at false wire (begin_of from tick) (es ++ e ∷ []) ≡ on_at false wire (begin_of from tick) es =
     at-push false wire (begin_of from tick) es e
     ∙ ap (λ (b : Bool). if is_of wire e && b then e.on else on_at false wire (begin_of from tick) es) early
-    ∙ ap (λ (b : Bool). if b then e.on else on_at false wire (begin_of from tick) es) (and-false (is_of wire e)) in
+    ∙ ap (λ (b : Bool). if b then e.on else on_at false wire (begin_of from tick) es) (and_right (is_of wire e) false refl) in
     let raised : switched_on wire (begin_of from tick) (begin_of from (tick + 1)) (es ++ e ∷ []) ≡ switched_on wire (begin_of from tick) (begin_of from (tick + 1)) es =
     switched-push wire (begin_of from tick) (begin_of from (tick + 1)) es e
     ∙ ap (λ (b : Bool). switched_on wire (begin_of from tick) (begin_of from (tick + 1)) es || (is_of wire e && e.on && leb (begin_of from tick) e.nanos && b)) within
-    ∙ ap (λ (b : Bool). switched_on wire (begin_of from tick) (begin_of from (tick + 1)) es || b) (and-false (is_of wire e && e.on && leb (begin_of from tick) e.nanos))
+    ∙ ap (λ (b : Bool). switched_on wire (begin_of from tick) (begin_of from (tick + 1)) es || b) (and_right (is_of wire e && e.on && leb (begin_of from tick) e.nanos) false refl)
     ∙ or-false (switched_on wire (begin_of from tick) (begin_of from (tick + 1)) es) in
     ap (λ (b : Bool). b || switched_on wire (begin_of from tick) (begin_of from (tick + 1)) (es ++ e ∷ [])) begun
     ∙ ap (λ (b : Bool). on_at false wire (begin_of from tick) es || b) raised
@@ -125,18 +121,13 @@ at-after b wire m (e ∷ es) before =
     let le : leb e.nanos m ≡ true = le-leb e.nanos m (omega (arith, lt)) in
     ap (λ (c : Bool). on_at (if c then e.on else b) wire m es) (ap (λ (c : Bool). is_of wire e && c) le ∙ and-true (is_of wire e)) ∙ at-after (if is_of wire e then e.on else b) wire m es before.1
 
-none-of : (x y z : Bool) → (x && y && false && z) ≡ false
-none-of true true z = refl
-none-of true false z = refl
-none-of false y z = refl
-
 switched-before : (wire : Wire) (lo hi : ℕ) (es : List InputEvent) → AreBefore lo es → switched_on wire lo hi es ≡ false
 switched-before wire lo hi [] before = refl
 switched-before wire lo hi (e ∷ es) before =
     let lt : e.nanos < lo = before.0 in
     let no : leb lo e.nanos ≡ false = elim (leb_tells lo e.nanos) [ inl z ↦ absurd (let le : lo ≤ e.nanos = z.1 in omega (arith, le, lt)) | inr z ↦ z.0 ] in
     ap (λ (c : Bool). (is_of wire e && e.on && c && ltb e.nanos hi) || switched_on wire lo hi es) no
-    ∙ ap (λ (c : Bool). c || switched_on wire lo hi es) (none-of (is_of wire e) e.on (ltb e.nanos hi)) ∙ switched-before wire lo hi es before.1
+    ∙ ap (λ (c : Bool). c || switched_on wire lo hi es) (and_left (is_of wire e && e.on && false) (ltb e.nanos hi) (and_right (is_of wire e && e.on) false refl)) ∙ switched-before wire lo hi es before.1
 
 lead-opened : (from tick to : ℕ) (es : List InputEvent) (wire : Wire) → AreBefore (begin_of from to) es → lead_of from to es wire ≡ lead_opened (lead_of from tick es wire)
 lead-opened from tick to es wire before =
@@ -219,7 +210,7 @@ set-is count set test fits small same = same_numbers set (set_of_list (list_of c
           ∙ sym (names-list_of count (suc k) test (omega arith) z.1)
       | inr z ↦
           let one : leb 1 (suc k) ≡ true = le-leb 1 (suc k) (omega arith) in
-          same (suc k) ∙ ap (λ (b : Bool). test (suc k) && (b && leb (suc k) count)) one ∙ ap (λ (b : Bool). test (suc k) && b) z.0 ∙ and-false (test (suc k))
+          same (suc k) ∙ ap (λ (b : Bool). test (suc k) && (b && leb (suc k) count)) one ∙ ap (λ (b : Bool). test (suc k) && b) z.0 ∙ and_right (test (suc k)) false refl
           ∙ sym (names-above count (suc k) (list_of count test) (list_of-below count test) z.1)
     ]
 

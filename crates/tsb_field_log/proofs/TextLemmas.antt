@@ -12,7 +12,7 @@ use Rattle.tsb_log_text.specs.Rows.{row_of, row_with, tick_of, in_ticks, list_in
 use Rattle.tsb_log_text.specs.Logs.{log_of, Rises}
 use Rattle.tsb_log_text.specs.Laws.{heeded}
 use Rattle.tsb_log_text.specs.declared.log.LogRow.{LogRow}
-use Rattle.tsb_log_text.proofs.LawLemmas.{the-rows}
+use Rattle.tsb_log_text.proofs.LawLemmas.{the-rows, heed-row}
 use Rattle.tsb_field_log.specs.LogText.{digit, tick_digits, mark, marks, set_marks, row_line, log_text}
 use Rattle.tsb_field_log.proofs.ChangeLemmas.{IsRow, AreRows}
 
@@ -145,13 +145,10 @@ text-lines (r ∷ rs) =
     lines-joined (row_line r) (log_text rs) (line-feedless r) ∙ ap (λ (l : List ℕ). l ∷ lines_of (log_text rs)) (line-no-return r)
     ∙ ap (λ (ls : List (List ℕ)). row_line r ∷ ls) (text-lines rs)
 
-heeded-line : (line : List ℕ) (lines : List (List ℕ)) → is_skipped line ≡ false → heeded (line ∷ lines) ≡ line ∷ heeded lines
-heeded-line line lines e = rw e refl
-
 rows-read : (rs : List LogRow) → AreRows rs → map row_of (heeded (map row_line rs ++ [] ∷ [])) ≡ map Some rs
 rows-read [] is = refl
 rows-read (r ∷ rs) is =
-    ap (map row_of) (heeded-line (row_line r) (map row_line rs ++ [] ∷ []) (line-heeded r))
+    ap (map row_of) (heed-row (row_line r) (map row_line rs ++ [] ∷ []) (line-heeded r))
     ∙ ap (λ (o : Option LogRow). o ∷ map row_of (heeded (map row_line rs ++ [] ∷ []))) (line-read r is.0)
     ∙ ap (λ (os : List (Option LogRow)). Some r ∷ os) (rows-read rs is.1)
 

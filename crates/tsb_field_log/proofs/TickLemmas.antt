@@ -1,6 +1,6 @@
 -- A wire is on in a tick where it is on at some moment of it, or is switched on in it.
 use Rattle.std.proofs.Common.{◌≡◌, ℕ, ◌+◌, ◌<◌, ◌≤◌, Bool, true, false, ◌&&◌, ◌||◌, leb, ltb, zero, suc, List, [], ◌∷◌, length, get_or, refl, ap, ◌∙◌, arith, inl, inr, ◌⊎◌, if◌then◌else◌}
-use Rattle.std.proofs.lemmas.Bool.{lt-ltb, le-leb}
+use Rattle.std.proofs.lemmas.Bool.{lt-ltb, le-leb, and_parts, or_left, or_right}
 use Rattle.std.proofs.lemmas.Bool.Decides.{leb_tells}
 use Rattle.std.specs.Prelude.{Contains}
 use Rattle.tsb_field_log.specs.declared.inputs.Wire.{Wire}
@@ -8,14 +8,6 @@ use Rattle.tsb_field_log.specs.declared.inputs.InputEvent.{InputEvent}
 use Rattle.tsb_field_log.specs.Inputs.{is_of, on_at, switched_on}
 use Rattle.tsb_field_log.specs.Ticks.{begin_of, is_on_in}
 use Rattle.tsb_field_log.specs.Laws.{IsIn, OnAtSomeMoment, AreOnAtSomeMoment}
-
-or-right : (x y : Bool) → y ≡ true → (x || y) ≡ true
-or-right true y e = refl
-or-right false y e = e
-
-or-left : (x y : Bool) → x ≡ true → (x || y) ≡ true
-or-left true y e = refl
-or-left false y e = absurd (cc)
 
 abbrev Either : Bool → Bool → Type 0
 Either x y = (x ≡ true) ⊎ (y ≡ true)
@@ -33,13 +25,13 @@ rise-of : (o b c : Bool) (n m lo hi : ℕ) (F G : Bool → Bool) (s : Bool) → 
 rise-of true b c n m lo hi F G s le lt h f g k = elim (leb_tells n lo) [
   | inl early ↦
       let at_m : leb n m ≡ true = le-leb n m (let e : n ≤ lo = early.1 in omega (arith, e, le)) in
-      or-right (leb lo n && ltb n hi) s (k true true (λ e. e) (rw at_m at f) (rw early.0 at g))
+      or_right (leb lo n && ltb n hi) s (k true true (λ e. e) (rw at_m at f) (rw early.0 at g))
   | inr late ↦ elim (leb_tells n m) [
     | inl within ↦
         let from : leb lo n ≡ true = le-leb lo n (let e : lo < n = late.1 in omega (arith, e)) in
         let to : ltb n hi ≡ true = lt-ltb n hi (let e : n ≤ m = within.1 in omega (arith, e, lt)) in
         rw (from, to) refl
-    | inr behind ↦ or-right (leb lo n && ltb n hi) s (k b c h (rw behind.0 at f) (rw late.0 at g))
+    | inr behind ↦ or_right (leb lo n && ltb n hi) s (k b c h (rw behind.0 at f) (rw late.0 at g))
   ]
 ]
 rise-of false b c n m lo hi F G s le lt h f g k = elim (leb_tells n lo) [
@@ -67,13 +59,6 @@ rise b c wire m lo hi (e ∷ es) le lt h on off =
 
 -- ## The event that switched it on
 
-all-of : (x o p q : Bool) → (x && o && p && q) ≡ true → (x ≡ true) × (o ≡ true) × (p ≡ true) × (q ≡ true)
-all-of true true true true e = (refl, refl, refl, refl)
-all-of true true true false e = absurd (cc)
-all-of true true false q e = absurd (cc)
-all-of true false p q e = absurd (cc)
-all-of false o p q e = absurd (cc)
-
 -- an event that switches the wire on, at such a moment
 abbrev Switches : Wire → ℕ → ℕ → InputEvent → Type 0
 Switches wire lo hi event = (is_of wire event ≡ true) × (event.on ≡ true) × ((lo ≤ event.nanos) × (event.nanos < hi))
@@ -85,7 +70,9 @@ switch-of : (wire : Wire) (lo hi : ℕ) (es : List InputEvent) → switched_on w
 switch-of wire lo hi [] on = absurd (cc)
 switch-of wire lo hi (e ∷ es) on = elim (or-either (is_of wire e && e.on && leb lo e.nanos && ltb e.nanos hi) (switched_on wire lo hi es) on) [
   | inl here ↦
-      let (own, up, from, to) = all-of (is_of wire e) e.on (leb lo e.nanos) (ltb e.nanos hi) here in
+      let (early, to) = and_parts (is_of wire e && e.on && leb lo e.nanos) (ltb e.nanos hi) here in
+      let (rises, from) = and_parts (is_of wire e && e.on) (leb lo e.nanos) early in
+      let (own, up) = and_parts (is_of wire e) e.on rises in
       let low : lo ≤ e.nanos = elim (leb_tells lo e.nanos) [ inl z ↦ z.1 | inr z ↦ absurd (let no : leb lo e.nanos ≡ false = z.0 in cc) ] in
       let high : e.nanos < hi = elim (leb_tells (suc e.nanos) hi) [ inl z ↦ z.1 | inr z ↦ absurd (let no : ltb e.nanos hi ≡ false = z.0 in cc) ] in
       (e, (0, omega arith, refl), (own, up, (low, high)))
@@ -103,7 +90,7 @@ switched-by wire lo hi event (e ∷ es) zero lt is s =
     let high : event.nanos < hi = s.2.1 in
     let from : leb lo e.nanos ≡ true = le-leb lo e.nanos (omega (arith, at, low)) in
     let to : ltb e.nanos hi ≡ true = lt-ltb e.nanos hi (omega (arith, at, high)) in
-    or-left (is_of wire e && e.on && leb lo e.nanos && ltb e.nanos hi) (switched_on wire lo hi es) (every (is_of wire e) e.on (leb lo e.nanos) (ltb e.nanos hi) own up from to)
+    or_left (is_of wire e && e.on && leb lo e.nanos && ltb e.nanos hi) (switched_on wire lo hi es) (every (is_of wire e) e.on (leb lo e.nanos) (ltb e.nanos hi) own up from to)
   where
     every : (x o p q : Bool) → x ≡ true → o ≡ true → p ≡ true → q ≡ true → (x && o && p && q) ≡ true
     every true true true true a b c d = refl
@@ -112,7 +99,7 @@ switched-by wire lo hi event (e ∷ es) zero lt is s =
     every true false p q a b c d = absurd (cc)
     every false o p q a b c d = absurd (cc)
 switched-by wire lo hi event (e ∷ es) (suc k) lt is s =
-    or-right (is_of wire e && e.on && leb lo e.nanos && ltb e.nanos hi) (switched_on wire lo hi es)
+    or_right (is_of wire e && e.on && leb lo e.nanos && ltb e.nanos hi) (switched_on wire lo hi es)
     (switched-by wire lo hi event es k (omega (arith, lt)) is s)
 
 -- ## Both ways
@@ -128,9 +115,9 @@ moment-on : (from : ℕ) (wire : Wire) (tick : ℕ) (events : List InputEvent) (
 moment-on from wire tick events moment within on = begun (on_at false wire (begin_of from tick) events) refl
   where
     begun : (b : Bool) → on_at false wire (begin_of from tick) events ≡ b → is_on_in from wire tick events ≡ true
-    begun true e = or-left (on_at false wire (begin_of from tick) events) (switched_on wire (begin_of from tick) (begin_of from (tick + 1)) events) e
+    begun true e = or_left (on_at false wire (begin_of from tick) events) (switched_on wire (begin_of from tick) (begin_of from (tick + 1)) events) e
     begun false e =
-        or-right (on_at false wire (begin_of from tick) events) (switched_on wire (begin_of from tick) (begin_of from (tick + 1)) events)
+        or_right (on_at false wire (begin_of from tick) events) (switched_on wire (begin_of from tick) (begin_of from (tick + 1)) events)
         (rise false false wire moment (begin_of from tick) (begin_of from (tick + 1)) events within.0 within.1 (λ up. up) on e)
 
 pub on-at-some-moment : AreOnAtSomeMoment
@@ -139,7 +126,7 @@ on-at-some-moment from wire tick events one = (
   λ on. elim on [
     | inl at ↦ moment-on from wire tick events at.0 at.1 at.2
     | inr by ↦
-        or-right (on_at false wire (begin_of from tick) events) (switched_on wire (begin_of from tick) (begin_of from (tick + 1)) events)
+        or_right (on_at false wire (begin_of from tick) events) (switched_on wire (begin_of from tick) (begin_of from (tick + 1)) events)
         (switched-by wire (begin_of from tick) (begin_of from (tick + 1)) by.0 events by.1.0 by.1.1 by.1.2 (by.2, by.3, by.4))
   ],
 )

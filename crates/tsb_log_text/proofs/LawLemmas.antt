@@ -101,7 +101,8 @@ Explained first last lines (Err (TickOrder m)) =
 heed-skipped : (line : List ℕ) (lines : List (List ℕ)) → is_skipped line ≡ true → heeded (line ∷ lines) ≡ heeded lines
 heed-skipped line lines e = rw e refl
 
-heed-row : (line : List ℕ) (lines : List (List ℕ)) → is_skipped line ≡ false → heeded (line ∷ lines) ≡ line ∷ heeded lines
+-- a line that is not skipped is heeded
+pub heed-row : (line : List ℕ) (lines : List (List ℕ)) → is_skipped line ≡ false → heeded (line ∷ lines) ≡ line ∷ heeded lines
 heed-row line lines e = rw e refl
 
 read-row : (line : List ℕ) (lines : List (List ℕ)) (r : LogRow) (rows : List LogRow) → is_skipped line ≡ false → row_of line ≡ Some r

@@ -1,12 +1,11 @@
 -- The places of a sequence: in a plan that breaks no rule there are only zeros behind a zero, so that who looks for a
 -- phase stops there.
 use Rattle.std.proofs.Common.{◌≡◌, ℕ, zero, suc, ◌<◌, ◌≤◌, ◌==◌, Bool, true, false, not, ◌||◌, List, [], ◌∷◌, length, get_or, take, drop, None, refl, ap, ◌∙◌, arith, inl, inr}
-use Rattle.std.proofs.lemmas.Bool.{cases_Bool, cases_eq, eq-eqb}
+use Rattle.std.proofs.lemmas.Bool.{and_parts, cases_Bool, cases_eq, eq-eqb}
 use Rattle.std.proofs.Math.Bool.{or-true}
 use Rattle.tsb_rules.specs.Rules.{first_broken}
 use Rattle.tsb_rules.specs.SequenceRules.{is_zeros, zeros_last, is_ordered, sequence_is_ordered, is_blank, lists_only, lists_each, lists_once, rises}
 use Rattle.tsb_rules.proofs.ConsistentLemmas.{MeetsRings, meets_rings}
-use Rattle.tsb_rules.proofs.RuleLemmas.{both}
 use Rattle.tsb_plan.specs.Plan.{Plan, sequence}
 use Rattle.tsb_types.specs.Lists.{first}
 
@@ -15,13 +14,13 @@ use Rattle.tsb_types.specs.Lists.{first}
 blank-zeros : (ps : List ℕ) → is_zeros ps ≡ true → zeros_last ps ≡ true
 blank-zeros [] h = refl
 blank-zeros (p ∷ ps) h =
-    let rest = (both (p == 0) (is_zeros ps) h).1 in
+    let rest = (and_parts (p == 0) (is_zeros ps) h).1 in
     rw (rest, blank-zeros ps rest, or-true (not (p == 0))) refl
 
 zeros-first : (f : ℕ → Bool) → f 0 ≡ false → (ps : List ℕ) → is_zeros ps ≡ true → first f ps ≡ None
 zeros-first f none_0 [] h = refl
 zeros-first f none_0 (p ∷ ps) h =
-    let parts = both (p == 0) (is_zeros ps) h in
+    let parts = and_parts (p == 0) (is_zeros ps) h in
     let same : p ≡ 0 = omega (arith, eqb p parts.0) in
     rw (ap f same ∙ none_0) (zeros-first f none_0 ps parts.1)
   where
@@ -32,23 +31,23 @@ zeros-first f none_0 (p ∷ ps) h =
 pub zero-none : (f : ℕ → Bool) → f 0 ≡ false → (ps : List ℕ) (k : ℕ) → k < length ps → get_or ps k 0 ≡ 0 → zeros_last ps ≡ true → first f (drop k ps) ≡ None
 zero-none f none_0 [] k below here h = absurd (omega (arith, below))
 zero-none f none_0 (p ∷ ps) zero below here h =
-    let parts = both (not (p == 0) || is_zeros ps) (zeros_last ps) h in
+    let parts = and_parts (not (p == 0) || is_zeros ps) (zeros_last ps) h in
     let on : (p == 0) ≡ true = eq-eqb p 0 here in
     rw (ap f here ∙ none_0) (zeros-first f none_0 ps (rw on at parts.0))
 zero-none f none_0 (p ∷ ps) (suc k) below here h =
-    zero-none f none_0 ps k (omega (arith, below)) here (both (not (p == 0) || is_zeros ps) (zeros_last ps) h).1
+    zero-none f none_0 ps k (omega (arith, below)) here (and_parts (not (p == 0) || is_zeros ps) (zeros_last ps) h).1
 
 -- parts of a list
 pub zeros_drop : (k : ℕ) (ps : List ℕ) → zeros_last ps ≡ true → zeros_last (drop k ps) ≡ true
 zeros_drop zero ps h = h
 zeros_drop (suc k) [] h = refl
-zeros_drop (suc k) (p ∷ ps) h = zeros_drop k ps (both (not (p == 0) || is_zeros ps) (zeros_last ps) h).1
+zeros_drop (suc k) (p ∷ ps) h = zeros_drop k ps (and_parts (not (p == 0) || is_zeros ps) (zeros_last ps) h).1
 
 zeros-take : (k : ℕ) (ps : List ℕ) → is_zeros ps ≡ true → is_zeros (take k ps) ≡ true
 zeros-take zero ps h = refl
 zeros-take (suc k) [] h = refl
 zeros-take (suc k) (p ∷ ps) h =
-    let parts = both (p == 0) (is_zeros ps) h in
+    let parts = and_parts (p == 0) (is_zeros ps) h in
     rw (parts.0, zeros-take k ps parts.1) refl
 
 or_kept : (a b c : Bool) → (b ≡ true → c ≡ true) → (a || b) ≡ true → (a || c) ≡ true
@@ -59,25 +58,25 @@ pub zeros_take : (k : ℕ) (ps : List ℕ) → zeros_last ps ≡ true → zeros_
 zeros_take zero ps h = refl
 zeros_take (suc k) [] h = refl
 zeros_take (suc k) (p ∷ ps) h =
-    let parts = both (not (p == 0) || is_zeros ps) (zeros_last ps) h in
+    let parts = and_parts (not (p == 0) || is_zeros ps) (zeros_last ps) h in
     rw (or_kept (not (p == 0)) (is_zeros ps) (is_zeros (take k ps)) (zeros-take k ps) parts.0, zeros_take k ps parts.1) refl
 
 -- ## Sequences
 
 ordered-zeros : (plan : Plan) (r : ℕ) (ps : List ℕ) → is_ordered plan r ps ≡ true → zeros_last ps ≡ true
 ordered-zeros plan r ps h =
-    let each = (both (lists_only plan r ps) _ h).1 in
-    let once = (both (lists_each plan r ps) _ each).1 in
-    let rise = (both (lists_once ps) _ once).1 in
-    (both (rises plan ps) (zeros_last ps) rise).1
+    let each = (and_parts (lists_only plan r ps) _ h).1 in
+    let once = (and_parts (lists_each plan r ps) _ each).1 in
+    let rise = (and_parts (lists_once ps) _ once).1 in
+    (and_parts (rises plan ps) (zeros_last ps) rise).1
 
 -- what a sequence that is blank or ordered has for a ring
 of_both : (plan : Plan) (s r : ℕ) → 1 ≤ r → r ≤ 2 → (is_blank plan s || sequence_is_ordered plan s) ≡ true → zeros_last (sequence plan s r) ≡ true
 of_both plan s r from to h =
     elim (cases_Bool (is_blank plan s)) [
-      | inl blank ↦ (let parts = both (is_zeros (sequence plan s 1)) (is_zeros (sequence plan s 2)) blank in
+      | inl blank ↦ (let parts = and_parts (is_zeros (sequence plan s 1)) (is_zeros (sequence plan s 2)) blank in
           ring (blank-zeros (sequence plan s 1) parts.0) (blank-zeros (sequence plan s 2) parts.1))
-      | inr other ↦ (let parts = both (is_ordered plan 1 (sequence plan s 1)) (is_ordered plan 2 (sequence plan s 2)) (rw other at h) in
+      | inr other ↦ (let parts = and_parts (is_ordered plan 1 (sequence plan s 1)) (is_ordered plan 2 (sequence plan s 2)) (rw other at h) in
           ring (ordered-zeros plan 1 (sequence plan s 1) parts.0) (ordered-zeros plan 2 (sequence plan s 2) parts.1))
     ]
   where
@@ -94,9 +93,9 @@ sequence-zeros plan none s r from to ring_from ring_to = of_both plan s r ring_f
     go : MeetsRings plan → (is_blank plan s || sequence_is_ordered plan s) ≡ true
     go met =
         let test : ℕ → Bool = λ x. is_blank plan x || sequence_is_ordered plan x in
-        let two = both (test 2) _ met.k7 in
-        let three = both (test 3) _ two.1 in
-        let four = both (test 4) _ three.1 in
+        let two = and_parts (test 2) _ met.k7 in
+        let three = and_parts (test 3) _ two.1 in
+        let four = and_parts (test 4) _ three.1 in
         elim (cases_eq s 1) [
           | inl e ↦ ap test e ∙ rw met.k6 (or-true (is_blank plan 1))
           | inr n1 ↦ elim (cases_eq s 2) [

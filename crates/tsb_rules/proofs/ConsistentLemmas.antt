@@ -2,7 +2,7 @@
 -- patterns.
 use Rattle.std.proofs.Common.{◌≡◌, ◌≢◌, if◌then◌else◌, ℕ, ◌+◌, ◌<◌, ◌≤◌, ◌==◌, nat_le, nat_lt, Bool, true, false, not, ◌&&◌, ◌||◌, List, Option, Some, None, refl, arith, sym, ◌∙◌, ap, inl, inr}
 use Rattle.std.specs.List.{list_all}
-use Rattle.std.proofs.lemmas.Bool.{cases_eq}
+use Rattle.std.proofs.lemmas.Bool.{and_parts, cases_eq}
 use Rattle.std.proofs.lemmas.Bool.Decides.{nat_tests}
 use Rattle.tsb_plan.specs.declared.object.Object.TheVariants.{PhaseConcurrency, PreemptTrackPhase, PreemptDwellPhase, PreemptExitPhase, PatternSequenceNumber}
 use Rattle.tsb_rules.specs.Consistent.{IsPhase, IsPlaced, GoTogether, IsInUse, ListsRing, ListsRings, AreCompatible, IsPreemptSound, IsWhole, EndTogether, AreCoordinated}
@@ -14,7 +14,7 @@ use Rattle.tsb_rules.specs.Rules.{or_rule, some_enabled, is_placed, are_placed, 
 use Rattle.tsb_rules.specs.SequenceRules.{each_phase, is_ordered, sequence_is_ordered, is_blank, lists_only, lists_each, lists_once, rises, first_sequence_is_ordered, other_sequences_are_ordered}
 use Rattle.tsb_types.specs.Sets.{names}
 use Rattle.tsb_types.proofs.SetLemmas.{names-zero}
-use Rattle.tsb_rules.proofs.RuleLemmas.{both, under, unless-met, or_rule-none, at-run_from, Passes, some-run_from, at-among}
+use Rattle.tsb_rules.proofs.RuleLemmas.{under, unless-met, or_rule-none, at-run_from, Passes, some-run_from, at-among}
 
 -- the tests that a plan passes
 pub record MeetsRings (plan : Plan) : Type 0 where
@@ -92,8 +92,8 @@ one_or_two r e = (grind (arith, nat_tests, e), grind (arith, nat_tests, e))
 pub placed : (plan : Plan) → first_broken plan ≡ None → (p : ℕ) → IsPhase plan p → is_enabled plan p ≡ true → IsPlaced plan p
 placed plan none p is on =
     let test : is_placed plan p ≡ true = at-enabled plan (is_placed plan) p (meets_rings plan none).k2 is on in
-    let parts = both (ring_of plan p == 1 || ring_of plan p == 2) _ test in
-    let sides = both (nat_le 1 (side_of plan p)) _ parts.1 in
+    let parts = and_parts (ring_of plan p == 1 || ring_of plan p == 2) _ test in
+    let sides = and_parts (nat_le 1 (side_of plan p)) _ parts.1 in
     record {
       ring_from = (one_or_two (ring_of plan p) parts.0).0;
       ring_to = (one_or_two (ring_of plan p) parts.0).1;
@@ -128,8 +128,8 @@ together plan none p q is also named =
     absurd (apart (names (plan.value PhaseConcurrency p) q) named (names-none (plan.value PhaseConcurrency p) q (grind (arith, nat_tests, zero))))) in
     let across : names_across_rings plan p ≡ true = at-enabled plan (names_across_rings plan) p met.k4 is first in
     let may : may_be_concurrent plan p q ≡ true = under (is_concurrent plan p q) _ (at-phase plan (λ x. not (is_concurrent plan p x) || may_be_concurrent plan p x) q across also) named in
-    let parts = both (is_enabled plan q) _ may in
-    let places = both (not (ring_of plan p == ring_of plan q)) _ parts.1 in
+    let parts = and_parts (is_enabled plan q) _ may in
+    let places = and_parts (not (ring_of plan p == ring_of plan q)) _ parts.1 in
     let back : is_named_back plan p ≡ true = at-phase plan (is_named_back plan) p met.k5 is in
     record {
       first_enabled = first;
@@ -146,16 +146,16 @@ together plan none p q is also named =
 -- a sequence that is ordered lists the rings
 lists-ring : (plan : Plan) (r : ℕ) (ps : List ℕ) → is_ordered plan r ps ≡ true → ListsRing plan r ps
 lists-ring plan r ps ordered =
-    let only = both (lists_only plan r ps) _ ordered in
-    let each = both (lists_each plan r ps) _ only.1 in
-    let once = both (lists_once ps) _ each.1 in
-    let sides = both (rises plan ps) _ once.1 in
+    let only = and_parts (lists_only plan r ps) _ ordered in
+    let each = and_parts (lists_each plan r ps) _ only.1 in
+    let once = and_parts (lists_once ps) _ each.1 in
+    let sides = and_parts (rises plan ps) _ once.1 in
     let listed : (p : ℕ) → among p ps ≡ true → p ≢ 0 → (is_enabled plan p && ring_of plan p == r) ≡ true =
     λ p some other. other-than (p == 0) _ (at-among (λ x. x == 0 || (is_enabled plan x && ring_of plan x == r)) p ps only.0 some)
     (λ zero. other (grind (arith, nat_tests, zero))) in
     record {
-      only_enabled = λ p some other. (both (is_enabled plan p) _ (listed p some other)).0;
-      only_ring = λ p some other. let e : (ring_of plan p == r) ≡ true = (both (is_enabled plan p) _ (listed p some other)).1 in grind (arith, nat_tests, e);
+      only_enabled = λ p some other. (and_parts (is_enabled plan p) _ (listed p some other)).0;
+      only_ring = λ p some other. let e : (ring_of plan p == r) ≡ true = (and_parts (is_enabled plan p) _ (listed p some other)).1 in grind (arith, nat_tests, e);
       each = λ p is on ring.
           under (ring_of plan p == r) _ (at-enabled plan (λ x. not (ring_of plan x == r) || among x ps) p each.0 is on)
           (grind (arith, nat_tests, ring));
@@ -170,7 +170,7 @@ lists-ring plan r ps ordered =
 
 lists-rings : (plan : Plan) (s : ℕ) → sequence_is_ordered plan s ≡ true → ListsRings plan s
 lists-rings plan s ordered =
-    let parts = both (is_ordered plan 1 (sequence plan s 1)) _ ordered in
+    let parts = and_parts (is_ordered plan 1 (sequence plan s 1)) _ ordered in
     record { first = lists-ring plan 1 (sequence plan s 1) parts.0; second = lists-ring plan 2 (sequence plan s 2) parts.1 }
 
 pub first_lists : (plan : Plan) → first_broken plan ≡ None → ListsRings plan 1
@@ -191,11 +191,11 @@ given test (Some n) e = (n, (refl, e))
 pub whole : (plan : Plan) → first_broken plan ≡ None → (n : ℕ) → 1 ≤ n → n ≤ 16 → is_used plan n ≡ true → IsWhole plan n
 whole plan none n from to used =
     let test : is_whole plan n ≡ true = at-pattern plan (is_whole plan) n (meets_parts plan none).k17 from to used in
-    let parts = both (nat_lt (offset plan n) (cycle plan n)) _ test in
-    let names = both (names_split plan n) _ parts.1 in
+    let parts = and_parts (nat_lt (offset plan n) (cycle plan n)) _ test in
+    let names = and_parts (names_split plan n) _ parts.1 in
     let split = given (λ t. nat_le t 8) (split_of plan n) names.0 in
     let seq = given (λ s. nat_le s 4 && not (is_blank plan s)) (sequence_of plan n) names.1 in
-    let within = both (nat_le seq.0 4) _ seq.1.1 in
+    let within = and_parts (nat_le seq.0 4) _ seq.1.1 in
     record {
       its_sequence = seq.0;
       its_split = split.0;
@@ -216,9 +216,9 @@ blank_or plan s e some = go (is_blank plan s) e some
 ordered-to : (plan : Plan) → MeetsRings plan → (s : ℕ) → 1 ≤ s → s ≤ 4 → not (is_blank plan s) ≡ true → sequence_is_ordered plan s ≡ true
 ordered-to plan met s from to some =
     let test : ℕ → Bool = λ x. is_blank plan x || sequence_is_ordered plan x in
-    let two = both (test 2) _ met.k7 in
-    let three = both (test 3) _ two.1 in
-    let four = both (test 4) _ three.1 in
+    let two = and_parts (test 2) _ met.k7 in
+    let three = and_parts (test 3) _ two.1 in
+    let four = and_parts (test 4) _ three.1 in
     elim (cases_eq s 1) [
       | inl e ↦ ap (sequence_is_ordered plan) e ∙ met.k6
       | inr n1 ↦ elim (cases_eq s 2) [
@@ -233,10 +233,10 @@ ordered-to plan met s from to some =
 pub used_lists : (plan : Plan) → first_broken plan ≡ None → (n s t : ℕ) → IsInUse plan n s t → ListsRings plan s
 used_lists plan none n s t in-use =
     let test : is_whole plan n ≡ true = at-pattern plan (is_whole plan) n (meets_parts plan none).k17 in-use.from_one in-use.within in-use.used in
-    let parts = both (nat_lt (offset plan n) (cycle plan n)) _ test in
-    let names = both (names_split plan n) _ parts.1 in
+    let parts = and_parts (nat_lt (offset plan n) (cycle plan n)) _ test in
+    let names = and_parts (names_split plan n) _ parts.1 in
     let it : (nat_le s 4 && not (is_blank plan s)) ≡ true = some-and (λ x. nat_le x 4 && not (is_blank plan x)) (sequence_of plan n) s names.1 in-use.sequence in
-    let within = both (nat_le s 4) _ it in
+    let within = and_parts (nat_le s 4) _ it in
     lists-rings plan s (ordered-to plan (meets_rings plan none) s (from-zero (plan.value PatternSequenceNumber n) s in-use.sequence) (grind (arith, nat_tests, within.0)) within.1)
   where
     from-zero : (v s : ℕ) → unless_zero v ≡ Some s → 1 ≤ s
@@ -252,9 +252,9 @@ compatible plan list met =
     let at : (p : ℕ) → IsPhase plan p → names list p ≡ true → (is_enabled plan p && goes_with_all plan list p) ≡ true =
     λ p is named. under (names list p) _ (at-phase plan (λ x. not (names list x) || (is_enabled plan x && goes_with_all plan list x)) p met is) named in
     record {
-      enabled = λ p is named. (both (is_enabled plan p) _ (at p is named)).0;
+      enabled = λ p is named. (and_parts (is_enabled plan p) _ (at p is named)).0;
       concurrent = λ p q is also named other-named apart.
-          let goes : goes_with_all plan list p ≡ true = (both (is_enabled plan p) _ (at p is named)).1 in
+          let goes : goes_with_all plan list p ≡ true = (and_parts (is_enabled plan p) _ (at p is named)).1 in
           let either : (p == q || is_concurrent plan p q) ≡ true = under (names list q) _ (at-phase plan (λ x. not (names list x) || (p == x || is_concurrent plan p x)) q goes also) other-named in
           not-same p q (is_concurrent plan p q) either apart;
     }
@@ -266,15 +266,15 @@ compatible plan list met =
 dwells-not : (dwell track exit : ℕ) → (not (dwell == 0) || (track == 0 && exit == 0)) ≡ true → dwell ≡ 0 → (track ≡ 0) × (exit ≡ 0)
 dwells-not dwell track exit e none =
     let zero : (dwell == 0) ≡ true = grind (arith, nat_tests, none) in
-    let rest = both (track == 0) _ (under (dwell == 0) _ e zero) in
+    let rest = and_parts (track == 0) _ (under (dwell == 0) _ e zero) in
     (grind (arith, nat_tests, rest.0), grind (arith, nat_tests, rest.1))
 
 pub preempt_sound : (plan : Plan) → first_broken plan ≡ None → (n : ℕ) → 1 ≤ n → n ≤ 4 → IsPreemptSound plan n
 preempt_sound plan none n from to =
     let met : MeetsParts plan = meets_parts plan none in
     let lists : has_concurrent_lists plan n ≡ true = at-run_from (has_concurrent_lists plan) 1 4 n met.k15 from (omega arith) in
-    let track = both (names_concurrent plan (plan.value PreemptTrackPhase n)) _ lists in
-    let dwell = both (names_concurrent plan (plan.value PreemptDwellPhase n)) _ track.1 in
+    let track = and_parts (names_concurrent plan (plan.value PreemptTrackPhase n)) _ lists in
+    let dwell = and_parts (names_concurrent plan (plan.value PreemptDwellPhase n)) _ track.1 in
     let empty : dwells_or_is_empty plan n ≡ true = at-run_from (dwells_or_is_empty plan) 1 4 n met.k16 from (omega arith) in
     record {
       track = compatible plan (plan.value PreemptTrackPhase n) track.0;
@@ -287,8 +287,8 @@ preempt_sound plan none n from to =
 -- two coordinated phases
 end-together : (plan : Plan) (s t p q : ℕ) → ends_with plan s t p q ≡ true → EndTogether plan s t p q
 end-together plan s t p q e =
-    let side = both (side_of plan p == side_of plan q) _ e in
-    let rest = both (p == q || is_concurrent plan p q) _ side.1 in
+    let side = and_parts (side_of plan p == side_of plan q) _ e in
+    let rest = and_parts (p == q || is_concurrent plan p q) _ side.1 in
     record {
       side = grind (arith, nat_tests, side.0);
       concurrent = λ apart. not-same p q (is_concurrent plan p q) rest.0 apart;
@@ -305,25 +305,25 @@ coordinated plan none n s t in-use =
     at-pattern plan (λ m. some_and (λ x. some_and (coordinated_agree plan x) (split_of plan m)) (sequence_of plan m)) n (meets_parts plan none).k20 in-use.from_one in-use.within in-use.used in
     let inner : some_and (coordinated_agree plan s) (split_of plan n) ≡ true = some-and (λ x. some_and (coordinated_agree plan x) (split_of plan n)) (sequence_of plan n) s test in-use.sequence in
     let agree : coordinated_agree plan s t ≡ true = some-and (coordinated_agree plan s) (split_of plan n) t inner in-use.split in
-    let parts = both (has_coordinated plan t) _ agree in
+    let parts = and_parts (has_coordinated plan t) _ agree in
     let found : Passes (is_coordinated plan t) 1 plan.phase_count = some-run_from (is_coordinated plan t) 1 plan.phase_count parts.0 in
     let below : found.one < 1 + plan.phase_count = found.below in
     let each : (p : ℕ) → IsPhase plan p → is_coordinated plan t p ≡ true → coordinates plan s t p ≡ true =
     λ p is named. under (is_coordinated plan t p) _ (at-phase plan (λ x. not (is_coordinated plan t x) || coordinates plan s t x) p parts.1 is) named in
-    let may : (p : ℕ) → IsPhase plan p → is_coordinated plan t p ≡ true → may_coordinate plan t p ≡ true = λ p is named. (both (may_coordinate plan t p) _ (each p is named)).0 in
+    let may : (p : ℕ) → IsPhase plan p → is_coordinated plan t p ≡ true → may_coordinate plan t p ≡ true = λ p is named. (and_parts (may_coordinate plan t p) _ (each p is named)).0 in
     let rest : (p : ℕ) → IsPhase plan p → is_coordinated plan t p ≡ true → (agrees_with_all plan s t p && has_one_in_each_ring plan t p) ≡ true =
-    λ p is named. (both (may_coordinate plan t p) _ (each p is named)).1 in
+    λ p is named. (and_parts (may_coordinate plan t p) _ (each p is named)).1 in
     record {
       one = found.one;
       is_phase = record { from_one = found.from; within = omega arith };
       is_one = found.passes;
-      enabled = λ p is named. (both (is_enabled plan p) _ (may p is named)).0;
-      served = λ p is named. is-off (is_omitted plan t p) (both (is_enabled plan p) _ (may p is named)).1;
+      enabled = λ p is named. (and_parts (is_enabled plan p) _ (may p is named)).0;
+      served = λ p is named. is-off (is_omitted plan t p) (and_parts (is_enabled plan p) _ (may p is named)).1;
       together = λ p q is also named other-named.
-          let agrees : agrees_with_all plan s t p ≡ true = (both (agrees_with_all plan s t p) _ (rest p is named)).0 in
+          let agrees : agrees_with_all plan s t p ≡ true = (and_parts (agrees_with_all plan s t p) _ (rest p is named)).0 in
           end-together plan s t p q (under (is_coordinated plan t q) _ (at-phase plan (λ x. not (is_coordinated plan t x) || ends_with plan s t p x) q agrees also) other-named);
       in_each_ring = λ p r is named from to has.
-          let one : has_one_in_each_ring plan t p ≡ true = (both (agrees_with_all plan s t p) _ (rest p is named)).1 in
+          let one : has_one_in_each_ring plan t p ≡ true = (and_parts (agrees_with_all plan s t p) _ (rest p is named)).1 in
           let it : (coordinated_count plan t r == 1) ≡ true =
           under (has_phases plan r (side_of plan p)) _ (at-run_from (λ x. not (has_phases plan x (side_of plan p)) || coordinated_count plan t x == 1) 1 2 r one from (omega arith)) has in
           grind (arith, nat_tests, it);

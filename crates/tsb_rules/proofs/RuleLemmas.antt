@@ -1,16 +1,11 @@
 -- What the rules' tests say where they are passed.
 use Rattle.std.proofs.Common.{zero, suc, ◌≡◌, ℕ, ◌+◌, ◌<◌, ◌≤◌, ◌==◌, Bool, true, false, not, ◌&&◌, ◌||◌, List, [], ◌∷◌, Option, Some, None, refl, arith, sym, ◌∙◌, ap, inl, inr}
 use Rattle.std.specs.List.{list_all, list_any}
-use Rattle.std.proofs.lemmas.Bool.{cases_eq}
+use Rattle.std.proofs.lemmas.Bool.{and_parts, cases_eq}
 use Rattle.std.proofs.lemmas.Bool.Decides.{nat_tests}
 use Rattle.tsb_rules.specs.declared.rules.Rule.{Rule}
 use Rattle.tsb_types.specs.Lists.{run_from}
 use Rattle.tsb_rules.specs.Rules.{unless, or_rule}
-
-pub both : (a b : Bool) → (a && b) ≡ true → (a ≡ true) × (b ≡ true)
-both true true e = (refl, refl)
-both true false e = cc
-both false b e = cc
 
 -- a test that holds under a condition, where the condition holds
 pub under : (a b : Bool) → (not a || b) ≡ true → a ≡ true → b ≡ true
@@ -30,7 +25,7 @@ pub at-run_from : (test : ℕ → Bool) (a n k : ℕ) → list_all test (run_fro
 unfolding run_from
 at-run_from test a zero k e from below = absurd (omega arith)
 at-run_from test a (suc n) k e from below =
-    let parts : (test a ≡ true) × (list_all test (run_from (a + 1) n) ≡ true) = both (test a) _ e in
+    let parts : (test a ≡ true) × (list_all test (run_from (a + 1) n) ≡ true) = and_parts (test a) _ e in
     elim (cases_eq a k) [
       | inl same ↦ ap test (sym same) ∙ parts.0
       | inr other ↦ at-run_from test (a + 1) n k parts.1 (omega arith) (omega arith)
@@ -60,7 +55,7 @@ some-run_from test a (suc n) e = go (test a) refl e (λ (f : list_any test (run_
 pub at-among : (test : ℕ → Bool) (p : ℕ) (ps : List ℕ) → list_all test ps ≡ true → list_any (λ q. q == p) ps ≡ true → test p ≡ true
 at-among test p [] all some = cc
 at-among test p (q ∷ qs) all some =
-    let parts : (test q ≡ true) × (list_all test qs ≡ true) = both (test q) _ all in
+    let parts : (test q ≡ true) × (list_all test qs ≡ true) = and_parts (test q) _ all in
     go parts.0 (q == p) refl some (λ (f : list_any (λ x. x == p) qs ≡ true). at-among test p qs parts.1 f)
   where
     go : test q ≡ true → (b : Bool) → (q == p) ≡ b → (b || list_any (λ x. x == p) qs) ≡ true → (list_any (λ x. x == p) qs ≡ true → test p ≡ true) → test p ≡ true

@@ -11,6 +11,7 @@ use Rattle.tsb_plan.specs.declared.object.ObjectId.{ObjectId}
 use Rattle.tsb_plan.specs.Plan.{Plan, with_values, is_concurrent}
 use Rattle.tsb_plan.specs.Two.{two}
 use Rattle.tsb_rules.specs.Rules.{first_broken}
+use Rattle.tsb_rules.proofs.TwoLemmas.{two-meets}
 use Rattle.tsb_heads.specs.declared.monitor.Trip.TheVariants.{Conflict}
 use Rattle.tsb_heads.specs.Monitoring.{has_right_of_way}
 use Rattle.tsb_past.specs.declared.commands.Command.TheVariants.{Apply, Undo}
@@ -111,16 +112,12 @@ serves_4 = refl
 
 -- ## A plan that is committed: 2 has a maximum green of 30 s
 
-two_count : two.phase_count ≡ 16
+pub two_count : two.phase_count ≡ 16
 unfolding two
 two_count = refl
 
-two_rules : first_broken two ≡ None
-unfolding opened two
-two_rules = refl
-
-two_consistent : IsConsistent two
-two_consistent = consistent two two_count two_rules two_none
+pub two_consistent : IsConsistent two
+two_consistent = consistent two two_count two-meets two_none
 
 abbrev maximum_of_2 : ObjectId
 maximum_of_2 = record { object = PhaseMaximum1; index = 2 }

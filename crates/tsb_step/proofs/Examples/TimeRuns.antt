@@ -40,6 +40,7 @@ use Rattle.tsb_step.specs.ClearanceLaws.{after_ticks, EndsNow, IsForcedOff}
 use Rattle.tsb_step.specs.TimeLaws.{held_for, is_yellow_head}
 use Rattle.tsb_step.proofs.PlaceLemmas.{same_indices}
 use Rattle.tsb_step.proofs.TripLemmas.{faults_alone_trip}
+use Rattle.tsb_step.proofs.ClearLemmas.{one_later}
 use Rattle.tsb_step.proofs.Examples.Scenes.{opened}
 
 -- ## Plans that are given by their values
@@ -84,14 +85,6 @@ consistent plan count rules none = record {
 abbrev pub ticks_after : List Input → ℕ → List Input
 ticks_after is zero = is
 ticks_after is (suc n) = Tick all_off ∷ ticks_after is n
-
-one_later : (s : State) (row : Row) → (step s (Tick row)).now ≡ s.now + 1
-unfolding step watched
-one_later s row = go (is_some s.trip)
-  where
-    go : (b : Bool) → (if b then record s { now = s.now + 1 } else (if b then next s row else watched s (next s row))).now ≡ s.now + 1
-    go true = refl
-    go false = refl
 
 taken_then : (s : State) → s.now ≤ 1000 → verdict s (Tick all_off) ≡ None
 unfolding verdict

@@ -23,9 +23,6 @@ yellow_of_2 = record { object = PhaseYellowChange; index = 2 }
 abbrev verified : List Input
 verified = Verify 1 ∷ Set 1 yellow_of_2 40 ∷ Begin 1 ∷ []
 
-consistent : IsConsistent two
-consistent = held.consistent
-
 taken : AreTaken two verified
 unfolding opened two
 taken = (((tt, refl), refl), refl)

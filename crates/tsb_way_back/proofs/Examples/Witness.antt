@@ -13,13 +13,13 @@ use Rattle.tsb_plan.specs.Plan.{Plan, empty, is_same, with_value, with_values}
 use Rattle.tsb_plan.specs.Two.{two, two_values, fits}
 use Rattle.tsb_plan.proofs.TableLemmas.{order-injective}
 use Rattle.tsb_plan.proofs.PlanLemmas.{same-parts}
-use Rattle.tsb_rules.proofs.TwoLemmas.{two-meets}
 use Rattle.tsb_step.specs.declared.inputs.Input.{Input}
 use Rattle.tsb_step.specs.declared.inputs.Input.TheVariants.{Tick, Fault, Begin}
 use Rattle.tsb_step.specs.Runs.{replay}
 use Rattle.tsb_step.specs.Tables.{has_place, indices_for}
 use Rattle.tsb_step.proofs.PlaceLemmas.{same_indices}
 use Rattle.tsb_step.proofs.Examples.Scenes.{opened}
+use Rattle.tsb_step.proofs.Examples.OtherRuns.{two_count, two_consistent}
 use Rattle.tsb_way_back.specs.Runs.{IsHeld, IsRun}
 use Rattle.tsb_way_back.specs.Timers.{timer_of, Change, Interval}
 
@@ -54,27 +54,17 @@ two-fits : Fits two.value
 unfolding two
 two-fits = fits-with two_values empty refl (record { none = λ o i out. refl; bounded = λ o i. omega arith })
 
-two-phases : two.phase_count ≡ 16
-unfolding two
-two-phases = refl
-
 two-sides : two.side_count ≡ 4
 unfolding two
 two-sides = refl
 
 pub held : IsHeld two
 held = record {
-  consistent = record {
-    rules = two-meets;
-    placed = λ o i out. two-fits.none o i (sym (ap (λ (n : ℕ). nat_le 1 i && nat_le i n) (same_indices o)) ∙ sym (here o i) ∙ out);
-  };
-  phases = two-phases;
+  consistent = two_consistent;
+  phases = two_count;
   sides = two-sides;
   bounded = two-fits.bounded;
 }
-  where
-    here : (o : Object) (i : ℕ) → has_place two o i ≡ (nat_le 1 i && nat_le i (indices_for 16 o))
-    here o i = ap (λ (n : ℕ). nat_le 1 i && nat_le i (indices_for n o)) two-phases
 
 -- ## A run
 

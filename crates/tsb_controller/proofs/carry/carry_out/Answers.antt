@@ -3,14 +3,14 @@ use Rattle.tsb_objects.specs.Checked.{checked_plan}
 use Rattle.tsb_phase.specs.Layer.{cells_of}
 use Rattle.tsb_types.specs.Lists.{is}
 use Rattle.tsb_ring.specs.Moves.{is_cleared}
-use Rattle.tsb_controller.proofs.CarryLemmas.{still-clearing, other-clearing, carried, or_first}
+use Rattle.tsb_controller.proofs.CarryLemmas.{still-clearing, other-clearing, carried}
 use Rattle.tsb_controller.proofs.carry.carry_out.Goals as goal
-use Rattle.std.proofs.lemmas.Bool.{or_right}
+use Rattle.std.proofs.lemmas.Bool.{or_left, or_right}
 
 pub clear_some-requires-clause-clearing : goal.clear_some-requires-clause-clearing
 clear_some-requires-clause-clearing c p on =
     let m = c.args.moves.now in
-    let one : is_cleared m p ≡ true = or_first (is p m.first.clears) (is p m.second.clears) on in
+    let one : is_cleared m p ≡ true = or_left (is p m.first.clears) (is p m.second.clears) on in
     let at = c.known_moves.ensures.clears p one in
     still-clearing p c.args.now m.second.ends c.args.timing.now c.args.conditions.now (checked_plan c.args.plan.now)
     (cells_of c.end_some.new.phases) (cells_of c.end_some-2.new.phases) at.0 at.1 c.end_some-2.ensures.each
