@@ -3,6 +3,7 @@
 
 ghost use Rattle.std.specs.Prelude.{◌≡◌, ℕ, ◌+◌, ◌-◌, ◌≤◌, [], true, false, None, Some, if◌then◌else◌, nat_lt, MatchResult, IfOk};
 ghost use Rattle.arrayvec.specs.ArrayVec.{array_vec_len};
+ghost use Rattle.tsb_cells.specs.Bank as bank;
 ghost use Rattle.tsb_cells.specs.Diff.{apply_diff, part};
 ghost use Rattle.tsb_objects.specs.Checked.{checked_plan};
 ghost use Rattle.tsb_plan.specs.declared.object.TheConstants.{PLAN_CELLS};
@@ -16,7 +17,11 @@ ghost use Rattle.tsb_transact.specs.declared.TheConstants.{CELLS as DESK_CELLS};
 ghost use Rattle.tsb_step.specs.Good.{IsGood};
 ghost use Rattle.tsb_step.specs.State.{start};
 ghost use Rattle.tsb_step.specs.Step.{verdict, last_tick, kind_of};
-ghost use Rattle.tsb_step.specs.declared.first_cell.TheConstants.{DESK};
+ghost use Rattle.tsb_step.specs.declared.TheConstants.{MONITOR_CELLS};
+ghost use Rattle.tsb_step.specs.declared.first_cell.TheConstants.{DESK, MONITOR};
+ghost use Rattle.tsb_controller.specs.Layer as layers;
+ghost use Rattle.tsb_controller.specs.Layer.{IsClosed};
+ghost use Rattle.tsb_controller.specs.Records as records;
 ghost use Rattle.tsb_controller.specs.Records.{HasFew};
 ghost use Rattle.tsb_controller.specs.Whole.{AreAllBy, all_in, all_put_back};
 ghost use Rattle.tsb_bench.specs.Cabinet.{rows_of, IsShut, IsDone, MayPass, next_tick, most_cells};
@@ -25,13 +30,13 @@ use crate::monitor_cells::MonitorCells;
 use crate::passing::Passing;
 use arrayvec::ArrayVec;
 use std::alloc::Global;
-use tsb_cells::{Diff, Reversible};
+use tsb_cells::{Bank, Diff, Reversible};
 use tsb_controller::Controller;
 use tsb_history::Record;
 use tsb_objects::{Checked, PLAN_CELLS, Refusal, limits};
 use tsb_plan_changes::put_back;
-use tsb_records::{part_of, touches, undo_part};
-use tsb_step::first_cell::{ALL_CELLS, DESK, LAYER_CELLS, MONITOR};
+use tsb_records::{part_of, touches, undo_entry};
+use tsb_step::first_cell::{ALL_CELLS, DESK, DETECTORS, LAYER_CELLS, MONITOR};
 use tsb_step::{Input, MONITOR_CELLS};
 use tsb_transact::Desk;
 
@@ -179,10 +184,42 @@ impl Cabinet {
         if change.is_empty() {
             return;
         }
-        undo_plan(&mut self.plan, change);
-        undo_desk(&mut self.desk, change);
-        self.controller.undo(change);
-        undo_part(&mut self.monitor.bank, change, MONITOR);
+        undo_plan_and_desk(&mut self.plan, &mut self.desk, change);
+        undo_layers(&mut self.controller, &mut self.monitor.bank, change);
+    }
+}
+
+/// Puts back what a record tells of the layers and of the monitor, entry by entry.
+fn undo_layers(controller: &mut Controller, monitor: &mut Bank<MONITOR_CELLS>, change: &Record<'_>)
+    requires controller { IsClosed controller.old }
+    requires monitor { bank.is_open monitor.old ≡ false }
+    ensures layers { layers.rows_of controller.new ≡ records.put_back (layers.rows_of controller.old) change.now.entries }
+    ensures monitor { bank.cells_of monitor.new ≡ apply_diff (bank.cells_of monitor.old) (part MONITOR MONITOR_CELLS change.now.entries) }
+    ensures closed { IsClosed controller.new }
+    ensures shut { bank.is_open monitor.new ≡ false }
+{
+    for i in 0..change.len() {
+        if let Some((cell, old)) = change.entry(i) {
+            controller.undo_entry(cell, old);
+            undo_entry(monitor, cell, old, MONITOR);
+        }
+    }
+}
+
+/// Puts back what a record tells of plan and desk, which few records do.
+fn undo_plan_and_desk(plan: &mut Checked, desk: &mut Desk, change: &Record<'_>)
+    requires ranged { AreInRange (apply_diff plan.old.plan.values (part 0 PLAN_CELLS change.now.entries)) }
+    requires passed { first_broken (plan_in (apply_diff plan.old.plan.values (part 0 PLAN_CELLS change.now.entries))) ≡ None }
+    requires shut { is_open desk.old ≡ false }
+    requires few { HasFew change.now.entries }
+    requires row { IsRow (apply_diff (cells_of desk.old) (part DESK DESK_CELLS change.now.entries)) }
+    ensures plan { plan.new.plan.values ≡ apply_diff plan.old.plan.values (part 0 PLAN_CELLS change.now.entries) }
+    ensures desk { cells_of desk.new ≡ apply_diff (cells_of desk.old) (part DESK DESK_CELLS change.now.entries) }
+    ensures shut { is_open desk.new ≡ false }
+{
+    if touches(change, 0, DETECTORS as usize) {
+        undo_plan(plan, change);
+        undo_desk(desk, change);
     }
 }
 

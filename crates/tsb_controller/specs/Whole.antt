@@ -98,7 +98,7 @@ abbrev pub RecordsGiveBack : Type 0
 RecordsGiveBack = (i : Input) (m n : ℕ) (old new : All) → AreAllBy m old → AreAllBy n new → n - ticks_of (kind_of i) ≡ m →
     undone (record_of i (all_in m old) (all_in n new)) (all_in n new) ≡ all_in m old
 
--- and no record has more entries of any cells than there are of these, as `Controller::undo` asks
+-- and no record has more entries of any cells than there are of these, as the way back of the desk asks
 abbrev pub RecordsAreFew : Type 0
 RecordsAreFew = (i : Input) (before after : State) → HasFew (record_of i before after).entries
 

@@ -1,5 +1,5 @@
 //! The record of what changes in the layers, and the way back by it.
-ghost use Rattle.std.specs.Prelude.{◌≡◌, ◌+◌, ◌≤◌, ◌++◌};
+ghost use Rattle.std.specs.Prelude.{◌≡◌, ◌+◌, ◌≤◌, ◌++◌, ◌∷◌, []};
 ghost use Rattle.arrayvec.specs.ArrayVec.{array_vec_len};
 ghost use Rattle.tsb_step.specs.declared.first_cell.TheConstants.{LAYER_CELLS};
 ghost use Rattle.tsb_controller.specs.Records.{changes, put_back};
@@ -8,7 +8,7 @@ use crate::controller::Controller;
 use arrayvec::ArrayVec;
 use tsb_cells::Reversible;
 use tsb_history::Record;
-use tsb_records::undo_part;
+use tsb_records::undo_entry;
 use tsb_step::first_cell::{CALLS, COORD, DETECTORS, PHASES, PREEMPTS, RINGS};
 
 impl Controller {
@@ -47,17 +47,18 @@ impl Controller {
         self.preempts.close_onto(out, PREEMPTS);
     }
 
-    /// Puts back what a record tells of the layers' cells.
-    pub fn undo(&mut self, change: &Record<'_>)
+    /// Puts back what an entry of a record tells, where it is of a cell of the layers.
+    #[inline(always)]
+    pub fn undo_entry(&mut self, cell: u16, old: u32)
         requires closed { IsClosed self.old }
-        ensures rows { rows_of self.new ≡ put_back (rows_of self.old) change.now.entries }
+        ensures rows { rows_of self.new ≡ put_back (rows_of self.old) ((cell, old) ∷ []) }
         ensures closed { IsClosed self.new }
     {
-        undo_part(&mut self.detectors, change, DETECTORS);
-        undo_part(&mut self.calls, change, CALLS);
-        undo_part(&mut self.phases, change, PHASES);
-        undo_part(&mut self.rings, change, RINGS);
-        undo_part(&mut self.coord, change, COORD);
-        undo_part(&mut self.preempts, change, PREEMPTS);
+        undo_entry(&mut self.detectors, cell, old, DETECTORS);
+        undo_entry(&mut self.calls, cell, old, CALLS);
+        undo_entry(&mut self.phases, cell, old, PHASES);
+        undo_entry(&mut self.rings, cell, old, RINGS);
+        undo_entry(&mut self.coord, cell, old, COORD);
+        undo_entry(&mut self.preempts, cell, old, PREEMPTS);
     }
 }

@@ -1,1 +1,1 @@
-mod PartLemmas
+pub mod PartLemmas

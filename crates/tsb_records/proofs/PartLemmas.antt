@@ -1,17 +1,21 @@
 -- A part of a record's entries, found, collected and put back one by one.
-use Rattle.std.proofs.Common.{◌≡◌, ◌≢◌, ℕ, ◌+◌, ◌-◌, ◌<◌, ◌≤◌, slice_get, Some, drop-cons, List, [], ◌∷◌, ◌++◌, length, drop, sym, ap, arith, ◌∙◌, suc, subst, true, false, cond, ltb, leb, ◌&&◌, append_assoc, length-append}
+use Rattle.std.proofs.Common.{◌≡◌, ◌≢◌, ℕ, ◌+◌, ◌-◌, ◌<◌, ◌≤◌, slice_get, Some, drop-cons, List, [], ◌∷◌, ◌++◌, length, drop, sym, ap, arith, ◌∙◌, suc, subst, true, false, Bool, refl, if◌then◌else◌, cond, ltb, leb, ◌&&◌, append_assoc, length-append}
 use Rattle.std.proofs.lemmas.Option.{get_or_from_slice_get, slice_get_within}
 use Rattle.std.proofs.lemmas.Bool.{cond-true, cond-false}
 use Rattle.std.proofs.lemmas.List.{drop_all}
 use Rattle.tsb_cells.specs.Diff.{AreWithin, apply_diff, part}
 use Rattle.tsb_cells.proofs.PartLemmas.{AreWithin-part}
 
-part-at : (o n i : ℕ) (es : List (ℕ × ℕ)) (e : ℕ × ℕ) → slice_get es i ≡ Some e
-    → part o n (drop i es) ≡ cond (leb o e.0 && ltb e.0 (o + n)) ((e.0 - o, e.1) ∷ part o n (drop (i + 1) es)) (part o n (drop (i + 1) es))
-part-at o n i es e found =
+-- an entry and those behind it
+pub entry-first : (i : ℕ) (es : List (ℕ × ℕ)) (e : ℕ × ℕ) → slice_get es i ≡ Some e → drop i es ≡ e ∷ drop (i + 1) es
+entry-first i es e found =
     let here : i < length es = slice_get_within es i e found in
     let one : suc i ≡ i + 1 = omega arith in
-    ap (part o n) (drop-cons es i e here ∙ ap (λ (x : ℕ × ℕ). x ∷ drop (suc i) es) (get_or_from_slice_get es i e e found) ∙ ap (λ (m : ℕ). e ∷ drop m es) one)
+    drop-cons es i e here ∙ ap (λ (x : ℕ × ℕ). x ∷ drop (suc i) es) (get_or_from_slice_get es i e e found) ∙ ap (λ (m : ℕ). e ∷ drop m es) one
+
+part-at : (o n i : ℕ) (es : List (ℕ × ℕ)) (e : ℕ × ℕ) → slice_get es i ≡ Some e
+    → part o n (drop i es) ≡ cond (leb o e.0 && ltb e.0 (o + n)) ((e.0 - o, e.1) ∷ part o n (drop (i + 1) es)) (part o n (drop (i + 1) es))
+part-at o n i es e found = ap (part o n) (entry-first i es e found)
 
 -- the loop that collects a part goes on by an entry of the layer, or by another
 pub part_taken : (o n i : ℕ) (es out grown : List (ℕ × ℕ)) (e : ℕ × ℕ) → slice_get es i ≡ Some e → (leb o e.0 && ltb e.0 (o + n)) ≡ true
@@ -50,16 +54,21 @@ found-left o n i es e found left so_far = sym (part-at o n i es e found ∙ cond
 pub found-none : (o n i : ℕ) (es : List (ℕ × ℕ)) → length es ≤ i → part o n (drop i es) ≡ part o n es → part o n es ≡ []
 found-none o n i es over so_far = sym so_far ∙ ap (part o n) (drop_all i es over)
 
--- the loop that puts entries back puts one of the row, or passes over another, or has come to the end
-pub put-taken : (o n i : ℕ) (es : List (ℕ × ℕ)) (e : ℕ × ℕ) (cells next whole : List ℕ) → slice_get es i ≡ Some e → (leb o e.0 && ltb e.0 (o + n)) ≡ true
-    → next ≡ apply_diff cells ((e.0 - o, e.1) ∷ []) → apply_diff cells (part o n (drop i es)) ≡ whole → apply_diff next (part o n (drop (i + 1) es)) ≡ whole
-put-taken o n i es e cells next whole found taken is so_far =
-    ap (λ (row : List ℕ). apply_diff row (part o n (drop (i + 1) es))) is
-    ∙ sym (ap (apply_diff cells) (part-at o n i es e found ∙ cond-true _ _ _ taken)) ∙ so_far
+-- to put back one entry and then the others is to put back all
+pub put-first : (o n : ℕ) (e : ℕ × ℕ) (es : List (ℕ × ℕ)) (cells : List ℕ) → apply_diff (apply_diff cells (part o n (e ∷ []))) (part o n es) ≡ apply_diff cells (part o n (e ∷ es))
+put-first o n e es cells = go (leb o e.0 && ltb e.0 (o + n))
+  where
+    go : (b : Bool) → apply_diff (apply_diff cells (if b then (e.0 - o, e.1) ∷ [] else [])) (part o n es)
+        ≡ apply_diff cells (if b then (e.0 - o, e.1) ∷ part o n es else part o n es)
+    go true = refl
+    go false = refl
 
-pub put-left : (o n i : ℕ) (es : List (ℕ × ℕ)) (e : ℕ × ℕ) (cells whole : List ℕ) → slice_get es i ≡ Some e → (leb o e.0 && ltb e.0 (o + n)) ≡ false
-    → apply_diff cells (part o n (drop i es)) ≡ whole → apply_diff cells (part o n (drop (i + 1) es)) ≡ whole
-put-left o n i es e cells whole found left so_far = sym (ap (apply_diff cells) (part-at o n i es e found ∙ cond-false _ _ _ left)) ∙ so_far
+-- the loop that puts entries back goes on by one, or has come to the end
+pub put-next : (o n i : ℕ) (es : List (ℕ × ℕ)) (e : ℕ × ℕ) (cells next whole : List ℕ) → slice_get es i ≡ Some e → next ≡ apply_diff cells (part o n (e ∷ []))
+    → apply_diff cells (part o n (drop i es)) ≡ whole → apply_diff next (part o n (drop (i + 1) es)) ≡ whole
+put-next o n i es e cells next whole found is so_far =
+    ap (λ (row : List ℕ). apply_diff row (part o n (drop (i + 1) es))) is ∙ put-first o n e (drop (i + 1) es) cells
+    ∙ ap (λ (fs : List (ℕ × ℕ)). apply_diff cells (part o n fs)) (sym (entry-first i es e found)) ∙ so_far
 
 pub put-all : (o n i : ℕ) (es : List (ℕ × ℕ)) (cells whole : List ℕ) → length es ≤ i → apply_diff cells (part o n (drop i es)) ≡ whole → cells ≡ whole
 put-all o n i es cells whole over so_far = ap (λ (fs : List (ℕ × ℕ)). apply_diff cells (part o n fs)) (sym (drop_all i es over)) ∙ so_far

@@ -4,4 +4,4 @@
 
 pub mod parts;
 
-pub use parts::{part_of, touches, undo_part};
+pub use parts::{part_of, touches, undo_entry, undo_part};

@@ -1,5 +1,5 @@
 //! The entries of one row of cells in a record: told, collected, put back.
-ghost use Rattle.std.specs.Prelude.{◌≡◌, ◌≢◌, ℕ, ◌+◌, ◌≤◌, ◌&&◌, nat_le, nat_lt, true, false, [], List, length};
+ghost use Rattle.std.specs.Prelude.{◌≡◌, ◌≢◌, ℕ, ◌+◌, ◌≤◌, ◌&&◌, ◌∷◌, nat_le, nat_lt, true, false, [], List, length};
 ghost use Rattle.tsb_cells.specs.Diff.{apply_diff, part};
 
 use arrayvec::ArrayVec;
@@ -48,6 +48,22 @@ pub fn part_of<const N: usize>(change: &Record<'_>, offset: u16) -> Diff<N>
     entries
 }
 
+/// Puts back what one entry of a record says, where it is of a row whose `N` cells stand from `offset` on. The row has to be
+/// closed, and to take any values.
+#[inline(always)]
+pub fn undo_entry<const N: usize, R: Reversible<N>>(row: &mut R, cell: u16, old: u32, offset: u16)
+    requires indexed { N ≤ 65536 }
+    requires fits { offset + N ≤ 65536 }
+    requires closed { R.is_open row.old ≡ false }
+    requires free { (cells : List ℕ) → length cells ≡ N → R.allows cells }
+    ensures cells { R.cells row.new ≡ apply_diff (R.cells row.old) (part offset N ((cell, old) ∷ [])) }
+    ensures closed { R.is_open row.new ≡ false }
+{
+    if is_one_of(cell, offset, N) {
+        row.undo(&[(cell - offset, old)]);
+    }
+}
+
 /// Puts back what the record says of a row whose `N` cells stand from `offset` on. The row has to be closed, and to take
 /// any values. It builds no list of the entries.
 pub fn undo_part<const N: usize, R: Reversible<N>>(row: &mut R, change: &Record<'_>, offset: u16)
@@ -60,9 +76,7 @@ pub fn undo_part<const N: usize, R: Reversible<N>>(row: &mut R, change: &Record<
 {
     for i in 0..change.len() {
         if let Some((cell, old)) = change.entry(i) {
-            if is_one_of(cell, offset, N) {
-                row.undo(&[(cell - offset, old)]);
-            }
+            undo_entry(row, cell, old, offset);
         }
     }
 }
