@@ -44,10 +44,11 @@ TellsWords words.Memory status told tells = Fails Memory status told tells
 TellsWords words.Bad status told tells =
     (status ≡ 2) × AppendsFront told tells (codes "usage: tsb check PLAN or tsb run PLAN LOG\n")
 
--- the line of a plan's fault, and of a log's
+-- the line of a plan's fault
 abbrev pub plan_line : PlanError → List ℕ
 plan_line fault = plan_fault fault ++ 10 ∷ []
 
+-- the line of a log's fault
 abbrev pub log_line : LogError → List ℕ
 log_line fault = log_fault fault ++ 10 ∷ []
 

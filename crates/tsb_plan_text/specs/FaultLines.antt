@@ -10,6 +10,7 @@ use Rattle.tsb_plan_text.specs.declared.error.PlanError.TheVariants as told
 abbrev pub at_index : Object → List ℕ → List ℕ → List ℕ
 at_index o index fault = codes "plan: " ++ name_of o ++ codes "." ++ index ++ fault
 
+-- what a plan's fault is told as
 abbrev pub plan_fault : PlanError → List ℕ
 plan_fault told.Memory = codes "memory"
 plan_fault told.TooLarge = codes "plan: too large"

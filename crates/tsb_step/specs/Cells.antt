@@ -65,28 +65,35 @@ cells_of s =
 
 -- ## Reading
 
--- the cells of each layer among all of them
+-- the desk's cells among all
 abbrev pub desk_row : List ℕ → List ℕ
 desk_row row = row_at DESK_CELLS row first_cell.DESK
 
+-- the cells of vehicle detectors
 abbrev pub detectors_row : List ℕ → List ℕ
 detectors_row row = row_at DETECTOR_CELLS row first_cell.DETECTORS
 
+-- those of calls
 abbrev pub calls_row : List ℕ → List ℕ
 calls_row row = row_at CALL_CELLS row first_cell.CALLS
 
+-- those of phases
 abbrev pub phases_row : List ℕ → List ℕ
 phases_row row = row_at PHASE_CELLS row first_cell.PHASES
 
+-- those of the rings
 abbrev pub rings_row : List ℕ → List ℕ
 rings_row row = row_at RING_CELLS row first_cell.RINGS
 
+-- the cell of coordination, which has the pattern
 abbrev pub pattern_row : List ℕ → List ℕ
 pattern_row row = row_at PATTERN_CELLS row first_cell.COORD
 
+-- the cells of preempts
 abbrev pub preempts_row : List ℕ → List ℕ
 preempts_row row = row_at PREEMPT_CELLS row first_cell.PREEMPTS
 
+-- those of the monitor, with the injected lamp
 abbrev pub monitor_row : List ℕ → List ℕ
 monitor_row row = row_at MONITOR_CELLS row first_cell.MONITOR
 

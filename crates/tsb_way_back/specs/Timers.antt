@@ -44,6 +44,7 @@ abbrev pub served : Option Service → Timer
 served None = Off
 served (Some x) = x.timer
 
+-- the stage timer of a service, Off where none is
 abbrev pub tracked : Option Service → Timer
 tracked None = Off
 tracked (Some x) = x.stage_timer

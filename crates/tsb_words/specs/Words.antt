@@ -11,6 +11,7 @@ pub data Wish : Type 0 where
   run : List ℕ → List ℕ → Wish
   built_in : Wish
 
+-- it is not empty
 abbrev pub has_some : List ℕ → Bool
 has_some [] = false
 has_some (x ∷ xs) = true
@@ -37,6 +38,7 @@ abbrev pub run_of : Option (List (List ℕ)) → Option Wish
 run_of (Some (plan ∷ log ∷ [])) = Some (run plan log)
 run_of other = None
 
+-- the built-in plan is asked for by no word
 abbrev pub built_in_of : List (List ℕ) → Option Wish
 built_in_of [] = Some built_in
 built_in_of (word ∷ rest) = None
