@@ -75,10 +75,10 @@ two-parts inputs before tick to lt =
 
 -- ## The row before
 
-before-first : (inputs : ℕ → Row) (tick : ℕ) → tick ≤ 1 → row_before inputs tick ≡ all_off
+pub before-first : (inputs : ℕ → Row) (tick : ℕ) → tick ≤ 1 → row_before inputs tick ≡ all_off
 before-first inputs tick le = rw (le-leb tick 1 le) refl
 
-before-next : (inputs : ℕ → Row) (tick : ℕ) → 1 ≤ tick → row_before inputs (tick + 1) ≡ inputs tick
+pub before-next : (inputs : ℕ → Row) (tick : ℕ) → 1 ≤ tick → row_before inputs (tick + 1) ≡ inputs tick
 before-next inputs tick one =
     let no : leb (tick + 1) 1 ≡ false = elim (leb_tells (tick + 1) 1) [ inl z ↦ absurd (let le : tick + 1 ≤ 1 = z.1 in omega (arith, le, one)) | inr z ↦ z.0 ] in
     let same : tick + 1 - 1 ≡ tick = omega arith in

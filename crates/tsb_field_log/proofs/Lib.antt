@@ -5,3 +5,4 @@ pub mod TextLemmas
 pub mod LawLemmas
 pub mod LeadLemmas
 pub mod FieldLemmas
+pub mod PushedLemmas

@@ -1,5 +1,5 @@
 -- The text of a log is read as its rows.
-use Rattle.std.proofs.Common.{◌≡◌, ℕ, ◌+◌, ◌-◌, ◌*◌, ◌/◌, ◌%◌, ◌^◌, ◌<◌, ◌≤◌, Bool, true, false, eqb, leb, zero, suc, List, [], ◌∷◌, ◌++◌, length, map, refl, ap, ◌∙◌, arith, inl, inr, Option, Some, Ok, length-append, if◌then◌else◌}
+use Rattle.std.proofs.Common.{◌≡◌, ℕ, ◌+◌, ◌-◌, ◌*◌, ◌/◌, ◌%◌, ◌^◌, ◌<◌, ◌≤◌, Bool, true, false, eqb, leb, zero, suc, List, [], ◌∷◌, ◌++◌, length, map, refl, sym, ap, ◌∙◌, arith, inl, inr, Option, Some, Ok, length-append, append_assoc, if◌then◌else◌}
 use Rattle.std.proofs.lemmas.Bool.{le-leb}
 use Rattle.std.proofs.lemmas.Bool.Decides.{eqb_tells}
 use Rattle.tsb_lines.specs.Lines.{lines_of, without_return, is_skipped, HasNoFeed}
@@ -165,3 +165,14 @@ text-length (r ∷ rs) =
     let line : length (row_line r) ≡ 38 = line-length r in
     let rest : length (log_text rs) ≡ 39 * length rs = text-length rs in
     omega (arith, all, line, rest)
+
+-- the text of rows one behind the other
+pub text-append : (rs ss : List LogRow) → log_text (rs ++ ss) ≡ log_text rs ++ log_text ss
+unfolding log_text
+text-append [] ss = refl
+text-append (r ∷ rs) ss = ap (λ (text : List ℕ). row_line r ++ 10 ∷ text) (text-append rs ss) ∙ sym (append_assoc (row_line r) (10 ∷ log_text rs) (log_text ss))
+
+-- the text of one row
+pub text-row : (r : LogRow) → log_text (r ∷ []) ≡ row_line r ++ 10 ∷ []
+unfolding log_text
+text-row r = refl

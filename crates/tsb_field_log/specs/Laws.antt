@@ -1,12 +1,15 @@
 -- What holds of the logs that are written, in words that do not retrace how they are. Each law here is the contract of a
 -- function in src/laws.rt.
-use Rattle.std.specs.Prelude.{◌≡◌, ◌⊎◌, ◌↔◌, ℕ, ◌+◌, ◌*◌, ◌<◌, ◌≤◌, true, false, List, length, Contains, Ok}
+use Rattle.std.specs.Prelude.{◌≡◌, ◌⊎◌, ◌↔◌, ℕ, ◌+◌, ◌*◌, ◌<◌, ◌≤◌, true, false, List, [], ◌∷◌, ◌++◌, length, Contains, Ok}
 use Rattle.tsb_types.specs.Sets.{has_number}
 use Rattle.tsb_types.specs.declared.limits.TheConstants.{TICKS}
 use Rattle.tsb_log_text.specs.Logs.{log_of, row_at}
+use Rattle.tsb_log_text.specs.declared.log.LogRow.{LogRow}
 use Rattle.tsb_field_log.specs.Inputs.{is_of, on_at, most_inputs}
 use Rattle.tsb_field_log.specs.Ticks.{begin_of, is_on_in, input_on, row_in}
 use Rattle.tsb_field_log.specs.Changes.{rows_of}
+use Rattle.tsb_field_log.specs.Fields.{rows_until, tick_at}
+use Rattle.tsb_field_log.specs.Pushed.{AreInOrder, AreInOrderBehind, last_tick, rows_before, rows_given}
 use Rattle.tsb_field_log.specs.LogText.{log_text}
 use Rattle.tsb_field_log.specs.declared.inputs.Kind.TheVariants.{Vehicle, Pedestrian, Preempt}
 use Rattle.tsb_field_log.specs.declared.inputs.Wire.{Wire}
@@ -49,3 +52,23 @@ AreTheInputs = (from : ℕ) (wires : List Wire) (events : List InputEvent) (tick
     → (number ≤ most_inputs Vehicle → has_number (row_in from wires events tick).vehicles number ≡ input_on from wires events tick Vehicle number)
     × (number ≤ most_inputs Pedestrian → has_number (row_in from wires events tick).pedestrians number ≡ input_on from wires events tick Pedestrian number)
     × (number ≤ most_inputs Preempt → has_number (row_in from wires events tick).preempts number ≡ input_on from wires events tick Preempt number)
+
+-- one more event makes exactly the rows known that `push` gives
+abbrev pub AddOneEvent : Type 0
+AddOneEvent = (from : ℕ) (wires : List Wire) (events : List InputEvent) (event : InputEvent) → last_tick from events ≤ tick_at from event.nanos
+    → rows_before from wires (events ++ event ∷ []) ≡ rows_before from wires events ++ rows_until from wires events (last_tick from events) (tick_at from event.nanos)
+
+-- where no event comes any more, those that `finish` gives complete the log
+abbrev pub AddTheEnd : Type 0
+AddTheEnd = (from : ℕ) (wires : List Wire) (events : List InputEvent) → last_tick from events ≤ TICKS
+    → rows_before from wires events ++ rows_until from wires events (last_tick from events) (TICKS + 1) ≡ rows_of (row_in from wires events)
+
+-- so all that a field gives is the log of all its events, no row of it twice and none left out
+abbrev pub AddUpToTheLog : Type 0
+AddUpToTheLog = (from : ℕ) (wires : List Wire) (events : List InputEvent) → AreInOrder from events
+    → rows_given from wires [] events ≡ rows_of (row_in from wires events)
+
+-- and the rows known so far begin the log, whatever events follow
+abbrev pub BeginTheLog : Type 0
+BeginTheLog = (from : ℕ) (wires : List Wire) (events more : List InputEvent) → AreInOrderBehind from (last_tick from events) more
+    → (rest : List LogRow) × (rows_of (row_in from wires (events ++ more)) ≡ rows_before from wires events ++ rest)

@@ -12,5 +12,7 @@ pub mod Changes
 pub mod Fields
 -- the text of a log
 pub mod LogText
+-- the rows that have become known by the events so far
+pub mod Pushed
 -- what holds of the logs that are written
 pub mod Laws
