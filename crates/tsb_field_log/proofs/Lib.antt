@@ -6,3 +6,4 @@ pub mod LawLemmas
 pub mod LeadLemmas
 pub mod FieldLemmas
 pub mod PushedLemmas
+pub mod RowLineLemmas

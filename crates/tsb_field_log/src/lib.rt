@@ -9,6 +9,8 @@ mod field;
 mod inputs;
 pub mod laws;
 mod leads;
+mod line;
 
 pub use field::{Field, Rows};
 pub use inputs::{InputEvent, Kind, Signal, Wire};
+pub use line::row_line;
