@@ -2,3 +2,4 @@
 pub mod TickExamples
 pub mod TickMistakes
 pub mod PushedExamples
+pub mod MappingExamples

@@ -7,3 +7,4 @@ pub mod LeadLemmas
 pub mod FieldLemmas
 pub mod PushedLemmas
 pub mod RowLineLemmas
+pub mod MappingLemmas

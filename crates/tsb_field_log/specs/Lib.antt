@@ -4,6 +4,8 @@ pub mod Inputs
 pub mod Ticks
 -- inputs that a bench has, and the wires that lead to them
 pub mod Wires
+-- the wires that are mapped, and from each other channel to the input of its own number
+pub mod Mapping
 -- what is kept of each wire from event to event
 pub mod Leads
 -- the rows of a log: where inputs differ from the row before

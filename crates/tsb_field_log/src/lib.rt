@@ -10,7 +10,9 @@ mod inputs;
 pub mod laws;
 mod leads;
 mod line;
+mod mapping;
 
 pub use field::{Field, Rows};
 pub use inputs::{InputEvent, Kind, Signal, Wire};
 pub use line::row_line;
+pub use mapping::{is_wired, wires};

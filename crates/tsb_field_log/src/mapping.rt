@@ -1,0 +1,53 @@
+//! The wires of a bench: those that are mapped, and from each other channel to the input of its own number.
+ghost use Rattle.std.specs.Prelude.{◌≡◌, ◌++◌, IfOk, OnOk};
+ghost use Rattle.tsb_field_log.specs.Inputs.{most_inputs};
+ghost use Rattle.tsb_field_log.specs.Mapping.{is_wired, leads_from, own_wires, wires_of};
+
+use crate::inputs::{Kind, Wire};
+use std::alloc::{AllocError, Global};
+
+/// The wires that are mapped, and then for each kind a wire from channel n to input n, from 1 to the most inputs of the
+/// kind, but where channel n is mapped: that one leads only where it is mapped. The error is that memory ran out.
+pub fn wires(alloc: Global, mapped: &[Wire]) -> Result<Vec<Wire>, AllocError>
+    ensures { IfOk result (λ all. all.items ≡ wires_of mapped.now) }
+{
+    let mut all = Vec::new(alloc);
+    all.extend_from_slice(mapped)?;
+    push_own_wires(&mut all, mapped, Kind::Vehicle)?;
+    push_own_wires(&mut all, mapped, Kind::Pedestrian)?;
+    push_own_wires(&mut all, mapped, Kind::Preempt)?;
+    Ok(all)
+}
+
+/// Whether one of these wires is of this kind, and from this channel.
+pub fn is_wired(wires: &[Wire], kind: Kind, channel: u32) -> bool
+    ensures { result ≡ is_wired wires.now kind channel }
+{
+    wires.iter().any(|wire| leads_from(*wire, kind, channel))
+}
+
+/// Whether the wire is of this kind, and from this channel.
+fn leads_from(wire: Wire, kind: Kind, channel: u32) -> bool
+    ensures { result ≡ leads_from kind channel wire }
+{
+    wire.kind == kind && wire.channel == channel
+}
+
+/// Pushes the wires of a kind from the channels that are not mapped to the inputs of their own numbers.
+fn push_own_wires(all: &mut Vec<Wire>, mapped: &[Wire], kind: Kind) -> Result<(), AllocError>
+    ensures { OnOk result (all.new.items ≡ all.old.items ++ own_wires mapped.now kind 1 (most_inputs kind)) }
+{
+    let most = kind.most();
+    for before in 0..most {
+        let input = before + 1;
+        let channel = input as u32;
+        if !is_wired(mapped, kind, channel) {
+            all.push(Wire {
+                kind,
+                channel,
+                input,
+            })?;
+        }
+    }
+    Ok(())
+}
