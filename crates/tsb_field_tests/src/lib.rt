@@ -3,3 +3,5 @@
 
 #[cfg(test)]
 mod event_rows;
+#[cfg(test)]
+mod field_rows;
