@@ -8,3 +8,4 @@ pub mod FieldLemmas
 pub mod PushedLemmas
 pub mod RowLineLemmas
 pub mod MappingLemmas
+pub mod TakenLemmas

@@ -12,6 +12,8 @@ pub mod Leads
 pub mod Changes
 -- how far a field has come by its events
 pub mod Fields
+-- a field that has taken some events
+pub mod Taken
 -- the text of a log
 pub mod LogText
 -- the rows that have become known by the events so far

@@ -1,10 +1,12 @@
 //! The inputs of a field, from event to event.
-ghost use Rattle.std.specs.Prelude.{◌≡◌, ◌↔◌, ◌⊎◌, ◌+◌, ◌-◌, ◌<◌, ◌≤◌, ◌++◌, ◌∷◌, [], ℕ, List, None, IfOk, IfSome, IsNone, if◌then◌else◌, map, nat_le, nat_lt, option_to_list};
+ghost use Rattle.std.specs.Prelude.{◌≡◌, ◌↔◌, ◌⊎◌, ◌+◌, ◌-◌, ◌<◌, ◌≤◌, ◌++◌, ◌∷◌, [], ℕ, List, None, IfOk, IfSome, IsNone, MatchOption, if◌then◌else◌, map, nat_le, nat_lt, option_to_list};
 ghost use Rattle.tsb_types.specs.declared.limits.TheConstants.{TICKS};
 ghost use Rattle.tsb_field_log.specs.Ticks.{begin_of, row_in};
-ghost use Rattle.tsb_field_log.specs.Changes.{change, changes};
+ghost use Rattle.tsb_field_log.specs.Changes.{change, changes, rows_of};
 ghost use Rattle.tsb_field_log.specs.Fields.{AreBefore, Follows, row_before, rows_in, rows_until, tick_at};
 ghost use Rattle.tsb_field_log.specs.Leads.{lead_opened, lead_taken};
+ghost use Rattle.tsb_field_log.specs.Pushed.{last_tick, rows_before};
+ghost use Rattle.tsb_field_log.specs.Taken.{HasTaken};
 ghost use Rattle.tsb_field_log.specs.declared.inputs.Wire.{Wire};
 ghost use Rattle.tsb_field_log.specs.declared.inputs.InputEvent.{InputEvent};
 
@@ -46,6 +48,7 @@ impl Field {
         ensures follows { IfOk result (Follows wires.now []) }
         ensures from { IfOk result (λ field. field.from ≡ from) }
         ensures tick { IfOk result (λ field. field.tick ≡ 0) }
+        ensures taken { IfOk result (λ field. HasTaken from wires.now [] field) }
     {
         let mut leads = Vec::new(alloc);
         for wire in wires {
@@ -69,6 +72,10 @@ impl Field {
             × (self.new.from ≡ self.old.from)
             × (self.new.tick ≡ tick_at self.old.from event.nanos)
             × (rows_in rows ≡ rows_until self.old.from wires events self.old.tick (tick_at self.old.from event.nanos))) }
+        ensures taken { (from : ℕ) (wires : List Wire) (events : List InputEvent) → HasTaken from wires events self.old
+            → last_tick from events ≤ tick_at from event.nanos
+            → MatchOption result (TICKS < tick_at from event.nanos) (λ rows. HasTaken from wires (events ++ event ∷ []) self.new
+            × (rows_before from wires (events ++ event ∷ []) ≡ rows_before from wires events ++ rows_in rows)) }
     {
         let (tick, early) = place(self.from, event.nanos)?;
         let rows = self.advance(tick);
@@ -78,8 +85,10 @@ impl Field {
 
     /// The rows that become known as no event comes any more: up to tick 6,000,000.
     pub fn finish(&mut self) -> Rows
-        ensures { (wires : List Wire) (events : List InputEvent) → Follows wires events self.old → self.old.tick ≤ TICKS
+        ensures given { (wires : List Wire) (events : List InputEvent) → Follows wires events self.old → self.old.tick ≤ TICKS
             → rows_in result ≡ rows_until self.old.from wires events self.old.tick (TICKS + 1) }
+        ensures whole { (from : ℕ) (wires : List Wire) (events : List InputEvent) → HasTaken from wires events self.old
+            → rows_before from wires events ++ rows_in result ≡ rows_of (row_in from wires events) }
     {
         self.advance(TICKS + 1)
     }

@@ -1,7 +1,9 @@
-use Rattle.std.proofs.Common.{◌≡◌, ◌≤◌, ◌∙◌, arith, ap, sym, nat_lt, nat_le}
+use Rattle.std.proofs.Common.{◌≡◌, ◌≤◌, ◌∙◌, arith, ap, sym, subst, nat_lt, nat_le}
 use Rattle.tsb_field_log.specs.Ticks.{begin_of}
 use Rattle.tsb_field_log.specs.Fields.{tick_at, rows_until}
+use Rattle.tsb_field_log.specs.Pushed.{last_tick}
 use Rattle.tsb_field_log.proofs.FieldLemmas.{LiesIn, follows-push, lies-in, late-is}
+use Rattle.tsb_field_log.proofs.TakenLemmas.{taken-push}
 use Rattle.tsb_field_log.proofs.field.Field.push.Goals as goal
 
 pub returns-clause-pushed : goal.returns-clause-pushed
@@ -22,3 +24,14 @@ returns-clause-pushed c wires events f le =
       c.take.ensures.rest.1 ∙ there ∙ is,
       told.1 ∙ ap (λ n. rows_until old.from wires events old.tick n) is,
     )
+
+pub returns-clause-taken : goal.returns-clause-taken
+returns-clause-taken c from wires events t later =
+    let old = c.args.self.now in
+    let ticked : old.tick ≡ last_tick from events = t.tick in
+    let le : old.tick ≤ tick_at old.from c.args.event.nanos =
+    subst (λ n. old.tick ≤ tick_at n c.args.event.nanos) (sym t.began) (omega (arith, ticked, later)) in
+    let within : c.in_ok-tick.tick ≤ 6000000 = c.in_ok-tick.ensures.within in
+    let is : c.in_ok-tick.tick ≡ tick_at from c.args.event.nanos = c.in_ok-tick.ensures.tick ∙ ap (λ n. tick_at n c.args.event.nanos) t.began in
+    let told = returns-clause-pushed c wires events t.follows le in
+    taken-push from wires events c.args.event old c.take.new.self _ t later (omega (arith, within, is)) told.0 told.1 told.2 told.3
