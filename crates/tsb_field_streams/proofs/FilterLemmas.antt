@@ -1,0 +1,117 @@
+-- What a filter takes, from line to line.
+use Rattle.std.proofs.Common.{◌≡◌, ℕ, ◌+◌, ◌-◌, ◌*◌, ◌/◌, ◌<◌, ◌≤◌, nat_lt, nat_le, Bool, true, false, not, List, [], ◌∷◌, ◌++◌, length, length-append, refl, sym, ap, ◌∙◌, arith, subst, Option, Some, None, Result, Ok, Err, inl, inr, if◌then◌else◌}
+use Rattle.std.proofs.Math.Nat.{div-mul-le_self}
+use Rattle.std.proofs.lemmas.Nat.{le-div}
+use Rattle.std.proofs.lemmas.Bool.{lt-ltb}
+use Rattle.std.proofs.lemmas.Bool.Decides.{leb_tells, nat_tests}
+use Rattle.tsb_types.specs.declared.limits.TheConstants.{TICKS}
+use Rattle.tsb_event_text.specs.declared.rows.EventRow.{EventRow}
+use Rattle.tsb_field_log.specs.declared.inputs.Wire.{Wire}
+use Rattle.tsb_field_log.specs.declared.inputs.Signal.{Signal}
+use Rattle.tsb_field_log.specs.declared.inputs.InputEvent.{InputEvent}
+use Rattle.tsb_field_log.specs.declared.field.Field.{Field}
+use Rattle.tsb_field_log.specs.declared.field.Rows.{Rows}
+use Rattle.tsb_field_log.specs.Inputs.{signal_of}
+use Rattle.tsb_field_log.specs.Changes.{changes}
+use Rattle.tsb_field_log.specs.Fields.{tick_at, rows_in}
+use Rattle.tsb_field_log.specs.Pushed.{last_tick, rows_before}
+use Rattle.tsb_field_log.specs.Taken.{HasTaken}
+use Rattle.tsb_field_log.proofs.PushedLemmas.{last-push, order-last}
+use Rattle.tsb_field_streams.specs.declared.error.FilterError.{FilterError}
+use Rattle.tsb_field_streams.specs.declared.error.FilterError.TheVariants.{TimeOrder, PastEnd, LogTooLarge}
+use Rattle.tsb_field_streams.specs.declared.filter.Filter.{Filter}
+use Rattle.tsb_field_streams.specs.declared.filter.TheConstants.{MOST_ROWS}
+use Rattle.tsb_field_streams.specs.Filtering.{Given, Stand, with_event, with_row, with_signal}
+use Rattle.tsb_field_streams.specs.Standing.{StandsAt, Takes}
+
+pub none_known : (from : ℕ) (wires : List Wire) → length (rows_before from wires []) ≡ 0
+unfolding changes
+none_known from wires = refl
+
+-- ## Moments
+
+not-below : (a b : ℕ) → b ≤ a → nat_lt a b ≡ false
+not-below a b le = grind (arith, nat_tests, le)
+
+quotients : (a b : ℕ) → a ≤ b → a / 100000000 ≤ b / 100000000
+quotients a b le =
+    let low : a / 100000000 * 100000000 ≤ a = div-mul-le_self a 100000000 in
+    le-div (a / 100000000) b 100000000 (omega arith) (omega (arith, low, le))
+
+-- a later moment lies in no earlier tick
+pub ticks-follow : (from a b : ℕ) → a ≤ b → tick_at from a ≤ tick_at from b
+ticks-follow from a b le = elim (leb_tells from a) [
+  | inr early ↦ rw (lt-ltb a from early.1) (omega arith)
+  | inl in_a ↦
+      let there : from ≤ b = (let h : from ≤ a = in_a.1 in omega (arith, h, le)) in
+      let q : (a - from) / 100000000 ≤ (b - from) / 100000000 = quotients (a - from) (b - from) (omega (arith, le)) in
+      rw (not-below a from in_a.1, not-below b from there) (omega (arith, q))
+]
+
+-- a row that is no earlier than the last moves the moment on
+pub stands_later : (g : Given) (s : Stand) (f : Filter) (moment : ℕ) → StandsAt g s f → s.last ≤ moment → StandsAt g (record s { last = moment }) (record f { last = moment })
+stands_later g s f moment at le = record {
+  columns = at.columns;
+  last = refl;
+  others = at.others;
+  unwired = at.unwired;
+  field = at.field;
+  behind = let b : last_tick g.from s.events ≤ tick_at g.from s.last = at.behind in
+      let t : tick_at g.from s.last ≤ tick_at g.from moment = ticks-follow g.from s.last moment le in
+      omega (arith, b, t);
+  rows = at.rows;
+  few = at.few;
+}
+
+-- ## An event of an input
+
+pub event-past : (g : Given) (s : Stand) (e : InputEvent) → TICKS < tick_at g.from e.nanos → with_event g s e ≡ Err PastEnd
+event-past g s e past = rw (lt-ltb TICKS (tick_at g.from e.nanos) past) refl
+
+-- an event that was pushed lies within the ticks of a bench
+within : (from : ℕ) (wires : List Wire) (es : List InputEvent) (e : InputEvent) (field : Field) → HasTaken from wires (es ++ e ∷ []) field → tick_at from e.nanos ≤ TICKS
+within from wires es e field t =
+    let last : last_tick from (es ++ e ∷ []) ≡ tick_at from e.nanos = last-push from es e in
+    let most : last_tick from (es ++ e ∷ []) ≤ TICKS = order-last from 0 (es ++ e ∷ []) t.ordered in
+    omega (arith, last, most)
+
+pub event-large : (g : Given) (s : Stand) (e : InputEvent) (field : Field) → HasTaken g.from g.wires (s.events ++ e ∷ []) field
+    → MOST_ROWS < length (rows_before g.from g.wires (s.events ++ e ∷ [])) → with_event g s e ≡ Err LogTooLarge
+event-large g s e field t large =
+    rw (not-below TICKS (tick_at g.from e.nanos) (within g.from g.wires s.events e field t), lt-ltb MOST_ROWS (length (rows_before g.from g.wires (s.events ++ e ∷ []))) large) refl
+
+pub event-taken : (g : Given) (s : Stand) (e : InputEvent) (field : Field) → HasTaken g.from g.wires (s.events ++ e ∷ []) field
+    → length (rows_before g.from g.wires (s.events ++ e ∷ [])) ≤ MOST_ROWS → with_event g s e ≡ Ok (record s { events = s.events ++ e ∷ [] })
+event-taken g s e field t few =
+    rw (not-below TICKS (tick_at g.from e.nanos) (within g.from g.wires s.events e field t), not-below MOST_ROWS (length (rows_before g.from g.wires (s.events ++ e ∷ []))) few) refl
+
+-- how many rows are known behind it
+pub known-then : (g : Given) (s : Stand) (e : InputEvent) (f : Filter) (rows : Rows) (known : ℕ) → StandsAt g s f
+    → rows_before g.from g.wires (s.events ++ e ∷ []) ≡ rows_before g.from g.wires s.events ++ rows_in rows
+    → known ≡ f.rows + length (rows_in rows) → length (rows_before g.from g.wires (s.events ++ e ∷ [])) ≡ known
+known-then g s e f rows known at grown is =
+    let were : f.rows ≡ length (rows_before g.from g.wires s.events) = at.rows in
+    let all : length (rows_before g.from g.wires s.events ++ rows_in rows) ≡ length (rows_before g.from g.wires s.events) + length (rows_in rows) =
+    length-append (rows_before g.from g.wires s.events) (rows_in rows) in
+    ap length grown ∙ omega (arith, were, all, is)
+
+-- which rows were known before does not hang on the moment
+takes-same : (g : Given) (s : Stand) (moment : ℕ) (come : Result Stand FilterError) (given : Result Rows FilterError) (f : Filter)
+    → Takes g (record s { last = moment }) come given f → Takes g s come given f
+takes-same g s moment (Ok t) (Ok rows) f takes = takes
+takes-same g s moment (Ok t) (Err d) f takes = takes
+takes-same g s moment (Err e) (Ok rows) f takes = takes
+takes-same g s moment (Err e) (Err d) f takes = takes
+
+-- a row that counts is taken by what it says
+pub row-takes : (g : Given) (number : ℕ) (s : Stand) (row : EventRow) (signal : Signal) (given : Result Rows FilterError) (f : Filter) → row.ours ≡ true → s.last ≤ row.moment.nanos
+    → signal_of row.code ≡ Some signal → Takes g (record s { last = row.moment.nanos }) (with_signal g (record s { last = row.moment.nanos }) row (Some signal)) given f
+    → Takes g s (with_row g number s row) given f
+row-takes g number s row signal given f ours later told takes =
+    let in_order : nat_lt row.moment.nanos s.last ≡ false = not-below row.moment.nanos s.last later in
+    let is : with_row g number s row ≡ with_signal g (record s { last = row.moment.nanos }) row (Some signal) =
+    ap (λ (o : Bool). if not o then Ok (record s { others = s.others + 1 }) else if nat_lt row.moment.nanos s.last then Err (TimeOrder number) else with_signal g (record s { last = row.moment.nanos }) row (signal_of row.code)) ours
+    ∙ ap (λ (b : Bool). if b then Err (TimeOrder number) else with_signal g (record s { last = row.moment.nanos }) row (signal_of row.code)) in_order
+    ∙ ap (with_signal g (record s { last = row.moment.nanos }) row) told in
+    subst (λ (come : Result Stand FilterError). Takes g s come given f) (sym is)
+    (takes-same g s row.moment.nanos (with_signal g (record s { last = row.moment.nanos }) row (Some signal)) given f takes)

@@ -1,0 +1,27 @@
+-- How far a filter has come by the lines that it has taken.
+use Rattle.std.specs.Prelude.{◌≡◌, ℕ, ◌+◌, ◌≤◌, List, ◌++◌, length, Result, Ok, Err}
+use Rattle.tsb_field_log.specs.declared.field.Rows.{Rows}
+use Rattle.tsb_field_log.specs.Fields.{tick_at, rows_in}
+use Rattle.tsb_field_log.specs.Pushed.{last_tick, rows_before}
+use Rattle.tsb_field_log.specs.Taken.{HasTaken}
+use Rattle.tsb_field_streams.specs.declared.error.FilterError.{FilterError}
+use Rattle.tsb_field_streams.specs.declared.filter.Filter.{Filter}
+use Rattle.tsb_field_streams.specs.declared.filter.TheConstants.{MOST_ROWS}
+use Rattle.tsb_field_streams.specs.Filtering.{Given, Stand}
+
+-- a filter has come to this
+pub record StandsAt (g : Given) (s : Stand) (f : Filter) : Type 0 where
+  pub columns : f.columns ≡ s.columns
+  pub last : f.last ≡ s.last
+  pub others : f.left_out.of_other_devices ≡ s.others
+  pub unwired : f.left_out.without_input ≡ s.unwired
+  pub field : HasTaken g.from g.wires s.events f.field
+  pub behind : last_tick g.from s.events ≤ tick_at g.from s.last
+  pub rows : f.rows ≡ length (rows_before g.from g.wires s.events)
+  pub few : f.rows ≤ MOST_ROWS
+
+-- a filter that stood there has taken what comes to this, with these rows of the log become known; or it has its fault
+abbrev pub Takes : Given → Stand → Result Stand FilterError → Result Rows FilterError → Filter → Type 0
+Takes g s (Ok t) (Ok rows) f = StandsAt g t f × (rows_before g.from g.wires t.events ≡ rows_before g.from g.wires s.events ++ rows_in rows)
+Takes g s (Err e) (Err d) f = d ≡ e
+Takes g s come given f = ⊥

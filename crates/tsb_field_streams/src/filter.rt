@@ -1,0 +1,248 @@
+//! Lines of events, one after another, and the rows of the log that they make known.
+ghost use Rattle.std.specs.Prelude.{◌≡◌, ◌<◌, ◌≤◌, ◌+◌, ◌++◌, [], Some, length, option_map, MatchResult};
+ghost use Rattle.tsb_field_log.specs.Changes.{rows_of};
+ghost use Rattle.tsb_field_log.specs.Fields.{rows_in};
+ghost use Rattle.tsb_field_log.specs.Pushed.{rows_before};
+ghost use Rattle.tsb_field_log.specs.Ticks.{row_in};
+ghost use Rattle.tsb_field_log.specs.Taken.{HasTaken};
+ghost use Rattle.tsb_field_streams.specs.Filtering.{Given, Stand, start, text_of, with_event, with_line, with_row, with_row_line, with_signal, with_text, without_mark};
+ghost use Rattle.tsb_field_streams.specs.declared.error.FilterError.TheVariants.{LogTooLarge};
+
+use crate::error::FilterError;
+use tsb_event_text::{Columns, EventRow, event_row, header};
+use tsb_field_log::{Field, InputEvent, Rows, Signal, Wire, is_wired};
+use tsb_lines::is_skipped;
+
+/// The greatest length of a line, in bytes.
+pub(crate) const LINE: usize = 1000;
+
+/// The most rows of a log: of 39 bytes each, in 64 MiB.
+const MOST_ROWS: u32 = 1_720_740;
+
+/// What a filter left out.
+#[derive(Clone, Copy, Debug, PartialEq, Eq)]
+pub struct LeftOut {
+    /// Rows of other devices.
+    pub of_other_devices: u32,
+    /// Events of inputs on channels from which no wire leads.
+    pub without_input: u32,
+}
+
+/// What is known behind some lines of events.
+#[derive(Debug, Drop)]
+pub(crate) struct Filter {
+    /// Where the columns stand, known from the first line that is not skipped.
+    columns: Option<Columns>,
+    /// The moment of the last row that counted, in nanoseconds, and 0 before any.
+    last: u128,
+    /// How many rows of the log are known.
+    rows: u32,
+    left_out: LeftOut,
+    field: Field,
+}
+
+/// No row of a log.
+const NO_ROWS: Rows = Rows {
+    first: None,
+    second: None,
+};
+
+impl Filter {
+    ghost use Rattle.tsb_field_streams.specs.Standing.{StandsAt, Takes};
+
+    /// Before the first line.
+    #[tactic(auto, using(crate::proofs::FilterLemmas::none_known))]
+    pub(crate) fn new(field: Field) -> Filter
+        ensures { (g : Given) → HasTaken g.from g.wires [] field → StandsAt g start result }
+    {
+        Filter {
+            columns: None,
+            last: 0,
+            rows: 0,
+            left_out: LeftOut {
+                of_other_devices: 0,
+                without_input: 0,
+            },
+            field,
+        }
+    }
+
+    /// Takes the line with this number, counted from 1, without its end; rows of `device` count, or all where it is `None`.
+    #[tactic(auto, unfolding(crate::specs::Filtering::with_line))]
+    pub(crate) fn take_line(
+        &mut self,
+        device: Option<&[u8]>,
+        wires: &[Wire],
+        number: u32,
+        line: &[u8],
+    ) -> Result<Rows, FilterError>
+        requires few { (self.old.left_out.of_other_devices < 4294967295) × (self.old.left_out.without_input < 4294967295) }
+        requires known { self.old.rows ≤ MOST_ROWS }
+        ensures takes { (g : Given) (s : Stand) → g.device ≡ option_map (λ d. d.now) device.entry → g.wires ≡ wires.now → StandsAt g s self.old
+            → Takes g s (with_line g number s line.now) result self.new }
+    {
+        if line.len() > LINE {
+            return Err(FilterError::Malformed(number));
+        }
+        let text = text_of(number, line);
+        if is_skipped(text) {
+            return Ok(NO_ROWS);
+        }
+        self.take_text(device, wires, number, text)
+    }
+
+    /// Takes a line that is not skipped.
+    fn take_text(
+        &mut self,
+        device: Option<&[u8]>,
+        wires: &[Wire],
+        number: u32,
+        text: &[u8],
+    ) -> Result<Rows, FilterError>
+        requires few { (self.old.left_out.of_other_devices < 4294967295) × (self.old.left_out.without_input < 4294967295) }
+        requires known { self.old.rows ≤ MOST_ROWS }
+        ensures takes { (g : Given) (s : Stand) → g.device ≡ option_map (λ d. d.now) device.entry → g.wires ≡ wires.now → StandsAt g s self.old
+            → Takes g s (with_text g number s text.now s.columns) result self.new }
+    {
+        if let Some(columns) = self.columns {
+            return self.take_row_line(device, wires, number, columns, text);
+        }
+        if let Some(columns) = header(text) {
+            self.columns = Some(columns);
+            return Ok(NO_ROWS);
+        }
+        let usual = Columns::usual();
+        self.columns = Some(usual);
+        self.take_row_line(device, wires, number, usual, text)
+    }
+
+    /// Takes a line that is a row, with its columns in these places.
+    fn take_row_line(
+        &mut self,
+        device: Option<&[u8]>,
+        wires: &[Wire],
+        number: u32,
+        columns: Columns,
+        text: &[u8],
+    ) -> Result<Rows, FilterError>
+        requires few { (self.old.left_out.of_other_devices < 4294967295) × (self.old.left_out.without_input < 4294967295) }
+        requires known { self.old.rows ≤ MOST_ROWS }
+        ensures takes { (g : Given) (s : Stand) → g.device ≡ option_map (λ d. d.now) device.entry → g.wires ≡ wires.now → StandsAt g s self.old
+            → Takes g s (with_row_line g number s columns text.now) result self.new }
+    {
+        match event_row(text, columns, device) {
+            None => Err(FilterError::Malformed(number)),
+            Some(row) => self.take_row(wires, number, row),
+        }
+    }
+
+    /// Takes a row.
+    #[tactic(auto, using(crate::proofs::FilterLemmas::stands_later))]
+    fn take_row(
+        &mut self,
+        wires: &[Wire],
+        number: u32,
+        row: EventRow,
+    ) -> Result<Rows, FilterError>
+        requires few { (self.old.left_out.of_other_devices < 4294967295) × (self.old.left_out.without_input < 4294967295) }
+        requires known { self.old.rows ≤ MOST_ROWS }
+        ensures takes { (g : Given) (s : Stand) → g.wires ≡ wires.now → StandsAt g s self.old
+            → Takes g s (with_row g number s row) result self.new }
+    {
+        if !row.ours {
+            self.left_out.of_other_devices += 1;
+            return Ok(NO_ROWS);
+        }
+        if row.moment.nanos < self.last {
+            return Err(FilterError::TimeOrder(number));
+        }
+        self.last = row.moment.nanos;
+        match Signal::of_code(row.code) {
+            None => Ok(NO_ROWS),
+            Some(signal) => self.take_signal(wires, row, signal),
+        }
+    }
+
+    /// Takes what a row says of an input.
+    fn take_signal(
+        &mut self,
+        wires: &[Wire],
+        row: EventRow,
+        signal: Signal,
+    ) -> Result<Rows, FilterError>
+        requires few { self.old.left_out.without_input < 4294967295 }
+        requires known { self.old.rows ≤ MOST_ROWS }
+        ensures takes { (g : Given) (s : Stand) → g.wires ≡ wires.now → StandsAt g s self.old → s.last ≡ row.moment.nanos
+            → Takes g s (with_signal g s row (Some signal)) result self.new }
+    {
+        if !is_wired(wires, signal.kind, row.parameter) {
+            self.left_out.without_input += 1;
+            return Ok(NO_ROWS);
+        }
+        self.take_event(InputEvent {
+            nanos: row.moment.nanos,
+            kind: signal.kind,
+            channel: row.parameter,
+            on: signal.on,
+        })
+    }
+
+    /// Takes an event of an input, which is of the last moment.
+    fn take_event(&mut self, event: InputEvent) -> Result<Rows, FilterError>
+        requires { self.old.rows ≤ MOST_ROWS }
+        ensures takes { (g : Given) (s : Stand) → StandsAt g s self.old → s.last ≡ event.nanos → Takes g s (with_event g s event) result self.new }
+    {
+        let Some(rows) = self.field.push(event) else {
+            return Err(FilterError::PastEnd);
+        };
+        let known = self.rows + count_of(rows);
+        if known > MOST_ROWS {
+            return Err(FilterError::LogTooLarge);
+        }
+        self.rows = known;
+        Ok(rows)
+    }
+
+    /// The rows that become known at the end of all lines.
+    pub(crate) fn finish(&mut self) -> Result<Rows, FilterError>
+        requires { self.old.rows ≤ MOST_ROWS }
+        ensures whole { (g : Given) (s : Stand) → StandsAt g s self.old → MatchResult result
+            (λ rows. rows_before g.from g.wires s.events ++ rows_in rows ≡ rows_of (row_in g.from g.wires s.events))
+            (λ e. (e ≡ LogTooLarge) × (MOST_ROWS < length (rows_of (row_in g.from g.wires s.events)))) }
+    {
+        let rows = self.field.finish();
+        if self.rows + count_of(rows) > MOST_ROWS {
+            return Err(FilterError::LogTooLarge);
+        }
+        Ok(rows)
+    }
+}
+
+/// How many rows these are.
+fn count_of(rows: Rows) -> u32
+    ensures count { result ≡ length (rows_in rows) }
+    ensures few { result ≤ 2 }
+{
+    rows.first.is_some() as u32 + rows.second.is_some() as u32
+}
+
+/// The text of the line with this number: the first may begin with a byte order mark.
+fn text_of(number: u32, line: &[u8]) -> &[u8]
+    ensures { result.now ≡ text_of number line.now }
+{
+    if number == 1 {
+        without_mark(line)
+    } else {
+        line
+    }
+}
+
+/// The line without a byte order mark.
+fn without_mark(line: &[u8]) -> &[u8]
+    ensures { result.now ≡ without_mark line.now }
+{
+    match line {
+        [0xef, 0xbb, 0xbf, text @ ..] => text,
+        _ => line,
+    }
+}
