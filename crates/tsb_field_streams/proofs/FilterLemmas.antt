@@ -1,5 +1,5 @@
 -- What a filter takes, from line to line.
-use Rattle.std.proofs.Common.{◌≡◌, ℕ, ◌+◌, ◌-◌, ◌*◌, ◌/◌, ◌<◌, ◌≤◌, nat_lt, nat_le, Bool, true, false, not, List, [], ◌∷◌, ◌++◌, length, length-append, refl, sym, ap, ◌∙◌, arith, subst, Option, Some, None, Result, Ok, Err, inl, inr, if◌then◌else◌}
+use Rattle.std.proofs.Common.{◌≡◌, ℕ, ◌+◌, ◌-◌, ◌*◌, ◌/◌, ◌<◌, ◌≤◌, nat_lt, Bool, true, false, not, List, [], ◌∷◌, ◌++◌, length, length-append, refl, sym, ap, ◌∙◌, arith, subst, Some, Result, Ok, Err, inl, inr, if◌then◌else◌}
 use Rattle.std.proofs.Math.Nat.{div-mul-le_self}
 use Rattle.std.proofs.lemmas.Nat.{le-div}
 use Rattle.std.proofs.lemmas.Bool.{lt-ltb}
@@ -21,7 +21,7 @@ use Rattle.tsb_field_streams.specs.declared.error.FilterError.{FilterError}
 use Rattle.tsb_field_streams.specs.declared.error.FilterError.TheVariants.{TimeOrder, PastEnd, LogTooLarge}
 use Rattle.tsb_field_streams.specs.declared.filter.Filter.{Filter}
 use Rattle.tsb_field_streams.specs.declared.filter.TheConstants.{MOST_ROWS}
-use Rattle.tsb_field_streams.specs.Filtering.{Given, Stand, with_event, with_row, with_signal}
+use Rattle.tsb_field_streams.specs.Filtering.{Given, Stand, one_more, with_event, with_row, with_signal}
 use Rattle.tsb_field_streams.specs.Standing.{StandsAt, Takes}
 
 pub none_known : (from : ℕ) (wires : List Wire) → length (rows_before from wires []) ≡ 0
@@ -110,7 +110,7 @@ pub row-takes : (g : Given) (number : ℕ) (s : Stand) (row : EventRow) (signal 
 row-takes g number s row signal given f ours later told takes =
     let in_order : nat_lt row.moment.nanos s.last ≡ false = not-below row.moment.nanos s.last later in
     let is : with_row g number s row ≡ with_signal g (record s { last = row.moment.nanos }) row (Some signal) =
-    ap (λ (o : Bool). if not o then Ok (record s { others = s.others + 1 }) else if nat_lt row.moment.nanos s.last then Err (TimeOrder number) else with_signal g (record s { last = row.moment.nanos }) row (signal_of row.code)) ours
+    ap (λ (o : Bool). if not o then Ok (record s { others = one_more s.others }) else if nat_lt row.moment.nanos s.last then Err (TimeOrder number) else with_signal g (record s { last = row.moment.nanos }) row (signal_of row.code)) ours
     ∙ ap (λ (b : Bool). if b then Err (TimeOrder number) else with_signal g (record s { last = row.moment.nanos }) row (signal_of row.code)) in_order
     ∙ ap (with_signal g (record s { last = row.moment.nanos }) row) told in
     subst (λ (come : Result Stand FilterError). Takes g s come given f) (sym is)

@@ -1,6 +1,6 @@
 -- What lines of events come to, one after another: the events of inputs that they tell, what they leave out, or the first
 -- fault.
-use Rattle.std.specs.Prelude.{ℕ, ◌+◌, ◌==◌, nat_lt, Bool, true, false, not, List, [], ◌∷◌, ◌++◌, length, if◌then◌else◌, Option, Some, None, Result, Ok, Err}
+use Rattle.std.specs.Prelude.{ℕ, ◌+◌, ◌==◌, min, nat_lt, not, List, [], ◌∷◌, ◌++◌, length, if◌then◌else◌, Option, Some, None, Result, Ok, Err}
 use Rattle.tsb_types.specs.declared.limits.TheConstants.{TICKS}
 use Rattle.tsb_lines.specs.Lines.{is_skipped}
 use Rattle.tsb_event_text.specs.declared.columns.Columns.{Columns}
@@ -37,6 +37,10 @@ pub record Stand : Type 0 where
 abbrev pub start : Stand
 start = record { columns = None; last = 0; others = 0; unwired = 0; events = [] }
 
+-- what is counted fits 32 bits: a count stays at the greatest
+abbrev pub one_more : ℕ → ℕ
+one_more n = min (n + 1) 4294967295
+
 -- these events, where the log of what they make known is not too large
 abbrev pub with_events : Given → Stand → List InputEvent → Result Stand FilterError
 with_events g s events =
@@ -52,12 +56,12 @@ with_signal g s row None = Ok s
 with_signal g s row (Some signal) =
     if is_wired g.wires signal.kind row.parameter
     then with_event g s (record { nanos = row.moment.nanos; kind = signal.kind; channel = row.parameter; on = signal.on })
-    else Ok (record s { unwired = s.unwired + 1 })
+    else Ok (record s { unwired = one_more s.unwired })
 
 -- a row: one of another device is counted; of the others each is no earlier than the one before
 abbrev pub with_row : Given → ℕ → Stand → EventRow → Result Stand FilterError
 with_row g number s row =
-    if not row.ours then Ok (record s { others = s.others + 1 })
+    if not row.ours then Ok (record s { others = one_more s.others })
     else if nat_lt row.moment.nanos s.last then Err (TimeOrder number)
     else with_signal g (record s { last = row.moment.nanos }) row (signal_of row.code)
 

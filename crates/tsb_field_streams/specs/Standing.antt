@@ -1,5 +1,5 @@
 -- How far a filter has come by the lines that it has taken.
-use Rattle.std.specs.Prelude.{◌≡◌, ℕ, ◌+◌, ◌≤◌, List, ◌++◌, length, Result, Ok, Err}
+use Rattle.std.specs.Prelude.{◌≡◌, ◌≤◌, ◌++◌, length, Result, Ok, Err}
 use Rattle.tsb_field_log.specs.declared.field.Rows.{Rows}
 use Rattle.tsb_field_log.specs.Fields.{tick_at, rows_in}
 use Rattle.tsb_field_log.specs.Pushed.{last_tick, rows_before}

@@ -1,5 +1,5 @@
 //! Lines of events, one after another, and the rows of the log that they make known.
-ghost use Rattle.std.specs.Prelude.{◌≡◌, ◌<◌, ◌≤◌, ◌+◌, ◌++◌, [], Some, length, option_map, MatchResult};
+ghost use Rattle.std.specs.Prelude.{◌≡◌, ◌<◌, ◌≤◌, ◌-◌, ◌++◌, [], nat_le, Some, length, option_map, MatchResult};
 ghost use Rattle.tsb_field_log.specs.Changes.{rows_of};
 ghost use Rattle.tsb_field_log.specs.Fields.{rows_in};
 ghost use Rattle.tsb_field_log.specs.Pushed.{rows_before};
@@ -14,12 +14,12 @@ use tsb_field_log::{Field, InputEvent, Rows, Signal, Wire, is_wired};
 use tsb_lines::is_skipped;
 
 /// The greatest length of a line, in bytes.
-pub(crate) const LINE: usize = 1000;
+pub const LINE: usize = 1000;
 
 /// The most rows of a log: of 39 bytes each, in 64 MiB.
-const MOST_ROWS: u32 = 1_720_740;
+pub const MOST_ROWS: u32 = 1_720_740;
 
-/// What a filter left out.
+/// What a filter left out. A count stays at 4,294,967,295 once it has come to it.
 #[derive(Clone, Copy, Debug, PartialEq, Eq)]
 pub struct LeftOut {
     /// Rows of other devices.
@@ -30,7 +30,7 @@ pub struct LeftOut {
 
 /// What is known behind some lines of events.
 #[derive(Debug, Drop)]
-pub(crate) struct Filter {
+pub struct Filter {
     /// Where the columns stand, known from the first line that is not skipped.
     columns: Option<Columns>,
     /// The moment of the last row that counted, in nanoseconds, and 0 before any.
@@ -50,9 +50,9 @@ const NO_ROWS: Rows = Rows {
 impl Filter {
     ghost use Rattle.tsb_field_streams.specs.Standing.{StandsAt, Takes};
 
-    /// Before the first line.
+    /// Before the first line. The field has taken no event yet.
     #[tactic(auto, using(crate::proofs::FilterLemmas::none_known))]
-    pub(crate) fn new(field: Field) -> Filter
+    pub fn new(field: Field) -> Filter
         ensures { (g : Given) → HasTaken g.from g.wires [] field → StandsAt g start result }
     {
         Filter {
@@ -67,17 +67,21 @@ impl Filter {
         }
     }
 
-    /// Takes the line with this number, counted from 1, without its end; rows of `device` count, or all where it is `None`.
+    /// Takes the line with this number, counted from 1, without its end, and gives the rows of the log that it makes known.
+    /// Rows of `device` count, byte for byte, or all where it is `None`; `wires` are those that the field was made with.
+    ///
+    /// The first line may begin with a byte order mark. A line that is blank or begins with `#` is skipped; the first that
+    /// is not names the columns, or is a row with its columns in the usual places. Of rows of other devices nothing is
+    /// asked but that they are rows; of the others each is no earlier than the one before. The errors are `Malformed`,
+    /// `TimeOrder`, `PastEnd` and `LogTooLarge`; no line is taken behind one.
     #[tactic(auto, unfolding(crate::specs::Filtering::with_line))]
-    pub(crate) fn take_line(
+    pub fn take_line(
         &mut self,
         device: Option<&[u8]>,
         wires: &[Wire],
         number: u32,
         line: &[u8],
     ) -> Result<Rows, FilterError>
-        requires few { (self.old.left_out.of_other_devices < 4294967295) × (self.old.left_out.without_input < 4294967295) }
-        requires known { self.old.rows ≤ MOST_ROWS }
         ensures takes { (g : Given) (s : Stand) → g.device ≡ option_map (λ d. d.now) device.entry → g.wires ≡ wires.now → StandsAt g s self.old
             → Takes g s (with_line g number s line.now) result self.new }
     {
@@ -99,8 +103,6 @@ impl Filter {
         number: u32,
         text: &[u8],
     ) -> Result<Rows, FilterError>
-        requires few { (self.old.left_out.of_other_devices < 4294967295) × (self.old.left_out.without_input < 4294967295) }
-        requires known { self.old.rows ≤ MOST_ROWS }
         ensures takes { (g : Given) (s : Stand) → g.device ≡ option_map (λ d. d.now) device.entry → g.wires ≡ wires.now → StandsAt g s self.old
             → Takes g s (with_text g number s text.now s.columns) result self.new }
     {
@@ -125,8 +127,6 @@ impl Filter {
         columns: Columns,
         text: &[u8],
     ) -> Result<Rows, FilterError>
-        requires few { (self.old.left_out.of_other_devices < 4294967295) × (self.old.left_out.without_input < 4294967295) }
-        requires known { self.old.rows ≤ MOST_ROWS }
         ensures takes { (g : Given) (s : Stand) → g.device ≡ option_map (λ d. d.now) device.entry → g.wires ≡ wires.now → StandsAt g s self.old
             → Takes g s (with_row_line g number s columns text.now) result self.new }
     {
@@ -138,19 +138,12 @@ impl Filter {
 
     /// Takes a row.
     #[tactic(auto, using(crate::proofs::FilterLemmas::stands_later))]
-    fn take_row(
-        &mut self,
-        wires: &[Wire],
-        number: u32,
-        row: EventRow,
-    ) -> Result<Rows, FilterError>
-        requires few { (self.old.left_out.of_other_devices < 4294967295) × (self.old.left_out.without_input < 4294967295) }
-        requires known { self.old.rows ≤ MOST_ROWS }
+    fn take_row(&mut self, wires: &[Wire], number: u32, row: EventRow) -> Result<Rows, FilterError>
         ensures takes { (g : Given) (s : Stand) → g.wires ≡ wires.now → StandsAt g s self.old
             → Takes g s (with_row g number s row) result self.new }
     {
         if !row.ours {
-            self.left_out.of_other_devices += 1;
+            self.left_out.of_other_devices = self.left_out.of_other_devices.saturating_add(1);
             return Ok(NO_ROWS);
         }
         if row.moment.nanos < self.last {
@@ -170,13 +163,11 @@ impl Filter {
         row: EventRow,
         signal: Signal,
     ) -> Result<Rows, FilterError>
-        requires few { self.old.left_out.without_input < 4294967295 }
-        requires known { self.old.rows ≤ MOST_ROWS }
         ensures takes { (g : Given) (s : Stand) → g.wires ≡ wires.now → StandsAt g s self.old → s.last ≡ row.moment.nanos
             → Takes g s (with_signal g s row (Some signal)) result self.new }
     {
         if !is_wired(wires, signal.kind, row.parameter) {
-            self.left_out.without_input += 1;
+            self.left_out.without_input = self.left_out.without_input.saturating_add(1);
             return Ok(NO_ROWS);
         }
         self.take_event(InputEvent {
@@ -189,32 +180,43 @@ impl Filter {
 
     /// Takes an event of an input, which is of the last moment.
     fn take_event(&mut self, event: InputEvent) -> Result<Rows, FilterError>
-        requires { self.old.rows ≤ MOST_ROWS }
         ensures takes { (g : Given) (s : Stand) → StandsAt g s self.old → s.last ≡ event.nanos → Takes g s (with_event g s event) result self.new }
     {
         let Some(rows) = self.field.push(event) else {
             return Err(FilterError::PastEnd);
         };
-        let known = self.rows + count_of(rows);
-        if known > MOST_ROWS {
+        if !self.has_room(rows) {
             return Err(FilterError::LogTooLarge);
         }
-        self.rows = known;
+        self.rows += count_of(rows);
         Ok(rows)
     }
 
-    /// The rows that become known at the end of all lines.
-    pub(crate) fn finish(&mut self) -> Result<Rows, FilterError>
-        requires { self.old.rows ≤ MOST_ROWS }
+    /// The rows that become known at the end of all lines. The error is `LogTooLarge`.
+    pub fn finish(&mut self) -> Result<Rows, FilterError>
         ensures whole { (g : Given) (s : Stand) → StandsAt g s self.old → MatchResult result
             (λ rows. rows_before g.from g.wires s.events ++ rows_in rows ≡ rows_of (row_in g.from g.wires s.events))
             (λ e. (e ≡ LogTooLarge) × (MOST_ROWS < length (rows_of (row_in g.from g.wires s.events)))) }
     {
         let rows = self.field.finish();
-        if self.rows + count_of(rows) > MOST_ROWS {
+        if !self.has_room(rows) {
             return Err(FilterError::LogTooLarge);
         }
         Ok(rows)
+    }
+
+    /// Whether a log may have these rows more.
+    fn has_room(&self, rows: Rows) -> bool
+        ensures { result ≡ nat_le (length (rows_in rows)) (MOST_ROWS - self.now.rows) }
+    {
+        count_of(rows) <= MOST_ROWS.saturating_sub(self.rows)
+    }
+
+    /// What was left out so far.
+    pub fn left_out(&self) -> LeftOut
+        ensures { (g : Given) (s : Stand) → StandsAt g s self.now → result ≡ record { of_other_devices = s.others; without_input = s.unwired } }
+    {
+        self.left_out
     }
 }
 

@@ -1,8 +1,8 @@
-//! Streams of field files: a controller's event log is read, and a log of inputs written.
+//! Streams of field files: lines of a controller's event log come in, and rows of a log of inputs go out.
 #![tactic(auto)]
 
 mod error;
 mod filter;
 
 pub use error::FilterError;
-pub use filter::LeftOut;
+pub use filter::{Filter, LINE, LeftOut, MOST_ROWS};

@@ -4,4 +4,6 @@
 #[cfg(test)]
 mod event_rows;
 #[cfg(test)]
+mod field_filter;
+#[cfg(test)]
 mod field_rows;

@@ -1,5 +1,4 @@
-use Rattle.std.proofs.Common.{◌≡◌, ◌≤◌, ◌<◌, ◌∙◌, nat_lt, not, true, false, refl, sym, arith, rules, inl, inr}
-use Rattle.std.proofs.lemmas.Bool.Decides.{leb_tells}
+use Rattle.std.proofs.Common.{◌≡◌, ◌≤◌, ◌∙◌, true, refl, sym, arith, rules}
 use Rattle.tsb_field_streams.proofs.FilterLemmas.{stands_later, row-takes}
 use Rattle.tsb_field_streams.proofs.filter.Filter.take_row.Goals as goal
 

@@ -1,0 +1,201 @@
+//! Lines of events and the rows of the log that they make known. Expected values are worked by hand from the rules.
+
+use std::alloc::{AllocError, Global};
+use tsb_event_text::read_moment;
+use tsb_field_log::{Field, Kind, Rows, Wire, row_line, wires};
+use tsb_field_streams::{Filter, FilterError, LeftOut};
+
+/// What a filter makes of lines from 07:00:00 on.
+#[derive(Drop)]
+struct Filtered {
+    text: Vec<u8>,
+    left_out: LeftOut,
+    fault: Option<FilterError>,
+}
+
+fn push_rows(text: &mut Vec<u8>, rows: Rows) -> Result<(), AllocError> {
+    if let Some(row) = rows.first {
+        text.extend_from_slice(&row_line(row))?;
+    }
+    if let Some(row) = rows.second {
+        text.extend_from_slice(&row_line(row))?;
+    }
+    Ok(())
+}
+
+fn said(
+    alloc: Global,
+    device: Option<&[u8]>,
+    mapped: &[Wire],
+    lines: &[&[u8]],
+) -> Result<Filtered, AllocError> {
+    let from = match read_moment(b"2026-11-22 07:00:00") {
+        Some(from) => from.nanos,
+        None => 0,
+    };
+    let all = wires(alloc, mapped)?;
+    let mut filter = Filter::new(Field::new(alloc, from, &all)?);
+    let mut text = Vec::new(alloc);
+    let mut number: u32 = 0;
+    let mut fault = None;
+    for line in lines {
+        number = number.saturating_add(1);
+        if fault.is_none() {
+            match filter.take_line(device, &all, number, *line) {
+                Ok(rows) => push_rows(&mut text, rows)?,
+                Err(error) => fault = Some(error),
+            }
+        }
+    }
+    if fault.is_none() {
+        match filter.finish() {
+            Ok(rows) => push_rows(&mut text, rows)?,
+            Err(error) => fault = Some(error),
+        }
+    }
+    Ok(Filtered {
+        text,
+        left_out: filter.left_out(),
+        fault,
+    })
+}
+
+const NONE_LEFT_OUT: LeftOut = LeftOut {
+    of_other_devices: 0,
+    without_input: 0,
+};
+
+fn gives(alloc: Global, lines: &[&[u8]], log: &[u8]) -> bool {
+    match said(alloc, None, &[], lines) {
+        Ok(said) => {
+            said.text.as_slice() == log && said.fault.is_none() && said.left_out == NONE_LEFT_OUT
+        }
+        Err(_) => false,
+    }
+}
+
+fn fault_of(alloc: Global, lines: &[&[u8]]) -> Option<FilterError> {
+    match said(alloc, None, &[], lines) {
+        Ok(said) => said.fault,
+        Err(_) => None,
+    }
+}
+
+#[test]
+fn a_car_is_on_from_tick_to_tick(rt: HostRuntime) {
+    let log = b"0000011 0100000000000000 00000000 0000\n0000031 0000000000000000 00000000 0000\n";
+    let rows = [
+        b"7,2026-11-22 07:00:01,82,2".as_slice(),
+        b"7,2026-11-22 07:00:03,81,2",
+    ];
+    assert!(rt; gives(rt.alloc(), &rows, log));
+    let with_header = [
+        b"# a detector on Main".as_slice(),
+        b"EventParam,SignalID,EventCode,Timestamp",
+        b"",
+        b"2,7,82,2026-11-22T07:00:01.0",
+        b"2,7,1,2026-11-22T07:00:02",
+        b"2,7,81,2026-11-22T07:00:03",
+    ];
+    assert!(rt; gives(rt.alloc(), &with_header, log));
+    let marked = [
+        b"\xef\xbb\xbfDeviceId,Timestamp,EventId,Parameter".as_slice(),
+        b"7,2026-11-22 07:00:01,82,2",
+        b"7,2026-11-22 07:00:03,81,2",
+    ];
+    assert!(rt; gives(rt.alloc(), &marked, log));
+}
+
+#[test]
+fn no_pulse_is_lost(rt: HostRuntime) {
+    let rows = [
+        b"7,2026-11-22 07:00:00.25,90,8".as_slice(),
+        b"7,2026-11-22 07:00:00.25,89,8",
+    ];
+    let log = b"0000003 0000000000000000 00000001 0000\n0000004 0000000000000000 00000000 0000\n";
+    assert!(rt; gives(rt.alloc(), &rows, log));
+}
+
+#[test]
+fn what_came_before_says_how_tick_1_begins(rt: HostRuntime) {
+    let rows = [
+        b"7,2026-11-22 06:59:00,102,1".as_slice(),
+        b"7,2026-11-22 07:00:00.1,104,1",
+    ];
+    let log = b"0000001 0000000000000000 00000000 1000\n0000002 0000000000000000 00000000 0000\n";
+    assert!(rt; gives(rt.alloc(), &rows, log));
+}
+
+#[test]
+fn what_has_no_input_is_counted(rt: HostRuntime) {
+    let mapped = [Wire {
+        kind: Kind::Vehicle,
+        channel: 17,
+        input: 3,
+    }];
+    let lines = [
+        b"7,2026-11-22 07:00:00,82,17".as_slice(),
+        b"8,2026-11-22 07:00:00,82,1",
+        b"7,2026-11-22 07:00:00,82,18",
+        b"7,2026-11-22 07:00:00,90,9",
+        b"7,2026-11-22 07:00:00,102,5",
+        b"8,2026-11-22 06:00:00,1,2",
+    ];
+    match said(rt.alloc(), Some(b"7"), &mapped, &lines) {
+        Ok(said) => {
+            assert_eq!(rt;
+                said.text.as_slice(),
+                b"0000001 0010000000000000 00000000 0000\n".as_slice()
+            );
+            assert_eq!(rt; said.fault, None);
+            assert_eq!(rt;
+                said.left_out,
+                LeftOut {
+                    of_other_devices: 2,
+                    without_input: 3
+                }
+            );
+        }
+        Err(_) => assert!(rt; false),
+    }
+}
+
+#[test]
+fn faults_name_their_lines(rt: HostRuntime) {
+    let first = b"7,2026-11-22 07:00:01,82,2".as_slice();
+    assert_eq!(rt;
+        fault_of(rt.alloc(), &[first, b"7,2026-11-22 07:00:01,82"]),
+        Some(FilterError::Malformed(2))
+    );
+    assert_eq!(rt;
+        fault_of(rt.alloc(), &[b"", first, b"7,2026-11-22 07:00:00.9,1,2"]),
+        Some(FilterError::TimeOrder(3))
+    );
+    assert_eq!(rt;
+        fault_of(rt.alloc(), &[first, b"7,2026-11-29 05:40:00,82,2"]),
+        Some(FilterError::PastEnd)
+    );
+    assert_eq!(rt;
+        fault_of(rt.alloc(), &[first, b"7,2026-11-29 05:40:00,1,2"]),
+        None
+    );
+    assert_eq!(rt;
+        fault_of(
+            rt.alloc(),
+            &[first, b"SignalID,Timestamp,EventCode,EventParam"]
+        ),
+        Some(FilterError::Malformed(2))
+    );
+    assert_eq!(rt; fault_of(rt.alloc(), &[]), None);
+}
+
+#[test]
+fn a_line_has_at_most_1000_bytes(rt: HostRuntime) {
+    let mut long = [b' '; 1001];
+    long[0] = b'#';
+    assert_eq!(rt; fault_of(rt.alloc(), &[&long[..1000]]), None);
+    assert_eq!(rt;
+        fault_of(rt.alloc(), &[&long]),
+        Some(FilterError::Malformed(1))
+    );
+}
