@@ -1,0 +1,5 @@
+pub mod LetterLemmas
+pub mod SameLemmas
+pub mod NumberLemmas
+pub mod HistoryLemmas
+pub mod EventLemmas

@@ -1,0 +1,31 @@
+use Rattle.std.proofs.Common.{◌∙◌, refl, arith, ap, ℕ, List, length}
+use Rattle.tsb_types.specs.Sets.{has_number}
+use Rattle.tsb_field_display.proofs.NumberLemmas.{few-numbers, numbers-least}
+use Rattle.tsb_field_display.proofs.EventLemmas.{tell-next, tell-end}
+use Rattle.tsb_field_display.proofs.events.tell.Goals as goal
+
+pub loop-number-init : goal.loop-number-init
+loop-number-init c = record { told = refl; room = omega (arith, few-numbers (has_number c.args.numbers)) }
+
+pub push-requires : goal.push-requires
+push-requires c =
+    let found = c.in-Some.ensures in
+    let least = numbers-least (has_number c.loop-number.rest) (has_number c.with-rest.result) c.in-Some.number found.from_one found.within
+    found.had c.with-rest.ensures.set found.least c.with-rest.ensures.others in
+    let more = ap (λ (ns : List ℕ). length ns) least in
+    (omega arith, omega (arith, more, c.loop-number.invariant.room, c.requires))
+
+pub loop-number-preserved : goal.loop-number-preserved
+loop-number-preserved c =
+    let found = c.in-Some.ensures in
+    let held = c.loop-number.invariant in
+    let least = numbers-least (has_number c.loop-number.rest) (has_number c.with-rest.result) c.in-Some.number found.from_one found.within
+    found.had c.with-rest.ensures.set found.least c.with-rest.ensures.others in
+    let more = ap (λ (ns : List ℕ). length ns) least in
+    record {
+      told = tell-next _ _ _ _ _ _ _ least c.push.ensures.items ∙ held.told;
+      room = omega (arith, more, held.room, c.push.ensures.len);
+    }
+
+pub returns-clause-told : goal.returns-clause-told
+returns-clause-told c = tell-end _ _ _ _ _ (c.first.ensures.none c.in_default.is) c.loop-number.invariant.told

@@ -1,0 +1,12 @@
+//! What display lines of a session tell.
+#![tactic(auto)]
+
+pub mod events;
+pub mod history;
+pub mod reading;
+pub mod shown;
+
+pub use events::{DisplayEvent, EVENTS, Events, events_between};
+pub use history::History;
+pub use reading::read_line;
+pub use shown::{PedestrianHeads, Shown, Signals, VehicleHeads};

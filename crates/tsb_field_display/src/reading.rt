@@ -1,0 +1,169 @@
+//! Reading a display line.
+ghost use Rattle.std.specs.Prelude.{◌≡◌, ◌≤◌, ◌==◌, ◌&&◌, nat_le, true, length, slice_index, codes, IfSome};
+ghost use Rattle.std.specs.List.{list_all};
+ghost use Rattle.tsb_field_display.specs.Reading.{heads_with, is_display, is_local, is_preempt, is_spelled, list_with, pedestrians_of, preempt_of, shown_of, vehicles_of};
+ghost use Rattle.tsb_field_display.specs.Shows.{AreApart};
+
+use crate::shown::{PedestrianHeads, Shown, Signals, VehicleHeads};
+use tsb_lines::number;
+use tsb_types::NumberSet;
+
+/// The length of a display line, in bytes.
+pub const WIDTH: usize = 53;
+
+/// What a display line shows, or `None` where the line is none: a display line has 53 bytes, with a space between its
+/// fields, and digits and letters in their places. Any other answer of a session is none.
+#[tactic(auto, unfolding(crate::specs::Reading::shown_of))]
+pub fn read_line(line: &[u8]) -> Option<Shown>
+    ensures shown { result ≡ shown_of line.now }
+    ensures apart { IfSome result (λ s. AreApart s.signals) }
+{
+    if !is_display(line) {
+        return None;
+    }
+    let tick = number(&line[..7])?;
+    Some(Shown {
+        tick,
+        signals: Signals {
+            vehicles: vehicles(&line[8..24]),
+            pedestrians: pedestrians(&line[25..41]),
+            overlaps: vehicles(&line[42..46]),
+            preempt: preempt(line[47]),
+        },
+    })
+}
+
+/// Whether all but the tick of a display line is in its place.
+#[tactic(auto, unfolding(crate::specs::Reading::is_display))]
+fn is_display(line: &[u8]) -> bool
+    ensures display { result ≡ is_display line.now }
+    ensures wide { result ≡ true → length line.now ≡ 53 }
+    ensures preempt { result ≡ true → is_preempt (slice_index line.now 47) ≡ true }
+{
+    line.len() == WIDTH
+        && line[7] == b' '
+        && line[24] == b' '
+        && line[41] == b' '
+        && line[46] == b' '
+        && line[48] == b' '
+        && are_vehicles(&line[8..24])
+        && are_pedestrians(&line[25..41])
+        && are_vehicles(&line[42..46])
+        && is_preempt(line[47])
+        && is_local(&line[49..53])
+}
+
+/// Whether each byte is a letter of a vehicle head.
+fn are_vehicles(letters: &[u8]) -> bool
+    ensures { result ≡ is_spelled (codes "-RYGF") letters.now }
+{
+    for letter in letters {
+        if !matches!(*letter, b'-' | b'R' | b'Y' | b'G' | b'F') {
+            return false;
+        }
+    }
+    true
+}
+
+/// Whether each byte is a letter of a pedestrian head.
+fn are_pedestrians(letters: &[u8]) -> bool
+    ensures { result ≡ is_spelled (codes "-DCW") letters.now }
+{
+    for letter in letters {
+        if !matches!(*letter, b'-' | b'D' | b'C' | b'W') {
+            return false;
+        }
+    }
+    true
+}
+
+/// Whether a byte tells the preempt in service.
+fn is_preempt(digit: u8) -> bool
+    ensures { result ≡ is_preempt digit }
+{
+    b'0' <= digit && digit <= b'4'
+}
+
+/// Whether each byte is a digit, or each a dash.
+fn is_local(field: &[u8]) -> bool
+    ensures { result ≡ is_local field.now }
+{
+    are_digits(field) || are_dashes(field)
+}
+
+/// Whether each byte is a digit.
+fn are_digits(field: &[u8]) -> bool
+    ensures { result ≡ list_all (λ b. nat_le 48 b && nat_le b 57) field.now }
+{
+    for byte in field {
+        if *byte < b'0' || *byte > b'9' {
+            return false;
+        }
+    }
+    true
+}
+
+/// Whether each byte is a dash.
+fn are_dashes(field: &[u8]) -> bool
+    ensures { result ≡ list_all (λ b. b == 45) field.now }
+{
+    for byte in field {
+        if *byte != b'-' {
+            return false;
+        }
+    }
+    true
+}
+
+/// What letters of vehicle heads show.
+fn vehicles(letters: &[u8]) -> VehicleHeads
+    requires { length letters.now ≤ 16 }
+    ensures { result ≡ vehicles_of letters.now }
+{
+    VehicleHeads {
+        greens: heads_with(letters, b'G'),
+        yellows: heads_with(letters, b'Y'),
+        reds: heads_with(letters, b'R'),
+        flashing: heads_with(letters, b'F'),
+    }
+}
+
+/// What letters of pedestrian heads show.
+fn pedestrians(letters: &[u8]) -> PedestrianHeads
+    requires { length letters.now ≤ 16 }
+    ensures { result ≡ pedestrians_of letters.now }
+{
+    PedestrianHeads {
+        walks: heads_with(letters, b'W'),
+        clearances: heads_with(letters, b'C'),
+        dont_walks: heads_with(letters, b'D'),
+    }
+}
+
+/// The preempt in service, by its digit.
+fn preempt(digit: u8) -> Option<u8>
+    requires { is_preempt digit ≡ true }
+    ensures { result ≡ preempt_of digit }
+{
+    if digit == b'0' {
+        None
+    } else {
+        Some(digit - b'0')
+    }
+}
+
+/// The heads whose letter this is, the first letter for head 1.
+fn heads_with(letters: &[u8], letter: u8) -> NumberSet
+    requires { length letters.now ≤ 16 }
+    ensures { result ≡ heads_with letter letters.now }
+{
+    let mut list: u32 = 0;
+    let mut weight: u32 = 1;
+    for found in letters {
+        if *found == letter {
+            list += weight;
+        }
+        weight *= 2;
+    }
+    NumberSet::from_list(list as u16)
+}
