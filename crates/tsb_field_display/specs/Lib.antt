@@ -6,3 +6,7 @@ pub mod Reading
 pub mod Events
 -- the lines that remain of a session that went back, and those at which something changed
 pub mod Remaining
+-- what events tell of heads
+pub mod ReadBack
+-- what holds of lines and events, told without how they are found
+pub mod Laws

@@ -3,6 +3,7 @@
 
 pub mod events;
 pub mod history;
+pub mod laws;
 pub mod reading;
 pub mod shown;
 

@@ -1,0 +1,204 @@
+-- What is read of a display line is what it shows.
+use Rattle.std.proofs.Common.{◌≡◌, ◌∙◌, ℕ, ◌+◌, ◌-◌, ◌*◌, ◌/◌, ◌%◌, ◌<◌, ◌≤◌, ◌==◌, nat_le, Bool, true, false, ◌&&◌, zero, suc, List, [], ◌∷◌, map, length, get_or, slice_index, codes, Option, Some, None, IfSome, if◌then◌else◌, refl, ap, arith}
+use Rattle.std.specs.List.{list_all}
+use Rattle.std.proofs.lemmas.Bool.{and_from, eq-eqb, ne_eqb, le-leb}
+use Rattle.tsb_lines.specs.Words.{number_of, number_from, at_most}
+use Rattle.tsb_types.specs.Lists.{run_from, among}
+use Rattle.tsb_types.specs.Sets.{has_number}
+use Rattle.tsb_types.specs.declared.lamp.Aspect.{Aspect}
+use Rattle.tsb_types.specs.declared.lamp.Aspect.TheVariants.{Dark, Red, Yellow, Green, FlashingRed}
+use Rattle.tsb_types.specs.declared.lamp.PedestrianAspect.{PedestrianAspect}
+use Rattle.tsb_types.specs.declared.lamp.PedestrianAspect.TheVariants as pedestrian_aspects
+use Rattle.tsb_heads.specs.Heads.{Heads}
+use Rattle.tsb_display_text.specs.Line.{line_of, digit, letter, pedestrian_letter, tick_field, vehicle_field, pedestrian_field, overlap_field, local_field, preempt_digit}
+use Rattle.tsb_field_display.specs.Shows.{aspect_of, pedestrian_aspect_of}
+use Rattle.tsb_field_display.specs.Reading.{heads_with, vehicles_of, pedestrians_of, is_spelled, is_preempt, preempt_of, is_local, field, has_space, is_display, signals_of, shown_at, shown_of}
+use Rattle.tsb_field_display.specs.Laws.{Tells, AreRead}
+use Rattle.tsb_field_display.proofs.LetterLemmas.{names-letter}
+
+-- ## The tick
+
+digit-step : (n d : ℕ) (bs : List ℕ) → d < 10 → number_from n ((48 + d) ∷ bs) ≡ number_from (n * 10 + d) bs
+digit-step n d bs small =
+    let from : nat_le 48 (48 + d) ≡ true = le-leb 48 (48 + d) (omega arith) in
+    let within : nat_le (48 + d) 57 ≡ true = le-leb (48 + d) 57 (omega (arith, small)) in
+    let same : 48 + d - 48 ≡ d = omega arith in
+    rw (from, within, same) refl
+
+step : (n m now unit : ℕ) (bs : List ℕ) → n * 10 + now / unit % 10 ≡ m → number_from n (digit now unit ∷ bs) ≡ number_from m bs
+step n m now unit bs e =
+    let small : now / unit % 10 < 10 = omega arith in
+    digit-step n (now / unit % 10) bs small ∙ ap (λ k. number_from k bs) e
+
+tick-digits : (now : ℕ) → now < 10000000 → number_from 0 (tick_field now) ≡ Some now
+tick-digits now small =
+    let a : 0 * 10 + now / 1000000 % 10 ≡ now / 1000000 = omega (arith, small) in
+    let b : now / 1000000 * 10 + now / 100000 % 10 ≡ now / 100000 = omega arith in
+    let d : now / 100000 * 10 + now / 10000 % 10 ≡ now / 10000 = omega arith in
+    let e : now / 10000 * 10 + now / 1000 % 10 ≡ now / 1000 = omega arith in
+    let f : now / 1000 * 10 + now / 100 % 10 ≡ now / 100 = omega arith in
+    let g : now / 100 * 10 + now / 10 % 10 ≡ now / 10 = omega arith in
+    let h : now / 10 * 10 + now / 1 % 10 ≡ now = omega arith in
+    step 0 (now / 1000000) now 1000000 (digit now 100000 ∷ digit now 10000 ∷ digit now 1000 ∷ digit now 100 ∷ digit now 10 ∷ digit now 1 ∷ []) a ∙ step (now / 1000000) (now / 100000) now 100000 (digit now 10000 ∷ digit now 1000 ∷ digit now 100 ∷ digit now 10 ∷ digit now 1 ∷ []) b ∙ step (now / 100000) (now / 10000) now 10000 (digit now 1000 ∷ digit now 100 ∷ digit now 10 ∷ digit now 1 ∷ []) d
+    ∙ step (now / 10000) (now / 1000) now 1000 (digit now 100 ∷ digit now 10 ∷ digit now 1 ∷ []) e ∙ step (now / 1000) (now / 100) now 100 (digit now 10 ∷ digit now 1 ∷ []) f ∙ step (now / 100) (now / 10) now 10 (digit now 1 ∷ []) g
+    ∙ step (now / 10) now now 1 [] h
+
+tick-number : (now : ℕ) → now < 10000000 → number_of (tick_field now) ≡ Some now
+tick-number now small =
+    ap (at_most 4294967295) (tick-digits now small)
+    ∙ (let within : nat_le now 4294967295 ≡ true = le-leb now 4294967295 (omega (arith, small)) in rw within refl)
+
+-- ## Letters are those of heads
+
+spelled-letter : (a : Aspect) → among (letter a) (codes "-RYGF") ≡ true
+spelled-letter Dark = refl
+spelled-letter Red = refl
+spelled-letter Yellow = refl
+spelled-letter Green = refl
+spelled-letter FlashingRed = refl
+
+spelled-pedestrian_letter : (a : PedestrianAspect) → among (pedestrian_letter a) (codes "-DCW") ≡ true
+spelled-pedestrian_letter pedestrian_aspects.Dark = refl
+spelled-pedestrian_letter pedestrian_aspects.DontWalk = refl
+spelled-pedestrian_letter pedestrian_aspects.Clearance = refl
+spelled-pedestrian_letter pedestrian_aspects.Walk = refl
+
+all-mapped : (test : ℕ → Bool) (f : ℕ → ℕ) (ns : List ℕ) → ((n : ℕ) → test (f n) ≡ true) → list_all test (map f ns) ≡ true
+all-mapped test f [] each = refl
+all-mapped test f (n ∷ ns) each = and_from _ _ (each n) (all-mapped test f ns each)
+
+is-digit : (n unit : ℕ) → (nat_le 48 (digit n unit) && nat_le (digit n unit) 57) ≡ true
+is-digit n unit =
+    let small : n / unit % 10 < 10 = omega arith in
+    and_from _ _ (le-leb 48 (digit n unit) (omega arith)) (le-leb (digit n unit) 57 (omega (arith, small)))
+
+local-digits : (local : Option ℕ) → is_local (local_field local) ≡ true
+local-digits None = refl
+local-digits (Some n) =
+    let digits : list_all (λ b. nat_le 48 b && nat_le b 57) (map (digit n) (1000 ∷ 100 ∷ 10 ∷ 1 ∷ [])) ≡ true =
+    all-mapped (λ b. nat_le 48 b && nat_le b 57) (digit n) (1000 ∷ 100 ∷ 10 ∷ 1 ∷ []) (is-digit n) in
+    rw digits refl
+
+preempt-digit : (preempt : Option ℕ) → IfSome preempt (λ n. (1 ≤ n) × (n ≤ 4)) → is_preempt (preempt_digit preempt) ≡ true
+preempt-digit None known = refl
+preempt-digit (Some n) known = and_from _ _ (le-leb 48 (48 + n) (omega arith)) (le-leb (48 + n) 52 (omega (arith, known.1)))
+
+preempt-read : (preempt : Option ℕ) → IfSome preempt (λ n. (1 ≤ n) × (n ≤ 4)) → preempt_of (preempt_digit preempt) ≡ preempt
+preempt-read None known = refl
+preempt-read (Some n) known =
+    let other : (48 + n == 48) ≡ false = ne_eqb (48 + n) 48 (λ e. absurd (omega (arith, e, known.0))) in
+    let same : 48 + n - 48 ≡ n = omega arith in
+    rw (other, same) refl
+
+-- ## Heads are read by their letters
+
+mapped-at : (f : ℕ → ℕ) (a n k : ℕ) → k < n → get_or (map f (run_from a n)) k 0 ≡ f (a + k)
+unfolding run_from
+mapped-at f a zero k below = absurd (omega (arith, below))
+mapped-at f a (suc n) zero below = ap f (let e : a ≡ a + 0 = omega arith in e)
+mapped-at f a (suc n) (suc k) below = mapped-at f (a + 1) n k (omega (arith, below)) ∙ ap f (let e : a + 1 + k ≡ a + suc k = omega arith in e)
+
+mapped-length : (f : ℕ → ℕ) (a n : ℕ) → length (map f (run_from a n)) ≡ n
+unfolding run_from
+mapped-length f a zero = refl
+mapped-length f a (suc n) = ap suc (mapped-length f (a + 1) n)
+
+head-letter : (code : ℕ) (f : ℕ → ℕ) (n p : ℕ) → 1 ≤ p → p ≤ n → has_number (heads_with code (map f (run_from 1 n))) p ≡ (f p == code)
+head-letter code f n zero from within = absurd (omega (arith, from))
+head-letter code f n (suc k) from within =
+    let whole : length (map f (run_from 1 n)) ≡ n = mapped-length f 1 n in
+    let one : 1 + k ≡ suc k = omega arith in
+    names-letter code (map f (run_from 1 n)) k (omega (arith, whole, within))
+    ∙ ap (λ (b : ℕ). b == code) (mapped-at f 1 n k (omega (arith, within)) ∙ ap f one)
+
+aspect-by : (a : Aspect) → (if letter a == 71 then Green else (if letter a == 89 then Yellow else (if letter a == 82 then Red else (if letter a == 70 then FlashingRed else Dark)))) ≡ a
+aspect-by Dark = refl
+aspect-by Red = refl
+aspect-by Yellow = refl
+aspect-by Green = refl
+aspect-by FlashingRed = refl
+
+pedestrian_aspect-by : (a : PedestrianAspect) → (if pedestrian_letter a == 87 then pedestrian_aspects.Walk else
+    (if pedestrian_letter a == 67 then pedestrian_aspects.Clearance else
+    (if pedestrian_letter a == 68 then pedestrian_aspects.DontWalk else pedestrian_aspects.Dark))) ≡ a
+pedestrian_aspect-by pedestrian_aspects.Dark = refl
+pedestrian_aspect-by pedestrian_aspects.DontWalk = refl
+pedestrian_aspect-by pedestrian_aspects.Clearance = refl
+pedestrian_aspect-by pedestrian_aspects.Walk = refl
+
+heads-read : (f : ℕ → Aspect) (n p : ℕ) → 1 ≤ p → p ≤ n → aspect_of (vehicles_of (map (λ q. letter (f q)) (run_from 1 n))) p ≡ f p
+heads-read f n p from within =
+    rw (
+      head-letter 71 (λ q. letter (f q)) n p from within,
+      head-letter 89 (λ q. letter (f q)) n p from within,
+      head-letter 82 (λ q. letter (f q)) n p from within,
+      head-letter 70 (λ q. letter (f q)) n p from within,
+    ) (aspect-by (f p))
+
+pedestrians-read : (f : ℕ → PedestrianAspect) (n p : ℕ) → 1 ≤ p → p ≤ n → pedestrian_aspect_of (pedestrians_of (map (λ q. pedestrian_letter (f q)) (run_from 1 n))) p ≡ f p
+pedestrians-read f n p from within =
+    rw (
+      head-letter 87 (λ q. pedestrian_letter (f q)) n p from within,
+      head-letter 67 (λ q. pedestrian_letter (f q)) n p from within,
+      head-letter 68 (λ q. pedestrian_letter (f q)) n p from within,
+    ) (pedestrian_aspect-by (f p))
+
+-- ## The line
+
+record Fields (now : ℕ) (heads : Heads) (preempt local : Option ℕ) (line : List ℕ) : Type 0 where
+  wide : length line ≡ 53
+  spaced : (has_space 7 line && has_space 24 line && has_space 41 line && has_space 46 line && has_space 48 line) ≡ true
+  tick : field 0 7 line ≡ tick_field now
+  vehicles : field 8 16 line ≡ vehicle_field heads.vehicle
+  pedestrians : field 25 16 line ≡ pedestrian_field heads.pedestrian
+  overlaps : field 42 4 line ≡ overlap_field heads.overlap
+  served : slice_index line 47 ≡ preempt_digit preempt
+  counter : field 49 4 line ≡ local_field local
+
+fields : (now : ℕ) (heads : Heads) (preempt local : Option ℕ) → Fields now heads preempt local (line_of now heads preempt local)
+unfolding line_of run_from
+fields now heads preempt None =
+    record { wide = refl; spaced = refl; tick = refl; vehicles = refl; pedestrians = refl; overlaps = refl; served = refl; counter = refl }
+fields now heads preempt (Some n) =
+    record { wide = refl; spaced = refl; tick = refl; vehicles = refl; pedestrians = refl; overlaps = refl; served = refl; counter = refl }
+
+all-eleven : (a b c d e f g h i j k : Bool) → a ≡ true → (b && c && d && e && f) ≡ true → g ≡ true → h ≡ true → i ≡ true → j ≡ true → k ≡ true →
+    (a && b && c && d && e && f && g && h && i && j && k) ≡ true
+all-eleven a b c d e f g h i j k pa pb pg ph pi pj pk = rw (pa, pg, ph, pi, pj, pk) (rw pb refl)
+
+display : (now : ℕ) (heads : Heads) (preempt local : Option ℕ) (line : List ℕ) → IfSome preempt (λ n. (1 ≤ n) × (n ≤ 4)) →
+    Fields now heads preempt local line → is_display line ≡ true
+unfolding is_display
+display now heads preempt local line known is_line =
+    all-eleven _ _ _ _ _ _ _ _ _ _ _ (eq-eqb _ _ is_line.wide) is_line.spaced
+    (ap (is_spelled (codes "-RYGF")) is_line.vehicles ∙ all-mapped (λ b. among b (codes "-RYGF")) (λ p. letter (heads.vehicle p)) (run_from 1 16) (λ p. spelled-letter (heads.vehicle p)))
+    (ap (is_spelled (codes "-DCW")) is_line.pedestrians ∙ all-mapped (λ b. among b (codes "-DCW")) (λ p. pedestrian_letter (heads.pedestrian p)) (run_from 1 16) (λ p. spelled-pedestrian_letter (heads.pedestrian p)))
+    (ap (is_spelled (codes "-RYGF")) is_line.overlaps ∙ all-mapped (λ b. among b (codes "-RYGF")) (λ p. letter (heads.overlap p)) (run_from 1 4) (λ p. spelled-letter (heads.overlap p)))
+    (ap is_preempt is_line.served ∙ preempt-digit preempt known)
+    (ap is_local is_line.counter ∙ local-digits local)
+
+tells : (now : ℕ) (heads : Heads) (preempt local : Option ℕ) (line : List ℕ) → IfSome preempt (λ n. (1 ≤ n) × (n ≤ 4)) →
+    Fields now heads preempt local line → Tells (record { tick = now; signals = signals_of line }) now heads preempt
+tells now heads preempt local line known is_line = record {
+  tick = refl;
+  vehicles = λ p from within. ap (λ (bs : List ℕ). aspect_of (vehicles_of bs) p) is_line.vehicles ∙ heads-read heads.vehicle 16 p from within;
+  pedestrians = λ p from within. ap (λ (bs : List ℕ). pedestrian_aspect_of (pedestrians_of bs) p) is_line.pedestrians ∙ pedestrians-read heads.pedestrian 16 p from within;
+  overlaps = λ o from within. ap (λ (bs : List ℕ). aspect_of (vehicles_of bs) o) is_line.overlaps ∙ heads-read heads.overlap 4 o from within;
+  preempt = ap preempt_of is_line.served ∙ preempt-read preempt known;
+}
+
+read : (now : ℕ) (heads : Heads) (preempt local : Option ℕ) (line : List ℕ) → now < 10000000 → IfSome preempt (λ n. (1 ≤ n) × (n ≤ 4)) →
+    Fields now heads preempt local line → shown_of line ≡ Some (record { tick = now; signals = signals_of line })
+unfolding shown_of
+read now heads preempt local line small known is_line =
+    rw (display now heads preempt local line known is_line)
+    (ap (λ (o : Option ℕ). shown_at o (signals_of line)) (ap number_of is_line.tick ∙ tick-number now small))
+
+pub are-read : AreRead
+are-read now heads preempt local small known =
+    let line : List ℕ = line_of now heads preempt local in
+    let is_line = fields now heads preempt local in (
+      record { tick = now; signals = signals_of line },
+      read now heads preempt local line small known is_line,
+      tells now heads preempt local line known is_line,
+    )
