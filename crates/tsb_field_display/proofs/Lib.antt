@@ -5,3 +5,4 @@ pub mod LawLemmas
 pub mod LineLemmas
 pub mod HistoryLemmas
 pub mod EventLemmas
+pub mod Examples

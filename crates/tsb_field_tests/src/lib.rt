@@ -2,6 +2,8 @@
 #![tactic(auto)]
 
 #[cfg(test)]
+mod display_events;
+#[cfg(test)]
 mod event_rows;
 #[cfg(test)]
 mod field_filter;

@@ -1,0 +1,119 @@
+-- What definitions give, by computing.
+use Rattle.std.specs.Prelude.{◌≡◌, ℕ, true, false, List, [], ◌∷◌, codes, Option, Some, None, refl}
+use Rattle.tsb_types.specs.Lists.{run_from}
+use Rattle.tsb_types.specs.Sets.{set_of_list}
+use Rattle.tsb_field_display.specs.declared.shown.Signals.{Signals}
+use Rattle.tsb_field_display.specs.declared.shown.Shown.{Shown}
+use Rattle.tsb_field_display.specs.Shows.{is_same, AreApart}
+use Rattle.tsb_field_display.specs.Reading.{is_display, shown_of, signals_of}
+use Rattle.tsb_field_display.specs.Remaining.{remaining, changes_of}
+use Rattle.tsb_field_display.specs.Events.{event, events_of, events_of_lines}
+use Rattle.tsb_field_display.specs.ReadBack.{read_back}
+use Rattle.tsb_field_display.specs.Laws.{AreAllApart}
+use Rattle.tsb_field_display.proofs.LetterLemmas.{apart-pedestrians, apart-overlaps}
+
+-- what a computed line opens
+unfoldable pub opened : Unit {0}
+unfolding run_from is_display shown_of is_same events_of
+opened = tt
+
+-- ## Reading
+
+yellow : shown_of (codes "0000101 -Y-R------------ -C-------------- G--- 2 0759") ≡ Some (record {
+  tick = 101;
+  signals = record {
+    vehicles = record { greens = set_of_list 0; yellows = set_of_list 2; reds = set_of_list 8; flashing = set_of_list 0 };
+    pedestrians = record { walks = set_of_list 0; clearances = set_of_list 2; dont_walks = set_of_list 0 };
+    overlaps = record { greens = set_of_list 1; yellows = set_of_list 0; reds = set_of_list 0; flashing = set_of_list 0 };
+    preempt = Some 2;
+  };
+})
+unfolding opened
+yellow = refl
+
+-- other answers of a session are no display lines
+an_answer : shown_of (codes "ok") ≡ None
+unfolding opened
+an_answer = refl
+
+-- nor is a line with a letter, a digit or a space out of place
+wrong_letter : shown_of (codes "0000101 -W-R------------ -D-------------- G--- 2 0759") ≡ None
+unfolding opened
+wrong_letter = refl
+
+wrong_tick : shown_of (codes "000010A -Y-R------------ -D-------------- G--- 2 0759") ≡ None
+unfolding opened
+wrong_tick = refl
+
+wrong_preempt : shown_of (codes "0000101 -Y-R------------ -D-------------- G--- 5 0759") ≡ None
+unfolding opened
+wrong_preempt = refl
+
+wrong_local : shown_of (codes "0000101 -Y-R------------ -D-------------- G--- 2 07--") ≡ None
+unfolding opened
+wrong_local = refl
+
+no_space : shown_of (codes "0000101--Y-R------------ -D-------------- G--- 2 0759") ≡ None
+unfolding opened
+no_space = refl
+
+-- ## Lines of a crossing with a phase, a walk and an overlap
+
+abbrev pub red_line : List ℕ
+red_line = codes "0000000 -R-------------- -D-------------- R--- 0 ----"
+
+abbrev pub red : Signals
+red = signals_of red_line
+
+abbrev pub green_line : List ℕ
+green_line = codes "0000000 -G-------------- -W-------------- G--- 0 ----"
+
+abbrev pub green : Signals
+green = signals_of green_line
+
+abbrev pub clearing_line : List ℕ
+clearing_line = codes "0000000 -G-------------- -C-------------- G--- 1 ----"
+
+abbrev pub clearing : Signals
+clearing = signals_of clearing_line
+
+abbrev pub ending : Signals
+ending = signals_of (codes "0000000 -Y-------------- -D-------------- Y--- 1 ----")
+
+abbrev pub flash : Signals
+flash = signals_of (codes "0000000 -F-------------- ---------------- F--- 0 ----")
+
+abbrev pub at : ℕ → Signals → Shown
+at tick signals = record { tick = tick; signals = signals }
+
+-- back from 4 to 2, and on
+abbrev pub session : List Shown
+session = at 1 red ∷ at 2 green ∷ at 3 green ∷ at 4 clearing ∷ at 2 red ∷ at 3 green ∷ at 4 green ∷ []
+
+what_remains : remaining session ≡ at 1 red ∷ at 2 red ∷ at 3 green ∷ at 4 green ∷ []
+unfolding opened
+what_remains = refl
+
+what_changes : changes_of (remaining session) ≡ at 1 red ∷ at 3 green ∷ []
+unfolding opened
+what_changes = refl
+
+-- ## Events
+
+whole : events_of_lines (at 1 red ∷ at 2 green ∷ at 3 clearing ∷ at 4 ending ∷ at 5 red ∷ at 6 flash ∷ at 7 red ∷ [])
+    ≡ event 2 1 2 ∷ event 2 21 2 ∷ event 2 61 1 ∷ event 3 22 2 ∷ event 3 105 1 ∷ event 4 7 2 ∷ event 4 8 2 ∷ event 4 23 2
+    ∷ event 4 63 1 ∷ event 5 9 2 ∷ event 5 65 1 ∷ event 6 173 6 ∷ event 7 173 2 ∷ []
+unfolding opened
+whole = refl
+
+-- ## Lines that meet the premise of the law on what events tell
+
+are_apart : (line : List ℕ) → AreApart (signals_of line)
+are_apart line = record { pedestrians = apart-pedestrians _; overlaps = apart-overlaps _ }
+
+met : AreAllApart (at 1 red ∷ at 2 green ∷ at 3 clearing ∷ [])
+met = (are_apart red_line, (are_apart green_line, (are_apart clearing_line, tt)))
+
+told_clearance : (read_back (events_of_lines (at 1 red ∷ at 2 green ∷ at 3 clearing ∷ []))).clearance 2 ≡ true
+unfolding opened
+told_clearance = refl
