@@ -1,8 +1,8 @@
 -- One-line mistakes, each with an example that tells it from the definition.
-use Rattle.std.specs.Prelude.{◌≡◌, ℕ, ◌+◌, ◌==◌, Bool, true, false, not, List, [], ◌∷◌, ◌++◌, filter, Option, Some, None, refl}
+use Rattle.std.specs.Prelude.{◌≡◌, ℕ, ◌+◌, ◌==◌, true, false, not, List, [], ◌∷◌, ◌++◌, filter, refl}
 use Rattle.tsb_field_display.specs.declared.events.DisplayEvent.{DisplayEvent}
 use Rattle.tsb_field_display.specs.declared.shown.Shown.{Shown}
-use Rattle.tsb_field_display.specs.Events.{event, events_of, events_of_lines, is_yellow, is_clearance}
+use Rattle.tsb_field_display.specs.Events.{events_of_lines, is_yellow, is_clearance}
 use Rattle.tsb_field_display.specs.Remaining.{remaining, before_tick}
 use Rattle.tsb_field_display.specs.ReadBack.{read_back}
 use Rattle.tsb_field_display.proofs.Examples.Examples.{opened, at, red, green, clearing, ending}
