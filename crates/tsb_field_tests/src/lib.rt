@@ -9,3 +9,5 @@ mod event_rows;
 mod field_filter;
 #[cfg(test)]
 mod field_rows;
+#[cfg(test)]
+mod field_words;

@@ -1,0 +1,2 @@
+-- words and what they ask for
+mod WordExamples
