@@ -1,3 +1,4 @@
 pub mod FieldLemmas
 pub mod TimeLemmas
 pub mod RowLemmas
+pub mod WrittenLemmas

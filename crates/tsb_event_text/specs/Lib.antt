@@ -6,3 +6,5 @@ pub mod Columns
 pub mod Times
 -- what a row of events says
 pub mod Rows
+-- times as text
+pub mod Written

@@ -8,8 +8,12 @@
 mod columns;
 mod fields;
 mod rows;
+mod texts;
 mod times;
+mod written;
 
 pub use columns::{Column, Columns, header};
 pub use rows::{EventRow, event_row};
+pub use texts::TimeText;
 pub use times::{Moment, read_moment};
+pub use written::{FIRST_DAY, LAST_DAY, time_text};
