@@ -2,3 +2,4 @@ pub mod FieldLemmas
 pub mod TimeLemmas
 pub mod RowLemmas
 pub mod WrittenLemmas
+pub mod EventLemmas

@@ -1,5 +1,5 @@
 -- What is written of a time is read again.
-use Rattle.std.proofs.Common.{replicate, ◌≡◌, ◌∙◌, ℕ, ◌+◌, ◌-◌, ◌*◌, ◌/◌, ◌%◌, ◌<◌, ◌≤◌, Bool, true, leb, zero, suc, List, [], ◌∷◌, ◌++◌, length, take, drop, get_or, refl, sym, ap, ap₂, arith, Option, Some, codes, if◌then◌else◌, ltb}
+use Rattle.std.proofs.Common.{replicate, ◌≡◌, ◌∙◌, ℕ, ◌+◌, ◌-◌, ◌*◌, ◌/◌, ◌%◌, ◌<◌, ◌≤◌, true, leb, zero, suc, List, [], ◌∷◌, ◌++◌, length, take, drop, get_or, refl, sym, ap, ap₂, arith, Option, Some, codes, ltb}
 use Rattle.std.proofs.lemmas.Bool.{le-leb, lt-ltb}
 use Rattle.std.proofs.Common.{unsigned_abs, negsuc, ℤ, pos, ◌+ℤ◌, ◌≤ℤ◌, subst}
 use Rattle.std.proofs.lemmas.Int.{by_lt_z}
@@ -10,7 +10,6 @@ use Rattle.jiff_core.proofs.CalendarLemmas.{day_count-lt_year, days_from_civil-d
 use Rattle.jiff_core.proofs.DateLemmas.{civil}
 use Rattle.jiff_core.proofs.MarchLemmas.{day_count-early}
 use Rattle.jiff_core.proofs.SignedLemmas.{signed_arith}
-use Rattle.tsb_event_text.specs.declared.times.Moment.{Moment}
 use Rattle.tsb_lines.specs.Words.{number_from, number_of, at_most}
 use Rattle.tsb_event_text.specs.Times.{day_number, day_of, is_day, moment_at, moment_of, nano_of, second_of}
 use Rattle.tsb_event_text.specs.Written.{digit, nine_digits, time_head}
@@ -18,7 +17,7 @@ use Rattle.tsb_event_text.proofs.TimeLemmas.{parts}
 
 -- ## Digits
 
-digit-read : (n d : ℕ) (ds : List ℕ) → d < 10 → number_from n ((48 + d) ∷ ds) ≡ number_from (n * 10 + d) ds
+pub digit-read : (n d : ℕ) (ds : List ℕ) → d < 10 → number_from n ((48 + d) ∷ ds) ≡ number_from (n * 10 + d) ds
 digit-read n d ds lt =
     let low : leb 48 (48 + d) ≡ true = le-leb 48 (48 + d) (omega arith) in
     let high : leb (48 + d) 57 ≡ true = le-leb (48 + d) 57 (omega (arith, lt)) in

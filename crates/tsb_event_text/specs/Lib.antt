@@ -8,3 +8,5 @@ pub mod Times
 pub mod Rows
 -- times as text
 pub mod Written
+-- lines of events, written
+pub mod Events

@@ -6,13 +6,16 @@
 #![tactic(auto)]
 
 mod columns;
+mod events;
 mod fields;
+pub mod laws;
 mod rows;
 mod texts;
 mod times;
 mod written;
 
 pub use columns::{Column, Columns, header};
+pub use events::{can_be_written, event_line};
 pub use rows::{EventRow, event_row};
 pub use texts::TimeText;
 pub use times::{Moment, read_moment};

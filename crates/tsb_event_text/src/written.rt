@@ -1,5 +1,6 @@
 //! Times, written.
 ghost use Rattle.std.specs.Prelude.{◌≡◌, ◌≢◌, ◌+◌, ◌-◌, ◌/◌, ◌<◌, ◌≤◌, ◌++◌, ◌↔◌, true, IfSome, IsSome, OnOk, ℕ, List, ◌∷◌, Some};
+ghost use Rattle.tsb_event_text.specs.Events.{IsPlain};
 ghost use Rattle.tsb_event_text.specs.Times.{day_number, is_day, moment_at, moment_of, nano_of};
 ghost use Rattle.tsb_event_text.specs.Written.{IsEnough, IsWritten, bytes_of, digit, nine_digits, time_head};
 
@@ -36,6 +37,7 @@ impl TimeText {
 pub fn time_text(moment: Moment) -> Option<TimeText>
     ensures written { IsSome result ↔ IsWritten moment }
     ensures told { IfSome result (λ time. moment_of (bytes_of time) ≡ Some moment) }
+    ensures plain { IfSome result (λ time. IsPlain (bytes_of time)) }
     ensures short { IfSome result (λ time. IsEnough time.digits time.count) }
 {
     let days = moment.nanos / DAY;
@@ -58,7 +60,8 @@ fn head_of(days: u32, second: u32) -> [u8; 20]
     requires first { 3652059 ≤ days }
     requires last { days ≤ 7304483 }
     requires second { second < 86400 }
-    ensures { (ds : List ℕ) → moment_of (result ++ ds) ≡ moment_at (Some days) (Some second) (nano_of (46 ∷ ds)) }
+    ensures plain { IsPlain result }
+    ensures read { (ds : List ℕ) → moment_of (result ++ ds) ≡ moment_at (Some days) (Some second) (nano_of (46 ∷ ds)) }
 {
     let (year, month, day) = date_of(days);
     time_head(year, month, day, second)

@@ -11,6 +11,7 @@ use Rattle.clap.specs.declared.builder.command.Command.{Command}
 use Rattle.clap.specs.declared.builder.command.Command.TheViews.{out-Command}
 use Rattle.clap.specs.declared.error.kind.ErrorKind.{ErrorKind}
 use Rattle.clap.specs.declared.error.kind.ErrorKind.TheVariants as kinds
+use Rattle.tsb_event_text.specs.Events.{can_be_written}
 use Rattle.tsb_event_text.specs.Times.{moment_of}
 use Rattle.tsb_event_text.specs.declared.times.Moment.{Moment}
 use Rattle.tsb_field_log.specs.declared.inputs.Kind.TheVariants.{Vehicle, Pedestrian, Preempt}
@@ -103,9 +104,9 @@ log_with from device wires = None
 abbrev pub log_in : List Row → Option Wish
 log_in rows = log_with (moment_in rows) (first_of (codes "device") rows) (wires_in rows)
 
--- events, where it is said from when and of which device
+-- events, where it is said from when and of which device, and a line can name that
 abbrev pub events_with : Option Moment → Option Text → Option Text → Option Wish
-events_with (Some from) (Some device) file = Some (events from device file)
+events_with (Some from) (Some device) file = if can_be_written device then Some (events from device file) else None
 events_with from device file = None
 
 -- what `events` asks for, with these options

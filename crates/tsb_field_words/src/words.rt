@@ -16,7 +16,7 @@ use clap::{ArgMatches, Error};
 use std::alloc::{AllocError, Global};
 use std::convert::AsStr;
 use std::io::{self, ErrorKind as DeviceKind};
-use tsb_event_text::Moment;
+use tsb_event_text::{Moment, can_be_written};
 use tsb_field_log::{Kind, Wire};
 
 /// What the words ask for.
@@ -35,7 +35,7 @@ pub enum Asked<'a> {
     Events {
         /// The moment at which tick 1 begins.
         from: Moment,
-        /// The device that the events are of.
+        /// The device that the events are of, which a line can name (`can_be_written`).
         device: &'a str,
         /// The file of the log of inputs.
         log: Option<&'a str>,
@@ -97,7 +97,7 @@ impl From<io::Error> for WordsError {
 /// `--pedestrian CHANNEL=DETECTOR` and `--preempt CHANNEL=INPUT`; `events` has `--from TIME` and `--device ID`, and may
 /// have `--log LOG`; `diagram` may have `--log LOG`, `--title TEXT` and `--seconds-per-line N`. Options come in any
 /// order, and `--NAME=VALUE` is `--NAME VALUE`. A value that begins with a hyphen stands behind `=`. All else is `Bad`, a
-/// request for help among it. `Memory` may come in place of every answer.
+/// request for help among it, and a device of `events` with a double quote or an end of a line. `Memory` may come in place of every answer.
 pub fn read_words<'a, S: AsStr>(alloc: Global, words: &'a [S]) -> Result<Asked<'a>, WordsError>
     ensures { Spells (map S.text words.now) result }
 {
@@ -164,7 +164,7 @@ fn events_asked<'a>(options: &ArgMatches<'a>) -> Option<Asked<'a>>
     events_with(from, device, log)
 }
 
-/// Events, where it is said from when and of which device.
+/// Events, where it is said from when and of which device, and a line can name that.
 fn events_with<'a>(
     from: Option<Moment>,
     device: Option<&'a str>,
@@ -175,6 +175,9 @@ fn events_with<'a>(
 {
     let from = from?;
     let device = device?;
+    if !can_be_written(device.as_bytes()) {
+        return None;
+    }
     Some(Asked::Events { from, device, log })
 }
 

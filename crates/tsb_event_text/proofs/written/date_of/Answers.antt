@@ -1,7 +1,6 @@
-use Rattle.std.proofs.Common.{◌≡◌, ◌∙◌, ◌<◌, ◌^◌, ℤ, pos, ◌+ℤ◌, ◌≤ℤ◌, ap, arith, unsigned_abs, to_z, of_z, w16, rules}
+use Rattle.std.proofs.Common.{◌≡◌, ◌∙◌, ℤ, pos, ◌+ℤ◌, ◌≤ℤ◌, ap, arith, unsigned_abs, to_z, of_z, w16}
 use Rattle.jiff_core.specs.Calendar.{days_from_civil}
 use Rattle.jiff_core.proofs.SignedLemmas.{back_small, signed_arith}
-use Rattle.tsb_event_text.specs.Times.{day_number}
 use Rattle.tsb_event_text.proofs.WrittenLemmas.{as-pos, year-is, year-small}
 use Rattle.tsb_event_text.proofs.written.date_of.Goals as goal
 

@@ -1,0 +1,177 @@
+-- What is written of an event is read again.
+use Rattle.std.proofs.Common.{◌≡◌, ◌∙◌, ◌≢◌, ℕ, ◌+◌, ◌-◌, ◌*◌, ◌/◌, ◌%◌, ◌<◌, ◌≤◌, ◌^◌, ◌&&◌, not, Bool, true, false, leb, zero, suc, List, [], ◌∷◌, ◌++◌, length, take, refl, ap, ap₂, arith, inl, inr, Option, Some, None, if◌then◌else◌, append_assoc, length-append}
+use Rattle.std.proofs.lemmas.Bool.{le-leb}
+use Rattle.std.proofs.lemmas.Bool.Decides.{eqb_tells}
+use Rattle.std.proofs.lemmas.Fmt.{decimal_by_steps, length-decimal-le}
+use Rattle.std.specs.Fmt.{decimal}
+use Rattle.tsb_lines.specs.Words.{number_from, number_of}
+use Rattle.tsb_event_text.specs.declared.times.Moment.{Moment}
+use Rattle.tsb_event_text.specs.Columns.{usual_columns}
+use Rattle.tsb_event_text.specs.Fields.{Plain, Quoted, fields_from, fields_of, onto_field, with_field}
+use Rattle.tsb_event_text.specs.Rows.{is_asked, row_in, row_of, row_said}
+use Rattle.tsb_event_text.specs.Times.{moment_of}
+use Rattle.tsb_event_text.specs.Events.{IsPlain, can_be_written, device_field, event_row_text, has_byte}
+use Rattle.tsb_event_text.specs.Written.{digit, nine_digits, time_head}
+use Rattle.tsb_event_text.proofs.WrittenLemmas.{digit-read}
+
+-- ## Plain fields
+
+pub plain-join : (xs ys : List ℕ) → IsPlain xs → IsPlain ys → IsPlain (xs ++ ys)
+plain-join [] ys p q = q
+plain-join (x ∷ xs) ys p q = (p.0, p.1, plain-join xs ys p.2 q)
+
+pub plain-take : (k : ℕ) (xs : List ℕ) → IsPlain xs → IsPlain (take k xs)
+plain-take zero [] p = tt
+plain-take zero (x ∷ xs) p = tt
+plain-take (suc k) [] p = tt
+plain-take (suc k) (x ∷ xs) p = (p.0, p.1, plain-take k xs p.2)
+
+onto-with : (b : ℕ) (field : List ℕ) (o : Option (List (List ℕ))) → onto_field b (with_field field o) ≡ with_field (b ∷ field) o
+onto-with b field None = refl
+onto-with b field (Some fields) = refl
+
+-- behind the beginning of a field, up to a comma
+inside : (xs rest : List ℕ) → has_byte 44 xs ≡ false → fields_from Plain (xs ++ 44 ∷ rest) ≡ with_field xs (fields_of rest)
+inside [] rest p = refl
+inside (x ∷ xs) rest p = elim (eqb_tells x 44) [
+  | inl is ↦ absurd (let no : true ≡ false = rw is.0 at p in cc)
+  | inr off ↦ rw off.0 (ap (onto_field x) (inside xs rest (rw off.0 at p)) ∙ onto-with x xs (fields_of rest))
+]
+
+-- a field without a comma or a quote, up to a comma
+pub field-first : (xs rest : List ℕ) → has_byte 44 xs ≡ false → has_byte 34 xs ≡ false → fields_of (xs ++ 44 ∷ rest) ≡ with_field xs (fields_of rest)
+field-first [] rest p q = refl
+field-first (x ∷ xs) rest p q = elim (eqb_tells x 44) [
+  | inl is ↦ absurd (let no : true ≡ false = rw is.0 at p in cc)
+  | inr off ↦ elim (eqb_tells x 34) [
+    | inl is ↦ absurd (let no : true ≡ false = rw is.0 at q in cc)
+    | inr other ↦ rw (off.0, other.0) (ap (onto_field x) (inside xs rest (rw off.0 at p)) ∙ onto-with x xs (fields_of rest))
+  ]
+]
+
+-- behind a quote, up to the next one
+quoted : (xs rest : List ℕ) → has_byte 34 xs ≡ false → fields_from Quoted (xs ++ 34 ∷ 44 ∷ rest) ≡ with_field xs (fields_of rest)
+quoted [] rest p = refl
+quoted (x ∷ xs) rest p = elim (eqb_tells x 34) [
+  | inl is ↦ absurd (let no : true ≡ false = rw is.0 at p in cc)
+  | inr off ↦ rw off.0 (ap (onto_field x) (quoted xs rest (rw off.0 at p)) ∙ onto-with x xs (fields_of rest))
+]
+
+-- plain bytes have no comma and no quote
+plain-comma : (xs : List ℕ) → IsPlain xs → has_byte 44 xs ≡ false
+plain-comma [] p = refl
+plain-comma (x ∷ xs) p = elim (eqb_tells x 44) [
+  | inl is ↦ absurd (p.0 is.1)
+  | inr off ↦ rw off.0 (plain-comma xs p.2)
+]
+
+plain-quote : (xs : List ℕ) → IsPlain xs → has_byte 34 xs ≡ false
+plain-quote [] p = refl
+plain-quote (x ∷ xs) p = elim (eqb_tells x 34) [
+  | inl is ↦ absurd (p.1 is.1)
+  | inr off ↦ rw off.0 (plain-quote xs p.2)
+]
+
+pub plain-first : (xs rest : List ℕ) → IsPlain xs → fields_of (xs ++ 44 ∷ rest) ≡ with_field xs (fields_of rest)
+plain-first xs rest p = field-first xs rest (plain-comma xs p) (plain-quote xs p)
+
+ends : (xs : List ℕ) → IsPlain xs → fields_from Plain xs ≡ Some (xs ∷ [])
+ends [] p = refl
+ends (x ∷ xs) p = elim (eqb_tells x 44) [
+  | inl is ↦ absurd (p.0 is.1)
+  | inr off ↦ rw off.0 (ap (onto_field x) (ends xs p.2))
+]
+
+pub plain-last : (xs : List ℕ) → IsPlain xs → fields_of xs ≡ Some (xs ∷ [])
+plain-last [] p = refl
+plain-last (x ∷ xs) p = elim (eqb_tells x 44) [
+  | inl is ↦ absurd (p.0 is.1)
+  | inr off ↦ elim (eqb_tells x 34) [
+    | inl is ↦ absurd (p.1 is.1)
+    | inr other ↦ rw (off.0, other.0) (ap (onto_field x) (ends xs p.2))
+  ]
+]
+
+-- ## Devices
+
+device-by : (device rest : List ℕ) (comma : Bool) → has_byte 44 device ≡ comma → has_byte 34 device ≡ false
+    → fields_of ((if comma then 34 ∷ (device ++ 34 ∷ []) else device) ++ 44 ∷ rest) ≡ with_field device (fields_of rest)
+device-by device rest true is free =
+    ap (λ (xs : List ℕ). fields_from Quoted xs) (append_assoc device (34 ∷ []) (44 ∷ rest)) ∙ quoted device rest free
+device-by device rest false is free = field-first device rest is free
+
+first-not : (a b c : Bool) → ((not a && b) && c) ≡ true → a ≡ false
+first-not true b c e = absurd (cc)
+first-not false b c e = refl
+
+pub device-first : (device rest : List ℕ) → can_be_written device ≡ true → fields_of (device_field device ++ 44 ∷ rest) ≡ with_field device (fields_of rest)
+device-first device rest can = device-by device rest (has_byte 44 device) refl (first-not (has_byte 34 device) (not (has_byte 10 device)) (not (has_byte 13 device)) can)
+
+-- ## Numbers
+
+from-last : (a : ℕ) (ds : List ℕ) (m d : ℕ) → d < 10 → number_from a ds ≡ Some m → number_from a (ds ++ (48 + d) ∷ []) ≡ Some (m * 10 + d)
+from-last a [] m d lt e = let same : a ≡ m = cc in rw same (digit-read m d [] lt)
+from-last a (b ∷ bs) m d lt e = go (leb 48 b && leb b 57) (from-last (a * 10 + (b - 48)) bs m d lt) e
+  where
+    go : (t : Bool)
+        → (number_from (a * 10 + (b - 48)) bs ≡ Some m → number_from (a * 10 + (b - 48)) (bs ++ (48 + d) ∷ []) ≡ Some (m * 10 + d))
+        → (if t then number_from (a * 10 + (b - 48)) bs else None) ≡ Some m
+        → (if t then number_from (a * 10 + (b - 48)) (bs ++ (48 + d) ∷ []) else None) ≡ Some (m * 10 + d)
+    go true f h = f h
+    go false f h = absurd (cc)
+
+-- digits that spell a number, and are a field
+abbrev Spells : ℕ → List ℕ → Type 0
+Spells n ds = (number_from 0 ds ≡ Some n) × (1 ≤ length ds) × IsPlain ds
+
+spelled : (n : ℕ) → n < 2 ^ 64 → Spells n (decimal n)
+spelled = decimal_by_steps Spells
+    (λ n lt. let same : 0 * 10 + n ≡ n = omega arith in (digit-read 0 n [] lt ∙ ap (λ (k : ℕ). Some k) same, omega arith, (λ e. omega (arith, e), λ e. omega (arith, e), tt)))
+    (λ n ds le h.
+    let same : n / 10 * 10 + n % 10 ≡ n = omega arith in (
+      from-last 0 ds (n / 10) (n % 10) (omega arith) h.0 ∙ ap (λ (k : ℕ). Some k) same,
+      omega (arith, length-append ds ((48 + n % 10) ∷ []), h.1),
+      plain-join ds ((48 + n % 10) ∷ []) h.2 (λ e. omega (arith, e), λ e. omega (arith, e), tt),
+    ))
+
+pub number-plain : (n : ℕ) → n < 2 ^ 32 → IsPlain (decimal n)
+number-plain n lt = (spelled n (omega (arith, lt))).2
+
+pub number-read : (n : ℕ) → n < 2 ^ 32 → number_of (decimal n) ≡ Some n
+number-read n lt =
+    let s = spelled n (omega (arith, lt)) in
+    let some : leb 1 (length (decimal n)) ≡ true = le-leb 1 (length (decimal n)) s.1 in
+    let most : leb (length (decimal n)) 10 ≡ true = le-leb (length (decimal n)) 10 (length-decimal-le 10 n (omega arith) (omega (arith, lt)) (omega (arith, lt))) in
+    let fits : leb n 4294967295 ≡ true = le-leb n 4294967295 (omega (arith, lt)) in
+    rw (some, most, s.0, fits) refl
+
+-- ## Times
+
+no-comma : (n unit : ℕ) → digit n unit ≢ 44
+no-comma n unit = λ e. omega (arith, e)
+
+no-quote : (n unit : ℕ) → digit n unit ≢ 34
+no-quote n unit = λ e. omega (arith, e)
+
+pub nine-plain : (n : ℕ) → IsPlain (nine_digits n)
+nine-plain n = (no-comma n 100000000, no-quote n 100000000, (no-comma n 10000000, no-quote n 10000000, (no-comma n 1000000, no-quote n 1000000, (no-comma n 100000, no-quote n 100000, (no-comma n 10000, no-quote n 10000, (no-comma n 1000, no-quote n 1000, (no-comma n 100, no-quote n 100, (no-comma n 10, no-quote n 10, (no-comma n 1, no-quote n 1, tt)))))))))
+
+pub head-plain : (y m d s : ℕ) → IsPlain (time_head y m d s)
+head-plain y m d s = (no-comma y 1000, no-quote y 1000, (no-comma y 100, no-quote y 100, (no-comma y 10, no-quote y 10, (no-comma y 1, no-quote y 1, ((λ e. omega (arith, e)), (λ e. omega (arith, e)), (no-comma m 10, no-quote m 10, (no-comma m 1, no-quote m 1, ((λ e. omega (arith, e)), (λ e. omega (arith, e)), (no-comma d 10, no-quote d 10, (no-comma d 1, no-quote d 1, ((λ e. omega (arith, e)), (λ e. omega (arith, e)), (no-comma (s / 3600) 10, no-quote (s / 3600) 10, (no-comma (s / 3600) 1, no-quote (s / 3600) 1, ((λ e. omega (arith, e)), (λ e. omega (arith, e)), (no-comma (s / 60 % 60) 10, no-quote (s / 60 % 60) 10, (no-comma (s / 60 % 60) 1, no-quote (s / 60 % 60) 1, ((λ e. omega (arith, e)), (λ e. omega (arith, e)), (no-comma (s % 60) 10, no-quote (s % 60) 10, (no-comma (s % 60) 1, no-quote (s % 60) 1, ((λ e. omega (arith, e)), (λ e. omega (arith, e)), tt))))))))))))))))))))
+
+-- ## The line
+
+pub read-again : (device time : List ℕ) (moment : Moment) (code parameter : ℕ) (asked : Option (List ℕ))
+    → can_be_written device ≡ true → IsPlain time → moment_of time ≡ Some moment → code < 2 ^ 32 → parameter < 2 ^ 32
+    → row_of usual_columns asked (event_row_text device time code parameter)
+    ≡ Some (record { ours = is_asked asked device; moment = moment; code = code; parameter = parameter })
+unfolding row_of
+read-again device time moment code parameter asked can plain told few low =
+    let line : fields_of (event_row_text device time code parameter) ≡ Some (device ∷ time ∷ decimal code ∷ decimal parameter ∷ []) =
+    device-first device (time ++ 44 ∷ (decimal code ++ 44 ∷ decimal parameter)) can
+    ∙ ap (with_field device) (plain-first time (decimal code ++ 44 ∷ decimal parameter) plain
+    ∙ ap (with_field time) (plain-first (decimal code) (decimal parameter) (number-plain code few)
+    ∙ ap (with_field (decimal code)) (plain-last (decimal parameter) (number-plain parameter low)))) in
+    ap (row_in usual_columns asked) line
+    ∙ (ap (λ (m : Option Moment). row_said (is_asked asked device) m (number_of (decimal code)) (number_of (decimal parameter))) told
+    ∙ ap₂ (λ (a b : Option ℕ). row_said (is_asked asked device) (Some moment) a b) (number-read code few) (number-read parameter low))

@@ -1,0 +1,71 @@
+//! Events, written.
+ghost use Rattle.std.specs.Prelude.{◌≡◌, ◌++◌, ◌∷◌, IfOk, OnOk, decimal};
+ghost use Rattle.tsb_event_text.specs.Events.{can_be_written, device_field, event_text, has_byte};
+ghost use Rattle.tsb_event_text.specs.Written.{bytes_of};
+
+use crate::texts::TimeText;
+use itoa::Buffer;
+use std::alloc::{AllocError, Global};
+
+/// Whether a line can name a device: it has no double quote and no end of a line.
+pub fn can_be_written(device: &[u8]) -> bool
+    ensures { result ≡ can_be_written device.now }
+{
+    !has_byte(b'"', device) && !has_byte(b'\n', device) && !has_byte(b'\r', device)
+}
+
+/// The line of an event, with its line feed: a device, a time, a code and a parameter. A device with a comma stands in
+/// double quotes. It is read again where `can_be_written` holds of the device.
+pub fn event_line(
+    alloc: Global,
+    device: &[u8],
+    time: &TimeText,
+    code: u32,
+    parameter: u32,
+) -> Result<Vec<u8>, AllocError>
+    ensures { IfOk result (λ line. line.items ≡ event_text device.now (bytes_of time.now) code parameter) }
+{
+    let mut line = Vec::new(alloc);
+    append_device(&mut line, device)?;
+    line.push(b',')?;
+    time.append_to(&mut line)?;
+    append_number(&mut line, code)?;
+    append_number(&mut line, parameter)?;
+    line.push(b'\n')?;
+    Ok(line)
+}
+
+/// Puts a device behind a line.
+fn append_device(line: &mut Vec<u8>, device: &[u8]) -> Result<(), AllocError>
+    ensures { OnOk result (line.new.items ≡ line.old.items ++ device_field device.now) }
+{
+    if !has_byte(b',', device) {
+        return line.extend_from_slice(device);
+    }
+    line.push(b'"')?;
+    line.extend_from_slice(device)?;
+    line.push(b'"')?;
+    Ok(())
+}
+
+/// Puts a comma and a number behind a line.
+fn append_number(line: &mut Vec<u8>, number: u32) -> Result<(), AllocError>
+    ensures { OnOk result (line.new.items ≡ line.old.items ++ 44 ∷ decimal number) }
+{
+    let mut buffer = Buffer::new();
+    line.push(b',')?;
+    line.extend_from_slice(buffer.format(number).as_bytes())?;
+    Ok(())
+}
+
+/// Whether a text has this byte.
+fn has_byte(byte: u8, text: &[u8]) -> bool
+    ensures { result ≡ has_byte byte text.now }
+{
+    for other in text {
+        if *other == byte {
+            return true;
+        }
+    }
+    false
+}
