@@ -3,3 +3,4 @@ pub mod TimeLemmas
 pub mod RowLemmas
 pub mod WrittenLemmas
 pub mod EventLemmas
+pub mod Examples

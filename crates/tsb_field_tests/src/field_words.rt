@@ -214,6 +214,12 @@ fn other_words_are_bad(rt: HostRuntime) {
         )
     );
     assert!(rt; is_bad(alloc, ["tsb_field", "events", time].as_slice()));
+    assert!(rt;
+        is_bad(
+            alloc,
+            ["tsb_field", "events", time, "--device=a\"b"].as_slice()
+        )
+    );
     assert!(rt; is_bad(alloc, ["tsb_field", "events", "--device=1"].as_slice()));
     assert!(rt;
         is_bad(

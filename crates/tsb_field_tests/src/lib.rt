@@ -4,6 +4,8 @@
 #[cfg(test)]
 mod display_events;
 #[cfg(test)]
+mod event_lines;
+#[cfg(test)]
 mod event_rows;
 #[cfg(test)]
 mod field_filter;
