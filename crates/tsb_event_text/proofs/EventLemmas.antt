@@ -5,6 +5,7 @@ use Rattle.std.proofs.lemmas.Bool.Decides.{eqb_tells}
 use Rattle.std.proofs.lemmas.Fmt.{decimal_by_steps, length-decimal-le}
 use Rattle.std.specs.Fmt.{decimal}
 use Rattle.tsb_lines.specs.Words.{number_from, number_of}
+use Rattle.tsb_lines.proofs.DigitLemmas.{digit-read}
 use Rattle.tsb_event_text.specs.declared.times.Moment.{Moment}
 use Rattle.tsb_event_text.specs.Columns.{usual_columns}
 use Rattle.tsb_event_text.specs.Fields.{Plain, Quoted, fields_from, fields_of, onto_field, with_field}
@@ -12,7 +13,7 @@ use Rattle.tsb_event_text.specs.Rows.{is_asked, row_in, row_of, row_said}
 use Rattle.tsb_event_text.specs.Times.{moment_of}
 use Rattle.tsb_event_text.specs.Events.{IsPlain, can_be_written, device_field, event_row_text, has_byte}
 use Rattle.tsb_event_text.specs.Written.{digit, nine_digits, time_head}
-use Rattle.tsb_event_text.proofs.WrittenLemmas.{digit-read}
+use Rattle.tsb_event_text.proofs.FieldLemmas.{onto-with}
 
 -- ## Plain fields
 
@@ -25,10 +26,6 @@ plain-take zero [] p = tt
 plain-take zero (x ∷ xs) p = tt
 plain-take (suc k) [] p = tt
 plain-take (suc k) (x ∷ xs) p = (p.0, p.1, plain-take k xs p.2)
-
-onto-with : (b : ℕ) (field : List ℕ) (o : Option (List (List ℕ))) → onto_field b (with_field field o) ≡ with_field (b ∷ field) o
-onto-with b field None = refl
-onto-with b field (Some fields) = refl
 
 -- behind the beginning of a field, up to a comma
 inside : (xs rest : List ℕ) → has_byte 44 xs ≡ false → fields_from Plain (xs ++ 44 ∷ rest) ≡ with_field xs (fields_of rest)

@@ -10,7 +10,7 @@ use Rattle.tsb_event_text.specs.Columns.{names_column, place_from}
 abbrev pub Without : ℕ → List ℕ → ℕ → Type 0
 Without b xs n = (k : ℕ) → k < n → get_or xs k 0 ≡ b → ⊥
 
-onto-with : (b : ℕ) (field : List ℕ) (o : Option (List (List ℕ))) → onto_field b (with_field field o) ≡ with_field (b ∷ field) o
+pub onto-with : (b : ℕ) (field : List ℕ) (o : Option (List (List ℕ))) → onto_field b (with_field field o) ≡ with_field (b ∷ field) o
 onto-with b field None = refl
 onto-with b field (Some fields) = refl
 

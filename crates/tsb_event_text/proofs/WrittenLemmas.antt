@@ -11,22 +11,12 @@ use Rattle.jiff_core.proofs.DateLemmas.{civil}
 use Rattle.jiff_core.proofs.MarchLemmas.{day_count-early}
 use Rattle.jiff_core.proofs.SignedLemmas.{signed_arith}
 use Rattle.tsb_lines.specs.Words.{number_from, number_of, at_most}
+use Rattle.tsb_lines.proofs.DigitLemmas.{digit-next}
 use Rattle.tsb_event_text.specs.Times.{day_number, day_of, is_day, moment_at, moment_of, nano_of, second_of}
 use Rattle.tsb_event_text.specs.Written.{digit, nine_digits, time_head}
 use Rattle.tsb_event_text.proofs.TimeLemmas.{parts}
 
 -- ## Digits
-
-pub digit-read : (n d : ℕ) (ds : List ℕ) → d < 10 → number_from n ((48 + d) ∷ ds) ≡ number_from (n * 10 + d) ds
-digit-read n d ds lt =
-    let low : leb 48 (48 + d) ≡ true = le-leb 48 (48 + d) (omega arith) in
-    let high : leb (48 + d) 57 ≡ true = le-leb (48 + d) 57 (omega (arith, lt)) in
-    let same : n * 10 + (48 + d - 48) ≡ n * 10 + d = omega arith in
-    rw (low, high, same) refl
-
--- a digit behind those of the number above it
-digit-next : (t n m unit : ℕ) (ds : List ℕ) → n * 10 + t / unit % 10 ≡ m → number_from n (digit t unit ∷ ds) ≡ number_from m ds
-digit-next t n m unit ds e = digit-read n (t / unit % 10) ds (omega arith) ∙ ap (λ (k : ℕ). number_from k ds) e
 
 small : (n : ℕ) → n < 1000000000 → at_most 4294967295 (Some n) ≡ Some n
 small n lt = let few : leb n 4294967295 ≡ true = le-leb n 4294967295 (omega (arith, lt)) in rw few refl

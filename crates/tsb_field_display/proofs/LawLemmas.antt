@@ -3,6 +3,7 @@ use Rattle.std.proofs.Common.{◌≡◌, ◌∙◌, ℕ, ◌+◌, ◌<◌, ◌�
 use Rattle.std.proofs.lemmas.Bool.{cases_eq, cond_both, true≢false, eq-eqb, ne_eqb}
 use Rattle.tsb_types.specs.Lists.{run_from, among, is}
 use Rattle.tsb_types.specs.Sets.{has_number}
+use Rattle.tsb_types.proofs.RunLemmas.{among-run}
 use Rattle.tsb_types.proofs.SetLemmas.{names-zero}
 use Rattle.tsb_types.proofs.FirstLemmas.{first-none}
 use Rattle.tsb_field_display.specs.declared.events.DisplayEvent.{DisplayEvent}
@@ -72,14 +73,6 @@ lit-among by_code p lit tick code [] = sym (none (by_code code))
     none (Some b) = refl
 lit-among by_code p lit tick code (n ∷ ns) =
     lit-among by_code p (said_or (if n == p then by_code code else None) lit) tick code ns ∙ effect-next (by_code code) (n == p) (among p ns) lit
-
-among-run : (p a n : ℕ) → a ≤ p → p < a + n → among p (run_from a n) ≡ true
-unfolding run_from
-among-run p a zero from below = absurd (omega (arith, from, below))
-among-run p a (suc n) from below = elim (cases_eq a p) [
-  | inl same ↦ rw (eq-eqb a p same) refl
-  | inr other ↦ rw (ne_eqb a p other) (among-run p (a + 1) n (omega (arith, from, other)) (omega (arith, below)))
-]
 
 filter-here : (t : Bool) (p n : ℕ) (ms : List ℕ) (was : Bool) → among p ms ≡ (t && was) → among p (if t then n ∷ ms else ms) ≡ (t && ((n == p) || was))
 filter-here true p n ms was e = ap (λ (b : Bool). (n == p) || b) e

@@ -4,17 +4,9 @@ use Rattle.std.specs.Int.{bit_at}
 use Rattle.std.proofs.lemmas.Bool.{eqb-true, ne_eqb}
 use Rattle.std.proofs.lemmas.Nat.Bits.{bit_at_lowest, bit_at-suc}
 use Rattle.tsb_types.specs.Sets.{names, has_number}
-use Rattle.tsb_types.proofs.SetLemmas.{names-zero}
+use Rattle.tsb_types.proofs.SetLemmas.{names-zero, lowest, higher}
 use Rattle.tsb_heads.specs.Promises.{IsApart}
 use Rattle.tsb_field_display.specs.Reading.{list_with, vehicles_of, pedestrians_of}
-
-lowest : (b : Bool) (m : ℕ) → (((if b then 1 else 0) + 2 * m) % 2 == 1) ≡ b
-lowest true m = let e : (1 + 2 * m) % 2 ≡ 1 = omega arith in rw e refl
-lowest false m = let e : (0 + 2 * m) % 2 ≡ 0 = omega arith in rw e refl
-
-higher : (b : Bool) (m : ℕ) → ((if b then 1 else 0) + 2 * m) / 2 ≡ m
-higher true m = omega arith
-higher false m = omega arith
 
 -- the first head has this letter where the first letter is this one
 pub names-first_letter : (letter b : ℕ) (bs : List ℕ) → names (list_with letter (b ∷ bs)) 1 ≡ (b == letter)

@@ -3,6 +3,8 @@ use Rattle.std.proofs.Common.{◌≡◌, ◌∙◌, ℕ, ◌+◌, ◌-◌, ◌*�
 use Rattle.std.specs.List.{list_all}
 use Rattle.std.proofs.lemmas.Bool.{and_from, eq-eqb, ne_eqb, le-leb}
 use Rattle.tsb_lines.specs.Words.{number_of, number_from, at_most}
+use Rattle.tsb_lines.proofs.DigitLemmas.{digit-next}
+use Rattle.tsb_types.proofs.RunLemmas.{at-run}
 use Rattle.tsb_types.specs.Lists.{run_from, among}
 use Rattle.tsb_types.specs.Sets.{has_number}
 use Rattle.tsb_types.specs.declared.lamp.Aspect.{Aspect}
@@ -18,18 +20,6 @@ use Rattle.tsb_field_display.proofs.LetterLemmas.{names-letter}
 
 -- ## The tick
 
-digit-step : (n d : ℕ) (bs : List ℕ) → d < 10 → number_from n ((48 + d) ∷ bs) ≡ number_from (n * 10 + d) bs
-digit-step n d bs small =
-    let from : nat_le 48 (48 + d) ≡ true = le-leb 48 (48 + d) (omega arith) in
-    let within : nat_le (48 + d) 57 ≡ true = le-leb (48 + d) 57 (omega (arith, small)) in
-    let same : 48 + d - 48 ≡ d = omega arith in
-    rw (from, within, same) refl
-
-step : (n m now unit : ℕ) (bs : List ℕ) → n * 10 + now / unit % 10 ≡ m → number_from n (digit now unit ∷ bs) ≡ number_from m bs
-step n m now unit bs e =
-    let small : now / unit % 10 < 10 = omega arith in
-    digit-step n (now / unit % 10) bs small ∙ ap (λ k. number_from k bs) e
-
 tick-digits : (now : ℕ) → now < 10000000 → number_from 0 (tick_field now) ≡ Some now
 tick-digits now small =
     let a : 0 * 10 + now / 1000000 % 10 ≡ now / 1000000 = omega (arith, small) in
@@ -39,9 +29,9 @@ tick-digits now small =
     let f : now / 1000 * 10 + now / 100 % 10 ≡ now / 100 = omega arith in
     let g : now / 100 * 10 + now / 10 % 10 ≡ now / 10 = omega arith in
     let h : now / 10 * 10 + now / 1 % 10 ≡ now = omega arith in
-    step 0 (now / 1000000) now 1000000 (digit now 100000 ∷ digit now 10000 ∷ digit now 1000 ∷ digit now 100 ∷ digit now 10 ∷ digit now 1 ∷ []) a ∙ step (now / 1000000) (now / 100000) now 100000 (digit now 10000 ∷ digit now 1000 ∷ digit now 100 ∷ digit now 10 ∷ digit now 1 ∷ []) b ∙ step (now / 100000) (now / 10000) now 10000 (digit now 1000 ∷ digit now 100 ∷ digit now 10 ∷ digit now 1 ∷ []) d
-    ∙ step (now / 10000) (now / 1000) now 1000 (digit now 100 ∷ digit now 10 ∷ digit now 1 ∷ []) e ∙ step (now / 1000) (now / 100) now 100 (digit now 10 ∷ digit now 1 ∷ []) f ∙ step (now / 100) (now / 10) now 10 (digit now 1 ∷ []) g
-    ∙ step (now / 10) now now 1 [] h
+    digit-next now 0 (now / 1000000) 1000000 (digit now 100000 ∷ digit now 10000 ∷ digit now 1000 ∷ digit now 100 ∷ digit now 10 ∷ digit now 1 ∷ []) a ∙ digit-next now (now / 1000000) (now / 100000) 100000 (digit now 10000 ∷ digit now 1000 ∷ digit now 100 ∷ digit now 10 ∷ digit now 1 ∷ []) b ∙ digit-next now (now / 100000) (now / 10000) 10000 (digit now 1000 ∷ digit now 100 ∷ digit now 10 ∷ digit now 1 ∷ []) d
+    ∙ digit-next now (now / 10000) (now / 1000) 1000 (digit now 100 ∷ digit now 10 ∷ digit now 1 ∷ []) e ∙ digit-next now (now / 1000) (now / 100) 100 (digit now 10 ∷ digit now 1 ∷ []) f ∙ digit-next now (now / 100) (now / 10) 10 (digit now 1 ∷ []) g
+    ∙ digit-next now (now / 10) now 1 [] h
 
 tick-number : (now : ℕ) → now < 10000000 → number_of (tick_field now) ≡ Some now
 tick-number now small =
@@ -92,12 +82,6 @@ preempt-read (Some n) known =
 
 -- ## Heads are read by their letters
 
-mapped-at : (f : ℕ → ℕ) (a n k : ℕ) → k < n → get_or (map f (run_from a n)) k 0 ≡ f (a + k)
-unfolding run_from
-mapped-at f a zero k below = absurd (omega (arith, below))
-mapped-at f a (suc n) zero below = ap f (let e : a ≡ a + 0 = omega arith in e)
-mapped-at f a (suc n) (suc k) below = mapped-at f (a + 1) n k (omega (arith, below)) ∙ ap f (let e : a + 1 + k ≡ a + suc k = omega arith in e)
-
 mapped-length : (f : ℕ → ℕ) (a n : ℕ) → length (map f (run_from a n)) ≡ n
 unfolding run_from
 mapped-length f a zero = refl
@@ -109,7 +93,7 @@ head-letter code f n (suc k) from within =
     let whole : length (map f (run_from 1 n)) ≡ n = mapped-length f 1 n in
     let one : 1 + k ≡ suc k = omega arith in
     names-letter code (map f (run_from 1 n)) k (omega (arith, whole, within))
-    ∙ ap (λ (b : ℕ). b == code) (mapped-at f 1 n k (omega (arith, within)) ∙ ap f one)
+    ∙ ap (λ (b : ℕ). b == code) (at-run f 1 n k (omega (arith, within)) ∙ ap f one)
 
 aspect-by : (a : Aspect) → (if letter a == 71 then Green else (if letter a == 89 then Yellow else (if letter a == 82 then Red else (if letter a == 70 then FlashingRed else Dark)))) ≡ a
 aspect-by Dark = refl

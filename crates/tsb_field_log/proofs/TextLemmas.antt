@@ -5,6 +5,7 @@ use Rattle.std.proofs.lemmas.Bool.Decides.{eqb_tells}
 use Rattle.tsb_lines.specs.Lines.{lines_of, without_return, is_skipped, HasNoFeed}
 use Rattle.tsb_lines.specs.Words.{number_from, number_of, at_most}
 use Rattle.tsb_lines.proofs.LineLemmas.{lines-joined}
+use Rattle.tsb_lines.proofs.DigitLemmas.{digit-next}
 use Rattle.tsb_types.specs.Sets.{has_number, number_of_bits}
 use Rattle.tsb_types.specs.declared.number_set.NumberSet.{NumberSet}
 use Rattle.tsb_types.proofs.SetLemmas.{list_of-names_within}
@@ -17,17 +18,6 @@ use Rattle.tsb_field_log.specs.LogText.{digit, tick_digits, mark, marks, set_mar
 use Rattle.tsb_field_log.proofs.ChangeLemmas.{IsRow, AreRows}
 
 -- ## Digits
-
-digit-read : (n d : ℕ) (ds : List ℕ) → d < 10 → number_from n ((48 + d) ∷ ds) ≡ number_from (n * 10 + d) ds
-digit-read n d ds lt =
-    let low : leb 48 (48 + d) ≡ true = le-leb 48 (48 + d) (omega arith) in
-    let high : leb (48 + d) 57 ≡ true = le-leb (48 + d) 57 (omega (arith, lt)) in
-    let same : n * 10 + (48 + d - 48) ≡ n * 10 + d = omega arith in
-    rw (low, high, same) refl
-
--- a digit behind those of the number above it
-digit-next : (t n m unit : ℕ) (ds : List ℕ) → n * 10 + t / unit % 10 ≡ m → number_from n (digit t unit ∷ ds) ≡ number_from m ds
-digit-next t n m unit ds e = digit-read n (t / unit % 10) ds (omega arith) ∙ ap (λ (k : ℕ). number_from k ds) e
 
 ten-millions : (t : ℕ) → t < 10000000 → number_from 0 (tick_digits t) ≡ Some t
 ten-millions t lt =

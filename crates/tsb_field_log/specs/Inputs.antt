@@ -12,6 +12,7 @@ most_inputs Vehicle = 16
 most_inputs Pedestrian = 8
 most_inputs Preempt = 4
 
+-- the kinds are one
 abbrev pub is_same_kind : Kind → Kind → Bool
 is_same_kind Vehicle Vehicle = true
 is_same_kind Vehicle Pedestrian = false

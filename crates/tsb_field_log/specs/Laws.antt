@@ -26,6 +26,7 @@ OnAtSomeMoment from wire tick events =
     ((moment : ℕ) × IsIn from tick moment × (on_at false wire moment events ≡ true))
     ⊎ ((event : InputEvent) × Contains events event × (is_of wire event ≡ true) × (event.on ≡ true) × IsIn from tick event.nanos)
 
+-- every wire is so in every tick, of all events
 abbrev pub AreOnAtSomeMoment : Type 0
 AreOnAtSomeMoment = (from : ℕ) (wire : Wire) (tick : ℕ) (events : List InputEvent) → 1 ≤ tick
     → (is_on_in from wire tick events ≡ true) ↔ OnAtSomeMoment from wire tick events

@@ -2,8 +2,8 @@
 use Rattle.std.proofs.Common.{◌≡◌, ℕ, ◌+◌, ◌-◌, ◌*◌, ◌/◌, ◌<◌, ◌≤◌, nat_lt, Bool, true, false, not, List, [], ◌∷◌, ◌++◌, length, length-append, refl, sym, ap, ◌∙◌, arith, subst, Some, Result, Ok, Err, inl, inr, if◌then◌else◌}
 use Rattle.std.proofs.Math.Nat.{div-mul-le_self}
 use Rattle.std.proofs.lemmas.Nat.{le-div}
-use Rattle.std.proofs.lemmas.Bool.{lt-ltb}
-use Rattle.std.proofs.lemmas.Bool.Decides.{leb_tells, nat_tests}
+use Rattle.std.proofs.lemmas.Bool.{lt-ltb, le-ltb}
+use Rattle.std.proofs.lemmas.Bool.Decides.{leb_tells}
 use Rattle.tsb_types.specs.declared.limits.TheConstants.{TICKS}
 use Rattle.tsb_event_text.specs.declared.rows.EventRow.{EventRow}
 use Rattle.tsb_field_log.specs.declared.inputs.Wire.{Wire}
@@ -30,9 +30,6 @@ none_known from wires = refl
 
 -- ## Moments
 
-not-below : (a b : ℕ) → b ≤ a → nat_lt a b ≡ false
-not-below a b le = grind (arith, nat_tests, le)
-
 quotients : (a b : ℕ) → a ≤ b → a / 100000000 ≤ b / 100000000
 quotients a b le =
     let low : a / 100000000 * 100000000 ≤ a = div-mul-le_self a 100000000 in
@@ -45,7 +42,7 @@ ticks-follow from a b le = elim (leb_tells from a) [
   | inl in_a ↦
       let there : from ≤ b = (let h : from ≤ a = in_a.1 in omega (arith, h, le)) in
       let q : (a - from) / 100000000 ≤ (b - from) / 100000000 = quotients (a - from) (b - from) (omega (arith, le)) in
-      rw (not-below a from in_a.1, not-below b from there) (omega (arith, q))
+      rw (le-ltb a from in_a.1, le-ltb b from there) (omega (arith, q))
 ]
 
 -- a row that is no earlier than the last moves the moment on
@@ -78,12 +75,12 @@ within from wires es e field t =
 pub event-large : (g : Given) (s : Stand) (e : InputEvent) (field : Field) → HasTaken g.from g.wires (s.events ++ e ∷ []) field
     → MOST_ROWS < length (rows_before g.from g.wires (s.events ++ e ∷ [])) → with_event g s e ≡ Err LogTooLarge
 event-large g s e field t large =
-    rw (not-below TICKS (tick_at g.from e.nanos) (within g.from g.wires s.events e field t), lt-ltb MOST_ROWS (length (rows_before g.from g.wires (s.events ++ e ∷ []))) large) refl
+    rw (le-ltb TICKS (tick_at g.from e.nanos) (within g.from g.wires s.events e field t), lt-ltb MOST_ROWS (length (rows_before g.from g.wires (s.events ++ e ∷ []))) large) refl
 
 pub event-taken : (g : Given) (s : Stand) (e : InputEvent) (field : Field) → HasTaken g.from g.wires (s.events ++ e ∷ []) field
     → length (rows_before g.from g.wires (s.events ++ e ∷ [])) ≤ MOST_ROWS → with_event g s e ≡ Ok (record s { events = s.events ++ e ∷ [] })
 event-taken g s e field t few =
-    rw (not-below TICKS (tick_at g.from e.nanos) (within g.from g.wires s.events e field t), not-below MOST_ROWS (length (rows_before g.from g.wires (s.events ++ e ∷ []))) few) refl
+    rw (le-ltb TICKS (tick_at g.from e.nanos) (within g.from g.wires s.events e field t), le-ltb MOST_ROWS (length (rows_before g.from g.wires (s.events ++ e ∷ []))) few) refl
 
 -- how many rows are known behind it
 pub known-then : (g : Given) (s : Stand) (e : InputEvent) (f : Filter) (rows : Rows) (known : ℕ) → StandsAt g s f
@@ -108,7 +105,7 @@ pub row-takes : (g : Given) (number : ℕ) (s : Stand) (row : EventRow) (signal 
     → signal_of row.code ≡ Some signal → Takes g (record s { last = row.moment.nanos }) (with_signal g (record s { last = row.moment.nanos }) row (Some signal)) given f
     → Takes g s (with_row g number s row) given f
 row-takes g number s row signal given f ours later told takes =
-    let in_order : nat_lt row.moment.nanos s.last ≡ false = not-below row.moment.nanos s.last later in
+    let in_order : nat_lt row.moment.nanos s.last ≡ false = le-ltb row.moment.nanos s.last later in
     let is : with_row g number s row ≡ with_signal g (record s { last = row.moment.nanos }) row (Some signal) =
     ap (λ (o : Bool). if not o then Ok (record s { others = one_more s.others }) else if nat_lt row.moment.nanos s.last then Err (TimeOrder number) else with_signal g (record s { last = row.moment.nanos }) row (signal_of row.code)) ours
     ∙ ap (λ (b : Bool). if b then Err (TimeOrder number) else with_signal g (record s { last = row.moment.nanos }) row (signal_of row.code)) in_order

@@ -1,3 +1,4 @@
 pub mod LineLemmas
 pub mod WordLemmas
 pub mod LawLemmas
+pub mod DigitLemmas

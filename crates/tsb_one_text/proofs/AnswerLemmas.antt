@@ -1,6 +1,6 @@
 -- Two right answers to one command are the same, or one of them is that memory ran out.
 use Rattle.std.proofs.Common.{◌≡◌, ◌⊎◌, ℕ, ◌<◌, ◌≤◌, Bool, true, false, nat_lt, List, [], ◌∷◌, Option, Some, None, refl, sym, ap, ◌∙◌, arith, inl, inr}
-use Rattle.std.proofs.lemmas.Bool.Decides.{nat_tests}
+use Rattle.std.proofs.lemmas.Bool.{lt-ltb, le-ltb}
 use Rattle.tsb_types.specs.declared.refusal.Refusal.{Refusal}
 use Rattle.tsb_types.specs.declared.refusal.Refusal.TheVariants.{Memory, NoSuchObject, OutOfRange, Busy, NotOwner, NotOpen, NotVerified, TooManyEdits, NoSuchPattern, NoSuchPreempt, TickLimit, InService}
 use Rattle.tsb_types.specs.declared.watch.Watch.{Watch}
@@ -98,23 +98,17 @@ abbrev going : Bool → Answer
 going true = Nothing
 going false = Moved
 
-is-ahead : (now t : ℕ) → now < t → nat_lt now t ≡ true
-is-ahead now t h = grind (arith, nat_tests)
-
-is-behind : (now t : ℕ) → t ≤ now → nat_lt now t ≡ false
-is-behind now t h = grind (arith, nat_tests)
-
 back-answer : (plan : Plan) (is : List Input) (n : ℕ) (a : Answer) → IsRight plan is (Back n) a → a ≡ going (nat_lt (replay plan is).now n)
-back-answer plan is n Moved r = sym (ap going (is-behind (replay plan is).now n r))
-back-answer plan is n Nothing r = sym (ap going (is-ahead (replay plan is).now n r))
+back-answer plan is n Moved r = sym (ap going (le-ltb (replay plan is).now n r))
+back-answer plan is n Nothing r = sym (ap going (lt-ltb (replay plan is).now n r))
 back-answer plan is n Took r = absurd r
 back-answer plan is n (Refused e) r = absurd r
 back-answer plan is n (Undone k) r = absurd r
 back-answer plan is n (Changed t) r = absurd r
 
 seek-answer : (plan : Plan) (is : List Input) (t : ℕ) (a : Answer) → IsRight plan is (Seek t) a → a ≡ going (nat_lt (replay plan is).now t)
-seek-answer plan is t Moved r = sym (ap going (is-behind (replay plan is).now t r))
-seek-answer plan is t Nothing r = sym (ap going (is-ahead (replay plan is).now t r))
+seek-answer plan is t Moved r = sym (ap going (le-ltb (replay plan is).now t r))
+seek-answer plan is t Nothing r = sym (ap going (lt-ltb (replay plan is).now t r))
 seek-answer plan is t Took r = absurd r
 seek-answer plan is t (Refused e) r = absurd r
 seek-answer plan is t (Undone k) r = absurd r

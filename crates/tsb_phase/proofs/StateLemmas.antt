@@ -15,6 +15,7 @@ use Rattle.tsb_types.specs.declared.interval.PedestrianInterval.TheVariants.{Don
 use Rattle.tsb_types.specs.Intervals.{is_green, is_yellow, is_red_clear, is_walk, is_clearance, is_dont_walk, in_service}
 use Rattle.tsb_types.specs.Lists.{run_from}
 use Rattle.tsb_types.specs.Sets.{names, list_of, list_in, is_phase}
+use Rattle.tsb_types.proofs.RunLemmas.{at-run}
 use Rattle.tsb_types.proofs.SetLemmas.{names-list_of, list_of-below}
 use Rattle.tsb_types.proofs.ClipLemmas.{IsAmong, among_16}
 use Rattle.tsb_phase.specs.declared.TheConstants.{CELLS}
@@ -156,12 +157,6 @@ column f = map f (run_from 1 16)
 long-column : (f : ℕ → ℕ) → length (column f) ≡ 16
 unfolding column run_from
 long-column f = refl
-
-at-run : (f : ℕ → ℕ) (a n k : ℕ) → k < n → get_or (map f (run_from a n)) k 0 ≡ f (a + k)
-unfolding run_from
-at-run f a zero k below = absurd (omega arith)
-at-run f a (suc n) zero below = let e : a ≡ a + 0 = omega arith in ap f e
-at-run f a (suc n) (suc k) below = at-run f (a + 1) n k (omega arith) ∙ ap f (let e : a + 1 + k ≡ a + suc k = omega arith in e)
 
 -- the column behind the first n cells has in cell k what it has of phase p
 at-column : (xs : List ℕ) (f : ℕ → ℕ) (n k p : ℕ) → length xs ≡ n → k + 1 ≡ n + p → 1 ≤ p → p ≤ 16 → get_or (xs ++ column f) k 0 ≡ f p

@@ -18,7 +18,8 @@ use Rattle.tsb_ring.proofs.MoveLemmas.{and_three}
 use Rattle.tsb_ring.proofs.WaitLemmas.{cond_is, first-passes}
 use Rattle.tsb_ring.proofs.WantLemmas.{first-among}
 use Rattle.tsb_ring.proofs.EntryLemmas.{cross_is}
-use Rattle.tsb_step.proofs.GivenLemmas.{listed_is_phase, among-run}
+use Rattle.tsb_types.proofs.RunLemmas.{among-run}
+use Rattle.tsb_step.proofs.GivenLemmas.{listed_is_phase}
 
 -- ## Lists
 

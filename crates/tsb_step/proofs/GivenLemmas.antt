@@ -5,6 +5,7 @@ use Rattle.std.proofs.lemmas.Bool.{cases_eq, cases_Bool, eqb-true, eq-eqb, true�
 use Rattle.std.proofs.lemmas.Bool.Decides.{nat_tests}
 use Rattle.tsb_types.specs.declared.row.Row.{Row}
 use Rattle.tsb_types.specs.Lists.{run_from, among}
+use Rattle.tsb_types.proofs.RunLemmas.{among-run}
 use Rattle.tsb_plan.specs.declared.object.Object.TheVariants.{PhaseEnabled, PhaseRing}
 use Rattle.tsb_plan.specs.Parts.{is_used}
 use Rattle.tsb_plan.specs.Plan.{Plan, is_enabled, sequence}
@@ -34,19 +35,6 @@ listed_is_phase plan p h =
     let from : 1 ≤ found.one = found.from in
     let below : found.one < 1 + plan.phase_count = found.below in
     record { from_one = omega (arith, same, from); within = omega (arith, same, below) }
-
-pub among-run : (p a n : ℕ) → a ≤ p → p < a + n → among p (run_from a n) ≡ true
-unfolding run_from
-among-run p a zero from below = absurd (omega arith)
-among-run p a (suc n) from below =
-    elim (cases_eq a p) [
-      | inl same ↦ (let here : (a == p) ≡ true = eq-eqb a p same in rw here refl)
-      | inr apart ↦ (let later : among p (run_from (a + 1) n) ≡ true = among-run p (a + 1) n (omega arith) (omega arith) in or_right (a == p) _ later)
-    ]
-  where
-    or_right : (x y : Bool) → y ≡ true → (x || y) ≡ true
-    or_right true y h = refl
-    or_right false y h = h
 
 pub phase_is_listed : (plan : Plan) (p : ℕ) → IsPhase plan p → IsListed plan p
 phase_is_listed plan p h =

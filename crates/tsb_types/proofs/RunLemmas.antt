@@ -1,9 +1,9 @@
 -- Runs of numbers.
-use Rattle.std.proofs.Common.{zero, suc, ◌≡◌, ℕ, ◌+◌, ◌<◌, List, [], ◌∷◌, length, get_or, map, refl, arith, ap, ◌∙◌, Bool, true, false, ◌≤◌, inl, inr, ◌-◌, sum_by, sym}
+use Rattle.std.proofs.Common.{zero, suc, ◌≡◌, ℕ, ◌+◌, ◌<◌, ◌==◌, List, [], ◌∷◌, length, get_or, map, refl, arith, ap, ◌∙◌, Bool, true, false, ◌≤◌, inl, inr, ◌-◌, sum_by, sym}
 use Rattle.std.specs.List.{list_all}
-use Rattle.std.proofs.lemmas.Bool.{cases_eq}
+use Rattle.std.proofs.lemmas.Bool.{cases_eq, eq-eqb, or_right}
 use Rattle.std.proofs.lemmas.List.Sums.{sum_by-cons}
-use Rattle.tsb_types.specs.Lists.{run_from}
+use Rattle.tsb_types.specs.Lists.{run_from, among}
 
 pub length-run_from : (a n : ℕ) → length (run_from a n) ≡ n
 unfolding run_from
@@ -71,3 +71,20 @@ map-same f g a zero same = refl
 map-same f g a (suc n) same =
     let rest : map f (run_from (a + 1) n) ≡ map g (run_from (a + 1) n) = map-same f g (a + 1) n (λ k from below. same k (omega arith) (omega arith)) in
     ap (λ (y : ℕ). y ∷ map f (run_from (a + 1) n)) (same a (omega arith) (omega arith)) ∙ ap (λ (ys : List ℕ). g a ∷ ys) rest
+
+-- what a function gives for each number of a run
+pub at-run : (f : ℕ → ℕ) (a n k : ℕ) → k < n → get_or (map f (run_from a n)) k 0 ≡ f (a + k)
+unfolding run_from
+at-run f a zero k below = absurd (omega arith)
+at-run f a (suc n) zero below = let e : a ≡ a + 0 = omega arith in ap f e
+at-run f a (suc n) (suc k) below = at-run f (a + 1) n k (omega arith) ∙ ap f (let e : a + 1 + k ≡ a + suc k = omega arith in e)
+
+-- a number within a run is one of it
+pub among-run : (p a n : ℕ) → a ≤ p → p < a + n → among p (run_from a n) ≡ true
+unfolding run_from
+among-run p a zero from below = absurd (omega arith)
+among-run p a (suc n) from below =
+    elim (cases_eq a p) [
+      | inl same ↦ (let here : (a == p) ≡ true = eq-eqb a p same in rw here refl)
+      | inr apart ↦ (let later : among p (run_from (a + 1) n) ≡ true = among-run p (a + 1) n (omega arith) (omega arith) in or_right (a == p) _ later)
+    ]

@@ -6,11 +6,12 @@ use Rattle.tsb_types.specs.declared.number_set.NumberSet.{NumberSet}
 use Rattle.tsb_types.specs.declared.phase_set.PhaseSet.{PhaseSet}
 use Rattle.tsb_types.specs.Sets.{names, has_number, has, number_of_bits, list_of}
 
-lowest : (b : Bool) (m : ℕ) → (((if b then 1 else 0) + 2 * m) % 2 == 1) ≡ b
+-- the lowest bit of a word, and the word without it
+pub lowest : (b : Bool) (m : ℕ) → (((if b then 1 else 0) + 2 * m) % 2 == 1) ≡ b
 lowest true m = let e : (1 + 2 * m) % 2 ≡ 1 = omega arith in rw e refl
 lowest false m = let e : (0 + 2 * m) % 2 ≡ 0 = omega arith in rw e refl
 
-higher : (b : Bool) (m : ℕ) → ((if b then 1 else 0) + 2 * m) / 2 ≡ m
+pub higher : (b : Bool) (m : ℕ) → ((if b then 1 else 0) + 2 * m) / 2 ≡ m
 higher true m = omega arith
 higher false m = omega arith
 
