@@ -5,7 +5,8 @@ use Rattle.tsb_plan.specs.Plan.{Plan, is_concurrent}
 use Rattle.tsb_calls.specs.Memories.{Memories, Given, calls, calls_walk, has_output, actuations, has_button, vehicle_memory, pedestrian_memory, counted}
 use Rattle.tsb_calls.specs.Callable.{has_pedestrian_call, is_callable_otherwise, some_is_callable_otherwise, is_callable, has_conflict}
 use Rattle.tsb_calls.specs.Settled.{Done, vehicle_after, pedestrian_after, count_after, settled}
-use Rattle.tsb_calls.specs.Looks.{AgreeOnPhases, AreAlike, AgreeOnMoves, LooksOnlyAtItsOwn}
+use Rattle.tsb_calls.specs.Looks as calls
+use Rattle.tsb_calls.specs.Looks.{AgreeOnPhases, AreAlike, AgreeOnMoves}
 use Rattle.tsb_objects.proofs.PassLemmas.{pass-same}
 use Rattle.tsb_calls.proofs.CountLemmas.{count-same}
 
@@ -90,7 +91,7 @@ settled-alike d e f k m n moved walks same = record {
     count : (p : ℕ) → d.ends p ≡ e.ends p → m.count p ≡ n.count p → count_after d m.count p ≡ count_after e n.count p
     count p a b = rw (a, b) refl
 
-pub look-alike : LooksOnlyAtItsOwn
+pub look-alike : calls.LooksOnlyAtItsOwn
 look-alike plan g h few alike = record {
   sets = λ v w same. record {
     vehicle = vehicle-alike plan g h alike v w same;

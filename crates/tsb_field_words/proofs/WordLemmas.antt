@@ -9,16 +9,17 @@ use Rattle.clap.specs.declared.error.Error.{Error}
 use Rattle.clap.specs.declared.error.kind.ErrorKind.{ErrorKind}
 use Rattle.clap.specs.declared.error.kind.ErrorKind.TheVariants.{OutOfMemory}
 use Rattle.clap.proofs.OnLiterals.{clap_on_literals}
+use Rattle.tsb_field_words.specs.Program as field
 use Rattle.tsb_field_words.specs.Program.{asked_by, asked_where, program, words_fault}
 use Rattle.tsb_field_words.specs.Words.{SpelledBy, Wish}
 use Rattle.tsb_field_words.specs.declared.words.Asked.{Asked}
 use Rattle.tsb_field_words.specs.declared.words.WordsError.{WordsError}
 
-pub is-simple : is_simple program ≡ true
+pub is-simple : is_simple field.program ≡ true
 unfolding clap_on_literals
 is-simple = refl
 
-pub is-simple-and-free : is_simple_and_free program ≡ true
+pub is-simple-and-free : is_simple_and_free field.program ≡ true
 unfolding clap_on_literals
 is-simple-and-free = refl
 
@@ -28,7 +29,7 @@ pub spelled : (kinds : Kinds) (met : Option (Text × List Row)) (answer : Result
 spelled [] met answer none answered = answered
 spelled (k ∷ ks) met answer none answered = absurd (cc)
 
-answers-error : (wish : Option Wish) (k : ErrorKind) → wish ≡ None → SpelledBy wish (Err (words_fault k))
+answers-error : (wish : Option Wish) (k : ErrorKind) → wish ≡ None → SpelledBy wish (Err (field.words_fault k))
 answers-error wish OutOfMemory none = tt
 answers-error wish k none = none
 

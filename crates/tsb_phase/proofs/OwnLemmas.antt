@@ -12,7 +12,8 @@ use Rattle.tsb_phase.specs.Pedestrian.{ended_by, pedestrian_after, pedestrian_no
 use Rattle.tsb_phase.specs.Ready.{is_gapped_now, is_ready, green_is_done}
 use Rattle.tsb_phase.specs.Next.{next, held_now, interval_after, new_interval, new_timer}
 use Rattle.tsb_phase.specs.Moves.{ended, started_by}
-use Rattle.tsb_phase.specs.Laws.{AgreeOnPhases, MoveAlike, LooksOnlyAtItsOwn}
+use Rattle.tsb_phase.specs.Laws as phases
+use Rattle.tsb_phase.specs.Laws.{AgreeOnPhases, MoveAlike}
 
 module _ (plan : Plan) (g h : Given) (count : plan.phase_count ≤ 16) (same : AgreeOnPhases g h) (p : ℕ) (from : 1 ≤ p) (to : p ≤ 16) where
   cars-same : cars_waiting plan g p ≡ cars_waiting plan h p
@@ -124,7 +125,7 @@ next-same : (plan : Plan) (g h : Given) → plan.phase_count ≤ 16 → AgreeOnP
 next-same plan g h count same p from to moved other was alike =
     read-same plan g h count same p from to moved was ∙ moved-alike plan h moved other p was alike
 
-pub looks_only : LooksOnlyAtItsOwn
+pub looks_only : phases.LooksOnlyAtItsOwn
 looks_only plan g h count same p from to = record {
   ready = ready-same plan g h count same p from to;
   gapped = gapped_now-same plan g h count same p from to;
