@@ -19,10 +19,11 @@ numbers_with test = filter test (run_from 1 16)
 abbrev pub told : ℕ → ℕ → (ℕ → Bool) → List DisplayEvent
 told tick code test = map (λ n. event tick code n) (numbers_with test)
 
--- what begins, and what ends: now it is and it was not, and the other way
+-- what begins: now it is, and it was not
 abbrev pub begins : (ℕ → Bool) → (ℕ → Bool) → ℕ → Bool
 begins was is_now n = is_now n && not (was n)
 
+-- what ends: it was, and now it is not
 abbrev pub ends : (ℕ → Bool) → (ℕ → Bool) → ℕ → Bool
 ends was is_now n = begins is_now was n
 
@@ -32,24 +33,27 @@ either one other n = one n || other n
 
 -- ## What heads show
 
--- vehicle heads of phases
+-- the vehicle head of the phase is green
 abbrev pub is_green : Signals → ℕ → Bool
 is_green s p = has_number s.vehicles.greens p
 
+-- it is yellow
 abbrev pub is_yellow : Signals → ℕ → Bool
 is_yellow s p = has_number s.vehicles.yellows p
 
--- pedestrian heads
+-- the pedestrian head of the phase shows walk
 abbrev pub is_walk : Signals → ℕ → Bool
 is_walk s p = has_number s.pedestrians.walks p
 
+-- it shows clearance
 abbrev pub is_clearance : Signals → ℕ → Bool
 is_clearance s p = has_number s.pedestrians.clearances p
 
--- heads of overlaps
+-- the head of the overlap is green
 abbrev pub is_overlap_green : Signals → ℕ → Bool
 is_overlap_green s o = has_number s.overlaps.greens o
 
+-- it is yellow
 abbrev pub is_overlap_yellow : Signals → ℕ → Bool
 is_overlap_yellow s o = has_number s.overlaps.yellows o
 

@@ -16,24 +16,27 @@ lit_after says lit (e ∷ es) = lit_after says (said_or (says e) lit) es
 abbrev pub says_at : (ℕ → Option Bool) → ℕ → DisplayEvent → Option Bool
 says_at by_code n e = if e.parameter == n then by_code e.code else None
 
--- what codes say of the green and of the yellow of a vehicle head
+-- what a code says of the green of a vehicle head
 abbrev pub says_green : ℕ → Option Bool
 says_green code = if code == 1 then Some true else (if code == 7 then Some false else None)
 
+-- of its yellow
 abbrev pub says_yellow : ℕ → Option Bool
 says_yellow code = if code == 8 then Some true else (if code == 9 then Some false else None)
 
--- of the walk and of the clearance of a pedestrian head
+-- of the walk of a pedestrian head
 abbrev pub says_walk : ℕ → Option Bool
 says_walk code = if code == 21 then Some true else (if code == 22 then Some false else (if code == 23 then Some false else None))
 
+-- of its clearance
 abbrev pub says_clearance : ℕ → Option Bool
 says_clearance code = if code == 21 then Some false else (if code == 22 then Some true else (if code == 23 then Some false else None))
 
--- of the green and of the yellow of an overlap
+-- of the green of an overlap
 abbrev pub says_overlap_green : ℕ → Option Bool
 says_overlap_green code = if code == 61 then Some true else (if code == 63 then Some false else (if code == 65 then Some false else None))
 
+-- of its yellow
 abbrev pub says_overlap_yellow : ℕ → Option Bool
 says_overlap_yellow code = if code == 61 then Some false else (if code == 63 then Some true else (if code == 65 then Some false else None))
 

@@ -48,6 +48,7 @@ is_spelled letters field = list_all (λ b. among b letters) field
 abbrev pub is_preempt : ℕ → Bool
 is_preempt b = nat_le 48 b && nat_le b 52
 
+-- the preempt that such a digit tells
 abbrev pub preempt_of : ℕ → Option ℕ
 preempt_of b = if b == 48 then None else Some (b - 48)
 

@@ -58,10 +58,11 @@ no_line = record { tick = 0; signals = nothing_lit }
 
 -- ## Histories
 
--- the changes that it keeps, and the last tick
+-- the changes that it keeps
 abbrev pub changes_in : History → List Shown
 changes_in history = history.changes.items
 
+-- the last tick that it keeps
 abbrev pub last_in : History → Option ℕ
 last_in history = history.last
 

@@ -12,10 +12,11 @@ use Rattle.tsb_field_display.specs.declared.shown.VehicleHeads.{VehicleHeads}
 use Rattle.tsb_field_display.specs.declared.shown.PedestrianHeads.{PedestrianHeads}
 use Rattle.tsb_field_display.specs.declared.shown.Signals.{Signals}
 
--- no head is lit
+-- no vehicle head is lit
 abbrev pub dark_vehicles : VehicleHeads
 dark_vehicles = record { greens = set_of_list 0; yellows = set_of_list 0; reds = set_of_list 0; flashing = set_of_list 0 }
 
+-- no pedestrian head is lit
 abbrev pub dark_pedestrians : PedestrianHeads
 dark_pedestrians = record { walks = set_of_list 0; clearances = set_of_list 0; dont_walks = set_of_list 0 }
 
@@ -31,6 +32,7 @@ aspect_of heads n =
     (if has_number heads.reds n then Red else
     (if has_number heads.flashing n then FlashingRed else Dark)))
 
+-- what the pedestrian head of this number shows, by the set that it is in
 abbrev pub pedestrian_aspect_of : PedestrianHeads → ℕ → PedestrianAspect
 pedestrian_aspect_of heads n =
     if has_number heads.walks n then pedestrian_aspects.Walk else
@@ -44,14 +46,17 @@ pub record AreApart (s : Signals) : Type 0 where
 
 -- ## Whether two show the same
 
+-- the same numbers are in both
 abbrev pub is_same_set : NumberSet → NumberSet → Bool
 is_same_set one other = one.word == other.word
 
+-- the same vehicle heads show each colour
 abbrev pub are_same_vehicles : VehicleHeads → VehicleHeads → Bool
 are_same_vehicles one other =
     is_same_set one.greens other.greens && (is_same_set one.yellows other.yellows
     && (is_same_set one.reds other.reds && is_same_set one.flashing other.flashing))
 
+-- the same pedestrian heads show each signal
 abbrev pub are_same_pedestrians : PedestrianHeads → PedestrianHeads → Bool
 are_same_pedestrians one other =
     is_same_set one.walks other.walks

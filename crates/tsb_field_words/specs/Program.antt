@@ -42,14 +42,17 @@ shape_with name rules = record (new_shape name) { rules = rules }
 abbrev pub wire_rules : List Rule
 wire_rules = repeated_rule (codes "vehicle") ∷ repeated_rule (codes "pedestrian") ∷ repeated_rule (codes "preempt") ∷ []
 
+-- the words of `log`
 abbrev pub log_shape : Shape
 log_shape = shape_with (codes "log")
     (required_rule (codes "from") ∷ option_rule (codes "device") ∷ wire_rules)
 
+-- those of `events`
 abbrev pub events_shape : Shape
 events_shape = shape_with (codes "events")
     (required_rule (codes "from") ∷ required_rule (codes "device") ∷ option_rule (codes "log") ∷ [])
 
+-- those of `diagram`
 abbrev pub diagram_shape : Shape
 diagram_shape = shape_with (codes "diagram")
     (option_rule (codes "log") ∷ option_rule (codes "title") ∷ option_rule (codes "seconds-per-line") ∷ [])
