@@ -6,8 +6,13 @@ use Rattle.tsb_field_log.specs.Pushed.{last_tick, rows_before}
 use Rattle.tsb_field_log.specs.Taken.{HasTaken}
 use Rattle.tsb_field_streams.specs.declared.error.FilterError.{FilterError}
 use Rattle.tsb_field_streams.specs.declared.filter.Filter.{Filter}
+use Rattle.tsb_field_streams.specs.declared.filter.LeftOut.{LeftOut}
 use Rattle.tsb_field_streams.specs.declared.filter.TheConstants.{MOST_ROWS}
 use Rattle.tsb_field_streams.specs.Filtering.{Given, Stand}
+
+-- what a filter left out so far
+abbrev pub left_out_of : Filter → LeftOut
+left_out_of f = f.left_out
 
 -- a filter has come to this
 pub record StandsAt (g : Given) (s : Stand) (f : Filter) : Type 0 where

@@ -48,7 +48,7 @@ const NO_ROWS: Rows = Rows {
 };
 
 impl Filter {
-    ghost use Rattle.tsb_field_streams.specs.Standing.{StandsAt, Takes};
+    ghost use Rattle.tsb_field_streams.specs.Standing.{StandsAt, Takes, left_out_of};
 
     /// Before the first line. The field has taken no event yet.
     #[tactic(auto, using(crate::proofs::FilterLemmas::none_known))]
@@ -192,11 +192,12 @@ impl Filter {
         Ok(rows)
     }
 
-    /// The rows that become known at the end of all lines. The error is `LogTooLarge`.
+    /// The rows that become known at the end of all lines. What was left out stays. The error is `LogTooLarge`.
     pub fn finish(&mut self) -> Result<Rows, FilterError>
         ensures whole { (g : Given) (s : Stand) → StandsAt g s self.old → MatchResult result
             (λ rows. rows_before g.from g.wires s.events ++ rows_in rows ≡ rows_of (row_in g.from g.wires s.events))
             (λ e. (e ≡ LogTooLarge) × (MOST_ROWS < length (rows_of (row_in g.from g.wires s.events)))) }
+        ensures counts { left_out_of self.new ≡ left_out_of self.old }
     {
         let rows = self.field.finish();
         if !self.has_room(rows) {
@@ -214,7 +215,8 @@ impl Filter {
 
     /// What was left out so far.
     pub fn left_out(&self) -> LeftOut
-        ensures { (g : Given) (s : Stand) → StandsAt g s self.now → result ≡ record { of_other_devices = s.others; without_input = s.unwired } }
+        ensures counts { result ≡ left_out_of self.now }
+        ensures stands { (g : Given) (s : Stand) → StandsAt g s self.now → result ≡ record { of_other_devices = s.others; without_input = s.unwired } }
     {
         self.left_out
     }
