@@ -26,11 +26,13 @@ impl History {
         }
     }
 
-    /// Takes a further line. Where memory runs out, what it takes back is gone, and the line does not stand.
+    /// Takes a further line. Where memory runs out, the changes that it takes back are gone, the last tick is as it was, and
+    /// the line does not stand: no further line is taken then.
     pub fn push(&mut self, shown: Shown) -> Result<(), AllocError>
         ensures ok { (lines : List Shown) → Keeps self.old lines → OnOk result (Keeps self.new (lines ++ shown ∷ [])) }
         ensures err { (lines : List Shown) → Keeps self.old lines →
             OnErr result (changes_in self.new ≡ before_tick shown.tick (changes_in self.old)) }
+        ensures last { OnErr result (last_in self.new ≡ last_in self.old) }
     {
         let count = count_before(&self.changes, shown.tick);
         self.changes.truncate(count);
