@@ -5,11 +5,9 @@ ghost use Rattle.tsb_field_display.specs.Reading.{heads_with, is_display, is_loc
 ghost use Rattle.tsb_field_display.specs.Shows.{AreApart};
 
 use crate::shown::{PedestrianHeads, Shown, Signals, VehicleHeads};
+use tsb_display_text::WIDTH;
 use tsb_lines::number;
 use tsb_types::NumberSet;
-
-/// The length of a display line, in bytes.
-pub const WIDTH: usize = 53;
 
 /// What a display line shows, or `None` where the line is none: a display line has 53 bytes, with a space between its
 /// fields, and digits and letters in their places. Any other answer of a session is none.
