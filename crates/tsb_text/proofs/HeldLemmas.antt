@@ -13,6 +13,7 @@ use Rattle.tsb_text.specs.declared.talk.Flow.{Flow}
 use Rattle.tsb_text.specs.declared.talk.Flow.TheVariants.{On, Over}
 use Rattle.tsb_text.specs.Ended.{Quits}
 use Rattle.tsb_text.specs.Talk.{Holds, HeldAfter}
+use Rattle.tsb_streams.proofs.StreamLemmas.{front-more}
 use Rattle.tsb_text.proofs.TextLemmas.{reading-returned}
 
 pub holds-start : (held : List ℕ) → held ≡ [] → Holds [] held
@@ -91,10 +92,6 @@ holds-line (Ok Over) bytes held new asked line h reads is empty over = quits-lin
 holds-line (Err e) bytes held new asked line h reads is empty over = tt
 
 -- ## A piece
-
-pub front-more : (h bytes : List ℕ) (i x : ℕ) → i < length bytes → x ≡ get_or bytes i 0 → (h ++ take i bytes) ++ x ∷ [] ≡ h ++ take (i + 1) bytes
-front-more h bytes i x lt is =
-    append_assoc h (take i bytes) (x ∷ []) ∙ ap (λ (v : List ℕ). h ++ v) (ap (λ (y : ℕ). take i bytes ++ y ∷ []) is ∙ sym (take_more bytes i 0 lt))
 
 pub holding-start : (bytes piece held : List ℕ) → Holds bytes held → Holds (bytes ++ take 0 piece) held
 holding-start bytes piece held h = subst (λ (v : List ℕ). Holds v held) (sym (append-nil bytes)) h

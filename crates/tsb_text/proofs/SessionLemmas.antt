@@ -7,6 +7,7 @@ use Rattle.std.specs.Io.KnownBytes.{Consumes, Keeps, IsAtEnd}
 use Rattle.tsb_step.specs.declared.inputs.Input.{Input}
 use Rattle.tsb_step.specs.Past.{Whole}
 use Rattle.tsb_bench.specs.Held.{Held, whole}
+use Rattle.tsb_streams.proofs.StreamLemmas.{consumes-kept, consumes-more, consumes-nothing}
 use Rattle.tsb_lines.specs.Lines.{HasNoFeed}
 use Rattle.tsb_log_text.specs.declared.log.LogRow.{LogRow}
 use Rattle.tsb_text.specs.declared.error.SessionError.{SessionError}
@@ -23,22 +24,6 @@ use Rattle.tsb_text.proofs.TextLemmas.{some-text}
 use Rattle.tsb_text.proofs.HeldLemmas.{holds-start}
 use Rattle.tsb_text.proofs.TalkLemmas.{joined}
 use Rattle.tsb_text.proofs.WrittenLemmas.{said-nothing, said-more}
-
-consumes-nothing : (a : Option (List ℕ)) → Consumes a a []
-consumes-nothing None = tt
-consumes-nothing (Some xs) = refl
-
-consumes-more : (a b c : Option (List ℕ)) (x y : List ℕ) → Consumes a b x → Consumes b c y → Consumes a c (x ++ y)
-consumes-more None b c x y h k = tt
-consumes-more (Some xs) None c x y h k = absurd h
-consumes-more (Some xs) (Some ys) None x y h k = absurd k
-consumes-more (Some xs) (Some ys) (Some zs) x y h k = h ∙ ap (λ (v : List ℕ). x ++ v) k ∙ sym (append_assoc x y zs)
-
-consumes-kept : (a b c : Option (List ℕ)) (x : List ℕ) → Consumes a b x → Keeps b c → Consumes a c x
-consumes-kept None b c x h k = tt
-consumes-kept (Some xs) None c x h k = absurd h
-consumes-kept (Some xs) (Some ys) None x h k = absurd k
-consumes-kept (Some xs) (Some ys) (Some zs) x h k = h ∙ ap (λ (v : List ℕ). x ++ v) (sym k)
 
 pub going-start : (given : Setup) (log : List LogRow) (bench : Whole) (held : List ℕ) (i o : Option (List ℕ)) (waits : List ℕ) → held ≡ [] → waits ≡ [] → Stands given log bench [] → Going given log bench held 16777216 i i o o waits
 going-start given log bench held i o waits empty none stands = record {

@@ -22,7 +22,7 @@ use Rattle.tsb_text.specs.Talk.{Stands, Done, Obeyed, Went, Finished}
 use Rattle.tsb_text.specs.Written.{Said, Wrote, with_feed}
 use Rattle.tsb_text.proofs.TextLemmas.{some-answered, text-cut}
 use Rattle.tsb_text.proofs.WrittenLemmas.{said-nothing, said-more}
-use Rattle.tsb_text.proofs.HeldLemmas.{front-more}
+use Rattle.tsb_streams.proofs.StreamLemmas.{front-more}
 
 -- ## A line
 

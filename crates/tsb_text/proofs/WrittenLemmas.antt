@@ -3,23 +3,8 @@ use Rattle.std.proofs.Common.{◌≡◌, ℕ, ◌+◌, ◌-◌, ◌≤◌, List,
 use Rattle.std.proofs.lemmas.List.{append-nil, take-append-drop, drop-drop}
 use Rattle.std.specs.declared.option.Option.{Option}
 use Rattle.std.specs.Io.KnownBytes.{Appends, Keeps}
+use Rattle.tsb_streams.proofs.StreamLemmas.{appends-kept, appends-more, appends-nothing}
 use Rattle.tsb_text.specs.Written.{Said}
-
-appends-nothing : (a : Option (List ℕ)) → Appends a a []
-appends-nothing None = tt
-appends-nothing (Some xs) = sym (append-nil xs)
-
-pub appends-more : (a b c : Option (List ℕ)) (x y : List ℕ) → Appends a b x → Appends b c y → Appends a c (x ++ y)
-appends-more None b c x y h k = tt
-appends-more (Some xs) None c x y h k = absurd h
-appends-more (Some xs) (Some ys) None x y h k = absurd k
-appends-more (Some xs) (Some ys) (Some zs) x y h k = k ∙ ap (λ (v : List ℕ). v ++ y) h ∙ append_assoc xs x y
-
-appends-kept : (a b c : Option (List ℕ)) (x : List ℕ) → Appends a b x → Keeps b c → Appends a c x
-appends-kept None b c x h k = tt
-appends-kept (Some xs) None c x h k = absurd h
-appends-kept (Some xs) (Some ys) None x h k = absurd k
-appends-kept (Some xs) (Some ys) (Some zs) x h k = k ∙ h
 
 pub said-nothing : (a : Option (List ℕ)) (w : List ℕ) → Said a a w w []
 said-nothing a w = record { gone = []; grown = appends-nothing a; kept = append-nil w }

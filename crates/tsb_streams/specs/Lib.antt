@@ -1,0 +1,2 @@
+-- what a writer has taken of a text
+pub mod Writes
