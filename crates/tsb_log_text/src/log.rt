@@ -49,6 +49,13 @@ impl Log {
         Log { rows }
     }
 
+    /// The rows, whose ticks rise.
+    pub fn rows(&self) -> &[LogRow]
+        ensures { result.now ≡ self.now }
+    {
+        &self.rows
+    }
+
     /// The row in force at a tick: that of the greatest tick not above it, or all inputs off where the log has
     /// none. `place` says where the last answer was found, so that a caller who goes tick by tick pays for
     /// no search; any other pays for a binary search. The answer is the same whatever it holds.
