@@ -9,16 +9,14 @@ use Rattle.tsb_plan_text.specs.declared.error.PlanError.TheVariants as told
 use Rattle.tsb_plan_text.specs.PlanErrors as plans
 use Rattle.tsb_plan_text.specs.PlanText.{reading}
 use Rattle.tsb_log_text.specs.declared.error.LogError.{LogError}
-use Rattle.tsb_log_text.specs.declared.error.LogError.TheVariants as logs
-use Rattle.tsb_log_text.specs.declared.log.LogRow.{LogRow}
 use Rattle.tsb_log_text.specs.FaultLines.{log_fault}
-use Rattle.tsb_log_text.specs.Logs.{Gives, log_of}
-use Rattle.tsb.specs.declared.files.FileError.TheVariants as files
-use Rattle.tsb.specs.declared.run.ReadError.{ReadError}
-use Rattle.tsb.specs.declared.run.ReadError.TheVariants as faults
+use Rattle.tsb_program.specs.declared.files.FileError.TheVariants as files
+use Rattle.tsb_program.specs.declared.read.ReadError.{ReadError}
+use Rattle.tsb_program.specs.declared.read.ReadError.TheVariants as faults
 use Rattle.tsb.specs.Ends.{Stops}
 use Rattle.tsb.specs.Lines.{Refuses}
-use Rattle.tsb.specs.Read.{HasPlan, IsFront, LogRead, PlanRead, log_made, plan_made}
+use Rattle.tsb_program.specs.Read.{IsFront, LogRead}
+use Rattle.tsb.specs.Read.{HasPlan, PlanRead, plan_made}
 
 pub plan-read : (answer : Result Checked PlanError) (known : Option (List ℕ)) (text : List ℕ) → IsFront known 1048577 text
     → plans.Gives checked_plan answer (reading text) → PlanRead (plan_made answer) known
@@ -34,14 +32,6 @@ plan-read (Err (told.NoSuchIndex o index)) known text front gives = (text, front
 plan-read (Err (told.NotAWholeNumber o index)) known text front gives = (text, front, gives, λ is. cc)
 plan-read (Err (told.OutOfRange o index)) known text front gives = (text, front, gives, λ is. cc)
 plan-read (Err (told.Rule r)) known text front gives = (text, front, gives, λ is. cc)
-
-pub log-read : (answer : Result (List LogRow) LogError) (known : Option (List ℕ)) (text : List ℕ) → IsFront known 67108865 text
-    → Gives answer (log_of text) → LogRead (log_made answer) known
-log-read (Ok rows) known text front gives = (text, front, gives)
-log-read (Err logs.Memory) known text front gives = tt
-log-read (Err logs.TooLarge) known text front gives = (text, front, gives)
-log-read (Err (logs.Malformed n)) known text front gives = (text, front, gives)
-log-read (Err (logs.TickOrder n)) known text front gives = (text, front, gives)
 
 -- a log that is not had ends `run` where there is a plan
 pub stops-log : (fault : ReadError LogError) (found : Plan) (status : ℕ) (plan log told tells : Option (List ℕ)) → HasPlan plan found → LogRead (Err fault) log

@@ -14,8 +14,10 @@ use Rattle.tsb_text.specs.declared.error.SessionError.{SessionError}
 use Rattle.tsb_text.specs.declared.error.SessionError.TheVariants.{Write}
 use Rattle.tsb_text.specs.Answers.{Setup}
 use Rattle.tsb_text.specs.Ended.{Ended}
-use Rattle.tsb.specs.Lines.{AppendsFront, Fails, FailsToRead, TellsWords, plan_line, log_line}
-use Rattle.tsb.specs.Read.{HasPlan, RefusesPlan, HasLog, RefusesLog}
+use Rattle.tsb_streams.specs.Writes.{AppendsFront}
+use Rattle.tsb.specs.Lines.{Fails, FailsToRead, TellsWords, plan_line, log_line}
+use Rattle.tsb_program.specs.Read.{HasLog, RefusesLog}
+use Rattle.tsb.specs.Read.{HasPlan, RefusesPlan}
 
 -- what is found of the plan in a file: with 0 that its text gives one, with 1 the fault that it has
 abbrev pub Finds : Option (List ℕ) → ℕ → List ℕ → Type 0

@@ -1,6 +1,4 @@
--- the exit status of each end
-pub mod Statuses
--- what the files that were read give: a plan or a log, or none
+-- what the file of a plan gives: a plan, or none
 pub mod Read
 -- the lines that the program writes of faults
 pub mod Lines

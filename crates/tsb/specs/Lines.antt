@@ -1,6 +1,6 @@
 -- The lines that the program writes of faults, each with its end.
 use Rattle.std.specs.Prelude.{◌≡◌, ◌⊎◌, ℕ, List, [], ◌∷◌, ◌++◌, IfSome, Option, codes}
-use Rattle.std.specs.Io.KnownBytes.{Appends}
+use Rattle.tsb_streams.specs.Writes.{AppendsFront}
 use Rattle.tsb_plan_text.specs.declared.error.PlanError.{PlanError}
 use Rattle.tsb_plan_text.specs.FaultLines.{plan_fault}
 use Rattle.tsb_log_text.specs.declared.error.LogError.{LogError}
@@ -9,14 +9,10 @@ use Rattle.tsb_text.specs.declared.error.SessionError.{SessionError}
 use Rattle.tsb_text.specs.declared.error.SessionError.TheVariants.{Memory, Read, Write, TooLarge}
 use Rattle.tsb_words.specs.declared.WordsError.{WordsError}
 use Rattle.tsb_words.specs.declared.WordsError.TheVariants as words
-use Rattle.tsb.specs.declared.files.FileError.{FileError}
-use Rattle.tsb.specs.declared.files.FileError.TheVariants as files
-use Rattle.tsb.specs.declared.run.ReadError.{ReadError}
-use Rattle.tsb.specs.declared.run.ReadError.TheVariants as faults
-
--- a writer has taken this line, or where it failed the first bytes of it
-abbrev pub AppendsFront : Option (List ℕ) → Option (List ℕ) → List ℕ → Type 0
-AppendsFront old new line = (gone : List ℕ) × (rest : List ℕ) × Appends old new gone × (line ≡ gone ++ rest)
+use Rattle.tsb_program.specs.declared.files.FileError.{FileError}
+use Rattle.tsb_program.specs.declared.files.FileError.TheVariants as files
+use Rattle.tsb_program.specs.declared.read.ReadError.{ReadError}
+use Rattle.tsb_program.specs.declared.read.ReadError.TheVariants as faults
 
 -- the line of a failure: of memory, of a read or a write, or commands without end
 abbrev pub failure_line : SessionError → List ℕ

@@ -1,7 +1,5 @@
--- What the program has of the files that it read. The bytes of a file are known or not.
-use Rattle.std.specs.Prelude.{◌≡◌, ℕ, List, take, IfSome, Option, Result, Ok, Err}
-use Rattle.std.specs.declared.io.ErrorKind.{ErrorKind}
-use Rattle.std.specs.declared.io.ErrorKind.TheVariants as device
+-- What the program has of the plan's file that it read.
+use Rattle.std.specs.Prelude.{◌≡◌, ℕ, List, Option, Result, Ok, Err}
 use Rattle.tsb_plan.specs.Plan.{Plan}
 use Rattle.tsb_plan_text.specs.declared.error.PlanError.{PlanError}
 use Rattle.tsb_plan_text.specs.declared.error.PlanError.TheVariants as told
@@ -9,18 +7,10 @@ use Rattle.tsb_plan_text.specs.PlanErrors.{Tells}
 use Rattle.tsb_objects.specs.declared.checked.Checked.{Checked}
 use Rattle.tsb_objects.specs.Checked.{checked_plan}
 use Rattle.tsb_plan_text.specs.PlanText.{reading}
-use Rattle.tsb_log_text.specs.declared.error.LogError.{LogError}
-use Rattle.tsb_log_text.specs.declared.error.LogError.TheVariants as logs
-use Rattle.tsb_log_text.specs.declared.log.LogRow.{LogRow}
-use Rattle.tsb_log_text.specs.Logs.{log_of}
-use Rattle.tsb.specs.declared.files.FileError.{FileError}
-use Rattle.tsb.specs.declared.files.FileError.TheVariants as files
-use Rattle.tsb.specs.declared.run.ReadError.{ReadError}
-use Rattle.tsb.specs.declared.run.ReadError.TheVariants as faults
-
--- these are the first bytes of a file, where its bytes are known, and all of them where there are no more than so many
-abbrev pub IsFront : Option (List ℕ) → ℕ → List ℕ → Type 0
-IsFront known most bytes = IfSome known (λ all. bytes ≡ take most all)
+use Rattle.tsb_program.specs.declared.files.FileError.TheVariants as files
+use Rattle.tsb_program.specs.Read.{IsFront}
+use Rattle.tsb_program.specs.declared.read.ReadError.{ReadError}
+use Rattle.tsb_program.specs.declared.read.ReadError.TheVariants as faults
 
 -- the file has a text that gives this plan; of one that is too long a byte more than the longest was read
 abbrev pub HasPlan : Option (List ℕ) → Plan → Type 0
@@ -31,39 +21,14 @@ abbrev pub RefusesPlan : Option (List ℕ) → PlanError → Type 0
 RefusesPlan known fault =
     (text : List ℕ) × IsFront known 1048577 text × Tells fault (reading text) × (fault ≡ told.Memory → ⊥)
 
--- the file has a text that gives this log
-abbrev pub HasLog : Option (List ℕ) → List LogRow → Type 0
-HasLog known rows = (text : List ℕ) × IsFront known 67108865 text × (log_of text ≡ Ok rows)
-
--- the file has a text that gives no log, for this fault
-abbrev pub RefusesLog : Option (List ℕ) → LogError → Type 0
-RefusesLog known fault = (text : List ℕ) × IsFront known 67108865 text × (log_of text ≡ Err fault)
-
--- out of memory is told as such, and each other fault of a device as a file that was not read
-abbrev pub file_fault : ErrorKind → FileError
-file_fault device.OutOfMemory = files.Memory
-file_fault kind = files.Read
-
 -- what was made of a plan's text: out of memory is no refusal
 abbrev pub plan_made : Result Checked PlanError → Result Checked (ReadError PlanError)
 plan_made (Ok plan) = Ok plan
 plan_made (Err told.Memory) = Err (faults.Failed files.Memory)
 plan_made (Err fault) = Err (faults.Refused fault)
 
--- what was made of a log's text: out of memory is no refusal
-abbrev pub log_made : Result (List LogRow) LogError → Result (List LogRow) (ReadError LogError)
-log_made (Ok rows) = Ok rows
-log_made (Err logs.Memory) = Err (faults.Failed files.Memory)
-log_made (Err fault) = Err (faults.Refused fault)
-
 -- what came of reading a plan's file
 abbrev pub PlanRead : Result Checked (ReadError PlanError) → Option (List ℕ) → Type 0
 PlanRead (Ok found) known = HasPlan known (checked_plan found)
 PlanRead (Err (faults.Refused fault)) known = RefusesPlan known fault
 PlanRead (Err (faults.Failed why)) known = Unit {0}
-
--- what came of reading a log's file
-abbrev pub LogRead : Result (List LogRow) (ReadError LogError) → Option (List ℕ) → Type 0
-LogRead (Ok rows) known = HasLog known rows
-LogRead (Err (faults.Refused fault)) known = RefusesLog known fault
-LogRead (Err (faults.Failed why)) known = Unit {0}

@@ -2,13 +2,12 @@
 //! alone runs one on the built-in plan of two phases with an empty log.
 #![tactic(auto)]
 
-mod files;
 mod run;
 
-use crate::files::Disk;
 use crate::run::{run_words, tell_words_fault};
 use std::env;
 use std::process::ExitCode;
+use tsb_program::Disk;
 use tsb_words::WordsError;
 
 fn main(rt: HostRuntime) -> ExitCode {

@@ -1,53 +1,24 @@
 //! What the program does for its words.
 
-ghost use Rattle.std.specs.Prelude.{◌≡◌, ◌++◌, ◌∷◌, [], IfOk, IfSome, OnOk, Result, map, string_bytes};
-ghost use Rattle.std.specs.Io.KnownBytes.{Appends};
+ghost use Rattle.std.specs.Prelude.{◌≡◌, [], Result, map};
 ghost use Rattle.tsb_words.specs.declared.Asked.{Asked};
 ghost use Rattle.tsb_words.specs.declared.WordsError.{WordsError};
 ghost use Rattle.tsb_words.specs.Words.{Spells};
 ghost use Rattle.tsb_objects.specs.Checked.{checked_plan};
-ghost use Rattle.tsb.specs.Lines.{AppendsFront, Fails, Refuses, TellsWords, failure_line, failure_of};
-ghost use Rattle.tsb.specs.Statuses.{number};
-ghost use Rattle.tsb.specs.Read.{PlanRead, LogRead, plan_made, log_made};
+ghost use Rattle.tsb.specs.Lines.{Fails, Refuses, TellsWords, failure_line, failure_of};
+ghost use Rattle.tsb_program.specs.Statuses.{number};
+ghost use Rattle.tsb.specs.Read.{PlanRead, plan_made};
 ghost use Rattle.tsb.specs.Ends.{Checks, Judged, Ran, RanBuiltIn, Did, Talked};
 
-use crate::files::{FileError, Files, read_file};
-use std::alloc::{AllocError, Global};
+use std::alloc::Global;
 use std::convert::AsStr;
 use std::fmt::Display;
 use std::io::{Read, Write};
-use tsb_text::{
-    Checked, LOG_LIMIT, Log, LogError, PLAN_LIMIT, Plan, PlanError, SessionError, read_log,
-    read_plan, session,
+use tsb_program::{
+    FileError, Files, ReadError, Status, line_of, log_of, read_file, tell, write_line,
 };
+use tsb_text::{Checked, Log, PLAN_LIMIT, Plan, PlanError, SessionError, read_plan, session};
 use tsb_words::{Asked, WordsError, read_words};
-
-/// What the program ends with.
-#[derive(Clone, Copy, Debug, PartialEq, Eq)]
-enum Status {
-    /// All was done.
-    Done,
-    /// A plan or a log was refused.
-    Refused,
-    /// The words are not those of the program.
-    BadWords,
-    /// A read, a write or memory failed.
-    Failed,
-}
-
-impl Status {
-    /// The number that the program ends with.
-    fn number(self) -> u8
-        ensures { result ≡ number self }
-    {
-        match self {
-            Status::Done => 0,
-            Status::Refused => 1,
-            Status::BadWords => 2,
-            Status::Failed => 3,
-        }
-    }
-}
 
 /// Does what the words ask for, of which the first is the program's name, and gives the status that the program ends
 /// with: 0 where all was done, 1 for a refused plan or log, 2 for bad words, 3 where a read, a write or memory failed.
@@ -106,47 +77,6 @@ fn failure_line(fault: SessionError) -> &'static [u8]
     }
 }
 
-/// Writes a line, and gives the number of the status. Where the line can't be written, nobody can be told of it.
-fn tell<E: Write>(errors: &mut E, status: Status, line: &[u8]) -> u8
-    ensures status { result ≡ number status }
-    ensures line { AppendsFront (E.contents errors.old) (E.contents errors.new) line.now }
-{
-    let _ = write_line(errors, line);
-    status.number()
-}
-
-/// A write failed, was interrupted or took no byte, or the writer did not pass on what it had taken.
-#[derive(Clone, Copy, Debug, PartialEq, Eq)]
-struct WriteError;
-
-/// Writes a line, and has the writer pass it on.
-fn write_line<W: Write>(writer: &mut W, line: &[u8]) -> Result<(), WriteError>
-    ensures whole { OnOk result (Appends (W.contents writer.old) (W.contents writer.new) line.now) }
-    ensures front { AppendsFront (W.contents writer.old) (W.contents writer.new) line.now }
-{
-    let mut gone = 0;
-    while gone < line.len() {
-        match writer.write(&line[gone..]) {
-            Ok(0) => return Err(WriteError),
-            Ok(count) => gone += count,
-            Err(_) => return Err(WriteError),
-        }
-    }
-    match writer.flush() {
-        Ok(()) => Ok(()),
-        Err(_) => Err(WriteError),
-    }
-}
-
-/// Why there is no plan or log.
-#[derive(Drop)]
-enum ReadError<T> {
-    /// Its file was not read, or there was no memory for it.
-    Failed(FileError),
-    /// It was refused.
-    Refused(T),
-}
-
 /// The plan in the file at this path.
 fn plan_of<F: Files>(alloc: Global, files: &F, path: &str) -> Result<Checked, ReadError<PlanError>>
     ensures { PlanRead result (F.bytes files.now path.now) }
@@ -162,25 +92,6 @@ fn plan_made(answer: Result<Checked, PlanError>) -> Result<Checked, ReadError<Pl
     match answer {
         Ok(plan) => Ok(plan),
         Err(PlanError::Memory) => Err(ReadError::Failed(FileError::Memory)),
-        Err(fault) => Err(ReadError::Refused(fault)),
-    }
-}
-
-/// The log in the file at this path.
-fn log_of<F: Files>(alloc: Global, files: &F, path: &str) -> Result<Log, ReadError<LogError>>
-    ensures { LogRead result (F.bytes files.now path.now) }
-{
-    let text = read_file(alloc, files, path, LOG_LIMIT + 1).map_err(ReadError::Failed)?;
-    log_made(read_log(alloc, &text))
-}
-
-/// What was made of a log's text.
-fn log_made(answer: Result<Log, LogError>) -> Result<Log, ReadError<LogError>>
-    ensures { result ≡ log_made answer }
-{
-    match answer {
-        Ok(log) => Ok(log),
-        Err(LogError::Memory) => Err(ReadError::Failed(FileError::Memory)),
         Err(fault) => Err(ReadError::Refused(fault)),
     }
 }
@@ -206,13 +117,6 @@ fn refuse<E: Write, T: Display + Drop>(alloc: Global, errors: &mut E, fault: Rea
             Err(_) => fail(errors, SessionError::Memory),
         },
     }
-}
-
-/// The line of a fault.
-fn line_of<T: Display + Drop>(alloc: Global, fault: T) -> Result<String, AllocError>
-    ensures { IfOk result (λ line. IfSome (T.output fault) (λ text. string_bytes line ≡ text ++ 10 ∷ [])) }
-{
-    format!(in alloc; "{fault}\n")
 }
 
 /// Judges a plan.

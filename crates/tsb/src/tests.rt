@@ -1,6 +1,6 @@
 use super::*;
-use crate::files::Files;
 use std::io::{self, ErrorKind, Read, Write};
+use tsb_program::Files;
 use tsb_text::PLAN_LIMIT;
 
 const TWO: &[u8] =

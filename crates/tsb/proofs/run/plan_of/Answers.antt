@@ -1,5 +1,5 @@
 use Rattle.std.proofs.Common.{rules}
-use Rattle.tsb.specs.Read.{IsFront}
+use Rattle.tsb_program.specs.Read.{IsFront}
 use Rattle.tsb.proofs.ReadLemmas.{plan-read}
 use Rattle.tsb.proofs.run.plan_of.Goals as goal
 

@@ -2,7 +2,7 @@
 
 ghost use Rattle.std.specs.Prelude.{◌≡◌, ℕ, List, Option, None, IfOk};
 ghost use Rattle.std.specs.IoError.{error_kind};
-ghost use Rattle.tsb.specs.Read.{IsFront, file_fault};
+ghost use Rattle.tsb_program.specs.Read.{IsFront, file_fault};
 
 use std::alloc::Global;
 use std::fs::File;

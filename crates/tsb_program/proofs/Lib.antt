@@ -1,0 +1,2 @@
+-- what reading a file comes to
+pub mod ReadLemmas

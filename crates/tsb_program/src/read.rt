@@ -1,0 +1,35 @@
+//! Files that are read, and what they give.
+ghost use Rattle.std.specs.Prelude.{◌≡◌};
+ghost use Rattle.tsb_program.specs.Read.{LogRead, log_made};
+
+use crate::files::{FileError, Files, read_file};
+use std::alloc::Global;
+use tsb_log_text::{LIMIT, Log, LogError, read_log};
+
+/// Why a file gives nothing.
+#[derive(Drop)]
+pub enum ReadError<T> {
+    /// It was not read, or there was no memory for it.
+    Failed(FileError),
+    /// It was refused.
+    Refused(T),
+}
+
+/// The log in the file at this path. Of one that is too large a byte more than the longest is read.
+pub fn log_of<F: Files>(alloc: Global, files: &F, path: &str) -> Result<Log, ReadError<LogError>>
+    ensures { LogRead result (F.bytes files.now path.now) }
+{
+    let text = read_file(alloc, files, path, LIMIT + 1).map_err(ReadError::Failed)?;
+    log_made(read_log(alloc, &text))
+}
+
+/// What was made of a log's text.
+fn log_made(answer: Result<Log, LogError>) -> Result<Log, ReadError<LogError>>
+    ensures { result ≡ log_made answer }
+{
+    match answer {
+        Ok(log) => Ok(log),
+        Err(LogError::Memory) => Err(ReadError::Failed(FileError::Memory)),
+        Err(fault) => Err(ReadError::Refused(fault)),
+    }
+}
