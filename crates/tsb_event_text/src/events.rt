@@ -26,13 +26,27 @@ pub fn event_line(
     ensures { IfOk result (λ line. line.items ≡ event_text device.now (bytes_of time.now) code parameter) }
 {
     let mut line = Vec::new(alloc);
-    append_device(&mut line, device)?;
-    line.push(b',')?;
-    time.append_to(&mut line)?;
-    append_number(&mut line, code)?;
-    append_number(&mut line, parameter)?;
-    line.push(b'\n')?;
+    append_event(&mut line, device, time, code, parameter)?;
     Ok(line)
+}
+
+/// Puts the line of an event, as `event_line` gives it, behind a text. At an error a part of it may stand there.
+pub fn append_event(
+    text: &mut Vec<u8>,
+    device: &[u8],
+    time: &TimeText,
+    code: u32,
+    parameter: u32,
+) -> Result<(), AllocError>
+    ensures { OnOk result (text.new.items ≡ text.old.items ++ event_text device.now (bytes_of time.now) code parameter) }
+{
+    append_device(text, device)?;
+    text.push(b',')?;
+    time.append_to(text)?;
+    append_number(text, code)?;
+    append_number(text, parameter)?;
+    text.push(b'\n')?;
+    Ok(())
 }
 
 /// Puts a device behind a line.
