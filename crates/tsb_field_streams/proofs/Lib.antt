@@ -1,1 +1,7 @@
 pub mod FilterLemmas
+-- the text of rows
+pub mod RowLemmas
+-- what a stream has read, line after line
+pub mod ReadLemmas
+-- what a stream has written, and how it ends
+pub mod StreamLemmas

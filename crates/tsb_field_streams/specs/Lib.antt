@@ -2,3 +2,9 @@
 pub mod Filtering
 -- how far a filter has come
 pub mod Standing
+-- what a text of events comes to, line after line
+pub mod Lines
+-- what a filter of a stream has read and written
+pub mod Streaming
+-- the line that tells what ended a filter
+pub mod FaultLines

@@ -1,5 +1,5 @@
 //! Lines of events, one after another, and the rows of the log that they make known.
-ghost use Rattle.std.specs.Prelude.{◌≡◌, ◌<◌, ◌≤◌, ◌-◌, ◌++◌, [], nat_le, Some, length, option_map, MatchResult};
+ghost use Rattle.std.specs.Prelude.{◌≡◌, ◌<◌, ◌≤◌, ◌-◌, ◌++◌, [], nat_le, Some, length, option_map, MatchResult, OnOk};
 ghost use Rattle.tsb_field_log.specs.Changes.{rows_of};
 ghost use Rattle.tsb_field_log.specs.Fields.{rows_in};
 ghost use Rattle.tsb_field_log.specs.Pushed.{rows_before};
@@ -197,6 +197,7 @@ impl Filter {
         ensures whole { (g : Given) (s : Stand) → StandsAt g s self.old → MatchResult result
             (λ rows. rows_before g.from g.wires s.events ++ rows_in rows ≡ rows_of (row_in g.from g.wires s.events))
             (λ e. (e ≡ LogTooLarge) × (MOST_ROWS < length (rows_of (row_in g.from g.wires s.events)))) }
+        ensures fits { (g : Given) (s : Stand) → StandsAt g s self.old → OnOk result (length (rows_of (row_in g.from g.wires s.events)) ≤ MOST_ROWS) }
         ensures counts { left_out_of self.new ≡ left_out_of self.old }
     {
         let rows = self.field.finish();

@@ -3,6 +3,9 @@
 
 mod error;
 mod filter;
+mod rows;
+mod stream;
 
 pub use error::FilterError;
 pub use filter::{Filter, LINE, LeftOut, MOST_ROWS};
+pub use stream::{EVENTS, log};

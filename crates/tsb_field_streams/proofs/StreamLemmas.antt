@@ -1,0 +1,414 @@
+-- What a stream has written, and how it ends.
+use Rattle.std.proofs.Common.{◌≡◌, ◌⊎◌, ℕ, ◌+◌, ◌-◌, ◌*◌, ◌<◌, ◌≤◌, List, [], ◌∷◌, ◌++◌, length, min, max, take, take_all, get_or, drop, refl, sym, ap, ◌∙◌, append_assoc, length-append, arith, subst, inl, inr, OnOk, OnErr}
+use Rattle.std.proofs.lemmas.List.{append-nil, take_more}
+use Rattle.std.specs.declared.option.Option.{Option}
+use Rattle.std.specs.declared.result.Result.{Result}
+use Rattle.std.specs.declared.result.Result.TheVariants.{Ok, Err}
+use Rattle.std.specs.Io.KnownBytes.{Appends, Consumes, IsAtEnd, Keeps}
+use Rattle.tsb_streams.specs.Writes.{AppendsFront}
+use Rattle.tsb_streams.proofs.StreamLemmas.{appends-kept, appends-more, appends-nothing, consumes-kept, consumes-more, consumes-nothing, front-more, front-rest}
+use Rattle.tsb_lines.specs.Lines.{without_return}
+use Rattle.tsb_field_log.specs.declared.field.Rows.{Rows}
+use Rattle.tsb_field_log.specs.Changes.{changes, rows_of}
+use Rattle.tsb_field_log.specs.Fields.{rows_in}
+use Rattle.tsb_field_log.specs.LogText.{log_text}
+use Rattle.tsb_field_log.specs.Pushed.{rows_before}
+use Rattle.tsb_field_log.specs.Ticks.{row_in}
+use Rattle.tsb_field_log.specs.declared.inputs.InputEvent.{InputEvent}
+use Rattle.tsb_field_log.specs.declared.inputs.Wire.{Wire}
+use Rattle.tsb_log_text.specs.Logs.{log_of}
+use Rattle.tsb_field_log.proofs.LawLemmas.{logs}
+use Rattle.tsb_field_log.proofs.PushedLemmas.{order-last, rows-front}
+use Rattle.tsb_field_log.proofs.TextLemmas.{text-append, text-length}
+use Rattle.tsb_field_streams.specs.declared.error.FilterError.{FilterError}
+use Rattle.tsb_field_streams.specs.declared.error.FilterError.TheVariants.{Read, Write, TooLarge, LogTooLarge}
+use Rattle.tsb_field_streams.specs.declared.filter.Filter.{Filter}
+use Rattle.tsb_field_streams.specs.declared.filter.LeftOut.{LeftOut}
+use Rattle.tsb_field_streams.specs.declared.stream.Stream.{Stream}
+use Rattle.tsb_field_streams.specs.Filtering.{Given, Stand, one_more, start, with_line}
+use Rattle.tsb_field_streams.specs.Lines.{HasRead, filtered}
+use Rattle.tsb_field_streams.specs.Standing.{StandsAt, Takes, left_out_of}
+use Rattle.tsb_field_streams.specs.Streaming.{Follows, WroteFront, Went, Sticks, Finished, EndedBehind, EndedSo, IsWhole, IsTooLong, IsFaultOfAll, known_log, whole_log}
+use Rattle.tsb_field_streams.proofs.ReadLemmas.{all-comes, front-comes, kept-last, kept-line, read-byte, read-fault, read-line, read-start, sticks-more}
+
+-- ## What is written
+
+-- the log that is known begins the whole one
+pub known-begins : (g : Given) (s : Stand) (f : Filter) → StandsAt g s f → (tail : List ℕ) × (whole_log g s ≡ known_log g s ++ tail)
+known-begins g s f at =
+    let rest = rows-front g.from g.wires s.events [] (order-last g.from 0 s.events at.field.ordered) in (
+      log_text rest.0,
+      ap (λ (es : List InputEvent). log_text (rows_of (row_in g.from g.wires es))) (sym (append-nil s.events)) ∙ ap log_text rest.1
+          ∙ text-append (rows_before g.from g.wires s.events) rest.0,
+    )
+
+-- what was written before is a prefix
+pub wrote-before : (g : Given) (bytes : List ℕ) (stream : Stream) (old new : Option (List ℕ)) → Follows g bytes stream old new → WroteFront g bytes old new
+wrote-before g bytes stream old new f =
+    let tail = known-begins g f.stand stream.filter f.stands in
+    record {
+      front = f.read.front;
+      behind = f.held;
+      stand = f.stand;
+      written = known_log g f.stand;
+      rest = tail.0;
+      whole = f.read.whole;
+      comes = front-comes g bytes stream.number f.stand f.held f.read;
+      grown = f.grown;
+      begins = tail.1;
+    }
+
+-- and stays one, whatever is read
+pub wrote-more : (g : Given) (bytes more : List ℕ) (old new : Option (List ℕ)) → WroteFront g bytes old new → WroteFront g (bytes ++ more) old new
+wrote-more g bytes more old new w = record {
+  front = w.front;
+  behind = w.behind ++ more;
+  stand = w.stand;
+  written = w.written;
+  rest = w.rest;
+  whole = ap (λ (v : List ℕ). v ++ more) w.whole ∙ append_assoc w.front w.behind more;
+  comes = w.comes;
+  grown = w.grown;
+  begins = w.begins;
+}
+
+-- the log that is known grows by the rows of a line
+known-grows : (g : Given) (s t : Stand) (rows : Rows) → rows_before g.from g.wires t.events ≡ rows_before g.from g.wires s.events ++ rows_in rows
+    → known_log g t ≡ known_log g s ++ log_text (rows_in rows)
+known-grows g s t rows grown = ap log_text grown ∙ text-append (rows_before g.from g.wires s.events) (rows_in rows)
+
+-- of a text behind one that was written the first bytes have gone, and it begins a log
+front-of : (g : Given) (bytes : List ℕ) (t : Stand) (before text tail : List ℕ) (a b c : Option (List ℕ)) → filtered g bytes ≡ Ok t → Appends a b before → AppendsFront b c text
+    → whole_log g t ≡ (before ++ text) ++ tail → WroteFront g bytes a c
+front-of g bytes t before text tail a b c comes grown front is = record {
+  front = bytes;
+  behind = [];
+  stand = t;
+  written = before ++ front.0;
+  rest = front.1 ++ tail;
+  whole = sym (append-nil bytes);
+  comes = comes;
+  grown = appends-more a b c before front.0 grown front.2;
+  begins =
+      is ∙ ap (λ (v : List ℕ). (before ++ v) ++ tail) front.3 ∙ ap (λ (v : List ℕ). v ++ tail) (sym (append_assoc before front.0 front.1))
+      ∙ append_assoc (before ++ front.0) front.1 tail;
+}
+
+-- a write that fails has its own fault
+pub write-fault : (r : Result (Unit {0}) FilterError) (e : FilterError) → r ≡ Err e → OnErr r (r ≡ Err Write) → e ≡ Write
+write-fault (Ok u) e is fault = absurd (cc)
+write-fault (Err d) e is fault = let same : Err e ≡ Err Write = sym is ∙ fault in cc
+
+-- ## A line
+
+-- the rows of a line that was taken are written, or the writer fails
+rows-went : (r : Result (Unit {0}) FilterError) (g : Given) (bytes : List ℕ) (s t : Stand) (stream : Stream) (rows : Rows) (a b c : Option (List ℕ))
+    → HasRead g bytes stream.number t [] → filtered g bytes ≡ Ok t → stream.held.items ≡ [] → StandsAt g t stream.filter → Appends a b (known_log g s)
+    → rows_before g.from g.wires t.events ≡ rows_before g.from g.wires s.events ++ rows_in rows
+    → OnOk r (Appends b c (log_text (rows_in rows))) → AppendsFront b c (log_text (rows_in rows)) → OnErr r (r ≡ Err Write) → Went r g bytes stream a c
+rows-went (Ok u) g bytes s t stream rows a b c read comes empty stands grown more ok front fault = record {
+  stand = t;
+  held = [];
+  read = read;
+  kept = empty;
+  stands = stands;
+  grown = subst (λ (v : List ℕ). Appends a c v) (sym (known-grows g s t rows more)) (appends-more a b c (known_log g s) (log_text (rows_in rows)) grown ok);
+}
+rows-went (Err e) g bytes s t stream rows a b c read comes empty stands grown more ok front fault =
+    let tail = known-begins g t stream.filter stands in (
+      front-of g bytes t (known_log g s) (log_text (rows_in rows)) tail.0 a b c comes grown front (tail.1 ∙ ap (λ (v : List ℕ). v ++ tail.0) (known-grows g s t rows more)),
+      inl (let is : e ≡ Write = cc in is),
+    )
+
+pub line-went : (r : Result (Unit {0}) FilterError) (g : Given) (bytes line : List ℕ) (old new : Stream) (rows : Rows) (a b c : Option (List ℕ)) → (f : Follows g bytes old a b)
+    → line ≡ without_return old.held.items → Takes g f.stand (with_line g old.number f.stand line) (Ok rows) new.filter → new.held.items ≡ [] → new.number ≡ one_more old.number
+    → OnOk r (Appends b c (log_text (rows_in rows))) → AppendsFront b c (log_text (rows_in rows)) → OnErr r (r ≡ Err Write) → Went r g (bytes ++ 10 ∷ []) new a c
+line-went r g bytes line old new rows a b c f is takes empty next ok front fault = goes (with_line g old.number f.stand line) refl takes
+  where
+    same : with_line g old.number f.stand line ≡ with_line g old.number f.stand (without_return f.held)
+    same = ap (with_line g old.number f.stand) (is ∙ ap without_return f.kept) ∙ kept-line g old.number f.stand f.held
+
+    goes : (x : Result Stand FilterError) → with_line g old.number f.stand line ≡ x → Takes g f.stand x (Ok rows) new.filter → Went r g (bytes ++ 10 ∷ []) new a c
+    goes (Err e) k t = absurd t
+    goes (Ok t) k stands =
+        let read : HasRead g (bytes ++ 10 ∷ []) (one_more old.number) t [] = read-line g bytes old.number f.stand t f.held f.read (sym same ∙ k) in
+        let here : HasRead g (bytes ++ 10 ∷ []) new.number t [] = subst (λ (n : ℕ). HasRead g (bytes ++ 10 ∷ []) n t []) (sym next) read in
+        rows-went r g (bytes ++ 10 ∷ []) f.stand t new rows a b c here (ap (filtered g) (here.whole ∙ append-nil here.front) ∙ front-comes g (bytes ++ 10 ∷ []) new.number t [] here)
+        empty stands.0 f.grown stands.1 ok front fault
+
+-- a line that has a fault
+pub line-fault : (g : Given) (bytes line : List ℕ) (old : Stream) (filter : Filter) (e : FilterError) (a b : Option (List ℕ)) → (f : Follows g bytes old a b)
+    → line ≡ without_return old.held.items → Takes g f.stand (with_line g old.number f.stand line) (Err e) filter
+    → WroteFront g (bytes ++ 10 ∷ []) a b × ((e ≡ Write) ⊎ Sticks g (bytes ++ 10 ∷ []) e)
+line-fault g bytes line old filter e a b f is takes =
+    (wrote-more g bytes (10 ∷ []) a b (wrote-before g bytes old a b f), inr (goes (with_line g old.number f.stand line) refl takes))
+  where
+    same : with_line g old.number f.stand line ≡ with_line g old.number f.stand (without_return f.held)
+    same = ap (with_line g old.number f.stand) (is ∙ ap without_return f.kept) ∙ kept-line g old.number f.stand f.held
+
+    goes : (x : Result Stand FilterError) → with_line g old.number f.stand line ≡ x → Takes g f.stand x (Err e) filter → Sticks g (bytes ++ 10 ∷ []) e
+    goes (Ok t) k takes = absurd takes
+    goes (Err d) k takes = read-fault g bytes old.number f.stand f.held e f.read (sym same ∙ k ∙ ap Err (sym takes))
+
+-- ## Bytes
+
+-- a byte that ends no line
+pub byte-went : (g : Given) (bytes : List ℕ) (b : ℕ) (old new : Stream) (a c : Option (List ℕ)) → (f : Follows g bytes old a c) → (b ≡ 10 → ⊥) → new.filter ≡ old.filter → new.number ≡ old.number
+    → new.held.items ≡ take 1002 (f.held ++ b ∷ []) → Follows g (bytes ++ b ∷ []) new a c
+byte-went g bytes b old new a c f other same number kept = record {
+  stand = f.stand;
+  held = f.held ++ b ∷ [];
+  read = subst (λ (n : ℕ). HasRead g (bytes ++ b ∷ []) n f.stand (f.held ++ b ∷ [])) (sym number) (read-byte g bytes old.number f.stand f.held b f.read other);
+  kept = kept;
+  stands = subst (λ (filter : Filter). StandsAt g f.stand filter) (sym same) f.stands;
+  grown = f.grown;
+}
+
+pub follows-same : (g : Given) (xs ys : List ℕ) (stream : Stream) (a c : Option (List ℕ)) → xs ≡ ys → Follows g xs stream a c → Follows g ys stream a c
+follows-same g xs ys stream a c is f = subst (λ (v : List ℕ). Follows g v stream a c) is f
+
+pub piece-more : (g : Given) (before bytes : List ℕ) (i x : ℕ) (stream : Stream) (a c : Option (List ℕ)) → i < length bytes → x ≡ get_or bytes i 0
+    → Follows g ((before ++ take i bytes) ++ x ∷ []) stream a c → Follows g (before ++ take (i + 1) bytes) stream a c
+piece-more g before bytes i x stream a c lt is f = follows-same g ((before ++ take i bytes) ++ x ∷ []) (before ++ take (i + 1) bytes) stream a c (front-more before bytes i x lt is) f
+
+pub piece-fault : (g : Given) (before bytes : List ℕ) (i x : ℕ) (e : FilterError) (a c : Option (List ℕ)) → i < length bytes → x ≡ get_or bytes i 0
+    → WroteFront g ((before ++ take i bytes) ++ x ∷ []) a c × ((e ≡ Write) ⊎ Sticks g ((before ++ take i bytes) ++ x ∷ []) e)
+    → WroteFront g (before ++ bytes) a c × ((e ≡ Write) ⊎ Sticks g (before ++ bytes) e)
+piece-fault g before bytes i x e a c lt is w =
+    let all : ((before ++ take i bytes) ++ x ∷ []) ++ drop (i + 1) bytes ≡ before ++ bytes = front-rest before bytes i x lt is in (
+      subst (λ (v : List ℕ). WroteFront g v a c) all (wrote-more g ((before ++ take i bytes) ++ x ∷ []) (drop (i + 1) bytes) a c w.0),
+      elim w.1 [
+        | inl write ↦ inl write
+        | inr sticks ↦ inr (subst (λ (v : List ℕ). Sticks g v e) all (sticks-more g ((before ++ take i bytes) ++ x ∷ []) (drop (i + 1) bytes) e sticks))
+      ],
+    )
+
+pub piece-end : (g : Given) (before bytes : List ℕ) (i : ℕ) (stream : Stream) (a c : Option (List ℕ)) → length bytes ≤ i → Follows g (before ++ take i bytes) stream a c → Follows g (before ++ bytes) stream a c
+piece-end g before bytes i stream a c le f = follows-same g (before ++ take i bytes) (before ++ bytes) stream a c (ap (λ (v : List ℕ). before ++ v) (take_all i bytes le)) f
+
+-- ## The end
+
+-- what the last line comes to
+pub record LastTaken (g : Given) (bytes : List ℕ) (old : Stream) (rows : Rows) (filter : Filter) (a b : Option (List ℕ)) : Type 0 where
+  pub before : Stand
+  pub stand : Stand
+  pub comes : filtered g bytes ≡ Ok stand
+  pub stands : StandsAt g stand filter
+  pub grown : Appends a b (known_log g before)
+  pub more : rows_before g.from g.wires stand.events ≡ rows_before g.from g.wires before.events ++ rows_in rows
+
+pub last-taken : (g : Given) (bytes line : List ℕ) (old : Stream) (rows : Rows) (filter : Filter) (a b : Option (List ℕ)) → (f : Follows g bytes old a b) → line ≡ old.held.items
+    → Takes g f.stand (with_line g old.number f.stand line) (Ok rows) filter → LastTaken g bytes old rows filter a b
+last-taken g bytes line old rows filter a b f is takes = goes (with_line g old.number f.stand line) refl takes
+  where
+    same : with_line g old.number f.stand line ≡ with_line g old.number f.stand f.held
+    same = ap (with_line g old.number f.stand) (is ∙ f.kept) ∙ kept-last g old.number f.stand f.held
+
+    goes : (x : Result Stand FilterError) → with_line g old.number f.stand line ≡ x → Takes g f.stand x (Ok rows) filter → LastTaken g bytes old rows filter a b
+    goes (Err e) k t = absurd t
+    goes (Ok t) k stands = record {
+      before = f.stand;
+      stand = t;
+      comes = all-comes g bytes old.number f.stand f.held (Ok t) f.read (sym same ∙ k);
+      stands = stands.0;
+      grown = f.grown;
+      more = stands.1;
+    }
+
+pub last-fault : (g : Given) (bytes line : List ℕ) (old : Stream) (filter : Filter) (e : FilterError) (a b : Option (List ℕ)) → (f : Follows g bytes old a b) → line ≡ old.held.items
+    → Takes g f.stand (with_line g old.number f.stand line) (Err e) filter → Finished (Err e) g bytes a b
+last-fault g bytes line old filter e a b f is takes = (wrote-before g bytes old a b f, inr (inl (goes (with_line g old.number f.stand line) refl takes)))
+  where
+    same : with_line g old.number f.stand line ≡ with_line g old.number f.stand f.held
+    same = ap (with_line g old.number f.stand) (is ∙ f.kept) ∙ kept-last g old.number f.stand f.held
+
+    goes : (x : Result Stand FilterError) → with_line g old.number f.stand line ≡ x → Takes g f.stand x (Err e) filter → filtered g bytes ≡ Err e
+    goes (Ok t) k takes = absurd takes
+    goes (Err d) k takes = all-comes g bytes old.number f.stand f.held (Err e) f.read (sym same ∙ k ∙ ap Err (sym takes))
+
+-- its rows are not written
+pub last-unwritten : (g : Given) (bytes : List ℕ) (old : Stream) (rows : Rows) (filter : Filter) (e : FilterError) (a b c : Option (List ℕ)) → LastTaken g bytes old rows filter a b
+    → AppendsFront b c (log_text (rows_in rows)) → e ≡ Write → Finished (Err e) g bytes a c
+last-unwritten g bytes old rows filter e a b c l front is =
+    let tail = known-begins g l.stand filter l.stands in (
+      front-of g bytes l.stand (known_log g l.before) (log_text (rows_in rows)) tail.0 a b c l.comes l.grown front
+          (tail.1 ∙ ap (λ (v : List ℕ). v ++ tail.0) (known-grows g l.before l.stand rows l.more)),
+      inl is,
+    )
+
+-- all that is known is written
+pub record AllKnown (g : Given) (bytes : List ℕ) (filter : Filter) (a c : Option (List ℕ)) : Type 0 where
+  pub stand : Stand
+  pub comes : filtered g bytes ≡ Ok stand
+  pub stands : StandsAt g stand filter
+  pub grown : Appends a c (known_log g stand)
+
+pub all-known : (g : Given) (bytes : List ℕ) (old : Stream) (rows : Rows) (filter : Filter) (a b c : Option (List ℕ)) → LastTaken g bytes old rows filter a b
+    → Appends b c (log_text (rows_in rows)) → AllKnown g bytes filter a c
+all-known g bytes old rows filter a b c l ok = record {
+  stand = l.stand;
+  comes = l.comes;
+  stands = l.stands;
+  grown = subst (λ (v : List ℕ). Appends a c v) (sym (known-grows g l.before l.stand rows l.more)) (appends-more a b c (known_log g l.before) (log_text (rows_in rows)) l.grown ok);
+}
+
+-- the log is too long
+pub end-long : (g : Given) (bytes : List ℕ) (filter : Filter) (e : FilterError) (a c : Option (List ℕ)) → (k : AllKnown g bytes filter a c) → e ≡ LogTooLarge
+    → 1720740 < length (rows_of (row_in g.from g.wires k.stand.events)) → Finished (Err e) g bytes a c
+end-long g bytes filter e a c k is long =
+    let tail = known-begins g k.stand filter k.stands in (
+      record {
+        front = bytes;
+        behind = [];
+        stand = k.stand;
+        written = known_log g k.stand;
+        rest = tail.0;
+        whole = sym (append-nil bytes);
+        comes = k.comes;
+        grown = k.grown;
+        begins = tail.1;
+      },
+      inr (inr (is, record { stand = k.stand; comes = k.comes; long = long })),
+    )
+
+-- the log is whole
+whole-is : (g : Given) (s : Stand) (rest : Rows) → rows_before g.from g.wires s.events ++ rows_in rest ≡ rows_of (row_in g.from g.wires s.events)
+    → whole_log g s ≡ known_log g s ++ log_text (rows_in rest)
+whole-is g s rest is = ap log_text (sym is) ∙ text-append (rows_before g.from g.wires s.events) (rows_in rest)
+
+-- its last rows are not written
+pub end-unwritten : (g : Given) (bytes : List ℕ) (filter : Filter) (rest : Rows) (e : FilterError) (a b c : Option (List ℕ)) → (k : AllKnown g bytes filter a b)
+    → rows_before g.from g.wires k.stand.events ++ rows_in rest ≡ rows_of (row_in g.from g.wires k.stand.events) → AppendsFront b c (log_text (rows_in rest)) → e ≡ Write → Finished (Err e) g bytes a c
+end-unwritten g bytes filter rest e a b c k whole front is =
+    (front-of g bytes k.stand (known_log g k.stand) (log_text (rows_in rest)) [] a b c k.comes k.grown front (whole-is g k.stand rest whole ∙ sym (append-nil (known_log g k.stand ++ log_text (rows_in rest)))), inl is)
+
+grown-whole : (g : Given) (s : Stand) (rest : Rows) (a b c d : Option (List ℕ)) → rows_before g.from g.wires s.events ++ rows_in rest ≡ rows_of (row_in g.from g.wires s.events)
+    → Appends a b (known_log g s) → Appends b c (log_text (rows_in rest)) → Keeps c d → Appends a d (whole_log g s)
+grown-whole g s rest a b c d whole grown ok kept =
+    appends-kept a c d (whole_log g s) (subst (λ (v : List ℕ). Appends a c v) (sym (whole-is g s rest whole)) (appends-more a b c (known_log g s) (log_text (rows_in rest)) grown ok)) kept
+
+-- they are not passed on
+pub end-kept : (g : Given) (bytes : List ℕ) (filter : Filter) (rest : Rows) (e : FilterError) (a b c d : Option (List ℕ)) → (k : AllKnown g bytes filter a b)
+    → rows_before g.from g.wires k.stand.events ++ rows_in rest ≡ rows_of (row_in g.from g.wires k.stand.events) → Appends b c (log_text (rows_in rest)) → Keeps c d → e ≡ Write → Finished (Err e) g bytes a d
+end-kept g bytes filter rest e a b c d k whole ok kept is = (
+  record {
+    front = bytes;
+    behind = [];
+    stand = k.stand;
+    written = whole_log g k.stand;
+    rest = [];
+    whole = sym (append-nil bytes);
+    comes = k.comes;
+    grown = grown-whole g k.stand rest a b c d whole k.grown ok kept;
+    begins = sym (append-nil (whole_log g k.stand));
+  },
+  inl is,
+)
+
+-- readers of logs take the whole one
+whole-taken : (g : Given) (s : Stand) → length (rows_of (row_in g.from g.wires s.events)) ≤ 1720740 → log_of (whole_log g s) ≡ Ok (rows_of (row_in g.from g.wires s.events))
+whole-taken g s few =
+    let long : length (whole_log g s) ≡ 39 * length (rows_of (row_in g.from g.wires s.events)) = text-length (rows_of (row_in g.from g.wires s.events)) in
+    logs g.from g.wires s.events (omega (arith, long, few))
+
+pub end-whole : (g : Given) (bytes : List ℕ) (filter last : Filter) (rest : Rows) (left_out : LeftOut) (a b c d : Option (List ℕ)) → (k : AllKnown g bytes filter a b)
+    → length (rows_of (row_in g.from g.wires k.stand.events)) ≤ 1720740 → rows_before g.from g.wires k.stand.events ++ rows_in rest ≡ rows_of (row_in g.from g.wires k.stand.events) → Appends b c (log_text (rows_in rest)) → Keeps c d
+    → left_out_of last ≡ left_out_of filter → left_out ≡ left_out_of last → Finished (Ok left_out) g bytes a d
+end-whole g bytes filter last rest left_out a b c d k few whole ok kept same is = (
+  whole_log g k.stand,
+  grown-whole g k.stand rest a b c d whole k.grown ok kept,
+  record {
+    stand = k.stand;
+    comes = k.comes;
+    others = ap (λ (l : LeftOut). l.of_other_devices) (is ∙ same) ∙ k.stands.others;
+    unwired = ap (λ (l : LeftOut). l.without_input) (is ∙ same) ∙ k.stands.unwired;
+    log = refl;
+    taken = whole-taken g k.stand few;
+  },
+)
+
+-- ## From read to read
+
+-- a stream has read these bytes of an input, and may read so many more
+pub record Going (g : Given) (stream : Stream) (left : ℕ) (input now a c : Option (List ℕ)) : Type 0 where
+  pub read : List ℕ
+  pub taken : Consumes input now read
+  pub follows : Follows g read stream a c
+  pub fits : length read + left ≡ 1073741824
+
+pub going-start : (g : Given) (stream : Stream) (input a : Option (List ℕ)) → Follows g [] stream a a → Going g stream 1073741824 input input a a
+going-start g stream input a f = record { read = []; taken = consumes-nothing input; follows = f; fits = refl }
+
+pub going-more : (g : Given) (old new : Stream) (left count : ℕ) (bytes : List ℕ) (input now then a c d : Option (List ℕ)) → (k : Going g old left input now a c) → Consumes now then bytes
+    → length bytes ≡ count → count ≤ left → Follows g (k.read ++ bytes) new a d → Going g new (left - count) input then a d
+going-more g old new left count bytes input now then a c d k more long le f = record {
+  read = k.read ++ bytes;
+  taken = consumes-more input now then k.read bytes k.taken more;
+  follows = f;
+  fits = let l : length (k.read ++ bytes) ≡ length k.read + length bytes = length-append k.read bytes in let fits : length k.read + left ≡ 1073741824 = k.fits in omega (arith, l, fits, long, le);
+}
+
+pub ended-read : (g : Given) (stream : Stream) (left : ℕ) (input now then a c : Option (List ℕ)) → Going g stream left input now a c → Keeps now then → EndedBehind (Err Read) g input then a c
+ended-read g stream left input now then a c k kept = record {
+  read = k.read;
+  taken = consumes-kept input now then k.read k.taken kept;
+  so = (wrote-before g k.read stream a c k.follows, inl refl);
+  most = inl (let fits : length k.read + left ≡ 1073741824 = k.fits in omega (arith, fits));
+}
+
+-- at the end of what is read
+pub ended-end : (r : Result LeftOut FilterError) (g : Given) (stream : Stream) (left : ℕ) (bytes : List ℕ) (input now then a c d : Option (List ℕ)) → (k : Going g stream left input now a c) → Consumes now then bytes → bytes ≡ [] → IsAtEnd then
+    → Finished r g k.read a d → EndedBehind r g input then a d
+ended-end r g stream left bytes input now then a c d k none empty end finished = record {
+  read = k.read;
+  taken = subst (λ (v : List ℕ). Consumes input then v) (ap (λ (v : List ℕ). k.read ++ v) empty ∙ append-nil k.read) (consumes-more input now then k.read bytes k.taken none);
+  so = ends r finished;
+  most = inl (let fits : length k.read + left ≡ 1073741824 = k.fits in omega (arith, fits));
+}
+  where
+    ends : (r : Result LeftOut FilterError) → Finished r g k.read a d → EndedSo r g then k.read a d
+    ends (Ok left_out) f = (end, f.0, f.1, f.2)
+    ends (Err e) f = (f.0, elim f.1 [ inl write ↦ inr (inl write) | inr why ↦ inr (inr (inr (inr (end, why)))) ])
+
+-- a byte too many was read
+pub ended-large : (g : Given) (stream : Stream) (left count : ℕ) (bytes : List ℕ) (input now then a c : Option (List ℕ)) → Going g stream left input now a c → Consumes now then bytes → length bytes ≡ count
+    → left < count → count ≤ max (min left 4096) 1 → EndedBehind (Err TooLarge) g input then a c
+ended-large g stream left count bytes input now then a c k more long lt most =
+    let l : length (k.read ++ bytes) ≡ length k.read + length bytes = length-append k.read bytes in
+    let fits : length k.read + left ≡ 1073741824 = k.fits in
+    record {
+      read = k.read ++ bytes;
+      taken = consumes-more input now then k.read bytes k.taken more;
+      so = (wrote-more g k.read bytes a c (wrote-before g k.read stream a c k.follows), inr (inr (inl (refl, omega (arith, l, fits, long, lt)))));
+      most = inr (omega (arith, l, fits, long, lt, most), refl);
+    }
+
+-- a fault of what was read, or of the writer
+pub ended-fault : (e : FilterError) (g : Given) (stream : Stream) (left count : ℕ) (bytes : List ℕ) (input now then a c d : Option (List ℕ)) → (k : Going g stream left input now a c) → Consumes now then bytes → length bytes ≡ count
+    → count ≤ left → WroteFront g (k.read ++ bytes) a d × ((e ≡ Write) ⊎ Sticks g (k.read ++ bytes) e) → EndedBehind (Err e) g input then a d
+ended-fault e g stream left count bytes input now then a c d k more long le w = record {
+  read = k.read ++ bytes;
+  taken = consumes-more input now then k.read bytes k.taken more;
+  so = (w.0, elim w.1 [ inl write ↦ inr (inl write) | inr sticks ↦ inr (inr (inr (inl sticks))) ]);
+  most = inl (
+      let l : length (k.read ++ bytes) ≡ length k.read + length bytes = length-append k.read bytes in
+      let fits : length k.read + left ≡ 1073741824 = k.fits in
+      omega (arith, l, fits, long, le)
+      );
+}
+
+-- no row is known before the first event
+nothing-known : (g : Given) → known_log g start ≡ []
+unfolding changes log_text
+nothing-known g = refl
+
+-- before the first byte
+pub follows-start : (g : Given) (stream : Stream) (a : Option (List ℕ)) → StandsAt g start stream.filter → stream.number ≡ 1 → stream.held.items ≡ [] → Follows g [] stream a a
+follows-start g stream a stands number empty = record {
+  stand = start;
+  held = [];
+  read = subst (λ (n : ℕ). HasRead g [] n start []) (sym number) (read-start g);
+  kept = empty;
+  stands = stands;
+  grown = subst (λ (v : List ℕ). Appends a a v) (sym (nothing-known g)) (appends-nothing a);
+}

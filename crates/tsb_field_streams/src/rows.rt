@@ -1,0 +1,69 @@
+//! Rows of a log on their way out.
+ghost use Rattle.std.specs.Prelude.{◌≡◌, ◌+◌, ◌≤◌, ◌++◌, Err, OnErr, OnOk, option_to_list};
+ghost use Rattle.std.specs.Io.KnownBytes.{Appends, Keeps};
+ghost use Rattle.arrayvec.specs.ArrayVec.{array_vec_len};
+ghost use Rattle.tsb_streams.specs.Writes.{AppendsFront};
+ghost use Rattle.tsb_field_log.specs.Fields.{rows_in};
+ghost use Rattle.tsb_field_log.specs.LogText.{log_text};
+ghost use Rattle.tsb_field_streams.specs.declared.error.FilterError.TheVariants.{Write as write};
+
+use crate::error::FilterError;
+use arrayvec::ArrayVec;
+use std::io::Write;
+use tsb_field_log::{Rows, row_line};
+use tsb_log_text::LogRow;
+use tsb_streams::{pass_on, write_text};
+
+/// How many bytes the lines of two rows have.
+const ROWS: usize = 78;
+
+/// Writes rows. The error is `Write`: the first bytes of them may have gone.
+pub(crate) fn write_rows<W: Write>(writer: &mut W, rows: Rows) -> Result<(), FilterError>
+    ensures whole { OnOk result (Appends (W.contents writer.old) (W.contents writer.new) (log_text (rows_in rows))) }
+    ensures front { AppendsFront (W.contents writer.old) (W.contents writer.new) (log_text (rows_in rows)) }
+    ensures fault { OnErr result (result ≡ Err write) }
+{
+    let text = rows_text(rows);
+    match write_text(writer, &text) {
+        Ok(()) => Ok(()),
+        Err(_) => Err(FilterError::Write),
+    }
+}
+
+/// Has the writer pass on what it has taken.
+pub(crate) fn pass_rows_on<W: Write>(writer: &mut W) -> Result<(), FilterError>
+    ensures bytes { Keeps (W.contents writer.old) (W.contents writer.new) }
+    ensures fault { OnErr result (result ≡ Err write) }
+{
+    match pass_on(writer) {
+        Ok(()) => Ok(()),
+        Err(_) => Err(FilterError::Write),
+    }
+}
+
+/// The lines of rows.
+#[tactic(auto, using(crate::proofs::RowLemmas::two_rows))]
+fn rows_text(rows: Rows) -> ArrayVec<u8, ROWS>
+    ensures { result.items ≡ log_text (rows_in rows) }
+{
+    let mut text = ArrayVec::new();
+    append(&mut text, rows.first);
+    append(&mut text, rows.second);
+    text
+}
+
+/// Puts the line of a row behind a text, where there is one.
+#[tactic(auto, using(crate::proofs::RowLemmas::some_row))]
+fn append(text: &mut ArrayVec<u8, ROWS>, row: Option<LogRow>)
+    requires { array_vec_len text.old + 39 ≤ 78 }
+    ensures items { text.new.items ≡ text.old.items ++ log_text (option_to_list row) }
+    ensures few { array_vec_len text.new ≤ array_vec_len text.old + 39 }
+{
+    match row {
+        None => {}
+        Some(row) => {
+            // There is room for it.
+            let _ = text.try_extend_from_slice(&row_line(row));
+        }
+    }
+}

@@ -1,0 +1,173 @@
+//! Lines of events as a stream of bytes, and the log that they make known.
+ghost use Rattle.std.specs.Prelude.{◌≡◌, ◌∷◌, [], ◌++◌, ℕ, List, Option, option_map};
+ghost use Rattle.tsb_field_log.specs.Mapping.{wires_of};
+ghost use Rattle.tsb_field_streams.specs.Filtering.{Given};
+ghost use Rattle.tsb_field_streams.specs.Streaming.{Ended, EndedBehind, Finished, Follows, Went};
+
+use crate::error::FilterError;
+use crate::filter::{Filter, LINE, LeftOut};
+use crate::rows::{pass_rows_on, write_rows};
+use arrayvec::ArrayVec;
+use std::alloc::Global;
+use std::io::{Read, Write};
+use tsb_event_text::Moment;
+use tsb_field_log::{Field, Wire, wires};
+use tsb_lines::without_return;
+
+/// The most events of a stream, in bytes: 1 GiB.
+pub const EVENTS: usize = 1_073_741_824;
+
+/// How many bytes of a line are kept: one more than its greatest length, and the carriage return behind it.
+const KEPT: usize = LINE + 2;
+
+/// How many bytes one read asks for.
+const CHUNK: usize = 4096;
+
+/// A stream between two bytes: what is known behind its whole lines, and the first bytes of the line that is not whole.
+#[derive(Drop)]
+struct Stream {
+    filter: Filter,
+    /// The number of the line that is not whole, counted from 1; it stays at 4,294,967,295 once it has come to it.
+    number: u32,
+    held: ArrayVec<u8, KEPT>,
+}
+
+impl Stream {
+    /// Takes the line feed that ends a line.
+    fn end_line<W: Write>(
+        &mut self,
+        device: Option<&[u8]>,
+        wires: &[Wire],
+        writer: &mut W,
+    ) -> Result<(), FilterError>
+        ensures went { (g : Given) (bytes : List ℕ) (begun : Option (List ℕ)) → g.device ≡ option_map (λ d. d.now) device.entry → g.wires ≡ wires.now
+            → Follows g bytes self.old begun (W.contents writer.old) → Went result g (bytes ++ 10 ∷ []) self.new begun (W.contents writer.new) }
+    {
+        let line = without_return(&self.held);
+        let rows = self.filter.take_line(device, wires, self.number, line)?;
+        self.held.clear();
+        self.number = self.number.saturating_add(1);
+        write_rows(writer, rows)
+    }
+
+    /// Takes one byte more.
+    fn feed<W: Write>(
+        &mut self,
+        device: Option<&[u8]>,
+        wires: &[Wire],
+        byte: u8,
+        writer: &mut W,
+    ) -> Result<(), FilterError>
+        ensures went { (g : Given) (bytes : List ℕ) (begun : Option (List ℕ)) → g.device ≡ option_map (λ d. d.now) device.entry → g.wires ≡ wires.now
+            → Follows g bytes self.old begun (W.contents writer.old) → Went result g (bytes ++ byte ∷ []) self.new begun (W.contents writer.new) }
+    {
+        if byte == b'\n' {
+            return self.end_line(device, wires, writer);
+        }
+        if !self.held.is_full() {
+            self.held.push(byte);
+        }
+        Ok(())
+    }
+
+    /// Takes these bytes.
+    fn feed_all<W: Write>(
+        &mut self,
+        device: Option<&[u8]>,
+        wires: &[Wire],
+        bytes: &[u8],
+        writer: &mut W,
+    ) -> Result<(), FilterError>
+        ensures went { (g : Given) (before : List ℕ) (begun : Option (List ℕ)) → g.device ≡ option_map (λ d. d.now) device.entry → g.wires ≡ wires.now
+            → Follows g before self.old begun (W.contents writer.old) → Went result g (before ++ bytes.now) self.new begun (W.contents writer.new) }
+    {
+        for byte in bytes {
+            self.feed(device, wires, *byte, writer)?;
+        }
+        Ok(())
+    }
+
+    /// Takes what stands behind the last line feed as the last line, and writes the rest of the log.
+    fn finish<W: Write>(
+        &mut self,
+        device: Option<&[u8]>,
+        wires: &[Wire],
+        writer: &mut W,
+    ) -> Result<LeftOut, FilterError>
+        ensures finished { (g : Given) (bytes : List ℕ) (begun : Option (List ℕ)) → g.device ≡ option_map (λ d. d.now) device.entry → g.wires ≡ wires.now
+            → Follows g bytes self.old begun (W.contents writer.old) → Finished result g bytes begun (W.contents writer.new) }
+    {
+        let rows = self
+            .filter
+            .take_line(device, wires, self.number, &self.held)?;
+        write_rows(writer, rows)?;
+        let rest = self.filter.finish()?;
+        write_rows(writer, rest)?;
+        pass_rows_on(writer)?;
+        Ok(self.filter.left_out())
+    }
+
+    /// Reads events up to their end, and writes their log.
+    fn run<R: Read, W: Write>(
+        &mut self,
+        device: Option<&[u8]>,
+        wires: &[Wire],
+        reader: &mut R,
+        writer: &mut W,
+    ) -> Result<LeftOut, FilterError>
+        ensures ended { (g : Given) → g.device ≡ option_map (λ d. d.now) device.entry → g.wires ≡ wires.now
+            → Follows g [] self.old (W.contents writer.old) (W.contents writer.old)
+            → EndedBehind result g (R.remaining reader.old) (R.remaining reader.new) (W.contents writer.old) (W.contents writer.new) }
+    {
+        let mut chunk = [0; CHUNK];
+        let mut left = EVENTS;
+        loop {
+            let most = left.min(CHUNK).max(1);
+            let room = &mut chunk[..most];
+            let count = match reader.read(room) {
+                Ok(count) => count,
+                Err(_) => return Err(FilterError::Read),
+            };
+            if count == 0 {
+                return self.finish(device, wires, writer);
+            }
+            if left < count {
+                return Err(FilterError::TooLarge);
+            }
+            left -= count;
+            self.feed_all(device, wires, &room[..count], writer)?;
+        }
+    }
+}
+
+/// Reads a controller's event log and writes the log of inputs that it tells. Tick 1 begins at `from`. Rows of `device`
+/// count, byte for byte, or all where it is `None`. `mapped` are the wires that are asked for; from each channel without
+/// one a wire leads to the input of its own number, where there is one. It gives what was left out.
+///
+/// No more is held than a line of events and the rows of two ticks, so that the caller buffers what is written. A fault
+/// ends it; what was written until then is a prefix of the log of the events read. `Memory` comes before anything is
+/// read or written.
+pub fn log<R: Read, W: Write>(
+    alloc: Global,
+    from: Moment,
+    device: Option<&[u8]>,
+    mapped: &[Wire],
+    reader: &mut R,
+    writer: &mut W,
+) -> Result<LeftOut, FilterError>
+    ensures { Ended result (record { from = from.nanos; device = option_map (λ d. d.now) device.entry; wires = wires_of mapped.now })
+        (R.remaining reader.old) (R.remaining reader.new) (W.contents writer.old) (W.contents writer.new) }
+{
+    let Ok(all) = wires(alloc, mapped) else {
+        return Err(FilterError::Memory);
+    };
+    let Ok(field) = Field::new(alloc, from.nanos, &all) else {
+        return Err(FilterError::Memory);
+    };
+    let mut stream = Stream {
+        filter: Filter::new(field),
+        number: 1,
+        held: ArrayVec::new(),
+    };
+    stream.run(device, &all, reader, writer)
+}
