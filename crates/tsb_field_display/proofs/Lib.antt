@@ -5,4 +5,5 @@ pub mod LawLemmas
 pub mod LineLemmas
 pub mod HistoryLemmas
 pub mod EventLemmas
+pub mod StreamLemmas
 pub mod Examples

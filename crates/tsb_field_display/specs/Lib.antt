@@ -10,3 +10,5 @@ pub mod Remaining
 pub mod ReadBack
 -- what holds of lines and events, told without how they are found
 pub mod Laws
+-- the display lines in what a session answers, byte after byte
+pub mod Stream

@@ -1,5 +1,5 @@
 -- What definitions give, by computing.
-use Rattle.std.specs.Prelude.{◌≡◌, ℕ, true, List, [], ◌∷◌, codes, Some, None, refl}
+use Rattle.std.specs.Prelude.{◌≡◌, ℕ, true, List, [], ◌∷◌, ◌++◌, codes, Some, None, refl}
 use Rattle.tsb_types.specs.Lists.{run_from}
 use Rattle.tsb_types.specs.Sets.{set_of_list}
 use Rattle.tsb_field_display.specs.declared.shown.Signals.{Signals}
@@ -10,6 +10,7 @@ use Rattle.tsb_field_display.specs.Remaining.{remaining, changes_of}
 use Rattle.tsb_field_display.specs.Events.{event, events_of, events_of_lines}
 use Rattle.tsb_field_display.specs.ReadBack.{read_back}
 use Rattle.tsb_field_display.specs.Laws.{AreAllApart}
+use Rattle.tsb_field_display.specs.Stream.{shown_lines}
 use Rattle.tsb_field_display.proofs.LetterLemmas.{apart-pedestrians, apart-overlaps}
 
 -- what a computed line opens
@@ -97,6 +98,13 @@ what_remains = refl
 what_changes : changes_of (remaining session) ≡ at 1 red ∷ at 3 green ∷ []
 unfolding opened
 what_changes = refl
+
+-- ## Answers of a session
+
+-- one line ends with a return and a feed, and the last with nothing; a longer line is none
+answers : shown_lines (codes "ok" ++ 10 ∷ red_line ++ 13 ∷ 10 ∷ green_line ++ 32 ∷ 10 ∷ clearing_line) ≡ at 0 red ∷ at 0 clearing ∷ []
+unfolding opened
+answers = refl
 
 -- ## Events
 

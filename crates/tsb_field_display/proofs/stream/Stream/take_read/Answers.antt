@@ -1,0 +1,7 @@
+use Rattle.std.proofs.Common.{take}
+use Rattle.tsb_field_display.specs.declared.error.HistoryError.TheVariants.{Memory}
+use Rattle.tsb_field_display.proofs.StreamLemmas.{read_fault}
+use Rattle.tsb_field_display.proofs.stream.Stream.take_read.Goals as goal
+
+pub returns-in_default-feed_all : goal.returns-in_default-feed_all
+returns-in_default-feed_all g c input going = read_fault input _ _ c.args.self.now (take c.in-Ok.count c.read.new.buf) Memory going c.in-Ok.ensures.bytes.0

@@ -1,0 +1,82 @@
+-- The display lines in what a session answers, and how far one has come who takes it byte after byte.
+use Rattle.std.specs.Prelude.{◌≡◌, ℕ, ◌==◌, Bool, false, List, [], ◌∷◌, ◌++◌, length, if◌then◌else◌, Option, Some, None, Result, Ok, Err}
+use Rattle.std.specs.List.{filter_map, fold}
+use Rattle.std.specs.Io.KnownBytes.{Consumes, IsAtEnd}
+use Rattle.tsb_lines.specs.Lines.{split, without_return}
+use Rattle.tsb_field_display.specs.declared.error.HistoryError.{HistoryError}
+use Rattle.tsb_field_display.specs.declared.history.History.{History}
+use Rattle.tsb_field_display.specs.declared.shown.Shown.{Shown}
+use Rattle.tsb_field_display.specs.declared.stream.Stream.{Stream}
+use Rattle.tsb_field_display.specs.Reading.{shown_of}
+use Rattle.tsb_field_display.specs.Remaining.{Keeps}
+
+-- ## Display lines
+
+-- what a line shows, without one carriage return at its end: nothing where it is no display line
+abbrev pub shown_in : List ℕ → Option Shown
+shown_in line = shown_of (without_return line)
+
+-- what those lines show that are display lines, in their order: the lines stand between the line feeds
+abbrev pub shown_lines : List ℕ → List Shown
+shown_lines bytes = filter_map shown_in (split bytes)
+
+-- these bytes were read, up to the end, and the history keeps their display lines; or reading them was ended by a fault
+abbrev pub ReadSo : Result History HistoryError → Option (List ℕ) → List ℕ → Type 0
+ReadSo (Ok history) left bytes = IsAtEnd left × Keeps history (shown_lines bytes)
+ReadSo (Err e) left bytes = Unit {0}
+
+-- the bytes that were read
+pub record HistoryRead (result : Result History HistoryError) (input left : Option (List ℕ)) : Type 0 where
+  pub bytes : List ℕ
+  pub taken : Consumes input left bytes
+  pub so : ReadSo result left bytes
+
+-- ## Byte after byte
+
+-- what is known behind some bytes: what the display lines that have ended show, and the bytes of the line that has not,
+-- of a long one the first
+pub record Stand : Type 0 where
+  pub shown : List Shown
+  pub held : List ℕ
+
+-- before the first byte
+abbrev pub start : Stand
+start = record { shown = []; held = [] }
+
+-- what lines show, and then what one more shows
+abbrev pub with_shown : List Shown → Option Shown → List Shown
+with_shown shown None = shown
+with_shown shown (Some line) = shown ++ line ∷ []
+
+-- the line that is held has ended
+abbrev pub with_line : Stand → Stand
+with_line s = record { shown = with_shown s.shown (shown_in s.held); held = [] }
+
+-- a byte more of the line, unless as many are held as a display line has with its return, 54, and one by which a longer
+-- line is known
+abbrev pub with_held : Stand → ℕ → Stand
+with_held s byte = if length s.held == 55 then s else record s { held = s.held ++ byte ∷ [] }
+
+-- a byte more: a line feed ends the line
+abbrev pub with_byte : Stand → ℕ → Stand
+with_byte s byte = if byte == 10 then with_line s else with_held s byte
+
+-- these bytes more, one after the other
+abbrev pub with_bytes : Stand → List ℕ → Stand
+with_bytes s bytes = fold with_byte s bytes
+
+-- a stream has come to this
+pub record StandsAt (s : Stand) (stream : Stream) : Type 0 where
+  pub shown : Keeps stream.history s.shown
+  pub held : stream.held.items ≡ s.held
+
+-- these bytes were read so far, and a stream has taken them
+pub record Going (input left : Option (List ℕ)) (stream : Stream) : Type 0 where
+  pub bytes : List ℕ
+  pub taken : Consumes input left bytes
+  pub stands : StandsAt (with_bytes start bytes) stream
+
+-- one read more was taken: there may be more, or it was the end
+pub record GoesOn (more : Bool) (input left : Option (List ℕ)) (stream : Stream) : Type 0 where
+  pub going : Going input left stream
+  pub end : more ≡ false → IsAtEnd left

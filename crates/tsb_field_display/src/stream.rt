@@ -1,0 +1,124 @@
+//! Reading what a session answers: of its lines the display lines.
+ghost use Rattle.std.specs.Prelude.{ℕ, Err, List, MatchResult, OnOk, Option};
+ghost use Rattle.std.specs.Io.KnownBytes.{IsAtEnd};
+ghost use Rattle.tsb_field_display.specs.Stream.{GoesOn, Going, HistoryRead, Stand, StandsAt, with_byte, with_bytes, with_line, start};
+
+use crate::error::HistoryError;
+use crate::history::History;
+use crate::reading::read_line;
+use arrayvec::ArrayVec;
+use std::alloc::{AllocError, Global};
+use std::io::Read;
+use tsb_display_text::WIDTH;
+use tsb_lines::without_return;
+
+/// How many bytes of a line are kept: those of a display line, the carriage return behind them, and one more, by which
+/// a longer line is known.
+const KEPT: usize = WIDTH + 2;
+
+/// How many bytes one read asks for.
+const CHUNK: usize = 4096;
+
+/// What is known behind some bytes: the history of the lines that have ended, and the bytes of the line that has not,
+/// of a long one the first.
+#[derive(Drop)]
+struct Stream {
+    history: History,
+    held: ArrayVec<u8, KEPT>,
+}
+
+impl Stream {
+    /// Before the first byte.
+    fn new(alloc: Global) -> Stream
+        ensures { StandsAt start result }
+    {
+        Stream {
+            history: History::new(alloc),
+            held: ArrayVec::new(),
+        }
+    }
+
+    /// Takes the end of a line.
+    fn end_line(&mut self) -> Result<(), AllocError>
+        ensures { (s : Stand) → StandsAt s self.old → OnOk result (StandsAt (with_line s) self.new) }
+    {
+        if let Some(shown) = read_line(without_return(&self.held)) {
+            self.history.push(shown)?;
+        }
+        self.held.clear();
+        Ok(())
+    }
+
+    /// Takes one byte more.
+    fn feed(&mut self, byte: u8) -> Result<(), AllocError>
+        ensures { (s : Stand) → StandsAt s self.old → OnOk result (StandsAt (with_byte s byte) self.new) }
+    {
+        if byte == b'\n' {
+            return self.end_line();
+        }
+        if !self.held.is_full() {
+            self.held.push(byte);
+        }
+        Ok(())
+    }
+
+    /// Takes these bytes.
+    fn feed_all(&mut self, bytes: &[u8]) -> Result<(), AllocError>
+        ensures { (s : Stand) → StandsAt s self.old → OnOk result (StandsAt (with_bytes s bytes.now) self.new) }
+    {
+        for byte in bytes {
+            self.feed(*byte)?;
+        }
+        Ok(())
+    }
+
+    /// Takes what one read gives, and tells whether there may be more.
+    #[tactic(auto, using(crate::proofs::StreamLemmas::going_more))]
+    fn take_read<R: Read>(
+        &mut self,
+        reader: &mut R,
+        chunk: &mut [u8; CHUNK],
+    ) -> Result<bool, HistoryError>
+        ensures { (input : Option (List ℕ)) → Going input (R.remaining reader.old) self.old → MatchResult result
+            (λ more. GoesOn more input (R.remaining reader.new) self.new)
+            (λ e. HistoryRead (Err e) input (R.remaining reader.new)) }
+    {
+        let Ok(count) = reader.read(chunk) else {
+            return Err(HistoryError::Read);
+        };
+        let Ok(()) = self.feed_all(&chunk[..count]) else {
+            return Err(HistoryError::Memory);
+        };
+        Ok(count != 0)
+    }
+
+    /// Ends the last line, which no line feed ends, and gives the history.
+    fn finish(mut self) -> Result<History, HistoryError>
+        ensures { (input left : Option (List ℕ)) → Going input left self → IsAtEnd left → HistoryRead result input left }
+    {
+        let Ok(()) = self.end_line() else {
+            return Err(HistoryError::Memory);
+        };
+        Ok(self.history)
+    }
+}
+
+/// Reads what a session answers, up to its end, and keeps what remains of its display lines. Other lines are skipped,
+/// however long. What stands behind the last line feed is a line too, and one carriage return at the end of a line is
+/// no part of it.
+///
+/// `Read` comes where a read fails or is interrupted, or after 2^64 - 1 reads, and `Memory` where there is none to keep
+/// a change. Nothing is read behind either, and what was read until then is lost.
+#[tactic(auto, using(crate::proofs::StreamLemmas::going_start))]
+pub fn read_history<R: Read>(alloc: Global, reader: &mut R) -> Result<History, HistoryError>
+    ensures { HistoryRead result (R.remaining reader.old) (R.remaining reader.new) }
+{
+    let mut stream = Stream::new(alloc);
+    let mut chunk = [0; CHUNK];
+    for _ in 0..u64::MAX {
+        if !stream.take_read(reader, &mut chunk)? {
+            return stream.finish();
+        }
+    }
+    Err(HistoryError::Read)
+}
