@@ -1,0 +1,5 @@
+pub mod LineLemmas
+pub mod OrderLemmas
+pub mod SessionLemmas
+pub mod ReadLemmas
+pub mod Examples

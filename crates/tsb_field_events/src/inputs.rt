@@ -1,0 +1,120 @@
+//! The events of inputs.
+ghost use Rattle.std.specs.Prelude.{◌≡◌, ◌++◌, OnOk};
+ghost use Rattle.tsb_types.specs.Sets.{has_number};
+ghost use Rattle.tsb_field_display.specs.Events.{begins, told};
+ghost use Rattle.tsb_field_events.specs.Inputs.{events_of_row, events_of_rows, pedestrian_input_events, preempt_input_events, vehicle_input_events};
+
+use std::alloc::AllocError;
+use tsb_field_display::DisplayEvent;
+use tsb_log_text::LogRow;
+use tsb_types::{NumberSet, Row};
+
+/// A vehicle detector goes off.
+pub const VEHICLE_OFF: u8 = 81;
+/// A vehicle detector goes on.
+pub const VEHICLE_ON: u8 = 82;
+/// A pedestrian detector goes off.
+pub const PEDESTRIAN_OFF: u8 = 89;
+/// A pedestrian detector goes on.
+pub const PEDESTRIAN_ON: u8 = 90;
+/// A preempt input goes on.
+pub const PREEMPT_ON: u8 = 102;
+/// A preempt input goes off.
+pub const PREEMPT_OFF: u8 = 104;
+
+/// Puts the events of the rows of a log behind others. Before the first row all inputs are off.
+pub(crate) fn append_rows(events: &mut Vec<DisplayEvent>, rows: &[LogRow]) -> Result<(), AllocError>
+    ensures { OnOk result (events.new.items ≡ events.old.items ++ events_of_rows rows.now) }
+{
+    let mut before = Row::all_off();
+    for row in rows {
+        append_row(events, &before, row)?;
+        before = row.row;
+    }
+    Ok(())
+}
+
+/// Puts the events of a row that follows another behind others: by their codes, and those of one code by their
+/// parameters.
+#[tactic(auto, unfolding(crate::specs::Inputs::events_of_row))]
+fn append_row(events: &mut Vec<DisplayEvent>, before: &Row, now: &LogRow) -> Result<(), AllocError>
+    ensures { OnOk result (events.new.items ≡ events.old.items ++ events_of_row before.now now.now) }
+{
+    append_vehicles(events, before, now)?;
+    append_pedestrians(events, before, now)?;
+    append_preempts(events, before, now)?;
+    Ok(())
+}
+
+/// Puts the events of vehicle detectors behind others.
+fn append_vehicles(
+    events: &mut Vec<DisplayEvent>,
+    before: &Row,
+    now: &LogRow,
+) -> Result<(), AllocError>
+    ensures { OnOk result (events.new.items ≡ events.old.items ++ vehicle_input_events before.now now.now.tick now.now.row) }
+{
+    let was = before.vehicles;
+    let is = now.row.vehicles;
+    tell(events, now.tick, VEHICLE_OFF, begun(is, was))?;
+    tell(events, now.tick, VEHICLE_ON, begun(was, is))?;
+    Ok(())
+}
+
+/// Puts the events of pedestrian detectors behind others.
+fn append_pedestrians(
+    events: &mut Vec<DisplayEvent>,
+    before: &Row,
+    now: &LogRow,
+) -> Result<(), AllocError>
+    ensures { OnOk result (events.new.items ≡ events.old.items ++ pedestrian_input_events before.now now.now.tick now.now.row) }
+{
+    let was = before.pedestrians;
+    let is = now.row.pedestrians;
+    tell(events, now.tick, PEDESTRIAN_OFF, begun(is, was))?;
+    tell(events, now.tick, PEDESTRIAN_ON, begun(was, is))?;
+    Ok(())
+}
+
+/// Puts the events of preempt inputs behind others.
+fn append_preempts(
+    events: &mut Vec<DisplayEvent>,
+    before: &Row,
+    now: &LogRow,
+) -> Result<(), AllocError>
+    ensures { OnOk result (events.new.items ≡ events.old.items ++ preempt_input_events before.now now.now.tick now.now.row) }
+{
+    let was = before.preempts;
+    let is = now.row.preempts;
+    tell(events, now.tick, PREEMPT_ON, begun(was, is))?;
+    tell(events, now.tick, PREEMPT_OFF, begun(is, was))?;
+    Ok(())
+}
+
+/// Puts an event for each number of a set behind others, the least first.
+fn tell(
+    events: &mut Vec<DisplayEvent>,
+    tick: u32,
+    code: u8,
+    numbers: NumberSet,
+) -> Result<(), AllocError>
+    ensures { OnOk result (events.new.items ≡ events.old.items ++ told tick code (has_number numbers)) }
+{
+    let mut rest = numbers;
+    while let Some(number) = rest.first() {
+        rest = rest.with(number, false);
+        events.push(DisplayEvent {
+            tick,
+            code,
+            parameter: number,
+        })?;
+    }
+    Ok(())
+}
+
+/// The numbers that are in a set now and were not.
+fn begun(before: NumberSet, now: NumberSet) -> NumberSet
+    ensures { has_number result ≡ begins (has_number before) (has_number now) }
+{
+    now.difference(before)
+}

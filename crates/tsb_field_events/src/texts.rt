@@ -1,0 +1,93 @@
+//! The text of events.
+ghost use Rattle.std.specs.Prelude.{◌≡◌, ◌++◌, IfOk, OnOk, List, ℕ};
+ghost use Rattle.tsb_field_events.specs.Merge.{session_events};
+ghost use Rattle.tsb_field_events.specs.Texts.{AreLines, EventsWritten, IsLog};
+ghost use Rattle.tsb_field_events.specs.Ticks.{AreWritten};
+
+use crate::error::EventsError;
+use crate::merge::session_events;
+use crate::times::{are_written, time_of_tick};
+use std::alloc::{AllocError, Global};
+use tsb_event_text::{Moment, append_event};
+use tsb_field_display::{DisplayEvent, Shown};
+use tsb_log_text::LogRow;
+
+/// The line that names the columns.
+const HEADER: &[u8] = b"SignalID,Timestamp,EventCode,EventParam\n";
+
+/// The events of a session, as the text of a controller's event log: the header
+/// `SignalID,Timestamp,EventCode,EventParam`, and then a line for each event, ended by a line feed. `from` is the moment
+/// of tick 1; the time of tick t is t - 1 tenths of a second later. Tick 0, which a session that went back to power-up
+/// shows, is told at `from` too, and a tick above 9,999,999, which no display line has, as 9,999,999. `device` names the
+/// controller in each line; the lines are read again where `tsb_event_text::can_be_written` holds of it.
+///
+/// The events are those of `changes` (before the first nothing is lit) and those of `rows` of a log of inputs (before
+/// the first all inputs are off): an input that goes on gives 82 (vehicle detector), 90 (pedestrian detector) or 102
+/// (preempt input), one that goes off 81, 89 or 104, with its number as the parameter, at the row's tick. Where the
+/// ticks of changes and those of rows rise they stand by tick, then code, then parameter (Indiana enumerations).
+///
+/// `Late` where the time of tick 9,999,999, or `from`, has no year of four digits: it is told before anything else, and
+/// nothing was made. `Memory` where memory runs out: what was made is gone.
+pub fn events_text(
+    alloc: Global,
+    from: Moment,
+    device: &[u8],
+    changes: &[Shown],
+    rows: &[LogRow],
+) -> Result<Vec<u8>, EventsError>
+    ensures { EventsWritten result from device.now changes.now rows.now }
+{
+    if !are_written(from) {
+        return Err(EventsError::Late);
+    }
+    match log_text(alloc, from, device, changes, rows) {
+        Ok(text) => Ok(text),
+        Err(_) => Err(EventsError::Memory),
+    }
+}
+
+/// The header and the lines of the events of a session.
+fn log_text(
+    alloc: Global,
+    from: Moment,
+    device: &[u8],
+    changes: &[Shown],
+    rows: &[LogRow],
+) -> Result<Vec<u8>, AllocError>
+    requires { AreWritten from }
+    ensures { IfOk result (λ text. IsLog from device.now (session_events changes.now rows.now) text.items) }
+{
+    let events = session_events(alloc, changes, rows)?;
+    let mut text = Vec::new(alloc);
+    text.extend_from_slice(HEADER)?;
+    append_lines(&mut text, from, device, &events)?;
+    Ok(text)
+}
+
+/// Puts the lines of events behind a text.
+fn append_lines(
+    text: &mut Vec<u8>,
+    from: Moment,
+    device: &[u8],
+    events: &[DisplayEvent],
+) -> Result<(), AllocError>
+    requires { AreWritten from }
+    ensures { OnOk result ((lines : List ℕ) × (text.new.items ≡ text.old.items ++ lines) × AreLines from device.now events.now lines) }
+{
+    let mut tick = 0;
+    let mut time = time_of_tick(from, tick);
+    for event in events {
+        if event.tick != tick {
+            tick = event.tick;
+            time = time_of_tick(from, tick);
+        }
+        append_event(
+            text,
+            device,
+            &time,
+            event.code as u32,
+            event.parameter as u32,
+        )?;
+    }
+    Ok(())
+}
