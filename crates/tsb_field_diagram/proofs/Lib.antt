@@ -1,0 +1,5 @@
+pub mod BarLemmas
+pub mod CountLemmas
+pub mod LitLemmas
+pub mod LineLemmas
+pub mod LawLemmas

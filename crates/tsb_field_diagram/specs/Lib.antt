@@ -1,0 +1,14 @@
+-- numbers and clocks as text
+pub mod Text
+-- the bands of a diagram, and what each shows
+pub mod Bands
+-- the bars of a band, and their text
+pub mod Bars
+-- which bands a diagram has
+pub mod Lit
+-- the lines of a diagram
+pub mod Lines
+-- a diagram as a whole
+pub mod Page
+-- what holds of bars, told without how they are found
+pub mod Laws

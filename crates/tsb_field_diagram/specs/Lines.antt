@@ -1,0 +1,175 @@
+-- The lines of a diagram: so many seconds each, one below the other.
+use Rattle.std.specs.Prelude.{ℕ, zero, suc, ◌+◌, ◌-◌, ◌*◌, ◌/◌, ◌%◌, ◌==◌, min, nat_le, if◌then◌else◌, List, [], ◌∷◌, ◌++◌, codes, length}
+use Rattle.tsb_field_display.specs.declared.shown.Shown.{Shown}
+use Rattle.tsb_log_text.specs.declared.log.LogRow.{LogRow}
+use Rattle.tsb_field_diagram.specs.declared.band.Band.{Band}
+use Rattle.tsb_field_diagram.specs.declared.band.Kind.{Kind}
+use Rattle.tsb_field_diagram.specs.declared.band.Kind.TheVariants as kinds
+use Rattle.tsb_field_diagram.specs.Text.{attribute_text, clock_text, named_text, number_text}
+use Rattle.tsb_field_diagram.specs.Bands.{mark_in_change, mark_in_row, tick_of_change, tick_of_row}
+use Rattle.tsb_field_diagram.specs.Bars.{bars_of, bars_text, from_tick, before_tick}
+
+-- ## Which ticks a line has
+
+-- the first tick of line k, the first being line 0
+abbrev pub first_tick : ℕ → ℕ → ℕ
+first_tick seconds k = k * (10 * seconds) + 1
+
+-- the tick behind its last one: the last line ends with the last tick
+abbrev pub end_tick : ℕ → ℕ → ℕ → ℕ
+end_tick seconds last k = min (first_tick seconds k + 10 * seconds) (last + 1)
+
+-- how many lines there are
+abbrev pub line_count : ℕ → ℕ → ℕ
+line_count seconds last = if last == 0 then 0 else (last - 1) / (10 * seconds) + 1
+
+-- how high the bands are
+abbrev pub height_of : ℕ → ℕ
+height_of bands = 16 * bands
+
+-- ## Labels
+
+-- what a band is called
+abbrev pub name_of : Kind → ℕ → List ℕ
+name_of kinds.Preempt n = named_text (codes "preempt ") n
+name_of kinds.Flash n = codes "flash"
+name_of kinds.Vehicle n = number_text n
+name_of kinds.Pedestrian n = number_text n ++ codes " ped"
+name_of kinds.Overlap n = named_text (codes "overlap ") n
+name_of kinds.VehicleInput n = named_text (codes "detector ") n
+name_of kinds.PedestrianInput n = named_text (codes "ped detector ") n
+name_of kinds.PreemptInput n = named_text (codes "preempt input ") n
+
+-- the label of the band at this place
+abbrev pub label_text : ℕ → Band → List ℕ
+label_text place band =
+    attribute_text (codes "<text class=\"l\" x=\"132\" y=\"") (16 * place + 12)
+    ++ (codes ">" ++ (name_of band.kind band.number ++ codes "</text>\n"))
+
+-- those of bands, of which the first is at this place
+unfoldable pub labels_text : ℕ → List Band → List ℕ
+labels_text place [] = []
+labels_text place (band ∷ bands) = label_text place band ++ labels_text (place + 1) bands
+
+-- ## Bars
+
+-- the bars of the band at this place, of what is in force in a line
+abbrev pub band_text : ℕ → ℕ → List Shown → List LogRow → ℕ → Band → List ℕ
+band_text first end changes rows place band =
+    bars_text place (bars_of tick_of_change (mark_in_change band) first end changes)
+    ++ bars_text place (bars_of tick_of_row (mark_in_row band) first end rows)
+
+-- those of bands
+unfoldable pub bands_text : ℕ → ℕ → List Shown → List LogRow → ℕ → List Band → List ℕ
+bands_text first end changes rows place [] = []
+bands_text first end changes rows place (band ∷ bands) =
+    band_text first end changes rows place band ++ bands_text first end changes rows (place + 1) bands
+
+-- the frame in which a tick is one unit wide, from this tick on
+abbrev pub frame_text : ℕ → ℕ → ℕ → List ℕ
+frame_text height first ticks =
+    attribute_text (codes "<svg x=\"140\" width=\"1000\" preserveAspectRatio=\"none\" height=\"") height
+    ++ (named_text (codes " viewBox=\"") first
+    ++ (named_text (codes " 0 ") ticks ++ (named_text (codes " ") height ++ codes "\">\n")))
+
+-- ## The axis
+
+-- how many seconds from one mark of the axis to the next: the least of these by which a line has 20 marks at most
+abbrev pub step_of : ℕ → ℕ
+step_of seconds =
+    if nat_le seconds 20 then 1 else
+    (if nat_le seconds 100 then 5 else
+    (if nat_le seconds 200 then 10 else
+    (if nat_le seconds 600 then 30 else
+    (if nat_le seconds 1200 then 60 else
+    (if nat_le seconds 6000 then 300 else
+    (if nat_le seconds 12000 then 600 else
+    (if nat_le seconds 36000 then 1800 else 7200)))))))
+
+-- what is told at a mark: the clock at a minute, and else the second of the minute
+abbrev pub mark_name : ℕ → List ℕ
+mark_name second = if second % 60 == 0 then clock_text second else number_text (second % 60)
+
+-- how far from the left a second stands, in a line of so many seconds from this one on
+abbrev pub place_of : ℕ → ℕ → ℕ → ℕ
+place_of seconds begin second = 140 + (second - begin) * 1000 / seconds
+
+-- the line of a mark that stands here, through so many bands
+abbrev pub grid_text : ℕ → ℕ → List ℕ
+grid_text bands x =
+    attribute_text (codes "<line class=\"a\" x1=\"") x ++ (attribute_text (codes " x2=\"") x
+    ++ (attribute_text (codes " y2=\"") (height_of bands + 4) ++ codes "/>"))
+
+-- what is told below it
+abbrev pub second_text : ℕ → ℕ → ℕ → List ℕ
+second_text bands x second =
+    attribute_text (codes "<text class=\"k\" x=\"") x ++ (attribute_text (codes " y=\"") (height_of bands + 16)
+    ++ (codes ">" ++ (mark_name second ++ codes "</text>\n")))
+
+-- the mark of a second
+abbrev pub mark_text : ℕ → ℕ → ℕ → ℕ → List ℕ
+mark_text bands seconds begin second =
+    grid_text bands (place_of seconds begin second) ++ second_text bands (place_of seconds begin second) second
+
+-- so many marks, a step from one to the next, from this one on
+unfoldable pub marks_text : ℕ → ℕ → ℕ → ℕ → ℕ → ℕ → List ℕ
+marks_text bands seconds begin step index zero = []
+marks_text bands seconds begin step index (suc count) =
+    mark_text bands seconds begin (index * step) ++ marks_text bands seconds begin step (index + 1) count
+
+-- how many marks there are before a second
+abbrev pub marks_before : ℕ → ℕ → ℕ
+marks_before second step = (second + (step - 1)) / step
+
+-- the marks from one second to before another
+abbrev pub marks_between : ℕ → ℕ → ℕ → ℕ → ℕ → List ℕ
+marks_between bands seconds begin end step =
+    marks_text bands seconds begin step (marks_before begin step) (marks_before end step - marks_before begin step)
+
+-- the axis of line k
+abbrev pub axis_text : ℕ → ℕ → ℕ → List ℕ
+axis_text bands seconds k = marks_between bands seconds (k * seconds) (k * seconds + seconds) (step_of seconds)
+
+-- ## Lines
+
+-- how high a line is
+abbrev pub line_height : ℕ → ℕ
+line_height bands = height_of bands + 36
+
+-- how far from the top line k stands
+abbrev pub line_top : ℕ → ℕ → ℕ
+line_top bands k = 64 + k * line_height bands
+
+-- the clock of line k
+abbrev pub line_clock : ℕ → ℕ → List ℕ
+line_clock seconds k = clock_text (k * seconds)
+
+-- the head of line k: where it stands, and its clock
+abbrev pub head_text : ℕ → ℕ → ℕ → List ℕ
+head_text bands seconds k =
+    attribute_text (codes "<svg width=\"1160\" height=\"") (line_height bands)
+    ++ (attribute_text (codes " y=\"") (line_top bands k)
+    ++ (codes ">\n<text class=\"b\" x=\"4\" y=\"12\">" ++ (line_clock seconds k ++ codes "</text>\n")))
+
+-- the bars of line k, of what is in force from its first tick on
+abbrev pub plot_text : List Band → ℕ → ℕ → ℕ → List Shown → List LogRow → List ℕ
+plot_text bands seconds last k changes rows =
+    frame_text (height_of (length bands)) (first_tick seconds k) (10 * seconds)
+    ++ (bands_text (first_tick seconds k) (end_tick seconds last k)
+    (before_tick tick_of_change (end_tick seconds last k) changes)
+    (before_tick tick_of_row (end_tick seconds last k) rows) 0 bands
+    ++ codes "</svg>\n")
+
+-- line k, of what is in force from its first tick on
+unfoldable pub line_text : List Band → ℕ → ℕ → ℕ → List Shown → List LogRow → List ℕ
+line_text bands seconds last k changes rows =
+    head_text (length bands) seconds k ++ (labels_text 0 bands ++ (axis_text (length bands) seconds k
+    ++ (plot_text bands seconds last k changes rows ++ codes "</svg>\n")))
+
+-- so many lines, from line k on
+unfoldable pub lines_text : List Band → ℕ → ℕ → List Shown → List LogRow → ℕ → ℕ → List ℕ
+lines_text bands seconds last changes rows k zero = []
+lines_text bands seconds last changes rows k (suc count) =
+    line_text bands seconds last k (from_tick tick_of_change (first_tick seconds k) changes)
+    (from_tick tick_of_row (first_tick seconds k) rows)
+    ++ lines_text bands seconds last changes rows (k + 1) count

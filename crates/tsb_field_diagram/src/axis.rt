@@ -1,0 +1,153 @@
+//! The axis of a line of a diagram.
+ghost use Rattle.std.specs.Prelude.{◌≡◌, ◌≤◌, ◌<◌, ◌++◌, ◌*◌, ◌^◌, OnOk};
+ghost use Rattle.tsb_field_diagram.specs.Lines.{axis_text, grid_text, mark_name, mark_text, marks_before, marks_between, place_of, second_text, step_of};
+
+use crate::band::BAND;
+use crate::write::{append, append_attribute, append_clock, append_number};
+use std::alloc::AllocError;
+
+/// How far from the left the bars begin.
+const LEFT: u128 = 140;
+
+/// How wide the bars of a line are.
+const WIDTH: u128 = 1000;
+
+/// Puts the axis of a line of so many seconds behind a text.
+pub(crate) fn append_axis(
+    text: &mut Vec<u8>,
+    bands: usize,
+    seconds: u32,
+    line: u32,
+) -> Result<(), AllocError>
+    requires some { 1 ≤ seconds }
+    requires most { seconds ≤ 86400 }
+    ensures { OnOk result (text.new.items ≡ text.old.items ++ axis_text bands seconds line) }
+{
+    let begin = u64::from(line) * u64::from(seconds);
+    let end = begin + u64::from(seconds);
+    append_marks(text, bands, seconds, begin, end, step_of(seconds))
+}
+
+/// Puts the marks from one second to before another behind a text.
+fn append_marks(
+    text: &mut Vec<u8>,
+    bands: usize,
+    seconds: u32,
+    begin: u64,
+    end: u64,
+    step: u32,
+) -> Result<(), AllocError>
+    requires some { 1 ≤ seconds }
+    requires step { 1 ≤ step }
+    requires begin { begin < 2 ^ 63 }
+    requires end { end < 2 ^ 63 }
+    ensures { OnOk result (text.new.items ≡ text.old.items ++ marks_between bands seconds begin end step) }
+{
+    let from = marks_before(begin, step);
+    let until = marks_before(end, step);
+    for index in from..until {
+        append_mark(text, bands, seconds, begin, second_of(index, step))?;
+    }
+    Ok(())
+}
+
+/// How many marks there are before a second.
+fn marks_before(second: u64, step: u32) -> u64
+    requires step { 1 ≤ step }
+    requires second { second < 2 ^ 63 }
+    ensures { result ≡ marks_before second step }
+{
+    (second + u64::from(step - 1)) / u64::from(step)
+}
+
+/// The second of a mark.
+fn second_of(index: u64, step: u32) -> u128
+    ensures same { result ≡ index * step }
+    ensures fits { result < 2 ^ 96 }
+{
+    u128::from(index) * u128::from(step)
+}
+
+/// Puts the mark of a second behind a text.
+fn append_mark(
+    text: &mut Vec<u8>,
+    bands: usize,
+    seconds: u32,
+    begin: u64,
+    second: u128,
+) -> Result<(), AllocError>
+    requires some { 1 ≤ seconds }
+    requires fits { second < 2 ^ 96 }
+    ensures { OnOk result (text.new.items ≡ text.old.items ++ mark_text bands seconds begin second) }
+{
+    let x = place_of(seconds, begin, second);
+    append_grid(text, bands, x)?;
+    append_second(text, bands, x, second)
+}
+
+/// How far from the left a second stands, in a line of so many seconds from another on.
+fn place_of(seconds: u32, begin: u64, second: u128) -> u128
+    requires some { 1 ≤ seconds }
+    requires fits { second < 2 ^ 96 }
+    ensures { result ≡ place_of seconds begin second }
+{
+    LEFT + second.saturating_sub(u128::from(begin)) * WIDTH / u128::from(seconds)
+}
+
+/// Puts the line of a mark behind a text.
+fn append_grid(text: &mut Vec<u8>, bands: usize, x: u128) -> Result<(), AllocError>
+    ensures { OnOk result (text.new.items ≡ text.old.items ++ grid_text bands x) }
+{
+    append_attribute(text, b"<line class=\"a\" x1=\"", x)?;
+    append_attribute(text, b" x2=\"", x)?;
+    append_attribute(text, b" y2=\"", BAND * bands as u128 + 4)?;
+    append(text, b"/>")
+}
+
+/// Puts what is told below a mark behind a text.
+fn append_second(text: &mut Vec<u8>, bands: usize, x: u128, second: u128) -> Result<(), AllocError>
+    ensures { OnOk result (text.new.items ≡ text.old.items ++ second_text bands x second) }
+{
+    append_attribute(text, b"<text class=\"k\" x=\"", x)?;
+    append_attribute(text, b" y=\"", BAND * bands as u128 + 16)?;
+    append(text, b">")?;
+    append_mark_name(text, second)?;
+    append(text, b"</text>\n")
+}
+
+/// Puts the clock of a minute behind a text, or else the second of its minute.
+fn append_mark_name(text: &mut Vec<u8>, second: u128) -> Result<(), AllocError>
+    ensures { OnOk result (text.new.items ≡ text.old.items ++ mark_name second) }
+{
+    if second % 60 == 0 {
+        append_clock(text, second)
+    } else {
+        append_number(text, second % 60)
+    }
+}
+
+/// How many seconds there are from one mark of the axis to the next: a line has 20 of them at most.
+fn step_of(seconds: u32) -> u32
+    ensures same { result ≡ step_of seconds }
+    ensures some { 1 ≤ result }
+{
+    if seconds <= 20 {
+        1
+    } else if seconds <= 100 {
+        5
+    } else if seconds <= 200 {
+        10
+    } else if seconds <= 600 {
+        30
+    } else if seconds <= 1200 {
+        60
+    } else if seconds <= 6000 {
+        300
+    } else if seconds <= 12_000 {
+        600
+    } else if seconds <= 36_000 {
+        1800
+    } else {
+        7200
+    }
+}

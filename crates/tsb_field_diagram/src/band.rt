@@ -1,0 +1,174 @@
+//! The bands of a diagram, and what each shows.
+ghost use Rattle.std.specs.Prelude.{◌≡◌};
+ghost use Rattle.tsb_types.specs.Lists.{is};
+ghost use Rattle.tsb_field_display.specs.Events.{is_in_flash};
+ghost use Rattle.tsb_field_diagram.specs.Bands.{flash_mark, mark_in_change, mark_in_row, on_mark, pedestrian_mark, served_mark, shows, vehicle_mark};
+
+use tsb_field_display::{PedestrianHeads, Shown, Signals, VehicleHeads};
+use tsb_log_text::LogRow;
+use tsb_types::NumberSet;
+
+/// How high a band is.
+pub(crate) const BAND: u128 = 16;
+
+/// What a band tells of.
+#[derive(Clone, Copy, Debug, PartialEq, Eq)]
+pub enum Kind {
+    /// A preempt in service.
+    Preempt,
+    /// Flash.
+    Flash,
+    /// The vehicle head of a phase.
+    Vehicle,
+    /// The pedestrian head of a phase.
+    Pedestrian,
+    /// The head of an overlap.
+    Overlap,
+    /// A vehicle detector.
+    VehicleInput,
+    /// A pedestrian detector.
+    PedestrianInput,
+    /// A preempt input.
+    PreemptInput,
+}
+
+/// A band of a diagram.
+#[derive(Clone, Copy, Debug, PartialEq, Eq)]
+pub struct Band {
+    /// What it tells of.
+    pub kind: Kind,
+    /// Which one, from 1. That of flash is 1.
+    pub number: u8,
+}
+
+/// What a band shows at a tick.
+#[derive(Clone, Copy, Debug, PartialEq, Eq)]
+pub enum Mark {
+    /// Nothing: the head is dark, the input is off, no such preempt is in service.
+    Dark,
+    /// Green.
+    Green,
+    /// Yellow.
+    Yellow,
+    /// Steady red.
+    Red,
+    /// Flashing red, or flash.
+    Flashing,
+    /// Walk.
+    Walk,
+    /// Clearance.
+    Clearance,
+    /// Don't walk.
+    DontWalk,
+    /// The preempt is in service.
+    Served,
+    /// The input is on.
+    On,
+}
+
+/// What a band shows of what is shown: nothing where it is the band of an input.
+pub(crate) fn mark_in_change(band: Band, shown: &Shown) -> Mark
+    ensures { result ≡ mark_in_change band shown.now }
+{
+    let signals = &shown.signals;
+    match band.kind {
+        Kind::Preempt => served_mark(band.number, signals.preempt),
+        Kind::Flash => flash_mark(signals),
+        Kind::Vehicle => vehicle_mark(band.number, &signals.vehicles),
+        Kind::Pedestrian => pedestrian_mark(band.number, &signals.pedestrians),
+        Kind::Overlap => vehicle_mark(band.number, &signals.overlaps),
+        _ => Mark::Dark,
+    }
+}
+
+/// What a band shows of a row of inputs: nothing where it is the band of no input.
+pub(crate) fn mark_in_row(band: Band, row: &LogRow) -> Mark
+    ensures { result ≡ mark_in_row band row.now }
+{
+    match band.kind {
+        Kind::VehicleInput => on_mark(shows(row.row.vehicles, band.number)),
+        Kind::PedestrianInput => on_mark(shows(row.row.pedestrians, band.number)),
+        Kind::PreemptInput => on_mark(shows(row.row.preempts, band.number)),
+        _ => Mark::Dark,
+    }
+}
+
+/// What a vehicle head shows.
+fn vehicle_mark(number: u8, heads: &VehicleHeads) -> Mark
+    ensures { result ≡ vehicle_mark number heads.now }
+{
+    if shows(heads.greens, number) {
+        Mark::Green
+    } else if shows(heads.yellows, number) {
+        Mark::Yellow
+    } else if shows(heads.reds, number) {
+        Mark::Red
+    } else if shows(heads.flashing, number) {
+        Mark::Flashing
+    } else {
+        Mark::Dark
+    }
+}
+
+/// What a pedestrian head shows.
+fn pedestrian_mark(number: u8, heads: &PedestrianHeads) -> Mark
+    ensures { result ≡ pedestrian_mark number heads.now }
+{
+    if shows(heads.walks, number) {
+        Mark::Walk
+    } else if shows(heads.clearances, number) {
+        Mark::Clearance
+    } else if shows(heads.dont_walks, number) {
+        Mark::DontWalk
+    } else {
+        Mark::Dark
+    }
+}
+
+/// What the band of a preempt shows.
+fn served_mark(number: u8, preempt: Option<u8>) -> Mark
+    ensures { result ≡ served_mark number preempt }
+{
+    match preempt {
+        Some(served) => {
+            if served == number {
+                Mark::Served
+            } else {
+                Mark::Dark
+            }
+        }
+        None => Mark::Dark,
+    }
+}
+
+/// What the band of flash shows.
+fn flash_mark(signals: &Signals) -> Mark
+    ensures { result ≡ flash_mark (is_in_flash signals.now) }
+{
+    if flashes(signals) {
+        Mark::Flashing
+    } else {
+        Mark::Dark
+    }
+}
+
+/// Whether some vehicle head flashes.
+fn flashes(signals: &Signals) -> bool
+    ensures { result ≡ is_in_flash signals.now }
+{
+    signals.vehicles.flashing.first().is_some()
+}
+
+/// What the band of an input shows.
+fn on_mark(on: bool) -> Mark
+    ensures { result ≡ on_mark on }
+{
+    if on { Mark::On } else { Mark::Dark }
+}
+
+/// Whether a number is in a set: none is that is not 1 to 16.
+fn shows(set: NumberSet, number: u8) -> bool
+    ensures { result ≡ shows set number }
+{
+    1 <= number && number <= 16 && set.contains(number)
+}

@@ -1,0 +1,235 @@
+//! The lines of a diagram.
+ghost use Rattle.std.specs.Prelude.{◌≡◌, ◌≤◌, ◌<◌, ◌++◌, ◌*◌, ◌^◌, OnOk};
+ghost use Rattle.tsb_field_diagram.specs.Lines.{band_text, bands_text, end_tick, first_tick, frame_text, head_text, height_of, label_text, labels_text, line_clock, line_count, line_height, line_text, line_top, lines_text, name_of, plot_text};
+
+use crate::axis::append_axis;
+use crate::band::{BAND, Band, Kind};
+use crate::bars::{
+    append_change_bars, append_row_bars, changes_before, changes_from, rows_before, rows_from,
+};
+use crate::write::{append, append_attribute, append_clock, append_named, append_number};
+use std::alloc::AllocError;
+use tsb_field_display::Shown;
+use tsb_log_text::LogRow;
+
+/// How far from the top the lines begin.
+pub(crate) const TOP: u128 = 64;
+
+/// Puts the lines of a diagram behind a text.
+pub(crate) fn append_lines(
+    text: &mut Vec<u8>,
+    bands: &[Band],
+    seconds: u32,
+    last: u32,
+    changes: &[Shown],
+    rows: &[LogRow],
+) -> Result<(), AllocError>
+    requires some { 1 ≤ seconds }
+    requires most { seconds ≤ 86400 }
+    ensures { OnOk result (text.new.items ≡ text.old.items ++ lines_text bands.now seconds last changes.now rows.now 0 (line_count seconds last)) }
+{
+    let mut changes = changes;
+    let mut rows = rows;
+    let count = line_count(seconds, last);
+    for line in 0..count {
+        let first = first_tick(seconds, line);
+        changes = changes_from(changes, first);
+        rows = rows_from(rows, first);
+        append_line(text, bands, seconds, last, line, changes, rows)?;
+    }
+    Ok(())
+}
+
+/// How many lines there are.
+pub(crate) fn line_count(seconds: u32, last: u32) -> u32
+    requires some { 1 ≤ seconds }
+    requires most { seconds ≤ 86400 }
+    ensures { result ≡ line_count seconds last }
+{
+    if last == 0 {
+        0
+    } else {
+        (last - 1) / (10 * seconds) + 1
+    }
+}
+
+/// How high a line is.
+pub(crate) fn line_height(bands: usize) -> u128
+    ensures same { result ≡ line_height bands }
+    ensures fits { result < 2 ^ 69 }
+{
+    BAND * bands as u128 + 36
+}
+
+/// How far from the top a line stands.
+pub(crate) fn line_top(bands: usize, line: u32) -> u128
+    ensures same { result ≡ line_top bands line }
+    ensures fits { result < 2 ^ 102 }
+{
+    TOP + u128::from(line) * line_height(bands)
+}
+
+/// Puts the clock of a line behind a text.
+fn append_line_clock(text: &mut Vec<u8>, seconds: u32, line: u32) -> Result<(), AllocError>
+    ensures { OnOk result (text.new.items ≡ text.old.items ++ line_clock seconds line) }
+{
+    append_clock(text, u128::from(line) * u128::from(seconds))
+}
+
+/// The first tick of a line.
+fn first_tick(seconds: u32, line: u32) -> u64
+    requires { seconds ≤ 86400 }
+    ensures same { result ≡ first_tick seconds line }
+    ensures fits { result < 2 ^ 63 }
+{
+    u64::from(line) * (10 * u64::from(seconds)) + 1
+}
+
+/// The tick behind the last one of a line: the last line ends with the last tick.
+fn end_tick(seconds: u32, last: u32, line: u32) -> u64
+    requires { seconds ≤ 86400 }
+    ensures { result ≡ end_tick seconds last line }
+{
+    let first = first_tick(seconds, line);
+    u64::min(first + 10 * u64::from(seconds), u64::from(last) + 1)
+}
+
+/// Puts a line behind a text, of what is in force from its first tick on.
+fn append_line(
+    text: &mut Vec<u8>,
+    bands: &[Band],
+    seconds: u32,
+    last: u32,
+    line: u32,
+    changes: &[Shown],
+    rows: &[LogRow],
+) -> Result<(), AllocError>
+    requires some { 1 ≤ seconds }
+    requires most { seconds ≤ 86400 }
+    ensures { OnOk result (text.new.items ≡ text.old.items ++ line_text bands.now seconds last line changes.now rows.now) }
+{
+    append_head(text, bands.len(), seconds, line)?;
+    append_labels(text, bands)?;
+    append_axis(text, bands.len(), seconds, line)?;
+    append_plot(text, bands, seconds, last, line, changes, rows)?;
+    append(text, b"</svg>\n")?;
+    Ok(())
+}
+
+/// Puts the head of a line behind a text: where it stands, and its clock.
+fn append_head(text: &mut Vec<u8>, bands: usize, seconds: u32, line: u32) -> Result<(), AllocError>
+    ensures { OnOk result (text.new.items ≡ text.old.items ++ head_text bands seconds line) }
+{
+    append_attribute(text, b"<svg width=\"1160\" height=\"", line_height(bands))?;
+    append_attribute(text, b" y=\"", line_top(bands, line))?;
+    append(text, b">\n<text class=\"b\" x=\"4\" y=\"12\">")?;
+    append_line_clock(text, seconds, line)?;
+    append(text, b"</text>\n")?;
+    Ok(())
+}
+
+/// Puts the labels of bands behind a text.
+fn append_labels(text: &mut Vec<u8>, bands: &[Band]) -> Result<(), AllocError>
+    ensures { OnOk result (text.new.items ≡ text.old.items ++ labels_text 0 bands.now) }
+{
+    for (place, band) in bands.iter().enumerate() {
+        append_label(text, place, *band)?;
+    }
+    Ok(())
+}
+
+/// Puts the label of a band behind a text.
+fn append_label(text: &mut Vec<u8>, place: usize, band: Band) -> Result<(), AllocError>
+    ensures { OnOk result (text.new.items ≡ text.old.items ++ label_text place band) }
+{
+    append_attribute(
+        text,
+        b"<text class=\"l\" x=\"132\" y=\"",
+        BAND * place as u128 + 12,
+    )?;
+    append(text, b">")?;
+    append_name(text, band.kind, u128::from(band.number))?;
+    append(text, b"</text>\n")
+}
+
+/// Puts what a band is called behind a text.
+fn append_name(text: &mut Vec<u8>, kind: Kind, number: u128) -> Result<(), AllocError>
+    ensures { OnOk result (text.new.items ≡ text.old.items ++ name_of kind number) }
+{
+    match kind {
+        Kind::Preempt => append_named(text, b"preempt ", number),
+        Kind::Flash => append(text, b"flash"),
+        Kind::Vehicle => append_number(text, number),
+        Kind::Pedestrian => {
+            append_number(text, number)?;
+            append(text, b" ped")
+        }
+        Kind::Overlap => append_named(text, b"overlap ", number),
+        Kind::VehicleInput => append_named(text, b"detector ", number),
+        Kind::PedestrianInput => append_named(text, b"ped detector ", number),
+        Kind::PreemptInput => append_named(text, b"preempt input ", number),
+    }
+}
+
+/// Puts the bars of a line behind a text, of what is in force from its first tick on.
+fn append_plot(
+    text: &mut Vec<u8>,
+    bands: &[Band],
+    seconds: u32,
+    last: u32,
+    line: u32,
+    changes: &[Shown],
+    rows: &[LogRow],
+) -> Result<(), AllocError>
+    requires { seconds ≤ 86400 }
+    ensures { OnOk result (text.new.items ≡ text.old.items ++ plot_text bands.now seconds last line changes.now rows.now) }
+{
+    let first = first_tick(seconds, line);
+    let end = end_tick(seconds, last, line);
+    let changes = changes_before(changes, end);
+    let rows = rows_before(rows, end);
+    append_frame(text, bands.len(), first, seconds)?;
+    append_bands(text, bands, first, end, changes, rows)?;
+    append(text, b"</svg>\n")?;
+    Ok(())
+}
+
+/// Puts the frame of the bars of a line behind a text, in which a tick is one unit wide.
+fn append_frame(
+    text: &mut Vec<u8>,
+    bands: usize,
+    first: u64,
+    seconds: u32,
+) -> Result<(), AllocError>
+    ensures { OnOk result (text.new.items ≡ text.old.items ++ frame_text (height_of bands) first (10 * seconds)) }
+{
+    let height = BAND * bands as u128;
+    append_attribute(
+        text,
+        b"<svg x=\"140\" width=\"1000\" preserveAspectRatio=\"none\" height=\"",
+        height,
+    )?;
+    append_named(text, b" viewBox=\"", u128::from(first))?;
+    append_named(text, b" 0 ", 10 * u128::from(seconds))?;
+    append_named(text, b" ", height)?;
+    append(text, b"\">\n")?;
+    Ok(())
+}
+
+/// Puts the bars of bands behind a text, of what is in force in a line.
+fn append_bands(
+    text: &mut Vec<u8>,
+    bands: &[Band],
+    first: u64,
+    end: u64,
+    changes: &[Shown],
+    rows: &[LogRow],
+) -> Result<(), AllocError>
+    ensures { OnOk result (text.new.items ≡ text.old.items ++ bands_text first end changes.now rows.now 0 bands.now) }
+{
+    for (place, band) in bands.iter().enumerate() {
+        append_change_bars(text, place, *band, first, end, changes)?;
+        append_row_bars(text, place, *band, first, end, rows)?;
+    }
+    Ok(())
+}

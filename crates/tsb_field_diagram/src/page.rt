@@ -1,0 +1,224 @@
+//! A diagram as a whole.
+ghost use Rattle.std.specs.Prelude.{◌≡◌, ◌≤◌, ◌++◌, IfOk, OnOk};
+ghost use Rattle.tsb_types.specs.Lists.{or_number};
+ghost use Rattle.tsb_field_diagram.specs.Page.{classes_text, clearance_text, diagram_text, flash_pattern_text, legend_text, line_seconds, names_text, opening_text, page_head, page_height, picture_text, shapes_text, style_text, titles_text, yellow_text};
+
+use crate::band::Band;
+use crate::line::{append_lines, line_count, line_top};
+use crate::lit::bands;
+use crate::title::append_title;
+use crate::write::{append, append_named};
+use std::alloc::{AllocError, Global};
+use tsb_field_display::Shown;
+use tsb_log_text::LogRow;
+
+/// The most seconds of a line: a day.
+const DAY: u32 = 86_400;
+
+/// The phase diagram of a session, as a picture in SVG.
+///
+/// `changes` are the first display line and those that show something else than the line before, whose ticks rise;
+/// what one shows holds up to the next, and what the last one shows up to tick `last`. Where `last` is none or 0, the
+/// picture has no lines. `rows` are those of a log of inputs, whose ticks rise: an input that is on in a row is on
+/// until the next row. There may be none. A tick is a tenth of a second, and tick 1 begins at time 0.
+///
+/// A line has `seconds_per_line` seconds, 1 to 86,400: 0 is taken as 1, and more as 86,400. In each line stand from
+/// top to bottom, where they are ever lit or on, the preempts in service, flash, the head of each phase with its
+/// pedestrian head below it, the overlaps, vehicle detectors, pedestrian detectors and preempt inputs; below them an
+/// axis of seconds, with the clock at minutes. A bar begins at its tick and is its ticks wide. Where a head is dark
+/// there is no bar.
+///
+/// `title` is UTF-8 text: what has a meaning in XML is escaped, and a control that XML forbids becomes `?`. U+FFFE and
+/// U+FFFF, which XML forbids too, are for the caller to leave out. The form of the picture is "profile". The error is
+/// that memory ran out.
+pub fn diagram_text(
+    alloc: Global,
+    title: &[u8],
+    seconds_per_line: u32,
+    changes: &[Shown],
+    last: Option<u32>,
+    rows: &[LogRow],
+) -> Result<Vec<u8>, AllocError>
+    ensures { IfOk result (λ text. text.items ≡ diagram_text title.now seconds_per_line changes.now last rows.now) }
+{
+    let seconds = line_seconds(seconds_per_line);
+    let last = last.unwrap_or(0);
+    let bands = bands(alloc, changes, rows)?;
+    let mut text = Vec::new(alloc);
+    append_picture(&mut text, title, &bands, seconds, last, changes, rows)?;
+    Ok(text)
+}
+
+/// The seconds of a line: 1 to a day.
+fn line_seconds(asked: u32) -> u32
+    ensures same { result ≡ line_seconds asked }
+    ensures some { 1 ≤ result }
+    ensures most { result ≤ 86400 }
+{
+    u32::min(u32::max(asked, 1), DAY)
+}
+
+/// Puts the diagram of these bands behind a text.
+fn append_picture(
+    text: &mut Vec<u8>,
+    title: &[u8],
+    bands: &[Band],
+    seconds: u32,
+    last: u32,
+    changes: &[Shown],
+    rows: &[LogRow],
+) -> Result<(), AllocError>
+    requires some { 1 ≤ seconds }
+    requires most { seconds ≤ 86400 }
+    ensures { OnOk result (text.new.items ≡ text.old.items ++ picture_text title.now bands.now seconds last changes.now rows.now) }
+{
+    let height = page_height(bands.len(), seconds, last);
+    append_page_head(text, title, seconds, height)?;
+    append_lines(text, bands, seconds, last, changes, rows)?;
+    append(text, b"</svg>\n")?;
+    Ok(())
+}
+
+/// How high the picture is.
+fn page_height(bands: usize, seconds: u32, last: u32) -> u128
+    requires some { 1 ≤ seconds }
+    requires most { seconds ≤ 86400 }
+    ensures { result ≡ page_height bands seconds last }
+{
+    line_top(bands, line_count(seconds, last))
+}
+
+/// Puts all before the lines behind a text.
+fn append_page_head(
+    text: &mut Vec<u8>,
+    title: &[u8],
+    seconds: u32,
+    height: u128,
+) -> Result<(), AllocError>
+    ensures { OnOk result (text.new.items ≡ text.old.items ++ page_head title.now seconds height) }
+{
+    append_opening(text, height)?;
+    append_titles(text, title)?;
+    append_classes(text, seconds)?;
+    append_legend(text, seconds)?;
+    Ok(())
+}
+
+/// Puts the head of the picture behind a text.
+fn append_opening(text: &mut Vec<u8>, height: u128) -> Result<(), AllocError>
+    ensures { OnOk result (text.new.items ≡ text.old.items ++ opening_text height) }
+{
+    append_named(
+        text,
+        b"<svg xmlns=\"http://www.w3.org/2000/svg\" font-family=\"sans-serif\" font-size=\"11\" width=\"1160\" height=\"",
+        height,
+    )?;
+    append_named(text, b"\" viewBox=\"0 0 1160 ", height)?;
+    append(text, b"\">\n")?;
+    Ok(())
+}
+
+/// Puts the title behind a text.
+fn append_titles(text: &mut Vec<u8>, title: &[u8]) -> Result<(), AllocError>
+    ensures { OnOk result (text.new.items ≡ text.old.items ++ titles_text title.now) }
+{
+    append(text, b"<title>")?;
+    append_title(text, title)?;
+    append(
+        text,
+        b"</title>\n<rect width=\"100%\" height=\"100%\" fill=\"#fff\"/>\n<text class=\"t\" x=\"4\" y=\"20\">",
+    )?;
+    append_title(text, title)?;
+    append(text, b"</text>\n")?;
+    Ok(())
+}
+
+/// Puts the classes and patterns of shapes behind a text.
+fn append_classes(text: &mut Vec<u8>, seconds: u32) -> Result<(), AllocError>
+    ensures { OnOk result (text.new.items ≡ text.old.items ++ classes_text seconds) }
+{
+    append(text, style())?;
+    append(text, flash_pattern())?;
+    append_yellow(text, seconds)?;
+    append_clearance(text, seconds)?;
+    Ok(())
+}
+
+/// Puts the pattern of yellow behind a text.
+fn append_yellow(text: &mut Vec<u8>, seconds: u32) -> Result<(), AllocError>
+    ensures { OnOk result (text.new.items ≡ text.old.items ++ yellow_text seconds) }
+{
+    append_named(
+        text,
+        b"<pattern id=\"h\" width=\"6\" height=\"6\" patternUnits=\"userSpaceOnUse\" patternTransform=\"scale(",
+        u128::from(seconds),
+    )?;
+    append(
+        text,
+        b"e-2 1) rotate(45)\"><rect width=\"6\" height=\"6\" fill=\"#fd4\"/><rect width=\"2\" height=\"6\"/></pattern>\n",
+    )?;
+    Ok(())
+}
+
+/// Puts the pattern of clearance behind a text.
+fn append_clearance(text: &mut Vec<u8>, seconds: u32) -> Result<(), AllocError>
+    ensures { OnOk result (text.new.items ≡ text.old.items ++ clearance_text seconds) }
+{
+    append_named(
+        text,
+        b"<pattern id=\"i\" width=\"4\" height=\"4\" patternUnits=\"userSpaceOnUse\" patternTransform=\"scale(",
+        u128::from(seconds),
+    )?;
+    append(
+        text,
+        b"e-2 1) rotate(-45)\"><rect width=\"4\" height=\"4\" fill=\"#fff\"/><rect width=\"2\" height=\"4\" fill=\"#06c\"/></pattern>\n",
+    )?;
+    Ok(())
+}
+
+/// Puts the legend behind a text.
+fn append_legend(text: &mut Vec<u8>, seconds: u32) -> Result<(), AllocError>
+    ensures { OnOk result (text.new.items ≡ text.old.items ++ legend_text seconds) }
+{
+    append_named(
+        text,
+        b"<svg x=\"140\" y=\"32\" width=\"1000\" height=\"16\" preserveAspectRatio=\"none\" viewBox=\"0 0 ",
+        10 * u128::from(seconds),
+    )?;
+    append(text, b" 16\">\n")?;
+    append(text, shapes())?;
+    append(text, names())?;
+    Ok(())
+}
+
+/// The classes of its shapes.
+#[tactic(auto, unfolding(crate::specs::Page::style_text))]
+fn style() -> &'static [u8]
+    ensures { result.now ≡ style_text }
+{
+    b"<style>.g{fill:#1a7f37}.y{fill:url(#h)}.r{fill:#c00}.f{fill:url(#f)}.w{fill:#06c}.c{fill:url(#i)}.d{fill:#888}.p{fill:#639}.o{fill:#000}.a{stroke:#bbb}.b{font-weight:bold}.k{text-anchor:middle}.l{text-anchor:end}.t{font-size:16px;font-weight:bold}</style>\n"
+}
+
+/// The pattern of what flashes.
+#[tactic(auto, unfolding(crate::specs::Page::flash_pattern_text))]
+fn flash_pattern() -> &'static [u8]
+    ensures { result.now ≡ flash_pattern_text }
+{
+    b"<pattern id=\"f\" width=\"10\" height=\"12\" patternUnits=\"userSpaceOnUse\"><rect width=\"5\" height=\"12\" fill=\"#c00\"/></pattern>\n"
+}
+
+/// The shapes of the legend.
+#[tactic(auto, unfolding(crate::specs::Page::shapes_text))]
+fn shapes() -> &'static [u8]
+    ensures { result.now ≡ shapes_text }
+{
+    b"<rect class=\"g\" height=\"12\" y=\"2\" x=\"0%\" width=\"3%\"/><rect class=\"y\" height=\"12\" y=\"2\" x=\"11%\" width=\"3%\"/><rect class=\"r\" height=\"3\" y=\"7\" x=\"22%\" width=\"3%\"/><rect class=\"f\" height=\"6\" y=\"5\" x=\"33%\" width=\"3%\"/><rect class=\"w\" height=\"8\" y=\"4\" x=\"44%\" width=\"3%\"/><rect class=\"c\" height=\"8\" y=\"4\" x=\"55%\" width=\"3%\"/><rect class=\"d\" height=\"1\" y=\"8\" x=\"66%\" width=\"3%\"/><rect class=\"p\" height=\"8\" y=\"4\" x=\"77%\" width=\"3%\"/><rect class=\"o\" height=\"4\" y=\"6\" x=\"88%\" width=\"3%\"/></svg>\n"
+}
+
+/// Their names.
+#[tactic(auto, unfolding(crate::specs::Page::names_text))]
+fn names() -> &'static [u8]
+    ensures { result.now ≡ names_text }
+{
+    b"<text x=\"175\" y=\"44\">green</text><text x=\"285\" y=\"44\">yellow</text><text x=\"395\" y=\"44\">red</text><text x=\"505\" y=\"44\">flashing red</text><text x=\"615\" y=\"44\">walk</text><text x=\"725\" y=\"44\">clearance</text><text x=\"835\" y=\"44\">don't walk</text><text x=\"945\" y=\"44\">preempt</text><text x=\"1055\" y=\"44\">input on</text>\n"
+}

@@ -1,0 +1,48 @@
+//! Titles.
+ghost use Rattle.std.specs.Prelude.{◌≡◌, ◌++◌, OnOk};
+ghost use Rattle.tsb_field_diagram.specs.Text.{escaped, escaped_byte, is_forbidden, plain_byte};
+
+use crate::write::append;
+use std::alloc::AllocError;
+
+/// Puts a title behind a text: what has a meaning in XML is escaped, and a control that XML forbids becomes `?`.
+pub(crate) fn append_title(text: &mut Vec<u8>, title: &[u8]) -> Result<(), AllocError>
+    ensures { OnOk result (text.new.items ≡ text.old.items ++ escaped title.now) }
+{
+    for byte in title {
+        append_byte(text, *byte)?;
+    }
+    Ok(())
+}
+
+/// Puts a byte of a title behind a text.
+fn append_byte(text: &mut Vec<u8>, byte: u8) -> Result<(), AllocError>
+    ensures { OnOk result (text.new.items ≡ text.old.items ++ escaped_byte byte) }
+{
+    match byte {
+        b'&' => append(text, b"&amp;"),
+        b'<' => append(text, b"&lt;"),
+        b'>' => append(text, b"&gt;"),
+        b'"' => append(text, b"&quot;"),
+        b'\'' => append(text, b"&#39;"),
+        _ => append_plain(text, byte),
+    }
+}
+
+/// Puts a byte behind a text that has no meaning in XML.
+fn append_plain(text: &mut Vec<u8>, byte: u8) -> Result<(), AllocError>
+    ensures { OnOk result (text.new.items ≡ text.old.items ++ plain_byte byte) }
+{
+    if is_forbidden(byte) {
+        append(text, b"?")
+    } else {
+        append(text, &[byte])
+    }
+}
+
+/// Whether a byte is a control that XML forbids.
+fn is_forbidden(byte: u8) -> bool
+    ensures { result ≡ is_forbidden byte }
+{
+    byte < 32 && byte != b'\t' && byte != b'\n' && byte != b'\r'
+}

@@ -1,0 +1,62 @@
+//! Parts of a text, put behind it.
+ghost use Rattle.std.specs.Prelude.{◌≡◌, ◌++◌, OnOk};
+ghost use Rattle.tsb_field_diagram.specs.Text.{attribute_text, clock_text, named_text, number_text, two_digits};
+
+use itoa::Buffer;
+use std::alloc::AllocError;
+
+/// Puts a part behind a text. Where memory runs out, the text is as it was.
+pub(crate) fn append(text: &mut Vec<u8>, part: &[u8]) -> Result<(), AllocError>
+    ensures { OnOk result (text.new.items ≡ text.old.items ++ part.now) }
+{
+    text.extend_from_slice(part)
+}
+
+/// Puts a number behind a text.
+pub(crate) fn append_number(text: &mut Vec<u8>, number: u128) -> Result<(), AllocError>
+    ensures { OnOk result (text.new.items ≡ text.old.items ++ number_text number) }
+{
+    let mut buffer = Buffer::new();
+    text.extend_from_slice(buffer.format(number).as_bytes())
+}
+
+/// Puts a name and a number behind a text.
+pub(crate) fn append_named(text: &mut Vec<u8>, name: &[u8], number: u128) -> Result<(), AllocError>
+    ensures { OnOk result (text.new.items ≡ text.old.items ++ named_text name.now number) }
+{
+    append(text, name)?;
+    append_number(text, number)
+}
+
+/// Puts a number in double quotes behind a text, where `name` ends with the first of them.
+pub(crate) fn append_attribute(
+    text: &mut Vec<u8>,
+    name: &[u8],
+    number: u128,
+) -> Result<(), AllocError>
+    ensures { OnOk result (text.new.items ≡ text.old.items ++ attribute_text name.now number) }
+{
+    append(text, name)?;
+    append_number(text, number)?;
+    append(text, b"\"")
+}
+
+/// Puts the last two digits of a number behind a text.
+fn append_two_digits(text: &mut Vec<u8>, number: u128) -> Result<(), AllocError>
+    ensures { OnOk result (text.new.items ≡ text.old.items ++ two_digits number) }
+{
+    let tens = b'0' + (number / 10 % 10) as u8;
+    let ones = b'0' + (number % 10) as u8;
+    append(text, &[tens, ones])
+}
+
+/// Puts the clock of a second behind a text, as `h:mm:ss`.
+pub(crate) fn append_clock(text: &mut Vec<u8>, second: u128) -> Result<(), AllocError>
+    ensures { OnOk result (text.new.items ≡ text.old.items ++ clock_text second) }
+{
+    append_number(text, second / 3600)?;
+    append(text, b":")?;
+    append_two_digits(text, second / 60 % 60)?;
+    append(text, b":")?;
+    append_two_digits(text, second % 60)
+}
