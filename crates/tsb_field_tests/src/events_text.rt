@@ -1,0 +1,185 @@
+//! The events of a session as the text of an event log. Expected texts are worked by hand from the rules.
+
+use tsb_event_text::{Moment, read_moment};
+use tsb_field_display::{Shown, read_line};
+use tsb_field_events::{EventsError, events_text};
+use tsb_log_text::LogRow;
+use tsb_types::{NumberSet, Row};
+
+const START: &[u8] = b"2026-11-22 07:00:00";
+
+const RED: &[u8] = b"0000001 -R-R------------ -D-------------- R--- 0 ----";
+
+const GREEN: &[u8] = b"0000002 -G-R------------ -W-------------- G--- 0 ----";
+
+const CLEARING: &[u8] = b"0000045 -G-R------------ -C-------------- G--- 2 0759";
+
+const YELLOW: &[u8] = b"0000101 -Y-R------------ -D-------------- Y--- 2 ----";
+
+const FLASH: &[u8] = b"0000102 -F-F------------ ---------------- F--- 2 ----";
+
+const RED_AGAIN: &[u8] = b"0000103 -R-R------------ -D-------------- R--- 0 ----";
+
+const GREEN_AT_POWER_UP: &[u8] = b"0000000 -G-R------------ -D-------------- R--- 0 ----";
+
+/// Each code of display lines.
+const OF_DISPLAY: &[u8] = b"SignalID,Timestamp,EventCode,EventParam
+7,2026-11-22 07:00:00.1,1,2
+7,2026-11-22 07:00:00.1,21,2
+7,2026-11-22 07:00:00.1,61,1
+7,2026-11-22 07:00:04.4,22,2
+7,2026-11-22 07:00:04.4,105,2
+7,2026-11-22 07:00:10.0,7,2
+7,2026-11-22 07:00:10.0,8,2
+7,2026-11-22 07:00:10.0,23,2
+7,2026-11-22 07:00:10.0,63,1
+7,2026-11-22 07:00:10.1,9,2
+7,2026-11-22 07:00:10.1,65,1
+7,2026-11-22 07:00:10.1,173,6
+7,2026-11-22 07:00:10.2,173,2
+";
+
+/// Each code of inputs. Tick 6,000,000 comes 6 days, 22 hours, 39 minutes and 59.9 seconds after tick 1.
+const OF_INPUTS: &[u8] = b"SignalID,Timestamp,EventCode,EventParam
+7,2026-11-22 07:00:00.0,82,1
+7,2026-11-22 07:00:00.0,82,16
+7,2026-11-22 07:00:00.0,90,8
+7,2026-11-22 07:00:00.0,102,4
+7,2026-11-22 07:00:00.2,81,1
+7,2026-11-22 07:00:00.2,89,8
+7,2026-11-22 07:00:00.2,102,1
+7,2026-11-22 07:00:00.2,104,4
+7,2026-11-29 05:39:59.9,81,16
+7,2026-11-29 05:39:59.9,104,1
+";
+
+/// Events of heads and of inputs in one tick.
+const OF_BOTH: &[u8] = b"SignalID,Timestamp,EventCode,EventParam
+7,2026-11-22 07:00:04.3,82,3
+7,2026-11-22 07:00:04.4,1,2
+7,2026-11-22 07:00:04.4,22,2
+7,2026-11-22 07:00:04.4,61,1
+7,2026-11-22 07:00:04.4,81,3
+7,2026-11-22 07:00:04.4,82,2
+7,2026-11-22 07:00:04.4,90,2
+7,2026-11-22 07:00:04.4,102,2
+7,2026-11-22 07:00:04.4,105,2
+7,2026-11-22 07:00:04.5,81,2
+7,2026-11-22 07:00:04.5,89,2
+7,2026-11-22 07:00:04.5,104,2
+";
+
+/// A device with a comma, with an event at power-up.
+const OF_POWER_UP: &[u8] = b"SignalID,Timestamp,EventCode,EventParam
+\"7,north\",2026-11-22 07:00:00.0,1,2
+";
+
+const HEADER_ALONE: &[u8] = b"SignalID,Timestamp,EventCode,EventParam
+";
+
+/// The time of tick 9,999,999, which is that of later ticks too.
+const OF_THE_LAST: &[u8] = b"SignalID,Timestamp,EventCode,EventParam
+7,9999-12-31 23:59:59.999999999,82,1
+7,9999-12-31 23:59:59.999999999,81,1
+";
+
+/// A moment that a text names; one before the year 0 where it names none.
+fn moment(text: &[u8]) -> Moment {
+    match read_moment(text) {
+        Some(moment) => moment,
+        None => Moment { nanos: 0 },
+    }
+}
+
+/// What a line shows; tick 77 with no head lit where it shows nothing.
+fn shown(line: &[u8]) -> Shown {
+    match read_line(line) {
+        Some(shown) => shown,
+        None => Shown {
+            tick: 77,
+            signals: tsb_field_display::Signals::nothing_lit(),
+        },
+    }
+}
+
+fn row(tick: u32, vehicles: u16, pedestrians: u16, preempts: u16) -> LogRow {
+    LogRow {
+        tick,
+        row: Row {
+            vehicles: NumberSet::from_list(vehicles),
+            pedestrians: NumberSet::from_list(pedestrians),
+            preempts: NumberSet::from_list(preempts),
+        },
+    }
+}
+
+#[test]
+fn display_lines_are_told(rt: HostRuntime) -> Result<(), EventsError> {
+    let changes = [
+        shown(RED),
+        shown(GREEN),
+        shown(CLEARING),
+        shown(YELLOW),
+        shown(FLASH),
+        shown(RED_AGAIN),
+    ];
+    let text = events_text(rt.alloc(), moment(START), b"7", &changes, &[])?;
+    assert_eq!(rt; text.as_slice(), OF_DISPLAY);
+    Ok(())
+}
+
+#[test]
+fn inputs_are_told(rt: HostRuntime) -> Result<(), EventsError> {
+    let rows = [
+        row(1, 32_769, 128, 8),
+        row(3, 32_768, 0, 1),
+        row(6_000_000, 0, 0, 0),
+    ];
+    let text = events_text(rt.alloc(), moment(START), b"7", &[], &rows)?;
+    assert_eq!(rt; text.as_slice(), OF_INPUTS);
+    Ok(())
+}
+
+#[test]
+fn both_are_told_in_one_order(rt: HostRuntime) -> Result<(), EventsError> {
+    let changes = [shown(RED), shown(CLEARING)];
+    let rows = [row(44, 4, 0, 0), row(45, 2, 2, 2), row(46, 0, 0, 0)];
+    let text = events_text(rt.alloc(), moment(START), b"7", &changes, &rows)?;
+    assert_eq!(rt; text.as_slice(), OF_BOTH);
+    Ok(())
+}
+
+#[test]
+fn power_up_is_told_at_the_first_tick(rt: HostRuntime) -> Result<(), EventsError> {
+    let alloc = rt.alloc();
+    let changes = [shown(GREEN_AT_POWER_UP)];
+    let text = events_text(alloc, moment(START), b"7,north", &changes, &[])?;
+    assert_eq!(rt; text.as_slice(), OF_POWER_UP);
+    let none = events_text(alloc, moment(START), b"7", &[], &[])?;
+    assert_eq!(rt; none.as_slice(), HEADER_ALONE);
+    Ok(())
+}
+
+#[test]
+fn no_time_is_past_the_last_year(rt: HostRuntime) -> Result<(), EventsError> {
+    let alloc = rt.alloc();
+    let last = moment(b"9999-12-20 10:13:20.199999999");
+    let rows = [row(9_999_999, 1, 0, 0), row(10_000_000, 0, 0, 0)];
+    let text = events_text(alloc, last, b"7", &[], &rows)?;
+    assert_eq!(rt; text.as_slice(), OF_THE_LAST);
+    let late = moment(b"9999-12-20 10:13:20.2");
+    assert!(rt;
+        matches!(
+            events_text(alloc, late, b"7", &[], &[]),
+            Err(EventsError::Late)
+        )
+    );
+    let early = Moment { nanos: 0 };
+    assert!(rt;
+        matches!(
+            events_text(alloc, early, b"7", &[], &[]),
+            Err(EventsError::Late)
+        )
+    );
+    Ok(())
+}
