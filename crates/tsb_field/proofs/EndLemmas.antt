@@ -1,0 +1,35 @@
+-- How the program ends.
+use Rattle.std.proofs.Common.{◌≡◌, ℕ, List, subst, inl, inr}
+use Rattle.std.specs.Prelude.{Err}
+use Rattle.std.specs.declared.option.Option.{Option}
+use Rattle.tsb_program.specs.declared.files.FileError.TheVariants as files
+use Rattle.tsb_program.specs.declared.read.ReadError.{ReadError}
+use Rattle.tsb_program.specs.declared.read.ReadError.TheVariants as faults
+use Rattle.tsb_event_text.specs.declared.times.Moment.{Moment}
+use Rattle.tsb_log_text.specs.declared.error.LogError.{LogError}
+use Rattle.tsb_log_text.specs.declared.log.LogRow.{LogRow}
+use Rattle.tsb_field_display.specs.declared.shown.Shown.{Shown}
+use Rattle.tsb_field_events.specs.Merge.{session_events}
+use Rattle.tsb_field_events.specs.Texts.{IsLog}
+use Rattle.tsb_field.specs.declared.end.Failure.TheVariants.{Memory, Read}
+use Rattle.tsb_field.specs.Ends.{IsEvents, LogNamed, Pictured, Stops, TellsNoLog}
+
+-- there is no log
+pub stops : (fault : ReadError LogError) (known : List ℕ → Option (List ℕ)) (path : Option (List ℕ)) (status : ℕ) (told tells : Option (List ℕ)) → LogNamed (Err fault) known path
+    → TellsNoLog fault status told tells → Stops known path status told tells
+stops (faults.Failed files.Memory) known path status told tells none line = inr (Memory, line)
+stops (faults.Failed files.Read) known path status told tells none line = inr (Read, line)
+stops (faults.Refused fault) known path status told tells none line = inl (fault, none, line)
+
+-- what was handed on is the same
+pub events-are : (from : Moment) (device other : List ℕ) (lines shown : List Shown) (rows named : List LogRow) (last : Option ℕ) (text : List ℕ) → other ≡ device → shown ≡ lines → named ≡ rows
+    → IsLog from other (session_events shown named) text → IsEvents from device lines last rows text
+events-are from device other lines shown rows named last text same_device same_lines same_rows log =
+    subst (λ (d : List ℕ). IsLog from d (session_events lines rows) text) same_device
+    (subst (λ (s : List Shown). IsLog from other (session_events s rows) text) same_lines (subst (λ (r : List LogRow). IsLog from other (session_events shown r) text) same_rows log))
+
+pub pictured-as : (status : ℕ) (title other : List ℕ) (seconds more : ℕ) (known : List ℕ → Option (List ℕ)) (path input left old new told tells : Option (List ℕ)) → other ≡ title → more ≡ seconds
+    → Pictured status other more known path input left old new told tells → Pictured status title seconds known path input left old new told tells
+pictured-as status title other seconds more known path input left old new told tells same_title same_seconds drawn =
+    subst (λ (t : List ℕ). Pictured status t seconds known path input left old new told tells) same_title
+    (subst (λ (s : ℕ). Pictured status other s known path input left old new told tells) same_seconds drawn)

@@ -1,0 +1,2 @@
+-- how the program ends
+pub mod EndLemmas

@@ -1,0 +1,16 @@
+use Rattle.std.proofs.Common.{◌∙◌, Ok, Some, ap}
+use Rattle.tsb_field_words.specs.Words.{seen}
+use Rattle.tsb_field_words.specs.declared.words.Asked.{Asked}
+use Rattle.tsb_field_words.specs.declared.words.Asked.TheVariants as asks
+use Rattle.tsb_field.proofs.EndLemmas.{pictured-as}
+use Rattle.tsb_field.proofs.run.run_words.Goals as goal
+
+pub returns-in-Ok-Events : goal.returns-in-Ok-Events
+returns-in-Ok-Events g c = (Ok (asks.Events c.in-Ok-Events.from c.in-Ok-Events.device c.in-Ok-Events.log), c.in-Ok-Events.ensures ∙ ap (λ (asked : Asked). Some (seen asked)) c.in-Ok-Events.field-0-is, c.write_events.ensures)
+
+pub returns-in-Ok-Diagram : goal.returns-in-Ok-Diagram
+returns-in-Ok-Diagram g c = (
+  Ok (asks.Diagram c.in-Ok-Diagram.log c.in-Ok-Diagram.title c.in-Ok-Diagram.seconds_per_line),
+  c.in-Ok-Diagram.ensures ∙ ap (λ (asked : Asked). Some (seen asked)) c.in-Ok-Diagram.field-0-is,
+  pictured-as c.write_diagram.result _ c.title_of-title.result.now _ c.unwrap_or-seconds.result _ _ _ _ _ _ _ _ c.title_of-title.ensures c.unwrap_or-seconds.ensures c.write_diagram.ensures,
+)

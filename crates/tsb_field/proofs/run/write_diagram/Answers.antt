@@ -1,0 +1,15 @@
+use Rattle.std.proofs.Common.{inl, inr, refl}
+use Rattle.tsb_field.specs.declared.end.Failure.TheVariants.{Memory}
+use Rattle.tsb_field.proofs.EndLemmas.{stops}
+use Rattle.tsb_field.proofs.run.write_diagram.Goals as goal
+
+pub returns-in-Err : goal.returns-in-Err
+returns-in-Err g c = inl (refl, refl, stops c.in-Err.fault _ _ c.refuse_log.result _ _ c.in-Err.ensures c.refuse_log.ensures)
+
+pub returns-in-Err-read_history : goal.returns-in-Err-read_history
+returns-in-Err-read_history g c =
+    inr (c.in-Ok.rows, c.in-Ok.ensures, inr (c.in-Err-read_history.ensures.bytes, c.in-Err-read_history.ensures.taken, refl, c.failure_of.result, c.fail.ensures))
+
+pub returns : goal.returns
+returns g c =
+    inr (c.in-Ok.rows, c.in-Ok.ensures, inr (c.in-Ok-read_history.ensures.bytes, c.in-Ok-read_history.ensures.taken, refl, Memory, c.fail-in-Err-diagram_text.ensures))

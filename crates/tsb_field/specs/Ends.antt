@@ -1,0 +1,138 @@
+-- How the program ends, and what it has then written on its output and of faults.
+--
+-- Of each stream there are the bytes before and after: `input` and `left`, `old` and `new`, `told` and `tells`.
+use Rattle.std.specs.Prelude.{◌≡◌, ◌⊎◌, ℕ, List, [], Option, Some, None, Result, Ok, Err, unwrap_or, codes}
+use Rattle.std.specs.Io.KnownBytes.{Appends, Consumes, IsAtEnd, Keeps}
+use Rattle.tsb_streams.specs.Writes.{AppendsFront}
+use Rattle.tsb_program.specs.Read.{HasLog, RefusesLog}
+use Rattle.tsb_program.specs.declared.files.FileError.{FileError}
+use Rattle.tsb_program.specs.declared.files.FileError.TheVariants as files
+use Rattle.tsb_program.specs.declared.read.ReadError.{ReadError}
+use Rattle.tsb_program.specs.declared.read.ReadError.TheVariants as faults
+use Rattle.tsb_log_text.specs.declared.error.LogError.{LogError}
+use Rattle.tsb_log_text.specs.declared.log.LogRow.{LogRow}
+use Rattle.tsb_log_text.specs.FaultLines.{log_fault}
+use Rattle.tsb_event_text.specs.declared.times.Moment.{Moment}
+use Rattle.tsb_field_display.specs.Remaining.{changes_of, last_tick, remaining}
+use Rattle.tsb_field_display.specs.Stream.{shown_lines}
+use Rattle.tsb_field_display.specs.declared.shown.Shown.{Shown}
+use Rattle.tsb_field_diagram.specs.Page.{diagram_text}
+use Rattle.tsb_field_events.specs.Merge.{session_events}
+use Rattle.tsb_field_events.specs.Texts.{IsLog}
+use Rattle.tsb_field_events.specs.Ticks.{AreWritten}
+use Rattle.tsb_field_log.specs.Mapping.{wires_of}
+use Rattle.tsb_field_streams.specs.Filtering.{Given}
+use Rattle.tsb_field_streams.specs.Streaming.{Ended}
+use Rattle.tsb_field_streams.specs.declared.error.FilterError.{FilterError}
+use Rattle.tsb_field_streams.specs.declared.filter.LeftOut.{LeftOut}
+use Rattle.tsb_field_words.specs.Words.{Wish, diagram, events, log, seen}
+use Rattle.tsb_field_words.specs.declared.words.Asked.{Asked}
+use Rattle.tsb_field_words.specs.declared.words.WordsError.{WordsError}
+use Rattle.tsb_field.specs.declared.end.Failure.{Failure}
+use Rattle.tsb_field.specs.declared.end.Failure.TheVariants.{Memory, Read, Write}
+use Rattle.tsb_field.specs.Lines.{Fails, Refuses, TellsFault, TellsLate, TellsLeftOut, TellsWords}
+
+-- ## `log`
+
+-- what ended a filter is told: what it left out, or its fault
+abbrev pub TellsEnd : Result LeftOut FilterError → ℕ → Option (List ℕ) → Option (List ℕ) → Type 0
+TellsEnd (Ok left_out) status told tells = TellsLeftOut left_out status told tells
+TellsEnd (Err fault) status told tells = TellsFault fault status told tells
+
+-- the log of what was read is written, or after a fault a prefix of it
+abbrev pub Logged : ℕ → Given → Option (List ℕ) → Option (List ℕ) → Option (List ℕ) → Option (List ℕ) → Option (List ℕ) → Option (List ℕ) → Type 0
+Logged status given input left old new told tells =
+    (result : Result LeftOut FilterError) × (written : Option (List ℕ)) × Ended result given input left old written × Keeps written new × TellsEnd result status told tells
+
+-- ## What words name
+
+-- the rows of the log that words name: none where they name none
+abbrev pub NamesLog : (List ℕ → Option (List ℕ)) → Option (List ℕ) → List LogRow → Type 0
+NamesLog files None rows = rows ≡ []
+NamesLog files (Some path) rows = HasLog (files path) rows
+
+-- the file at this path, where words name one, has no log, for this fault
+abbrev pub NamesNoLog : (List ℕ → Option (List ℕ)) → Option (List ℕ) → LogError → Type 0
+NamesNoLog files None fault = ⊥
+NamesNoLog files (Some path) fault = RefusesLog (files path) fault
+
+-- there is no log: with 1 because it is refused, or because its file or memory failed
+abbrev pub Stops : (List ℕ → Option (List ℕ)) → Option (List ℕ) → ℕ → Option (List ℕ) → Option (List ℕ) → Type 0
+Stops files path status told tells =
+    ((fault : LogError) × NamesNoLog files path fault × Refuses 1 (Some (log_fault fault)) status told tells)
+    ⊎ ((failure : Failure) × Fails failure status told tells)
+
+-- what came of reading the log that words name
+abbrev pub LogNamed : Result (List LogRow) (ReadError LogError) → (List ℕ → Option (List ℕ)) → Option (List ℕ) → Type 0
+LogNamed (Ok rows) files path = NamesLog files path rows
+LogNamed (Err (faults.Refused fault)) files path = NamesNoLog files path fault
+LogNamed (Err (faults.Failed why)) files path = Unit {0}
+
+-- why there is no log is told
+abbrev pub TellsNoLog : ReadError LogError → ℕ → Option (List ℕ) → Option (List ℕ) → Type 0
+TellsNoLog (faults.Failed files.Memory) status told tells = Fails Memory status told tells
+TellsNoLog (faults.Failed files.Read) status told tells = Fails Read status told tells
+TellsNoLog (faults.Refused fault) status told tells = Refuses 1 (Some (log_fault fault)) status told tells
+
+-- ## Texts of a session
+
+-- a text is written, nothing is told, and the program ends with 0; or the writer failed, which is told, with a prefix
+abbrev pub Written : ℕ → List ℕ → Option (List ℕ) → Option (List ℕ) → Option (List ℕ) → Option (List ℕ) → Type 0
+Written status text old new told tells =
+    ((status ≡ 0) × Appends old new text × (tells ≡ told)) ⊎ (AppendsFront old new text × Fails Write status told tells)
+
+-- all that a session answered was read, and of this text, which comes of its display lines and the log's rows, as much is
+-- written as the writer takes; or reading it or memory failed, and nothing is written
+abbrev pub Drawn : (List Shown → Option ℕ → List LogRow → List ℕ → Type 0) → ℕ → List LogRow → Option (List ℕ) → Option (List ℕ) → Option (List ℕ) → Option (List ℕ) → Option (List ℕ) → Option (List ℕ) → Type 0
+Drawn Is status rows input left old new told tells =
+    ((bytes : List ℕ) × Consumes input left bytes × IsAtEnd left × (text : List ℕ)
+    × Is (changes_of (remaining (shown_lines bytes))) (last_tick (shown_lines bytes)) rows text × Written status text old new told tells)
+    ⊎ ((bytes : List ℕ) × Consumes input left bytes × (new ≡ old) × (failure : Failure) × Fails failure status told tells)
+
+-- ## `events`
+
+-- the text of a session's events
+abbrev pub IsEvents : Moment → List ℕ → List Shown → Option ℕ → List LogRow → List ℕ → Type 0
+IsEvents from device changes last rows text = IsLog from device (session_events changes rows) text
+
+-- the events of what was read are written; or nothing is: there is no log, or with 2 a tick has no time
+abbrev pub Told : ℕ → Moment → List ℕ → (List ℕ → Option (List ℕ)) → Option (List ℕ) → Option (List ℕ) → Option (List ℕ) → Option (List ℕ) → Option (List ℕ) → Option (List ℕ) → Option (List ℕ) → Type 0
+Told status from device files path input left old new told tells =
+    ((left ≡ input) × (new ≡ old) × Stops files path status told tells)
+    ⊎ (((rows : List LogRow) × NamesLog files path rows × Drawn (IsEvents from device) status rows input left old new told tells)
+    ⊎ ((bytes : List ℕ) × Consumes input left bytes × (AreWritten from → ⊥) × (new ≡ old)
+    × TellsLate status told tells))
+
+-- ## `diagram`
+
+-- the title, or what stands there where words give none
+abbrev pub title_of : Option (List ℕ) → List ℕ
+title_of title = unwrap_or title (codes "Phase diagram")
+
+-- the seconds of a line, or 5 minutes where words give none
+abbrev pub seconds_of : Option ℕ → ℕ
+seconds_of seconds = unwrap_or seconds 300
+
+-- the picture of a session
+abbrev pub IsDiagram : List ℕ → ℕ → List Shown → Option ℕ → List LogRow → List ℕ → Type 0
+IsDiagram title seconds changes last rows text = text ≡ diagram_text title seconds changes last rows
+
+-- the picture of what was read is written; or nothing is, since there is no log
+abbrev pub Pictured : ℕ → List ℕ → ℕ → (List ℕ → Option (List ℕ)) → Option (List ℕ) → Option (List ℕ) → Option (List ℕ) → Option (List ℕ) → Option (List ℕ) → Option (List ℕ) → Option (List ℕ) → Type 0
+Pictured status title seconds files path input left old new told tells =
+    ((left ≡ input) × (new ≡ old) × Stops files path status told tells)
+    ⊎ ((rows : List LogRow) × NamesLog files path rows × Drawn (IsDiagram title seconds) status rows input left old new told tells)
+
+-- ## What is done
+
+-- what was done for a wish, where files has the known bytes of each path
+abbrev pub DidWish : Wish → ℕ → (List ℕ → Option (List ℕ)) → Option (List ℕ) → Option (List ℕ) → Option (List ℕ) → Option (List ℕ) → Option (List ℕ) → Option (List ℕ) → Type 0
+DidWish (log from device wires) status files input left old new told tells =
+    Logged status (record { from = from.nanos; device = device; wires = wires_of wires }) input left old new told tells
+DidWish (events from device path) status files input left old new told tells = Told status from device files path input left old new told tells
+DidWish (diagram path title seconds) status files input left old new told tells = Pictured status (title_of title) (seconds_of seconds) files path input left old new told tells
+
+-- what was done for what the words ask
+abbrev pub Did : Result Asked WordsError → ℕ → (List ℕ → Option (List ℕ)) → Option (List ℕ) → Option (List ℕ) → Option (List ℕ) → Option (List ℕ) → Option (List ℕ) → Option (List ℕ) → Type 0
+Did (Ok asked) status files input left old new told tells = DidWish (seen asked) status files input left old new told tells
+Did (Err fault) status files input left old new told tells = (left ≡ input) × (new ≡ old) × TellsWords fault status told tells

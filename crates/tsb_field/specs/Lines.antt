@@ -1,0 +1,66 @@
+-- The lines that the program tells, each with its end.
+use Rattle.std.specs.Prelude.{◌≡◌, ◌⊎◌, ℕ, ◌==◌, ◌&&◌, Bool, true, false, List, [], ◌∷◌, ◌++◌, IfSome, Option, Some, codes, decimal}
+use Rattle.tsb_streams.specs.Writes.{AppendsFront}
+use Rattle.tsb_field_streams.specs.declared.error.FilterError.{FilterError}
+use Rattle.tsb_field_streams.specs.declared.error.FilterError.TheVariants as ends
+use Rattle.tsb_field_streams.specs.FaultLines.{filter_fault}
+use Rattle.tsb_field_streams.specs.declared.filter.LeftOut.{LeftOut}
+use Rattle.tsb_field_words.specs.declared.words.WordsError.{WordsError}
+use Rattle.tsb_field_words.specs.declared.words.WordsError.TheVariants as words
+use Rattle.tsb_field.specs.declared.end.Failure.{Failure}
+use Rattle.tsb_field.specs.declared.end.Failure.TheVariants.{Memory, Read, Write}
+
+-- how the program is used
+abbrev pub usage : List ℕ
+usage =
+    codes "usage: tsb_field log --from TIME [--device ID] [--vehicle CHANNEL=DETECTOR].. [--pedestrian CHANNEL=DETECTOR].. [--preempt CHANNEL=INPUT]..\n    or tsb_field events --from TIME --device ID [--log LOG]\n    or tsb_field diagram [--log LOG] [--title TEXT] [--seconds-per-line N]\n"
+
+-- the line of a failure: of memory, of a read or of a write
+abbrev pub failure_line : Failure → List ℕ
+failure_line Memory = codes "memory\n"
+failure_line Read = codes "read fault\n"
+failure_line Write = codes "write fault\n"
+
+-- the program ends with 3, and this failure is told
+abbrev pub Fails : Failure → ℕ → Option (List ℕ) → Option (List ℕ) → Type 0
+Fails failure status told tells = (status ≡ 3) × AppendsFront told tells (failure_line failure)
+
+-- bad words end with 2 and how the program is used; words may run out of memory
+abbrev pub TellsWords : WordsError → ℕ → Option (List ℕ) → Option (List ℕ) → Type 0
+TellsWords words.Memory status told tells = Fails Memory status told tells
+TellsWords words.Bad status told tells = (status ≡ 2) × AppendsFront told tells usage
+
+-- what was refused is told in its own words, with this status, where there is memory for the line
+abbrev pub Refuses : ℕ → Option (List ℕ) → ℕ → Option (List ℕ) → Option (List ℕ) → Type 0
+Refuses wanted shown status told tells =
+    ((status ≡ wanted) × IfSome shown (λ line. AppendsFront told tells (line ++ 10 ∷ []))) ⊎ Fails Memory status told tells
+
+-- what ended a filter is told: a failure, or with 1 the fault of what was read
+abbrev pub TellsFault : FilterError → ℕ → Option (List ℕ) → Option (List ℕ) → Type 0
+TellsFault ends.Memory status told tells = Fails Memory status told tells
+TellsFault ends.Read status told tells = Fails Read status told tells
+TellsFault ends.Write status told tells = Fails Write status told tells
+TellsFault fault status told tells = Refuses 1 (Some (filter_fault fault)) status told tells
+
+-- a tick that has no time is told, as a fault of the words: with 2
+abbrev pub TellsLate : ℕ → Option (List ℕ) → Option (List ℕ) → Type 0
+TellsLate status told tells = (status ≡ 2) × AppendsFront told tells (codes "events: past the year 9999\n")
+
+-- nothing was left out
+abbrev pub is_nothing : LeftOut → Bool
+is_nothing left_out = left_out.of_other_devices == 0 && left_out.without_input == 0
+
+-- the line of what was left out
+abbrev pub left_out_line : LeftOut → List ℕ
+left_out_line left_out =
+    codes "left out: " ++ (decimal left_out.of_other_devices ++ (codes " rows of other devices, " ++ (decimal left_out.without_input
+    ++ codes " events of channels without an input\n")))
+
+-- what was left out is told, where it was something and there is memory for the line
+abbrev pub TellsSome : Bool → LeftOut → ℕ → Option (List ℕ) → Option (List ℕ) → Type 0
+TellsSome true left_out status told tells = (status ≡ 0) × (tells ≡ told)
+TellsSome false left_out status told tells = ((status ≡ 0) × AppendsFront told tells (left_out_line left_out)) ⊎ Fails Memory status told tells
+
+-- the program ends with 0, and what was left out is told
+abbrev pub TellsLeftOut : LeftOut → ℕ → Option (List ℕ) → Option (List ℕ) → Type 0
+TellsLeftOut left_out status told tells = TellsSome (is_nothing left_out) left_out status told tells

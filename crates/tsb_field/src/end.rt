@@ -1,0 +1,117 @@
+//! How the program ends, and the lines that it tells.
+ghost use Rattle.std.specs.Prelude.{◌≡◌, IfOk, string_bytes};
+ghost use Rattle.tsb_field.specs.Lines.{Fails, Refuses, TellsFault, TellsLate, TellsLeftOut, TellsWords, failure_line, left_out_line};
+ghost use Rattle.tsb_field.specs.Ends.{Written};
+
+use std::alloc::{AllocError, Global};
+use std::fmt::Display;
+use std::io::Write;
+use tsb_field_streams::{FilterError, LeftOut};
+use tsb_field_words::WordsError;
+use tsb_program::{Status, line_of, tell, write_line};
+
+/// What failed.
+#[derive(Clone, Copy, Debug, PartialEq, Eq)]
+pub(crate) enum Failure {
+    Memory,
+    Read,
+    Write,
+}
+
+/// How the program is used.
+const USAGE: &[u8] =
+    b"usage: tsb_field log --from TIME [--device ID] [--vehicle CHANNEL=DETECTOR].. [--pedestrian CHANNEL=DETECTOR].. [--preempt CHANNEL=INPUT]..
+    or tsb_field events --from TIME --device ID [--log LOG]
+    or tsb_field diagram [--log LOG] [--title TEXT] [--seconds-per-line N]
+";
+
+/// Tells why words ask for nothing, and gives the status that the program ends with.
+pub(crate) fn tell_words_fault<E: Write>(errors: &mut E, fault: WordsError) -> u8
+    ensures { TellsWords fault result (E.contents errors.old) (E.contents errors.new) }
+{
+    match fault {
+        WordsError::Memory => fail(errors, Failure::Memory),
+        WordsError::Bad => tell(errors, Status::BadWords, USAGE),
+    }
+}
+
+/// Tells that a read, a write or memory failed.
+pub(crate) fn fail<E: Write>(errors: &mut E, failure: Failure) -> u8
+    ensures { Fails failure result (E.contents errors.old) (E.contents errors.new) }
+{
+    tell(errors, Status::Failed, failure_line(failure))
+}
+
+/// The line of a failure.
+fn failure_line(failure: Failure) -> &'static [u8]
+    ensures { result.now ≡ failure_line failure }
+{
+    match failure {
+        Failure::Memory => b"memory\n",
+        Failure::Read => b"read fault\n",
+        Failure::Write => b"write fault\n",
+    }
+}
+
+/// Tells what ended a filter.
+pub(crate) fn tell_fault<E: Write>(alloc: Global, errors: &mut E, fault: FilterError) -> u8
+    ensures { TellsFault fault result (E.contents errors.old) (E.contents errors.new) }
+{
+    match fault {
+        FilterError::Memory => fail(errors, Failure::Memory),
+        FilterError::Read => fail(errors, Failure::Read),
+        FilterError::Write => fail(errors, Failure::Write),
+        _ => refuse(alloc, errors, fault),
+    }
+}
+
+/// Tells that a tick has no time, as a fault of the words.
+pub(crate) fn tell_late<E: Write>(errors: &mut E) -> u8
+    ensures { TellsLate result (E.contents errors.old) (E.contents errors.new) }
+{
+    tell(errors, Status::BadWords, b"events: past the year 9999\n")
+}
+
+/// Tells why what was read was refused.
+pub(crate) fn refuse<E: Write, T: Display + Drop>(alloc: Global, errors: &mut E, fault: T) -> u8
+    ensures { Refuses 1 (T.output fault) result (E.contents errors.old) (E.contents errors.new) }
+{
+    match line_of(alloc, fault) {
+        Ok(line) => tell(errors, Status::Refused, line.as_bytes()),
+        Err(_) => fail(errors, Failure::Memory),
+    }
+}
+
+/// Tells what a filter left out, where it left something out.
+pub(crate) fn tell_left_out<E: Write>(alloc: Global, errors: &mut E, left_out: LeftOut) -> u8
+    ensures { TellsLeftOut left_out result (E.contents errors.old) (E.contents errors.new) }
+{
+    if left_out.of_other_devices == 0 && left_out.without_input == 0 {
+        return Status::Done.number();
+    }
+    match left_out_line(alloc, left_out) {
+        Ok(line) => tell(errors, Status::Done, line.as_bytes()),
+        Err(_) => fail(errors, Failure::Memory),
+    }
+}
+
+/// The line of what was left out.
+fn left_out_line(alloc: Global, left_out: LeftOut) -> Result<String, AllocError>
+    ensures { IfOk result (λ line. string_bytes line ≡ left_out_line left_out) }
+{
+    let rows = left_out.of_other_devices;
+    let events = left_out.without_input;
+    format!(in alloc;
+        "left out: {rows} rows of other devices, {events} events of channels without an input\n"
+    )
+}
+
+/// Writes a text, and gives the status that the program ends with.
+pub(crate) fn write_all<W: Write, E: Write>(output: &mut W, errors: &mut E, text: &[u8]) -> u8
+    ensures { Written result text.now (W.contents output.old) (W.contents output.new) (E.contents errors.old) (E.contents errors.new) }
+{
+    match write_line(output, text) {
+        Ok(()) => Status::Done.number(),
+        Err(_) => fail(errors, Failure::Write),
+    }
+}

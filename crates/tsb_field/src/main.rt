@@ -1,0 +1,47 @@
+//! Field files in, events and pictures out: `tsb_field log` makes a log of `tsb` of a controller's event log, and
+//! `tsb_field events` and `tsb_field diagram` make an event log and a phase diagram of what `tsb` answers.
+#![tactic(auto)]
+
+mod end;
+mod run;
+
+use crate::end::tell_words_fault;
+use crate::run::run_words;
+use std::alloc::Global;
+use std::convert::AsStr;
+use std::env;
+use std::io::{BufWriter, Write};
+use std::process::ExitCode;
+use tsb_field_words::WordsError;
+use tsb_program::Disk;
+
+/// How many bytes wait before they are written.
+const BUFFER: usize = 65_536;
+
+fn main(rt: HostRuntime) -> ExitCode {
+    let status = match words_given(&rt) {
+        Ok(words) => run_buffered(&rt, words.as_slice()),
+        Err(fault) => tell_words_fault(&mut rt.stderr(), fault),
+    };
+    ExitCode::from(status)
+}
+
+/// The words that the program was given, of which the first is its name.
+fn words_given(rt: &HostRuntime) -> Result<Vec<String>, WordsError> {
+    Ok(env::args(rt)?.collect(rt.alloc())?)
+}
+
+/// Does what the words ask for, with a buffer before the output, and gives the status that the program ends with.
+fn run_buffered<S: AsStr>(rt: &HostRuntime, words: &[S]) -> u8 {
+    match BufWriter::with_capacity(rt.alloc(), BUFFER, rt.stdout()) {
+        Ok(mut output) => run_words(
+            rt.alloc(),
+            words,
+            &Disk { rt },
+            &mut rt.stdin(),
+            &mut output,
+            &mut rt.stderr(),
+        ),
+        Err(_) => tell_words_fault(&mut rt.stderr(), WordsError::Memory),
+    }
+}

@@ -1,0 +1,217 @@
+//! What the program does for its words.
+ghost use Rattle.std.specs.Prelude.{◌≡◌, Result, map, option_map};
+ghost use Rattle.tsb_field_log.specs.Mapping.{wires_of};
+ghost use Rattle.tsb_field_words.specs.declared.words.Asked.{Asked};
+ghost use Rattle.tsb_field_words.specs.declared.words.WordsError.{WordsError};
+ghost use Rattle.tsb_field_words.specs.Program.{Spells};
+ghost use Rattle.tsb_field.specs.Ends.{Did, LogNamed, Logged, Pictured, TellsNoLog, Told, title_of};
+
+use crate::end::{
+    Failure, fail, refuse, tell_fault, tell_late, tell_left_out, tell_words_fault, write_all,
+};
+use std::alloc::Global;
+use std::convert::AsStr;
+use std::io::{Read, Write};
+use tsb_event_text::Moment;
+use tsb_field_diagram::diagram_text;
+use tsb_field_display::{HistoryError, read_history};
+use tsb_field_events::{EventsError, events_text};
+use tsb_field_log::Wire;
+use tsb_field_streams::log;
+use tsb_field_words::{Asked, read_words};
+use tsb_log_text::{Log, LogError};
+use tsb_program::{FileError, Files, ReadError, log_of};
+use tsb_streams::pass_on;
+
+/// What stands over a diagram where words give no title.
+const TITLE: &[u8] = b"Phase diagram";
+
+/// How many seconds a line of a diagram shows where words say nothing of it.
+const SECONDS: u32 = 300;
+
+/// Does what the words ask for, of which the first is the program's name, and gives the status that the program ends
+/// with: 0 where all was done, 1 for bad input, 2 for bad words, 3 where a read, a write or memory failed.
+///
+/// The log, the events or the diagram go to `output`, and what was left out, faults, bad words and failures to `errors`.
+pub fn run_words<S: AsStr, F: Files, R: Read, W: Write, E: Write>(
+    alloc: Global,
+    words: &[S],
+    files: &F,
+    input: &mut R,
+    output: &mut W,
+    errors: &mut E,
+) -> u8
+    ensures { (answer : Result Asked WordsError) × Spells (map S.text words.now) answer × Did answer result (F.bytes files.now)
+        (R.remaining input.old) (R.remaining input.new) (W.contents output.old) (W.contents output.new) (E.contents errors.old) (E.contents errors.new) }
+{
+    match read_words(alloc, words) {
+        Ok(
+            Asked::Log {
+                from,
+                device,
+                wires,
+            },
+        ) => write_log(alloc, from, device, &wires, input, output, errors),
+        Ok(Asked::Events { from, device, log }) => {
+            write_events(alloc, from, device, log, files, input, output, errors)
+        }
+        Ok(
+            Asked::Diagram {
+                log,
+                title,
+                seconds_per_line,
+            },
+        ) => {
+            let title = title_of(title);
+            let seconds = seconds_per_line.unwrap_or(SECONDS);
+            write_diagram(alloc, log, title, seconds, files, input, output, errors)
+        }
+        Err(fault) => tell_words_fault(errors, fault),
+    }
+}
+
+/// Makes a log of a controller's event log.
+fn write_log<R: Read, W: Write, E: Write>(
+    alloc: Global,
+    from: Moment,
+    device: Option<&str>,
+    mapped: &[Wire],
+    input: &mut R,
+    output: &mut W,
+    errors: &mut E,
+) -> u8
+    ensures { Logged result (record { from = from.nanos; device = option_map (λ name. name.now) device.entry; wires = wires_of mapped.now })
+        (R.remaining input.old) (R.remaining input.new) (W.contents output.old) (W.contents output.new) (E.contents errors.old) (E.contents errors.new) }
+{
+    match log(alloc, from, bytes_of(device), mapped, input, output) {
+        Ok(left_out) => tell_left_out(alloc, errors, left_out),
+        Err(fault) => {
+            // What is known goes out; that the fault is told is more than that this fails.
+            let _ = pass_on(output);
+            tell_fault(alloc, errors, fault)
+        }
+    }
+}
+
+/// The bytes of a name.
+fn bytes_of(name: Option<&str>) -> Option<&[u8]>
+    ensures { option_map (λ bytes. bytes.now) result ≡ option_map (λ name. name.now) name.entry }
+{
+    match name {
+        Some(name) => Some(name.as_bytes()),
+        None => None,
+    }
+}
+
+/// Makes a controller's event log of what a session answers.
+fn write_events<F: Files, R: Read, W: Write, E: Write>(
+    alloc: Global,
+    from: Moment,
+    device: &str,
+    path: Option<&str>,
+    files: &F,
+    input: &mut R,
+    output: &mut W,
+    errors: &mut E,
+) -> u8
+    ensures { Told result from device.now (F.bytes files.now) (option_map (λ path. path.now) path.entry)
+        (R.remaining input.old) (R.remaining input.new) (W.contents output.old) (W.contents output.new) (E.contents errors.old) (E.contents errors.new) }
+{
+    let rows = match log_named(alloc, files, path) {
+        Ok(rows) => rows,
+        Err(fault) => return refuse_log(alloc, errors, fault),
+    };
+    let history = match read_history(alloc, input) {
+        Ok(history) => history,
+        Err(fault) => return fail(errors, failure_of(fault)),
+    };
+    match events_text(
+        alloc,
+        from,
+        device.as_bytes(),
+        history.changes(),
+        rows.rows(),
+    ) {
+        Ok(text) => write_all(output, errors, &text),
+        Err(EventsError::Memory) => fail(errors, Failure::Memory),
+        Err(EventsError::Late) => tell_late(errors),
+    }
+}
+
+/// The title that words give, or what stands there where they give none.
+fn title_of(title: Option<&str>) -> &[u8]
+    ensures { result.now ≡ title_of (option_map (λ title. title.now) title.entry) }
+{
+    match title {
+        Some(title) => title.as_bytes(),
+        None => TITLE,
+    }
+}
+
+/// Makes a phase diagram of what a session answers.
+fn write_diagram<F: Files, R: Read, W: Write, E: Write>(
+    alloc: Global,
+    path: Option<&str>,
+    title: &[u8],
+    seconds: u32,
+    files: &F,
+    input: &mut R,
+    output: &mut W,
+    errors: &mut E,
+) -> u8
+    ensures { Pictured result title.now seconds (F.bytes files.now) (option_map (λ path. path.now) path.entry)
+        (R.remaining input.old) (R.remaining input.new) (W.contents output.old) (W.contents output.new) (E.contents errors.old) (E.contents errors.new) }
+{
+    let rows = match log_named(alloc, files, path) {
+        Ok(rows) => rows,
+        Err(fault) => return refuse_log(alloc, errors, fault),
+    };
+    let history = match read_history(alloc, input) {
+        Ok(history) => history,
+        Err(fault) => return fail(errors, failure_of(fault)),
+    };
+    match diagram_text(
+        alloc,
+        title,
+        seconds,
+        history.changes(),
+        history.last_tick(),
+        rows.rows(),
+    ) {
+        Ok(text) => write_all(output, errors, &text),
+        Err(_) => fail(errors, Failure::Memory),
+    }
+}
+
+/// The log that words name: that of no row where they name none.
+fn log_named<F: Files>(
+    alloc: Global,
+    files: &F,
+    path: Option<&str>,
+) -> Result<Log, ReadError<LogError>>
+    ensures { LogNamed result (F.bytes files.now) (option_map (λ path. path.now) path.entry) }
+{
+    match path {
+        Some(path) => log_of(alloc, files, path),
+        None => Ok(Log::empty(alloc)),
+    }
+}
+
+/// Tells why there is no log.
+fn refuse_log<E: Write>(alloc: Global, errors: &mut E, fault: ReadError<LogError>) -> u8
+    ensures { TellsNoLog fault result (E.contents errors.old) (E.contents errors.new) }
+{
+    match fault {
+        ReadError::Failed(FileError::Memory) => fail(errors, Failure::Memory),
+        ReadError::Failed(FileError::Read) => fail(errors, Failure::Read),
+        ReadError::Refused(fault) => refuse(alloc, errors, fault),
+    }
+}
+
+/// The failure of a session that was not read.
+fn failure_of(fault: HistoryError) -> Failure {
+    match fault {
+        HistoryError::Memory => Failure::Memory,
+        HistoryError::Read => Failure::Read,
+    }
+}
