@@ -1,0 +1,351 @@
+"""Worked runs of tsb_field: its words, what it reads, and what it has to write, each found by hand from docs/FIELD.md.
+
+tools/run_field.py runs them in a folder with a copy of the examples and the files of `fill`.
+"""
+import pathlib
+import shutil
+
+from run_program import Run
+
+EXAMPLES = pathlib.Path("examples")
+READ, WRITE = b"read fault\n", b"write fault\n"
+USAGE = (
+    b"usage: tsb_field log --from TIME [--device ID] [--vehicle CHANNEL=DETECTOR].. [--pedestrian CHANNEL=DETECTOR].. "
+    b"[--preempt CHANNEL=INPUT]..\n"
+    b"    or tsb_field events --from TIME --device ID [--log LOG]\n"
+    b"    or tsb_field diagram [--log LOG] [--title TEXT] [--seconds-per-line N]\n"
+)
+HEADER = b"SignalID,Timestamp,EventCode,EventParam\n"
+MARK = b"\xef\xbb\xbf"
+
+# Each read of this one fails, also for root; the next has no end; writes to the last fail.
+TORN, ENDLESS, FULL = "/proc/self/mem", "/dev/zero", "/dev/full"
+
+AT = "2026-11-22 07:00:00"
+FROM = ["--from", AT]
+LOG, EVENTS = ["log", *FROM], ["events", *FROM, "--device", "1001"]
+
+# The last moment of tick 6,000,000, and the first one behind it.
+LAST, BEHIND = "2026-11-29 05:39:59.999999999", "2026-11-29 05:40:00"
+MOST_ROWS = 1_720_740
+GIB = 1 << 30
+
+
+class Front(bytes):
+    """Bytes of which the program may have written the first ones alone, as behind a fault."""
+
+    def __ne__(self, other):
+        return not self.startswith(other)
+
+    __hash__ = bytes.__hash__
+
+
+def told(*events, end=b"\n"):
+    """Lines of device 7, each of a time, a code and a channel; a time without its day is of 2026-11-22."""
+    lines = [event.rsplit(" ", 2) for event in events]
+    return b"".join(f"7,{at if at[4:5] == '-' else f'2026-11-22 {at}'},{code},{channel}".encode() + end
+                    for at, code, channel in lines)
+
+
+def row(tick, vehicle=(), pedestrian=(), preempt=()):
+    """A row of a log in which these inputs are on."""
+    fields = [(vehicle, 16), (pedestrian, 8), (preempt, 4)]
+    marks = ("".join("01"[n in on] for n in range(1, most + 1)) for on, most in fields)
+    return f"{tick:07} {' '.join(marks)}\n".encode()
+
+
+def logged(text, log, *words, errors=b""):
+    """A run of `log` that is done."""
+    return Run([*LOG, *words], 0, log, errors, text)
+
+
+def refused(text, fault, log=b"", *words):
+    """A run of `log` that a fault ends, with the log of what stands before it."""
+    return Run([*LOG, *words], 1, Front(log), fault, text)
+
+
+# A car on detector 2 from tick 11 to tick 30, and its log.
+CAR = told("07:00:01 82 2", "07:00:03 81 2")
+CAR_LOG = b"0000011 0100000000000000 00000000 0000\n0000031 0000000000000000 00000000 0000\n"
+
+
+def form_runs():
+    """Forms of the text: headers, ends of lines, a byte order mark, what is skipped."""
+    usual = HEADER + CAR
+    yield from (logged(text, CAR_LOG) for text in [
+        CAR, usual, CAR[:-1], CAR.replace(b"\n", b"\r\n"), usual.replace(b"\n", b"\r\n"), MARK + CAR, MARK + usual,
+        MARK + b"\n" + usual, b"\n  \n# a car\n" + usual + b"\n#\n", b"#" + b"x" * 999 + b"\n" + CAR,
+        CAR.replace(b",82,", b',"82",').replace(b"7,", b'"7, Main",', 1), CAR.replace(b"22 07", b"22T07"),
+        CAR.replace(b",82,2", b",0000000082,02"), CAR.replace(b"\n", b",and,more,\n"),
+        CAR + told("07:00:03 1 2", "07:00:03 83 2", "07:00:03 4294967295 2", "07:00:03 0 4294967295"),
+    ])
+    for device in [b"SignalID", b"signalid", b"DeviceId", b"DEVICEID", b"LocationIdentifier"]:
+        for code, parameter in [(b"EventCode", b"EventParam"), (b"eventid", b"PARAMETER"), (b"EventId", b"Parameter")]:
+            yield logged(b"%s,TimeStamp,%s,%s\n" % (device, code, parameter) + CAR, CAR_LOG)
+    turned = b'EventParam,x,"SignalID",DeviceId,EventCode,EventId,Timestamp\n2,,7,8,82,1,%s:01\n2,,7,8,81,1,%s:03\n'
+    yield logged(turned.replace(b"%s", AT[:-3].encode()), CAR_LOG)
+    yield from (logged(text, b"") for text in [b"", b"\n", HEADER, MARK, MARK + HEADER[:-1], b"# nothing"])
+
+
+def moment_runs():
+    """When an input is on."""
+    yield from (logged(told(*events), log) for events, log in [
+        # What is switched off as a tick begins is off in it; a nanosecond later it is on in it.
+        (["07:00:00.1 82 1", "07:00:00.2 81 1"], row(2, [1]) + row(3)),
+        (["07:00:00.1 82 1", "07:00:00.200000001 81 1"], row(2, [1]) + row(4)),
+        (["07:00:00.199999999 82 1", "07:00:00.3 81 1"], row(2, [1]) + row(4)),
+        (["07:00:00.19 82 1", "07:00:00.199999999 81 1"], row(2, [1]) + row(3)),
+        # A pulse that ends at its own moment; a pause of no time, and one within a tick.
+        (["07:00:00.25 90 8", "07:00:00.25 89 8"], row(3, [], [8]) + row(4)),
+        (["07:00:00.2 90 8", "07:00:00.2 89 8"], row(3, [], [8]) + row(4)),
+        (["07:00:00 82 1", "07:00:00.5 81 1", "07:00:00.5 82 1", "07:00:01 81 1"], row(1, [1]) + row(11)),
+        (["07:00:00 82 1", "07:00:00.51 81 1", "07:00:00.58 82 1", "07:00:01 81 1"], row(1, [1]) + row(11)),
+        (["07:00:00 82 1", "07:00:00.51 81 1", "07:00:00.7 82 1"], row(1, [1]) + row(7) + row(8, [1])),
+        # What is on already, or off already.
+        (["07:00:00 82 1", "07:00:00.5 82 1", "07:00:01 81 1", "07:00:02 81 1"], row(1, [1]) + row(11)),
+        # Before tick 1: what is on as it begins, and what was on before.
+        (["06:59:00 102 1", "07:00:00.1 104 1"], row(1, [], [], [1]) + row(2)),
+        (["06:59:00 102 1", "07:00:00.000000001 104 1"], row(1, [], [], [1]) + row(2)),
+        (["06:59:00 102 1", "07:00:00 104 1"], b""),
+        (["06:59:00 82 1", "06:59:01 81 1"], b""),
+        (["06:59:59.999999999 82 1", "06:59:59.999999999 81 1"], b""),
+        (["2026-11-21 23:59:59 82 1"], row(1, [1])),
+        (["07:00:00 82 1", "07:00:00 81 1"], row(1, [1]) + row(2)),
+        # Two in one tick, of several kinds, and the last tick.
+        (["07:00:01.03 82 16", "07:00:01.04 90 1", "07:00:01.09 102 4"], row(11, [16], [1], [4])),
+        ([f"{LAST} 82 3"], row(6_000_000, [3])),
+        (["07:00:00 82 3", f"{LAST[:-10]}.9 81 3", f"{BEHIND} 1 3"], row(1, [3]) + row(6_000_000)),
+    ])
+    for at, first, log in [
+        ("2026-11-22T07:00:00.05", "2026-11-22 07:00:00.149999999", row(1, [1])),
+        ("2026-11-22 07:00:00.05", "2026-11-22 07:00:00.15", row(2, [1])),
+        ("2026-12-31 23:59:59.9", "2027-01-01 00:00:00", row(2, [1])),
+        ("2028-02-28 23:59:59", "2028-02-29 00:00:00.0", row(11, [1])),
+        ("2027-02-28 23:59:59", "2027-03-01 00:00:00.0", row(11, [1])),
+        ("9999-12-31 23:59:59", "9999-12-31 23:59:59.999999999", row(10, [1])),
+        ("0000-01-01 00:00:00", "0000-01-01 00:00:00.9", row(10, [1])),
+    ]:
+        yield Run(["log", "--from", at], 0, log, b"", told(f"{first} 82 1"))
+
+
+def wire_runs():
+    """Channels that lead to inputs, and devices."""
+    left = b"left out: %d rows of other devices, %d events of channels without an input\n"
+    on = [f"07:00:00 {code} {n}" for code, n in [(82, 16), (90, 8), (102, 4)]]
+    yield logged(told(*on), row(1, [16], [8], [4]))
+    beyond = [f"07:00:00 {code} {n}" for code, n in [(82, 17), (81, 0), (90, 9), (89, 10), (102, 5), (104, 4294967295)]]
+    yield logged(told(*on, *beyond), row(1, [16], [8], [4]), errors=left % (0, 6))
+    yield from (logged(told(*(f"07:00:00 {it}" for it in events)), log, *words) for words, events, log in [
+        (["--vehicle", "17=3"], ["82 17"], row(1, [3])),
+        (["--vehicle", "0=1", "--vehicle", "4294967295=2"], ["82 0", "82 4294967295"], row(1, [1, 2])),
+        (["--vehicle", "9=1", "--vehicle", "9=2"], ["82 9"], row(1, [1, 2])),
+        (["--vehicle", "3=7"], ["82 3"], row(1, [7])),
+        (["--vehicle", "3=7"], ["82 7"], row(1, [7])),
+        (["--vehicle", "20=5", "--vehicle", "21=5"], ["82 20", "82 21", "81 20"], row(1, [5])),
+        (["--pedestrian", "12=8", "--preempt", "101=4", "--pedestrian=013=07"], ["90 12", "90 13", "102 101"],
+         row(1, [], [7, 8], [4])),
+        (["--preempt", "5=1", "--vehicle", "5=2"], ["90 5", "82 5", "102 5"], row(1, [2], [5], [1])),
+    ])
+    yield logged(told("07:00:00 82 18"), b"", "--vehicle=17=3", errors=left % (0, 1))
+    both = told("07:00:00 82 20", "07:00:00.1 82 21", "07:00:00.2 81 20", "07:00:00.3 81 21")
+    yield logged(both, row(1, [5]) + row(4), "--vehicle", "20=5", "--vehicle", "21=5")
+    other = b"8,2026-11-22 06:00:00,82,1\n9,2026-11-30 00:00:00,82,1\n"
+    yield logged(CAR[:len(CAR) // 2] + other + CAR[len(CAR) // 2:], CAR_LOG, "--device", "7", errors=left % (2, 0))
+    yield logged(CAR + other, b"", "--device=10", errors=left % (4, 0))
+    yield logged(CAR.replace(b"7,", b"-7,"), CAR_LOG, "--device=-7")
+    yield logged(CAR.replace(b"7,2026", b'"Main, 5th",2026'), CAR_LOG, "--device", "Main, 5th")
+    yield logged(CAR.replace(b"7,2026", b",2026"), CAR_LOG)
+    yield logged(CAR + b"8,2026-11-22 07:00:03,82,99\n", CAR_LOG, "--device", "7", errors=left % (1, 0))
+    yield logged(CAR + told(f"{BEHIND} 82 17"), CAR_LOG, errors=left % (0, 1))
+    # Behind the first line a byte order mark is a part of the device.
+    yield logged(CAR + MARK + told("07:00:04 82 1"), CAR_LOG, "--device", "7", errors=left % (1, 0))
+
+
+def fault_runs():
+    """Faults of event logs."""
+    for line in [
+        b"7", b"7,2026-11-22 07:00:03,82", b"7,2026-11-22 07:00:03,82,", b"7,2026-11-22 07:00:03,,2", b"7,,82,2",
+        b"7,2026-11-22 07:00:03,82,x", b"7,2026-11-22 07:00:03,-82,2", b"7,2026-11-22 07:00:03, 82,2",
+        b"7,2026-11-22 07:00:03,82,4294967296", b"7,2026-11-22 07:00:03,00000000082,2", b"7,2026-11-22,82,2",
+        b"7,2026-11-22 07:00,82,2", b"7,2026-11-22 07:00:03.,82,2", b"7,2026-11-22 07:00:03.0000000001,82,2",
+        b"7,2026-11-22 07:00:03Z,82,2", b"7,2026-11-22 07:00:03+01:00,82,2", b"7,2026-11-22t07:00:03,82,2",
+        b"7,11/22/2026 07:00:03,82,2", b"7,2026-02-29 07:00:03,82,2", b"7,2026-04-31 07:00:03,82,2",
+        b"7,2026-13-22 07:00:03,82,2", b"7,2026-11-00 07:00:03,82,2", b"7,2026-11-22 24:00:00,82,2",
+        b"7,2026-11-22 07:60:00,82,2", b"7,2026-11-22 07:00:60,82,2", b"7, 2026-11-22 07:00:03,82,2",
+        b'"7,2026-11-22 07:00:03,82,2', b'7,2026-11-22 07:00:03,"82"0,2', b'7,2026-11-22 07:00:03,82,2,"', b"\t",
+        HEADER[:-1], b"7;2026-11-22 07:00:03;82;2", b"x" * 1001,
+        b"#" + b"x" * 1000,
+    ]:
+        yield refused(CAR + b"\n" + line + b"\n", b"events line 4: malformed\n", CAR_LOG)
+        yield refused(CAR + line, b"events line 3: malformed\n", CAR_LOG, "--device", "7")
+    yield refused(b"Signal,Timestamp,EventCode,EventParam\n" + CAR, b"events line 1: malformed\n")
+    yield refused(b"SignalID,Timestamp,EventCode\n" + CAR, b"events line 1: malformed\n")
+    yield refused(b"\n# no time\n8,,82,1\n", b"events line 3: malformed\n", b"", "--device", "7")
+    order = b"events line %d: time order\n"
+    yield refused(CAR + told("07:00:02.999999999 81 2"), order % 3, CAR_LOG)
+    yield refused(CAR + told("07:00:03 1 1", "07:00:02 1 1"), order % 4, CAR_LOG)
+    yield refused(b"\n" + told("06:00:01 1 1", "06:00:00 1 1") + CAR, order % 3)
+    other = HEADER + b"8,2026-11-23 07:00:00,1,1\n"
+    yield refused(other + told("07:00:03 82 99", "07:00:02 82 99"), order % 4, b"", "--device=7")
+    past = b"events: past tick 6000000\n"
+    yield refused(CAR + told(f"{BEHIND} 82 2"), past, CAR_LOG)
+    yield refused(CAR + told(f"{BEHIND} 81 2"), past, CAR_LOG)
+    yield refused(told(f"{BEHIND} 1 2", f"{BEHIND} 82 2") + b"x\n", past)
+    yield refused(told(f"{BEHIND} 82 17"), past, b"", "--vehicle=17=1")
+
+
+def display(tick, vehicles="-R-R", pedestrians="-D", overlaps="R", preempt=0, local="----"):
+    """A display line."""
+    return f"{tick:07} {vehicles:-<16} {pedestrians:-<16} {overlaps:-<4} {preempt} {local}\n".encode()
+
+
+def shown(*events, device="1001", day="2026-11-22"):
+    """Lines of events, with the header: each of a clock, a code and a parameter."""
+    found = (event.split(" ") for event in events)
+    return HEADER + b"".join(f"{device},{day} {clock},{code},{n}\n".encode() for clock, code, n in found)
+
+
+# Phase 2 red; green with a walk and overlap 1; with clearance and preempt 2 in service; yellow; all in flash; red.
+LINES = [
+    display(1), display(2, "-G-R", "-W", "G"), display(45, "-G-R", "-C", "G", 2, "0759"),
+    display(101, "-Y-R", "-D", "Y", 2), display(102, "-F-F", "", "F"), display(131),
+]
+TOLD = [
+    ["07:00:00.1 1 2", "07:00:00.1 21 2", "07:00:00.1 61 1"], ["07:00:04.4 22 2", "07:00:04.4 105 2"],
+    ["07:00:10.0 7 2", "07:00:10.0 8 2", "07:00:10.0 23 2", "07:00:10.0 63 1"],
+    ["07:00:10.1 9 2", "07:00:10.1 65 1", "07:00:10.1 173 6"], ["07:00:13.0 173 2"],
+]
+ALL_LINES = b"".join(LINES)
+ALL_TOLD = shown(*sum(TOLD, []))
+
+
+def event_runs():
+    """Events of display lines, and of a log."""
+    def given(text, events, *words):
+        return Run([*EVENTS, *words], 0, events, b"", text)
+
+    yield given(b"", HEADER)
+    yield given(display(1), HEADER)
+    yield from (given(text, ALL_TOLD) for text in [
+        ALL_LINES, ALL_LINES[:-1], ALL_LINES.replace(b"\n", b"\r\n"), ALL_LINES.replace(b"\n", b"\nnothing\n"),
+        ALL_LINES.replace(b"----\n", b"0000\n"), b"".join(line * 2 for line in LINES),
+        ALL_LINES + display(132) + display(140), b"x" * 100_000 + b"\n" + ALL_LINES,
+        b"".join(LINES[:3] + [b"undone tick\n", b"tick 0000031\n", b"refused E5 NotOwner\n"] + LINES[3:]),
+        ALL_LINES + LINES[0][:-1] + b" \n" + LINES[0].replace(b"-R-", b"-W-") + LINES[0].replace(b" 0 ", b" 5 ")
+        + LINES[0].replace(b"0000001", b"000000x") + b"\xff\n",
+    ])
+    # Lit in the first line; all kinds at once; the last heads.
+    yield given(display(1, "GY", "WC", "GY", 1), shown(*(f"07:00:00.0 {it}" for it in [
+        "1 1", "8 2", "21 1", "22 2", "61 1", "63 2", "105 1"])))
+    yield given(display(9999999, 15 * "-" + "G", 15 * "-" + "W", "---Y", 4), shown(*(
+        f"20:46:39.8 {it}" for it in ["1 16", "21 16", "63 4", "105 4"]), day="2026-12-03"))
+    # From one to the other at once; a preempt that takes over, and one that ends.
+    yield given(display(1, "GY", "WC", "GY", 1) + display(2, "YG", "CW", "YG", 2) + display(3, "RR", "DD", "RR"), shown(
+        *(f"07:00:00.0 {it}" for it in ["1 1", "8 2", "21 1", "22 2", "61 1", "63 2", "105 1"]),
+        *(f"07:00:00.1 {it}" for it in ["1 2", "7 1", "8 1", "9 2", "21 2", "22 1", "61 2", "63 1", "105 2"]),
+        *(f"07:00:00.2 {it}" for it in ["7 2", "9 1", "23 1", "23 2", "65 1", "65 2"])))
+    yield from back_runs(given)
+    yield from joined_runs(given)
+    yield Run(["events", "--from=2026-12-31T23:59:59.95", "--device=Main, 5th"], 0,
+              HEADER + b'"Main, 5th",2027-01-01 00:00:00.05,1,1\n', b"", display(1) + display(2, "GR"))
+    yield Run(["events", *FROM, "--device="], 0, HEADER + b",2026-11-22 07:00:00.0,1,1\n", b"", display(1, "G"))
+    # Tick 9,999,999, which a display line can have, has to lie in the year 9999.
+    latest = ["events", "--device", "1001", "--from", "9999-12-20 10:13:20.199999999"]
+    yield Run(latest, 0, HEADER + b"1001,9999-12-20 10:13:20.199999999,1,1\n", b"", display(1, "G"))
+    late = [*latest[:4], "9999-12-20 10:13:20.2"]
+    yield Run(late, 2, b"", b"events: past the year 9999\n", display(1))
+    yield Run(late, 3, b"", READ, stdin=TORN)
+    yield Run([*late, "--log", "cut_short.log"], 1, b"", b"log line 1: malformed\n", display(1))
+
+
+def back_runs(given):
+    """Sessions that go back."""
+    begun = b"".join(LINES[:2])
+    yield given(begun + display(2), HEADER)
+    yield given(ALL_LINES + LINES[0], HEADER)
+    yield given(ALL_LINES + LINES[2], shown(*TOLD[0], *TOLD[1]))
+    yield given(ALL_LINES + display(101, "-G-R", "-D", "G"), shown(*TOLD[0], *TOLD[1], "07:00:10.0 23 2"))
+    again = b"undone switch\n" + display(44, "-G-R", "-W", "G") + b"".join(LINES[3:])
+    yield given(begun + b"".join(LINES[2:4]) + again,
+                shown(*TOLD[0], *TOLD[2][:3], "07:00:10.0 63 1", "07:00:10.0 105 2", *TOLD[3], *TOLD[4]))
+    yield given(ALL_LINES + display(0, "RRRR") + ALL_LINES, ALL_TOLD)
+
+
+def joined_runs(given):
+    """Events of display lines with those of a log's inputs."""
+    yield given(b"", shown("07:00:01.0 82 2", "07:00:03.0 81 2"), "--log", "car.log")
+    yield given(b"", HEADER, "--log=empty.log")
+    on = [f"07:00:00.0 {code} {n + 1}" for code, most in [(82, 16), (90, 8), (102, 4)] for n in range(most)]
+    off = [f"07:00:00.1 {code} {n + 1}" for code, most in [(81, 16), (89, 8), (104, 4)] for n in range(most)]
+    yield given(b"", shown(*on, *off), "--log", "all.log")
+    # In one tick by code, and then by parameter; a log that goes on behind the last display line.
+    first = [*TOLD[0], "07:00:00.1 82 1", "07:00:00.1 82 2", "07:00:00.1 90 3"]
+    second = [f"07:00:04.4 {it}" for it in ["22 2", "81 2", "82 9", "89 3", "102 1", "105 2"]]
+    last = ["07:16:39.9 81 1", "07:16:39.9 81 9", "07:16:39.9 104 1"]
+    yield given(ALL_LINES, shown(*first, *second, *TOLD[2], *TOLD[3], *TOLD[4], *last), "--log", "with_all.log")
+
+
+def word_runs():
+    """Words that are bad, and other spellings of good ones."""
+    for words in [
+        [], ["what"], ["--help"], ["-h"], ["help"], ["--version"], ["Log", *FROM], ["log"], ["log", "--help"],
+        [*LOG, *FROM], [*LOG, "more"], [*LOG, "--log", "car.log"], [*LOG, "--device", "-7"], [*LOG, "--device"],
+        [*LOG, "--vehicle", "1"],
+        [*LOG, "--vehicle", "1=17"], [*LOG, "--vehicle", "1=0"], [*LOG, "--vehicle", "=1"], [*LOG, "--vehicle", "1="],
+        [*LOG, "--vehicle", "1=1=1"], [*LOG, "--vehicle", "4294967296=1"], [*LOG, "--vehicle", "x=1"],
+        [*LOG, "--pedestrian", "1=9"], [*LOG, "--preempt", "1=5"], [*LOG, "--device", "7", "--device", "7"],
+        ["log", "--from", "07:00"], ["log", "--from", "2026-11-22"], ["log", "--from", "2026-11-22 07:00:00Z"],
+        ["log", "--from", "2026-02-29 07:00:00"], ["log", "--from", ""], ["events", *FROM], ["events", "--device", "7"],
+        [*EVENTS, "--device", "7"], [*EVENTS, "--title", "x"], [*EVENTS, "car.log"],
+        ["events", *FROM, "--device", 'a"b'], ["events", *FROM, "--device", "a\nb"],
+        ["events", *FROM, "--device", "a\r"], [*EVENTS, "--log"],
+        ["diagram", *FROM], ["diagram", "--device", "7"], ["diagram", "--seconds-per-line", "0"],
+        ["diagram", "--seconds-per-line", "86401"], ["diagram", "--seconds-per-line", "x"], ["diagram", "car.log"],
+        ["diagram", "--title", "a", "--title", "b"], [b"\xff"], [*LOG, "--device", b"\xff"],
+        ["diagram", "--title", b"\xc3"],
+    ]:
+        yield Run(words, 2, b"", USAGE, CAR)
+    turned = ["log", "--device=7", "--from", AT.replace(" ", "T")]
+    for words in [["log", f"--from={AT}"], turned, [*LOG, "--vehicle=2=2"]]:
+        yield Run(words, 0, CAR_LOG, b"", CAR)
+
+
+def log_faults():
+    """A log that `events` and `diagram` refuse, or can't read: its file, the status, and the line."""
+    yield from ((path, 3, READ) for path in ["none.log", "folder", TORN])
+    yield "cut_short.log", 1, b"log line 1: malformed\n"
+    yield "same_tick.log", 1, b"log line 2: tick order\n"
+    yield "tick_zero.log", 1, b"log line 1: malformed\n"
+    yield ENDLESS, 1, b"log: too large\n"
+
+
+def stream_runs():
+    """Reads and writes that fail, and which of several faults is told."""
+    for words in [LOG, EVENTS, ["diagram"]]:
+        text = CAR if words == LOG else ALL_LINES
+        yield Run(words, 3, b"", READ, stdin=TORN)
+        yield Run(words, 3, b"", WRITE, text, stdout=FULL)
+        yield Run(words, 3, b"", READ, stdin=TORN, stdout=FULL)
+        yield Run([*words, "more"], 2, stderr=FULL, commands=text)
+        yield Run(words, 3, stdin=TORN, stderr=FULL)
+        yield Run(words, 0, stdin="/dev/null", stdout="/dev/null")
+    yield Run(LOG, 1, b"", b"events line 1: malformed\n", b"x\n" + CAR, stdout=FULL)
+    yield Run(LOG, 1, stderr=FULL, commands=b"x\n")
+    yield Run([*LOG, "--device", "8"], 0, stderr=FULL, commands=CAR)
+    yield Run(LOG, 1, b"", b"events: too large\n", stdin=ENDLESS)
+    for words in [EVENTS, ["diagram"]]:
+        for path, status, line in log_faults():
+            yield Run([*words, "--log", path], status, b"", line, ALL_LINES)
+            yield Run([*words, "--log", path], status, b"", line, stdin=TORN, stdout=FULL)
+            yield Run([*words, "--log", path, "more"], 2, b"", USAGE, stdin=TORN, stdout=FULL)
+    yield Run(["log", "--from", "x", "--device", "8"], 2, b"", USAGE, b"x\n")
+
+
+def fill(folder):
+    """Puts the files of the runs into a folder."""
+    shutil.copytree(EXAMPLES, folder, dirs_exist_ok=True)
+    (folder / "folder").mkdir()
+    (folder / "car.log").write_bytes(CAR_LOG)
+    (folder / "all.log").write_bytes(b"# All inputs.\n" + row(1, range(17), range(9), range(5)) + row(2))
+    (folder / "with_all.log").write_bytes(
+        row(2, [1, 2], [3]) + row(45, [1, 9], [], [1]) + row(46, [1, 9], [], [1]) + b"\n" + row(10_000) + row(10_001))

@@ -1,0 +1,97 @@
+#!/usr/bin/env python3
+"""Refuses the calls of the built program of field files, one in each run, and compares what it then writes; run it at
+the top, with the program's path.
+
+It does for tsb_field what tools/refused_calls.py does for tsb, by the same library: the k-th request for memory, read or
+write is refused, for k from 1 on until a run makes fewer. Each run has to end as docs/FIELD.md says: with 3, the line of
+the failure, and a prefix of what it writes otherwise.
+"""
+import errno
+import pathlib
+import sys
+import tempfile
+
+import field_cases
+from refused_calls import MEMORY, PIECE, READ, WRITE, Differences, Program, built
+
+LOG = "examples/one_row.log"
+FROM = ["--from", "2026-11-22 07:00:00"]
+
+# A row of another device and an event of a channel without an input are left out.
+EVENTS = b"SignalID,Timestamp,EventCode,EventParam\n" + b"".join(
+    b"%d,2026-11-22 07:00:%02d.5,%d,%d\n" % (7 + (k == 9), k, 82 - k % 2, 1 + (k == 12) * 30) for k in range(40))
+LINES = field_cases.ALL_LINES
+
+# Words, and what is read.
+RUNS = [
+    (["log", *FROM, "--device", "7", "--vehicle", "40=3"], EVENTS),
+    (["log", *FROM], EVENTS + b"x\n"),
+    (["events", *FROM, "--device", "7", "--log", LOG], LINES),
+    (["events", "--from", "9999-12-31 00:00:00", "--device", "7"], LINES),
+    (["diagram", "--log", LOG, "--title", "A & B"], LINES),
+    (["diagram", "--log", "none.log"], LINES),
+    (["what"], b""),
+]
+
+
+def fronts(text):
+    """All prefixes of a text, itself among them."""
+    return [text[:k] for k in range(len(text) + 1)]
+
+
+def memory(program, wrong):
+    """Refuses each request for memory. One, behind those for the words given, is for what it can do without."""
+    for words, text in RUNS:
+        whole = program.run(words, text)[:3]
+        for number, ended in program.sweep(words, text):
+            wrong.compare(f"{words}, request {number}", ended, whole, *((3, front, MEMORY) for front in fronts(whole[1])))
+
+
+def reads(program, wrong):
+    """Fails each read. One of a file that is interrupted is tried again; one of standard input is not."""
+    for words, text in RUNS:
+        whole = program.run(words, text)[:3]
+        for error in [errno.EIO, errno.EINTR]:
+            for number, ended in program.sweep(words, text, kind="read", error=error, piece=PIECE):
+                again = [whole] if error == errno.EINTR else []
+                wrong.compare(f"{words}, read {number}, error {error}", ended, *again,
+                              *((3, front, READ) for front in fronts(whole[1])))
+
+
+def writes(program, wrong):
+    """Fails each write; one that is interrupted is not tried again. That of errors is told by the status alone."""
+    for words, text in RUNS:
+        whole = program.run(words, text)[:3]
+        for error in [errno.EIO, errno.EINTR, 0]:
+            for number, ended in program.sweep(words, text, kind="write", error=error, piece=1000):
+                told = [(whole[0], whole[1], front) for front in fronts(whole[2])]
+                wrong.compare(f"{words}, write {number}, error {error}", ended, *told,
+                              *((3, front, WRITE) for front in fronts(whole[1])),
+                              *((whole[0], front, whole[2]) for front in fronts(whole[1]) if whole[0] == 1))
+
+
+def pieces(program, wrong):
+    """Reads and writes move a byte at a time."""
+    for words, text in RUNS:
+        wrong.compare(f"{words}, a byte at a time", program.run(words, text, piece=1), program.run(words, text)[:3])
+
+
+def main(words):
+    if len(words) != 1:
+        sys.exit("usage: tools/refused_field.py PROGRAM")
+    path = pathlib.Path(words[0]).resolve()
+    if not path.is_file():
+        sys.exit(f"there is no {path}")
+    wrong = Differences()
+    with tempfile.TemporaryDirectory() as folder:
+        program = Program(path, built(folder))
+        for sweep in (memory, reads, writes, pieces):
+            sweep(program, wrong)
+    wrong += [f"no call was refused: {kind}" for kind in ("memory", "read", "write") if not program.refused[kind]]
+    told = ", ".join(f"{count} of {kind}" for kind, count in sorted(program.refused.items()))
+    print("\n".join(wrong) if wrong else f"refused calls of tsb_field: {program.runs} runs as expected, {told}")
+    return 1 if wrong else 0
+
+
+if __name__ == "__main__":
+    sys.exit(main(sys.argv[1:]))

@@ -1,0 +1,292 @@
+#!/usr/bin/env python3
+"""Runs the built program of field files and compares what it writes; run it at the top.
+
+    tools/run_field.py PROGRAM BENCH
+
+PROGRAM is that of tsb_field, BENCH that of tsb, which answers the hour of the examples.
+
+Worked runs, of tools/field_cases.py, have the exact bytes and the status that the rules of docs/FIELD.md ask for.
+Behind them come texts at random, the same in each run of this tool: logs go to events and back, events and display
+lines are compared with what tools/field_rules.py makes of them, and so are the bars of diagrams, which are read as XML.
+At last there are texts of the greatest sizes.
+"""
+import pathlib
+import random
+import subprocess
+import sys
+import tempfile
+import xml.etree.ElementTree
+
+import field_cases
+import field_rules
+from field_cases import AT, FROM, GIB, MOST_ROWS
+from run_program import Run, shown
+
+# How many texts there are of each kind.
+TRIPS, TEXTS = 200, 200
+DEVICES = ["1001", "Main, 5th", "-7", "x y"]
+KINDS = list(field_rules.MOST)
+
+# How the stored picture of the hour was drawn.
+EXAMPLES = pathlib.Path("examples")
+HOUR_SECONDS, HOUR_TITLE = 1200, "An hour of made-up traffic on quad"
+SVG = "{http://www.w3.org/2000/svg}"
+
+
+def answer(program, words, text=b"", folder=None):
+    """Status, output and errors of a run."""
+    done = subprocess.run([program] + words, input=text, capture_output=True, cwd=folder, timeout=120)
+    return done.returncode, done.stdout, done.stderr
+
+
+def difference(what, it, wanted):
+    """What a run has otherwise than it should."""
+    return [] if it == wanted else [f"{what}: {shown(one)}, not {shown(other)}" for one, other in zip(it, wanted)
+                                    if one != other]
+
+
+def random_log(chance):
+    """A log whose rows each differ from the one before."""
+    tick, lit, log = 0, set(), b""
+    inputs = [(kind, n) for kind, most in field_rules.MOST.items() for n in range(1, most + 1)]
+    for _ in range(chance.randrange(12)):
+        tick += chance.choice([1, 1, 2, 10, 601, 36_000, 500_000])
+        lit ^= set(chance.sample(inputs, chance.choice([1, 1, 2, 28])))
+        log += field_rules.row_text(tick, lit)
+    return log
+
+
+def round_trips(program, folder):
+    """Logs that do not come back from their events."""
+    for count in range(TRIPS):
+        chance = random.Random(f"trip {count}")
+        log, device = random_log(chance), chance.choice(DEVICES)
+        begin = f"2026-11-{chance.randrange(10, 30)} 07:00:{chance.choice(['00', '59.95', '00.000000001'])}"
+        (folder / "trip.log").write_bytes(log)
+        words = [f"--from={begin}", f"--device={device}"]
+        status, events, errors = answer(program, ["events", *words, "--log", "trip.log"], b"", folder)
+        wanted = field_rules.events(b"", field_rules.moment(begin.encode()), device.encode(), log)
+        yield from difference(f"events of log {count}", (status, events, errors), (0, wanted, b""))
+        yield from difference(f"round trip {count}", answer(program, ["log", *words], events), (0, log, b""))
+
+
+def random_events(chance):
+    """A text of events that has the faults of one now and then."""
+    now = field_rules.moment(AT.encode()) + chance.choice([-3, -1, 0, 0]) * field_rules.SECOND
+    step = chance.choice([1, 15 * 10 ** 6, 25 * 10 ** 6, 40 * 10 ** 6, field_rules.TENTH, 3 * field_rules.TENTH])
+    lines = [] if chance.randrange(2) else [b"Parameter,EventId,Timestamp,DeviceId"]
+    is_turned = bool(lines)
+    for _ in range(chance.randrange(100)):
+        now += step * chance.choice([0, 0, 1, 1, 2, 7])
+        code = chance.choice([*field_rules.CODES, 82, 81, 1, 8])
+        row = [chance.choice([b"7", b"7", b"7", b'"8,"']), field_rules.time_text(now), b"%d" % code,
+               b"%d" % chance.choice([1, 1, 1, 2, 2, 4, 9, 17])]
+        lines.append(b",".join(row[::-1] if is_turned else row))
+    if lines and chance.randrange(4) == 0:
+        early = lines[-1].replace(b"07:", b"06:")
+        spoilt = chance.choice([b"x", b'7,"', lines[0], early, early, b"#", b" "])
+        lines.insert(chance.randrange(len(lines)) + 1, spoilt)
+    return chance.choice([b"\n", b"\r\n"]).join([*lines, b""])
+
+
+def random_wires(chance):
+    """Words of wires at random, and the wires."""
+    for _ in range(chance.choice([0, 0, 1, 3])):
+        kind = chance.choice(KINDS)
+        channel, number = chance.choice([1, 2, 3, 9, 17]), chance.randint(1, field_rules.MOST[kind])
+        yield [f"--{kind}={channel}={number}"], (kind, channel, number)
+
+
+def logs_of_events(program):
+    """Events at random of which the program makes another log than the rule."""
+    for count in range(TEXTS):
+        chance = random.Random(f"events {count}")
+        text, wires = random_events(chance), list(random_wires(chance))
+        device = chance.choice([None, "7", "8,"])
+        mapped = [wire for kind in KINDS for _, wire in wires if wire[0] == kind]
+        try:
+            begin = field_rules.moment(AT.encode())
+            wanted = 0, *field_rules.log(text, begin, device and device.encode(), mapped)
+        except field_rules.Fault as fault:
+            wanted = 1, field_cases.Front(fault.known), fault.line
+        words = ["log", *FROM, *([f"--device={device}"] if device else []), *sum((words for words, _ in wires), [])]
+        it = answer(program, words, text)
+        yield from (f"log of events {count}: {shown(one)}, not {shown(other)}" for one, other in zip(it, wanted)
+                    if one != other)
+
+
+def random_display(chance):
+    """What a session may answer: display lines that go on or back, and other answers."""
+    tick, fields = 0, [["-RG"[n % 3] for n in range(16)], ["-D"[n % 2] for n in range(16)], ["-"] * 4, ["0"]]
+    letters = ["-RYGF", "-DCW", "-RYGF", "001234"]
+    for _ in range(chance.randrange(80)):
+        tick = max(1, tick + chance.choice([1, 1, 1, 1, 5, 0, -1, -7]))
+        for _ in range(chance.choice([0, 0, 0, 1, 3])):
+            place = chance.randrange(4)
+            fields[place][chance.randrange(len(fields[place]))] = chance.choice(letters[place])
+        local = chance.choice(["----", f"{tick % 900:04}"])
+        yield " ".join([f"{tick:07}", *("".join(field) for field in fields), local])
+        if chance.randrange(6) == 0:
+            others = ["ok", "nothing", "undone tick", "", "bad command", f"{tick:07} {'G' * 16}", "tick 0000001"]
+            yield chance.choice(others)
+
+
+def events_of_displays(program, folder):
+    """Display lines at random of which the program tells other events than the rule, or draws another diagram."""
+    for count in range(TEXTS):
+        chance = random.Random(f"display {count}")
+        text = "\n".join(random_display(chance)).encode()
+        log, device = chance.choice([b"", random_log(chance)]), chance.choice(DEVICES)
+        (folder / "random.log").write_bytes(log)
+        words = [*FROM, f"--device={device}", "--log", "random.log"]
+        wanted = field_rules.events(text, field_rules.moment(AT.encode()), device.encode(), log)
+        it = answer(program, ["events", *words], text, folder)
+        yield from difference(f"events of display lines {count}", it, (0, wanted, b""))
+        yield from drawn_otherwise(program, folder, text, ("random.log", log), chance.choice([1, 3, 7, 300]))
+
+
+def picture_of(program, folder, text, words):
+    """The diagram that the program draws, as XML, and what is wrong with it; none where it is no XML."""
+    status, picture, errors = answer(program, ["diagram", *words], text, folder)
+    if (status, errors) != (0, b""):
+        return None, [f"diagram {words}: status {status}, {shown(errors)}"]
+    try:
+        root = xml.etree.ElementTree.fromstring(picture)
+    except xml.etree.ElementTree.ParseError as fault:
+        return None, [f"diagram {words} is no XML: {fault}"]
+    known = root.tag == SVG + "svg" and not any(it.tag.endswith(("script", "foreignObject")) for it in root.iter())
+    return root, [] if known else [f"diagram {words} is no SVG, or has a script"]
+
+
+def drawn(root):
+    """The bands of each line of a picture, and line, band, class, first tick and ticks of each bar."""
+    lines = [line for line in root.findall(SVG + "svg") if line.find(SVG + "svg") is not None]
+    bands, bars = [], []
+    for count, line in enumerate(lines):
+        bands.append([it.text for it in line.findall(SVG + "text") if it.get("class") == "l"])
+        for bar in line.find(SVG + "svg").findall(SVG + "rect"):
+            name = bands[-1][int(bar.get("y")) // 16]
+            bars.append((count, name, bar.get("class"), int(bar.get("x")), int(bar.get("width"))))
+    return bands, sorted(bars)
+
+
+def drawn_otherwise(program, folder, text, log, seconds):
+    """The bands and bars of a diagram that the rules don't give, or that are missing; log has a name and a text."""
+    words = [f"--seconds-per-line={seconds}", "--log", log[0]]
+    root, wrong = picture_of(program, folder, text, words)
+    if root is None:
+        return wrong
+    bands, bars = field_rules.diagram(text, log[1], seconds)
+    is_bands, is_bars = drawn(root)
+    wrong += [f"diagram {words}: bands {one}, not {bands}" for one in is_bands if one != bands]
+    other = set(bars) ^ set(is_bars)
+    return [*wrong, f"diagram {words}: bars {sorted(other)[:4]}"] if other or len(bars) != len(is_bars) else wrong
+
+
+def diagrams(program, folder):
+    """What is wrong with diagrams of the worked display lines."""
+    lines = field_cases.ALL_LINES
+    for title, told in [("Main & 5th", None), ('<"Main">', None), ("it's", None), ("]]>", None), ("zw\u00f6lf", None),
+                        ("x" * 1000, None), ("a\x01b\x1f", "a?b?"), ("&amp;", None)]:
+        root, wrong = picture_of(program, folder, lines, [f"--title={title}"])
+        yield from wrong
+        if root is not None and (told or title) not in ["".join(it.itertext()) for it in root.findall(SVG + "text")]:
+            yield f"the diagram has no title {title}"
+    for name in ["with_all.log", "car.log", "empty.log"]:
+        log = (folder / name).read_bytes()
+        begun = field_cases.display(0, "GR")
+        for text, seconds in [(lines, 1), (lines, 13), (lines, 86400), (b"", 1), (b"ok\n", 60), (lines[:54], 1),
+                              (begun, 1), (begun + field_cases.display(3, "RG"), 1), (begun + lines, 2)]:
+            yield from drawn_otherwise(program, folder, text, (name, log), seconds)
+    for words in [[], ["--log", "car.log"], ["--title="]]:
+        for text in [b"", lines]:
+            yield from picture_of(program, folder, text, words)[1]
+
+
+def closed_pipes(program):
+    """What is otherwise where nobody reads what the program writes."""
+    for words, text in [(field_cases.LOG, field_cases.CAR), (field_cases.EVENTS, b""), (["diagram"], b"")]:
+        with subprocess.Popen([program] + words, stdin=subprocess.PIPE, stdout=subprocess.PIPE,
+                              stderr=subprocess.PIPE) as run:
+            run.stdout.close()
+            run.stdin.write(text)
+            run.stdin.close()
+            it = run.stderr.read(), run.wait(120)
+        yield from difference(f"{words} with a closed pipe", it, (field_cases.WRITE, 3))
+
+
+def switching(rows):
+    """Events of detector 1 that change it in each tick, and the rows of their log, as often."""
+    begin = field_rules.moment(AT.encode())
+    times = (field_rules.time_text(begin + k * field_rules.TENTH) for k in range(rows))
+    events = b"".join(b"7,%s,%d,1\n" % (time, 81 + (k + 1) % 2) for k, time in enumerate(times))
+    marks = [b" 0000000000000000 00000000 0000\n", b" 1000000000000000 00000000 0000\n"]
+    return events, b"".join(b"%07d%s" % (k, marks[k % 2]) for k in range(1, rows + 1))
+
+
+def greatest(program):
+    """What is otherwise of the longest log and of one that is too long, and of 1 GiB of events and a byte more."""
+    events, log = switching(MOST_ROWS)
+    yield from difference("the longest log", answer(program, field_cases.LOG, events), (0, log, b""))
+    more, _ = switching(MOST_ROWS + 1)
+    status, output, errors = answer(program, field_cases.LOG, more)
+    yield from difference("a longer log", (status, errors, log.startswith(output)), (1, b"log: too large\n", True))
+    piece = bytes([10]) * (1 << 20)
+    for over, wanted in [(b"", (b"", b"", 0)), (b"\n", (b"", b"events: too large\n", 1))]:
+        with subprocess.Popen([program] + field_cases.LOG, stdin=subprocess.PIPE, stdout=subprocess.PIPE,
+                              stderr=subprocess.PIPE) as run:
+            for _ in range(GIB // len(piece)):
+                run.stdin.write(piece)
+            output, errors = run.communicate(over, 120)
+            yield from difference("1 GiB of events", (output, errors, run.returncode), wanted)
+
+
+def hour(program, bench):
+    """What is otherwise of the hour of the examples: of its log, which comes back from its events, and of its picture,
+    by the rules and beside the one that is stored."""
+    hours = EXAMPLES / "hour_of_traffic.log"
+    commands = hours.with_suffix(".commands").read_bytes()
+    lines = subprocess.run([bench, "run", EXAMPLES / "quad.json", hours], input=commands, capture_output=True).stdout
+    log = b"".join(line for line in hours.read_bytes().splitlines(True) if not line.startswith(b"#"))
+    words = [*FROM, "--device=7"]
+    status, events, errors = answer(program, ["events", *words, "--log", str(hours)], lines)
+    wanted = field_rules.events(lines, field_rules.moment(AT.encode()), b"7", log)
+    yield from difference("events of the hour", (status, events, errors), (0, wanted, b""))
+    yield from difference("log of the hour", answer(program, ["log", *words], events), (0, log, b""))
+    yield from drawn_otherwise(program, None, lines, (str(hours), log), HOUR_SECONDS)
+    words = ["diagram", "--log", str(hours), f"--seconds-per-line={HOUR_SECONDS}", "--title", HOUR_TITLE]
+    picture = hours.with_suffix(".svg").read_bytes()
+    yield from difference("picture of the hour", answer(program, words, lines), (0, picture, b""))
+
+
+def worked_runs():
+    """All worked runs."""
+    return [
+        *field_cases.form_runs(), *field_cases.moment_runs(), *field_cases.wire_runs(), *field_cases.fault_runs(),
+        *field_cases.event_runs(), *field_cases.word_runs(), *field_cases.stream_runs(),
+    ]
+
+
+def main(words):
+    if len(words) != 2:
+        sys.exit("usage: tools/run_field.py PROGRAM BENCH")
+    program, bench = (pathlib.Path(word).resolve() for word in words)
+    for path in (program, bench):
+        if not path.is_file():
+            sys.exit(f"there is no {path}")
+    runs = worked_runs()
+    with tempfile.TemporaryDirectory() as name:
+        folder = pathlib.Path(name)
+        field_cases.fill(folder)
+        wrong = [f"{run.words} {run.places or ''}{shown(run.commands)}: {it}" for run in runs
+                 for it in run.differences(program, folder)]
+        wrong += [*round_trips(program, folder), *logs_of_events(program), *events_of_displays(program, folder)]
+        wrong += [*diagrams(program, folder), *closed_pipes(program), *greatest(program)]
+    wrong += hour(program, bench)
+    told = f"{len(runs)} worked runs, {TRIPS} round trips and {2 * TEXTS} texts at random as expected"
+    print("\n".join(wrong) if wrong else f"tsb_field: {told}")
+    return 1 if wrong else 0
+
+
+if __name__ == "__main__":
+    sys.exit(main(sys.argv[1:]))
