@@ -24,8 +24,8 @@ PLACED = re.compile(r"((?:`[\w:-]+`(?: \(\w+\))?(?:, clause|, | and )?)+) in (?:
 GLOSSARY = pathlib.Path("docs/GLOSSARY.md")
 
 # Words of the documents that are no names of the sources, and paths that only the build makes, or that are no paths.
-OTHER = {"rattle", "kit", "13b", "uniq", "vehicleDetectorStatusGroupActive", "P02"}
-MADE = {"crates/tsb/out/tsb", "crates/tsb_ring/must-fail/name.edit"}
+OTHER = {"rattle", "kit", "13b", "uniq", "xargs", "vehicleDetectorStatusGroupActive", "P02"}
+MADE = {"crates/tsb/out/tsb", "crates/tsb_field/out/tsb_field", "crates/tsb_ring/must-fail/name.edit"}
 
 
 def names():
