@@ -9,7 +9,8 @@ use Rattle.tsb_types.specs.declared.lamp.PedestrianAspect.{PedestrianAspect}
 use Rattle.tsb_types.specs.declared.lamp.PedestrianAspect.TheVariants as pedestrian_aspects
 use Rattle.tsb_heads.specs.Heads.{Heads}
 use Rattle.tsb_heads.specs.Promises.{IsSame}
-use Rattle.tsb_display_text.specs.Line.{line_of, digit, letter, pedestrian_letter, tick_field, vehicle_field, pedestrian_field, overlap_field, local_field, preempt_digit}
+use Rattle.tsb_lines.specs.Digits.{digit}
+use Rattle.tsb_display_text.specs.Line.{line_of, letter, pedestrian_letter, tick_field, vehicle_field, pedestrian_field, overlap_field, local_field, preempt_digit}
 use Rattle.tsb_types.proofs.RunLemmas.{map-same}
 
 pub line-length : (now : ℕ) (heads : Heads) (preempt local : Option ℕ) → length (line_of now heads preempt local) ≡ 53

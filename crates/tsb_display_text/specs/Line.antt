@@ -1,7 +1,8 @@
 -- The display line, 53 bytes wide (profile): the tick number, the vehicle heads of phases 1 to 16, their pedestrian
 -- heads, the heads of overlaps 1 to 4, the preempt in service, and the local counter of the pattern that runs, in
 -- tenths of a second.
-use Rattle.std.specs.Prelude.{ℕ, ◌+◌, ◌/◌, ◌%◌, List, [], ◌∷◌, ◌++◌, map, Option, Some, None, codes}
+use Rattle.std.specs.Prelude.{ℕ, ◌+◌, List, [], ◌∷◌, ◌++◌, map, Option, Some, None, codes}
+use Rattle.tsb_lines.specs.Digits.{digit, seven_digits}
 use Rattle.tsb_types.specs.declared.lamp.Aspect.{Aspect}
 use Rattle.tsb_types.specs.declared.lamp.Aspect.TheVariants.{Dark, Red, Yellow, Green, FlashingRed}
 use Rattle.tsb_types.specs.declared.lamp.PedestrianAspect.{PedestrianAspect}
@@ -9,11 +10,7 @@ use Rattle.tsb_types.specs.declared.lamp.PedestrianAspect.TheVariants as pedestr
 use Rattle.tsb_types.specs.Lists.{run_from}
 use Rattle.tsb_heads.specs.Heads.{Heads}
 
--- ## Digits and letters
-
--- the digit of n at this power of ten, as a byte
-abbrev pub digit : ℕ → ℕ → ℕ
-digit n unit = 48 + n / unit % 10
+-- ## Letters
 
 -- `-` for one that is dark, R, Y, G, and F for one that flashes red
 abbrev pub letter : Aspect → ℕ
@@ -34,9 +31,7 @@ pedestrian_letter pedestrian_aspects.Walk = 87
 
 -- the tick number, of which 7 digits stand
 abbrev pub tick_field : ℕ → List ℕ
-tick_field now =
-    digit now 1000000 ∷ digit now 100000 ∷ digit now 10000 ∷ digit now 1000 ∷ digit now 100 ∷ digit now 10
-    ∷ digit now 1 ∷ []
+tick_field now = seven_digits now
 
 -- 16 letters, that of phase 1 first
 abbrev pub vehicle_field : (ℕ → Aspect) → List ℕ

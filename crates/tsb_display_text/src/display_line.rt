@@ -5,9 +5,10 @@ ghost use Rattle.tsb_heads.specs.Reading.{heads_of};
 ghost use Rattle.tsb_display_text.specs.Line.{line_of};
 
 use crate::letters::{overlap_letters, pedestrian_letters, vehicle_letters};
-use crate::numbers::{local_digits, preempt_digit, tick_digits};
+use crate::numbers::{local_digits, preempt_digit};
 use arrayvec::ArrayString;
 use tsb_heads::Display;
+use tsb_lines::seven_digits;
 use tsb_types::Preempt;
 
 /// The length of a display line, in bytes.
@@ -72,7 +73,7 @@ pub fn line_bytes(
     ensures text { IsUtf8 result }
 {
     let mut bytes = [b' '; WIDTH];
-    put(&mut bytes, TICK, &tick_digits(now));
+    put(&mut bytes, TICK, &seven_digits(now));
     put(&mut bytes, VEHICLES, &vehicle_letters(heads));
     put(&mut bytes, PEDESTRIANS, &pedestrian_letters(heads));
     put(&mut bytes, OVERLAPS, &overlap_letters(heads));

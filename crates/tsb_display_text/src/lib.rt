@@ -3,7 +3,6 @@
 //!
 //! The line is the profile's own. `line` gives it as text and `line_bytes` as bytes; neither takes memory, and both
 //! give the same bytes. It is written once a tick, so its letters are found by sets of heads, a colour at a time.
-//! `tick_digits` gives its first field alone.
 #![tactic(auto)]
 
 mod display_line;
@@ -11,4 +10,3 @@ mod letters;
 mod numbers;
 
 pub use display_line::{LineBytes, WIDTH, line, line_bytes};
-pub use numbers::tick_digits;

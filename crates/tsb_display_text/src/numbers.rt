@@ -1,33 +1,9 @@
 //! The fields of a display line that are numbers.
-ghost use Rattle.std.specs.Prelude.{◌≡◌, ◌<◌, ◌≤◌, IfSome};
-ghost use Rattle.tsb_display_text.specs.Line.{digit, tick_field, preempt_digit, local_field};
+ghost use Rattle.std.specs.Prelude.{◌≡◌, ◌≤◌, IfSome};
+ghost use Rattle.tsb_display_text.specs.Line.{preempt_digit, local_field};
 
+use tsb_lines::digit;
 use tsb_types::Preempt;
-
-/// The digit of a number at this power of ten.
-#[inline(always)]
-fn digit(number: u32, unit: u32) -> u8
-    requires { 0 < unit }
-    ensures { result ≡ digit number unit }
-{
-    b'0' + (number / unit % 10) as u8
-}
-
-/// The tick number in 7 digits, as lines have it; of a number of more digits the last 7.
-#[inline(always)]
-pub fn tick_digits(now: u32) -> [u8; 7]
-    ensures { result ≡ tick_field now }
-{
-    [
-        digit(now, 1_000_000),
-        digit(now, 100_000),
-        digit(now, 10_000),
-        digit(now, 1_000),
-        digit(now, 100),
-        digit(now, 10),
-        digit(now, 1),
-    ]
-}
 
 /// The number of the preempt in service, or 0.
 #[inline(always)]

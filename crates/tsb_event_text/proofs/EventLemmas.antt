@@ -12,7 +12,8 @@ use Rattle.tsb_event_text.specs.Fields.{Plain, Quoted, fields_from, fields_of, o
 use Rattle.tsb_event_text.specs.Rows.{is_asked, row_in, row_of, row_said}
 use Rattle.tsb_event_text.specs.Times.{moment_of}
 use Rattle.tsb_event_text.specs.Events.{IsPlain, can_be_written, device_field, event_row_text, has_byte}
-use Rattle.tsb_event_text.specs.Written.{digit, nine_digits, time_head}
+use Rattle.tsb_lines.specs.Digits.{digit}
+use Rattle.tsb_event_text.specs.Written.{nine_digits, time_head}
 use Rattle.tsb_event_text.proofs.FieldLemmas.{onto-with}
 
 -- ## Plain fields

@@ -13,7 +13,8 @@ use Rattle.jiff_core.proofs.SignedLemmas.{signed_arith}
 use Rattle.tsb_lines.specs.Words.{number_from, number_of, at_most}
 use Rattle.tsb_lines.proofs.DigitLemmas.{digit-next}
 use Rattle.tsb_event_text.specs.Times.{day_number, day_of, is_day, moment_at, moment_of, nano_of, second_of}
-use Rattle.tsb_event_text.specs.Written.{digit, nine_digits, time_head}
+use Rattle.tsb_lines.specs.Digits.{digit}
+use Rattle.tsb_event_text.specs.Written.{nine_digits, time_head}
 use Rattle.tsb_event_text.proofs.TimeLemmas.{parts}
 
 -- ## Digits

@@ -1,12 +1,9 @@
 -- Times as text.
 use Rattle.std.specs.Prelude.{◌≡◌, ◌≢◌, ℕ, ◌+◌, ◌-◌, ◌*◌, ◌/◌, ◌%◌, ◌<◌, ◌≤◌, List, [], ◌∷◌, ◌++◌, take, get_or}
+use Rattle.tsb_lines.specs.Digits.{digit}
 use Rattle.tsb_event_text.specs.declared.times.Moment.{Moment}
 use Rattle.tsb_event_text.specs.declared.written.TheConstants.{FIRST_DAY, LAST_DAY}
 use Rattle.tsb_event_text.specs.declared.texts.TimeText.{TimeText}
-
--- the digit of n at this power of ten, as a byte
-abbrev pub digit : ℕ → ℕ → ℕ
-digit n unit = 48 + n / unit % 10
 
 -- `YYYY-MM-DD HH:MM:SS.`, with a second of the day
 abbrev pub time_head : ℕ → ℕ → ℕ → ℕ → List ℕ

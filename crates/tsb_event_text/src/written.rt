@@ -2,12 +2,13 @@
 ghost use Rattle.std.specs.Prelude.{◌≡◌, ◌≢◌, ◌+◌, ◌-◌, ◌/◌, ◌<◌, ◌≤◌, ◌++◌, ◌↔◌, true, IfSome, IsSome, OnOk, ℕ, List, ◌∷◌, Some};
 ghost use Rattle.tsb_event_text.specs.Events.{IsPlain};
 ghost use Rattle.tsb_event_text.specs.Times.{day_number, is_day, moment_at, moment_of, nano_of};
-ghost use Rattle.tsb_event_text.specs.Written.{IsEnough, IsWritten, bytes_of, digit, nine_digits, time_head};
+ghost use Rattle.tsb_event_text.specs.Written.{IsEnough, IsWritten, bytes_of, nine_digits, time_head};
 
 use crate::texts::TimeText;
 use crate::times::Moment;
 use jiff_core::civil::Date;
 use std::alloc::AllocError;
+use tsb_lines::digit;
 
 /// 0000-01-01, in days from the first day that the calendar has.
 pub const FIRST_DAY: u32 = 3_652_059;
@@ -125,14 +126,6 @@ fn nine_digits(nano: u32) -> [u8; 9]
         digit(nano, 10),
         digit(nano, 1),
     ]
-}
-
-/// The digit of a number at this power of ten, as a byte.
-fn digit(number: u32, unit: u32) -> u8
-    requires { 0 < unit }
-    ensures { result ≡ digit number unit }
-{
-    b'0' + (number / unit % 10) as u8
 }
 
 /// How many of these digits are written: all but the zeros at their end, and at least one.

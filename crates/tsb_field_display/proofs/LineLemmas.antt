@@ -3,7 +3,7 @@ use Rattle.std.proofs.Common.{◌≡◌, ◌∙◌, ℕ, ◌+◌, ◌-◌, ◌*�
 use Rattle.std.specs.List.{list_all}
 use Rattle.std.proofs.lemmas.Bool.{and_from, eq-eqb, ne_eqb, le-leb}
 use Rattle.tsb_lines.specs.Words.{number_of, number_from, at_most}
-use Rattle.tsb_lines.proofs.DigitLemmas.{digit-next}
+use Rattle.tsb_lines.proofs.DigitLemmas.{seven-digits-read}
 use Rattle.tsb_types.proofs.RunLemmas.{at-run}
 use Rattle.tsb_types.specs.Lists.{run_from, among}
 use Rattle.tsb_types.specs.Sets.{has_number}
@@ -12,7 +12,8 @@ use Rattle.tsb_types.specs.declared.lamp.Aspect.TheVariants.{Dark, Red, Yellow, 
 use Rattle.tsb_types.specs.declared.lamp.PedestrianAspect.{PedestrianAspect}
 use Rattle.tsb_types.specs.declared.lamp.PedestrianAspect.TheVariants as pedestrian_aspects
 use Rattle.tsb_heads.specs.Heads.{Heads}
-use Rattle.tsb_display_text.specs.Line.{line_of, digit, letter, pedestrian_letter, tick_field, vehicle_field, pedestrian_field, overlap_field, local_field, preempt_digit}
+use Rattle.tsb_lines.specs.Digits.{digit}
+use Rattle.tsb_display_text.specs.Line.{line_of, letter, pedestrian_letter, tick_field, vehicle_field, pedestrian_field, overlap_field, local_field, preempt_digit}
 use Rattle.tsb_field_display.specs.Shows.{aspect_of, pedestrian_aspect_of}
 use Rattle.tsb_field_display.specs.Reading.{heads_with, vehicles_of, pedestrians_of, is_spelled, is_preempt, preempt_of, is_local, field, has_space, is_display, signals_of, shown_at, shown_of}
 use Rattle.tsb_field_display.specs.Laws.{Tells, AreRead}
@@ -20,23 +21,8 @@ use Rattle.tsb_field_display.proofs.LetterLemmas.{names-letter}
 
 -- ## The tick
 
-tick-digits : (now : ℕ) → now < 10000000 → number_from 0 (tick_field now) ≡ Some now
-tick-digits now small =
-    let a : 0 * 10 + now / 1000000 % 10 ≡ now / 1000000 = omega (arith, small) in
-    let b : now / 1000000 * 10 + now / 100000 % 10 ≡ now / 100000 = omega arith in
-    let d : now / 100000 * 10 + now / 10000 % 10 ≡ now / 10000 = omega arith in
-    let e : now / 10000 * 10 + now / 1000 % 10 ≡ now / 1000 = omega arith in
-    let f : now / 1000 * 10 + now / 100 % 10 ≡ now / 100 = omega arith in
-    let g : now / 100 * 10 + now / 10 % 10 ≡ now / 10 = omega arith in
-    let h : now / 10 * 10 + now / 1 % 10 ≡ now = omega arith in
-    digit-next now 0 (now / 1000000) 1000000 (digit now 100000 ∷ digit now 10000 ∷ digit now 1000 ∷ digit now 100 ∷ digit now 10 ∷ digit now 1 ∷ []) a ∙ digit-next now (now / 1000000) (now / 100000) 100000 (digit now 10000 ∷ digit now 1000 ∷ digit now 100 ∷ digit now 10 ∷ digit now 1 ∷ []) b ∙ digit-next now (now / 100000) (now / 10000) 10000 (digit now 1000 ∷ digit now 100 ∷ digit now 10 ∷ digit now 1 ∷ []) d
-    ∙ digit-next now (now / 10000) (now / 1000) 1000 (digit now 100 ∷ digit now 10 ∷ digit now 1 ∷ []) e ∙ digit-next now (now / 1000) (now / 100) 100 (digit now 10 ∷ digit now 1 ∷ []) f ∙ digit-next now (now / 100) (now / 10) 10 (digit now 1 ∷ []) g
-    ∙ digit-next now (now / 10) now 1 [] h
-
 tick-number : (now : ℕ) → now < 10000000 → number_of (tick_field now) ≡ Some now
-tick-number now small =
-    ap (at_most 4294967295) (tick-digits now small)
-    ∙ (let within : nat_le now 4294967295 ≡ true = le-leb now 4294967295 (omega (arith, small)) in rw within refl)
+tick-number now small = seven-digits-read now small
 
 -- ## Letters are those of heads
 

@@ -1,7 +1,8 @@
 -- The bytes of a line, field by field, are the line of its row.
 use Rattle.std.proofs.Common.{◌≡◌, ℕ, ◌+◌, ◌<◌, Bool, zero, suc, List, [], ◌∷◌, ◌++◌, length, get_or, take, drop, set, replicate, refl, ap, ◌∙◌, arith}
 use Rattle.tsb_log_text.specs.declared.log.LogRow.{LogRow}
-use Rattle.tsb_field_log.specs.LogText.{mark, marks, set_marks, tick_digits, row_line}
+use Rattle.tsb_lines.specs.Digits.{seven_digits}
+use Rattle.tsb_field_log.specs.LogText.{mark, marks, set_marks, row_line}
 
 -- each mark is in its place
 pub marks-placed : (n : ℕ) (on : ℕ → Bool) (all : List ℕ) → length all ≡ n → ((j : ℕ) → j < n → get_or all j 0 ≡ mark (on j)) → all ≡ marks n on
@@ -21,6 +22,6 @@ abbrev pub written : List ℕ → List ℕ → List ℕ → List ℕ → List �
 written tick vehicles pedestrians preempts =
     set (with_field 34 4 preempts (with_field 25 8 pedestrians (with_field 8 16 vehicles (with_field 0 7 tick (replicate 39 32))))) 38 10
 
-pub line-written : (r : LogRow) → written (tick_digits r.tick) (set_marks 16 r.row.vehicles) (set_marks 8 r.row.pedestrians) (set_marks 4 r.row.preempts) ≡ row_line r ++ 10 ∷ []
+pub line-written : (r : LogRow) → written (seven_digits r.tick) (set_marks 16 r.row.vehicles) (set_marks 8 r.row.pedestrians) (set_marks 4 r.row.preempts) ≡ row_line r ++ 10 ∷ []
 unfolding row_line
 line-written r = refl

@@ -3,9 +3,10 @@ use Rattle.std.proofs.Common.{◌≡◌, ℕ, ◌+◌, ◌-◌, ◌*◌, ◌/◌
 use Rattle.std.proofs.lemmas.Bool.{le-leb}
 use Rattle.std.proofs.lemmas.Bool.Decides.{eqb_tells}
 use Rattle.tsb_lines.specs.Lines.{lines_of, without_return, is_skipped, HasNoFeed}
-use Rattle.tsb_lines.specs.Words.{number_from, number_of, at_most}
+use Rattle.tsb_lines.specs.Digits.{digit, seven_digits}
+use Rattle.tsb_lines.specs.Words.{number_of}
 use Rattle.tsb_lines.proofs.LineLemmas.{lines-joined}
-use Rattle.tsb_lines.proofs.DigitLemmas.{digit-next}
+use Rattle.tsb_lines.proofs.DigitLemmas.{seven-digits-read}
 use Rattle.tsb_types.specs.Sets.{has_number, number_of_bits}
 use Rattle.tsb_types.specs.declared.number_set.NumberSet.{NumberSet}
 use Rattle.tsb_types.proofs.SetLemmas.{list_of-names_within}
@@ -14,25 +15,14 @@ use Rattle.tsb_log_text.specs.Logs.{log_of, Rises}
 use Rattle.tsb_log_text.specs.Laws.{heeded}
 use Rattle.tsb_log_text.specs.declared.log.LogRow.{LogRow}
 use Rattle.tsb_log_text.proofs.LawLemmas.{the-rows, heed-row}
-use Rattle.tsb_field_log.specs.LogText.{digit, tick_digits, mark, marks, set_marks, row_line, log_text}
+use Rattle.tsb_field_log.specs.LogText.{mark, marks, set_marks, row_line, log_text}
 use Rattle.tsb_field_log.proofs.ChangeLemmas.{IsRow, AreRows}
 
 -- ## Digits
 
-ten-millions : (t : ℕ) → t < 10000000 → number_from 0 (tick_digits t) ≡ Some t
-ten-millions t lt =
-    digit-next t 0 (t / 1000000) 1000000 (digit t 100000 ∷ digit t 10000 ∷ digit t 1000 ∷ digit t 100 ∷ digit t 10 ∷ digit t 1 ∷ []) (omega (arith, lt))
-    ∙ digit-next t (t / 1000000) (t / 100000) 100000 (digit t 10000 ∷ digit t 1000 ∷ digit t 100 ∷ digit t 10 ∷ digit t 1 ∷ []) (omega arith)
-    ∙ digit-next t (t / 100000) (t / 10000) 10000 (digit t 1000 ∷ digit t 100 ∷ digit t 10 ∷ digit t 1 ∷ []) (omega arith)
-    ∙ digit-next t (t / 10000) (t / 1000) 1000 (digit t 100 ∷ digit t 10 ∷ digit t 1 ∷ []) (omega arith)
-    ∙ digit-next t (t / 1000) (t / 100) 100 (digit t 10 ∷ digit t 1 ∷ []) (omega arith)
-    ∙ digit-next t (t / 100) (t / 10) 10 (digit t 1 ∷ []) (omega arith)
-    ∙ digit-next t (t / 10) t 1 [] (omega arith)
-
-tick-read : (t : ℕ) → 1 ≤ t → t ≤ 6000000 → tick_of (tick_digits t) ≡ Some t
+tick-read : (t : ℕ) → 1 ≤ t → t ≤ 6000000 → tick_of (seven_digits t) ≡ Some t
 tick-read t one most =
-    let small : leb t 4294967295 ≡ true = le-leb t 4294967295 (omega (arith, most)) in
-    let number : number_of (tick_digits t) ≡ Some t = ap (at_most 4294967295) (ten-millions t (omega (arith, most))) ∙ rw small refl in
+    let number : number_of (seven_digits t) ≡ Some t = seven-digits-read t (omega (arith, most)) in
     let low : leb 1 t ≡ true = le-leb 1 t one in
     let high : leb t 6000000 ≡ true = le-leb t 6000000 most in
     ap in_ticks number ∙ rw (low, high) refl
@@ -53,13 +43,13 @@ set-read n set fits = marks-read n (λ k. has_number set (suc k)) ∙ ap (λ (k 
 
 -- ## The line of a row
 
-line-parts : (r : LogRow) → row_of (row_line r) ≡ row_with (tick_of (tick_digits r.tick)) (list_in_digits (set_marks 16 r.row.vehicles)) (list_in_digits (set_marks 8 r.row.pedestrians)) (list_in_digits (set_marks 4 r.row.preempts))
+line-parts : (r : LogRow) → row_of (row_line r) ≡ row_with (tick_of (seven_digits r.tick)) (list_in_digits (set_marks 16 r.row.vehicles)) (list_in_digits (set_marks 8 r.row.pedestrians)) (list_in_digits (set_marks 4 r.row.preempts))
 unfolding row_of row_line
 line-parts r = refl
 
 line-read : (r : LogRow) → IsRow r → row_of (row_line r) ≡ Some r
 line-read r is =
-    let t : tick_of (tick_digits r.tick) ≡ Some r.tick = tick-read r.tick is.from_one is.within in
+    let t : tick_of (seven_digits r.tick) ≡ Some r.tick = tick-read r.tick is.from_one is.within in
     let v : list_in_digits (set_marks 16 r.row.vehicles) ≡ Some r.row.vehicles.word = set-read 16 r.row.vehicles is.vehicles in
     let p : list_in_digits (set_marks 8 r.row.pedestrians) ≡ Some r.row.pedestrians.word = set-read 8 r.row.pedestrians is.pedestrians in
     let n : list_in_digits (set_marks 4 r.row.preempts) ≡ Some r.row.preempts.word = set-read 4 r.row.preempts is.preempts in
@@ -85,7 +75,7 @@ marks-feedless (suc n) on = (mark-feedless (on 0), marks-feedless n (λ k. on (s
 digit-feedless : (t unit : ℕ) → digit t unit ≡ 10 → ⊥
 digit-feedless t unit e = absurd (omega (arith, e))
 
-tick-feedless : (t : ℕ) → HasNoFeed (tick_digits t)
+tick-feedless : (t : ℕ) → HasNoFeed (seven_digits t)
 tick-feedless t =
     (digit-feedless t 1000000, (digit-feedless t 100000, (digit-feedless t 10000, (digit-feedless t 1000, (digit-feedless t 100, (digit-feedless t 10, (digit-feedless t 1, tt)))))))
 
@@ -95,7 +85,7 @@ space-feedless e = cc
 line-feedless : (r : LogRow) → HasNoFeed (row_line r)
 unfolding row_line
 line-feedless r =
-    feedless-append (tick_digits r.tick) (32 ∷ set_marks 16 r.row.vehicles ++ (32 ∷ set_marks 8 r.row.pedestrians ++ (32 ∷ set_marks 4 r.row.preempts))) (tick-feedless r.tick) (
+    feedless-append (seven_digits r.tick) (32 ∷ set_marks 16 r.row.vehicles ++ (32 ∷ set_marks 8 r.row.pedestrians ++ (32 ∷ set_marks 4 r.row.preempts))) (tick-feedless r.tick) (
       space-feedless,
       feedless-append (set_marks 16 r.row.vehicles) (32 ∷ set_marks 8 r.row.pedestrians ++ (32 ∷ set_marks 4 r.row.preempts)) (marks-feedless 16 (λ k. has_number r.row.vehicles (suc k))) (
         space-feedless,

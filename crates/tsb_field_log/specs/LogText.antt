@@ -1,18 +1,9 @@
 -- The text of a log: for each row a line of 38 bytes, and its line feed.
-use Rattle.std.specs.Prelude.{ℕ, zero, suc, ◌+◌, ◌/◌, ◌%◌, Bool, true, false, List, [], ◌∷◌, ◌++◌}
+use Rattle.std.specs.Prelude.{ℕ, zero, suc, Bool, true, false, List, [], ◌∷◌, ◌++◌}
+use Rattle.tsb_lines.specs.Digits.{seven_digits}
 use Rattle.tsb_types.specs.Sets.{has_number}
 use Rattle.tsb_types.specs.declared.number_set.NumberSet.{NumberSet}
 use Rattle.tsb_log_text.specs.declared.log.LogRow.{LogRow}
-
--- the digit of n at this power of ten, as a byte
-abbrev pub digit : ℕ → ℕ → ℕ
-digit n unit = 48 + n / unit % 10
-
--- a tick number in 7 digits
-abbrev pub tick_digits : ℕ → List ℕ
-tick_digits tick =
-    digit tick 1000000 ∷ digit tick 100000 ∷ digit tick 10000 ∷ digit tick 1000 ∷ digit tick 100 ∷ digit tick 10
-    ∷ digit tick 1 ∷ []
 
 -- 1 for an input that is on, and 0 for one that is off
 abbrev pub mark : Bool → ℕ
@@ -31,7 +22,7 @@ set_marks n set = marks n (λ k. has_number set (suc k))
 -- the line of a row
 unfoldable pub row_line : LogRow → List ℕ
 row_line r =
-    tick_digits r.tick ++ (32 ∷ set_marks 16 r.row.vehicles ++ (32 ∷ set_marks 8 r.row.pedestrians ++ (32 ∷ set_marks 4 r.row.preempts)))
+    seven_digits r.tick ++ (32 ∷ set_marks 16 r.row.vehicles ++ (32 ∷ set_marks 8 r.row.pedestrians ++ (32 ∷ set_marks 4 r.row.preempts)))
 
 -- the text of these rows
 unfoldable pub log_text : List LogRow → List ℕ

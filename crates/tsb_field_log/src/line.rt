@@ -1,8 +1,9 @@
 //! The line of a row of a log.
 ghost use Rattle.std.specs.Prelude.{◌≡◌, ◌+◌, ◌<◌, ◌≤◌, ◌++◌, ◌∷◌, [], take, drop};
 ghost use Rattle.tsb_types.specs.Sets.{has_number};
-ghost use Rattle.tsb_field_log.specs.LogText.{digit, mark, row_line, set_marks, tick_digits};
+ghost use Rattle.tsb_field_log.specs.LogText.{mark, row_line, set_marks};
 
+use tsb_lines::seven_digits;
 use tsb_log_text::LogRow;
 use tsb_types::NumberSet;
 
@@ -31,7 +32,7 @@ pub fn row_line(row: LogRow) -> [u8; LINE]
     ensures { result ≡ row_line row ++ 10 ∷ [] }
 {
     let mut line = [b' '; LINE];
-    put(&mut line, TICK, &tick_digits(row.tick));
+    put(&mut line, TICK, &seven_digits(row.tick));
     put(&mut line, VEHICLES, &marks::<16>(row.row.vehicles));
     put(&mut line, PEDESTRIANS, &marks::<8>(row.row.pedestrians));
     put(&mut line, PREEMPTS, &marks::<4>(row.row.preempts));
@@ -45,29 +46,6 @@ fn put<const N: usize>(line: &mut [u8; LINE], at: usize, field: &[u8; N])
     ensures { line.new ≡ take at line.old ++ (field.now ++ drop (at + N) line.old) }
 {
     line[at..at + N].copy_from_slice(field);
-}
-
-/// The digit of a number at this power of ten.
-fn digit(number: u32, unit: u32) -> u8
-    requires { 0 < unit }
-    ensures { result ≡ digit number unit }
-{
-    b'0' + (number / unit % 10) as u8
-}
-
-/// A tick number in 7 digits.
-fn tick_digits(tick: u32) -> [u8; 7]
-    ensures { result ≡ tick_digits tick }
-{
-    [
-        digit(tick, 1_000_000),
-        digit(tick, 100_000),
-        digit(tick, 10_000),
-        digit(tick, 1_000),
-        digit(tick, 100),
-        digit(tick, 10),
-        digit(tick, 1),
-    ]
 }
 
 /// The marks of inputs 1 to `N`.

@@ -2,5 +2,7 @@
 pub mod Lines
 -- the words of a line, and the numbers that they spell
 pub mod Words
+-- numbers as decimal digits
+pub mod Digits
 -- what holds of lines and words
 pub mod Laws

@@ -1,11 +1,13 @@
-//! Lines of texts, words of lines, and the numbers that words spell. Nothing here takes memory.
+//! Lines of texts, words of lines, the numbers that words spell, and digits of numbers. Nothing here takes memory.
 //!
 //! What is said here is "profile": this project's own choice.
 #![tactic(auto)]
 
+pub mod digits;
 pub mod laws;
 pub mod lines;
 pub mod words;
 
+pub use digits::{digit, seven_digits};
 pub use lines::{is_skipped, next_line, without_return};
 pub use words::{next_word, number};

@@ -21,7 +21,8 @@ use Rattle.tsb_step.specs.declared.inputs.Input.TheVariants as inputs
 use Rattle.tsb_step.specs.Signs.{display, local}
 use Rattle.tsb_step.specs.State.{State}
 use Rattle.tsb_past.specs.declared.commands.Command.TheVariants.{Apply}
-use Rattle.tsb_display_text.specs.Line.{digit, letter, pedestrian_letter, tick_field, local_field, preempt_digit, line_of}
+use Rattle.tsb_lines.specs.Digits.{digit}
+use Rattle.tsb_display_text.specs.Line.{letter, pedestrian_letter, tick_field, local_field, preempt_digit, line_of}
 use Rattle.tsb_lines.specs.Lines.{split}
 use Rattle.tsb_step.proofs.EditLemmas.{or_false}
 use Rattle.tsb_text.specs.Answers.{preempt_in_service, display_line, refused_line, busy_line, undone_line, verified_line, taken_line, when_line}

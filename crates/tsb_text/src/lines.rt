@@ -7,7 +7,8 @@ ghost use Rattle.tsb_bench.specs.Held.{state_of};
 
 use arrayvec::ArrayString;
 use tsb_bench::{Bench, Cmd, Input, Kind};
-use tsb_display_text::{LineBytes, tick_digits};
+use tsb_display_text::LineBytes;
+use tsb_lines::seven_digits;
 use tsb_objects::{Preempt, Refusal, Rule, Station};
 use tsb_past::Command as Ask;
 use tsb_plan_text::rule_line;
@@ -85,7 +86,7 @@ fn verified_line(found: Option<Rule>) -> &'static [u8]
 pub(crate) fn tick_line(tick: u32) -> [u8; 12]
     ensures { result ≡ codes "tick " ++ tick_field tick }
 {
-    let [a, b, c, d, e, f, g] = tick_digits(tick);
+    let [a, b, c, d, e, f, g] = seven_digits(tick);
     [b't', b'i', b'c', b'k', b' ', a, b, c, d, e, f, g]
 }
 

@@ -5,7 +5,8 @@ use Rattle.tsb_types.specs.declared.lamp.Aspect.TheVariants.{Dark, Red, Yellow, 
 use Rattle.tsb_types.specs.declared.lamp.PedestrianAspect.{PedestrianAspect}
 use Rattle.tsb_types.specs.declared.lamp.PedestrianAspect.TheVariants as pedestrian_aspects
 use Rattle.tsb_types.specs.Lists.{run_from}
-use Rattle.tsb_display_text.specs.Line.{digit, letter, pedestrian_field, vehicle_field, preempt_digit, local_field}
+use Rattle.tsb_lines.specs.Digits.{digit}
+use Rattle.tsb_display_text.specs.Line.{letter, pedestrian_field, vehicle_field, preempt_digit, local_field}
 
 -- ## Clearance is W, and walk is C
 

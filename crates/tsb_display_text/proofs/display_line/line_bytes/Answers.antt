@@ -10,7 +10,7 @@ returns-clause-line c =
     (c.put-4.ensures ∙ ap (placed 42 4 c.overlap_letters.result)
     (c.put-3.ensures ∙ ap (placed 25 16 c.pedestrian_letters.result)
     (c.put-2.ensures ∙ ap (placed 8 16 c.vehicle_letters.result) c.put.ensures)))
-    ∙ (λ i. written (c.tick_digits.ensures i) (c.vehicle_letters.ensures i) (c.pedestrian_letters.ensures i) (c.overlap_letters.ensures i) (c.preempt_digit.ensures.digit i) (c.local_digits.ensures i))
+    ∙ (λ i. written (c.seven_digits.ensures i) (c.vehicle_letters.ensures i) (c.pedestrian_letters.ensures i) (c.overlap_letters.ensures i) (c.preempt_digit.ensures.digit i) (c.local_digits.ensures i))
     ∙ line-written c.args.now (heads_of c.args.heads.now) c.args.preempt c.args.local
 
 pub returns-clause-text : goal.returns-clause-text

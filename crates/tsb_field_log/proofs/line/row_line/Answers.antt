@@ -8,5 +8,5 @@ returns c =
     (c.put-4.ensures ∙ ap (with_field 34 4 c.marks-3.result)
     (c.put-3.ensures ∙ ap (with_field 25 8 c.marks-2.result)
     (c.put-2.ensures ∙ ap (with_field 8 16 c.marks.result) c.put.ensures)))
-    ∙ (λ i. written (c.tick_digits.ensures i) (c.marks.ensures i) (c.marks-2.ensures i) (c.marks-3.ensures i))
+    ∙ (λ i. written (c.seven_digits.ensures i) (c.marks.ensures i) (c.marks-2.ensures i) (c.marks-3.ensures i))
     ∙ line-written c.args.row
