@@ -5,10 +5,11 @@ use Rattle.std.specs.List.{cons_option, filter_map}
 use Rattle.std.specs.Io.KnownBytes.{Consumes, IsAtEnd}
 use Rattle.std.proofs.lemmas.Bool.{cases_lt}
 use Rattle.std.proofs.lemmas.Bool.Decides.{eqb_tells}
-use Rattle.std.proofs.lemmas.List.{append-nil}
+use Rattle.std.proofs.lemmas.List.{append-nil, length-take-le, take-append-le}
 use Rattle.std.proofs.lemmas.List.Sums.{fold-append}
 use Rattle.tsb_lines.specs.Lines.{HasNoFeed, onto_first, split, without_return}
-use Rattle.tsb_lines.proofs.LineLemmas.{feedless-more}
+use Rattle.tsb_lines.proofs.LineLemmas.{feedless-more, length-return, split-alone, split-joined}
+use Rattle.tsb_streams.proofs.StreamLemmas.{consumes-more, consumes-nothing}
 use Rattle.tsb_field_display.specs.declared.error.HistoryError.{HistoryError}
 use Rattle.tsb_field_display.specs.declared.shown.Shown.{Shown}
 use Rattle.tsb_field_display.specs.declared.stream.Stream.{Stream}
@@ -16,39 +17,7 @@ use Rattle.tsb_field_display.specs.Reading.{is_display, shown_of}
 use Rattle.tsb_field_display.specs.Remaining.{Keeps}
 use Rattle.tsb_field_display.specs.Stream.{Going, HistoryRead, Stand, StandsAt, shown_in, shown_lines, start, with_byte, with_bytes, with_held, with_line, with_shown}
 
--- ## Lines
-
-split-ended : (line more : List ℕ) → HasNoFeed line → split (line ++ 10 ∷ more) ≡ line ∷ split more
-split-ended [] more f = refl
-split-ended (b ∷ bs) more f = elim (eqb_tells b 10) [
-  | inl z ↦ absurd (f.0 z.1)
-  | inr off ↦ rw off.0 (ap (onto_first b) (split-ended bs more f.1))
-]
-
-split-last : (line : List ℕ) → HasNoFeed line → split line ≡ line ∷ []
-split-last [] f = refl
-split-last (b ∷ bs) f = elim (eqb_tells b 10) [
-  | inl z ↦ absurd (f.0 z.1)
-  | inr off ↦ rw off.0 (ap (onto_first b) (split-last bs f.1))
-]
-
 -- ## A line of which the first bytes are held
-
-take-front : (n : ℕ) (xs ys : List ℕ) → n ≤ length xs → take n (xs ++ ys) ≡ take n xs
-take-front zero xs ys le = refl
-take-front (suc n) [] ys le = absurd (omega (arith, le))
-take-front (suc n) (x ∷ xs) ys le = ap (λ (v : List ℕ). x ∷ v) (take-front n xs ys (omega (arith, le)))
-
-length-take-long : (n : ℕ) (xs : List ℕ) → n ≤ length xs → length (take n xs) ≡ n
-length-take-long zero xs le = refl
-length-take-long (suc n) [] le = absurd (omega (arith, le))
-length-take-long (suc n) (x ∷ xs) le = ap suc (length-take-long n xs (omega (arith, le)))
-
--- at most one byte is taken off a line
-most-without : (line : List ℕ) → length line ≤ length (without_return line) + 1
-most-without [] = omega arith
-most-without (b ∷ []) = elim (eqb_tells b 13) [ inl on ↦ rw on.0 (omega arith) | inr off ↦ rw off.0 (omega arith) ]
-most-without (b ∷ c ∷ bs) = let rest : length (c ∷ bs) ≤ length (without_return (c ∷ bs)) + 1 = most-without (c ∷ bs) in omega (arith, rest)
 
 -- a line of another length shows nothing
 other-length : (line : List ℕ) → 54 ≤ length line → shown_of line ≡ None
@@ -57,13 +26,13 @@ other-length line long = let off : (length line == 53) ≡ false = elim (eqb_tel
 
 -- nor does one that is longer, whatever its end is
 long-shows : (line : List ℕ) → 55 ≤ length line → shown_in line ≡ None
-long-shows line long = let most = most-without line in other-length (without_return line) (omega (arith, long, most))
+long-shows line long = let most = length-return line in other-length (without_return line) (omega (arith, long, most))
 
 -- the bytes that are held of a line show what it shows
 held-shows : (line : List ℕ) → shown_in (take 55 line) ≡ shown_in line
 held-shows line = elim (cases_lt (length line) 55) [
   | inl less ↦ ap shown_in (take_all 55 line (omega (arith, less)))
-  | inr long ↦ let full = length-take-long 55 line long in long-shows (take 55 line) (omega (arith, full)) ∙ sym (long-shows line long)
+  | inr long ↦ let full = length-take-le 55 line long in long-shows (take 55 line) (omega (arith, full)) ∙ sym (long-shows line long)
 ]
 
 -- what is known where these lines have ended, and the bytes of this line that are held
@@ -80,8 +49,8 @@ held-further shown line b = elim (cases_lt (length line) 55) [
       let one : take 55 (line ++ b ∷ []) ≡ line ++ b ∷ [] = take_all 55 (line ++ b ∷ []) (omega (arith, more, less)) in
       rw (all, off, one) refl
   | inr long ↦
-      let full : (length (take 55 line) == 55) ≡ true = ap (λ (n : ℕ). n == 55) (length-take-long 55 line long) in
-      let same : take 55 (line ++ b ∷ []) ≡ take 55 line = take-front 55 line (b ∷ []) long in
+      let full : (length (take 55 line) == 55) ≡ true = ap (λ (n : ℕ). n == 55) (length-take-le 55 line long) in
+      let same : take 55 (line ++ b ∷ []) ≡ take 55 line = take-append-le 55 line (b ∷ []) long in
       rw (full, same) refl
 ]
 
@@ -106,7 +75,7 @@ byte-other s b e = rw e refl
 lines-on : (bytes line : List ℕ) (shown : List Shown) → HasNoFeed line → (with_line (with_bytes (stand shown line) bytes)).shown ≡ shown ++ shown_lines (line ++ bytes)
 lines-on [] line shown f =
     ap (λ (o : Option Shown). with_shown shown o) (held-shows line) ∙ shown-last shown (shown_in line)
-    ∙ sym (ap (λ (v : List ℕ). shown ++ shown_lines v) (append-nil line) ∙ ap (λ (ls : List (List ℕ)). shown ++ filter_map shown_in ls) (split-last line f))
+    ∙ sym (ap (λ (v : List ℕ). shown ++ shown_lines v) (append-nil line) ∙ ap (λ (ls : List (List ℕ)). shown ++ filter_map shown_in ls) (split-alone line f))
 lines-on (b ∷ bytes) line shown f = elim (eqb_tells b 10) [
   | inl on ↦
       ap (λ (s : Stand). (with_line (with_bytes s bytes)).shown) (byte-feed (stand shown line) b on.0)
@@ -114,7 +83,7 @@ lines-on (b ∷ bytes) line shown f = elim (eqb_tells b 10) [
       ∙ ap (λ (o : Option Shown). with_shown shown o ++ shown_lines bytes) (held-shows line)
       ∙ shown-on shown (shown_lines bytes) (shown_in line)
       ∙ sym (ap (λ (v : ℕ). shown ++ shown_lines (line ++ v ∷ bytes)) on.1
-      ∙ ap (λ (ls : List (List ℕ)). shown ++ filter_map shown_in ls) (split-ended line bytes f))
+      ∙ ap (λ (ls : List (List ℕ)). shown ++ filter_map shown_in ls) (split-joined line bytes f))
   | inr off ↦
       ap (λ (s : Stand). (with_line (with_bytes s bytes)).shown) (byte-other (stand shown line) b off.0 ∙ held-further shown line b)
       ∙ lines-on bytes (line ++ b ∷ []) shown (feedless-more line b f off.1)
@@ -126,16 +95,6 @@ pub lines-taken : (bytes : List ℕ) → (with_line (with_bytes start bytes)).sh
 lines-taken bytes = lines-on bytes [] [] tt
 
 -- ## Reading
-
-consumes-nothing : (a : Option (List ℕ)) → Consumes a a []
-consumes-nothing None = tt
-consumes-nothing (Some xs) = refl
-
-consumes-more : (a b c : Option (List ℕ)) (x y : List ℕ) → Consumes a b x → Consumes b c y → Consumes a c (x ++ y)
-consumes-more None b c x y h k = tt
-consumes-more (Some xs) None c x y h k = absurd h
-consumes-more (Some xs) (Some ys) None x y h k = absurd k
-consumes-more (Some xs) (Some ys) (Some zs) x y h k = h ∙ ap (λ (v : List ℕ). x ++ v) k ∙ sym (append_assoc x y zs)
 
 pub going_start : (i : Option (List ℕ)) (stream : Stream) → StandsAt start stream → Going i i stream
 going_start i stream stands = record { bytes = []; taken = consumes-nothing i; stands = stands }

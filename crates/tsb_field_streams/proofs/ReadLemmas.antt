@@ -4,7 +4,7 @@ use Rattle.std.proofs.lemmas.List.{append-nil, length-take-le, take-append-le}
 use Rattle.std.proofs.lemmas.Bool.{cases_lt, lt-ltb}
 use Rattle.std.proofs.lemmas.Bool.Decides.{eqb_tells}
 use Rattle.tsb_lines.specs.Lines.{HasNoFeed, lines_of, without_return}
-use Rattle.tsb_lines.proofs.LineLemmas.{feedless-more, lines-alone, lines-joined}
+use Rattle.tsb_lines.proofs.LineLemmas.{feedless-more, length-return, lines-alone, lines-joined}
 use Rattle.tsb_field_streams.specs.declared.error.FilterError.{FilterError}
 use Rattle.tsb_field_streams.specs.declared.error.FilterError.TheVariants.{Malformed}
 use Rattle.tsb_field_streams.specs.Filtering.{Given, Stand, one_more, start, text_of, with_line, with_unmarked}
@@ -12,11 +12,6 @@ use Rattle.tsb_field_streams.specs.Lines.{HasRead, filtered, lines_behind}
 use Rattle.tsb_field_streams.specs.Streaming.{Sticks}
 
 -- ## Lines of which the first bytes are kept
-
-length-return : (xs : List ℕ) → length xs ≤ length (without_return xs) + 1
-length-return [] = omega arith
-length-return (b ∷ []) = elim (eqb_tells b 13) [ inl z ↦ rw z.0 (omega arith) | inr off ↦ rw off.0 (omega arith) ]
-length-return (b ∷ c ∷ bs) = let rest : length (c ∷ bs) ≤ length (without_return (c ∷ bs)) + 1 = length-return (c ∷ bs) in omega (arith, rest)
 
 too-long : (g : Given) (n : ℕ) (s : Stand) (line : List ℕ) → 1000 < length line → with_line g n s line ≡ Err (Malformed n)
 unfolding with_line

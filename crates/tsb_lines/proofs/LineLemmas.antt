@@ -1,4 +1,4 @@
-use Rattle.std.proofs.Common.{◌≡◌, ℕ, ◌<◌, ◌≤◌, List, [], ◌∷◌, ◌++◌, length, refl, ap, ◌∙◌, arith, zero, suc, get_or, take, drop, inl, inr}
+use Rattle.std.proofs.Common.{◌≡◌, ℕ, ◌+◌, ◌<◌, ◌≤◌, List, [], ◌∷◌, ◌++◌, length, refl, ap, ◌∙◌, arith, zero, suc, get_or, take, drop, inl, inr}
 use Rattle.std.proofs.lemmas.Bool.Decides.{eqb_tells}
 use Rattle.tsb_lines.specs.Lines.{without_return, HasNoFeed, onto_first, split, ended, lines_of}
 
@@ -19,6 +19,12 @@ without-none (b ∷ c ∷ bs) (suc n) l e = ap (λ (v : List ℕ). b ∷ v) (wit
 pub without-empty : (xs : List ℕ) → length xs ≡ 0 → xs ≡ without_return xs
 without-empty [] l = refl
 without-empty (b ∷ xs) l = absurd (omega arith)
+
+-- at most one byte is taken off a line
+pub length-return : (xs : List ℕ) → length xs ≤ length (without_return xs) + 1
+length-return [] = omega arith
+length-return (b ∷ []) = elim (eqb_tells b 13) [ inl z ↦ rw z.0 (omega arith) | inr off ↦ rw off.0 (omega arith) ]
+length-return (b ∷ c ∷ bs) = let rest : length (c ∷ bs) ≤ length (without_return (c ∷ bs)) + 1 = length-return (c ∷ bs) in omega (arith, rest)
 
 -- no line feed among the first n
 abbrev pub Feedless : List ℕ → ℕ → Type 0
@@ -58,14 +64,14 @@ lines-last xs f = ap ended (split-none xs f)
 pub lines-first : (xs : List ℕ) (n : ℕ) → n < length xs → Feedless xs n → get_or xs n 0 ≡ 10 → lines_of xs ≡ without_return (take n xs) ∷ lines_of (drop (suc n) xs)
 lines-first xs n lt f e = ap ended (split-first xs n lt f e) ∙ ended-split (take n xs) (drop (suc n) xs)
 
-split-joined : (held more : List ℕ) → HasNoFeed held → split (held ++ 10 ∷ more) ≡ held ∷ split more
+pub split-joined : (held more : List ℕ) → HasNoFeed held → split (held ++ 10 ∷ more) ≡ held ∷ split more
 split-joined [] more f = refl
 split-joined (b ∷ bs) more f = elim (eqb_tells b 10) [
   | inl z ↦ absurd (f.0 z.1)
   | inr off ↦ rw off.0 (ap (onto_first b) (split-joined bs more f.1))
 ]
 
-split-alone : (held : List ℕ) → HasNoFeed held → split held ≡ held ∷ []
+pub split-alone : (held : List ℕ) → HasNoFeed held → split held ≡ held ∷ []
 split-alone [] f = refl
 split-alone (b ∷ bs) f = elim (eqb_tells b 10) [
   | inl z ↦ absurd (f.0 z.1)

@@ -1,6 +1,6 @@
 -- The bytes that are held are those of the line that is not whole yet, of a long one the first.
 use Rattle.std.proofs.Common.{◌≡◌, ℕ, ◌+◌, ◌<◌, ◌≤◌, List, [], ◌∷◌, ◌++◌, length, refl, sym, ap, ◌∙◌, append_assoc, length-append, Ok, Err, arith, subst, zero, suc, take, drop, get_or, take_all, inl, inr}
-use Rattle.std.proofs.lemmas.List.{append-nil, take_more, take-append-drop}
+use Rattle.std.proofs.lemmas.List.{append-nil, length-take-le, take-append-le, take_more, take-append-drop}
 use Rattle.std.proofs.lemmas.Bool.{cases_lt}
 use Rattle.std.specs.declared.result.Result.{Result}
 use Rattle.tsb_command_text.specs.declared.command.Reading.{Reading}
@@ -19,22 +19,11 @@ use Rattle.tsb_text.proofs.TextLemmas.{reading-returned}
 pub holds-start : (held : List ℕ) → held ≡ [] → Holds [] held
 holds-start held e = record { done = []; rest = []; whole = refl; ended = inl refl; unfinished = tt; kept = e }
 
--- the first bytes of a longer line
-take-front : (n : ℕ) (xs ys : List ℕ) → n ≤ length xs → take n (xs ++ ys) ≡ take n xs
-take-front zero xs ys le = refl
-take-front (suc n) [] ys le = absurd (omega (arith, le))
-take-front (suc n) (x ∷ xs) ys le = ap (λ (v : List ℕ). x ∷ v) (take-front n xs ys (omega (arith, le)))
-
-length-take-long : (n : ℕ) (xs : List ℕ) → n ≤ length xs → length (take n xs) ≡ n
-length-take-long zero xs le = refl
-length-take-long (suc n) [] le = absurd (omega (arith, le))
-length-take-long (suc n) (x ∷ xs) le = ap suc (length-take-long n xs (omega (arith, le)))
-
 -- fewer bytes than are kept are all of the line
 all-kept : (held rest : List ℕ) → held ≡ take 202 rest → length held < 202 → rest ≡ held
 all-kept held rest e short = elim (cases_lt (length rest) 202) [
   | inl less ↦ sym (e ∙ take_all 202 rest (omega (arith, less)))
-  | inr more ↦ let full : length held ≡ 202 = ap length e ∙ length-take-long 202 rest more in absurd (omega (arith, full, short))
+  | inr more ↦ let full : length held ≡ 202 = ap length e ∙ length-take-le 202 rest more in absurd (omega (arith, full, short))
 ]
 
 -- a byte more of the line
@@ -65,7 +54,7 @@ holds-cut bytes held b h n long =
       whole = ap (λ (v : List ℕ). v ++ b ∷ []) h.whole ∙ append_assoc h.done h.rest (b ∷ []);
       ended = h.ended;
       unfinished = feedless-more h.rest b h.unfinished n;
-      kept = h.kept ∙ sym (take-front 202 h.rest (b ∷ []) more);
+      kept = h.kept ∙ sym (take-append-le 202 h.rest (b ∷ []) more);
     }
 
 -- a line that is `quit` was held whole

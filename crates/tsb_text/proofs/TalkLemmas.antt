@@ -22,7 +22,7 @@ use Rattle.tsb_text.specs.Talk.{Stands, Done, Obeyed, Went, Finished}
 use Rattle.tsb_text.specs.Written.{Said, Wrote, with_feed}
 use Rattle.tsb_text.proofs.TextLemmas.{some-answered, text-cut}
 use Rattle.tsb_text.proofs.WrittenLemmas.{said-nothing, said-more}
-use Rattle.tsb_streams.proofs.StreamLemmas.{front-more}
+use Rattle.tsb_streams.proofs.StreamLemmas.{front-more, front-rest}
 
 -- ## A line
 
@@ -166,10 +166,6 @@ pub record Talking (given : Setup) (log : List LogRow) (is : List Input) (bytes 
   pub stands : Stands given log bench now
   pub wrote : Wrote a b p q (Carries given is bytes now held)
 
-front-all : (h bytes : List ℕ) (i x : ℕ) → i < length bytes → x ≡ get_or bytes i 0 → ((h ++ take i bytes) ++ x ∷ []) ++ drop (i + 1) bytes ≡ h ++ bytes
-front-all h bytes i x lt is =
-    ap (λ (v : List ℕ). v ++ drop (i + 1) bytes) (front-more h bytes i x lt is) ∙ append_assoc h (take (i + 1) bytes) (drop (i + 1) bytes) ∙ ap (λ (v : List ℕ). h ++ v) (take-append-drop (i + 1) bytes)
-
 pub talking-start : (given : Setup) (log : List LogRow) (is : List Input) (h bytes : List ℕ) (bench : Whole) (a : Option (List ℕ)) (p : List ℕ) → Stands given log bench is → Talking given log is (h ++ take 0 bytes) bench h a a p p
 talking-start given log is h bytes bench a p stands = record {
   now = is;
@@ -199,14 +195,14 @@ pub talking-over : (given : Setup) (log : List LogRow) (is : List Input) (h byte
     → Wrote a c p w (IsWhole given is (h ++ bytes))
 talking-over given log is h bytes i x old new held next f a b c p q w lt e over t went =
     let step : Went (Ok Over) given t.now (held ++ x ∷ []) log new next b c q w = subst (λ (y : Flow). Went (Ok y) given t.now (held ++ x ∷ []) log new next b c q w) over (went given t.now t.stands) in
-    subst (λ (v : List ℕ). Wrote a c p w (IsWhole given is v)) (front-all h bytes i x lt e)
+    subst (λ (v : List ℕ). Wrote a c p w (IsWhole given is v)) (front-rest h bytes i x lt e)
     (whole-more given is ((h ++ take i bytes) ++ x ∷ []) (drop (i + 1) bytes) a c p w (joined (Ok Over) given log is (h ++ take i bytes) t.now held (x ∷ []) new next a b c p q w t.wrote step))
 
 pub talking-fault : (given : Setup) (log : List LogRow) (is : List Input) (h bytes : List ℕ) (i x : ℕ) (old new : Whole) (held next : List ℕ) (fault : WriteError) (a b c : Option (List ℕ)) (p q w : List ℕ) → i < length bytes → x ≡ get_or bytes i 0
     → Talking given log is (h ++ take i bytes) old held a b p q → ((given : Setup) (inputs : List Input) → Stands given log old inputs → Wrote b c q w (IsBegun given inputs (held ++ x ∷ [])))
     → Wrote a c p w (IsBegun given is (h ++ bytes))
 talking-fault given log is h bytes i x old new held next fault a b c p q w lt e t went =
-    subst (λ (v : List ℕ). Wrote a c p w (IsBegun given is v)) (front-all h bytes i x lt e)
+    subst (λ (v : List ℕ). Wrote a c p w (IsBegun given is v)) (front-rest h bytes i x lt e)
     (begun-more given is ((h ++ take i bytes) ++ x ∷ []) (drop (i + 1) bytes) a c p w (joined (Err fault) given log is (h ++ take i bytes) t.now held (x ∷ []) new next a b c p q w t.wrote (went given t.now t.stands)))
 
 pub talking-end : (given : Setup) (log : List LogRow) (is : List Input) (h bytes : List ℕ) (i : ℕ) (bench : Whole) (held : List ℕ) (a b : Option (List ℕ)) (p q : List ℕ) → length bytes ≤ i
