@@ -3,3 +3,4 @@ pub mod CountLemmas
 pub mod LitLemmas
 pub mod LineLemmas
 pub mod LawLemmas
+pub mod Examples

@@ -1,9 +1,17 @@
 -- One-line mistakes, each with an example that tells it from the definition.
-use Rattle.std.specs.Prelude.{◌≡◌, ℕ, Bool, false, List, [], ◌∷◌, ◌++◌, if◌then◌else◌, filter, refl}
+use Rattle.std.proofs.Common.{◌≡◌, ◌∙◌, ℕ, ◌*◌, ◌+◌, Bool, true, false, List, [], ◌∷◌, ◌++◌, Option, Some, None, if◌then◌else◌, filter, refl, ap, sym, arith}
+use Rattle.tsb_event_text.specs.declared.rows.EventRow.{EventRow}
+use Rattle.tsb_event_text.specs.declared.times.Moment.{Moment}
+use Rattle.tsb_event_text.specs.Columns.{usual_columns}
+use Rattle.tsb_event_text.specs.Events.{can_be_written, event_row_text}
+use Rattle.tsb_event_text.specs.Rows.{row_of}
+use Rattle.tsb_event_text.proofs.EventLemmas.{read-again}
 use Rattle.tsb_field_display.specs.declared.events.DisplayEvent.{DisplayEvent}
 use Rattle.tsb_field_display.specs.Events.{event}
 use Rattle.tsb_field_events.specs.Laws.{is_of_input}
 use Rattle.tsb_field_events.specs.Merge.{ahead_of, comes_before, merged}
+use Rattle.tsb_field_events.specs.Texts.{Tells}
+use Rattle.tsb_field_events.specs.Ticks.{moment_of_tick}
 
 -- a head that becomes green at tick 2, and detectors that go on at ticks 1 and 3
 abbrev pub head : List DisplayEvent
@@ -38,3 +46,25 @@ lost = refl
 
 kept : filter is_of_input (merged head inputs) ≡ inputs
 kept = refl
+
+-- ## Code and parameter change places in a line
+
+abbrev code_of : Option EventRow → ℕ
+code_of (Some row) = row.code
+code_of None = 0
+
+-- detector 5 goes on; the line is read as an event of code 5
+other_event : (device time : List ℕ) (moment : Moment) → can_be_written device ≡ true → Tells moment time
+    → code_of (row_of usual_columns None (event_row_text device time 5 82)) ≡ 5
+other_event device time moment can told = ap code_of (read-again device time moment 5 82 None can told.plain told.read (omega arith) (omega arith))
+
+-- ## Tick 1 begins a tenth of a second behind `from`
+
+abbrev moment_of_tick_late : Moment → ℕ → Moment
+moment_of_tick_late from tick = record { nanos = from.nanos + tick * 100000000 }
+
+first_tick : (from : Moment) → (moment_of_tick from 1).nanos ≡ from.nanos
+first_tick from = omega arith
+
+first_tick_not : (from : Moment) → (moment_of_tick_late from 1).nanos ≡ from.nanos + 100000000
+first_tick_not from = refl

@@ -1,0 +1,2 @@
+-- Computed examples of the definitions, and mistakes that the laws refuse.
+pub mod Mistakes
