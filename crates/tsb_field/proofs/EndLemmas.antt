@@ -17,8 +17,8 @@ use Rattle.tsb_field.specs.Ends.{IsEvents, LogNamed, Pictured, Stops, TellsNoLog
 -- there is no log
 pub stops : (fault : ReadError LogError) (known : List ℕ → Option (List ℕ)) (path : Option (List ℕ)) (status : ℕ) (told tells : Option (List ℕ)) → LogNamed (Err fault) known path
     → TellsNoLog fault status told tells → Stops known path status told tells
-stops (faults.Failed files.Memory) known path status told tells none line = inr (Memory, line)
-stops (faults.Failed files.Read) known path status told tells none line = inr (Read, line)
+stops (faults.Failed files.Memory) known path status told tells named line = inr (named, Memory, line)
+stops (faults.Failed files.Read) known path status told tells named line = inr (named, Read, line)
 stops (faults.Refused fault) known path status told tells none line = inl (fault, none, line)
 
 -- what was handed on is the same

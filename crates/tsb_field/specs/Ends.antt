@@ -1,11 +1,10 @@
 -- How the program ends, and what it has then written on its output and of faults.
 --
 -- Of each stream there are the bytes before and after: `input` and `left`, `old` and `new`, `told` and `tells`.
-use Rattle.std.specs.Prelude.{◌≡◌, ◌⊎◌, ℕ, List, [], Option, Some, None, Result, Ok, Err, unwrap_or, codes}
+use Rattle.std.specs.Prelude.{◌≡◌, ◌⊎◌, ℕ, List, [], IsSome, Option, Some, None, Result, Ok, Err, unwrap_or, codes}
 use Rattle.std.specs.Io.KnownBytes.{Appends, Consumes, IsAtEnd, Keeps}
 use Rattle.tsb_streams.specs.Writes.{AppendsFront}
 use Rattle.tsb_program.specs.Read.{HasLog, RefusesLog}
-use Rattle.tsb_program.specs.declared.files.FileError.{FileError}
 use Rattle.tsb_program.specs.declared.files.FileError.TheVariants as files
 use Rattle.tsb_program.specs.declared.read.ReadError.{ReadError}
 use Rattle.tsb_program.specs.declared.read.ReadError.TheVariants as faults
@@ -56,17 +55,17 @@ abbrev pub NamesNoLog : (List ℕ → Option (List ℕ)) → Option (List ℕ) �
 NamesNoLog files None fault = ⊥
 NamesNoLog files (Some path) fault = RefusesLog (files path) fault
 
--- there is no log: with 1 because it is refused, or because its file or memory failed
+-- there is no log: with 1 because the one named is refused, or because its file or memory failed
 abbrev pub Stops : (List ℕ → Option (List ℕ)) → Option (List ℕ) → ℕ → Option (List ℕ) → Option (List ℕ) → Type 0
 Stops files path status told tells =
     ((fault : LogError) × NamesNoLog files path fault × Refuses 1 (Some (log_fault fault)) status told tells)
-    ⊎ ((failure : Failure) × Fails failure status told tells)
+    ⊎ (IsSome path × (failure : Failure) × Fails failure status told tells)
 
 -- what came of reading the log that words name
 abbrev pub LogNamed : Result (List LogRow) (ReadError LogError) → (List ℕ → Option (List ℕ)) → Option (List ℕ) → Type 0
 LogNamed (Ok rows) files path = NamesLog files path rows
 LogNamed (Err (faults.Refused fault)) files path = NamesNoLog files path fault
-LogNamed (Err (faults.Failed why)) files path = Unit {0}
+LogNamed (Err (faults.Failed why)) files path = IsSome path
 
 -- why there is no log is told
 abbrev pub TellsNoLog : ReadError LogError → ℕ → Option (List ℕ) → Option (List ℕ) → Type 0

@@ -5,12 +5,11 @@
 mod end;
 mod run;
 
-use crate::end::tell_words_fault;
+use crate::end::{Failure, fail, tell_words_fault};
 use crate::run::run_words;
-use std::alloc::Global;
 use std::convert::AsStr;
 use std::env;
-use std::io::{BufWriter, Write};
+use std::io::BufWriter;
 use std::process::ExitCode;
 use tsb_field_words::WordsError;
 use tsb_program::Disk;
@@ -42,6 +41,6 @@ fn run_buffered<S: AsStr>(rt: &HostRuntime, words: &[S]) -> u8 {
             &mut output,
             &mut rt.stderr(),
         ),
-        Err(_) => tell_words_fault(&mut rt.stderr(), WordsError::Memory),
+        Err(_) => fail(&mut rt.stderr(), Failure::Memory),
     }
 }

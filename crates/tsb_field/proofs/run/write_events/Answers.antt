@@ -3,8 +3,11 @@ use Rattle.tsb_field_display.specs.Remaining.{last_tick}
 use Rattle.tsb_field_display.specs.Stream.{shown_lines}
 use Rattle.tsb_field.specs.declared.end.Failure.TheVariants.{Memory}
 use Rattle.tsb_field.specs.Ends.{Written}
-use Rattle.tsb_field.proofs.EndLemmas.{events-are}
+use Rattle.tsb_field.proofs.EndLemmas.{events-are, stops}
 use Rattle.tsb_field.proofs.run.write_events.Goals as goal
+
+pub returns-in-Err : goal.returns-in-Err
+returns-in-Err g c = inl (refl, refl, stops c.in-Err.fault _ _ c.refuse_log.result _ _ c.in-Err.ensures c.refuse_log.ensures)
 
 pub returns-in-Err-read_history : goal.returns-in-Err-read_history
 returns-in-Err-read_history g c =
