@@ -33,7 +33,7 @@ abbrev pub AreAllApart : List Shown → Type 0
 AreAllApart [] = Unit {0}
 AreAllApart (line ∷ lines) = AreApart line.signals × AreAllApart lines
 
--- these are the heads that are lit, and they flash as this says
+-- these are the heads that are green, yellow, in walk and in clearance, and all flash where this says so
 pub record IsLit (lit : Lit) (s : Signals) : Type 0 where
   pub green : (p : ℕ) → 1 ≤ p → p ≤ 16 → lit.green p ≡ is_green s p
   pub yellow : (p : ℕ) → 1 ≤ p → p ≤ 16 → lit.yellow p ≡ is_yellow s p

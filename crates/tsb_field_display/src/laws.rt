@@ -11,7 +11,8 @@ pub fn events_come_of_changes()
     ensures { ComeOfChanges }
 {}
 
-/// After the events of each line, the events so far tell which heads are lit, as that line shows them.
+/// After the events of each line, the events so far tell which heads are green, yellow, in walk or in clearance, and
+/// whether all flash, as that line shows it. No event tells red or don't walk.
 pub fn events_tell_the_heads()
     ensures { TellTheHeads }
 {}
