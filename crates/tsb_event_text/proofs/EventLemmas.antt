@@ -1,12 +1,15 @@
 -- What is written of an event is read again.
-use Rattle.std.proofs.Common.{◌≡◌, ◌∙◌, ◌≢◌, ℕ, ◌+◌, ◌-◌, ◌*◌, ◌/◌, ◌%◌, ◌<◌, ◌≤◌, ◌^◌, ◌&&◌, not, Bool, true, false, leb, zero, suc, List, [], ◌∷◌, ◌++◌, length, take, refl, ap, ap₂, arith, inl, inr, Option, Some, None, if◌then◌else◌, append_assoc, length-append}
-use Rattle.std.proofs.lemmas.Bool.{le-leb}
+use Rattle.std.proofs.Common.{◌≡◌, ◌∙◌, ◌≢◌, ℕ, ◌+◌, ◌-◌, ◌*◌, ◌/◌, ◌%◌, ◌<◌, ◌≤◌, ◌^◌, ◌&&◌, ◌||◌, not, Bool, true, false, leb, zero, suc, List, [], ◌∷◌, ◌++◌, length, take, refl, ap, ap₂, arith, inl, inr, Option, Some, None, if◌then◌else◌, append_assoc, length-append}
+use Rattle.std.proofs.lemmas.Bool.{le-leb, or_parts}
 use Rattle.std.proofs.lemmas.Bool.Decides.{eqb_tells}
 use Rattle.std.proofs.lemmas.Fmt.{decimal_by_steps, length-decimal-le}
 use Rattle.std.specs.Fmt.{decimal}
+use Rattle.std.specs.Prelude.{nat_le}
+use Rattle.tsb_lines.specs.Lines.{is_comment}
 use Rattle.tsb_lines.specs.Words.{number_from, number_of}
 use Rattle.tsb_lines.proofs.DigitLemmas.{digit-read}
 use Rattle.tsb_event_text.specs.declared.times.Moment.{Moment}
+use Rattle.tsb_event_text.specs.declared.events.TheConstants.{LONGEST_DEVICE}
 use Rattle.tsb_event_text.specs.Columns.{usual_columns}
 use Rattle.tsb_event_text.specs.Fields.{Plain, Quoted, fields_from, fields_of, onto_field, with_field}
 use Rattle.tsb_event_text.specs.Rows.{is_asked, row_in, row_of, row_said}
@@ -92,18 +95,20 @@ plain-last (x ∷ xs) p = elim (eqb_tells x 44) [
 
 -- ## Devices
 
-device-by : (device rest : List ℕ) (comma : Bool) → has_byte 44 device ≡ comma → has_byte 34 device ≡ false
-    → fields_of ((if comma then 34 ∷ (device ++ 34 ∷ []) else device) ++ 44 ∷ rest) ≡ with_field device (fields_of rest)
+device-by : (device rest : List ℕ) (quotes : Bool) → (quotes ≡ false → has_byte 44 device ≡ false) → has_byte 34 device ≡ false
+    → fields_of ((if quotes then 34 ∷ (device ++ 34 ∷ []) else device) ++ 44 ∷ rest) ≡ with_field device (fields_of rest)
 device-by device rest true is free =
     ap (λ (xs : List ℕ). fields_from Quoted xs) (append_assoc device (34 ∷ []) (44 ∷ rest)) ∙ quoted device rest free
-device-by device rest false is free = field-first device rest is free
+device-by device rest false is free = field-first device rest (is refl) free
 
-first-not : (a b c : Bool) → ((not a && b) && c) ≡ true → a ≡ false
-first-not true b c e = absurd (cc)
-first-not false b c e = refl
+first-not : (a b c d : Bool) → (not a && b && c && d) ≡ true → a ≡ false
+first-not true b c d e = absurd (cc)
+first-not false b c d e = refl
 
 pub device-first : (device rest : List ℕ) → can_be_written device ≡ true → fields_of (device_field device ++ 44 ∷ rest) ≡ with_field device (fields_of rest)
-device-first device rest can = device-by device rest (has_byte 44 device) refl (first-not (has_byte 34 device) (not (has_byte 10 device)) (not (has_byte 13 device)) can)
+device-first device rest can =
+    device-by device rest (has_byte 44 device || is_comment device) (λ off. (or_parts (has_byte 44 device) (is_comment device) off).0)
+    (first-not (has_byte 34 device) (not (has_byte 10 device)) (not (has_byte 13 device)) (nat_le (length device) LONGEST_DEVICE) can)
 
 -- ## Numbers
 

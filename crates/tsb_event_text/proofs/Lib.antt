@@ -3,4 +3,5 @@ pub mod TimeLemmas
 pub mod RowLemmas
 pub mod WrittenLemmas
 pub mod EventLemmas
+pub mod TakenLemmas
 pub mod Examples

@@ -1,5 +1,5 @@
 -- What is written of a time is read again.
-use Rattle.std.proofs.Common.{replicate, ◌≡◌, ◌∙◌, ℕ, ◌+◌, ◌-◌, ◌*◌, ◌/◌, ◌%◌, ◌<◌, ◌≤◌, true, leb, zero, suc, List, [], ◌∷◌, ◌++◌, length, take, drop, get_or, refl, sym, ap, ap₂, arith, Option, Some, codes, ltb}
+use Rattle.std.proofs.Common.{replicate, ◌≡◌, ◌∙◌, ℕ, ◌+◌, ◌*◌, ◌/◌, ◌%◌, ◌<◌, ◌≤◌, true, leb, zero, suc, List, [], ◌∷◌, ◌++◌, length, take, drop, get_or, refl, sym, ap, ap₂, arith, Option, Some, codes, ltb}
 use Rattle.std.proofs.lemmas.Bool.{le-leb, lt-ltb}
 use Rattle.std.proofs.Common.{unsigned_abs, negsuc, ℤ, pos, ◌+ℤ◌, ◌≤ℤ◌, subst}
 use Rattle.std.proofs.lemmas.Int.{by_lt_z}
@@ -10,7 +10,7 @@ use Rattle.jiff_core.proofs.CalendarLemmas.{day_count-lt_year, days_from_civil-d
 use Rattle.jiff_core.proofs.DateLemmas.{civil}
 use Rattle.jiff_core.proofs.MarchLemmas.{day_count-early}
 use Rattle.jiff_core.proofs.SignedLemmas.{signed_arith}
-use Rattle.tsb_lines.specs.Words.{number_from, number_of, at_most}
+use Rattle.tsb_lines.specs.Words.{number_of, at_most}
 use Rattle.tsb_lines.proofs.DigitLemmas.{digit-next}
 use Rattle.tsb_event_text.specs.Times.{day_number, day_of, is_day, moment_at, moment_of, nano_of, second_of}
 use Rattle.tsb_lines.specs.Digits.{digit}

@@ -1,5 +1,6 @@
 //! Events, written.
 ghost use Rattle.std.specs.Prelude.{◌≡◌, ◌++◌, ◌∷◌, IfOk, OnOk, decimal};
+ghost use Rattle.tsb_lines.specs.Lines.{is_comment};
 ghost use Rattle.tsb_event_text.specs.Events.{can_be_written, device_field, event_text, has_byte};
 ghost use Rattle.tsb_event_text.specs.Written.{bytes_of};
 
@@ -7,15 +8,22 @@ use crate::texts::TimeText;
 use itoa::Buffer;
 use std::alloc::{AllocError, Global};
 
-/// Whether a line can name a device: it has no double quote and no end of a line.
+/// How many bytes a device has at most that a line can name: a line of it has at most 1,000, as readers of logs take.
+pub const LONGEST_DEVICE: usize = 900;
+
+/// Whether a line can name a device: it has no double quote and no end of a line, and at most `LONGEST_DEVICE` bytes.
 pub fn can_be_written(device: &[u8]) -> bool
     ensures { result ≡ can_be_written device.now }
 {
-    !has_byte(b'"', device) && !has_byte(b'\n', device) && !has_byte(b'\r', device)
+    !has_byte(b'"', device)
+        && !has_byte(b'\n', device)
+        && !has_byte(b'\r', device)
+        && device.len() <= LONGEST_DEVICE
 }
 
 /// The line of an event, with its line feed: a device, a time, a code and a parameter. A device with a comma stands in
-/// double quotes. It is read again where `can_be_written` holds of the device.
+/// double quotes, and so does one that begins with `#`, since readers of logs skip a line that does. It is read again
+/// where `can_be_written` holds of the device.
 pub fn event_line(
     alloc: Global,
     device: &[u8],
@@ -49,11 +57,11 @@ pub fn append_event(
     Ok(())
 }
 
-/// Puts a device behind a line.
+/// Puts a device behind a line, in double quotes where it would not be read again without.
 fn append_device(line: &mut Vec<u8>, device: &[u8]) -> Result<(), AllocError>
     ensures { OnOk result (line.new.items ≡ line.old.items ++ device_field device.now) }
 {
-    if !has_byte(b',', device) {
+    if !has_byte(b',', device) && !begins_with_hash(device) {
         return line.extend_from_slice(device);
     }
     line.push(b'"')?;
@@ -70,6 +78,16 @@ fn append_number(line: &mut Vec<u8>, number: u32) -> Result<(), AllocError>
     line.push(b',')?;
     line.extend_from_slice(buffer.format(number).as_bytes())?;
     Ok(())
+}
+
+/// Whether a text begins with `#`.
+fn begins_with_hash(text: &[u8]) -> bool
+    ensures { result ≡ is_comment text.now }
+{
+    match text {
+        [first, ..] => *first == b'#',
+        _ => false,
+    }
 }
 
 /// Whether a text has this byte.

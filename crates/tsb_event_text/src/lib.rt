@@ -15,7 +15,7 @@ mod times;
 mod written;
 
 pub use columns::{Column, Columns, header};
-pub use events::{append_event, can_be_written, event_line};
+pub use events::{LONGEST_DEVICE, append_event, can_be_written, event_line};
 pub use rows::{EventRow, event_row};
 pub use texts::TimeText;
 pub use times::{Moment, read_moment};

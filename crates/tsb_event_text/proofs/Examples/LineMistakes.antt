@@ -1,6 +1,8 @@
--- Lines that are written by mistake are not read as their events, computed.
-use Rattle.std.proofs.Common.{◌≡◌, ℕ, ◌++◌, List, None, refl, codes}
+-- Lines that are written by mistake are not read as their events, or not read at all, computed.
+use Rattle.std.proofs.Common.{◌≡◌, ℕ, ◌++◌, List, None, true, false, refl, codes}
+use Rattle.tsb_lines.specs.Lines.{is_skipped}
 use Rattle.tsb_event_text.specs.Columns.{usual_columns}
+use Rattle.tsb_event_text.specs.Events.{event_row_text}
 use Rattle.tsb_event_text.specs.Rows.{row_of}
 use Rattle.tsb_event_text.specs.Times.{moment_of}
 
@@ -12,6 +14,14 @@ plain_line device = device ++ codes ",2026-11-22 07:00:00.1,82,3"
 comma-moves : row_of usual_columns None (plain_line (codes "Main, 5th")) ≡ None
 unfolding row_of moment_of
 comma-moves = refl
+
+-- a # that begins the device begins the line, which readers of logs then skip
+hash-skips : is_skipped (plain_line (codes "#7")) ≡ true
+hash-skips = refl
+
+-- in quotes it does not
+quotes-keep : is_skipped (event_row_text (codes "#7") (codes "2026-11-22 07:00:00.1") 82 3) ≡ false
+quotes-keep = refl
 
 -- the line of an event, with any device in quotes
 abbrev quoted_line : List ℕ → List ℕ
