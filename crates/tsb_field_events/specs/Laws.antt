@@ -4,7 +4,7 @@ use Rattle.std.specs.Prelude.{◌≡◌, ◌⊎◌, ℕ, ◌<◌, ◌^◌, Bool,
 use Rattle.tsb_types.specs.Lists.{among}
 use Rattle.tsb_event_text.specs.declared.times.Moment.{Moment}
 use Rattle.tsb_event_text.specs.Columns.{header_of, usual_columns}
-use Rattle.tsb_event_text.specs.Events.{can_be_written}
+use Rattle.tsb_event_text.specs.Events.{IsTaken, can_be_written}
 use Rattle.tsb_event_text.specs.Rows.{is_asked, row_of}
 use Rattle.tsb_log_text.specs.declared.log.LogRow.{LogRow}
 use Rattle.tsb_log_text.specs.Logs as logs
@@ -57,7 +57,8 @@ AreAllTold = (changes : List Shown) (rows : List LogRow) →
 abbrev pub HeaderIsRead : Type 0
 HeaderIsRead = (row : List ℕ) × (header_text ≡ row ++ 10 ∷ []) × (header_of row ≡ Some usual_columns)
 
--- the line of an event, without its feed, is read by the usual columns as that event at the moment of its tick
+-- the line of an event, without its feed, is read by the usual columns as that event at the moment of its tick, and
+-- readers of logs take it
 abbrev pub LinesAreRead : Type 0
 LinesAreRead = (from : Moment) (device line : List ℕ) (event : DisplayEvent) (asked : Option (List ℕ)) →
     can_be_written device ≡ true → IsLine from device event line → event.code < 2 ^ 32 → event.parameter < 2 ^ 32 →
@@ -68,3 +69,4 @@ LinesAreRead = (from : Moment) (device line : List ℕ) (event : DisplayEvent) (
       code = event.code;
       parameter = event.parameter;
     }))
+    × IsTaken row
