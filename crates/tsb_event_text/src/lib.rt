@@ -19,4 +19,4 @@ pub use events::{LONGEST_DEVICE, append_event, can_be_written, event_line};
 pub use rows::{EventRow, event_row};
 pub use texts::TimeText;
 pub use times::{Moment, read_moment};
-pub use written::{FIRST_DAY, LAST_DAY, time_text};
+pub use written::{FIRST_DAY, LAST_DAY, is_written, time_text};

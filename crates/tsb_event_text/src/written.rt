@@ -1,5 +1,5 @@
 //! Times, written.
-ghost use Rattle.std.specs.Prelude.{◌≡◌, ◌≢◌, ◌+◌, ◌-◌, ◌/◌, ◌<◌, ◌≤◌, ◌++◌, ◌↔◌, true, IfSome, IsSome, OnOk, ℕ, List, ◌∷◌, Some};
+ghost use Rattle.std.specs.Prelude.{◌≡◌, ◌≢◌, ◌+◌, ◌-◌, ◌/◌, ◌<◌, ◌≤◌, ◌++◌, ◌↔◌, true, IfSome, IsSome, IsTrue, OnOk, ℕ, List, ◌∷◌, Some};
 ghost use Rattle.tsb_event_text.specs.Events.{IsPlain};
 ghost use Rattle.tsb_event_text.specs.Times.{day_number, is_day, moment_at, moment_of, nano_of};
 ghost use Rattle.tsb_event_text.specs.Written.{IsEnough, IsWritten, bytes_of, nine_digits, time_head};
@@ -41,12 +41,12 @@ pub fn time_text(moment: Moment) -> Option<TimeText>
     ensures plain { IfSome result (λ time. IsPlain (bytes_of time)) }
     ensures short { IfSome result (λ time. IsEnough time.digits time.count) }
 {
-    let days = moment.nanos / DAY;
-    if days < FIRST_DAY as u128 || days > LAST_DAY as u128 {
+    if !is_written(moment) {
         return None;
     }
+    let days = (moment.nanos / DAY) as u32;
     let rest = (moment.nanos % DAY) as u64;
-    let head = head_of(days as u32, (rest / SECOND) as u32);
+    let head = head_of(days, (rest / SECOND) as u32);
     let digits = nine_digits((rest % SECOND) as u32);
     let count = count_of(&digits);
     Some(TimeText {
@@ -54,6 +54,14 @@ pub fn time_text(moment: Moment) -> Option<TimeText>
         digits,
         count,
     })
+}
+
+/// Whether a year of four digits has the moment, so that it has a time (`time_text`).
+pub fn is_written(moment: Moment) -> bool
+    ensures { IsTrue result ↔ IsWritten moment }
+{
+    let days = moment.nanos / DAY;
+    FIRST_DAY as u128 <= days && days <= LAST_DAY as u128
 }
 
 /// The time of a second of a day, up to its point.

@@ -4,7 +4,7 @@ ghost use Rattle.tsb_event_text.specs.Written.{IsWritten, bytes_of};
 ghost use Rattle.tsb_field_events.specs.Ticks.{AreWritten, moment_of_tick};
 ghost use Rattle.tsb_field_events.specs.Texts.{Tells};
 
-use tsb_event_text::{FIRST_DAY, LAST_DAY, Moment, TimeText, time_text};
+use tsb_event_text::{Moment, TimeText, is_written, time_text};
 
 /// The last tick that a display line tells, and so the last that has a time of its own.
 pub const LAST_TICK: u32 = 9_999_999;
@@ -12,22 +12,11 @@ pub const LAST_TICK: u32 = 9_999_999;
 /// The nanoseconds of a tick: a tenth of a second.
 const TICK: u128 = 100_000_000;
 
-/// The nanoseconds of a day.
-const DAY: u128 = 86_400_000_000_000;
-
 /// Whether a year of four digits has each tick, where this is the moment of tick 1.
 pub(crate) fn are_written(from: Moment) -> bool
     ensures { IsTrue result ↔ AreWritten from }
 {
     is_written(from) && is_written(moment_of_tick(from, LAST_TICK))
-}
-
-/// Whether a year of four digits has the moment.
-fn is_written(moment: Moment) -> bool
-    ensures { IsTrue result ↔ IsWritten moment }
-{
-    let days = moment.nanos / DAY;
-    FIRST_DAY as u128 <= days && days <= LAST_DAY as u128
 }
 
 /// The moment of a tick.
