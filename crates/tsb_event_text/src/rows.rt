@@ -14,7 +14,7 @@ pub struct EventRow {
     pub ours: bool,
     /// When it happened.
     pub moment: Moment,
-    /// What happened: a number of the Indiana enumerations of event codes.
+    /// What happened: a number of the Indiana Traffic Signal Hi Resolution Data Logger Enumerations.
     pub code: u32,
     /// To which channel, phase or the like.
     pub parameter: u32,

@@ -1,4 +1,5 @@
--- The events of inputs, by the Indiana enumerations: their codes and parameters, of the rows of a log.
+-- The events of inputs, of the rows of a log. Their codes are those of the Indiana Traffic Signal Hi Resolution Data
+-- Logger Enumerations, and their parameters are the numbers of the inputs.
 use Rattle.std.specs.Prelude.{ℕ, List, [], ◌∷◌, ◌++◌}
 use Rattle.tsb_types.specs.Sets.{all_off, has_number}
 use Rattle.tsb_types.specs.declared.row.Row.{Row}

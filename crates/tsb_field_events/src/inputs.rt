@@ -1,4 +1,5 @@
-//! The events of inputs.
+//! The events of inputs. Their codes are those of the Indiana Traffic Signal Hi Resolution Data Logger Enumerations,
+//! and their parameters are the numbers of the inputs.
 ghost use Rattle.std.specs.Prelude.{◌≡◌, ◌++◌, OnOk};
 ghost use Rattle.tsb_types.specs.Sets.{has_number};
 ghost use Rattle.tsb_field_display.specs.Events.{begins, told};
@@ -9,17 +10,17 @@ use tsb_field_display::DisplayEvent;
 use tsb_log_text::LogRow;
 use tsb_types::{NumberSet, Row};
 
-/// A vehicle detector goes off.
+/// A vehicle detector goes off (Indiana enumerations).
 pub const VEHICLE_OFF: u8 = 81;
-/// A vehicle detector goes on.
+/// A vehicle detector goes on (Indiana enumerations).
 pub const VEHICLE_ON: u8 = 82;
-/// A pedestrian detector goes off.
+/// A pedestrian detector goes off (Indiana enumerations).
 pub const PEDESTRIAN_OFF: u8 = 89;
-/// A pedestrian detector goes on.
+/// A pedestrian detector goes on (Indiana enumerations).
 pub const PEDESTRIAN_ON: u8 = 90;
-/// A preempt input goes on.
+/// A preempt input goes on (Indiana enumerations).
 pub const PREEMPT_ON: u8 = 102;
-/// A preempt input goes off.
+/// A preempt input goes off (Indiana enumerations).
 pub const PREEMPT_OFF: u8 = 104;
 
 /// Puts the events of the rows of a log behind others. Before the first row all inputs are off.
