@@ -39,8 +39,8 @@ IsPlain (b ∷ bs) = (b ≢ 44) × (b ≢ 34) × IsPlain bs
 abbrev pub IsTaken : List ℕ → Type 0
 IsTaken row = (is_skipped row ≡ false) × (length row ≤ 1000)
 
--- a line of a device that a line can name, of a time that is read as this moment, and of a code and a parameter, is read
--- as that event, and readers of logs take it
+-- a line of a device that a line can name, of a time that is read as this moment, and of a code and a parameter, is
+-- read as that event, and readers of logs take it
 abbrev pub AreReadAgain : Type 0
 AreReadAgain = (device time : List ℕ) (moment : Moment) (code parameter : ℕ) (asked : Option (List ℕ))
     → can_be_written device ≡ true → IsPlain time → moment_of time ≡ Some moment → code < 2 ^ 32 → parameter < 2 ^ 32

@@ -16,8 +16,8 @@ pub fn the_header_is_read()
     ensures { HeaderIsRead }
 {}
 
-/// The line of an event, without its feed, is read by the usual columns as that event at the moment of its tick, where a
-/// line can name the device. It is none that readers of logs skip, and has at most 1,000 bytes, as they take.
+/// The line of an event, without its feed, is read by the usual columns as that event at the moment of its tick, where
+/// a line can name the device. It is none that readers of logs skip, and has at most 1,000 bytes, as they take.
 pub fn lines_are_read()
     ensures { LinesAreRead }
 {}

@@ -16,10 +16,10 @@ use tsb_log_text::LogRow;
 const HEADER: &[u8] = b"SignalID,Timestamp,EventCode,EventParam\n";
 
 /// The events of a session, as the text of a controller's event log: the header
-/// `SignalID,Timestamp,EventCode,EventParam`, and then a line for each event, ended by a line feed. `from` is the moment
-/// of tick 1; the time of tick t is t - 1 tenths of a second later. Tick 0, which a session that went back to power-up
-/// shows, is told at `from` too, and a tick above 9,999,999, which no display line has, as 9,999,999. `device` names the
-/// controller in each line; the lines are read again where `tsb_event_text::can_be_written` holds of it.
+/// `SignalID,Timestamp,EventCode,EventParam`, and then a line for each event, ended by a line feed. `from` is the
+/// moment of tick 1; the time of tick t is t - 1 tenths of a second later. Tick 0, which a session that went back to
+/// power-up shows, is told at `from` too, and a tick above 9,999,999, which no display line has, as 9,999,999. `device`
+/// names the controller in each line; the lines are read again where `tsb_event_text::can_be_written` holds of it.
 ///
 /// The events are those of `changes` (before the first nothing is lit) and those of `rows` of a log of inputs (before
 /// the first all inputs are off): an input that goes on gives 82 (vehicle detector), 90 (pedestrian detector) or 102

@@ -28,7 +28,8 @@ pub enum Asked<'a> {
         from: Moment,
         /// The device whose events count, or `None` where those of each device do.
         device: Option<&'a str>,
-        /// The wires: vehicle detectors, then pedestrian detectors, then preempts, of each kind in the order of the words.
+        /// The wires: vehicle detectors, then pedestrian detectors, then preempts, of each kind in the order of the
+        /// words.
         wires: Vec<Wire>,
     },
     /// Events of a controller's log, made of display lines.
@@ -79,7 +80,8 @@ impl From<Error> for WordsError {
     }
 }
 
-/// Why the words are not to be had: there is no memory for them, or they are not UTF-8, which is no word of the program.
+/// Why the words are not to be had: there is no memory for them, or they are not UTF-8, which is no word of the
+/// program.
 impl From<io::Error> for WordsError {
     ghost from_gives = { λ error fault. fault ≡ given_fault (error_kind error) };
 
@@ -96,8 +98,9 @@ impl From<io::Error> for WordsError {
 /// `log` has `--from TIME`, and may have `--device ID` and any number of `--vehicle CHANNEL=DETECTOR`,
 /// `--pedestrian CHANNEL=DETECTOR` and `--preempt CHANNEL=INPUT`; `events` has `--from TIME` and `--device ID`, and may
 /// have `--log LOG`; `diagram` may have `--log LOG`, `--title TEXT` and `--seconds-per-line N`. Options come in any
-/// order, and `--NAME=VALUE` is `--NAME VALUE`. A value that begins with a hyphen stands behind `=`. All else is `Bad`, a
-/// request for help among it, and a device of `events` with a double quote or an end of a line. `Memory` may come in place of every answer.
+/// order, and `--NAME=VALUE` is `--NAME VALUE`. A value that begins with a hyphen stands behind `=`. All else is `Bad`,
+/// a request for help among it, and a device of `events` with a double quote, an end of a line or over 900 bytes.
+/// `Memory` may come in place of every answer.
 pub fn read_words<'a, S: AsStr>(alloc: Global, words: &'a [S]) -> Result<Asked<'a>, WordsError>
     ensures { Spells (map S.text words.now) result }
 {
