@@ -12,10 +12,6 @@ use Rattle.tsb_field_diagram.specs.Lines.{line_count, line_top, lines_text}
 unfoldable pub style_text : List ℕ
 style_text = codes "<style>.g{fill:#1a7f37}.y{fill:url(#h)}.r{fill:#c00}.f{fill:url(#f)}.w{fill:#06c}.c{fill:url(#i)}.d{fill:#888}.p{fill:#639}.o{fill:#000}.a{stroke:#bbb}.b{font-weight:bold}.k{text-anchor:middle}.l{text-anchor:end}.t{font-size:16px;font-weight:bold}</style>\n"
 
--- the pattern of what flashes
-unfoldable pub flash_pattern_text : List ℕ
-flash_pattern_text = codes "<pattern id=\"f\" width=\"10\" height=\"12\" patternUnits=\"userSpaceOnUse\"><rect width=\"5\" height=\"12\" fill=\"#c00\"/></pattern>\n"
-
 -- the shapes of the legend
 unfoldable pub shapes_text : List ℕ
 shapes_text = codes "<rect class=\"g\" height=\"12\" y=\"2\" x=\"0%\" width=\"3%\"/><rect class=\"y\" height=\"12\" y=\"2\" x=\"11%\" width=\"3%\"/><rect class=\"r\" height=\"3\" y=\"7\" x=\"22%\" width=\"3%\"/><rect class=\"f\" height=\"6\" y=\"5\" x=\"33%\" width=\"3%\"/><rect class=\"w\" height=\"8\" y=\"4\" x=\"44%\" width=\"3%\"/><rect class=\"c\" height=\"8\" y=\"4\" x=\"55%\" width=\"3%\"/><rect class=\"d\" height=\"1\" y=\"8\" x=\"66%\" width=\"3%\"/><rect class=\"p\" height=\"8\" y=\"4\" x=\"77%\" width=\"3%\"/><rect class=\"o\" height=\"4\" y=\"6\" x=\"88%\" width=\"3%\"/></svg>\n"
@@ -24,12 +20,20 @@ shapes_text = codes "<rect class=\"g\" height=\"12\" y=\"2\" x=\"0%\" width=\"3%
 unfoldable pub names_text : List ℕ
 names_text = codes "<text x=\"175\" y=\"44\">green</text><text x=\"285\" y=\"44\">yellow</text><text x=\"395\" y=\"44\">red</text><text x=\"505\" y=\"44\">flashing red</text><text x=\"615\" y=\"44\">walk</text><text x=\"725\" y=\"44\">clearance</text><text x=\"835\" y=\"44\">don't walk</text><text x=\"945\" y=\"44\">preempt</text><text x=\"1055\" y=\"44\">input on</text>\n"
 
--- the patterns of yellow and of clearance, for lines of so many seconds: their ticks are drawn 1000 units wide
+-- the pattern of what flashes, for lines of so many seconds: their ticks are drawn 1000 units wide, so that the pattern
+-- is drawn 10 units wide, whatever the seconds
+abbrev pub flash_text : ℕ → List ℕ
+flash_text seconds =
+    named_text (codes "<pattern id=\"f\" width=\"10\" height=\"12\" patternUnits=\"userSpaceOnUse\" patternTransform=\"scale(") seconds
+    ++ codes "e-2 1)\"><rect width=\"5\" height=\"12\" fill=\"#c00\"/></pattern>\n"
+
+-- the pattern of yellow, drawn 6 units wide
 abbrev pub yellow_text : ℕ → List ℕ
 yellow_text seconds =
     named_text (codes "<pattern id=\"h\" width=\"6\" height=\"6\" patternUnits=\"userSpaceOnUse\" patternTransform=\"scale(") seconds
     ++ codes "e-2 1) rotate(45)\"><rect width=\"6\" height=\"6\" fill=\"#fd4\"/><rect width=\"2\" height=\"6\"/></pattern>\n"
 
+-- the pattern of clearance, drawn 4 units wide
 abbrev pub clearance_text : ℕ → List ℕ
 clearance_text seconds =
     named_text (codes "<pattern id=\"i\" width=\"4\" height=\"4\" patternUnits=\"userSpaceOnUse\" patternTransform=\"scale(") seconds
@@ -56,7 +60,7 @@ titles_text title =
 
 -- the classes and patterns of shapes
 abbrev pub classes_text : ℕ → List ℕ
-classes_text seconds = style_text ++ (flash_pattern_text ++ (yellow_text seconds ++ clearance_text seconds))
+classes_text seconds = style_text ++ (flash_text seconds ++ (yellow_text seconds ++ clearance_text seconds))
 
 -- all before the lines
 unfoldable pub page_head : List ℕ → ℕ → ℕ → List ℕ

@@ -1,7 +1,7 @@
 //! A diagram as a whole.
 ghost use Rattle.std.specs.Prelude.{◌≡◌, ◌≤◌, ◌++◌, IfOk, OnOk};
 ghost use Rattle.tsb_types.specs.Lists.{or_number};
-ghost use Rattle.tsb_field_diagram.specs.Page.{classes_text, clearance_text, diagram_text, flash_pattern_text, legend_text, line_seconds, names_text, opening_text, page_head, page_height, picture_text, shapes_text, style_text, titles_text, yellow_text};
+ghost use Rattle.tsb_field_diagram.specs.Page.{classes_text, clearance_text, diagram_text, flash_text, legend_text, line_seconds, names_text, opening_text, page_head, page_height, picture_text, shapes_text, style_text, titles_text, yellow_text};
 
 use crate::band::Band;
 use crate::line::{append_lines, line_count, line_top};
@@ -138,9 +138,25 @@ fn append_classes(text: &mut Vec<u8>, seconds: u32) -> Result<(), AllocError>
     ensures { OnOk result (text.new.items ≡ text.old.items ++ classes_text seconds) }
 {
     append(text, style())?;
-    append(text, flash_pattern())?;
+    append_flash(text, seconds)?;
     append_yellow(text, seconds)?;
     append_clearance(text, seconds)?;
+    Ok(())
+}
+
+/// Puts the pattern of what flashes behind a text.
+fn append_flash(text: &mut Vec<u8>, seconds: u32) -> Result<(), AllocError>
+    ensures { OnOk result (text.new.items ≡ text.old.items ++ flash_text seconds) }
+{
+    append_named(
+        text,
+        b"<pattern id=\"f\" width=\"10\" height=\"12\" patternUnits=\"userSpaceOnUse\" patternTransform=\"scale(",
+        u128::from(seconds),
+    )?;
+    append(
+        text,
+        b"e-2 1)\"><rect width=\"5\" height=\"12\" fill=\"#c00\"/></pattern>\n",
+    )?;
     Ok(())
 }
 
@@ -197,14 +213,6 @@ fn style() -> &'static [u8]
     ensures { result.now ≡ style_text }
 {
     b"<style>.g{fill:#1a7f37}.y{fill:url(#h)}.r{fill:#c00}.f{fill:url(#f)}.w{fill:#06c}.c{fill:url(#i)}.d{fill:#888}.p{fill:#639}.o{fill:#000}.a{stroke:#bbb}.b{font-weight:bold}.k{text-anchor:middle}.l{text-anchor:end}.t{font-size:16px;font-weight:bold}</style>\n"
-}
-
-/// The pattern of what flashes.
-#[tactic(auto, unfolding(crate::specs::Page::flash_pattern_text))]
-fn flash_pattern() -> &'static [u8]
-    ensures { result.now ≡ flash_pattern_text }
-{
-    b"<pattern id=\"f\" width=\"10\" height=\"12\" patternUnits=\"userSpaceOnUse\"><rect width=\"5\" height=\"12\" fill=\"#c00\"/></pattern>\n"
 }
 
 /// The shapes of the legend.

@@ -25,7 +25,7 @@ const EMPTY: &[u8] =
 <rect width=\"100%\" height=\"100%\" fill=\"#fff\"/>
 <text class=\"t\" x=\"4\" y=\"20\">&lt;&quot;a&#39;b&quot;&gt;?\t&amp;</text>
 <style>.g{fill:#1a7f37}.y{fill:url(#h)}.r{fill:#c00}.f{fill:url(#f)}.w{fill:#06c}.c{fill:url(#i)}.d{fill:#888}.p{fill:#639}.o{fill:#000}.a{stroke:#bbb}.b{font-weight:bold}.k{text-anchor:middle}.l{text-anchor:end}.t{font-size:16px;font-weight:bold}</style>
-<pattern id=\"f\" width=\"10\" height=\"12\" patternUnits=\"userSpaceOnUse\"><rect width=\"5\" height=\"12\" fill=\"#c00\"/></pattern>
+<pattern id=\"f\" width=\"10\" height=\"12\" patternUnits=\"userSpaceOnUse\" patternTransform=\"scale(60e-2 1)\"><rect width=\"5\" height=\"12\" fill=\"#c00\"/></pattern>
 <pattern id=\"h\" width=\"6\" height=\"6\" patternUnits=\"userSpaceOnUse\" patternTransform=\"scale(60e-2 1) rotate(45)\"><rect width=\"6\" height=\"6\" fill=\"#fd4\"/><rect width=\"2\" height=\"6\"/></pattern>
 <pattern id=\"i\" width=\"4\" height=\"4\" patternUnits=\"userSpaceOnUse\" patternTransform=\"scale(60e-2 1) rotate(-45)\"><rect width=\"4\" height=\"4\" fill=\"#fff\"/><rect width=\"2\" height=\"4\" fill=\"#06c\"/></pattern>
 <svg x=\"140\" y=\"32\" width=\"1000\" height=\"16\" preserveAspectRatio=\"none\" viewBox=\"0 0 600 16\">
