@@ -1,5 +1,5 @@
 -- Numbers and clocks as text.
-use Rattle.std.specs.Prelude.{ℕ, ◌+◌, ◌/◌, ◌%◌, ◌==◌, nat_lt, not, Bool, ◌&&◌, if◌then◌else◌, List, [], ◌∷◌, ◌++◌, codes, decimal}
+use Rattle.std.specs.Prelude.{ℕ, ◌+◌, ◌/◌, ◌%◌, ◌==◌, nat_lt, not, Bool, ◌&&◌, ◌||◌, if◌then◌else◌, List, [], ◌∷◌, ◌++◌, codes, decimal}
 
 -- a number, in decimal digits
 abbrev pub number_text : ℕ → List ℕ
@@ -40,7 +40,14 @@ escaped_byte b =
     (if b == 39 then codes "&#39;" else
     plain_byte b))))
 
--- a title
+-- these three bytes are U+FFFE or U+FFFF, which XML forbids
+abbrev pub is_no_character : ℕ → ℕ → ℕ → Bool
+is_no_character a b c = a == 239 && (b == 191 && (c == 190 || c == 191))
+
+-- a title, byte by byte: three that are no character of XML are told as one `?`
 abbrev pub escaped : List ℕ → List ℕ
 escaped [] = []
-escaped (b ∷ bs) = escaped_byte b ++ escaped bs
+escaped (a ∷ []) = escaped_byte a
+escaped (a ∷ (b ∷ [])) = escaped_byte a ++ escaped_byte b
+escaped (a ∷ (b ∷ (c ∷ bs))) =
+    if is_no_character a b c then codes "?" ++ escaped bs else escaped_byte a ++ escaped (b ∷ (c ∷ bs))

@@ -28,8 +28,8 @@ const DAY: u32 = 86_400;
 /// axis of seconds, with the clock at minutes. A bar begins at its tick and is its ticks wide. Where a head is dark
 /// there is no bar.
 ///
-/// `title` is UTF-8 text: what has a meaning in XML is escaped, and a control that XML forbids becomes `?`. U+FFFE and
-/// U+FFFF, which XML forbids too, are for the caller to leave out. The form of the picture is "profile". The error is
+/// `title` is UTF-8 text: what has a meaning in XML is escaped, and a character that XML forbids becomes `?`, as are
+/// U+FFFE, U+FFFF and each control but the tab and ends of lines. The form of the picture is "profile". The error is
 /// that memory ran out.
 pub fn diagram_text(
     alloc: Global,

@@ -1,18 +1,32 @@
 //! Titles.
 ghost use Rattle.std.specs.Prelude.{◌≡◌, ◌++◌, OnOk};
-ghost use Rattle.tsb_field_diagram.specs.Text.{escaped, escaped_byte, is_forbidden, plain_byte};
+ghost use Rattle.tsb_field_diagram.specs.Text.{escaped, escaped_byte, is_forbidden, is_no_character, plain_byte};
 
 use crate::write::append;
 use std::alloc::AllocError;
 
-/// Puts a title behind a text: what has a meaning in XML is escaped, and a control that XML forbids becomes `?`.
+/// Puts a title behind a text: what has a meaning in XML is escaped, and a character that XML forbids becomes `?`.
 pub(crate) fn append_title(text: &mut Vec<u8>, title: &[u8]) -> Result<(), AllocError>
     ensures { OnOk result (text.new.items ≡ text.old.items ++ escaped title.now) }
 {
-    for byte in title {
-        append_byte(text, *byte)?;
+    let mut at = 0;
+    while at < title.len() {
+        if title.len() - at > 2 && is_no_character(title[at], title[at + 1], title[at + 2]) {
+            append(text, b"?")?;
+            at += 3;
+        } else {
+            append_byte(text, title[at])?;
+            at += 1;
+        }
     }
     Ok(())
+}
+
+/// Whether three bytes are U+FFFE or U+FFFF, which XML forbids.
+fn is_no_character(first: u8, second: u8, third: u8) -> bool
+    ensures { result ≡ is_no_character first second third }
+{
+    first == 0xEF && second == 0xBF && (third == 0xBE || third == 0xBF)
 }
 
 /// Puts a byte of a title behind a text.

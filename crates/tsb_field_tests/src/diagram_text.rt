@@ -153,11 +153,11 @@ fn row(tick: u32, vehicles: u16, pedestrians: u16, preempts: u16) -> LogRow {
     }
 }
 
-/// What comes behind the legend, which ends with the eleventh line of the text.
-fn behind_legend(text: &[u8]) -> &[u8] {
+/// What comes behind so many lines of a text.
+fn behind_lines(text: &[u8], count: u32) -> &[u8] {
     let mut lines: u32 = 0;
     for (index, byte) in text.iter().enumerate() {
-        if lines == 11 {
+        if lines == count {
             return &text[index..];
         }
         if *byte == b'\n' {
@@ -167,7 +167,7 @@ fn behind_legend(text: &[u8]) -> &[u8] {
     &[]
 }
 
-/// What comes behind the legend of a diagram with the title "Main".
+/// What comes behind the legend of a diagram with the title "Main": the legend ends with the eleventh line.
 fn lines_of(
     alloc: Global,
     seconds: u32,
@@ -176,7 +176,7 @@ fn lines_of(
     rows: &[LogRow],
 ) -> Result<Vec<u8>, AllocError> {
     let text = diagram_text(alloc, b"Main", seconds, changes, Some(last), rows)?;
-    Vec::from_slice(alloc, behind_legend(text.as_slice()))
+    Vec::from_slice(alloc, behind_lines(text.as_slice(), 11))
 }
 
 #[test]
@@ -186,6 +186,34 @@ fn a_diagram_of_no_line_has_a_title_and_a_legend(rt: HostRuntime) -> Result<(), 
     assert_eq!(rt; text.as_slice(), EMPTY);
     let zero = diagram_text(rt.alloc(), title, 60, &[], Some(0), &[])?;
     assert_eq!(rt; zero.as_slice(), EMPTY);
+    Ok(())
+}
+
+#[test]
+fn a_character_that_xml_forbids_is_told_as_one_sign(rt: HostRuntime) -> Result<(), AllocError> {
+    let alloc = rt.alloc();
+    let first = diagram_text(
+        alloc,
+        b"\xEF\xBF\xBEa\xEF\xBF\xBF\xEF\xBF\xBE",
+        60,
+        &[],
+        None,
+        &[],
+    )?;
+    assert!(rt; behind_lines(first.as_slice(), 1).starts_with(b"<title>?a??</title>\n"));
+    let near = diagram_text(
+        alloc,
+        b"\xEF\xBF\xBD\xEF\xBE\xBF\xEF\xBF",
+        60,
+        &[],
+        None,
+        &[],
+    )?;
+    assert!(rt;
+        behind_lines(near.as_slice(), 1).starts_with(
+            b"<title>\xEF\xBF\xBD\xEF\xBE\xBF\xEF\xBF</title>\n"
+        )
+    );
     Ok(())
 }
 
