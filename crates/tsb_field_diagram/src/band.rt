@@ -145,18 +145,11 @@ fn served_mark(number: u8, preempt: Option<u8>) -> Mark
 fn flash_mark(signals: &Signals) -> Mark
     ensures { result ≡ flash_mark (is_in_flash signals.now) }
 {
-    if flashes(signals) {
+    if signals.is_in_flash() {
         Mark::Flashing
     } else {
         Mark::Dark
     }
-}
-
-/// Whether some vehicle head flashes.
-fn flashes(signals: &Signals) -> bool
-    ensures { result ≡ is_in_flash signals.now }
-{
-    signals.vehicles.flashing.first().is_some()
 }
 
 /// What the band of an input shows.

@@ -212,8 +212,8 @@ fn tell_flash(events: &mut Events, before: &Signals, now: &Shown)
     ensures told { events.new.items ≡ events.old.items ++ flash_events (is_in_flash before.now) now.now.tick (is_in_flash now.now.signals) }
     ensures few { array_vec_len events.new ≤ array_vec_len events.old + 1 }
 {
-    let was = flashes(before);
-    let is = flashes(&now.signals);
+    let was = before.is_in_flash();
+    let is = now.signals.is_in_flash();
     if is != was {
         events.push(DisplayEvent {
             tick: now.tick,
@@ -221,11 +221,4 @@ fn tell_flash(events: &mut Events, before: &Signals, now: &Shown)
             parameter: if is { FLASH } else { NO_FLASH },
         });
     }
-}
-
-/// Whether some vehicle head flashes.
-fn flashes(signals: &Signals) -> bool
-    ensures { result ≡ is_in_flash signals.now }
-{
-    signals.vehicles.flashing.first().is_some()
 }

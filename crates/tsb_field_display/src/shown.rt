@@ -1,5 +1,6 @@
 //! What a display line shows.
 ghost use Rattle.std.specs.Prelude.{◌≡◌};
+ghost use Rattle.tsb_field_display.specs.Events.{is_in_flash};
 ghost use Rattle.tsb_field_display.specs.Shows.{is_same, nothing_lit};
 
 use tsb_types::NumberSet;
@@ -72,6 +73,13 @@ impl Signals {
             overlaps: dark,
             preempt: None,
         }
+    }
+
+    /// Whether some vehicle head of a phase flashes.
+    pub fn is_in_flash(&self) -> bool
+        ensures { result ≡ is_in_flash self.now }
+    {
+        self.vehicles.flashing.first().is_some()
     }
 }
 
