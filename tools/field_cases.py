@@ -5,6 +5,7 @@ tools/run_field.py runs them in a folder with a copy of the examples and the fil
 import pathlib
 import shutil
 
+import field_rules
 from run_program import Run
 
 EXAMPLES = pathlib.Path("examples")
@@ -31,15 +32,6 @@ MOST_ROWS = 1_720_740
 GIB = 1 << 30
 
 
-class Front(bytes):
-    """Bytes of which the program may have written the first ones alone, as behind a fault."""
-
-    def __ne__(self, other):
-        return not self.startswith(other)
-
-    __hash__ = bytes.__hash__
-
-
 def told(*events, end=b"\n"):
     """Lines of device 7, each of a time, a code and a channel; a time without its day is of 2026-11-22."""
     lines = [event.rsplit(" ", 2) for event in events]
@@ -59,14 +51,25 @@ def logged(text, log, *words, errors=b""):
     return Run([*LOG, *words], 0, log, errors, text)
 
 
-def refused(text, fault, log=b"", *words):
-    """A run of `log` that a fault ends, with the log of what stands before it."""
-    return Run([*LOG, *words], 1, Front(log), fault, text)
+def refused(text, fault, known=b"", *words):
+    """A run of `log` that a fault ends, behind the rows that are known before it, and no others."""
+    return Run([*LOG, *words], 1, known, fault, text)
 
 
-# A car on detector 2 from tick 11 to tick 30, and its log.
+def switching(rows):
+    """Events of detector 1 that change it in each tick, and the rows of their log, as often."""
+    begin = field_rules.moment(AT.encode())
+    times = (field_rules.time_text(begin + k * field_rules.TENTH) for k in range(rows))
+    events = b"".join(b"7,%s,%d,1\n" % (time, 81 + (k + 1) % 2) for k, time in enumerate(times))
+    marks = [b" 0000000000000000 00000000 0000\n", b" 1000000000000000 00000000 0000\n"]
+    return events, b"".join(b"%07d%s" % (k, marks[k % 2]) for k in range(1, rows + 1))
+
+
+# A car on detector 2 from tick 11 to tick 30, and its log. As long as events may follow, the second row is not known:
+# one more of tick 31 would change it.
 CAR = told("07:00:01 82 2", "07:00:03 81 2")
 CAR_LOG = b"0000011 0100000000000000 00000000 0000\n0000031 0000000000000000 00000000 0000\n"
+CAR_KNOWN = b"0000011 0100000000000000 00000000 0000\n"
 
 
 def form_runs():
@@ -176,22 +179,52 @@ def fault_runs():
         HEADER[:-1], b"7;2026-11-22 07:00:03;82;2", b"x" * 1001,
         b"#" + b"x" * 1000,
     ]:
-        yield refused(CAR + b"\n" + line + b"\n", b"events line 4: malformed\n", CAR_LOG)
-        yield refused(CAR + line, b"events line 3: malformed\n", CAR_LOG, "--device", "7")
+        yield refused(CAR + b"\n" + line + b"\n", b"events line 4: malformed\n", CAR_KNOWN)
+        yield refused(CAR + line, b"events line 3: malformed\n", CAR_KNOWN, "--device", "7")
     yield refused(b"Signal,Timestamp,EventCode,EventParam\n" + CAR, b"events line 1: malformed\n")
     yield refused(b"SignalID,Timestamp,EventCode\n" + CAR, b"events line 1: malformed\n")
     yield refused(b"\n# no time\n8,,82,1\n", b"events line 3: malformed\n", b"", "--device", "7")
     order = b"events line %d: time order\n"
-    yield refused(CAR + told("07:00:02.999999999 81 2"), order % 3, CAR_LOG)
-    yield refused(CAR + told("07:00:03 1 1", "07:00:02 1 1"), order % 4, CAR_LOG)
+    yield refused(CAR + told("07:00:02.999999999 81 2"), order % 3, CAR_KNOWN)
+    yield refused(CAR + told("07:00:03 1 1", "07:00:02 1 1"), order % 4, CAR_KNOWN)
     yield refused(b"\n" + told("06:00:01 1 1", "06:00:00 1 1") + CAR, order % 3)
     other = HEADER + b"8,2026-11-23 07:00:00,1,1\n"
     yield refused(other + told("07:00:03 82 99", "07:00:02 82 99"), order % 4, b"", "--device=7")
     past = b"events: past tick 6000000\n"
-    yield refused(CAR + told(f"{BEHIND} 82 2"), past, CAR_LOG)
-    yield refused(CAR + told(f"{BEHIND} 81 2"), past, CAR_LOG)
+    yield refused(CAR + told(f"{BEHIND} 82 2"), past, CAR_KNOWN)
+    yield refused(CAR + told(f"{BEHIND} 81 2"), past, CAR_KNOWN)
+    yield refused(CAR + told(f"{LAST} 82 2", f"{BEHIND} 82 2"), past, CAR_LOG)
     yield refused(told(f"{BEHIND} 1 2", f"{BEHIND} 82 2") + b"x\n", past)
     yield refused(told(f"{BEHIND} 82 17"), past, b"", "--vehicle=17=1")
+    yield from known_runs()
+
+
+def known_runs():
+    """Which rows are known before a fault: those before the tick of the last event of an input."""
+    for events, known in [
+        # More may come in the last tick; an event of a later one shows that no more does, also where it switches nothing.
+        ([], b""),
+        (["07:00:01 82 2"], b""),
+        (["07:00:01 82 2", "07:00:01.099999999 90 1"], b""),
+        (["07:00:01 82 2", "07:00:01.1 82 2"], row(11, [2])),
+        (["07:00:01 82 2", "07:00:05 104 4"], row(11, [2])),
+        # A pulse in tick 31 has a row of tick 32 too.
+        (["07:00:03 82 3", "07:00:03 81 3"], b""),
+        (["07:00:03 82 3", "07:00:03 81 3", "07:00:03.1 82 5"], row(31, [3])),
+        (["07:00:03 82 3", "07:00:03 81 3", "07:00:03.2 82 5"], row(31, [3]) + row(32)),
+        # What is before tick 1 is known with it.
+        (["06:59:00 102 1", "06:59:59 104 1"], b""),
+        (["06:59:00 102 1", "07:00:00.099999999 82 1"], b""),
+        (["06:59:00 102 1", "07:00:00.1 82 1"], row(1, [], [], [1])),
+        # No event of an input is that of another code, or of a channel that leads nowhere.
+        (["07:00:01 82 2", "07:00:05 1 2", "07:00:06 82 17"], b""),
+    ]:
+        yield refused(told(*events) + b"x\n", b"events line %d: malformed\n" % (len(events) + 1), known)
+    other = told("07:00:01 82 2") + b"8,2026-11-22 07:00:05,82,2\n"
+    yield refused(other + b"x\n", b"events line 3: malformed\n", b"", "--device", "7")
+    # More rows than one buffer holds: some go out before the fault, and the last ones only as the program passes them on.
+    events, log = switching(2000)
+    yield refused(events + b"x\n", b"events line 2001: malformed\n", log[:-len(row(2000))])
 
 
 def display(tick, vehicles="-R-R", pedestrians="-D", overlaps="R", preempt=0, local="----"):

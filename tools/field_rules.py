@@ -42,9 +42,9 @@ SHOWN = re.compile(rb"(\d{7}) ([-RYGF]{16}) ([-DCW]{16}) ([-RYGF]{4}) ([0-4]) (?
 
 
 class Fault(Exception):
-    """The line that tells of a fault, and what is known of the log before it."""
+    """The line that tells of a fault, and the rows of the log that are known before it."""
 
-    def __init__(self, line, known=b""):
+    def __init__(self, line, known):
         super().__init__(line)
         self.line, self.known = line, known
 
@@ -133,30 +133,41 @@ def row_text(tick, lit):
     return f"{tick:07} {' '.join(marks)}\n".encode()
 
 
-def log_of_events(begin, wires, events):
-    """The log of events, each with its moment, kind, channel and whether it switches on."""
+def tick_of(begin, at):
+    """The tick that a moment lies in, and 0 before tick 1."""
+    return max(0, (at - begin) // TENTH + 1)
+
+
+def log_of_events(begin, wires, events, end=TICKS + 1):
+    """The rows of events before a tick; each event has its moment, kind, channel and whether it switches on."""
     by_wire = {wire: [(at, on) for at, *of, on in events if (*of,) == wire[:2]] for wire in wires}
-    ticks = {1} | {max(1, (at - begin) // TENTH + 1) + more for at, *_ in events for more in (0, 1)}
+    ticks = {1} | {max(1, tick_of(begin, at)) + more for at, *_ in events for more in (0, 1)}
     log, before = b"", set()
     for tick in sorted(ticks):
         first = begin + (tick - 1) * TENTH
         lit = {(kind, to) for (kind, _, to), switched in by_wire.items() if is_on(switched, first)}
-        if lit != before and tick <= TICKS:
+        if lit != before and tick < end:
             log += row_text(tick, lit)
             before = lit
     return log
 
 
-def log(text, begin, device=None, mapped=()):
-    """The log that a text of events tells from a moment on, and what standard error has. A fault is raised."""
-    wires, events, last, others, lost, places = wires_of(mapped), [], 0, 0, 0, None
+def known_log(begin, wires, events):
+    """The rows that no later event can change: those before the tick of the last event, in which more may come."""
+    return log_of_events(begin, wires, events, tick_of(begin, events[-1][0]) if events else 0)
+
+
+def taken(lines, begin, device, wires):
+    """The events that lines tell of inputs, how many rows are of other devices, and how many events are of channels
+    without an input. A fault is raised."""
+    events, last, others, lost, places = [], 0, 0, 0, None
 
     def fault(why):
-        raise Fault(f"events {why}\n".encode(), log_of_events(begin, wires, events))
+        raise Fault(f"events{why}\n".encode(), known_log(begin, wires, events))
 
-    for count, line in enumerate(lines_of(text), 1):
+    for count, line in enumerate(lines, 1):
         if len(line) > 1000:
-            fault(f"line {count}: malformed")
+            fault(f" line {count}: malformed")
         line = line.removeprefix(b"\xef\xbb\xbf") if count == 1 else line
         if not line.strip(b" ") or line.startswith(b"#"):
             continue
@@ -166,23 +177,37 @@ def log(text, begin, device=None, mapped=()):
                 continue
         row = row_of(line, places)
         if row is None:
-            fault(f"line {count}: malformed")
+            fault(f" line {count}: malformed")
         of, at, code, channel = row
         if device is not None and of != device:
             others += 1
             continue
         if at < last:
-            fault(f"line {count}: time order")
+            fault(f" line {count}: time order")
         last = at
         kind, on = CODES.get(code, (None, None))
         if kind and any(wire[:2] == (kind, channel) for wire in wires):
-            if at >= begin + TICKS * TENTH:
-                raise Fault(b"events: past tick 6000000\n", log_of_events(begin, wires, events))
+            if tick_of(begin, at) > TICKS:
+                fault(f": past tick {TICKS}")
             events.append((at, kind, channel, on))
         elif kind:
             lost += 1
+    return events, others, lost
+
+
+def log(text, begin, device=None, mapped=()):
+    """The log that a text of events tells from a moment on, and what standard error has. A fault is raised."""
+    wires = wires_of(mapped)
+    events, others, lost = taken(lines_of(text), begin, device, wires)
     told = f"left out: {others} rows of other devices, {lost} events of channels without an input\n"
     return log_of_events(begin, wires, events), told.encode() if others or lost else b""
+
+
+def begun_log(text, begin, device=None, mapped=()):
+    """What is known of the log where the text goes on, or reading fails behind it: its last line is not whole."""
+    wires = wires_of(mapped)
+    events, *_ = taken(lines_of(text)[:-1], begin, device, wires)
+    return known_log(begin, wires, events)
 
 
 def remaining(text):

@@ -10,6 +10,7 @@ Behind them come texts at random, the same in each run of this tool: logs go to 
 lines are compared with what tools/field_rules.py makes of them, and so are the bars of diagrams, which are read as XML.
 At last there are texts of the greatest sizes.
 """
+import itertools
 import pathlib
 import random
 import subprocess
@@ -20,7 +21,7 @@ import xml.etree.ElementTree
 import field_cases
 import field_rules
 from field_cases import AT, FROM, GIB, MOST_ROWS
-from run_program import Run, shown
+from run_program import shown
 
 # How many texts there are of each kind.
 TRIPS, TEXTS = 200, 200
@@ -108,11 +109,9 @@ def logs_of_events(program):
             begin = field_rules.moment(AT.encode())
             wanted = 0, *field_rules.log(text, begin, device and device.encode(), mapped)
         except field_rules.Fault as fault:
-            wanted = 1, field_cases.Front(fault.known), fault.line
+            wanted = 1, fault.known, fault.line
         words = ["log", *FROM, *([f"--device={device}"] if device else []), *sum((words for words, _ in wires), [])]
-        it = answer(program, words, text)
-        yield from (f"log of events {count}: {shown(one)}, not {shown(other)}" for one, other in zip(it, wanted)
-                    if one != other)
+        yield from difference(f"log of events {count}", answer(program, words, text), wanted)
 
 
 def random_display(chance):
@@ -215,27 +214,20 @@ def closed_pipes(program):
         yield from difference(f"{words} with a closed pipe", it, (field_cases.WRITE, 3))
 
 
-def switching(rows):
-    """Events of detector 1 that change it in each tick, and the rows of their log, as often."""
-    begin = field_rules.moment(AT.encode())
-    times = (field_rules.time_text(begin + k * field_rules.TENTH) for k in range(rows))
-    events = b"".join(b"7,%s,%d,1\n" % (time, 81 + (k + 1) % 2) for k, time in enumerate(times))
-    marks = [b" 0000000000000000 00000000 0000\n", b" 1000000000000000 00000000 0000\n"]
-    return events, b"".join(b"%07d%s" % (k, marks[k % 2]) for k in range(1, rows + 1))
-
-
 def greatest(program):
     """What is otherwise of the longest log and of one that is too long, and of 1 GiB of events and a byte more."""
-    events, log = switching(MOST_ROWS)
+    events, log = field_cases.switching(MOST_ROWS)
     yield from difference("the longest log", answer(program, field_cases.LOG, events), (0, log, b""))
-    more, _ = switching(MOST_ROWS + 1)
-    status, output, errors = answer(program, field_cases.LOG, more)
-    yield from difference("a longer log", (status, errors, log.startswith(output)), (1, b"log: too large\n", True))
-    piece = bytes([10]) * (1 << 20)
-    for over, wanted in [(b"", (b"", b"", 0)), (b"\n", (b"", b"events: too large\n", 1))]:
+    # The rows before the last event's tick are known, and fit; that of its tick would be one too many.
+    more, _ = field_cases.switching(MOST_ROWS + 1)
+    yield from difference("a longer log", answer(program, field_cases.LOG, more), (1, log, b"log: too large\n"))
+    feeds = bytes([10]) * (1 << 20)
+    begun = field_cases.CAR.ljust(len(feeds), b"\n")
+    for over, wanted in [(b"", (field_cases.CAR_LOG, b"", 0)),
+                         (b"\n", (field_cases.CAR_KNOWN, b"events: too large\n", 1))]:
         with subprocess.Popen([program] + field_cases.LOG, stdin=subprocess.PIPE, stdout=subprocess.PIPE,
                               stderr=subprocess.PIPE) as run:
-            for _ in range(GIB // len(piece)):
+            for piece in itertools.chain([begun], itertools.repeat(feeds, GIB // len(feeds) - 1)):
                 run.stdin.write(piece)
             output, errors = run.communicate(over, 120)
             yield from difference("1 GiB of events", (output, errors, run.returncode), wanted)
