@@ -4,7 +4,7 @@ the top, with the program's path.
 
 It does for tsb_field what tools/refused_calls.py does for tsb, by the same library: the k-th request for memory, read or
 write is refused, for k from 1 on until a run makes fewer. Each run has to end as docs/FIELD.md says: with 3, the line of
-the failure, and a prefix of what it writes otherwise.
+the failure, and a prefix of what it writes otherwise. Where a read of `log` fails, that are the rows known by then.
 """
 import errno
 import pathlib
@@ -12,6 +12,7 @@ import sys
 import tempfile
 
 import field_cases
+import field_rules
 from refused_calls import MEMORY, PIECE, READ, WRITE, Differences, Program, built
 
 LOG = "examples/one_row.log"
@@ -22,16 +23,21 @@ EVENTS = b"SignalID,Timestamp,EventCode,EventParam\n" + b"".join(
     b"%d,2026-11-22 07:00:%02d.5,%d,%d\n" % (7 + (k == 9), k, 82 - k % 2, 1 + (k == 12) * 30) for k in range(40))
 LINES = field_cases.ALL_LINES
 
+# Words of `log`, what is read, and the device and the wires that the words name.
+LOGS = [
+    (["log", *FROM, "--device", "7", "--vehicle", "40=3"], EVENTS, b"7", [("vehicle", 40, 3)]),
+    (["log", *FROM], EVENTS + b"x\n", None, []),
+]
+
 # Words, and what is read.
-RUNS = [
-    (["log", *FROM, "--device", "7", "--vehicle", "40=3"], EVENTS),
-    (["log", *FROM], EVENTS + b"x\n"),
+OTHERS = [
     (["events", *FROM, "--device", "7", "--log", LOG], LINES),
     (["events", "--from", "9999-12-31 00:00:00", "--device", "7"], LINES),
     (["diagram", "--log", LOG, "--title", "A & B"], LINES),
     (["diagram", "--log", "none.log"], LINES),
     (["what"], b""),
 ]
+RUNS = [*((words, text) for words, text, *_ in LOGS), *OTHERS]
 
 
 def fronts(text):
@@ -47,9 +53,19 @@ def memory(program, wrong):
             wrong.compare(f"{words}, request {number}", ended, whole, *((3, front, MEMORY) for front in fronts(whole[1])))
 
 
+def reads_of_log(program, wrong):
+    """Fails each read of `log`. Each one before took a piece; the rows that are known by these go out."""
+    begin = field_rules.moment(FROM[1].encode())
+    for words, text, *asked in LOGS:
+        for error in [errno.EIO, errno.EINTR]:
+            for number, ended in program.sweep(words, text, kind="read", error=error, piece=PIECE):
+                known = field_rules.begun_log(text[:PIECE * (number - 1)], begin, *asked)
+                wrong.compare(f"{words}, read {number}, error {error}", ended, (3, known, READ))
+
+
 def reads(program, wrong):
-    """Fails each read. One of a file that is interrupted is tried again; one of standard input is not."""
-    for words, text in RUNS:
+    """Fails each other read. One of a file that is interrupted is tried again; one of standard input is not."""
+    for words, text in OTHERS:
         whole = program.run(words, text)[:3]
         for error in [errno.EIO, errno.EINTR]:
             for number, ended in program.sweep(words, text, kind="read", error=error, piece=PIECE):
@@ -85,7 +101,7 @@ def main(words):
     wrong = Differences()
     with tempfile.TemporaryDirectory() as folder:
         program = Program(path, built(folder))
-        for sweep in (memory, reads, writes, pieces):
+        for sweep in (memory, reads_of_log, reads, writes, pieces):
             sweep(program, wrong)
     wrong += [f"no call was refused: {kind}" for kind in ("memory", "read", "write") if not program.refused[kind]]
     told = ", ".join(f"{count} of {kind}" for kind, count in sorted(program.refused.items()))
