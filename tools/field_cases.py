@@ -2,28 +2,23 @@
 
 tools/run_field.py runs them in a folder with a copy of the examples and the files of `fill`.
 """
-import pathlib
 import shutil
 
 import field_rules
-from run_program import Run
+from field_rules import HEADER
+from run_program import ENDLESS, EXAMPLES, FULL, READ, TORN, WRITE, Run
 
-EXAMPLES = pathlib.Path("examples")
-READ, WRITE = b"read fault\n", b"write fault\n"
 USAGE = (
     b"usage: tsb_field log --from TIME [--device ID] [--vehicle CHANNEL=DETECTOR].. [--pedestrian CHANNEL=DETECTOR].. "
     b"[--preempt CHANNEL=INPUT]..\n"
     b"    or tsb_field events --from TIME --device ID [--log LOG]\n"
     b"    or tsb_field diagram [--log LOG] [--title TEXT] [--seconds-per-line N]\n"
 )
-HEADER = b"SignalID,Timestamp,EventCode,EventParam\n"
 MARK = b"\xef\xbb\xbf"
-
-# Each read of this one fails, also for root; the next has no end; writes to the last fail.
-TORN, ENDLESS, FULL = "/proc/self/mem", "/dev/zero", "/dev/full"
 
 AT = "2026-11-22 07:00:00"
 FROM = ["--from", AT]
+BEGIN = field_rules.moment(AT.encode())
 LOG, EVENTS = ["log", *FROM], ["events", *FROM, "--device", "1001"]
 
 # The last moment of tick 6,000,000, and the first one behind it.
@@ -41,9 +36,8 @@ def told(*events, end=b"\n"):
 
 def row(tick, vehicle=(), pedestrian=(), preempt=()):
     """A row of a log in which these inputs are on."""
-    fields = [(vehicle, 16), (pedestrian, 8), (preempt, 4)]
-    marks = ("".join("01"[n in on] for n in range(1, most + 1)) for on, most in fields)
-    return f"{tick:07} {' '.join(marks)}\n".encode()
+    numbers = zip(field_rules.MOST, (vehicle, pedestrian, preempt))
+    return field_rules.row_text(tick, {(kind, n) for kind, on in numbers for n in on})
 
 
 def logged(text, log, *words, errors=b""):
@@ -58,10 +52,9 @@ def refused(text, fault, known=b"", *words):
 
 def switching(rows):
     """Events of detector 1 that change it in each tick, and the rows of their log, as often."""
-    begin = field_rules.moment(AT.encode())
-    times = (field_rules.time_text(begin + k * field_rules.TENTH) for k in range(rows))
+    times = (field_rules.time_text(BEGIN + k * field_rules.TENTH) for k in range(rows))
     events = b"".join(b"7,%s,%d,1\n" % (time, 81 + (k + 1) % 2) for k, time in enumerate(times))
-    marks = [b" 0000000000000000 00000000 0000\n", b" 1000000000000000 00000000 0000\n"]
+    marks = [row(0)[7:], row(0, [1])[7:]]
     return events, b"".join(b"%07d%s" % (k, marks[k % 2]) for k in range(1, rows + 1))
 
 
@@ -202,7 +195,7 @@ def fault_runs():
 def known_runs():
     """Which rows are known before a fault: those before the tick of the last event of an input."""
     for events, known in [
-        # More may come in the last tick; an event of a later one shows that no more does, also where it switches nothing.
+        # More may come in the last tick. An event of a later one shows that none does, also where it switches nothing.
         ([], b""),
         (["07:00:01 82 2"], b""),
         (["07:00:01 82 2", "07:00:01.099999999 90 1"], b""),
@@ -213,7 +206,7 @@ def known_runs():
         (["07:00:03 82 3", "07:00:03 81 3", "07:00:03.1 82 5"], row(31, [3])),
         (["07:00:03 82 3", "07:00:03 81 3", "07:00:03.2 82 5"], row(31, [3]) + row(32)),
         # What is before tick 1 is known with it.
-        (["06:59:00 102 1", "06:59:59 104 1"], b""),
+        (["06:59:00 102 1", "06:59:59 82 1"], b""),
         (["06:59:00 102 1", "07:00:00.099999999 82 1"], b""),
         (["06:59:00 102 1", "07:00:00.1 82 1"], row(1, [], [], [1])),
         # No event of an input is that of another code, or of a channel that leads nowhere.
@@ -222,7 +215,7 @@ def known_runs():
         yield refused(told(*events) + b"x\n", b"events line %d: malformed\n" % (len(events) + 1), known)
     other = told("07:00:01 82 2") + b"8,2026-11-22 07:00:05,82,2\n"
     yield refused(other + b"x\n", b"events line 3: malformed\n", b"", "--device", "7")
-    # More rows than one buffer holds: some go out before the fault, and the last ones only as the program passes them on.
+    # More rows than a buffer holds: the last ones go out only where the program passes them on as it tells the fault.
     events, log = switching(2000)
     yield refused(events + b"x\n", b"events line 2001: malformed\n", log[:-len(row(2000))])
 

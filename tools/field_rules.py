@@ -50,7 +50,11 @@ class Fault(Exception):
 
 
 def moment(text):
-    """The moment that a time names, or None."""
+    """The moment that a time names, or None.
+
+    It is None for times of the year 0000 too, which docs/FIELD.md takes: Python's calendar begins with the year 1. So a
+    worked run has that year, and no text at random.
+    """
     found = TIME.fullmatch(text)
     if not found:
         return None

@@ -21,10 +21,10 @@ import time
 
 import field_rules
 import made_traffic
+from field_cases import BEGIN, FROM
 
 HOURS, SEED, RUNS = 10, 2, 7
 PLAN = "examples/quad.json"
-AT = "2026-11-22 07:00:00"
 
 # How many rows the large export has, and how many seconds lie between the first and the last.
 ROWS, SECONDS = 2_000_000, 500_000
@@ -64,13 +64,12 @@ def line(what, words, given, told):
 def write_export(path):
     """An export of events in order: inputs of 16, 8 and 4 channels, and codes that are passed over."""
     chance = random.Random(SEED)
-    begin = field_rules.moment(AT.encode())
     moments = sorted(chance.randrange(10 * SECONDS) for _ in range(ROWS))
     codes = [82, 81] * 8 + [90, 89, 102, 104, 1, 7, 8, 9, 10, 11, 43, 44]
     with open(path, "wb") as export:
         export.write(field_rules.HEADER)
         for at in moments:
-            time_text = field_rules.time_text(begin + at * field_rules.TENTH)
+            time_text = field_rules.time_text(BEGIN + at * field_rules.TENTH)
             export.write(b"1001,%s,%d,%d\n" % (time_text, chance.choice(codes), chance.randint(1, 4)))
 
 
@@ -80,21 +79,20 @@ def main(words):
     tsb, field = (str(pathlib.Path(word).resolve()) for word in words)
     if ctypes.CDLL(None).prctl(SET_CHILD_SUBREAPER, 1, 0, 0, 0):
         sys.exit("runs can't be left to this process")
-    at = [f"--from={AT}"]
     with tempfile.TemporaryDirectory() as name:
         log, steps, lines, events, export, told = (pathlib.Path(name, it) for it in (
             "traffic.log", "commands", "lines", "events.csv", "export.csv", "told"))
-        log.write_text("".join(f"{row}\n" for row in made_traffic.rows(SEED, 3600 * HOURS)))
+        log.write_bytes(b"".join(made_traffic.rows(SEED, 3600 * HOURS)))
         steps.write_text(f"step {36_000 * HOURS}\n")
         seconds_of([tsb, "run", PLAN, str(log)], steps, lines)
         of_log = ["--log", str(log)]
-        print(line("events", [field, "events", *at, "--device=1001"], lines, told))
-        print(line("events with the log", [field, "events", *at, "--device=1001", *of_log], lines, events))
+        print(line("events", [field, "events", *FROM, "--device=1001"], lines, told))
+        print(line("events with the log", [field, "events", *FROM, "--device=1001", *of_log], lines, events))
         print(line("diagram", [field, "diagram"], lines, told))
         print(line("diagram with the log", [field, "diagram", *of_log], lines, told))
-        print(line("log of those events", [field, "log", *at], events, told))
+        print(line("log of those events", [field, "log", *FROM], events, told))
         write_export(export)
-        print(line(f"log of {ROWS} rows", [field, "log", *at, "--device=1001"], export, told))
+        print(line(f"log of {ROWS} rows", [field, "log", *FROM, "--device=1001"], export, told))
 
 
 if __name__ == "__main__":

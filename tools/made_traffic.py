@@ -10,6 +10,8 @@ asked for. The same seed gives the same log, and with more seconds the same traf
 import random
 import sys
 
+import field_rules
+
 # How many come in an hour: cars on vehicle detectors (through lanes 2 and 6 of the main street, 4 and 8 of the side
 # street, left turns 1, 5, 3 and 7), pushes of the button of pedestrian detector 2, and calls of preempt input 1.
 RATES = {
@@ -24,9 +26,8 @@ STAYS = {"vehicle": (0.6, 1.6), "pedestrian": (0.2, 0.6), "preempt": (15, 40)}
 # The least seconds from the beginning of one to that of the next; each is longer than the longest stay.
 LEAST = {"vehicle": 2, "pedestrian": 2, "preempt": 300}
 
-# How many inputs a row has of each kind, in the order of its fields, and how many seconds a bench can run.
-WIDTHS = {"vehicle": 16, "pedestrian": 8, "preempt": 4}
-MOST_SECONDS = 600_000
+# How many seconds a bench can run.
+MOST_SECONDS = field_rules.TICKS // 10
 
 
 def stays(seed, kind, number, rate, seconds):
@@ -52,12 +53,6 @@ def switches(seed, seconds):
     return found
 
 
-def row(tick, lit):
-    """The row of a tick in which these inputs are on."""
-    fields = ("".join("01"[(kind, n) in lit] for n in range(1, width + 1)) for kind, width in WIDTHS.items())
-    return f"{tick:07} {' '.join(fields)}"
-
-
 def rows(seed, seconds):
     """The rows of a log: one for each tick in which inputs are switched."""
     lit = set()
@@ -66,16 +61,15 @@ def rows(seed, seconds):
             return
         for kind, number, is_on in switched:
             (lit.add if is_on else lit.remove)((kind, number))
-        yield row(tick, lit)
+        yield field_rules.row_text(tick, lit)
 
 
 def main(words):
     if len(words) != 2 or not all(word.isdecimal() for word in words) or not 1 <= int(words[1]) <= MOST_SECONDS:
         sys.exit(f"usage: tools/made_traffic.py SEED SECONDS, of which there are 1 to {MOST_SECONDS}")
     seed, seconds = map(int, words)
-    print(f"# Made-up traffic of no street: tools/made_traffic.py {seed} {seconds}")
-    for line in rows(seed, seconds):
-        print(line)
+    sys.stdout.buffer.write(b"# Made-up traffic of no street: tools/made_traffic.py %d %d\n" % (seed, seconds))
+    sys.stdout.buffer.writelines(rows(seed, seconds))
 
 
 if __name__ == "__main__":

@@ -2,26 +2,25 @@
 """Refuses the calls of the built program of field files, one in each run, and compares what it then writes; run it at
 the top, with the program's path.
 
-It does for tsb_field what tools/refused_calls.py does for tsb, by the same library: the k-th request for memory, read or
-write is refused, for k from 1 on until a run makes fewer. Each run has to end as docs/FIELD.md says: with 3, the line of
-the failure, and a prefix of what it writes otherwise. Where a read of `log` fails, that are the rows known by then.
+It does for tsb_field what tools/refused_calls.py does for tsb, by the same library: the k-th request for memory, read
+or write is refused, for k from 1 on until a run makes fewer. Each run has to end as docs/FIELD.md says: with 3, the
+line of the failure, and a prefix of what it writes otherwise; where a read of `log` fails, with the rows that are known
+by then.
 """
 import errno
 import pathlib
 import sys
 import tempfile
 
-import field_cases
 import field_rules
+from field_cases import ALL_LINES, BEGIN, FROM
 from refused_calls import MEMORY, PIECE, READ, WRITE, Differences, Program, built
 
 LOG = "examples/one_row.log"
-FROM = ["--from", "2026-11-22 07:00:00"]
 
 # A row of another device and an event of a channel without an input are left out.
-EVENTS = b"SignalID,Timestamp,EventCode,EventParam\n" + b"".join(
+EVENTS = field_rules.HEADER + b"".join(
     b"%d,2026-11-22 07:00:%02d.5,%d,%d\n" % (7 + (k == 9), k, 82 - k % 2, 1 + (k == 12) * 30) for k in range(40))
-LINES = field_cases.ALL_LINES
 
 # Words of `log`, what is read, and the device and the wires that the words name.
 LOGS = [
@@ -31,10 +30,10 @@ LOGS = [
 
 # Words, and what is read.
 OTHERS = [
-    (["events", *FROM, "--device", "7", "--log", LOG], LINES),
-    (["events", "--from", "9999-12-31 00:00:00", "--device", "7"], LINES),
-    (["diagram", "--log", LOG, "--title", "A & B"], LINES),
-    (["diagram", "--log", "none.log"], LINES),
+    (["events", *FROM, "--device", "7", "--log", LOG], ALL_LINES),
+    (["events", "--from", "9999-12-31 00:00:00", "--device", "7"], ALL_LINES),
+    (["diagram", "--log", LOG, "--title", "A & B"], ALL_LINES),
+    (["diagram", "--log", "none.log"], ALL_LINES),
     (["what"], b""),
 ]
 RUNS = [*((words, text) for words, text, *_ in LOGS), *OTHERS]
@@ -50,16 +49,16 @@ def memory(program, wrong):
     for words, text in RUNS:
         whole = program.run(words, text)[:3]
         for number, ended in program.sweep(words, text):
-            wrong.compare(f"{words}, request {number}", ended, whole, *((3, front, MEMORY) for front in fronts(whole[1])))
+            refused = ((3, front, MEMORY) for front in fronts(whole[1]))
+            wrong.compare(f"{words}, request {number}", ended, whole, *refused)
 
 
 def reads_of_log(program, wrong):
     """Fails each read of `log`. Each one before took a piece; the rows that are known by these go out."""
-    begin = field_rules.moment(FROM[1].encode())
     for words, text, *asked in LOGS:
         for error in [errno.EIO, errno.EINTR]:
             for number, ended in program.sweep(words, text, kind="read", error=error, piece=PIECE):
-                known = field_rules.begun_log(text[:PIECE * (number - 1)], begin, *asked)
+                known = field_rules.begun_log(text[:PIECE * (number - 1)], BEGIN, *asked)
                 wrong.compare(f"{words}, read {number}, error {error}", ended, (3, known, READ))
 
 

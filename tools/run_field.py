@@ -20,8 +20,8 @@ import xml.etree.ElementTree
 
 import field_cases
 import field_rules
-from field_cases import AT, FROM, GIB, MOST_ROWS
-from run_program import shown
+from field_cases import BEGIN, FROM, GIB, MOST_ROWS
+from run_program import EXAMPLES, shown
 
 # How many texts there are of each kind.
 TRIPS, TEXTS = 200, 200
@@ -29,7 +29,6 @@ DEVICES = ["1001", "Main, 5th", "-7", "x y"]
 KINDS = list(field_rules.MOST)
 
 # How the stored picture of the hour was drawn.
-EXAMPLES = pathlib.Path("examples")
 HOUR_SECONDS, HOUR_TITLE = 1200, "An hour of made-up traffic on quad"
 SVG = "{http://www.w3.org/2000/svg}"
 
@@ -73,7 +72,7 @@ def round_trips(program, folder):
 
 def random_events(chance):
     """A text of events that has the faults of one now and then."""
-    now = field_rules.moment(AT.encode()) + chance.choice([-3, -1, 0, 0]) * field_rules.SECOND
+    now = BEGIN + chance.choice([-3, -1, 0, 0]) * field_rules.SECOND
     step = chance.choice([1, 15 * 10 ** 6, 25 * 10 ** 6, 40 * 10 ** 6, field_rules.TENTH, 3 * field_rules.TENTH])
     lines = [] if chance.randrange(2) else [b"Parameter,EventId,Timestamp,DeviceId"]
     is_turned = bool(lines)
@@ -106,8 +105,7 @@ def logs_of_events(program):
         device = chance.choice([None, "7", "8,"])
         mapped = [wire for kind in KINDS for _, wire in wires if wire[0] == kind]
         try:
-            begin = field_rules.moment(AT.encode())
-            wanted = 0, *field_rules.log(text, begin, device and device.encode(), mapped)
+            wanted = 0, *field_rules.log(text, BEGIN, device and device.encode(), mapped)
         except field_rules.Fault as fault:
             wanted = 1, fault.known, fault.line
         words = ["log", *FROM, *([f"--device={device}"] if device else []), *sum((words for words, _ in wires), [])]
@@ -138,7 +136,7 @@ def events_of_displays(program, folder):
         log, device = chance.choice([b"", random_log(chance)]), chance.choice(DEVICES)
         (folder / "random.log").write_bytes(log)
         words = [*FROM, f"--device={device}", "--log", "random.log"]
-        wanted = field_rules.events(text, field_rules.moment(AT.encode()), device.encode(), log)
+        wanted = field_rules.events(text, BEGIN, device.encode(), log)
         it = answer(program, ["events", *words], text, folder)
         yield from difference(f"events of display lines {count}", it, (0, wanted, b""))
         yield from drawn_otherwise(program, folder, text, ("random.log", log), chance.choice([1, 3, 7, 300]))
@@ -242,7 +240,7 @@ def hour(program, bench):
     log = b"".join(line for line in hours.read_bytes().splitlines(True) if not line.startswith(b"#"))
     words = [*FROM, "--device=7"]
     status, events, errors = answer(program, ["events", *words, "--log", str(hours)], lines)
-    wanted = field_rules.events(lines, field_rules.moment(AT.encode()), b"7", log)
+    wanted = field_rules.events(lines, BEGIN, b"7", log)
     yield from difference("events of the hour", (status, events, errors), (0, wanted, b""))
     yield from difference("log of the hour", answer(program, ["log", *words], events), (0, log, b""))
     yield from drawn_otherwise(program, None, lines, (str(hours), log), HOUR_SECONDS)
