@@ -1,5 +1,5 @@
 -- What is in force in a line, and bars, item by item.
-use Rattle.std.proofs.Common.{◌≡◌, ◌∙◌, ℕ, ◌+◌, ◌-◌, ◌<◌, ◌≤◌, Bool, true, false, leb, ltb, zero, suc, List, [], ◌∷◌, ◌++◌, length, get_or, drop, take, max, refl, sym, ap, arith, append_assoc, append-nil, add-one, drop-cons, length-drop, if◌then◌else◌}
+use Rattle.std.proofs.Common.{◌≡◌, ◌∙◌, ℕ, ◌+◌, ◌-◌, ◌<◌, ◌≤◌, Bool, true, false, List, [], ◌∷◌, ◌++◌, length, get_or, drop, take, max, refl, sym, ap, arith, append_assoc, append-nil, add-one, drop-cons, length-drop}
 use Rattle.std.proofs.lemmas.Bool.{le-leb, le-ltb, lt-ltb, lt-leb}
 use Rattle.std.proofs.lemmas.List.{drop_all, take_all}
 use Rattle.std.proofs.Math.Seq.{take-suc}

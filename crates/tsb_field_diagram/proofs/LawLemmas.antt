@@ -4,8 +4,8 @@ use Rattle.std.proofs.lemmas.Bool.{le-leb, lt-leb, lt-ltb, le-ltb, eq-eqb}
 use Rattle.std.proofs.lemmas.Bool.Decides.{leb_tells, eqb_tells}
 use Rattle.tsb_field_diagram.specs.declared.band.Mark.{Mark}
 use Rattle.tsb_field_diagram.specs.declared.band.Mark.TheVariants.{Dark, Green, Yellow, Red, Flashing, Walk, Clearance, DontWalk, Served, On}
-use Rattle.tsb_field_diagram.specs.Bars.{Bar, bar, bars_on, bars_of, from_tick, before_tick, in_line, is_same, number_of}
-use Rattle.tsb_field_diagram.specs.Laws.{IsBefore, Rises, in_force, Fill, DifferFrom, Differ, Tell, AreStretches, HaveStretches, HaveNone}
+use Rattle.tsb_field_diagram.specs.Bars.{Bar, bars_on, bars_of, from_tick, before_tick, in_line, is_same, number_of}
+use Rattle.tsb_field_diagram.specs.Laws.{IsBefore, Rises, in_force, Fill, DifferFrom, Differ, Tell, AreStretches}
 
 -- ## Marks
 

@@ -1,6 +1,6 @@
 -- The lines of a diagram, part by part.
-use Rattle.std.proofs.Common.{◌≡◌, ◌∙◌, ℕ, ◌+◌, ◌-◌, ◌*◌, ◌<◌, ◌≤◌, zero, suc, Bool, true, false, List, [], ◌∷◌, ◌++◌, length, refl, sym, ap, arith, leb, inl, inr}
-use Rattle.std.proofs.lemmas.Bool.{le-leb, lt-leb}
+use Rattle.std.proofs.Common.{◌≡◌, ℕ, ◌+◌, ◌*◌, ◌≤◌, suc, true, false, List, [], ◌∷◌, ◌++◌, refl, arith, leb, inl, inr}
+use Rattle.std.proofs.lemmas.Bool.{le-leb}
 use Rattle.std.proofs.lemmas.Bool.Decides.{leb_tells}
 use Rattle.tsb_field_display.specs.declared.shown.Shown.{Shown}
 use Rattle.tsb_log_text.specs.declared.log.LogRow.{LogRow}

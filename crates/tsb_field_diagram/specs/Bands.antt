@@ -1,5 +1,5 @@
 -- The bands of a diagram, and what each shows.
-use Rattle.std.specs.Prelude.{ℕ, nat_le, Bool, true, false, ◌&&◌, if◌then◌else◌, Option}
+use Rattle.std.specs.Prelude.{ℕ, nat_le, Bool, ◌&&◌, if◌then◌else◌, Option}
 use Rattle.tsb_types.specs.Lists.{is}
 use Rattle.tsb_types.specs.Sets.{has_number}
 use Rattle.tsb_types.specs.declared.number_set.NumberSet.{NumberSet}

@@ -1,6 +1,6 @@
 -- The bars of a band: the stretches in which it shows one mark, from one tick to another. A stretch in which it is
 -- dark is a bar like the others, but has no text.
-use Rattle.std.specs.Prelude.{ℕ, ◌+◌, ◌-◌, ◌*◌, ◌==◌, nat_le, nat_lt, max, Bool, true, false, if◌then◌else◌, List, [], ◌∷◌, ◌++◌, codes}
+use Rattle.std.specs.Prelude.{ℕ, ◌+◌, ◌-◌, ◌*◌, ◌==◌, nat_le, nat_lt, max, Bool, if◌then◌else◌, List, [], ◌∷◌, ◌++◌, codes}
 use Rattle.tsb_field_diagram.specs.declared.band.Mark.{Mark}
 use Rattle.tsb_field_diagram.specs.declared.band.Mark.TheVariants.{Dark, Green, Yellow, Red, Flashing, Walk, Clearance, DontWalk, Served, On}
 use Rattle.tsb_field_diagram.specs.Text.{attribute_text}
@@ -47,6 +47,7 @@ pub record Bar : Type 0 where
   pub end : ℕ
   pub mark : Mark
 
+-- one of this mark, from this tick to before that
 abbrev pub bar : ℕ → ℕ → Mark → Bar
 bar begin end mark = record { begin = begin; end = end; mark = mark }
 

@@ -1,8 +1,6 @@
 -- What holds of the bars of a band in a line, in words that do not retrace how they are found. Each law here is the
 -- contract of a function in src/laws.rt.
 use Rattle.std.specs.Prelude.{◌≡◌, ◌≢◌, ℕ, ◌<◌, ◌≤◌, nat_le, max, if◌then◌else◌, List, [], ◌∷◌}
-use Rattle.tsb_field_display.specs.declared.shown.Shown.{Shown}
-use Rattle.tsb_log_text.specs.declared.log.LogRow.{LogRow}
 use Rattle.tsb_field_diagram.specs.declared.band.Band.{Band}
 use Rattle.tsb_field_diagram.specs.declared.band.Mark.{Mark}
 use Rattle.tsb_field_diagram.specs.Bands.{mark_in_change, mark_in_row, tick_of_change, tick_of_row}

@@ -1,4 +1,4 @@
--- numbers and clocks as text
+-- numbers, clocks and titles as text
 pub mod Text
 -- the bands of a diagram, and what each shows
 pub mod Bands

@@ -1,10 +1,10 @@
 -- A diagram as a whole: its head with title and legend, and its lines.
-use Rattle.std.specs.Prelude.{ℕ, ◌+◌, ◌*◌, min, max, List, ◌++◌, codes, length, Option, Some, None}
+use Rattle.std.specs.Prelude.{ℕ, ◌*◌, min, max, List, ◌++◌, codes, length, Option}
 use Rattle.tsb_types.specs.Lists.{or_number}
 use Rattle.tsb_field_display.specs.declared.shown.Shown.{Shown}
 use Rattle.tsb_log_text.specs.declared.log.LogRow.{LogRow}
 use Rattle.tsb_field_diagram.specs.declared.band.Band.{Band}
-use Rattle.tsb_field_diagram.specs.Text.{attribute_text, escaped, named_text}
+use Rattle.tsb_field_diagram.specs.Text.{escaped, named_text}
 use Rattle.tsb_field_diagram.specs.Lit.{bands_of}
 use Rattle.tsb_field_diagram.specs.Lines.{line_count, line_top, lines_text}
 

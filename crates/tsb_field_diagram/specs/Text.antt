@@ -1,4 +1,4 @@
--- Numbers and clocks as text.
+-- Numbers, clocks and titles as text.
 use Rattle.std.specs.Prelude.{ℕ, ◌+◌, ◌/◌, ◌%◌, ◌==◌, nat_lt, not, Bool, ◌&&◌, ◌||◌, if◌then◌else◌, List, [], ◌∷◌, ◌++◌, codes, decimal}
 
 -- a number, in decimal digits

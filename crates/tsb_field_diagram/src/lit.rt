@@ -58,8 +58,8 @@ fn add_phases(bands: &mut Vec<Band>, changes: &[Shown], rows: &[LogRow]) -> Resu
     Ok(())
 }
 
-#[tactic(auto, unfolding(crate::specs::Lit::band_if))]
 /// Adds a band, where it ever shows something.
+#[tactic(auto, unfolding(crate::specs::Lit::band_if))]
 fn add(
     bands: &mut Vec<Band>,
     kind: Kind,

@@ -1,5 +1,5 @@
 -- The bars of a band in a line, computed, and one-line mistakes, each with the part of the laws that refuses it.
-use Rattle.std.proofs.Common.{◌≡◌, ℕ, ◌+◌, ◌-◌, ◌<◌, List, [], ◌∷◌, map, filter, nat_le, refl, sym, ap, arith}
+use Rattle.std.proofs.Common.{◌≡◌, ℕ, ◌-◌, List, [], ◌∷◌, map, filter, nat_le, refl, arith}
 use Rattle.tsb_field_diagram.specs.declared.band.Mark.{Mark}
 use Rattle.tsb_field_diagram.specs.declared.band.Mark.TheVariants.{Green, Red, Yellow}
 use Rattle.tsb_field_diagram.specs.Bars.{Bar, bar, bars_of, bars_on, before_tick, from_tick, in_line}

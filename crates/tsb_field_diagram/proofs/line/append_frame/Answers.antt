@@ -1,4 +1,4 @@
-use Rattle.std.proofs.Common.{◌∙◌, ap, ◌*◌, ◌+◌, ◌++◌, ℕ, List, codes, length}
+use Rattle.std.proofs.Common.{◌∙◌, ap, ◌*◌, ◌++◌, ℕ, List, codes}
 use Rattle.tsb_field_diagram.specs.Text.{attribute_text, named_text}
 use Rattle.tsb_field_diagram.specs.Lines.{height_of}
 use Rattle.tsb_field_diagram.proofs.CountLemmas.{then}

@@ -1,5 +1,5 @@
-use Rattle.std.proofs.Common.{◌∙◌, ap, ◌*◌, ◌+◌, ◌++◌, ℕ, List, codes, length}
-use Rattle.tsb_field_diagram.specs.Text.{attribute_text, named_text}
+use Rattle.std.proofs.Common.{◌∙◌, ap, ◌++◌, ℕ, List, codes}
+use Rattle.tsb_field_diagram.specs.Text.{attribute_text}
 use Rattle.tsb_field_diagram.specs.Lines.{line_clock, line_height, line_top}
 use Rattle.tsb_field_diagram.proofs.CountLemmas.{then}
 use Rattle.tsb_field_diagram.proofs.line.append_head.Goals as goal

@@ -1,4 +1,4 @@
-use Rattle.std.proofs.Common.{◌*◌, ◌+◌, ◌++◌, ℕ, List, codes, length}
+use Rattle.std.proofs.Common.{◌++◌, ℕ, List, codes, length}
 use Rattle.tsb_field_diagram.specs.Lines.{axis_text, head_text, labels_text, line_text, plot_text}
 use Rattle.tsb_field_diagram.proofs.CountLemmas.{then}
 use Rattle.tsb_field_diagram.proofs.line.append_line.Goals as goal

@@ -1,4 +1,4 @@
-use Rattle.std.proofs.Common.{◌∙◌, ap, ◌*◌, ◌+◌, ◌++◌, ℕ, List, codes, length}
+use Rattle.std.proofs.Common.{◌∙◌, ap, ◌++◌, ℕ, List}
 use Rattle.tsb_field_diagram.specs.Page.{style_text, flash_text, yellow_text, clearance_text}
 use Rattle.tsb_field_diagram.proofs.CountLemmas.{then}
 use Rattle.tsb_field_diagram.proofs.page.append_classes.Goals as goal

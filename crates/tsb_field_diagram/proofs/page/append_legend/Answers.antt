@@ -1,5 +1,5 @@
-use Rattle.std.proofs.Common.{◌∙◌, ap, ◌*◌, ◌+◌, ◌++◌, ℕ, List, codes, length}
-use Rattle.tsb_field_diagram.specs.Text.{attribute_text, escaped, named_text}
+use Rattle.std.proofs.Common.{◌∙◌, ap, ◌*◌, ◌++◌, ℕ, List, codes}
+use Rattle.tsb_field_diagram.specs.Text.{named_text}
 use Rattle.tsb_field_diagram.specs.Page.{shapes_text, names_text}
 use Rattle.tsb_field_diagram.proofs.CountLemmas.{then}
 use Rattle.tsb_field_diagram.proofs.page.append_legend.Goals as goal

@@ -1,4 +1,4 @@
-use Rattle.std.proofs.Common.{◌∙◌, ap, ◌*◌, ◌+◌, ◌++◌, ℕ, List, codes, length}
+use Rattle.std.proofs.Common.{◌++◌, ℕ, List}
 use Rattle.tsb_field_diagram.specs.Page.{opening_text, titles_text, classes_text, legend_text, page_head}
 use Rattle.tsb_field_diagram.proofs.CountLemmas.{then}
 use Rattle.tsb_field_diagram.proofs.page.append_page_head.Goals as goal

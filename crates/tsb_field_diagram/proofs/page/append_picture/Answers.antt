@@ -1,4 +1,4 @@
-use Rattle.std.proofs.Common.{◌∙◌, ap, ◌*◌, ◌+◌, ◌++◌, ℕ, List, codes, length}
+use Rattle.std.proofs.Common.{◌∙◌, ap, ◌++◌, ℕ, List, codes, length}
 use Rattle.tsb_field_diagram.specs.Page.{page_head, page_height, picture_text}
 use Rattle.tsb_field_diagram.specs.Lines.{line_count, lines_text}
 use Rattle.tsb_field_diagram.proofs.CountLemmas.{then}
