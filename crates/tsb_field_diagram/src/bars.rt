@@ -1,5 +1,7 @@
 //! The bars of a band in a line of a diagram.
-ghost use Rattle.std.specs.Prelude.{◌≡◌, ◌++◌, ◌+◌, ◌-◌, OnOk};
+ghost use Rattle.std.specs.Prelude.{◌≡◌, ℕ, ◌++◌, ◌+◌, ◌-◌, OnOk};
+ghost use Rattle.tsb_field_diagram.specs.declared.band.Band.{Band};
+ghost use Rattle.tsb_field_diagram.specs.declared.band.Mark.{Mark};
 ghost use Rattle.tsb_field_diagram.specs.Bands.{mark_in_change, mark_in_row, tick_of_change, tick_of_row};
 ghost use Rattle.tsb_field_diagram.specs.Bars.{bar_text, bars_of, bars_text, before_tick, from_tick, inset_of, is_same, number_of, shape_of};
 
@@ -9,101 +11,96 @@ use std::alloc::AllocError;
 use tsb_field_display::Shown;
 use tsb_log_text::LogRow;
 
-/// The change in force at a tick, or else the first, and all behind it.
-pub(crate) fn changes_from(changes: &[Shown], first: u64) -> &[Shown]
-    ensures { result.now ≡ from_tick tick_of_change first changes.now }
+/// What is in force from a tick on, until the next of its kind.
+pub(crate) trait InForce {
+    /// The tick from which it is in force.
+    ghost tick_of: { Self → ℕ };
+
+    /// What a band shows of it.
+    ghost mark_of: { Band → Self → Mark };
+
+    /// The tick from which it is in force.
+    fn tick(&self) -> u32
+        ensures { result ≡ tick_of self.now };
+
+    /// What a band shows of it.
+    fn mark(&self, band: Band) -> Mark
+        ensures { result ≡ mark_of band self.now };
+}
+
+impl InForce for Shown {
+    ghost tick_of = { tick_of_change };
+
+    ghost mark_of = { mark_in_change };
+
+    fn tick(&self) -> u32 {
+        self.tick
+    }
+
+    fn mark(&self, band: Band) -> Mark {
+        mark_in_change(band, self)
+    }
+}
+
+impl InForce for LogRow {
+    ghost tick_of = { tick_of_row };
+
+    ghost mark_of = { mark_in_row };
+
+    fn tick(&self) -> u32 {
+        self.tick
+    }
+
+    fn mark(&self, band: Band) -> Mark {
+        mark_in_row(band, self)
+    }
+}
+
+/// What is in force at a tick, or else the first, and all behind it.
+pub(crate) fn from_tick<T: InForce>(items: &[T], first: u64) -> &[T]
+    ensures { result.now ≡ from_tick T.tick_of first items.now }
 {
     let mut from = 0;
-    while changes.len() - from > 1 && u64::from(changes[from + 1].tick) <= first {
+    while items.len() - from > 1 && u64::from(items[from + 1].tick()) <= first {
         from += 1;
     }
-    &changes[from..]
+    &items[from..]
 }
 
-/// The row in force at a tick, or else the first, and all behind it.
-pub(crate) fn rows_from(rows: &[LogRow], first: u64) -> &[LogRow]
-    ensures { result.now ≡ from_tick tick_of_row first rows.now }
+/// What comes before a tick.
+pub(crate) fn before_tick<T: InForce>(items: &[T], end: u64) -> &[T]
+    ensures { result.now ≡ before_tick T.tick_of end items.now }
 {
-    let mut from = 0;
-    while rows.len() - from > 1 && u64::from(rows[from + 1].tick) <= first {
-        from += 1;
-    }
-    &rows[from..]
-}
-
-/// The changes before a tick.
-pub(crate) fn changes_before(changes: &[Shown], end: u64) -> &[Shown]
-    ensures { result.now ≡ before_tick tick_of_change end changes.now }
-{
-    for (index, change) in changes.iter().enumerate() {
-        if u64::from(change.tick) >= end {
-            return &changes[..index];
+    for (index, item) in items.iter().enumerate() {
+        if u64::from(item.tick()) >= end {
+            return &items[..index];
         }
     }
-    changes
+    items
 }
 
-/// The rows before a tick.
-pub(crate) fn rows_before(rows: &[LogRow], end: u64) -> &[LogRow]
-    ensures { result.now ≡ before_tick tick_of_row end rows.now }
-{
-    for (index, row) in rows.iter().enumerate() {
-        if u64::from(row.tick) >= end {
-            return &rows[..index];
-        }
-    }
-    rows
-}
-
-/// Puts the bars of a band behind a text, of the changes in force in a line.
-pub(crate) fn append_change_bars(
+/// Puts the bars of a band behind a text, of what is in force in a line.
+pub(crate) fn append_bars<T: InForce>(
     text: &mut Vec<u8>,
     place: usize,
     band: Band,
     first: u64,
     end: u64,
-    changes: &[Shown],
+    items: &[T],
 ) -> Result<(), AllocError>
-    ensures { OnOk result (text.new.items ≡ text.old.items ++ bars_text place (bars_of tick_of_change (mark_in_change band) first end changes.now)) }
+    ensures { OnOk result (text.new.items ≡ text.old.items ++ bars_text place (bars_of T.tick_of (T.mark_of band) first end items.now)) }
 {
-    if changes.is_empty() {
+    if items.is_empty() {
         return Ok(());
     }
-    let mut begin = u64::max(first, u64::from(changes[0].tick));
-    let mut now = mark_in_change(band, &changes[0]);
-    for change in &changes[1..] {
-        let next = mark_in_change(band, change);
+    let earliest = &items[0];
+    let mut begin = u64::max(first, u64::from(earliest.tick()));
+    let mut now = earliest.mark(band);
+    for item in &items[1..] {
+        let next = item.mark(band);
         if !is_same(next, now) {
-            append_bar(text, place, begin, u64::from(change.tick), now)?;
-            begin = u64::from(change.tick);
-            now = next;
-        }
-    }
-    append_bar(text, place, begin, end, now)?;
-    Ok(())
-}
-
-/// Puts the bars of a band behind a text, of the rows in force in a line.
-pub(crate) fn append_row_bars(
-    text: &mut Vec<u8>,
-    place: usize,
-    band: Band,
-    first: u64,
-    end: u64,
-    rows: &[LogRow],
-) -> Result<(), AllocError>
-    ensures { OnOk result (text.new.items ≡ text.old.items ++ bars_text place (bars_of tick_of_row (mark_in_row band) first end rows.now)) }
-{
-    if rows.is_empty() {
-        return Ok(());
-    }
-    let mut begin = u64::max(first, u64::from(rows[0].tick));
-    let mut now = mark_in_row(band, &rows[0]);
-    for row in &rows[1..] {
-        let next = mark_in_row(band, row);
-        if !is_same(next, now) {
-            append_bar(text, place, begin, u64::from(row.tick), now)?;
-            begin = u64::from(row.tick);
+            append_bar(text, place, begin, u64::from(item.tick()), now)?;
+            begin = u64::from(item.tick());
             now = next;
         }
     }

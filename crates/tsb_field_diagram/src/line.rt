@@ -4,9 +4,7 @@ ghost use Rattle.tsb_field_diagram.specs.Lines.{band_text, bands_text, end_tick,
 
 use crate::axis::append_axis;
 use crate::band::{BAND, Band, Kind};
-use crate::bars::{
-    append_change_bars, append_row_bars, changes_before, changes_from, rows_before, rows_from,
-};
+use crate::bars::{append_bars, before_tick, from_tick};
 use crate::write::{append, append_attribute, append_clock, append_named, append_number};
 use std::alloc::AllocError;
 use tsb_field_display::Shown;
@@ -33,8 +31,8 @@ pub(crate) fn append_lines(
     let count = line_count(seconds, last);
     for line in 0..count {
         let first = first_tick(seconds, line);
-        changes = changes_from(changes, first);
-        rows = rows_from(rows, first);
+        changes = from_tick(changes, first);
+        rows = from_tick(rows, first);
         append_line(text, bands, seconds, last, line, changes, rows)?;
     }
     Ok(())
@@ -186,8 +184,8 @@ fn append_plot(
 {
     let first = first_tick(seconds, line);
     let end = end_tick(seconds, last, line);
-    let changes = changes_before(changes, end);
-    let rows = rows_before(rows, end);
+    let changes = before_tick(changes, end);
+    let rows = before_tick(rows, end);
     append_frame(text, bands.len(), first, seconds)?;
     append_bands(text, bands, first, end, changes, rows)?;
     append(text, b"</svg>\n")?;
@@ -228,8 +226,8 @@ fn append_bands(
     ensures { OnOk result (text.new.items ≡ text.old.items ++ bands_text first end changes.now rows.now 0 bands.now) }
 {
     for (place, band) in bands.iter().enumerate() {
-        append_change_bars(text, place, *band, first, end, changes)?;
-        append_row_bars(text, place, *band, first, end, rows)?;
+        append_bars(text, place, *band, first, end, changes)?;
+        append_bars(text, place, *band, first, end, rows)?;
     }
     Ok(())
 }

@@ -24,10 +24,10 @@ loop-line-preserved c =
     let cs = c.args.changes.now in let rs = c.args.rows.now in let k = c.loop-line.line in
     let held = c.loop-line.invariant in
     let next = next-first c.args.seconds c.loop-line.line in
-    let changes : c.changes_from-changes.result.now ≡ from_tick tick_of_change (first_tick c.args.seconds c.loop-line.line) c.loop-line.changes.now =
-    c.changes_from-changes.ensures ∙ ap (λ (n : ℕ). from_tick tick_of_change n c.loop-line.changes.now) c.first_tick-first.ensures.same in
-    let rows : c.rows_from-rows.result.now ≡ from_tick tick_of_row (first_tick c.args.seconds c.loop-line.line) c.loop-line.rows.now =
-    c.rows_from-rows.ensures ∙ ap (λ (n : ℕ). from_tick tick_of_row n c.loop-line.rows.now) c.first_tick-first.ensures.same in
+    let changes : c.from_tick-changes.result.now ≡ from_tick tick_of_change (first_tick c.args.seconds c.loop-line.line) c.loop-line.changes.now =
+    c.from_tick-changes.ensures ∙ ap (λ (n : ℕ). from_tick tick_of_change n c.loop-line.changes.now) c.first_tick-first.ensures.same in
+    let rows : c.from_tick-rows.result.now ≡ from_tick tick_of_row (first_tick c.args.seconds c.loop-line.line) c.loop-line.rows.now =
+    c.from_tick-rows.ensures ∙ ap (λ (n : ℕ). from_tick tick_of_row n c.loop-line.rows.now) c.first_tick-first.ensures.same in
     record {
       changes =
           λ t le. ap (λ (xs : List Shown). from_tick tick_of_change t xs) changes
@@ -41,7 +41,7 @@ loop-line-preserved c =
           (lines_text bands seconds last cs rs) (lines-more bands seconds last cs rs) k c.line_count-count.result c.loop-line-test.true
           c.loop-line.text.items _ _
           (c.in_ok-append_line.ensures
-          ∙ ap (λ (xs : List Shown). c.loop-line.text.items ++ line_text bands seconds last k xs c.rows_from-rows.result.now) (changes ∙ held.changes (first_tick seconds k) (omega arith))
+          ∙ ap (λ (xs : List Shown). c.loop-line.text.items ++ line_text bands seconds last k xs c.from_tick-rows.result.now) (changes ∙ held.changes (first_tick seconds k) (omega arith))
           ∙ ap (λ (xs : List LogRow). c.loop-line.text.items ++ line_text bands seconds last k (from_tick tick_of_change (first_tick seconds k) cs) xs) (rows ∙ held.rows (first_tick seconds k) (omega arith)))
           held.text;
     }

@@ -1,8 +1,0 @@
-use Rattle.std.proofs.Common.{◌≡◌, ◌++◌, drop, take}
-use Rattle.tsb_field_diagram.specs.Bands.{tick_of_change}
-use Rattle.tsb_field_diagram.specs.Bars.{before_tick}
-use Rattle.tsb_field_diagram.proofs.bars.changes_before.Given as goal
-
--- what was passed is before the tick
-abbrev pub invariant-loop-index : goal.invariant-loop-index
-invariant-loop-index l = before_tick tick_of_change l.end l.changes ≡ take l.index l.changes ++ before_tick tick_of_change l.end (drop l.index l.changes)
