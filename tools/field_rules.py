@@ -28,6 +28,9 @@ NAMES = [
     {b"eventparam", b"parameter"},
 ]
 
+# How many bytes a device has at most that a line can name.
+LONGEST_DEVICE = 900
+
 # What stands before the first display line: nothing is lit, and no preempt is in service.
 NOTHING_LIT = 0, b"-" * 16, b"-" * 16, b"-" * 4, b"0"
 
@@ -266,14 +269,25 @@ def input_events(log_text):
         before = lit
 
 
+def can_be_written(device):
+    """Whether a line can name the device."""
+    return len(device) <= LONGEST_DEVICE and not re.search(rb'["\n\r]', device)
+
+
+def device_field(device):
+    """A device as the first field of a line: in quotes where it has a comma, or its # would make the line a comment."""
+    if not can_be_written(device):
+        raise ValueError("no line can name the device")
+    return b'"' + device + b'"' if b"," in device or device.startswith(b"#") else device
+
+
 def events(text, begin, device, log_text=b""):
     """The events that display lines and a log tell from a moment on, as CSV."""
     found, before = list(input_events(log_text)), NOTHING_LIT
     for now in remaining(text):
         found += [(now[0], *event) for event in display_events(before, now)]
         before = now
-    name = b'"' + device + b'"' if b"," in device else device
-    rows = (b"%s,%s,%d,%d\n" % (name, time_text(begin + max(tick - 1, 0) * TENTH), code, parameter)
+    rows = (b"%s,%s,%d,%d\n" % (device_field(device), time_text(begin + max(tick - 1, 0) * TENTH), code, parameter)
             for tick, code, parameter in sorted(found))
     return HEADER + b"".join(rows)
 

@@ -93,6 +93,14 @@ fn lines_have_the_usual_columns(rt: HostRuntime) -> Result<(), AllocError> {
         b"\"Main, 5th\",2026-11-22 07:00:00.1,0,4294967295\n".as_slice()
     );
     assert_eq!(rt;
+        line(alloc, b"#7", time, 82, 3)?.as_slice(),
+        b"\"#7\",2026-11-22 07:00:00.1,82,3\n".as_slice()
+    );
+    assert_eq!(rt;
+        line(alloc, b"7#", time, 82, 3)?.as_slice(),
+        b"7#,2026-11-22 07:00:00.1,82,3\n".as_slice()
+    );
+    assert_eq!(rt;
         line(alloc, b"", time, 1, 2)?.as_slice(),
         b",2026-11-22 07:00:00.1,1,2\n".as_slice()
     );
@@ -105,20 +113,19 @@ fn lines_are_read_again(rt: HostRuntime) -> Result<(), AllocError> {
     let Some(moment) = read_moment(time) else {
         panic!(rt; "no moment");
     };
-    let written = line(rt.alloc(), b"Main, 5th", time, 82, 16)?;
-    let Some(row) = written.as_slice().strip_suffix(b"\n".as_slice()) else {
-        panic!(rt; "no line feed");
-    };
     let event = EventRow {
         ours: true,
         moment,
         code: 82,
         parameter: 16,
     };
-    assert_eq!(rt;
-        event_row(row, Columns::usual(), Some(b"Main, 5th")),
-        Some(event)
-    );
+    for device in [b"Main, 5th".as_slice(), b"#7".as_slice()] {
+        let written = line(rt.alloc(), device, time, 82, 16)?;
+        let Some(row) = written.as_slice().strip_suffix(b"\n".as_slice()) else {
+            panic!(rt; "no line feed");
+        };
+        assert_eq!(rt; event_row(row, Columns::usual(), Some(device)), Some(event));
+    }
     Ok(())
 }
 
@@ -126,4 +133,6 @@ fn lines_are_read_again(rt: HostRuntime) -> Result<(), AllocError> {
 fn devices_that_a_line_can_name(rt: HostRuntime) {
     assert!(rt; can_be_written(b"") && can_be_written(b"Main, 5th") && can_be_written(b"-7 \t"));
     assert!(rt; !can_be_written(b"a\"b") && !can_be_written(b"a\nb") && !can_be_written(b"a\r"));
+    assert!(rt; can_be_written(b"#7"));
+    assert!(rt; can_be_written(&[b'7'; 900]) && !can_be_written(&[b'7'; 901]));
 }
