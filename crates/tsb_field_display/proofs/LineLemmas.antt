@@ -1,8 +1,8 @@
 -- What is read of a display line is what it shows.
-use Rattle.std.proofs.Common.{◌≡◌, ◌∙◌, ℕ, ◌+◌, ◌-◌, ◌*◌, ◌/◌, ◌%◌, ◌<◌, ◌≤◌, ◌==◌, nat_le, Bool, true, false, ◌&&◌, zero, suc, List, [], ◌∷◌, map, length, get_or, slice_index, codes, Option, Some, None, IfSome, if◌then◌else◌, refl, ap, arith}
+use Rattle.std.proofs.Common.{◌≡◌, ◌∙◌, ℕ, ◌+◌, ◌-◌, ◌/◌, ◌%◌, ◌<◌, ◌≤◌, ◌==◌, nat_le, Bool, true, false, ◌&&◌, zero, suc, List, [], ◌∷◌, map, length, slice_index, codes, Option, Some, None, IfSome, if◌then◌else◌, refl, ap, arith}
 use Rattle.std.specs.List.{list_all}
 use Rattle.std.proofs.lemmas.Bool.{and_from, eq-eqb, ne_eqb, le-leb}
-use Rattle.tsb_lines.specs.Words.{number_of, number_from, at_most}
+use Rattle.tsb_lines.specs.Words.{number_of}
 use Rattle.tsb_lines.proofs.DigitLemmas.{seven-digits-read}
 use Rattle.tsb_types.proofs.RunLemmas.{at-run}
 use Rattle.tsb_types.specs.Lists.{run_from, among}

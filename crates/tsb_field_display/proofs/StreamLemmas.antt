@@ -1,5 +1,5 @@
 -- Bytes that come one after the other, and the display lines in them.
-use Rattle.std.proofs.Common.{◌≡◌, ℕ, ◌+◌, ◌≤◌, ◌==◌, List, [], ◌∷◌, ◌++◌, length, true, false, refl, sym, ap, ◌∙◌, append_assoc, length-append, Some, None, Ok, Err, arith, subst, zero, suc, take, take_all, inl, inr}
+use Rattle.std.proofs.Common.{◌≡◌, ℕ, ◌+◌, ◌≤◌, ◌==◌, List, [], ◌∷◌, ◌++◌, length, true, false, refl, sym, ap, ◌∙◌, append_assoc, length-append, Some, None, Ok, Err, arith, subst, take, take_all, inl, inr}
 use Rattle.std.specs.declared.option.Option.{Option}
 use Rattle.std.specs.List.{cons_option, filter_map}
 use Rattle.std.specs.Io.KnownBytes.{Consumes, IsAtEnd}
@@ -7,7 +7,7 @@ use Rattle.std.proofs.lemmas.Bool.{cases_lt}
 use Rattle.std.proofs.lemmas.Bool.Decides.{eqb_tells}
 use Rattle.std.proofs.lemmas.List.{append-nil, length-take-le, take-append-le}
 use Rattle.std.proofs.lemmas.List.Sums.{fold-append}
-use Rattle.tsb_lines.specs.Lines.{HasNoFeed, onto_first, split, without_return}
+use Rattle.tsb_lines.specs.Lines.{HasNoFeed, without_return}
 use Rattle.tsb_lines.proofs.LineLemmas.{feedless-more, length-return, split-alone, split-joined}
 use Rattle.tsb_streams.proofs.StreamLemmas.{consumes-more, consumes-nothing}
 use Rattle.tsb_field_display.specs.declared.error.HistoryError.{HistoryError}

@@ -1,13 +1,13 @@
 -- What a stream has read, line after line.
-use Rattle.std.proofs.Common.{◌≡◌, ℕ, ◌+◌, ◌<◌, ◌≤◌, Bool, true, false, List, [], ◌∷◌, ◌++◌, length, take, take_all, refl, sym, ap, ◌∙◌, append_assoc, length-append, arith, subst, inl, inr, Result, Ok, Err}
+use Rattle.std.proofs.Common.{◌≡◌, ℕ, ◌+◌, ◌<◌, ◌≤◌, List, [], ◌∷◌, ◌++◌, length, take, take_all, refl, sym, ap, ◌∙◌, append_assoc, length-append, arith, inl, inr, Result, Ok, Err}
 use Rattle.std.proofs.lemmas.List.{append-nil, length-take-le, take-append-le}
 use Rattle.std.proofs.lemmas.Bool.{cases_lt, lt-ltb}
 use Rattle.std.proofs.lemmas.Bool.Decides.{eqb_tells}
-use Rattle.tsb_lines.specs.Lines.{HasNoFeed, lines_of, without_return}
+use Rattle.tsb_lines.specs.Lines.{lines_of, without_return}
 use Rattle.tsb_lines.proofs.LineLemmas.{feedless-more, length-return, lines-alone, lines-joined}
 use Rattle.tsb_field_streams.specs.declared.error.FilterError.{FilterError}
 use Rattle.tsb_field_streams.specs.declared.error.FilterError.TheVariants.{Malformed}
-use Rattle.tsb_field_streams.specs.Filtering.{Given, Stand, one_more, start, text_of, with_line, with_unmarked}
+use Rattle.tsb_field_streams.specs.Filtering.{Given, Stand, one_more, start, with_line}
 use Rattle.tsb_field_streams.specs.Lines.{HasRead, filtered, lines_behind}
 use Rattle.tsb_field_streams.specs.Streaming.{Sticks}
 

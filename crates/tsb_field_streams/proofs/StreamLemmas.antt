@@ -1,6 +1,6 @@
 -- What a stream has written, and how it ends.
 use Rattle.std.proofs.Common.{◌≡◌, ◌⊎◌, ℕ, ◌+◌, ◌-◌, ◌*◌, ◌<◌, ◌≤◌, List, [], ◌∷◌, ◌++◌, length, min, max, take, take_all, get_or, drop, refl, sym, ap, ◌∙◌, append_assoc, length-append, arith, subst, inl, inr, OnOk, OnErr}
-use Rattle.std.proofs.lemmas.List.{append-nil, take_more}
+use Rattle.std.proofs.lemmas.List.{append-nil}
 use Rattle.std.specs.declared.option.Option.{Option}
 use Rattle.std.specs.declared.result.Result.{Result}
 use Rattle.std.specs.declared.result.Result.TheVariants.{Ok, Err}
@@ -15,7 +15,6 @@ use Rattle.tsb_field_log.specs.LogText.{log_text}
 use Rattle.tsb_field_log.specs.Pushed.{rows_before}
 use Rattle.tsb_field_log.specs.Ticks.{row_in}
 use Rattle.tsb_field_log.specs.declared.inputs.InputEvent.{InputEvent}
-use Rattle.tsb_field_log.specs.declared.inputs.Wire.{Wire}
 use Rattle.tsb_log_text.specs.Logs.{log_of}
 use Rattle.tsb_field_log.proofs.LawLemmas.{logs}
 use Rattle.tsb_field_log.proofs.PushedLemmas.{order-last, rows-front}
@@ -28,7 +27,7 @@ use Rattle.tsb_field_streams.specs.declared.stream.Stream.{Stream}
 use Rattle.tsb_field_streams.specs.Filtering.{Given, Stand, one_more, start, with_line}
 use Rattle.tsb_field_streams.specs.Lines.{HasRead, filtered}
 use Rattle.tsb_field_streams.specs.Standing.{StandsAt, Takes, left_out_of}
-use Rattle.tsb_field_streams.specs.Streaming.{Follows, WroteFront, Went, Sticks, Finished, EndedBehind, EndedSo, IsWhole, IsTooLong, IsFaultOfAll, known_log, whole_log}
+use Rattle.tsb_field_streams.specs.Streaming.{Follows, WroteFront, Went, Sticks, Finished, EndedBehind, EndedSo, known_log, whole_log}
 use Rattle.tsb_field_streams.proofs.ReadLemmas.{all-comes, front-comes, kept-last, kept-line, read-byte, read-fault, read-line, read-start, sticks-more}
 
 -- ## What is written

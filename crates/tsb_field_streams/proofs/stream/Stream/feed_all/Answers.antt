@@ -1,4 +1,4 @@
-use Rattle.std.proofs.Common.{◌≡◌, ◌∙◌, refl, get_or, rules, Err, sym, ap, List, ℕ, ◌++◌}
+use Rattle.std.proofs.Common.{◌≡◌, refl, get_or, rules, Err, sym}
 use Rattle.std.proofs.lemmas.List.{append-nil}
 use Rattle.tsb_field_streams.proofs.StreamLemmas.{follows-same, piece-end, piece-fault, piece-more}
 use Rattle.tsb_field_streams.proofs.stream.Stream.feed_all.Goals as goal
