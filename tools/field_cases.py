@@ -72,7 +72,9 @@ def form_runs():
         CAR, usual, CAR[:-1], CAR.replace(b"\n", b"\r\n"), usual.replace(b"\n", b"\r\n"), MARK + CAR, MARK + usual,
         MARK + b"\n" + usual, b"\n  \n# a car\n" + usual + b"\n#\n", b"#" + b"x" * 999 + b"\n" + CAR,
         CAR.replace(b",82,", b',"82",').replace(b"7,", b'"7, Main",', 1), CAR.replace(b"22 07", b"22T07"),
-        CAR.replace(b",82,2", b",0000000082,02"), CAR.replace(b"\n", b",and,more,\n"),
+        CAR.replace(b",82,2", b",0000000082,02"), CAR.replace(b"\n", b",and,more,\n"), CAR.replace(b"\n", b',""\n'),
+        # The return before a line feed does not count, and one behind the last line feed is a byte of its line.
+        b"#" + b"x" * 999 + b"\r\n" + CAR, CAR + b"#\r", CAR.replace(b"\n", b",more\n")[:-1] + b"\r",
         CAR + told("07:00:03 1 2", "07:00:03 83 2", "07:00:03 4294967295 2", "07:00:03 0 4294967295"),
     ])
     for device in [b"SignalID", b"signalid", b"DeviceId", b"DEVICEID", b"LocationIdentifier"]:
@@ -148,6 +150,10 @@ def wire_runs():
     other = b"8,2026-11-22 06:00:00,82,1\n9,2026-11-30 00:00:00,82,1\n"
     yield logged(CAR[:len(CAR) // 2] + other + CAR[len(CAR) // 2:], CAR_LOG, "--device", "7", errors=left % (2, 0))
     yield logged(CAR + other, b"", "--device=10", errors=left % (4, 0))
+    # A device is its bytes, and no number.
+    yield from (logged(CAR, b"", "--device", device, errors=left % (2, 0)) for device in ["07", " 7", "7 ", "+7"])
+    yield logged(CAR.replace(b"7,2026", b"07,2026"), CAR_LOG, "--device", "07")
+    yield logged(CAR.replace(b"7,2026", b"07,2026"), b"", "--device", "7", errors=left % (2, 0))
     yield logged(CAR.replace(b"7,", b"-7,"), CAR_LOG, "--device=-7")
     yield logged(CAR.replace(b"7,2026", b'"Main, 5th",2026'), CAR_LOG, "--device", "Main, 5th")
     yield logged(CAR.replace(b"7,2026", b",2026"), CAR_LOG)
@@ -168,15 +174,19 @@ def fault_runs():
         b"7,11/22/2026 07:00:03,82,2", b"7,2026-02-29 07:00:03,82,2", b"7,2026-04-31 07:00:03,82,2",
         b"7,2026-13-22 07:00:03,82,2", b"7,2026-11-00 07:00:03,82,2", b"7,2026-11-22 24:00:00,82,2",
         b"7,2026-11-22 07:60:00,82,2", b"7,2026-11-22 07:00:60,82,2", b"7, 2026-11-22 07:00:03,82,2",
-        b'"7,2026-11-22 07:00:03,82,2', b'7,2026-11-22 07:00:03,"82"0,2', b'7,2026-11-22 07:00:03,82,2,"', b"\t",
-        HEADER[:-1], b"7;2026-11-22 07:00:03;82;2", b"x" * 1001,
-        b"#" + b"x" * 1000,
+        b'"7,2026-11-22 07:00:03,82,2', b'7,2026-11-22 07:00:03,"82"0,2', b'7,2026-11-22 07:00:03,82,2,"',
+        b'"7 ""x""",2026-11-22 07:00:03,82,2', b'"""7""",2026-11-22 07:00:03,82,2',
+        b'7,2026-11-22 07:00:03,82,2,"a ""b"" c"', b'7,2026-11-22 07:00:03,82,2,""""', b"\t", b" \t ", b"\t#",
+        HEADER[:-1], b"7;2026-11-22 07:00:03;82;2", b"x" * 1001, b"#" + b"x" * 1000,
     ]:
         yield refused(CAR + b"\n" + line + b"\n", b"events line 4: malformed\n", CAR_KNOWN)
         yield refused(CAR + line, b"events line 3: malformed\n", CAR_KNOWN, "--device", "7")
     yield refused(b"Signal,Timestamp,EventCode,EventParam\n" + CAR, b"events line 1: malformed\n")
     yield refused(b"SignalID,Timestamp,EventCode\n" + CAR, b"events line 1: malformed\n")
+    yield refused(HEADER[:-1] + b',"a ""b"""\n' + CAR, b"events line 1: malformed\n")
+    yield refused(b"\t\n" + CAR, b"events line 1: malformed\n")
     yield refused(b"\n# no time\n8,,82,1\n", b"events line 3: malformed\n", b"", "--device", "7")
+    yield from return_runs()
     order = b"events line %d: time order\n"
     yield refused(CAR + told("07:00:02.999999999 81 2"), order % 3, CAR_KNOWN)
     yield refused(CAR + told("07:00:03 1 1", "07:00:02 1 1"), order % 4, CAR_KNOWN)
@@ -190,6 +200,19 @@ def fault_runs():
     yield refused(told(f"{BEHIND} 1 2", f"{BEHIND} 82 2") + b"x\n", past)
     yield refused(told(f"{BEHIND} 82 17"), past, b"", "--vehicle=17=1")
     yield from known_runs()
+
+
+def return_runs():
+    """Returns that are no part of a line's end: one without a line feed behind it, and the first of two."""
+    yield refused(CAR[:-1] + b"\r", b"events line 2: malformed\n")
+    yield refused(CAR + b"\r", b"events line 3: malformed\n", CAR_KNOWN)
+    yield refused(CAR + b"  \r", b"events line 3: malformed\n", CAR_KNOWN)
+    yield refused(HEADER[:-1] + b"\r", b"events line 1: malformed\n")
+    yield refused(HEADER.replace(b"\n", b"\r\r\n") + CAR, b"events line 1: malformed\n")
+    yield refused(CAR.replace(b"\n", b"\r\r\n"), b"events line 1: malformed\n")
+    # They count among the bytes of their line, of which there are 1,000 at most.
+    for end in [b"\r", b"\r\r\n"]:
+        yield refused(CAR + b"#" + b"x" * 999 + end, b"events line 3: malformed\n", CAR_KNOWN)
 
 
 def known_runs():
@@ -244,6 +267,14 @@ TOLD = [
 ALL_LINES = b"".join(LINES)
 ALL_TOLD = shown(*sum(TOLD, []))
 
+# A session whose second tick is taken back. No display line has shown that yet.
+UNDONE = b"".join(LINES[:2]) + b"undone tick\n"
+
+# The session of docs/MANUAL.md in which `preempt 1 on` is given before tick 1, and no row of a log has that input.
+SWITCHED = display(0, "RR-R-R-R", "---D", "R") + b"ok\n" + display(1, "RR-R-R-R", "---D", "R", 1) + b"".join(
+    display(tick, "RR-G-R-G", "---D", "G", 1) for tick in (2, 3))
+SWITCHED_TOLD = ["07:00:00.0 105 1", "07:00:00.1 1 4", "07:00:00.1 1 8", "07:00:00.1 61 1"]
+
 
 def event_runs():
     """Events of display lines, and of a log."""
@@ -254,6 +285,7 @@ def event_runs():
     yield given(display(1), HEADER)
     yield from (given(text, ALL_TOLD) for text in [
         ALL_LINES, ALL_LINES[:-1], ALL_LINES.replace(b"\n", b"\r\n"), ALL_LINES.replace(b"\n", b"\nnothing\n"),
+        ALL_LINES[:-1] + b"\r",
         ALL_LINES.replace(b"----\n", b"0000\n"), b"".join(line * 2 for line in LINES),
         ALL_LINES + display(132) + display(140), b"x" * 100_000 + b"\n" + ALL_LINES,
         b"".join(LINES[:3] + [b"undone tick\n", b"tick 0000031\n", b"refused E5 NotOwner\n"] + LINES[3:]),
@@ -288,6 +320,13 @@ def back_runs(given):
     """Sessions that go back."""
     begun = b"".join(LINES[:2])
     yield given(begun + display(2), HEADER)
+    # An undo is told in a line that takes nothing back: the next display line does.
+    yield given(UNDONE, shown(*TOLD[0]))
+    yield given(UNDONE + b"undone tick\n", shown(*TOLD[0]))
+    yield given(UNDONE + LINES[0], HEADER)
+    yield given(UNDONE + display(2, "-R-R", "-W", "G"), shown(*TOLD[0][1:]))
+    yield given(UNDONE + display(3, "-Y-R", "-W", "G"), shown(*TOLD[0], *(f"07:00:00.2 {it}" for it in ["7 2", "8 2"])))
+    yield given(ALL_LINES + b"undone tick\n" * 131, ALL_TOLD)
     yield given(ALL_LINES + LINES[0], HEADER)
     yield given(ALL_LINES + LINES[2], shown(*TOLD[0], *TOLD[1]))
     yield given(ALL_LINES + display(101, "-G-R", "-D", "G"), shown(*TOLD[0], *TOLD[1], "07:00:10.0 23 2"))
@@ -301,6 +340,15 @@ def joined_runs(given):
     """Events of display lines with those of a log's inputs."""
     yield given(b"", shown("07:00:01.0 82 2", "07:00:03.0 81 2"), "--log", "car.log")
     yield given(b"", HEADER, "--log=empty.log")
+    # A preempt in service whose input a command switched on: it enters service, and no input goes on.
+    yield given(SWITCHED, shown(*SWITCHED_TOLD))
+    yield given(SWITCHED, shown(*SWITCHED_TOLD), "--log", "empty.log")
+    yield given(SWITCHED, shown(*SWITCHED_TOLD, "07:00:01.0 82 2", "07:00:03.0 81 2"), "--log", "car.log")
+    # Rows of a log are told wherever the session ended: behind its last line, and behind that to which it went back.
+    yield given(display(1), shown("07:00:01.0 82 2", "07:00:03.0 81 2"), "--log", "car.log")
+    yield given(display(1) + display(20, "-G"), shown("07:00:01.0 82 2", "07:00:01.9 1 2", "07:00:03.0 81 2"),
+                "--log", "car.log")
+    yield given(ALL_LINES + LINES[0], shown("07:00:01.0 82 2", "07:00:03.0 81 2"), "--log", "car.log")
     on = [f"07:00:00.0 {code} {n + 1}" for code, most in [(82, 16), (90, 8), (102, 4)] for n in range(most)]
     off = [f"07:00:00.1 {code} {n + 1}" for code, most in [(81, 16), (89, 8), (104, 4)] for n in range(most)]
     yield given(b"", shown(*on, *off), "--log", "all.log")
@@ -342,6 +390,7 @@ def log_faults():
     yield "cut_short.log", 1, b"log line 1: malformed\n"
     yield "same_tick.log", 1, b"log line 2: tick order\n"
     yield "tick_zero.log", 1, b"log line 1: malformed\n"
+    yield "return.log", 1, b"log line 2: malformed\n"
     yield ENDLESS, 1, b"log: too large\n"
 
 
@@ -372,6 +421,7 @@ def fill(folder):
     shutil.copytree(EXAMPLES, folder, dirs_exist_ok=True)
     (folder / "folder").mkdir()
     (folder / "car.log").write_bytes(CAR_LOG)
+    (folder / "return.log").write_bytes(CAR_LOG[:-1] + b"\r")
     (folder / "all.log").write_bytes(b"# All inputs.\n" + row(1, range(17), range(9), range(5)) + row(2))
     (folder / "with_all.log").write_bytes(
         row(2, [1, 2], [3]) + row(45, [1, 9], [], [1]) + row(46, [1, 9], [], [1]) + b"\n" + row(10_000) + row(10_001))

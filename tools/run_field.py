@@ -8,7 +8,7 @@ PROGRAM is that of tsb_field, BENCH that of tsb, which answers the hour of the e
 Worked runs, of tools/field_cases.py, have the exact bytes and the status that the rules of docs/FIELD.md ask for.
 Behind them come texts at random, the same in each run of this tool: logs go to events and back, events and display
 lines are compared with what tools/field_rules.py makes of them, and so are the bars of diagrams, which are read as XML.
-At last there are texts of the greatest sizes.
+So are the sessions of the examples, and their hour of traffic. There are texts of the greatest sizes, too.
 """
 import itertools
 import pathlib
@@ -193,11 +193,30 @@ def diagrams(program, folder):
         log = (folder / name).read_bytes()
         begun = field_cases.display(0, "GR")
         for text, seconds in [(lines, 1), (lines, 13), (lines, 86400), (b"", 1), (b"ok\n", 60), (lines[:54], 1),
-                              (begun, 1), (begun + field_cases.display(3, "RG"), 1), (begun + lines, 2)]:
+                              (begun, 1), (begun + field_cases.display(3, "RG"), 1), (begun + lines, 2),
+                              (field_cases.SWITCHED, 1), (field_cases.UNDONE, 1), (field_cases.UNDONE + begun, 1)]:
             yield from drawn_otherwise(program, folder, text, (name, log), seconds)
     for words in [[], ["--log", "car.log"], ["--title="]]:
         for text in [b"", lines]:
             yield from picture_of(program, folder, text, words)[1]
+
+
+def sessions(program):
+    """What is otherwise of the sessions of the examples, which have commands of all kinds, and how many there are."""
+    wrong, count = [], 0
+    for line in (EXAMPLES / "list.txt").read_text().splitlines():
+        name, *files = line.split()
+        if name.startswith("#") or len(files) != 2:
+            continue
+        text, log = (EXAMPLES / f"{name}.expected").read_bytes(), EXAMPLES / files[1]
+        if text.startswith(b"log "):
+            continue
+        wanted = field_rules.events(text, BEGIN, b"1001", log.read_bytes())
+        it = answer(program, [*field_cases.EVENTS, "--log", str(log)], text)
+        wrong += difference(f"events of session {name}", it, (0, wanted, b""))
+        wrong += drawn_otherwise(program, None, text, (str(log), log.read_bytes()), 60)
+        count += 1
+    return wrong, count
 
 
 def closed_pipes(program):
@@ -273,7 +292,9 @@ def main(words):
         wrong += [*round_trips(program, folder), *logs_of_events(program), *events_of_displays(program, folder)]
         wrong += [*diagrams(program, folder), *closed_pipes(program), *greatest(program)]
     wrong += hour(program, bench)
-    told = f"{len(runs)} worked runs, {TRIPS} round trips and {2 * TEXTS} texts at random as expected"
+    of_sessions, count = sessions(program)
+    wrong += of_sessions
+    told = f"{len(runs)} worked runs, {count} sessions, {TRIPS} round trips and {2 * TEXTS} texts at random as expected"
     print("\n".join(wrong) if wrong else f"tsb_field: {told}")
     return 1 if wrong else 0
 
