@@ -372,7 +372,7 @@ def word_runs():
         ["log", "--from", "2026-02-29 07:00:00"], ["log", "--from", ""], ["events", *FROM], ["events", "--device", "7"],
         [*EVENTS, "--device", "7"], [*EVENTS, "--title", "x"], [*EVENTS, "car.log"],
         ["events", *FROM, "--device", 'a"b'], ["events", *FROM, "--device", "a\nb"],
-        ["events", *FROM, "--device", "a\r"], [*EVENTS, "--log"],
+        ["events", *FROM, "--device", "a\r"], ["events", *FROM, "--device", "7" * 901], [*EVENTS, "--log"],
         ["diagram", *FROM], ["diagram", "--device", "7"], ["diagram", "--seconds-per-line", "0"],
         ["diagram", "--seconds-per-line", "86401"], ["diagram", "--seconds-per-line", "x"], ["diagram", "car.log"],
         ["diagram", "--title", "a", "--title", "b"], [b"\xff"], [*LOG, "--device", b"\xff"],

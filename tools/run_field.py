@@ -25,7 +25,7 @@ from run_program import EXAMPLES, shown
 
 # How many texts there are of each kind.
 TRIPS, TEXTS = 200, 200
-DEVICES = ["1001", "Main, 5th", "-7", "x y"]
+DEVICES = ["1001", "Main, 5th", "-7", "x y", "#7"]
 KINDS = list(field_rules.MOST)
 
 # How the stored picture of the hour was drawn.
