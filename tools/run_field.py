@@ -184,7 +184,7 @@ def diagrams(program, folder):
     """What is wrong with diagrams of the worked display lines."""
     lines = field_cases.ALL_LINES
     for title, told in [("Main & 5th", None), ('<"Main">', None), ("it's", None), ("]]>", None), ("zw\u00f6lf", None),
-                        ("x" * 1000, None), ("a\x01b\x1f", "a?b?"), ("&amp;", None)]:
+                        ("x" * 1000, None), ("a\x01b\x1f", "a?b?"), ("a\ufffeb\uffff", "a?b?"), ("&amp;", None)]:
         root, wrong = picture_of(program, folder, lines, [f"--title={title}"])
         yield from wrong
         if root is not None and (told or title) not in ["".join(it.itertext()) for it in root.findall(SVG + "text")]:
