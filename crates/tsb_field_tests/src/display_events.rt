@@ -49,105 +49,75 @@ fn lines_show_their_heads(rt: HostRuntime) {
         assert!(rt; false);
         return;
     };
-    assert_eq!(rt; shown.tick, 45);
-    assert_eq!(rt; shown.signals.vehicles.greens, set(2));
-    assert_eq!(rt; shown.signals.vehicles.yellows, set(0));
-    assert_eq!(rt; shown.signals.vehicles.reds, set(8));
-    assert_eq!(rt; shown.signals.vehicles.flashing, set(0));
-    assert_eq!(rt; shown.signals.pedestrians.walks, set(0));
-    assert_eq!(rt; shown.signals.pedestrians.clearances, set(2));
-    assert_eq!(rt; shown.signals.pedestrians.dont_walks, set(0));
-    assert_eq!(rt; shown.signals.overlaps.greens, set(1));
-    assert_eq!(rt; shown.signals.preempt, Some(2));
+    assert!(rt; shown.tick == 45);
+    assert!(rt; shown.signals.vehicles.greens == set(2));
+    assert!(rt; shown.signals.vehicles.yellows == set(0));
+    assert!(rt; shown.signals.vehicles.reds == set(8));
+    assert!(rt; shown.signals.vehicles.flashing == set(0));
+    assert!(rt; shown.signals.pedestrians.walks == set(0));
+    assert!(rt; shown.signals.pedestrians.clearances == set(2));
+    assert!(rt; shown.signals.pedestrians.dont_walks == set(0));
+    assert!(rt; shown.signals.overlaps.greens == set(1));
+    assert!(rt; shown.signals.preempt == Some(2));
     let Some(last) = read_line(LAST) else {
         assert!(rt; false);
         return;
     };
-    assert_eq!(rt; last.tick, 6_000_000);
-    assert_eq!(rt; last.signals.vehicles.greens, set(32_768));
-    assert_eq!(rt; last.signals.pedestrians.walks, set(32_768));
-    assert_eq!(rt; last.signals.overlaps.yellows, set(8));
-    assert_eq!(rt; last.signals.preempt, Some(4));
+    assert!(rt; last.tick == 6_000_000);
+    assert!(rt; last.signals.vehicles.greens == set(32_768));
+    assert!(rt; last.signals.pedestrians.walks == set(32_768));
+    assert!(rt; last.signals.overlaps.yellows == set(8));
+    assert!(rt; last.signals.preempt == Some(4));
 }
 
 #[test]
 fn other_answers_show_nothing(rt: HostRuntime) {
-    assert_eq!(rt; read_line(b""), None);
-    assert_eq!(rt; read_line(b"ok"), None);
-    assert_eq!(rt; read_line(b"undone tick"), None);
-    assert_eq!(rt; read_line(b"tick 0000031"), None);
-    assert_eq!(rt;
-        read_line(b"0000001 -R-R------------ -D-------------- R--- 0 ---- "),
-        None
-    );
-    assert_eq!(rt;
-        read_line(b"000000x -R-R------------ -D-------------- R--- 0 ----"),
-        None
-    );
-    assert_eq!(rt;
-        read_line(b"0000001 -R-W------------ -D-------------- R--- 0 ----"),
-        None
-    );
-    assert_eq!(rt;
-        read_line(b"0000001 -R-R------------ -G-------------- R--- 0 ----"),
-        None
-    );
-    assert_eq!(rt;
-        read_line(b"0000001 -R-R------------ -D-------------- D--- 0 ----"),
-        None
-    );
-    assert_eq!(rt;
-        read_line(b"0000001 -R-R------------ -D-------------- R--- 5 ----"),
-        None
-    );
-    assert_eq!(rt;
-        read_line(b"0000001 -R-R------------ -D-------------- R--- 0 07--"),
-        None
-    );
-    assert_eq!(rt;
-        read_line(b"0000001 -R-R-------------D--------------- R--- 0 ----"),
-        None
-    );
+    assert!(rt; read_line(b"") == None);
+    assert!(rt; read_line(b"ok") == None);
+    assert!(rt; read_line(b"undone tick") == None);
+    assert!(rt; read_line(b"tick 0000031") == None);
+    assert!(rt; read_line(b"0000001 -R-R------------ -D-------------- R--- 0 ---- ") == None);
+    assert!(rt; read_line(b"000000x -R-R------------ -D-------------- R--- 0 ----") == None);
+    assert!(rt; read_line(b"0000001 -R-W------------ -D-------------- R--- 0 ----") == None);
+    assert!(rt; read_line(b"0000001 -R-R------------ -G-------------- R--- 0 ----") == None);
+    assert!(rt; read_line(b"0000001 -R-R------------ -D-------------- D--- 0 ----") == None);
+    assert!(rt; read_line(b"0000001 -R-R------------ -D-------------- R--- 5 ----") == None);
+    assert!(rt; read_line(b"0000001 -R-R------------ -D-------------- R--- 0 07--") == None);
+    assert!(rt; read_line(b"0000001 -R-R-------------D--------------- R--- 0 ----") == None);
 }
 
 #[test]
 fn changes_have_their_events(rt: HostRuntime) -> Result<(), AllocError> {
     let alloc = rt.alloc();
-    assert_eq!(rt; told(alloc, None, RED)?.as_slice(), [].as_slice());
-    assert_eq!(rt;
-        told(alloc, read_line(RED), GREEN)?.as_slice(),
-        [(2, 1, 2), (2, 21, 2), (2, 61, 1)].as_slice()
+    assert!(rt; told(alloc, None, RED)?.as_slice() == [].as_slice());
+    assert!(rt;
+        told(alloc, read_line(RED), GREEN)?.as_slice()
+            == [(2, 1, 2), (2, 21, 2), (2, 61, 1)].as_slice()
     );
-    assert_eq!(rt;
-        told(alloc, read_line(GREEN), CLEARING)?.as_slice(),
-        [(45, 22, 2), (45, 105, 2)].as_slice()
+    assert!(rt;
+        told(alloc, read_line(GREEN), CLEARING)?.as_slice()
+            == [(45, 22, 2), (45, 105, 2)].as_slice()
     );
-    assert_eq!(rt;
-        told(alloc, read_line(CLEARING), YELLOW)?.as_slice(),
-        [(101, 7, 2), (101, 8, 2), (101, 23, 2), (101, 63, 1)].as_slice()
+    assert!(rt;
+        told(alloc, read_line(CLEARING), YELLOW)?.as_slice()
+            == [(101, 7, 2), (101, 8, 2), (101, 23, 2), (101, 63, 1)].as_slice()
     );
-    assert_eq!(rt;
-        told(alloc, read_line(YELLOW), FLASH)?.as_slice(),
-        [(102, 9, 2), (102, 65, 1), (102, 173, 6)].as_slice()
+    assert!(rt;
+        told(alloc, read_line(YELLOW), FLASH)?.as_slice()
+            == [(102, 9, 2), (102, 65, 1), (102, 173, 6)].as_slice()
     );
-    assert_eq!(rt;
-        told(alloc, read_line(FLASH), RED)?.as_slice(),
-        [(1, 173, 2)].as_slice()
+    assert!(rt; told(alloc, read_line(FLASH), RED)?.as_slice() == [(1, 173, 2)].as_slice());
+    assert!(rt;
+        told(alloc, None, LAST)?.as_slice()
+            == [
+                (6_000_000, 1, 16),
+                (6_000_000, 21, 16),
+                (6_000_000, 63, 4),
+                (6_000_000, 105, 4)
+            ]
+            .as_slice()
     );
-    assert_eq!(rt;
-        told(alloc, None, LAST)?.as_slice(),
-        [
-            (6_000_000, 1, 16),
-            (6_000_000, 21, 16),
-            (6_000_000, 63, 4),
-            (6_000_000, 105, 4)
-        ]
-        .as_slice()
-    );
-    assert_eq!(rt;
-        told(alloc, read_line(LAST), LAST)?.as_slice(),
-        [].as_slice()
-    );
+    assert!(rt; told(alloc, read_line(LAST), LAST)?.as_slice() == [].as_slice());
     Ok(())
 }
 
@@ -167,26 +137,23 @@ fn at(tick: u32, line: &[u8]) -> Shown {
 #[test]
 fn a_history_keeps_the_changes_that_remain(rt: HostRuntime) -> Result<(), AllocError> {
     let mut history = History::new(rt.alloc());
-    assert_eq!(rt; history.changes(), [].as_slice());
-    assert_eq!(rt; history.last_tick(), None);
+    assert!(rt; history.changes() == [].as_slice());
+    assert!(rt; history.last_tick() == None);
     history.push(at(1, RED))?;
     history.push(at(2, GREEN))?;
     history.push(at(3, GREEN))?;
     history.push(at(4, YELLOW))?;
     history.push(at(5, YELLOW))?;
-    assert_eq!(rt;
-        history.changes(),
-        [at(1, RED), at(2, GREEN), at(4, YELLOW)].as_slice()
-    );
-    assert_eq!(rt; history.last_tick(), Some(5));
+    assert!(rt; history.changes() == [at(1, RED), at(2, GREEN), at(4, YELLOW)].as_slice());
+    assert!(rt; history.last_tick() == Some(5));
     history.push(at(4, GREEN))?;
-    assert_eq!(rt; history.changes(), [at(1, RED), at(2, GREEN)].as_slice());
-    assert_eq!(rt; history.last_tick(), Some(4));
+    assert!(rt; history.changes() == [at(1, RED), at(2, GREEN)].as_slice());
+    assert!(rt; history.last_tick() == Some(4));
     history.push(at(2, RED))?;
     history.push(at(3, FLASH))?;
-    assert_eq!(rt; history.changes(), [at(1, RED), at(3, FLASH)].as_slice());
+    assert!(rt; history.changes() == [at(1, RED), at(3, FLASH)].as_slice());
     history.push(at(0, RED))?;
-    assert_eq!(rt; history.changes(), [at(0, RED)].as_slice());
-    assert_eq!(rt; history.last_tick(), Some(0));
+    assert!(rt; history.changes() == [at(0, RED)].as_slice());
+    assert!(rt; history.last_tick() == Some(0));
     Ok(())
 }

@@ -77,11 +77,8 @@ fn at(tick: u32, line: &[u8]) -> Shown {
 fn display_lines_among_answers_are_kept(rt: HostRuntime) -> Result<(), HistoryError> {
     let mut reader = ANSWERS;
     let history = read_history(rt.alloc(), &mut reader)?;
-    assert_eq!(rt;
-        history.changes(),
-        [at(1, RED), at(2, GREEN), at(4, YELLOW)].as_slice()
-    );
-    assert_eq!(rt; history.last_tick(), Some(4));
+    assert!(rt; history.changes() == [at(1, RED), at(2, GREEN), at(4, YELLOW)].as_slice());
+    assert!(rt; history.last_tick() == Some(4));
     assert!(rt; reader.is_empty());
     Ok(())
 }
@@ -92,8 +89,8 @@ fn no_answer_leaves_no_line(rt: HostRuntime) -> Result<(), HistoryError> {
     for answers in others {
         let mut reader = answers;
         let history = read_history(rt.alloc(), &mut reader)?;
-        assert_eq!(rt; history.changes(), [].as_slice());
-        assert_eq!(rt; history.last_tick(), None);
+        assert!(rt; history.changes() == [].as_slice());
+        assert!(rt; history.last_tick() == None);
     }
     Ok(())
 }
@@ -115,7 +112,7 @@ fn one_return_is_no_part_of_a_line(rt: HostRuntime) -> Result<(), HistoryError> 
     for (end, is_read) in ends {
         let mut reader = STILL_GREEN.chain(end);
         let history = read_history(rt.alloc(), &mut reader)?;
-        assert_eq!(rt; history.last_tick().is_some(), is_read);
+        assert!(rt; history.last_tick().is_some() == is_read);
     }
     Ok(())
 }
@@ -134,7 +131,7 @@ fn a_display_line_may_stand_behind_none(rt: HostRuntime) -> Result<(), HistoryEr
     for (front, is_read) in fronts {
         let mut reader = front.chain(GREEN);
         let history = read_history(rt.alloc(), &mut reader)?;
-        assert_eq!(rt; history.last_tick().is_some(), is_read);
+        assert!(rt; history.last_tick().is_some() == is_read);
     }
     Ok(())
 }
@@ -149,8 +146,8 @@ fn lines_that_go_back_take_lines_back(rt: HostRuntime) -> Result<(), HistoryErro
 0000003 -G-R------------ -W-------------- G--- 0 ----
 ";
     let history = read_history(rt.alloc(), &mut reader)?;
-    assert_eq!(rt; history.changes(), [at(1, RED), at(3, GREEN)].as_slice());
-    assert_eq!(rt; history.last_tick(), Some(3));
+    assert!(rt; history.changes() == [at(1, RED), at(3, GREEN)].as_slice());
+    assert!(rt; history.last_tick() == Some(3));
     Ok(())
 }
 
@@ -165,10 +162,10 @@ fn a_long_line_is_skipped(rt: HostRuntime) -> Result<(), HistoryError> {
             .chain(b"\n".as_slice())
             .chain(YELLOW);
         let history = read_history(rt.alloc(), &mut reader)?;
-        assert_eq!(rt; history.changes(), [at(1, RED), at(4, YELLOW)].as_slice());
+        assert!(rt; history.changes() == [at(1, RED), at(4, YELLOW)].as_slice());
         let mut reader = RED.chain(io::repeat(b'-').take(length));
         let history = read_history(rt.alloc(), &mut reader)?;
-        assert_eq!(rt; history.changes(), [].as_slice());
+        assert!(rt; history.changes() == [].as_slice());
     }
     Ok(())
 }
@@ -182,11 +179,8 @@ fn pieces_are_read_as_the_whole(rt: HostRuntime) -> Result<(), HistoryError> {
             odd: None,
         };
         let history = read_history(rt.alloc(), &mut reader)?;
-        assert_eq!(rt;
-            history.changes(),
-            [at(1, RED), at(2, GREEN), at(4, YELLOW)].as_slice()
-        );
-        assert_eq!(rt; history.last_tick(), Some(4));
+        assert!(rt; history.changes() == [at(1, RED), at(2, GREEN), at(4, YELLOW)].as_slice());
+        assert!(rt; history.last_tick() == Some(4));
         assert!(rt; reader.left.is_empty());
     }
     Ok(())
@@ -209,7 +203,7 @@ fn a_read_that_fails_ends_the_reading(rt: HostRuntime) {
             };
             let read = read_history(rt.alloc(), &mut reader);
             assert!(rt; matches!(read, Err(HistoryError::Read)));
-            assert_eq!(rt; reader.left.len(), ANSWERS.len() - calls);
+            assert!(rt; reader.left.len() == ANSWERS.len() - calls);
         }
     }
 }
@@ -226,8 +220,8 @@ fn a_read_of_nothing_is_the_end(rt: HostRuntime) -> Result<(), HistoryError> {
         let history = read_history(rt.alloc(), &mut reader)?;
         let mut front = &ANSWERS[..calls];
         let whole = read_history(rt.alloc(), &mut front)?;
-        assert_eq!(rt; history.changes(), whole.changes());
-        assert_eq!(rt; reader.left.len(), ANSWERS.len() - calls);
+        assert!(rt; history.changes() == whole.changes());
+        assert!(rt; reader.left.len() == ANSWERS.len() - calls);
     }
     Ok(())
 }
@@ -240,6 +234,6 @@ fn faults_have_texts(rt: HostRuntime) {
     ] {
         let mut line = Vec::new(rt.alloc());
         assert!(rt; write!(line, "{fault}").is_ok());
-        assert_eq!(rt; line.as_slice(), text.as_bytes());
+        assert!(rt; line.as_slice() == text.as_bytes());
     }
 }

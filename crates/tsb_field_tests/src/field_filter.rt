@@ -143,17 +143,16 @@ fn what_has_no_input_is_counted(rt: HostRuntime) {
     ];
     match said(rt.alloc(), Some(b"7"), &mapped, &lines) {
         Ok(said) => {
-            assert_eq!(rt;
-                said.text.as_slice(),
-                b"0000001 0010000000000000 00000000 0000\n".as_slice()
+            assert!(rt;
+                said.text.as_slice() == b"0000001 0010000000000000 00000000 0000\n".as_slice()
             );
-            assert_eq!(rt; said.fault, None);
-            assert_eq!(rt;
-                said.left_out,
-                LeftOut {
-                    of_other_devices: 2,
-                    without_input: 3
-                }
+            assert!(rt; said.fault == None);
+            assert!(rt;
+                said.left_out
+                    == LeftOut {
+                        of_other_devices: 2,
+                        without_input: 3
+                    }
             );
         }
         Err(_) => assert!(rt; false),
@@ -163,39 +162,31 @@ fn what_has_no_input_is_counted(rt: HostRuntime) {
 #[test]
 fn faults_name_their_lines(rt: HostRuntime) {
     let first = b"7,2026-11-22 07:00:01,82,2".as_slice();
-    assert_eq!(rt;
-        fault_of(rt.alloc(), &[first, b"7,2026-11-22 07:00:01,82"]),
-        Some(FilterError::Malformed(2))
+    assert!(rt;
+        fault_of(rt.alloc(), &[first, b"7,2026-11-22 07:00:01,82"])
+            == Some(FilterError::Malformed(2))
     );
-    assert_eq!(rt;
-        fault_of(rt.alloc(), &[b"", first, b"7,2026-11-22 07:00:00.9,1,2"]),
-        Some(FilterError::TimeOrder(3))
+    assert!(rt;
+        fault_of(rt.alloc(), &[b"", first, b"7,2026-11-22 07:00:00.9,1,2"])
+            == Some(FilterError::TimeOrder(3))
     );
-    assert_eq!(rt;
-        fault_of(rt.alloc(), &[first, b"7,2026-11-29 05:40:00,82,2"]),
-        Some(FilterError::PastEnd)
+    assert!(rt;
+        fault_of(rt.alloc(), &[first, b"7,2026-11-29 05:40:00,82,2"]) == Some(FilterError::PastEnd)
     );
-    assert_eq!(rt;
-        fault_of(rt.alloc(), &[first, b"7,2026-11-29 05:40:00,1,2"]),
-        None
-    );
-    assert_eq!(rt;
+    assert!(rt; fault_of(rt.alloc(), &[first, b"7,2026-11-29 05:40:00,1,2"]) == None);
+    assert!(rt;
         fault_of(
             rt.alloc(),
             &[first, b"SignalID,Timestamp,EventCode,EventParam"]
-        ),
-        Some(FilterError::Malformed(2))
+        ) == Some(FilterError::Malformed(2))
     );
-    assert_eq!(rt; fault_of(rt.alloc(), &[]), None);
+    assert!(rt; fault_of(rt.alloc(), &[]) == None);
 }
 
 #[test]
 fn a_line_has_at_most_1000_bytes(rt: HostRuntime) {
     let mut long = [b' '; 1001];
     long[0] = b'#';
-    assert_eq!(rt; fault_of(rt.alloc(), &[&long[..1000]]), None);
-    assert_eq!(rt;
-        fault_of(rt.alloc(), &[&long]),
-        Some(FilterError::Malformed(1))
-    );
+    assert!(rt; fault_of(rt.alloc(), &[&long[..1000]]) == None);
+    assert!(rt; fault_of(rt.alloc(), &[&long]) == Some(FilterError::Malformed(1)));
 }

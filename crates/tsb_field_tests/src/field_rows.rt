@@ -39,21 +39,21 @@ fn goes(on: bool, nanos: u128) -> InputEvent {
 
 #[test]
 fn rows_have_39_bytes(rt: HostRuntime) {
-    assert_eq!(rt;
-        row_line(row(1_234_567, 4, 0, 0)).as_slice(),
-        b"1234567 0010000000000000 00000000 0000\n".as_slice()
+    assert!(rt;
+        row_line(row(1_234_567, 4, 0, 0)).as_slice()
+            == b"1234567 0010000000000000 00000000 0000\n".as_slice()
     );
-    assert_eq!(rt;
-        row_line(row(42, 0x8001, 0x80, 9)).as_slice(),
-        b"0000042 1000000000000001 00000001 1001\n".as_slice()
+    assert!(rt;
+        row_line(row(42, 0x8001, 0x80, 9)).as_slice()
+            == b"0000042 1000000000000001 00000001 1001\n".as_slice()
     );
-    assert_eq!(rt;
-        row_line(row(6_000_000, 0xffff, 0xff, 0xf)).as_slice(),
-        b"6000000 1111111111111111 11111111 1111\n".as_slice()
+    assert!(rt;
+        row_line(row(6_000_000, 0xffff, 0xff, 0xf)).as_slice()
+            == b"6000000 1111111111111111 11111111 1111\n".as_slice()
     );
-    assert_eq!(rt;
-        row_line(row(1, 0, 0, 0)).as_slice(),
-        b"0000001 0000000000000000 00000000 0000\n".as_slice()
+    assert!(rt;
+        row_line(row(1, 0, 0, 0)).as_slice()
+            == b"0000001 0000000000000000 00000000 0000\n".as_slice()
     );
     laws::rows_add_up();
 }
@@ -61,7 +61,7 @@ fn rows_have_39_bytes(rt: HostRuntime) {
 #[test]
 fn channels_lead_to_their_own_inputs(rt: HostRuntime) -> Result<(), Fail> {
     let all = wires(rt.alloc(), &[])?;
-    assert_eq!(rt; all.len(), 28);
+    assert!(rt; all.len() == 28);
     for (kind, most) in [
         (Kind::Vehicle, 16u8),
         (Kind::Pedestrian, 8),
@@ -85,8 +85,8 @@ fn mapped_channels_lead_only_there(rt: HostRuntime) -> Result<(), Fail> {
     };
     let mapped = [WIRE, fourth, Wire { input: 3, ..fourth }];
     let all = wires(rt.alloc(), mapped.as_slice())?;
-    assert_eq!(rt; all.len(), 30);
-    assert_eq!(rt; &all.as_slice()[..3], mapped.as_slice());
+    assert!(rt; all.len() == 30);
+    assert!(rt; &all.as_slice()[..3] == mapped.as_slice());
     let own = Wire {
         kind: Kind::Preempt,
         channel: 1,
@@ -105,7 +105,7 @@ fn mapped_channels_lead_only_there(rt: HostRuntime) -> Result<(), Fail> {
             ..own
         },
     ];
-    assert_eq!(rt; &all.as_slice()[27..], preempts.as_slice());
+    assert!(rt; &all.as_slice()[27..] == preempts.as_slice());
     assert!(rt; is_wired(all.as_slice(), Kind::Vehicle, 21));
     assert!(rt; !is_wired(all.as_slice(), Kind::Pedestrian, 21));
     assert!(rt; is_wired(all.as_slice(), Kind::Vehicle, 2));
@@ -141,44 +141,41 @@ fn logs_tell_the_ticks_that_inputs_are_on(rt: HostRuntime) -> Result<(), Fail> {
         rt.alloc(),
         &[goes(true, 1_150_000_000), goes(false, 1_250_000_000)],
     )?;
-    assert_eq!(rt;
-        within.as_slice(),
-        b"0000002 0010000000000000 00000000 0000\n0000004 0000000000000000 00000000 0000\n".as_slice()
+    assert!(rt;
+        within.as_slice()
+            == b"0000002 0010000000000000 00000000 0000\n0000004 0000000000000000 00000000 0000\n".as_slice()
     );
     let pulse = log(
         rt.alloc(),
         &[goes(true, 1_150_000_000), goes(false, 1_150_000_000)],
     )?;
-    assert_eq!(rt;
-        pulse.as_slice(),
-        b"0000002 0010000000000000 00000000 0000\n0000003 0000000000000000 00000000 0000\n".as_slice()
+    assert!(rt;
+        pulse.as_slice()
+            == b"0000002 0010000000000000 00000000 0000\n0000003 0000000000000000 00000000 0000\n".as_slice()
     );
     let before = log(
         rt.alloc(),
         &[goes(true, 900_000_000), goes(false, 1_050_000_000)],
     )?;
-    assert_eq!(rt;
-        before.as_slice(),
-        b"0000001 0010000000000000 00000000 0000\n0000002 0000000000000000 00000000 0000\n".as_slice()
+    assert!(rt;
+        before.as_slice()
+            == b"0000001 0010000000000000 00000000 0000\n0000002 0000000000000000 00000000 0000\n".as_slice()
     );
     let last = log(rt.alloc(), &[goes(true, START + 599_999_900_000_000)])?;
-    assert_eq!(rt;
-        last.as_slice(),
-        b"6000000 0010000000000000 00000000 0000\n".as_slice()
-    );
+    assert!(rt; last.as_slice() == b"6000000 0010000000000000 00000000 0000\n".as_slice());
     Ok(())
 }
 
 #[test]
 fn events_past_the_last_tick_are_refused(rt: HostRuntime) -> Result<(), Fail> {
     let mut field = Field::new(rt.alloc(), START, &[WIRE])?;
-    assert_eq!(rt; field.push(goes(true, START + 600_000_000_000_000)), None);
-    assert_eq!(rt;
-        field.finish(),
-        Rows {
-            first: None,
-            second: None
-        }
+    assert!(rt; field.push(goes(true, START + 600_000_000_000_000)) == None);
+    assert!(rt;
+        field.finish()
+            == Rows {
+                first: None,
+                second: None
+            }
     );
     Ok(())
 }

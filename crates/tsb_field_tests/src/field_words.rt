@@ -35,40 +35,40 @@ fn log_words_name_wires(rt: HostRuntime) {
                 wires,
             },
         ) => {
-            assert_eq!(rt; Some(from), read_moment(b"2026-11-22 07:00:00.1"));
-            assert_eq!(rt; device, None);
-            assert_eq!(rt; wires.len(), 4);
-            assert_eq!(rt;
-                wires[0],
-                Wire {
-                    kind: Kind::Vehicle,
-                    channel: 12,
-                    input: 3
-                }
+            assert!(rt; Some(from) == read_moment(b"2026-11-22 07:00:00.1"));
+            assert!(rt; device == None);
+            assert!(rt; wires.len() == 4);
+            assert!(rt;
+                wires[0]
+                    == Wire {
+                        kind: Kind::Vehicle,
+                        channel: 12,
+                        input: 3
+                    }
             );
-            assert_eq!(rt;
-                wires[1],
-                Wire {
-                    kind: Kind::Vehicle,
-                    channel: 4_294_967_295,
-                    input: 16
-                }
+            assert!(rt;
+                wires[1]
+                    == Wire {
+                        kind: Kind::Vehicle,
+                        channel: 4_294_967_295,
+                        input: 16
+                    }
             );
-            assert_eq!(rt;
-                wires[2],
-                Wire {
-                    kind: Kind::Pedestrian,
-                    channel: 0,
-                    input: 8
-                }
+            assert!(rt;
+                wires[2]
+                    == Wire {
+                        kind: Kind::Pedestrian,
+                        channel: 0,
+                        input: 8
+                    }
             );
-            assert_eq!(rt;
-                wires[3],
-                Wire {
-                    kind: Kind::Preempt,
-                    channel: 2,
-                    input: 4
-                }
+            assert!(rt;
+                wires[3]
+                    == Wire {
+                        kind: Kind::Preempt,
+                        channel: 2,
+                        input: 4
+                    }
             );
         }
         _ => panic!(rt; "no log"),
@@ -91,8 +91,8 @@ fn log_words_name_a_device(rt: HostRuntime) {
                 wires,
             },
         ) => {
-            assert_eq!(rt; Some(from), read_moment(b"2026-11-22T07:00:00"));
-            assert_eq!(rt; device, Some("-7"));
+            assert!(rt; Some(from) == read_moment(b"2026-11-22T07:00:00"));
+            assert!(rt; device == Some("-7"));
             assert!(rt; wires.is_empty());
         }
         _ => panic!(rt; "no log"),
@@ -113,9 +113,9 @@ fn events_words(rt: HostRuntime) {
     ];
     match read_words(rt.alloc(), words.as_slice()) {
         Ok(Asked::Events { from, device, log }) => {
-            assert_eq!(rt; Some(from), read_moment(b"2026-11-22 07:00:00"));
-            assert_eq!(rt; device, "1001");
-            assert_eq!(rt; log, Some("a.log"));
+            assert!(rt; Some(from) == read_moment(b"2026-11-22 07:00:00"));
+            assert!(rt; device == "1001");
+            assert!(rt; log == Some("a.log"));
         }
         _ => panic!(rt; "no events"),
     }
@@ -139,9 +139,9 @@ fn diagram_words(rt: HostRuntime) {
                 seconds_per_line,
             },
         ) => {
-            assert_eq!(rt; log, Some("b.log"));
-            assert_eq!(rt; title, Some("Main and 5th"));
-            assert_eq!(rt; seconds_per_line, Some(86_400));
+            assert!(rt; log == Some("b.log"));
+            assert!(rt; title == Some("Main and 5th"));
+            assert!(rt; seconds_per_line == Some(86_400));
         }
         _ => panic!(rt; "no diagram"),
     }

@@ -101,19 +101,19 @@ fn rounds_are_taken_and_taken_back(rt: HostRuntime) -> Result<(), Fail> {
     let Ok((mut bench, answers)) = play(rt.alloc(), plan, &commands) else {
         panic!(rt; "no memory");
     };
-    assert_eq!(rt; answers.len(), 30_000);
+    assert!(rt; answers.len() == 30_000);
     for answer in &answers {
-        assert_eq!(rt; *answer, Answer::Took);
+        assert!(rt; *answer == Answer::Took);
     }
-    assert_eq!(rt; bench.now(), 4000);
-    assert_eq!(rt; bench.plan().maximum(Phase::of(2)), 300);
+    assert!(rt; bench.now() == 4000);
+    assert!(rt; bench.plan().maximum(Phase::of(2)) == 300);
     let Ok(mut copy) = bench.clone_in(rt.alloc()) else {
         panic!(rt; "no memory");
     };
     assert!(rt; is_taken_back(&mut bench));
     assert!(rt; is_taken_back(&mut copy));
-    assert_eq!(rt; copy.now(), 0);
-    assert_eq!(rt; *copy.plan(), Plan::quad());
+    assert!(rt; copy.now() == 0);
+    assert!(rt; *copy.plan() == Plan::quad());
     Ok(())
 }
 
@@ -130,16 +130,16 @@ fn many_commands_are_answered(rt: HostRuntime) -> Result<(), Fail> {
     let Ok((bench, answers)) = play(rt.alloc(), plan, &commands) else {
         panic!(rt; "no memory");
     };
-    assert_eq!(rt; answers.len(), commands.len());
+    assert!(rt; answers.len() == commands.len());
     for answer in &answers {
-        assert_eq!(rt; *answer, Answer::Took);
+        assert!(rt; *answer == Answer::Took);
     }
     let Ok(mut copy) = bench.clone_in(rt.alloc()) else {
         panic!(rt; "no memory");
     };
-    assert_eq!(rt; copy.now(), MANY);
-    assert_eq!(rt; copy.seek(0), Ok(()));
-    assert_eq!(rt; copy.undo(), Err(Nothing));
+    assert!(rt; copy.now() == MANY);
+    assert!(rt; copy.seek(0) == Ok(()));
+    assert!(rt; copy.undo() == Err(Nothing));
     Ok(())
 }
 
@@ -151,7 +151,7 @@ fn a_long_history_is_copied(rt: HostRuntime) -> Result<(), Fail> {
         history.push(Kind::Tick, &[(5, value)]);
     }
     let copy = history.clone_in(rt.alloc())?;
-    assert_eq!(rt; copy.len(), 1_100_000);
+    assert!(rt; copy.len() == 1_100_000);
     assert!(rt; copy.bytes() == history.bytes());
     Ok(())
 }
@@ -181,10 +181,7 @@ fn many_rows_are_read(rt: HostRuntime) -> Result<(), Fail> {
     };
     let mut place = 0;
     for tick in [1, 2, 65_536, 65_537, 1_000_000, 1_000_001, MANY - 1, MANY] {
-        assert_eq!(rt;
-            u32::from(log.row(tick, &mut place).vehicles.list()),
-            tick % 2
-        );
+        assert!(rt; u32::from(log.row(tick, &mut place).vehicles.list()) == tick % 2);
     }
     let length = text.len();
     text.extend_from_slice(b"0000001 0000000000000000 00000000 0000\n")?;

@@ -78,8 +78,8 @@ fn plays(rt: HostRuntime) {
         assert!(rt; false);
         return;
     };
-    assert_eq!(rt; answers.as_slice(), wanted.as_slice());
-    assert_eq!(rt; bench.now(), 0);
+    assert!(rt; answers.as_slice() == wanted.as_slice());
+    assert!(rt; bench.now() == 0);
 }
 
 /// Phase 2 has 10 seconds of green, phase 4 has 8, each with 3 of yellow and 1 of red clearance.
@@ -107,29 +107,29 @@ fn shows_and_winds_back(rt: HostRuntime) {
         assert!(rt; false);
         return;
     };
-    assert_eq!(rt; bench.undo(), Err(Nothing));
+    assert!(rt; bench.undo() == Err(Nothing));
     for (number, first, second) in wanted {
         for _ in bench.now()..number {
             assert!(rt; bench.apply(tick()).is_ok());
         }
-        assert_eq!(rt; pair(&bench), (first, second), "at tick {number}");
+        assert!(rt; pair(&bench) == (first, second), "at tick {number}");
     }
     let Ok(copy) = bench.clone_in(rt.alloc()) else {
         assert!(rt; false);
         return;
     };
-    assert_eq!(rt; bench.seek(262), Err(Nothing));
+    assert!(rt; bench.seek(262) == Err(Nothing));
     for number in [251, 221, 141, 131, 101, 100, 1, 0] {
-        assert_eq!(rt; bench.seek(number), Ok(()));
-        assert_eq!(rt; bench.now(), number);
+        assert!(rt; bench.seek(number) == Ok(()));
+        assert!(rt; bench.now() == number);
         for (at, first, second) in wanted {
             if at == number {
-                assert_eq!(rt; pair(&bench), (first, second), "back at tick {number}");
+                assert!(rt; pair(&bench) == (first, second), "back at tick {number}");
             }
         }
     }
-    assert_eq!(rt; copy.now(), 261);
-    assert_eq!(rt; pair(&copy), (Aspect::Green, Aspect::Red));
+    assert!(rt; copy.now() == 261);
+    assert!(rt; pair(&copy) == (Aspect::Green, Aspect::Red));
 }
 
 /// A commit changes the plan, and its undo gives it back with the edits, which may then be committed again.
@@ -145,9 +145,9 @@ fn takes_back_each_kind(rt: HostRuntime) {
     };
     for _round in 0..2 {
         for input in each_kind() {
-            assert_eq!(rt; bench.apply(input), Ok(()));
+            assert!(rt; bench.apply(input) == Ok(()));
         }
-        assert_eq!(rt; bench.plan().yellow_change(Phase::of(2)), 35);
+        assert!(rt; bench.plan().yellow_change(Phase::of(2)) == 35);
         let kinds = [
             Kind::Tick,
             Kind::Reset,
@@ -159,18 +159,18 @@ fn takes_back_each_kind(rt: HostRuntime) {
             Kind::Commit,
         ];
         for kind in kinds {
-            assert_eq!(rt; bench.undo(), Ok(kind));
+            assert!(rt; bench.undo() == Ok(kind));
         }
-        assert_eq!(rt; bench.plan().yellow_change(Phase::of(2)), 30);
-        assert_eq!(rt; bench.desk().edits().len(), 1);
+        assert!(rt; bench.plan().yellow_change(Phase::of(2)) == 30);
+        assert!(rt; bench.desk().edits().len() == 1);
         let commit = Input::Commit(Station::of(1));
-        assert_eq!(rt; answer(&mut bench, Cmd::Apply(commit)), Answer::Took);
-        assert_eq!(rt; bench.plan().yellow_change(Phase::of(2)), 35);
+        assert!(rt; answer(&mut bench, Cmd::Apply(commit)) == Answer::Took);
+        assert!(rt; bench.plan().yellow_change(Phase::of(2)) == 35);
         for kind in [Kind::Commit, Kind::Verify, Kind::Set, Kind::Begin] {
-            assert_eq!(rt; bench.undo(), Ok(kind));
+            assert!(rt; bench.undo() == Ok(kind));
         }
-        assert_eq!(rt; bench.desk().owner(), None);
-        assert_eq!(rt; bench.undo(), Err(Nothing));
+        assert!(rt; bench.desk().owner() == None);
+        assert!(rt; bench.undo() == Err(Nothing));
     }
 }
 
@@ -198,9 +198,9 @@ fn keeps_plans_that_break_a_rule_out(rt: HostRuntime) {
         Answer::Took,
         Answer::Refused(Refusal::NotVerified),
     ];
-    assert_eq!(rt; answers.as_slice(), wanted.as_slice());
-    assert_eq!(rt; bench.desk().rule(), Some(Rule::K8));
-    assert_eq!(rt; *bench.plan(), Plan::two());
+    assert!(rt; answers.as_slice() == wanted.as_slice());
+    assert!(rt; bench.desk().rule() == Some(Rule::K8));
+    assert!(rt; *bench.plan() == Plan::two());
 }
 
 /// With ample memory no tick is refused up to the last one that there is, the bench can be copied there, and all can be
@@ -220,16 +220,16 @@ fn runs_to_the_last_tick(rt: HostRuntime) {
             break;
         }
     }
-    assert_eq!(rt; bench.now(), Bench::TICKS);
-    assert_eq!(rt; bench.apply(tick()), Err(Refusal::TickLimit));
+    assert!(rt; bench.now() == Bench::TICKS);
+    assert!(rt; bench.apply(tick()) == Err(Refusal::TickLimit));
     let Ok(mut copy) = bench.clone_in(rt.alloc()) else {
         assert!(rt; false);
         return;
     };
-    assert_eq!(rt; copy.now(), Bench::TICKS);
-    assert_eq!(rt; copy.apply(tick()), Err(Refusal::TickLimit));
-    assert_eq!(rt; copy.seek(0), Ok(()));
-    assert_eq!(rt; copy.undo(), Err(Nothing));
-    assert_eq!(rt; bench.seek(0), Ok(()));
-    assert_eq!(rt; bench.undo(), Err(Nothing));
+    assert!(rt; copy.now() == Bench::TICKS);
+    assert!(rt; copy.apply(tick()) == Err(Refusal::TickLimit));
+    assert!(rt; copy.seek(0) == Ok(()));
+    assert!(rt; copy.undo() == Err(Nothing));
+    assert!(rt; bench.seek(0) == Ok(()));
+    assert!(rt; bench.undo() == Err(Nothing));
 }

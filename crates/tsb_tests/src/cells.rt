@@ -58,17 +58,17 @@ fn changes_are_given_and_taken_back(rt: HostRuntime) {
     bank.put(2, 8);
     bank.put(2, 6);
     let changes = bank.close();
-    assert_eq!(rt; changes.as_slice(), [(1, 5), (3, 0)].as_slice());
-    assert_eq!(rt; bank.row::<4>(0), [0, 7, 6, 9]);
+    assert!(rt; changes.as_slice() == [(1, 5), (3, 0)].as_slice());
+    assert!(rt; bank.row::<4>(0) == [0, 7, 6, 9]);
 
     bank.undo(changes.as_slice());
-    assert_eq!(rt; bank.get(1), 5);
-    assert_eq!(rt; bank.row::<4>(0), [0, 5, 6, 0]);
+    assert!(rt; bank.get(1) == 5);
+    assert!(rt; bank.row::<4>(0) == [0, 5, 6, 0]);
 
     bank.open();
     bank.put(0, 1);
     abandon(&mut bank);
-    assert_eq!(rt; bank.row::<4>(0), [0, 5, 6, 0]);
+    assert!(rt; bank.row::<4>(0) == [0, 5, 6, 0]);
 }
 
 #[test]
@@ -80,20 +80,20 @@ fn values_are_kept_in_cells(rt: HostRuntime) {
     };
     bank.open();
     bank.store(100, 2, reading);
-    assert_eq!(rt; bank.row::<6>(0), [0, 0, 3, 101, 0, 0]);
+    assert!(rt; bank.row::<6>(0) == [0, 0, 3, 101, 0, 0]);
     let later = Reading {
         count: 3,
         presence: Timer::On(20),
     };
-    assert_eq!(rt; bank.load::<2, Reading>(120, 2), later);
-    assert_eq!(rt; bank.load::<2, Reading>(120, 4).presence, Timer::Off);
+    assert!(rt; bank.load::<2, Reading>(120, 2) == later);
+    assert!(rt; bank.load::<2, Reading>(120, 4).presence == Timer::Off);
 }
 
 #[test]
 fn timers_are_read(rt: HostRuntime) {
     let timer = Timer::On(19).advanced();
-    assert_eq!(rt; timer, Timer::On(20));
-    assert_eq!(rt; timer.started(), Timer::On(20));
+    assert!(rt; timer == Timer::On(20));
+    assert!(rt; timer.started() == Timer::On(20));
     assert!(rt; timer.is_on() && !Timer::Off.is_on());
     assert!(rt; timer.has_reached(20) && !timer.has_reached(21) && !Timer::Off.has_reached(0));
     assert!(rt; timer.is_below(21) && !timer.is_below(20) && !Timer::Off.is_below(1));
@@ -111,5 +111,5 @@ fn layers_share_one_numbering(rt: HostRuntime) {
     let mut all = ArrayVec::<(u16, u32), 5>::new();
     first.close_onto(&mut all, 0);
     second.close_onto(&mut all, 2);
-    assert_eq!(rt; all.as_slice(), [(1, 0), (2, 0), (4, 0)].as_slice());
+    assert!(rt; all.as_slice() == [(1, 0), (2, 0), (4, 0)].as_slice());
 }

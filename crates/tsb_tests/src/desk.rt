@@ -13,8 +13,8 @@ fn keeps_its_room_through_undo(rt: HostRuntime) -> Result<(), Fail> {
             let mut desk = desk;
             let s = Station::of(1);
             desk.open();
-            assert_eq!(rt; desk.begin(s), Ok(()));
-            assert_eq!(rt; desk.begin(s), Err(Refusal::Busy(s)));
+            assert!(rt; desk.begin(s) == Ok(()));
+            assert!(rt; desk.begin(s) == Err(Refusal::Busy(s)));
             let _ = desk.close();
             desk.open();
             for index in 1..65u32 {
@@ -22,7 +22,7 @@ fn keeps_its_room_through_undo(rt: HostRuntime) -> Result<(), Fail> {
                     object: Object::SplitTime,
                     index,
                 };
-                assert_eq!(rt; desk.set(s, id, index), Ok(()));
+                assert!(rt; desk.set(s, id, index) == Ok(()));
             }
             let _ = desk.close();
             let next = ObjectId {
@@ -33,15 +33,15 @@ fn keeps_its_room_through_undo(rt: HostRuntime) -> Result<(), Fail> {
                 object: Object::SplitTime,
                 index: 1,
             };
-            assert_eq!(rt; desk.set_refusal(s, next, 1), Some(Refusal::TooManyEdits));
-            assert_eq!(rt; desk.set_refusal(s, first, 9), None);
-            assert_eq!(rt; desk.edits().len(), 64);
+            assert!(rt; desk.set_refusal(s, next, 1) == Some(Refusal::TooManyEdits));
+            assert!(rt; desk.set_refusal(s, first, 9) == None);
+            assert!(rt; desk.edits().len() == 64);
             desk.open();
-            assert_eq!(rt; desk.abort(s), Ok(()));
-            assert_eq!(rt; desk.owner(), None);
+            assert!(rt; desk.abort(s) == Ok(()));
+            assert!(rt; desk.owner() == None);
             abandon(&mut desk);
-            assert_eq!(rt; desk.set_refusal(s, next, 1), Some(Refusal::TooManyEdits));
-            assert_eq!(rt; desk.edits().len(), 64);
+            assert!(rt; desk.set_refusal(s, next, 1) == Some(Refusal::TooManyEdits));
+            assert!(rt; desk.edits().len() == 64);
         }
         Err(_) => assert!(rt; false, "no memory"),
     }

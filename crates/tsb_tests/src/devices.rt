@@ -199,8 +199,8 @@ fn a_read_that_fails_ends_a_session(rt: HostRuntime) {
                 }
                 assert!(rt; matches!(ended, Some(Err(SessionError::Read))));
                 assert!(rt; writer.is_prefix);
-                assert_eq!(rt; Some(writer.taken), answered(rt.alloc(), whole_lines(read)));
-                assert_eq!(rt; reader.left.len(), INPUT.len() - read);
+                assert!(rt; Some(writer.taken) == answered(rt.alloc(), whole_lines(read)));
+                assert!(rt; reader.left.len() == INPUT.len() - read);
             }
         }
     }
@@ -218,7 +218,7 @@ fn a_read_of_nothing_is_the_end(rt: HostRuntime) {
         };
         let ended = talk(rt.alloc(), &mut reader, &mut writer);
         assert!(rt; matches!(ended, Some(Ok(()))));
-        assert_eq!(rt; reader.left.len(), INPUT.len() - calls);
+        assert!(rt; reader.left.len() == INPUT.len() - calls);
     }
 }
 
@@ -241,7 +241,7 @@ fn a_write_that_fails_ends_a_session(rt: HostRuntime) {
                 assert!(rt; writer.is_prefix);
                 if writer.writes.left.is_some() {
                     assert!(rt; matches!(ended, Some(Ok(()))));
-                    assert_eq!(rt; writer.taken, OUTPUT.len());
+                    assert!(rt; writer.taken == OUTPUT.len());
                     break;
                 }
                 assert!(rt; matches!(ended, Some(Err(SessionError::Write))));
@@ -266,7 +266,7 @@ fn a_flush_that_fails_ends_a_session(rt: HostRuntime) {
             assert!(rt; writer.is_prefix);
             if writer.flushes.left.is_some() {
                 assert!(rt; matches!(ended, Some(Ok(()))));
-                assert_eq!(rt; writer.taken, OUTPUT.len());
+                assert!(rt; writer.taken == OUTPUT.len());
                 break;
             }
             assert!(rt; matches!(ended, Some(Err(SessionError::Write))));

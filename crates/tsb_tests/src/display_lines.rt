@@ -40,28 +40,16 @@ fn tells_what_heads_show(rt: HostRuntime) {
     let plan = quad(&rt);
     let walking = shown(&plan, 34, 0, 2, 0, false);
     let text = line(1, &walking, None, None);
-    assert_eq!(rt;
-        text.as_str(),
-        "0000001 RGRRRGRR-------- -W-------------- G--- 0 ----"
-    );
+    assert!(rt; text.as_str() == "0000001 RGRRRGRR-------- -W-------------- G--- 0 ----");
     let clearing = shown(&plan, 34, 0, 0, 2, false);
     let text = line(70, &clearing, Some(Preempt::of(2)), None);
-    assert_eq!(rt;
-        text.as_str(),
-        "0000070 RGRRRGRR-------- -C-------------- G--- 2 ----"
-    );
+    assert!(rt; text.as_str() == "0000070 RGRRRGRR-------- -C-------------- G--- 2 ----");
     let yellow = shown(&plan, 0, 34, 0, 0, false);
     let text = line(760, &yellow, None, Some(760));
-    assert_eq!(rt;
-        text.as_str(),
-        "0000760 RYRRRYRR-------- -D-------------- Y--- 0 0760"
-    );
+    assert!(rt; text.as_str() == "0000760 RYRRRYRR-------- -D-------------- Y--- 0 0760");
     let red = shown(&plan, 0, 0, 0, 0, false);
     let text = line(6_000_000, &red, None, Some(0));
-    assert_eq!(rt;
-        text.as_str(),
-        "6000000 RRRRRRRR-------- -D-------------- R--- 0 0000"
-    );
+    assert!(rt; text.as_str() == "6000000 RRRRRRRR-------- -D-------------- R--- 0 0000");
 }
 
 #[test]
@@ -69,8 +57,5 @@ fn tells_flash(rt: HostRuntime) {
     let plan = quad(&rt);
     let flashing = shown(&plan, 34, 0, 2, 0, true);
     let bytes = line_bytes(251, &flashing, Some(Preempt::of(1)), None);
-    assert_eq!(rt;
-        bytes,
-        *b"0000251 FFFFFFFF-------- ---------------- F--- 1 ----"
-    );
+    assert!(rt; bytes == *b"0000251 FFFFFFFF-------- ---------------- F--- 1 ----");
 }

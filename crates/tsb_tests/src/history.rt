@@ -16,7 +16,7 @@ fn spells_and_takes_back(rt: HostRuntime) -> Result<(), Fail> {
         0x00, 0x00, 0x00, 0x04, 0x00, 0x00, 0x05, 0x00, 0x01, 0x00, 0x00, 0x00, 0x2C, 0x01, 0x00,
         0x00, 0x01, 0x00, 0x00, 0x02, 0x00,
     ];
-    assert_eq!(rt; history.bytes(), spelled.as_slice());
+    assert!(rt; history.bytes() == spelled.as_slice());
 
     let wanted = [
         (Kind::Tick, 2, Some((5, 1)), Some((300, 65536))),
@@ -25,7 +25,7 @@ fn spells_and_takes_back(rt: HostRuntime) -> Result<(), Fail> {
     ];
     let mut found = Vec::new(rt.alloc());
     for record in history.walk_back() {
-        assert_eq!(rt; record.is_empty(), record.len() == 0);
+        assert!(rt; record.is_empty() == (record.len() == 0));
         found.push((
             record.kind(),
             record.len(),
@@ -33,18 +33,18 @@ fn spells_and_takes_back(rt: HostRuntime) -> Result<(), Fail> {
             record.entry(1),
         ))?;
     }
-    assert_eq!(rt; found.as_slice(), wanted.as_slice());
+    assert!(rt; found.as_slice() == wanted.as_slice());
 
     let newest = history
         .last()
         .map(|record| (record.kind(), record.entry(1), record.entry(2)));
-    assert_eq!(rt; newest, Some((Kind::Tick, Some((300, 65536)), None)));
-    assert_eq!(rt; history.len(), 3);
-    assert_eq!(rt; history.pop(), Some(Kind::Tick));
-    assert_eq!(rt; history.bytes(), &spelled[..6]);
-    assert_eq!(rt; history.pop(), Some(Kind::Reset));
-    assert_eq!(rt; history.pop(), Some(Kind::Tick));
-    assert_eq!(rt; history.pop(), None);
+    assert!(rt; newest == Some((Kind::Tick, Some((300, 65536)), None)));
+    assert!(rt; history.len() == 3);
+    assert!(rt; history.pop() == Some(Kind::Tick));
+    assert!(rt; history.bytes() == &spelled[..6]);
+    assert!(rt; history.pop() == Some(Kind::Reset));
+    assert!(rt; history.pop() == Some(Kind::Tick));
+    assert!(rt; history.pop() == None);
     assert!(rt; history.is_empty());
     Ok(())
 }
@@ -53,15 +53,15 @@ fn spells_and_takes_back(rt: HostRuntime) -> Result<(), Fail> {
 fn finds_memory(rt: HostRuntime) -> Result<(), Fail> {
     let mut history = History::new(rt.alloc());
     assert!(rt; history.reserve(10).is_ok());
-    assert_eq!(rt; history.len(), 0);
-    assert_eq!(rt; history.pop(), None);
+    assert!(rt; history.len() == 0);
+    assert!(rt; history.pop() == None);
     let empty = history.clone_in(rt.alloc())?;
-    assert_eq!(rt; empty.bytes(), history.bytes());
+    assert!(rt; empty.bytes() == history.bytes());
     history.reserve(1)?;
     history.push(Kind::Commit, &[(65535, 4294967295)]);
     let copy = history.clone_in(rt.alloc())?;
-    assert_eq!(rt; copy.bytes(), history.bytes());
-    assert_eq!(rt; copy.len(), 1);
+    assert!(rt; copy.bytes() == history.bytes());
+    assert!(rt; copy.len() == 1);
     Ok(())
 }
 
@@ -83,8 +83,8 @@ fn keeps_each_kind(rt: HostRuntime) -> Result<(), Fail> {
     for code in 0..kinds.len() {
         history.reserve(0)?;
         history.push(kinds[code], &[]);
-        assert_eq!(rt; history.bytes(), [code as u8, 0, 0].as_slice());
-        assert_eq!(rt; history.pop(), Some(kinds[code]));
+        assert!(rt; history.bytes() == [code as u8, 0, 0].as_slice());
+        assert!(rt; history.pop() == Some(kinds[code]));
     }
     Ok(())
 }

@@ -6,15 +6,15 @@ use tsb_lines::{is_skipped, laws, next_line, next_word, number, without_return};
 fn lines_end_at_line_feeds(rt: HostRuntime) {
     let text = b"one\r\ntwo\r\r\n\nlast\r".as_slice();
     let (line, rest) = next_line(text);
-    assert_eq!(rt; line, b"one".as_slice());
+    assert!(rt; line == b"one".as_slice());
     let (line, rest) = next_line(rest.unwrap_or(b"".as_slice()));
-    assert_eq!(rt; line, b"two\r".as_slice());
+    assert!(rt; line == b"two\r".as_slice());
     let (line, rest) = next_line(rest.unwrap_or(b"".as_slice()));
     assert!(rt; line.is_empty());
     let (line, rest) = next_line(rest.unwrap_or(b"".as_slice()));
-    assert_eq!(rt; line, b"last\r".as_slice());
+    assert!(rt; line == b"last\r".as_slice());
     assert!(rt; rest.is_none());
-    assert_eq!(rt; without_return(line), b"last".as_slice());
+    assert!(rt; without_return(line) == b"last".as_slice());
     laws::lines_make_up_the_text();
 }
 
@@ -31,14 +31,14 @@ fn words_spell_numbers(rt: HostRuntime) {
         b"".as_slice(),
         b"".as_slice(),
     ));
-    assert_eq!(rt; word, b"step".as_slice());
+    assert!(rt; word == b"step".as_slice());
     let (word, rest) = next_word(rest).unwrap_or((b"".as_slice(), b"".as_slice()));
-    assert_eq!(rt; number(word), Some(12));
+    assert!(rt; number(word) == Some(12));
     assert!(rt; next_word(rest).is_none());
-    assert_eq!(rt; number(b"4294967295".as_slice()), Some(4_294_967_295));
-    assert_eq!(rt; number(b"4294967296".as_slice()), None);
-    assert_eq!(rt; number(b"00000000001".as_slice()), None);
-    assert_eq!(rt; number(b"".as_slice()), None);
-    assert_eq!(rt; number(b"1x".as_slice()), None);
+    assert!(rt; number(b"4294967295".as_slice()) == Some(4_294_967_295));
+    assert!(rt; number(b"4294967296".as_slice()) == None);
+    assert!(rt; number(b"00000000001".as_slice()) == None);
+    assert!(rt; number(b"".as_slice()) == None);
+    assert!(rt; number(b"1x".as_slice()) == None);
     laws::words_stand_between_spaces();
 }

@@ -21,17 +21,17 @@ fn rows_are_in_force_until_the_next(rt: HostRuntime) {
         panic!(rt; "no log");
     };
     let mut place = 0;
-    assert_eq!(rt; log.row(99, &mut place), Row::all_off());
-    assert_eq!(rt; log.row(100, &mut place), only(36));
-    assert_eq!(rt; log.row(101, &mut place), only(36));
-    assert_eq!(rt; log.row(102, &mut place), only(32));
-    assert_eq!(rt; log.row(150, &mut place), only(32));
-    assert_eq!(rt; log.row(151, &mut place), Row::all_off());
-    assert_eq!(rt; log.row(6_000_000, &mut place), Row::all_off());
+    assert!(rt; log.row(99, &mut place) == Row::all_off());
+    assert!(rt; log.row(100, &mut place) == only(36));
+    assert!(rt; log.row(101, &mut place) == only(36));
+    assert!(rt; log.row(102, &mut place) == only(32));
+    assert!(rt; log.row(150, &mut place) == only(32));
+    assert!(rt; log.row(151, &mut place) == Row::all_off());
+    assert!(rt; log.row(6_000_000, &mut place) == Row::all_off());
     place = 77;
-    assert_eq!(rt; log.row(100, &mut place), only(36));
+    assert!(rt; log.row(100, &mut place) == only(36));
     let empty = Log::empty(rt.alloc());
-    assert_eq!(rt; empty.row(100, &mut place), Row::all_off());
+    assert!(rt; empty.row(100, &mut place) == Row::all_off());
     laws::rows_are_in_force_to_the_next();
 }
 
@@ -43,9 +43,9 @@ fn digits_are_inputs(rt: HostRuntime) {
     };
     let mut place = 0;
     let row = log.row(6_000_000, &mut place);
-    assert_eq!(rt; row.vehicles.list(), 0x8001);
-    assert_eq!(rt; row.pedestrians.list(), 0x81);
-    assert_eq!(rt; row.preempts.list(), 9);
+    assert!(rt; row.vehicles.list() == 0x8001);
+    assert!(rt; row.pedestrians.list() == 0x81);
+    assert!(rt; row.preempts.list() == 9);
     laws::digits_tell_their_inputs();
 }
 

@@ -45,10 +45,10 @@ fn objects_have_their_ranges(rt: HostRuntime) {
     ];
     for (object, indices, greatest) in wanted {
         let range = range_of(object);
-        assert_eq!(rt; (range.indices, range.greatest), (indices, greatest));
-        assert_eq!(rt; (object.indices(), object.greatest()), (indices, greatest));
+        assert!(rt; (range.indices, range.greatest) == (indices, greatest));
+        assert!(rt; (object.indices(), object.greatest()) == (indices, greatest));
     }
-    assert_eq!(rt; Object::ALL.len(), 61);
+    assert!(rt; Object::ALL.len() == 61);
     laws::cells_are_told_apart();
     laws::values_are_told_apart();
 }
@@ -81,35 +81,20 @@ const TWO: [Value; 20] = [
 fn plans_keep_values(rt: HostRuntime) {
     let mut plan = Plan::two();
     for (object, index, value) in TWO {
-        assert_eq!(rt; plan.get(id(object, index)), Ok(value));
+        assert!(rt; plan.get(id(object, index)) == Ok(value));
     }
-    assert_eq!(rt; Some(plan), changed(Plan::empty(), &TWO));
+    assert!(rt; Some(plan) == changed(Plan::empty(), &TWO));
 
-    assert_eq!(rt;
-        plan.get(id(Object::PhaseRing, 0)),
-        Err(Refusal::NoSuchObject)
-    );
-    assert_eq!(rt;
-        plan.get(id(Object::PhaseRing, 17)),
-        Err(Refusal::NoSuchObject)
-    );
-    assert_eq!(rt;
-        plan.get(id(Object::UnitMax2, 2)),
-        Err(Refusal::NoSuchObject)
-    );
-    assert_eq!(rt;
-        plan.put(id(Object::PhaseRing, 17), 3),
-        Err(Refusal::NoSuchObject)
-    );
-    assert_eq!(rt;
-        plan.put(id(Object::PhaseRing, 16), 3),
-        Err(Refusal::OutOfRange)
-    );
-    assert_eq!(rt; plan, Plan::two());
-    assert_eq!(rt; plan.put(id(Object::PhaseRing, 16), 2), Ok(()));
-    assert_eq!(rt; plan.get(id(Object::PhaseRing, 16)), Ok(2));
-    assert_eq!(rt; plan.get(id(Object::PhaseRing, 15)), Ok(0));
-    assert_eq!(rt; plan.get(id(Object::PhaseSide, 1)), Ok(0));
+    assert!(rt; plan.get(id(Object::PhaseRing, 0)) == Err(Refusal::NoSuchObject));
+    assert!(rt; plan.get(id(Object::PhaseRing, 17)) == Err(Refusal::NoSuchObject));
+    assert!(rt; plan.get(id(Object::UnitMax2, 2)) == Err(Refusal::NoSuchObject));
+    assert!(rt; plan.put(id(Object::PhaseRing, 17), 3) == Err(Refusal::NoSuchObject));
+    assert!(rt; plan.put(id(Object::PhaseRing, 16), 3) == Err(Refusal::OutOfRange));
+    assert!(rt; plan == Plan::two());
+    assert!(rt; plan.put(id(Object::PhaseRing, 16), 2) == Ok(()));
+    assert!(rt; plan.get(id(Object::PhaseRing, 16)) == Ok(2));
+    assert!(rt; plan.get(id(Object::PhaseRing, 15)) == Ok(0));
+    assert!(rt; plan.get(id(Object::PhaseSide, 1)) == Ok(0));
 }
 
 #[test]
@@ -118,19 +103,10 @@ fn plans_tell_of_phases(rt: HostRuntime) {
     let plan = Plan::two();
     assert!(rt; plan.is_enabled(second) && !plan.is_enabled(Phase::of(3)));
     assert!(rt; plan.has_maximum_recall(fourth) && !plan.has_maximum_recall(Phase::of(3)));
-    assert_eq!(rt; (plan.ring(fourth), plan.side(fourth)), (1, 2));
-    assert_eq!(rt;
-        (plan.minimum_green(fourth), plan.maximum(fourth)),
-        (50, 80)
-    );
-    assert_eq!(rt;
-        (plan.yellow_change(fourth), plan.red_clear(fourth)),
-        (30, 10)
-    );
-    assert_eq!(rt;
-        &plan.sequence(Sequence::of(1), Ring::of(1))[..3],
-        [2, 4, 0].as_slice()
-    );
+    assert!(rt; (plan.ring(fourth), plan.side(fourth)) == (1, 2));
+    assert!(rt; (plan.minimum_green(fourth), plan.maximum(fourth)) == (50, 80));
+    assert!(rt; (plan.yellow_change(fourth), plan.red_clear(fourth)) == (30, 10));
+    assert!(rt; &plan.sequence(Sequence::of(1), Ring::of(1))[..3] == [2, 4, 0].as_slice());
 
     let changes = [
         (Object::UnitMax2, 1, 1),
@@ -145,15 +121,12 @@ fn plans_tell_of_phases(rt: HostRuntime) {
     ];
     match changed(plan, &changes) {
         Some(plan) => {
-            assert_eq!(rt; plan.maximum(second), 120);
-            assert_eq!(rt; plan.time_before_reduction(second), 70);
-            assert_eq!(rt;
-                (plan.red_revert(second), plan.red_revert(fourth)),
-                (20, 21)
-            );
-            assert_eq!(rt; plan.concurrency(second).list(), 0x8010);
-            assert_eq!(rt; plan.sequence(Sequence::of(2), Ring::of(2))[0], 9);
-            assert_eq!(rt; plan.sequence(Sequence::of(4), Ring::of(2))[15], 16);
+            assert!(rt; plan.maximum(second) == 120);
+            assert!(rt; plan.time_before_reduction(second) == 70);
+            assert!(rt; (plan.red_revert(second), plan.red_revert(fourth)) == (20, 21));
+            assert!(rt; plan.concurrency(second).list() == 0x8010);
+            assert!(rt; plan.sequence(Sequence::of(2), Ring::of(2))[0] == 9);
+            assert!(rt; plan.sequence(Sequence::of(4), Ring::of(2))[15] == 16);
         }
         None => assert!(rt; false, "a value was refused"),
     }

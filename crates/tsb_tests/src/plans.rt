@@ -63,7 +63,7 @@ fn quad_has_its_values(rt: HostRuntime) {
         (Object::PreemptEnterPedClear, 2, 3),
     ];
     for (object, index, value) in wanted {
-        assert_eq!(rt; quad.get(id(object, index)), Ok(value));
+        assert!(rt; quad.get(id(object, index)) == Ok(value));
     }
 }
 
@@ -102,55 +102,34 @@ fn plans_tell_of_phases_and_detectors(rt: HostRuntime) {
     assert!(rt; plan.disables_simultaneous_gap(second) && !plan.disables_simultaneous_gap(third));
     assert!(rt; plan.rests_in_walk(second) && !plan.rests_in_walk(third));
     assert!(rt; plan.has_variable_initial(second) && !plan.has_variable_initial(third));
-    assert_eq!(rt;
-        (plan.walk(second), plan.pedestrian_clear(second)),
-        (40, 60)
-    );
-    assert_eq!(rt;
-        (plan.maximum_initial(second), plan.added_initial(second)),
-        (200, 15)
-    );
-    assert_eq!(rt; (plan.passage(second), plan.minimum_gap(second)), (20, 20));
-    assert_eq!(rt;
+    assert!(rt; (plan.walk(second), plan.pedestrian_clear(second)) == (40, 60));
+    assert!(rt; (plan.maximum_initial(second), plan.added_initial(second)) == (200, 15));
+    assert!(rt; (plan.passage(second), plan.minimum_gap(second)) == (20, 20));
+    assert!(rt;
         (
             plan.cars_before_reduction(second),
             plan.time_to_reduce(second)
-        ),
-        (9, 70)
+        ) == (9, 70)
     );
-    assert_eq!(rt;
+    assert!(rt;
         (
             plan.dynamic_maximum_limit(second),
             plan.dynamic_maximum_step(second)
-        ),
-        (140, 15)
+        ) == (140, 15)
     );
 
     let (detector, other) = (Detector::of(3), Detector::of(9));
-    assert_eq!(rt;
-        (plan.call_phase(detector), plan.call_phase(other)),
-        (Some(third), None)
-    );
-    assert_eq!(rt;
+    assert!(rt; (plan.call_phase(detector), plan.call_phase(other)) == (Some(third), None));
+    assert!(rt;
         (
             plan.detector_delay(detector),
             plan.detector_extend(detector)
-        ),
-        (20, 50)
+        ) == (20, 50)
     );
-    assert_eq!(rt;
-        (plan.no_activity(detector), plan.maximum_presence(detector)),
-        (600, 1200)
-    );
-    assert_eq!(rt;
-        (plan.erratic_counts(detector), plan.fail_time(detector)),
-        (30, 2550)
-    );
-    assert_eq!(rt;
-        plan.pedestrian_call_phase(PedestrianDetector::of(2)),
-        Some(second)
-    );
-    assert_eq!(rt; plan.pedestrian_call_phase(PedestrianDetector::of(8)), None);
+    assert!(rt; (plan.no_activity(detector), plan.maximum_presence(detector)) == (600, 1200));
+    assert!(rt; (plan.erratic_counts(detector), plan.fail_time(detector)) == (30, 2550));
+    assert!(rt; plan.pedestrian_call_phase(PedestrianDetector::of(2)) == Some(second));
+    assert!(rt; plan.pedestrian_call_phase(PedestrianDetector::of(8)) == None);
 }
 
 #[test]
@@ -172,56 +151,41 @@ fn plans_tell_of_overlaps_patterns_and_preempts(rt: HostRuntime) {
         return;
     };
     let overlap = Overlap::of(1);
-    assert_eq!(rt; plan.included_phases(overlap).list(), 3);
-    assert_eq!(rt; plan.modifier_phases(overlap).list(), 32);
+    assert!(rt; plan.included_phases(overlap).list() == 3);
+    assert!(rt; plan.modifier_phases(overlap).list() == 32);
     assert!(rt; plan.is_minus_green_yellow(overlap) && !plan.is_minus_green_yellow(Overlap::of(2)));
 
     let (pattern, unused, split) = (Pattern::of(2), Pattern::of(3), Split::of(1));
-    assert_eq!(rt; (plan.cycle(pattern), plan.offset(pattern)), (800, 790));
+    assert!(rt; (plan.cycle(pattern), plan.offset(pattern)) == (800, 790));
     assert!(rt; plan.is_used(pattern) && !plan.is_used(unused));
-    assert_eq!(rt;
-        (plan.split_of(pattern), plan.split_of(unused)),
-        (Some(split), None)
+    assert!(rt; (plan.split_of(pattern), plan.split_of(unused)) == (Some(split), None));
+    assert!(rt;
+        (plan.sequence_of(pattern), plan.sequence_of(unused)) == (Some(Sequence::of(1)), None)
     );
-    assert_eq!(rt;
-        (plan.sequence_of(pattern), plan.sequence_of(unused)),
-        (Some(Sequence::of(1)), None)
-    );
-    assert_eq!(rt; plan.split_time(split, Phase::of(2)), 250);
-    assert_eq!(rt;
-        plan.split_mode(split, Phase::of(4)),
-        SplitMode::MaximumAndPedestrianRecall
-    );
-    assert_eq!(rt;
-        plan.split_mode(Split::of(8), Phase::of(16)),
-        SplitMode::MaximumRecall
-    );
+    assert!(rt; plan.split_time(split, Phase::of(2)) == 250);
+    assert!(rt; plan.split_mode(split, Phase::of(4)) == SplitMode::MaximumAndPedestrianRecall);
+    assert!(rt; plan.split_mode(Split::of(8), Phase::of(16)) == SplitMode::MaximumRecall);
     assert!(rt; plan.is_omitted(split, Phase::of(3)) && !plan.is_omitted(split, Phase::of(4)));
     assert!(rt;
         plan.is_coordinated(split, Phase::of(6)) && !plan.is_coordinated(split, Phase::of(5))
     );
 
     let preempt = Preempt::of(1);
-    assert_eq!(rt;
-        (plan.preempt_delay(preempt), plan.minimum_duration(preempt)),
-        (6000, 100)
-    );
-    assert_eq!(rt; plan.preempt_maximum_presence(preempt), 655_350);
-    assert_eq!(rt;
+    assert!(rt; (plan.preempt_delay(preempt), plan.minimum_duration(preempt)) == (6000, 100));
+    assert!(rt; plan.preempt_maximum_presence(preempt) == 655_350);
+    assert!(rt;
         (
             plan.preempt_minimum_green(preempt),
             plan.preempt_minimum_walk(preempt)
-        ),
-        (20, 20)
+        ) == (20, 20)
     );
-    assert_eq!(rt;
+    assert!(rt;
         (
             plan.enter_pedestrian_clear(preempt),
             plan.track_green(preempt)
-        ),
-        (30, 30)
+        ) == (30, 30)
     );
-    assert_eq!(rt; plan.track_phases(preempt).list(), 34);
-    assert_eq!(rt; plan.dwell_phases(preempt).list(), 132);
-    assert_eq!(rt; plan.exit_phases(preempt).list(), 0x8001);
+    assert!(rt; plan.track_phases(preempt).list() == 34);
+    assert!(rt; plan.dwell_phases(preempt).list() == 132);
+    assert!(rt; plan.exit_phases(preempt).list() == 0x8001);
 }

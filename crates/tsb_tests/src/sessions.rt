@@ -150,7 +150,7 @@ fn answers_whatever_the_pieces(rt: HostRuntime) {
             fails_at: 1000,
         };
         assert!(rt; matches!(talk(&rt, &mut reader, &mut out), Some(Ok(()))));
-        assert_eq!(rt; out.as_slice(), OUTPUT);
+        assert!(rt; out.as_slice() == OUTPUT);
     }
 }
 
@@ -175,8 +175,8 @@ fn answers_are_shown_before_each_read(rt: HostRuntime) {
             lines: 20,
         };
         assert!(rt; matches!(talk(&rt, &mut typist, &mut &screen), Some(Ok(()))));
-        assert_eq!(rt; typist.typed, 20);
-        assert_eq!(rt; screen.shown.get(), 20 * answer);
+        assert!(rt; typist.typed == 20);
+        assert!(rt; screen.shown.get() == 20 * answer);
     }
 }
 
@@ -193,7 +193,7 @@ fn a_reader_that_never_ends_is_too_large(rt: HostRuntime) {
             Some(Err(SessionError::TooLarge))
         )
     );
-    assert_eq!(rt; more.left, usize::MAX - COMMANDS - 1);
+    assert!(rt; more.left == usize::MAX - COMMANDS - 1);
     assert!(rt; out.is_empty());
 }
 
@@ -222,7 +222,7 @@ fn quit_reads_no_further(rt: HostRuntime) {
         fails_at: 1,
     };
     assert!(rt; matches!(talk(&rt, &mut reader, &mut out), Some(Ok(()))));
-    assert_eq!(rt; reader.left.len(), 5);
+    assert!(rt; reader.left.len() == 5);
 }
 
 #[test]
@@ -391,10 +391,7 @@ fn a_session_runs_a_plan_and_a_log(rt: HostRuntime) {
 fn a_line_is_that_of_the_state(rt: HostRuntime) {
     let plan = Checked::new(Plan::two()).expect(&rt, "the plan is not consistent");
     let bench = Bench::power_up(rt.alloc(), plan).expect(&rt, "memory");
-    assert_eq!(rt;
-        line(&bench).as_str(),
-        "0000000 -R-R------------ ---------------- ---- 0 ----"
-    );
+    assert!(rt; line(&bench).as_str() == "0000000 -R-R------------ ---------------- ---- 0 ----");
 }
 
 #[test]
@@ -407,6 +404,6 @@ fn faults_have_lines(rt: HostRuntime) {
     ] {
         let mut line = Vec::new(rt.alloc());
         assert!(rt; write!(line, "{fault}").is_ok());
-        assert_eq!(rt; line.as_slice(), text.as_bytes());
+        assert!(rt; line.as_slice() == text.as_bytes());
     }
 }

@@ -33,7 +33,7 @@ fn version_1_is_smaller(rt: HostRuntime) {
     ];
     for (object, indices, greatest) in wanted {
         assert!(rt; Version::One.has(object));
-        assert_eq!(rt; range(Version::One, object), Some((indices, greatest)));
+        assert!(rt; range(Version::One, object) == Some((indices, greatest)));
     }
     let absent = [
         Object::PhaseDynamicMaxLimit,
@@ -43,45 +43,42 @@ fn version_1_is_smaller(rt: HostRuntime) {
     ];
     for object in absent {
         assert!(rt; !Version::One.has(object) && Version::Two.has(object));
-        assert_eq!(rt; object.range_in(Version::One), None);
-        assert_eq!(rt; object.range_in(Version::Two), Some(range_of(object)));
+        assert!(rt; object.range_in(Version::One) == None);
+        assert!(rt; object.range_in(Version::Two) == Some(range_of(object)));
     }
-    assert_eq!(rt; range(Version::Two, Object::SplitTime), Some((128, 255)));
-    assert_eq!(rt; range(Version::Two, Object::PhaseSide), Some((16, 4)));
+    assert!(rt; range(Version::Two, Object::SplitTime) == Some((128, 255)));
+    assert!(rt; range(Version::Two, Object::PhaseSide) == Some((16, 4)));
 }
 
 #[test]
 fn indices_are_translated(rt: HostRuntime) {
     // Split table 1's phase 8, table 2's phase 1, and the last of all.
     let one = Version::One;
-    assert_eq!(rt; one.translated(Object::SplitTime, 8), 8);
-    assert_eq!(rt; one.translated(Object::SplitMode, 9), 17);
-    assert_eq!(rt; one.translated(Object::SplitCoordPhase, 64), 120);
+    assert!(rt; one.translated(Object::SplitTime, 8) == 8);
+    assert!(rt; one.translated(Object::SplitMode, 9) == 17);
+    assert!(rt; one.translated(Object::SplitCoordPhase, 64) == 120);
     // Place 3 of ring 1 in sequence 1, place 1 of ring 2, and place 8 of ring 2 in sequence 4.
-    assert_eq!(rt; one.translated(Object::SequenceData, 3), 3);
-    assert_eq!(rt; one.translated(Object::SequenceData, 9), 17);
-    assert_eq!(rt; one.translated(Object::SequenceData, 64), 120);
-    assert_eq!(rt; one.translated(Object::PhaseEnabled, 8), 8);
-    assert_eq!(rt; one.translated(Object::VehicleDetectorDelay, 16), 16);
-    assert_eq!(rt; Version::Two.translated(Object::SplitTime, 17), 17);
-    assert_eq!(rt; Version::Two.translated(Object::SequenceData, 128), 128);
+    assert!(rt; one.translated(Object::SequenceData, 3) == 3);
+    assert!(rt; one.translated(Object::SequenceData, 9) == 17);
+    assert!(rt; one.translated(Object::SequenceData, 64) == 120);
+    assert!(rt; one.translated(Object::PhaseEnabled, 8) == 8);
+    assert!(rt; one.translated(Object::VehicleDetectorDelay, 16) == 16);
+    assert!(rt; Version::Two.translated(Object::SplitTime, 17) == 17);
+    assert!(rt; Version::Two.translated(Object::SequenceData, 128) == 128);
     version_laws::versions_say_the_same();
 }
 
 #[test]
 fn objects_have_names(rt: HostRuntime) {
-    assert_eq!(rt; Object::PhaseEnabled.name(), "phaseEnabled");
-    assert_eq!(rt; Object::UnitMax2.name(), "unitMax2");
-    assert_eq!(rt;
-        Object::OverlapModifierPhases.name(),
-        "overlapModifierPhases"
-    );
+    assert!(rt; Object::PhaseEnabled.name() == "phaseEnabled");
+    assert!(rt; Object::UnitMax2.name() == "unitMax2");
+    assert!(rt; Object::OverlapModifierPhases.name() == "overlapModifierPhases");
     let (split, last) = (Object::SplitTime, Object::OverlapModifierPhases);
-    assert_eq!(rt; Object::named(Version::One, split.name()), Some(split));
-    assert_eq!(rt; Object::named(Version::Two, last.name()), Some(last));
-    assert_eq!(rt; Object::named(Version::One, "overlapType"), None);
-    assert_eq!(rt; Object::named(Version::Two, "overlaptype"), None);
-    assert_eq!(rt; Object::named(Version::Two, ""), None);
+    assert!(rt; Object::named(Version::One, split.name()) == Some(split));
+    assert!(rt; Object::named(Version::Two, last.name()) == Some(last));
+    assert!(rt; Object::named(Version::One, "overlapType") == None);
+    assert!(rt; Object::named(Version::Two, "overlaptype") == None);
+    assert!(rt; Object::named(Version::Two, "") == None);
     version_laws::versions_say_the_same();
 }
 
@@ -99,8 +96,5 @@ fn structure_is_told(rt: HostRuntime) {
     for object in structural {
         assert!(rt; is_structural(object));
     }
-    assert_eq!(rt;
-        Object::ALL.iter().filter(|o| is_structural(**o)).count(),
-        7
-    );
+    assert!(rt; Object::ALL.iter().filter(|o| is_structural(**o)).count() == 7);
 }
