@@ -39,7 +39,7 @@ pub(crate) enum Watched {
 }
 
 /// A watched value.
-#[derive(Clone, Copy, Debug, PartialEq, Eq)]
+#[derive(Clone, Copy, PartialEq, Eq)]
 pub(crate) enum Value {
     Interval(Interval),
     Ped(PedestrianInterval),

@@ -1,7 +1,7 @@
 //! Stored cases.
 
 /// What is run, and its name.
-#[derive(Clone, Copy, Debug)]
+#[derive(Clone, Copy)]
 pub struct Case<'a> {
     /// The name, which stands before the answer.
     pub name: &'a [u8],
@@ -10,7 +10,7 @@ pub struct Case<'a> {
 }
 
 /// What is run.
-#[derive(Clone, Copy, Debug)]
+#[derive(Clone, Copy)]
 pub enum Run<'a> {
     /// A plan text, to be judged.
     Plan(&'a [u8]),

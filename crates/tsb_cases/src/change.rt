@@ -7,7 +7,7 @@ ghost use Rattle.tsb_plan.specs.Versions.{translated};
 use tsb_objects::{Object, ObjectId, Plan, Refusal, Version};
 
 /// A change as a version's texts have it: an object, an index and a value.
-#[derive(Clone, Copy, Debug, PartialEq, Eq)]
+#[derive(Clone, Copy, PartialEq, Eq)]
 pub struct Change {
     object: Object,
     index: u32,

@@ -7,7 +7,7 @@ use std::io::{self, Write};
 use tsb_objects::{Plan, Rule, check};
 
 /// What a line has.
-#[derive(Clone, Copy, Debug)]
+#[derive(Clone, Copy)]
 enum Line<'a> {
     /// A blank line, or a comment.
     Skip,

@@ -6,7 +6,7 @@ ghost use Rattle.tsb_cells.specs.Timer.{advanced, started, is_on, has_reached, i
 ///
 /// A cell keeps the tick at which a timer began, and not its ticks, so that the cell of a timer that runs on
 /// need not be written: at the next tick it reads as one tick more.
-#[derive(Clone, Copy, PartialEq, Eq, Debug)]
+#[derive(Clone, Copy, PartialEq, Eq)]
 pub enum Timer {
     Off,
     On(u32),

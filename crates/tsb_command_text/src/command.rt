@@ -5,7 +5,7 @@ use tsb_types::{Lamp, Station, Watch};
 
 /// What a session can be told to do. A number that nothing has, as of a pattern or of an index, is refused
 /// when the command is done, and not when it is read.
-#[derive(Clone, Copy, Debug, PartialEq, Eq)]
+#[derive(Clone, Copy, PartialEq, Eq)]
 pub enum Command {
     /// `step N`: takes this many ticks, with the rows of the log.
     Step(u32),
@@ -42,7 +42,7 @@ pub enum Command {
 }
 
 /// What a line asks of a session.
-#[derive(Clone, Copy, Debug, PartialEq, Eq)]
+#[derive(Clone, Copy, PartialEq, Eq)]
 pub enum Reading {
     /// Nothing: the line is blank or a comment.
     Skip,

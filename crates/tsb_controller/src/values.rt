@@ -15,7 +15,7 @@ use tsb_phase::Conditions;
 use tsb_preempt::PreemptOrders;
 
 /// What a tick finds before the calls.
-#[derive(Clone, Copy, Debug)]
+#[derive(Clone, Copy)]
 pub(crate) struct Sensed {
     /// The intervals before the tick.
     pub(crate) intervals: Intervals,
@@ -34,7 +34,7 @@ pub(crate) struct Sensed {
 }
 
 /// What phase timing tells of a tick, and what the rings did.
-#[derive(Clone, Copy, Debug)]
+#[derive(Clone, Copy)]
 pub(crate) struct Movement {
     /// Which times of phases have passed.
     pub(crate) timing: Timing,

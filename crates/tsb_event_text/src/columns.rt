@@ -6,7 +6,7 @@ ghost use Rattle.tsb_event_text.specs.Columns.{header_of, is_called, names_colum
 use crate::fields::{has_fields, next_field};
 
 /// What a field of a row says.
-#[derive(Clone, Copy, Debug, PartialEq, Eq)]
+#[derive(Clone, Copy, PartialEq, Eq)]
 pub enum Column {
     /// Which controller wrote the event.
     Device,
@@ -19,7 +19,7 @@ pub enum Column {
 }
 
 /// In which field each column stands, from 0.
-#[derive(Clone, Copy, Debug, PartialEq, Eq)]
+#[derive(Clone, Copy, PartialEq, Eq)]
 pub struct Columns {
     pub device: usize,
     pub time: usize,

@@ -8,7 +8,7 @@ use crate::times::{Moment, read_moment};
 use tsb_lines::number;
 
 /// What a row of events says.
-#[derive(Clone, Copy, Debug, PartialEq, Eq)]
+#[derive(Clone, Copy, PartialEq, Eq)]
 pub struct EventRow {
     /// Whether it counts: it is of the device that is asked for, or none is asked for.
     pub ours: bool,

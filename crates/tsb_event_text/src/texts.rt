@@ -2,7 +2,7 @@
 ghost use Rattle.std.specs.Prelude.{◌≤◌};
 
 /// A time as text, as `2026-11-22 07:00:00.1`: 21 to 29 bytes.
-#[derive(Clone, Copy, Debug)]
+#[derive(Clone, Copy)]
 pub struct TimeText {
     /// What stands before the digits of a second's part, with its point.
     pub(crate) head: [u8; 20],

@@ -7,7 +7,7 @@ use jiff_core::civil::Date;
 use tsb_lines::number;
 
 /// A moment on a clock without a zone, whose days all have 24 hours.
-#[derive(Clone, Copy, Debug, PartialEq, Eq)]
+#[derive(Clone, Copy, PartialEq, Eq)]
 pub struct Moment {
     /// How many nanoseconds it lies behind the first moment of -9999-01-01, the first day that the calendar has.
     pub nanos: u128,

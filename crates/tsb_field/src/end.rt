@@ -11,7 +11,7 @@ use tsb_field_words::WordsError;
 use tsb_program::{Status, line_of, tell, write_line};
 
 /// What failed.
-#[derive(Clone, Copy, Debug, PartialEq, Eq)]
+#[derive(Clone, Copy, PartialEq, Eq)]
 pub(crate) enum Failure {
     Memory,
     Read,

@@ -45,7 +45,7 @@ pub const EVENTS: usize = 162;
 pub type Events = ArrayVec<DisplayEvent, EVENTS>;
 
 /// An event of a controller.
-#[derive(Clone, Copy, Debug, Default, PartialEq, Eq)]
+#[derive(Clone, Copy, Default, PartialEq, Eq)]
 pub struct DisplayEvent {
     /// The number of the tick at which it comes.
     pub tick: u32,

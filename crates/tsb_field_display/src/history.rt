@@ -9,7 +9,7 @@ use std::alloc::{AllocError, Global};
 /// What remains of the lines of a session. A line whose tick is not above the last one takes back what stood from that
 /// tick on, as a session does that goes back, and then stands itself. Only the first line is kept and those that show
 /// something else than the line before, so that it takes memory by what changes and not by ticks.
-#[derive(Debug, Drop)]
+#[derive(Drop)]
 pub struct History {
     changes: Vec<Shown>,
     last: Option<u32>,

@@ -6,7 +6,7 @@ ghost use Rattle.tsb_field_display.specs.Shows.{is_same, nothing_lit};
 use tsb_types::NumberSet;
 
 /// The vehicle heads, of phases or of overlaps, that show each colour. A head in no set is dark.
-#[derive(Clone, Copy, Debug, PartialEq, Eq)]
+#[derive(Clone, Copy, PartialEq, Eq)]
 pub struct VehicleHeads {
     /// The heads that are green.
     pub greens: NumberSet,
@@ -19,7 +19,7 @@ pub struct VehicleHeads {
 }
 
 /// The pedestrian heads that show each aspect. A head in no set is dark.
-#[derive(Clone, Copy, Debug, PartialEq, Eq)]
+#[derive(Clone, Copy, PartialEq, Eq)]
 pub struct PedestrianHeads {
     /// The heads that show walk.
     pub walks: NumberSet,
@@ -30,7 +30,7 @@ pub struct PedestrianHeads {
 }
 
 /// What a display line shows beside its tick and the local counter. Two are equal where they show the same.
-#[derive(Clone, Copy, Debug, PartialEq, Eq)]
+#[derive(Clone, Copy, PartialEq, Eq)]
 pub struct Signals {
     /// The vehicle heads of phases 1 to 16.
     pub vehicles: VehicleHeads,
@@ -43,7 +43,7 @@ pub struct Signals {
 }
 
 /// A display line: its tick, and what it shows.
-#[derive(Clone, Copy, Debug, PartialEq, Eq)]
+#[derive(Clone, Copy, PartialEq, Eq)]
 pub struct Shown {
     /// The number of the tick, 0 to 9,999,999.
     pub tick: u32,

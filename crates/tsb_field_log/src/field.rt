@@ -22,7 +22,7 @@ const TENTH: u128 = 100_000_000;
 
 /// Rows of a log that have become known, one behind the other: of the ticks between two events two at most differ from
 /// the row before.
-#[derive(Clone, Copy, Debug, PartialEq, Eq)]
+#[derive(Clone, Copy, PartialEq, Eq)]
 pub struct Rows {
     pub first: Option<LogRow>,
     pub second: Option<LogRow>,
@@ -30,7 +30,7 @@ pub struct Rows {
 
 /// The inputs of a field, as its events come in. It gives the rows of a log, each as soon as no later event can change
 /// it.
-#[derive(Debug, Drop)]
+#[derive(Drop)]
 pub struct Field {
     /// The moment at which tick 1 begins.
     from: u128,

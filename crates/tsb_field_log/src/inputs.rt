@@ -3,7 +3,7 @@ ghost use Rattle.std.specs.Prelude.{◌≡◌};
 ghost use Rattle.tsb_field_log.specs.Inputs.{is_of, most_inputs, signal_of};
 
 /// A kind of input.
-#[derive(Clone, Copy, Debug, PartialEq, Eq)]
+#[derive(Clone, Copy, PartialEq, Eq)]
 pub enum Kind {
     /// A vehicle detector.
     Vehicle,
@@ -27,7 +27,7 @@ impl Kind {
 }
 
 /// What an event says of an input: its kind, and whether it is switched on or off.
-#[derive(Clone, Copy, Debug, PartialEq, Eq)]
+#[derive(Clone, Copy, PartialEq, Eq)]
 pub struct Signal {
     pub kind: Kind,
     pub on: bool,
@@ -53,7 +53,7 @@ impl Signal {
 }
 
 /// A channel of a controller that leads to an input of a bench. Several may lead to one input, and one to several.
-#[derive(Clone, Copy, Debug, PartialEq, Eq)]
+#[derive(Clone, Copy, PartialEq, Eq)]
 pub struct Wire {
     pub kind: Kind,
     /// The controller's number.
@@ -63,7 +63,7 @@ pub struct Wire {
 }
 
 /// An input that is switched on or off.
-#[derive(Clone, Copy, Debug, PartialEq, Eq)]
+#[derive(Clone, Copy, PartialEq, Eq)]
 pub struct InputEvent {
     /// The moment, in nanoseconds, as a `Moment` of an event row counts them.
     pub nanos: u128,

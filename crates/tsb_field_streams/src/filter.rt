@@ -20,7 +20,7 @@ pub const LINE: usize = 1000;
 pub const MOST_ROWS: u32 = 1_720_740;
 
 /// What a filter left out. A count stays at 4,294,967,295 once it has come to it.
-#[derive(Clone, Copy, Debug, PartialEq, Eq)]
+#[derive(Clone, Copy, PartialEq, Eq)]
 pub struct LeftOut {
     /// Rows of other devices.
     pub of_other_devices: u32,
@@ -29,7 +29,7 @@ pub struct LeftOut {
 }
 
 /// What is known behind some lines of events.
-#[derive(Debug, Drop)]
+#[derive(Drop)]
 pub struct Filter {
     /// Where the columns stand, known from the first line that is not skipped.
     columns: Option<Columns>,

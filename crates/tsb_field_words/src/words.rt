@@ -20,7 +20,7 @@ use tsb_event_text::{Moment, can_be_written};
 use tsb_field_log::{Kind, Wire};
 
 /// What the words ask for.
-#[derive(Debug, Drop)]
+#[derive(Drop)]
 pub enum Asked<'a> {
     /// A log of inputs, made of the events of a controller's log.
     Log {
@@ -53,7 +53,7 @@ pub enum Asked<'a> {
 }
 
 /// Why words ask for nothing.
-#[derive(Clone, Copy, Debug, PartialEq, Eq)]
+#[derive(Clone, Copy, PartialEq, Eq)]
 pub enum WordsError {
     /// There was no memory to read them.
     Memory,

@@ -9,7 +9,7 @@ use std::marker::Model;
 use tsb_types::Row;
 
 /// A row of a log: from its tick on, until the next row, these inputs are on.
-#[derive(Clone, Copy, Debug, PartialEq, Eq)]
+#[derive(Clone, Copy, PartialEq, Eq)]
 pub struct LogRow {
     /// 1 to 6,000,000.
     pub tick: u32,
@@ -18,7 +18,7 @@ pub struct LogRow {
 }
 
 /// A log of inputs. A contract sees the list of its rows, whose ticks rise.
-#[derive(Debug, Drop)]
+#[derive(Drop)]
 pub struct Log {
     rows: Vec<LogRow>,
 }

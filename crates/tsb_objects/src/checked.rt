@@ -23,7 +23,7 @@ use tsb_rules::{Rule, check};
 ///
 /// Its plan meets the rules and stays as it is: a `Checked` is made by `Checked::new` and `Checked::known`
 /// alone, so who is handed one has nothing to check.
-#[derive(Clone, Copy, Debug, PartialEq, Eq)]
+#[derive(Clone, Copy, PartialEq, Eq)]
 pub struct Checked {
     plan: Plan,
     phase_tables: PhaseTables,

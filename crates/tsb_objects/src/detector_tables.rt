@@ -9,7 +9,7 @@ use tsb_plan::{Object, Plan};
 use tsb_types::NumberSet;
 
 /// What a plan says of all its detectors at once. Each word of an array is a list, as `phaseConcurrency` has it.
-#[derive(Clone, Copy, Debug, PartialEq, Eq)]
+#[derive(Clone, Copy, PartialEq, Eq)]
 pub struct DetectorTables {
     /// Of each phase, the vehicle detectors that call it (`vehicleDetectorCallPhase`).
     pub(crate) detectors: [u16; 16],

@@ -27,7 +27,7 @@ enum Asked {
 
 /// What a plan says of all its phases while a pattern runs. Of an array of 17 words word 0 is of free
 /// operation and word `n` of pattern `n`, each a list of phases, as `phaseConcurrency` has it.
-#[derive(Clone, Copy, Debug, PartialEq, Eq)]
+#[derive(Clone, Copy, PartialEq, Eq)]
 pub struct PatternTables {
     /// The coordinated phases (`splitCoordPhase`).
     pub(crate) coordinated: [u16; 17],

@@ -12,7 +12,7 @@ const SETS: u16 = 256;
 
 /// Of 16 sets of phases, with the numbers 1 to 16, the union of any of them. Each array has a word for each set of 8
 /// numbers, as a list, which is the list of the phases in the set of one of these.
-#[derive(Clone, Copy, Debug, PartialEq, Eq)]
+#[derive(Clone, Copy, PartialEq, Eq)]
 pub struct Unions {
     /// The unions of sets 1 to 8.
     low: [u16; 256],

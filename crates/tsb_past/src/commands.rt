@@ -4,7 +4,7 @@ use tsb_history::Kind;
 use tsb_types::Refusal;
 
 /// A command of a session, of inputs `I` and watched values `W`.
-#[derive(Clone, Copy, Debug, PartialEq, Eq)]
+#[derive(Clone, Copy, PartialEq, Eq)]
 pub enum Command<I, W> {
     /// Takes an input.
     Apply(I),

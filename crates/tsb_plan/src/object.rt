@@ -348,7 +348,7 @@ impl Object {
 }
 
 /// An object at an index: what a plan has a value for.
-#[derive(Clone, Copy, Debug, PartialEq, Eq)]
+#[derive(Clone, Copy, PartialEq, Eq)]
 pub struct ObjectId {
     /// Which object.
     pub object: Object,
@@ -357,7 +357,7 @@ pub struct ObjectId {
 }
 
 /// The indices that an object has and the values that it takes.
-#[derive(Clone, Copy, Debug, PartialEq, Eq)]
+#[derive(Clone, Copy, PartialEq, Eq)]
 pub struct Range {
     /// Its indices are 1 to this number.
     pub indices: u32,

@@ -22,7 +22,7 @@ use tsb_types::{Phase, Refusal};
 ///
 /// Each value is in its object's range, whatever is done to the plan. That a plan meets the rules is not
 /// promised: `check` tells, and a `Checked` keeps it.
-#[derive(Clone, Copy, Debug, PartialEq, Eq)]
+#[derive(Clone, Copy, PartialEq, Eq)]
 pub struct Plan {
     values: [u16; PLAN_CELLS],
     ghost full: { length values ≡ PLAN_CELLS },

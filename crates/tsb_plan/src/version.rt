@@ -5,7 +5,7 @@ ghost use Rattle.tsb_plan.specs.Versions.{has_object, indices_in, greatest_in, r
 use crate::object::{Object, Range, TABLE};
 
 /// A version of plan texts.
-#[derive(Clone, Copy, Debug, PartialEq, Eq)]
+#[derive(Clone, Copy, PartialEq, Eq)]
 pub enum Version {
     /// Version 1: it knows phases 1 to 8 and sides 1 and 2, so some objects have fewer indices or values
     /// than in a plan, and `phaseDynamicMaxLimit`, `phaseDynamicMaxStep`, `overlapType` and

@@ -36,7 +36,7 @@ impl Files for Disk<'_> {
 }
 
 /// Why a file was not read.
-#[derive(Clone, Copy, Debug, PartialEq, Eq)]
+#[derive(Clone, Copy, PartialEq, Eq)]
 pub enum FileError {
     /// There was no memory for it.
     Memory,

@@ -6,7 +6,7 @@ use tsb_lines::{next_word, number};
 use tsb_objects::{Intervals, NumberSet, Pattern, Pedestrians, Phase, PhaseSet, Preempt, Refusal};
 
 /// What is left of a line.
-#[derive(Clone, Copy, Debug)]
+#[derive(Clone, Copy)]
 pub struct Numbers<'a> {
     rest: &'a [u8],
 }

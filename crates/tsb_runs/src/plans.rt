@@ -8,7 +8,7 @@ use tsb_objects::Checked;
 use tsb_plan_text::read_plan;
 
 /// Plans that break no rule, numbered from 0.
-#[derive(Debug, Drop)]
+#[derive(Drop)]
 pub struct Plans {
     plans: Vec<Checked>,
 }

@@ -4,7 +4,7 @@ use crate::digest::Digest;
 use tsb_lines::{next_word, number};
 
 /// A session, and what it is to write.
-#[derive(Clone, Copy, Debug)]
+#[derive(Clone, Copy)]
 pub struct Case<'a> {
     /// The name.
     pub name: &'a [u8],
@@ -19,7 +19,7 @@ pub struct Case<'a> {
 }
 
 /// What a session is to write.
-#[derive(Clone, Copy, Debug)]
+#[derive(Clone, Copy)]
 pub enum Expected<'a> {
     /// These answers.
     Answers(&'a [u8]),

@@ -3,7 +3,7 @@
 use std::io::{self, Write};
 
 /// How many lines were written, and the 32-bit FNV-1a of their bytes. No byte is kept.
-#[derive(Clone, Copy, Debug, PartialEq, Eq)]
+#[derive(Clone, Copy, PartialEq, Eq)]
 pub struct Digest {
     lines: u32,
     sum: u32,

@@ -12,7 +12,7 @@ use tsb_lines::{is_skipped, next_line};
 const NAMED: u32 = 10;
 
 /// How many sessions there were, and how many of them differ.
-#[derive(Clone, Copy, Debug)]
+#[derive(Clone, Copy)]
 struct Tally {
     sessions: u32,
     differ: u32,

@@ -21,7 +21,7 @@ pub enum Kind {
 }
 
 /// What the words ask for.
-#[derive(Clone, Copy, Debug, PartialEq, Eq)]
+#[derive(Clone, Copy, PartialEq, Eq)]
 pub struct Asked<'a> {
     /// The file of the plan.
     pub plan: &'a str,

@@ -3,7 +3,7 @@
 use std::io::{self, Write};
 
 /// How many lines and bytes were written, and the sum of the bytes.
-#[derive(Clone, Copy, Debug)]
+#[derive(Clone, Copy)]
 pub struct Counted {
     /// How many line feeds there were.
     pub lines: u32,

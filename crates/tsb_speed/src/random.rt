@@ -2,7 +2,7 @@
 ghost use Rattle.std.specs.Prelude.{◌<◌};
 
 /// A source of numbers: xorshift64*.
-#[derive(Clone, Copy, Debug)]
+#[derive(Clone, Copy)]
 pub struct Random {
     state: u64,
 }

@@ -5,7 +5,7 @@ use tsb_types::Lamp;
 
 /// An input of the controller: from the field a tick, from the operator a pattern, a switch, a fault or a
 /// reset, from the stations the database transactions of NTCIP 1201.
-#[derive(Clone, Copy, Debug, PartialEq, Eq)]
+#[derive(Clone, Copy, PartialEq, Eq)]
 pub enum Input {
     /// A tenth of a second passes, with these inputs of detectors and preempts on. Refused with E11 at tick
     /// 6,000,000.

@@ -6,7 +6,7 @@ ghost use Rattle.tsb_streams.specs.Writes.{AppendsFront};
 use std::io::Write;
 
 /// A write failed, was interrupted or took no byte, or the writer did not pass on what it had taken.
-#[derive(Clone, Copy, Debug, PartialEq, Eq)]
+#[derive(Clone, Copy, PartialEq, Eq)]
 pub struct WriteError;
 
 /// Writes a text. At an error the first bytes of it may have gone.

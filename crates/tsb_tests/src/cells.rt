@@ -6,7 +6,7 @@ use arrayvec::ArrayVec;
 use tsb_cells::{Bank, Layout, Reversible, Timer, abandon};
 
 /// Two cells: a count, and since when there is a presence.
-#[derive(Clone, Copy, PartialEq, Eq, Debug)]
+#[derive(Clone, Copy, PartialEq, Eq)]
 struct Reading {
     count: u32,
     presence: Timer,

@@ -21,5 +21,5 @@ pub enum SessionError {
 }
 
 /// A write failed, was interrupted or took no byte, or the writer did not pass on what it had taken.
-#[derive(Clone, Copy, Debug, PartialEq, Eq)]
+#[derive(Clone, Copy, PartialEq, Eq)]
 pub(crate) struct WriteError;

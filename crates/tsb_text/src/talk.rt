@@ -37,7 +37,7 @@ const KEPT: usize = LINE + 2;
 const CHUNK: usize = 4096;
 
 /// Whether a session goes on after a line.
-#[derive(Clone, Copy, Debug, PartialEq, Eq)]
+#[derive(Clone, Copy, PartialEq, Eq)]
 pub(crate) enum Flow {
     On,
     Over,

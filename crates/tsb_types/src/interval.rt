@@ -1,7 +1,7 @@
 //! The interval of a phase.
 
 /// The interval of a phase's vehicle head. A phase is in service in each but `Red`.
-#[derive(Clone, Copy, Debug, PartialEq, Eq)]
+#[derive(Clone, Copy, PartialEq, Eq)]
 pub enum Interval {
     /// Not in service: the head is red.
     Red,
@@ -14,7 +14,7 @@ pub enum Interval {
 }
 
 /// The interval of a phase's pedestrian head.
-#[derive(Clone, Copy, Debug, PartialEq, Eq)]
+#[derive(Clone, Copy, PartialEq, Eq)]
 pub enum PedestrianInterval {
     /// Pedestrians wait.
     DontWalk,

@@ -3,7 +3,7 @@
 use crate::numbers::{Overlap, Phase};
 
 /// What a vehicle head shows, a phase's or an overlap's. Green and yellow give right of way.
-#[derive(Clone, Copy, Debug, PartialEq, Eq)]
+#[derive(Clone, Copy, PartialEq, Eq)]
 pub enum Aspect {
     /// The phase is not enabled, or the overlap includes no phase (profile).
     Dark,
@@ -18,7 +18,7 @@ pub enum Aspect {
 }
 
 /// What a phase's pedestrian head shows.
-#[derive(Clone, Copy, Debug, PartialEq, Eq)]
+#[derive(Clone, Copy, PartialEq, Eq)]
 pub enum PedestrianAspect {
     /// The phase is not enabled, or has no walk and is in `DontWalk`, or the monitor has tripped the
     /// controller (profile).
@@ -32,7 +32,7 @@ pub enum PedestrianAspect {
 }
 
 /// A lamp of a vehicle head, a phase's or an overlap's.
-#[derive(Clone, Copy, Debug, PartialEq, Eq)]
+#[derive(Clone, Copy, PartialEq, Eq)]
 pub enum SignalColor {
     /// The red lamp.
     Red,
@@ -43,7 +43,7 @@ pub enum SignalColor {
 }
 
 /// A lamp of a pedestrian head.
-#[derive(Clone, Copy, Debug, PartialEq, Eq)]
+#[derive(Clone, Copy, PartialEq, Eq)]
 pub enum PedestrianColor {
     /// The lamp that has pedestrians wait.
     DontWalk,
@@ -55,7 +55,7 @@ pub enum PedestrianColor {
 
 /// A lamp that a fault injects on a head, which shows it in place of what the controller orders. It is
 /// never dark.
-#[derive(Clone, Copy, Debug, PartialEq, Eq)]
+#[derive(Clone, Copy, PartialEq, Eq)]
 pub enum Lamp {
     /// A lamp of the vehicle head of a phase.
     Phase(Phase, SignalColor),

@@ -5,7 +5,7 @@ ghost use Rattle.tsb_types.specs.Sets.{names, has_number, set_of_list, size_of_n
 use crate::numbers::Detector;
 
 /// A set of numbers from 1 to 16, one bit for each. Two sets with the same numbers are equal.
-#[derive(Clone, Copy, Debug, PartialEq, Eq)]
+#[derive(Clone, Copy, PartialEq, Eq)]
 pub struct NumberSet {
     word: u16,
 }

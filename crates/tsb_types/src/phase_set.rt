@@ -8,7 +8,7 @@ use crate::numbers::Phase;
 /// A set of phases, one bit for each. Two sets with the same phases are equal.
 ///
 /// `pop` goes over the phases in ascending order: `while let Some(phase) = rest.pop()` on a copy.
-#[derive(Clone, Copy, Debug, PartialEq, Eq)]
+#[derive(Clone, Copy, PartialEq, Eq)]
 pub struct PhaseSet {
     numbers: NumberSet,
 }

@@ -2,7 +2,7 @@
 
 /// The stage of the preempt in service. They come in this order; a preempt without track phases begins with
 /// `Dwell`, and one without exit phases ends with it.
-#[derive(Clone, Copy, Debug, PartialEq, Eq)]
+#[derive(Clone, Copy, PartialEq, Eq)]
 pub enum Stage {
     /// The track phases are served, for `preemptTrackGreen`.
     Track,

@@ -16,7 +16,7 @@ use std::convert::AsStr;
 use std::io::{self, ErrorKind as DeviceKind};
 
 /// What the words ask for.
-#[derive(Clone, Copy, Debug, PartialEq, Eq)]
+#[derive(Clone, Copy, PartialEq, Eq)]
 pub enum Asked<'a> {
     /// To judge the plan in this file.
     Check(&'a str),
@@ -27,7 +27,7 @@ pub enum Asked<'a> {
 }
 
 /// Why words ask for nothing.
-#[derive(Clone, Copy, Debug, PartialEq, Eq)]
+#[derive(Clone, Copy, PartialEq, Eq)]
 pub enum WordsError {
     /// There was no memory to read them.
     Memory,

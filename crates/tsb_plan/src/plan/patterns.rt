@@ -9,7 +9,7 @@ use tsb_types::limits::PHASES;
 use tsb_types::{Pattern, Phase, Ring, Sequence, Split};
 
 /// What a split does with a phase (`splitMode`; its numbers are the profile's).
-#[derive(Clone, Copy, Debug, PartialEq, Eq)]
+#[derive(Clone, Copy, PartialEq, Eq)]
 pub enum SplitMode {
     /// Nothing: number 0.
     NoMode,
