@@ -1,9 +1,9 @@
 #!/usr/bin/env python3
 """What the gate would refuse without proving anything, found in seconds: run it at the top before submitting.
 
-It tells of files that are not in the layout of `rt fmt` (run on a copy), of must-fail edits whose old text does not
-stand in their file exactly once, of lines of documents that are over 120 characters, and of names and paths that
-documents cite and the repository does not have.
+It reports files that are not in the layout of `rt fmt` (run on a copy), must-fail edits whose old text is not in its
+file exactly once, lines of documents that are over 120 characters, and names and paths that documents cite and the
+repository does not have.
 """
 import pathlib
 import shutil
@@ -49,7 +49,7 @@ def misplaced(edit):
             return f"{edit}: there is no {file}"
         text = texts.get(file) or path.read_text()
         if text.count(old) != 1:
-            return f"{edit}: stands {text.count(old)} times: {old}"
+            return f"{edit}: found {text.count(old)} times: {old}"
         texts[file] = text.replace(old, new)
     return None
 
