@@ -3,9 +3,10 @@
 
 It needs the libraries that `rt ci` left in `crates/*/out/rlib`. Edits of different functions of a crate are put into one
 copy of it, and the prover is asked for these functions alone. An edit is refused if the prover names a goal of the very
-function that it edits: one that no search proved, or that the answer written for it does not fit. A function that is not
-proved only because of what it calls, or because a proof names what the edit took away, shows nothing: such an edit is
-tried by itself, and in the end over the whole crate, as `rt ci` tries it. Its last line is `N passed, M failed`.
+function that it edits, or of one that names the constant that it edits: a goal that no search proved, or that the
+answer written for it does not fit. A function that is not proved only because of what it calls, or because a proof
+names what the edit took away, shows nothing. Such an edit is tried by itself, and in the end over the whole crate, as
+`rt ci` tries it. The last line is `N passed, M failed`.
 """
 import dataclasses
 import functools
@@ -26,6 +27,7 @@ BAD_ANSWER = re.compile(r"(?:\./)?proofs/(\S+)/[^/\s]+:\d+:\d+: error: ")
 # What an answer says that only names what the edit, or another one, took away.
 TAKEN_AWAY = re.compile(r"has no field|is not in scope|has no `|was not admitted|is no name")
 HEAD = re.compile(r"([ \t]*)(?:pub(?:\([^)]*\))? )?(?:const )?fn (\w+)")
+CONSTANT = re.compile(r"(?:pub(?:\([^)]*\))? )?const (\w+):")
 IMPL = re.compile(r"impl(?:<[^>]*>)? (?:(\S+?)(?:<(.*)>)? for )?&?(\w+)")
 
 # The path of a file in a crate.
@@ -102,17 +104,34 @@ def function_at(path: Path, text: str, at: int) -> Function | None:
     return Function(path, f"{above}::{found[2]}" if above else found[2], first + 1, last + 1)
 
 
-def texts_of(folder: str, changes: tuple[Change, ...]) -> dict[Path, str]:
-    """The files that are changed."""
-    return {it.path: pathlib.Path(folder, it.path).read_text() for it in changes}
+def readers(path: Path, texts: dict[Path, str], at: int) -> list[Function]:
+    """The functions that name the constant that a place of a file stands in, if it stands in one."""
+    above = texts[path][:at].split("\n")
+    found = next((it for it in map(CONSTANT.match, reversed(above)) if it), None)
+    if not found or any(HEAD.match(row) for row in above[above.index(found.string):]):
+        return []
+    named = re.compile(rf"\b{found[1]}\b")
+    places = ((it, text, place.start()) for it, text in texts.items() for place in named.finditer(text))
+    return [it for it in (function_at(*place) for place in places) if it]
+
+
+def functions_at(path: Path, texts: dict[Path, str], at: int) -> list[Function]:
+    """The function that a place of a file stands in, or those that name the constant that it stands in."""
+    found = function_at(path, texts[path], at)
+    return [found] if found else readers(path, texts, at)
+
+
+def sources(folder: str) -> dict[Path, str]:
+    """The files of src/."""
+    return {f"src/{it.relative_to(f'{folder}/src')}": it.read_text() for it in pathlib.Path(folder, "src").rglob("*.rt")}
 
 
 def edit_of(folder: str, file: pathlib.Path) -> Edit:
     """An edit, with the functions that hold the ends of what it changes."""
     changes = tuple(changes_of(file))
-    texts = texts_of(folder, changes)
-    places = ((it.path, texts[it.path], texts[it.path].find(it.old) + len(it.old)) for it in changes)
-    return Edit(file, changes, frozenset((it.path, it.name) for it in (function_at(*place) for place in places) if it))
+    texts = sources(folder)
+    found = (functions_at(it.path, texts, texts[it.path].find(it.old) + len(it.old)) for it in changes if it.path in texts)
+    return Edit(file, changes, frozenset((it.path, it.name) for functions in found for it in functions))
 
 
 def grouped(edits: list[Edit]) -> list[list[Edit]]:
@@ -179,7 +198,8 @@ def own_goal(lines: list[str], function: Function) -> str | None:
 def refused(crate: Any, group: list[Edit]) -> dict[pathlib.Path, str]:
     """The edits of a group that are refused, tried together, each with the goal that its own function does not meet."""
     texts, ends = applied(crate.folder, group)
-    functions = {file: [it for it in (function_at(path, texts[path], at) for path, at in places) if it]
+    whole = sources(crate.folder) | texts
+    functions = {file: [it for path, at in places if path in whole for it in functions_at(path, whole, at)]
                  for file, places in ends.items()}
     asked = {it.name for found in functions.values() for it in found}
     lines = prove(crate, texts, asked) if asked else []
