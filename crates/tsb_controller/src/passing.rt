@@ -155,8 +155,9 @@ impl Controller {
     }
 }
 
-/// A tick that the monitor watched is a tick; and where the rows stay as they were, and it found nothing, it finds nothing
-/// in a tick that is passed over.
+/// A tick that changes nothing finds nothing again. A tick that the monitor watched is a tick; where it left the rows
+/// as they were and the monitor found nothing, it finds nothing in another tick that leaves them so. The bench passes
+/// over such ticks.
 pub fn watched_ticks_pass()
     ensures ticked { WatchedTicksAreTicked }
     ensures passed { WatchedTicksPass }
