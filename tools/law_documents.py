@@ -20,7 +20,7 @@ from laws import BrokenComment, Law, laws
 LAWS, PROVED = pathlib.Path("docs/LAWS.md"), pathlib.Path("docs/PROVED.md")
 PART = re.compile(r"(<!-- laws\n(.*?)-->\n).*?(<!-- end of laws -->)", re.S)
 TABLES = re.compile(r"(<!-- titles of laws: written by tools/law_documents.py -->\n).*?(<!-- end of titles -->)", re.S)
-SECTION = re.compile(r"^## (.+)|^<!-- laws\n(.*?)-->", re.M | re.S)
+SECTION = re.compile(r"^## ([^\n]+)|^<!-- laws\n(.*?)-->", re.M | re.S)
 
 
 @dataclasses.dataclass

@@ -9,6 +9,7 @@ The comment above it begins with the law's title, one sentence, and then says mo
     /// Witness: `starts_4` of TimeRuns.
 
 A law of several clauses may have a paragraph for each, which begins with the clause's name: "`safe`: No two phases ...".
+The lines with labels after it are of that clause.
 """
 import dataclasses
 import functools

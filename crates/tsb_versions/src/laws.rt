@@ -21,9 +21,9 @@ pub fn values_make_both_plans()
     ensures quad { QuadIsWide }
 {}
 
-/// Both benches show the same. After any inputs within version 1's ranges the bench of 8 phases and 2 sides and that of
-/// 16 and 4 show the same heads, have the same field, local counter and stage, and are in the same state, but for the
-/// translated plan and edits.
+/// The benches of 8 and of 16 phases show the same. After any inputs within version 1's ranges the bench of 8 phases
+/// and 2 sides and that of 16 and 4 show the same heads, have the same field, local counter and stage, and are in the
+/// same state, but for the translated plan and edits.
 ///
 /// Needs: a plan of version 1, and sets and lamps within its ranges; `lamp_of_9` and `set_9` compute why.
 /// Witness: those of Examples.
@@ -35,7 +35,7 @@ pub fn benches_show_the_same()
     ensures states { StatesAgree }
 {}
 
-/// Both benches refuse the same inputs, each for the same cause. So they take the same inputs.
+/// The benches of 8 and of 16 phases refuse the same inputs, each for the same cause. So they take the same inputs.
 ///
 /// Needs: as `benches_show_the_same`.
 pub fn benches_take_the_same()
@@ -43,7 +43,7 @@ pub fn benches_take_the_same()
     ensures same { TakeTheSame }
 {}
 
-/// Phases beyond the eighth rest. In the bench of 16 phases they are not enabled, and stay as at power-up.
+/// Phases beyond the eighth rest in the bench of 16. They are not enabled, and stay as at power-up.
 ///
 /// Needs: as `benches_show_the_same`.
 pub fn other_phases_rest()
