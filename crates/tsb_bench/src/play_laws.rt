@@ -24,11 +24,11 @@ use tsb_step::time_laws::{
 };
 
 /// The bench that `play` leaves keeps the laws of runs. From power-up with this plan, after these commands with these
-/// answers, the laws of tsb_step hold of its state and of the next tick or input, whatever that is. Each clause says
-/// one law. At each moment a session is where `play` leaves the commands so far.
+/// answers, fourteen laws of tsb_step hold of its state and of the next tick or input, whatever that is. Each clause
+/// says one law. At each moment a session is where `play` leaves the commands so far.
 ///
 /// Needs: what `play` promises, in its clauses `taken` and `state`.
-/// Not said: the laws of tsb_safety, or what red revert asks.
+/// Not said: the other laws of tsb_step, red revert among them, and those of tsb_safety. They hold of the same runs.
 pub fn plays_keep_the_laws(plan: Checked, commands: &[Cmd], answers: &[Answer], bench: &Bench)
     requires taken { AreTaken (checked_plan plan) (remaining (checked_plan plan) commands.now answers.now) }
     requires state { state_of bench.now ≡ replay (checked_plan plan) (remaining (checked_plan plan) commands.now answers.now) }

@@ -3,14 +3,16 @@
 ghost use Rattle.tsb_rules.specs.Consistent.{OfConsistentPlans};
 ghost use Rattle.tsb_coord.specs.Laws.{EndWithTheirSplits, CoordinatedEndAtZero, RowsAreTold, StatesAreRead, StatesAreBy};
 
-/// A phase whose green ends at its force-off instant has cleared where its split ends. By then it has ended its yellow
-/// change and red clearance, a coordinated phase at local 0.
+/// A phase that is forced off at its instant has time to clear by the end of its split. Its yellow change and red
+/// clearance, counted from its force-off instant, come to where its split ends on the local counter; those of a
+/// coordinated phase come to local 0.
 ///
 /// Needs: a plan that breaks no rule.
 /// Not said: that the green ends at the instant; that the phase is over then, which `coordinated_phases_clear_at_zero`
 /// of tsb_step says of coordinated phases.
-/// Mistakes: `instant_from_own`, `instant_without_clearance`, `instant_without_yellow`, `instant_from_begin`,
-/// `instant_cut_off`.
+/// Mistakes: an instant counted from the end of the phase's own split, `instant_from_own`; one without the red
+/// clearance, `instant_without_clearance`, or without the yellow change, `instant_without_yellow`; one counted from the
+/// begin of side 1, `instant_from_begin`; a difference below 0 that counts as 0, `instant_cut_off`.
 /// Witness: `ends_at_zero`, `ends_with_split`.
 pub fn forced_phases_end_with_their_splits()
     ensures ends { OfConsistentPlans EndWithTheirSplits }

@@ -1,9 +1,9 @@
 //! What holds of the bars of a diagram, each law the contract of a function that does nothing.
 ghost use Rattle.tsb_field_diagram.specs.Laws.{OnAsStretches, ShownAsStretches};
 
-/// The bars of a head in a line of a diagram say what it shows at each tick. They run from where the line or the first
-/// change begins to its end without gap or overlap, none is empty, neighbours have different marks, and at each tick
-/// the mark is that of the change in force.
+/// The bars of a head in a line of a diagram say what it shows at each tick. They run from where the line begins, or
+/// the first change where that comes later, to the end of the line, without gap or overlap. None is empty, neighbours
+/// have different marks, and at each tick the mark is that of the change in force.
 ///
 /// Needs: ticks that rise, as in `rises` of the examples.
 /// Not said: how it looks. A dark stretch is a bar without a text.

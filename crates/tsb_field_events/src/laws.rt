@@ -1,7 +1,7 @@
 //! What holds of the events of a session, each law the contract of a function that does nothing.
 ghost use Rattle.tsb_field_events.specs.Laws.{AreAllTold, HeaderIsRead, LinesAreRead, StandInOrder};
 
-/// Events come by tick, then by code, then by parameter. No two are one.
+/// Events come by tick, then by code, then by parameter. No two are the same.
 ///
 /// Needs: display lines whose ticks rise, and a log's rows whose ticks rise.
 /// Mistake: the events of inputs after all others (`out_of_order`).
@@ -18,8 +18,6 @@ pub fn all_events_are_told()
 {}
 
 /// The header of an event log names the usual columns.
-///
-/// Mistake: as of `lines_are_read`.
 pub fn the_header_is_read()
     ensures { HeaderIsRead }
 {}

@@ -2,7 +2,8 @@
 ghost use Rattle.tsb_past.specs.Machine.{Machine};
 ghost use Rattle.tsb_past.specs.Laws.{BenchesAnswer, EarlierAreReplays, LastIsGreatest, PastsAreTheRun, SeeksAreLeast, SeeksAreReplays, SessionsAreReplays, UndoGivesBack};
 
-/// Undo takes back what was done. To take back the input that was just applied gives state and history as they were.
+/// Undo takes back what was done. To take back the input that was just applied gives state and history as they were, of
+/// every machine of states and inputs.
 ///
 /// Needs: a record that, taken back, gives the state before it.
 pub fn undo_gives_back<S, I, C>()
@@ -20,7 +21,7 @@ pub fn earlier_are_replays<S, I, C>()
 
 /// Seek is undo repeated, as few times as make the tick number. What it reaches is a replay without these inputs.
 ///
-/// Needs: as `earlier_are_replays`, and a tick number that counts.
+/// Needs: as `earlier_are_replays`, and a tick number that begins at 0 and goes on by one at most.
 pub fn seeks_are_undo_repeated<S, I, C>()
     ensures replays { (m : Machine S I C) (start : S) → SeeksAreReplays m start }
     ensures least { (m : Machine S I C) (start : S) → SeeksAreLeast m start }
