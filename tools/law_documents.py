@@ -118,19 +118,25 @@ def lacking() -> None:
             print(f"{law.place()}: no {' and no '.join(it.lower() for it in missing)}")
 
 
+def rewritten(is_check: bool) -> list[str]:
+    """Writes the documents, or only compares them; gives what is wrong."""
+    wrong = misplaced()
+    for path, text in written().items():
+        if is_check:
+            wrong += differences(path, text)
+        else:
+            path.write_text(text)
+    return wrong
+
+
 def main(words: list[str]) -> int:
-    if words == ["--lacking"]:
-        lacking()
-        return 0
-    if words not in ([], ["--check"]):
+    if words not in ([], ["--check"], ["--lacking"]):
         sys.exit("usage: tools/law_documents.py [--check | --lacking]")
     try:
-        wrong = misplaced()
-        for path, text in written().items():
-            if words:
-                wrong += differences(path, text)
-            else:
-                path.write_text(text)
+        if words == ["--lacking"]:
+            lacking()
+            return 0
+        wrong = rewritten(is_check=bool(words))
     except BrokenComment as error:
         wrong = [str(error)]
     print("\n".join(wrong) if wrong else f"{len(laws())} laws, as in the source")

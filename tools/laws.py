@@ -19,7 +19,7 @@ import re
 LABELS = ["Needs", "Not said", "Mistake", "Mistakes", "Witness"]
 
 # A public function with its comment and its contract, up to the line after which its body begins.
-FUNCTION = re.compile(r"((?:^///.*\n)+)^pub fn (\w+)(.*\n(?:^ .*\n)*)^\{(.*\n(?:^ .*\n)*)", re.M)
+FUNCTION = re.compile(r"((?:^///.*\n)*)^pub fn (\w+)(.*\n(?:^ .*\n)*)^\{(.*\n(?:^ .*\n)*)", re.M)
 LABEL = re.compile(rf"({'|'.join(LABELS)}): ")
 CLAUSE = re.compile(r"`(\w+)`: ")
 TITLE = re.compile(r"(.+?)\.(?: +|$)(?=[A-Z`]|$)")
@@ -78,6 +78,8 @@ def title_of(text: str, place: str) -> tuple[str, str]:
 
 def laws_of(crate: str, function: str, lines: list[str], clauses: list[str]) -> list[Law]:
     """The laws that the comment above a function tells."""
+    if not lines:
+        raise BrokenComment(f"{crate} {function}: has no comment")
     found: list[Law] = []
     for text in map(" ".join, parts_of(lines)):
         label = LABEL.match(text)

@@ -6,7 +6,7 @@ ghost use Rattle.tsb_field_log.specs.Laws.{AddOneEvent, AddTheEnd, AddUpToTheLog
 ///
 /// Mistakes: a wire that is on where it is on as the tick begins (`pulse_lost`), or as the tick ends (`end_lost`); one
 /// that goes off as a tick begins and is on in it (`on_too_long`).
-/// Witness: those of TickExamples.
+/// Witness: the equations of TickExamples.
 pub fn no_pulse_is_lost()
     ensures { AreOnAtSomeMoment }
 {}

@@ -41,7 +41,7 @@ pub fn enabled_are_served()
 /// Needs: an untripped stretch; at most 16 phases, as every plan in memory has. Where a commit changes a time
 /// meanwhile, the largest counts.
 /// Not said: that a call leads to a commitment.
-/// Mistake: `may_start_alone`, which waits for the other ring to clear (`starts_2`, `would_wait`).
+/// Mistake: a start that waits for the other ring to clear, `may_start_alone` (`starts_2`, `would_wait`).
 /// Witness: `a_commitment` of CommitmentRuns.
 pub fn commitments_are_served()
     ensures { CommitmentsAreServed }
@@ -53,7 +53,7 @@ pub fn commitments_are_served()
 ///
 /// Needs: as `commitments_are_served`.
 /// Not said: that a call on another side leads to a crossing.
-/// Mistake: `may_start_committed`, which wants a commitment of each ring (`starts_3`, `would_not_complete`).
+/// Mistake: a crossing that wants a commitment of each ring, `may_start_committed` (`starts_3`, `would_not_complete`).
 /// Witness: `a_crossing` of CrossingRuns.
 pub fn crossings_complete()
     ensures { CrossingsComplete }
@@ -79,8 +79,8 @@ pub fn omitted_are_not_served()
     ensures { OmittedAreNotServed }
 {}
 
-/// All red ends. While in each tick a preempt is in service or some phase is callable, all red lasts for at most the
-/// largest red revert and two ticks, whatever inputs come.
+/// All red ends while a phase is callable or a preempt is in service. While that is so in each tick, be it by now one
+/// phase and now another, all red lasts for at most the largest red revert and two ticks, whatever inputs come.
 ///
 /// Needs: as `commitments_are_served`, and that no value of the plan is over the greatest of its object.
 /// Not said: which phase starts then. Where no phase is callable and no preempt is in service, all red may last.

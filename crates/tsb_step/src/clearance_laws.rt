@@ -17,7 +17,7 @@ ghost use Rattle.tsb_step.specs.ClearanceLaws.{ClearedAreOver, CoordinatedClearA
 /// `started`: A phase that starts has its red revert timer Off, or has waited for it. So it is from any state.
 ///
 /// Not said: that the timer is on after a yellow.
-/// Mistake: `starting_as_wanted` of tsb_ring (`reverts`, `reverts_not`).
+/// Mistake: a start without a look at red revert, `starting_as_wanted` of tsb_ring (`reverts`, `reverts_not`).
 /// Witness: `starts_4` of TimeRuns.
 pub fn moves_have_waited()
     ensures ended { EndedGreensHaveLasted }

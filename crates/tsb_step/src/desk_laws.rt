@@ -6,7 +6,6 @@ ghost use Rattle.tsb_step.specs.DeskLaws.{ChangeTheDeskAlone, LeaveTheDesk, ActB
 ///
 /// Mistakes: a set that acts at once, `step_at_once` (`acts_not`, `acts_at_once`); a reset that closes the desk,
 /// `reset_closes` (`keeps_owner`, `would_be_closed`).
-/// Witness: `straight` and `roundabout`.
 pub fn desk_inputs_change_the_desk()
     ensures alone { ChangeTheDeskAlone }
     ensures others { LeaveTheDesk }
@@ -17,8 +16,8 @@ pub fn desk_inputs_change_the_desk()
 /// and show the same. So it is by whatever edits, of whichever station, with refused inputs among them.
 ///
 /// Not said: that two different plans act alike.
-/// Mistakes: `step_at_once`; an abort that puts its edits into effect, `step_on_abort` (`gives_up`, `gives_up_not`); a
-/// value set again as one edit more, `with_edit_too` (`forgets_not`, `forgets`).
+/// Mistakes: a set that acts at once, `step_at_once`; an abort that puts its edits into effect, `step_on_abort`
+/// (`gives_up`, `gives_up_not`); a value set again as one edit more, `with_edit_too` (`forgets_not`, `forgets`).
 /// Witness: `straight` and `roundabout`.
 pub fn desks_act_by_plans()
     ensures plans { ActByPlansAlone }

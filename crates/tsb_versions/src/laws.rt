@@ -3,8 +3,8 @@
 ghost use Rattle.tsb_versions.specs.Laws.{BreakTheSameRule, CountersAgree, FieldsAgree, HeadsAgree, OthersRest, PutsMakeNarrowPlans, PutsMakeWidePlans, QuadIsWide, RefusalsAgree, StagesAgree, StatesAgree, TakeTheSame, TwoIsWide, WidePlansSayTheSame};
 ghost use Rattle.tsb_versions.specs.Texts.{NamedPlansBreakNoRule, ReadBenchesGoAlike, TextsGiveWidePlans, TextsNameNarrowPlans};
 
-/// A plan of version 1 has its wide plan. The plan of 16 phases and 4 sides that says at translated indices what a plan
-/// of version 1 says is one, and breaks the same rule first, or none.
+/// A plan of version 1 has its wide plan. There is one plan of 16 phases and 4 sides that says at translated indices
+/// what a plan of version 1 says, and nothing elsewhere. It breaks the same rule first, or none as well.
 ///
 /// Mistake: splits that are not translated, `not_translated` (`narrow_forces`, `forces_none`, `is_wrong`).
 pub fn wide_plans_say_the_same()
@@ -26,7 +26,7 @@ pub fn values_make_both_plans()
 /// same state, but for the translated plan and edits.
 ///
 /// Needs: a plan of version 1, and sets and lamps within its ranges; `lamp_of_9` and `set_9` compute why.
-/// Witness: those of Examples.
+/// Witness: `narrow_preempted` and `wide_preempted` of Examples.
 pub fn benches_show_the_same()
     ensures heads { HeadsAgree }
     ensures fields { FieldsAgree }
