@@ -1,21 +1,21 @@
 #!/usr/bin/env python3
 """Writes docs/DEFINITIONS.md, the index of the public definitions in crates/*/specs; run it at the top.
 
-Each definition is told by the first sentence of the comment above it, each module by that at its head. Beside a
-definition stand the functions and types of `src/`, of whatever crate, whose clauses name it. Crates come in the order
-of crates.txt. With `--check` nothing is written; it then fails where the document is not what the definitions give, and
-tells the first line that differs.
+A row has a definition, the first sentence of the comment above it, and the functions and types of `src/`, of whatever
+crate, whose clauses name it. Each module is introduced by the first sentence at its head. Crates come in the order of
+crates.txt. The document is not kept in git. Where a public definition has no comment the script names it and fails.
 """
 import itertools
 import pathlib
 import re
 import sys
 import textwrap
+from collections.abc import Iterable, Iterator
 
 INDEX = pathlib.Path("docs/DEFINITIONS.md")
 HEAD = """# Definitions
 
-Each public definition in `specs/`, crate by crate from the cells up to the program, told by the first sentence of the
+Each public definition in `specs/`, crate by crate from the cells up to the program, with the first sentence of the
 comment above it; `tools/definitions_index.py` writes this document. The last column has the public functions and types
 whose clauses name the definition, or else the private ones, in parentheses, six at most; where it is empty, the
 definition is a part of others. docs/LAWS.md says how definitions are to be read, what each law needs, and what it does
@@ -30,16 +30,21 @@ GHOST_USE = re.compile(r"ghost use Rattle\.(\w+)\.specs\.(\w+)\.\{([^}]*)\}")
 OWNER = re.compile(r"\s*(pub )?(?:pub\(\w+\) )?(?:const )?(?:fn|struct|trait|enum) (\w+)")
 IMPL = re.compile(r"(?:impl(?:<.*?>)?|pub trait) ([\w:<>, ]+ for )?(\w+)")
 
+# A definition by its crate, its module and its name.
+Place = tuple[str, str, str]
 
-def sentence(lines):
+
+def sentence(lines: list[str]) -> str:
     """The first sentence of a comment, as one line that a table can hold."""
     said = " ".join(itertools.takewhile(bool, lines))
     return re.split(r"(?<=\.)\s+(?=[A-Z`])", said)[0].rstrip(".:").replace("|", "\\|")
 
 
-def module(path):
+def module(path: pathlib.Path) -> tuple[str, list[tuple[str, str]]]:
     """What a module says of itself, and each public definition in it with what is said of that."""
-    said, head, found = [], None, []
+    said: list[str] = []
+    head: str | None = None
+    found = []
     for line in path.read_text().splitlines():
         if line.lstrip().startswith("--"):
             said.append(line.lstrip()[2:].strip())
@@ -49,10 +54,10 @@ def module(path):
         if definition:
             found.append((next(filter(None, definition.groups())), sentence(said)))
         said = []
-    return head, found
+    return head or "", found
 
 
-def owner_of(line, inside, is_trait):
+def owner_of(line: str, inside: str | None, is_trait: bool) -> str | None:
     """How the index names the function or type that a line begins, if it begins one; those of traits are public."""
     began = OWNER.match(line)
     if not began:
@@ -62,9 +67,11 @@ def owner_of(line, inside, is_trait):
     return f"`{name}`" if began[1] or is_method and is_trait else f"(`{name}`)"
 
 
-def clauses(path):
+def clauses(path: pathlib.Path) -> Iterator[tuple[str, str]]:
     """Each function and type of a source file with the lines of its head, up to its body."""
-    inside, is_trait, owner = None, False, None
+    inside: str | None = None
+    owner: str | None = None
+    is_trait = False
     for line in path.read_text().splitlines():
         impl = IMPL.match(line)
         if impl:
@@ -78,11 +85,11 @@ def clauses(path):
             yield owner, line
 
 
-def contracts():
+def contracts() -> dict[Place, dict[str, None]]:
     """For each crate, module and definition the functions and types whose clauses name it, in order."""
-    named = {}
+    named: dict[Place, dict[str, None]] = {}
     for path in sorted(pathlib.Path("crates").glob("*/src/**/*.rt")):
-        places = {}
+        places: dict[str, list[Place]] = {}
         for crate, where, words in GHOST_USE.findall(path.read_text()):
             for word in words.split(","):
                 places.setdefault(word.strip(), []).append((crate, where, word.strip()))
@@ -95,54 +102,57 @@ def contracts():
     return named
 
 
-def told(owners):
+def told(owners: Iterable[str]) -> str:
     """The last column: the public functions and types of those that name a definition, or else the private ones."""
-    owners = [it for it in owners if not it.startswith("(")] or list(owners)
-    shown = owners if len(owners) <= MOST else [*owners[:MOST - 1], f"and {len(owners) - MOST + 1} others"]
+    every = list(owners)
+    best = [it for it in every if not it.startswith("(")] or every
+    shown = best if len(best) <= MOST else [*best[:MOST - 1], f"and {len(best) - MOST + 1} others"]
     return ", ".join(shown)
 
 
-def crates():
+def crates() -> list[str]:
     """The crates from the bottom up."""
     lines = pathlib.Path("crates.txt").read_text().splitlines()
     return [line.split(":")[0] for line in lines if not line.startswith("#")]
 
 
-def spelled():
+def table(crate: str, path: pathlib.Path, named: dict[Place, dict[str, None]]) -> list[str]:
+    """The part of a module, which is empty where it has no public definition."""
+    head, definitions = module(path)
+    if not definitions:
+        return []
+    lines = [f"### `{path.stem}`", "", *textwrap.wrap(f"{head}.", 120)] if head else [f"### `{path.stem}`"]
+    lines += ["", "| Definition | What it is | Contract of |", "|---|---|---|"]
+    for name, said in definitions:
+        cells = [f"`{name}`", said, told(named.get((crate, path.stem, name), {}))]
+        lines.append(re.sub(" +", " ", f"| {' | '.join(cells)} |"))
+    return [*lines, ""]
+
+
+def spelled() -> str:
     """The whole document."""
     named = contracts()
     lines = [HEAD]
     for crate in crates():
-        modules = sorted(pathlib.Path("crates", crate, "specs").glob("**/*.antt"))
-        found = [(path, *module(path)) for path in modules]
-        if any(definitions for _, _, definitions in found):
-            lines += [f"## {crate}", ""]
-        for path, head, definitions in found:
-            if not definitions:
-                continue
-            lines += [f"### `{path.stem}`", "", *textwrap.wrap(f"{head}.", 120)] if head else [f"### `{path.stem}`"]
-            lines += ["", "| Definition | What it is | Contract of |", "|---|---|---|"]
-            for name, said in definitions:
-                cells = [f"`{name}`", said, told(named.get((crate, path.stem, name), {}))]
-                lines.append(re.sub(" +", " ", f"| {' | '.join(cells)} |"))
-            lines.append("")
+        parts = [table(crate, path, named) for path in sorted(pathlib.Path("crates", crate, "specs").glob("**/*.antt"))]
+        if any(parts):
+            lines += [f"## {crate}", "", *itertools.chain.from_iterable(parts)]
     return "\n".join(lines)
 
 
-def main(words):
-    new = spelled()
-    if not words:
-        INDEX.write_text(new)
-    elif words != ["--check"]:
-        sys.exit("usage: tools/definitions_index.py [--check]")
-    pairs = itertools.zip_longest(INDEX.read_text().splitlines(), new.splitlines(), fillvalue="(no line)")
-    for number, (was, now) in enumerate(pairs, 1):
-        if was != now:
-            print(f"{INDEX}:{number}: {was}\nis to be: {now}")
-            return 1
-    print(f"{new.count(chr(10) + '| `')} definitions, as in the source")
-    return 0
+def uncommented() -> list[str]:
+    """The public definitions that have no comment."""
+    paths = sorted(pathlib.Path("crates").glob("*/specs/**/*.antt"))
+    return [f"{path}: {name} has no comment" for path in paths for name, said in module(path)[1] if not said]
+
+
+def main() -> int:
+    wrong = uncommented()
+    text = spelled()
+    INDEX.write_text(text)
+    print("\n".join(wrong) if wrong else f"{text.count(chr(10) + '| `')} definitions in {INDEX}")
+    return 1 if wrong else 0
 
 
 if __name__ == "__main__":
-    sys.exit(main(sys.argv[1:]))
+    sys.exit(main())

@@ -23,11 +23,12 @@ use tsb_step::time_laws::{
     overlaps_clear_in_yellow, phases_clear_in_yellow, sides_are_served,
 };
 
-/// Laws, and no work: of the bench that `play` leaves behind these commands, with these answers, from power-up with
-/// this plan. Whatever a session goes through, it is at each moment where `play` leaves the commands so far.
+/// The bench that `play` leaves keeps the laws of runs. From power-up with this plan, after these commands with these
+/// answers, fourteen laws of tsb_step hold of its state and of the next tick or input, whatever that is. Each clause
+/// says one law. At each moment a session is where `play` leaves the commands so far.
 ///
-/// What is asked for is what `play` promises, in its clauses `taken` and `state`. The next tick or input is any: it need
-/// not be a command.
+/// Needs: what `play` promises, in its clauses `taken` and `state`.
+/// Not said: the other laws of tsb_step, red revert among them, and those of tsb_safety. They hold of the same runs.
 pub fn plays_keep_the_laws(plan: Checked, commands: &[Cmd], answers: &[Answer], bench: &Bench)
     requires taken { AreTaken (checked_plan plan) (remaining (checked_plan plan) commands.now answers.now) }
     requires state { state_of bench.now ≡ replay (checked_plan plan) (remaining (checked_plan plan) commands.now answers.now) }

@@ -1,8 +1,9 @@
 //! How long the room of the history lasts, a law as the contract of a function that does nothing.
 ghost use Rattle.tsb_bench.specs.Room.{RoomLasts};
 
-/// Where the history has room for n records of k entries each, none of the next n inputs that can change k cells each
-/// at most is refused as out of memory: by what `Bench::apply` promises of each (`few`, `wanting`, `room`, `err`).
+/// Reserved room lasts. Where the history has room for n records of k entries each, none of the next n inputs that can
+/// change k cells each at most is refused as out of memory. It follows from four clauses of `Bench::apply`: `few`,
+/// `wanting`, `room`, `err`.
 pub fn room_lasts()
     ensures { RoomLasts }
 {}

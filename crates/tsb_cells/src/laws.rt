@@ -3,24 +3,24 @@
 ghost use Rattle.tsb_cells.specs.DiffLaws.{TellsEachChange, Ascends, GivesBack, Shifts, Joins, AppliesByParts, HasOwnParts};
 ghost use Rattle.tsb_cells.specs.TimerLaws.{TellTheirCells, AreReadAsTheyWere, AreInTime, BeganInTime};
 
-/// A difference has an entry for each cell that changed, with what it held before, and no other, in ascending
-/// order of the cells.
+/// A difference has an entry for each cell that changed, with what it held before, and no other. The entries come in
+/// ascending order of the cells.
 pub fn difference_is_what_changed()
     ensures tells { TellsEachChange }
     ensures ascends { Ascends }
 {}
 
-/// What was changed is taken back by the difference.
+/// A difference that is put back gives what was.
 pub fn difference_is_taken_back()
     ensures { GivesBack }
 {}
 
-/// Numbering the cells from a greater number shifts the entries, and changes nothing else.
+/// Numbering the cells from a greater number shifts the entries. It changes nothing else.
 pub fn numbering_shifts_entries()
     ensures { Shifts }
 {}
 
-/// Rows that stand side by side have their differences side by side.
+/// Rows side by side have their differences side by side.
 pub fn differences_join()
     ensures { Joins }
 {}
@@ -35,8 +35,8 @@ pub fn parts_are_own_differences()
     ensures { HasOwnParts }
 {}
 
-/// A cell of a timer that began by the tick at which it is read is the cell of what is read, and a timer that began at
-/// tick 0 or later is what its cell is read as.
+/// The cell of a timer is read as the timer that began at its tick, and a timer is what its cell is read as. It is so
+/// from the tick at which it began on.
 pub fn cells_tell_timers()
     ensures cells { TellTheirCells }
     ensures timers { AreReadAsTheyWere }

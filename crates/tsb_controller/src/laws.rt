@@ -2,29 +2,28 @@
 //! contract of a function that does nothing.
 ghost use Rattle.tsb_controller.specs.Whole.{RowsAreTold, RecordsAreJoined, RecordsGoBack, RecordsGiveBack, RecordsAreFew, RowsGoBack, EntriesAreWithin, ChangesAreFew, RowsStay, NothingDiffers, ChangesOfTheLayers, ChangesOfTheDesk, ChangesOfACommit};
 
-/// Rows that the bench can hold at a tick are the cells of the state that is read in them.
+/// The rows that the bench can have at a tick are the encoding of the state that is read in them.
 pub fn rows_are_told()
     ensures { RowsAreTold }
 {
     tsb_transact::laws::rows_are_told();
 }
 
-/// The record of an input is what differs in each row, one behind the other.
+/// The record of an input is what differs in each row, one row after the other.
 pub fn records_are_joined()
     ensures { RecordsAreJoined }
 {
     tsb_transact::laws::rows_are_told();
 }
 
-/// A record is taken back by putting into each row what it says of it.
+/// A record is taken back by putting into each row what it says of that row.
 pub fn records_go_back()
     ensures { RecordsGoBack }
 {
     tsb_transact::laws::rows_are_told();
 }
 
-/// The record of an input gives back the state before it, and has no more entries of any cells than there are of
-/// these.
+/// The record of an input gives back the state before it. It has no more entries of any cells than there are of these.
 pub fn records_give_back()
     ensures back { RecordsGiveBack }
     ensures few { RecordsAreFew }
@@ -32,15 +31,15 @@ pub fn records_give_back()
     tsb_transact::laws::rows_are_told();
 }
 
-/// What differs between two lots of rows, put back into the later ones, gives the earlier ones; it names cells of the
-/// bench alone, and no more of any cells than there are of these.
+/// What differs between earlier and later rows, put back into the later ones, gives the earlier ones. It names cells of
+/// the bench alone, and no more of any cells than there are of these.
 pub fn rows_go_back()
     ensures back { RowsGoBack }
     ensures within { EntriesAreWithin }
     ensures few { ChangesAreFew }
 {}
 
-/// Rows of the layers that can be at a tick can be at each later one.
+/// The rows of the layers that can be at a tick can be at each later one.
 pub fn rows_stay_by()
     ensures { RowsStay }
 {}

@@ -155,8 +155,9 @@ impl Controller {
     }
 }
 
-/// A tick that the monitor watched is a tick; and where the rows stay as they were, and it found nothing, it finds nothing
-/// in a tick that is passed over.
+/// A monitor that found nothing finds nothing where nothing changes. A tick that the monitor watched is a tick. Where
+/// it left the rows as they were and the monitor found nothing, the monitor finds nothing in another tick that leaves
+/// them so; the bench passes over such ticks.
 pub fn watched_ticks_pass()
     ensures ticked { WatchedTicksAreTicked }
     ensures passed { WatchedTicksPass }

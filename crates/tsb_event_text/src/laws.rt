@@ -1,8 +1,13 @@
 //! What holds of the lines that are written, each law the contract of a function that does nothing.
 ghost use Rattle.tsb_event_text.specs.Events.{AreReadAgain};
 
-/// A line that is written, without its feed, is read by the usual columns as the event that it was written of, where a
-/// line can name its device. It is none that readers of logs skip, and has at most 1,000 bytes, as they take.
+/// The line of an event is read as that event. It is read by the usual columns, without its feed, where
+/// `can_be_written` holds of its device; readers of logs neither skip it nor find it too long, as it has at most 1,000
+/// bytes.
+///
+/// Mistakes: those of LineMistakes: a device with a comma and no quotes, one with a quote inside quotes, and one that
+/// begins with `#` and no quotes.
+/// Witness: `named` of LineExamples.
 pub fn lines_are_read_again()
     ensures { AreReadAgain }
 {}

@@ -1,14 +1,23 @@
 //! What holds of the bars of a diagram, each law the contract of a function that does nothing.
 ghost use Rattle.tsb_field_diagram.specs.Laws.{OnAsStretches, ShownAsStretches};
 
-/// The bars of a head in a line are the longest stretches in which it shows one thing, in order, without gap or
-/// overlap, from where the line begins to where it ends, and at each tick they tell what the change in force shows. A
-/// stretch in which it is dark is among them, though it has no text.
+/// The bars of a head in a line of a diagram say what it shows at each tick. They run from where the line begins, or
+/// the first change where that comes later, to the end of the line, without gap or overlap. None is empty, neighbours
+/// have different marks, and at each tick the mark is that of the change in force.
+///
+/// Needs: ticks that rise, as in `rises` of the examples.
+/// Not said: how it looks. A dark stretch is a bar without a text.
+/// Mistakes: a bar for each change (`no_stretches`); what is in force when the line begins is left out (`late`); a bar
+/// ends a tick early (`gap`).
 pub fn heads_are_told_by_stretches()
     ensures { ShownAsStretches }
 {}
 
-/// And so are the bars of an input, by the row in force.
+/// The bars of an input in a line of a diagram say at each tick whether it is on. They are those of a head, by the row
+/// in force.
+///
+/// Needs: as `heads_are_told_by_stretches`.
+/// Mistakes: as of `heads_are_told_by_stretches`.
 pub fn inputs_are_told_by_stretches()
     ensures { OnAsStretches }
 {}

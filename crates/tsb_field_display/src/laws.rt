@@ -1,18 +1,24 @@
 //! What holds of display lines and their events, each law the contract of a function that does nothing.
 ghost use Rattle.tsb_field_display.specs.Laws.{AreRead, ComeOfChanges, TellTheHeads};
 
-/// What is read of a display line is what it shows.
+/// What is read of a display line is what it shows. That is its tick, what each head shows, and the preempt.
+///
+/// Not said: the local counter, of which no event tells.
 pub fn display_lines_are_read()
     ensures { AreRead }
 {}
 
-/// Events come of changes alone: lines that show the same as the line before have none.
+/// Lines that show what the line before shows have no events.
 pub fn events_come_of_changes()
     ensures { ComeOfChanges }
 {}
 
-/// After the events of each line, the events so far tell which heads are green, yellow, in walk or in clearance, and
-/// whether all flash, as that line shows it. No event tells red or don't walk.
+/// The events up to each line say what the heads show then. They say which heads are green, yellow, in walk or in
+/// clearance, and whether all flash.
+///
+/// Not said: red beside dark, of which the enumerations have no event.
+/// Mistakes: events without the end of yellow (`still_yellow`, `is_red`), or of a clearance (`left_out`, `ends_now`).
+/// Witness: `met` of Examples.
 pub fn events_tell_the_heads()
     ensures { TellTheHeads }
 {}

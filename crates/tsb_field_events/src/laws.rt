@@ -1,23 +1,32 @@
 //! What holds of the events of a session, each law the contract of a function that does nothing.
 ghost use Rattle.tsb_field_events.specs.Laws.{AreAllTold, HeaderIsRead, LinesAreRead, StandInOrder};
 
-/// Where the ticks of display lines rise, and those of rows, the events rise by tick, then code, then parameter.
+/// Events come by tick, then by code, then by parameter. No two are the same.
+///
+/// Needs: display lines whose ticks rise, and a log's rows whose ticks rise.
+/// Mistake: the events of inputs after all others (`out_of_order`).
 pub fn events_stand_in_order()
     ensures { StandInOrder }
 {}
 
-/// The events of inputs are those of the rows, one after the other, and the others are those of the display lines.
+/// No event is lost and none is made. Those of inputs are the rows', one after another, and the others are those of the
+/// display lines.
+///
+/// Mistake: the first event that does not come before another is left out (`rest_without`).
 pub fn all_events_are_told()
     ensures { AreAllTold }
 {}
 
-/// The first line of a text names the usual columns.
+/// The header of an event log names the usual columns.
 pub fn the_header_is_read()
     ensures { HeaderIsRead }
 {}
 
-/// The line of an event, without its feed, is read by the usual columns as that event at the moment of its tick, where
-/// a line can name the device. It is none that readers of logs skip, and has at most 1,000 bytes, as they take.
+/// Each line of an event log is read as its event. It is read by the usual columns at the moment of its tick, where
+/// `can_be_written` holds of the device, and readers of logs take it, as it has at most 1,000 bytes.
+///
+/// Not said: that the text is cut into these lines.
+/// Mistakes: code and parameter change places (`other_event`); tick 1 begins a tenth late (`first_tick_not`).
 pub fn lines_are_read()
     ensures { LinesAreRead }
 {}

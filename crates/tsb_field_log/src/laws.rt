@@ -1,25 +1,36 @@
 //! What holds of every log that is written, each law the contract of a function that does nothing.
 ghost use Rattle.tsb_field_log.specs.Laws.{AddOneEvent, AddTheEnd, AddUpToTheLog, AreInForce, AreLogs, AreLong, AreOnAtSomeMoment, AreTheInputs, BeginTheLog};
 
-/// A wire is on in a tick exactly where it is on at some moment of it, or is switched on in it.
+/// No pulse is lost. A wire is on in a tick exactly where it is on at some moment of that tick, or is switched on in
+/// it, though off again at the same moment. What is switched off at a moment is off from that moment.
+///
+/// Mistakes: a wire that is on where it is on as the tick begins (`pulse_lost`), or as the tick ends (`end_lost`); one
+/// that goes off as a tick begins and is on in it (`on_too_long`).
+/// Witness: the equations of TickExamples.
 pub fn no_pulse_is_lost()
     ensures { AreOnAtSomeMoment }
 {}
 
-/// What is written is a log that `read_log` takes, where it has at most 64 MiB: a row has 39 bytes.
+/// The text of the rows is a log of those rows. It is one that `read_log` takes, where it has at most 64 MiB; each row
+/// has 39 bytes.
 pub fn what_is_written_is_a_log()
     ensures logs { AreLogs }
     ensures long { AreLong }
 {}
 
-/// The row in force at a tick has an input on exactly where a wire that leads to it is on in that tick.
+/// The row in force at a tick has an input on exactly where one of the wires that lead to it is on in that tick.
+///
+/// Not said: which wires there are.
 pub fn rows_tell_the_inputs()
     ensures force { AreInForce }
     ensures inputs { AreTheInputs }
 {}
 
-/// The rows that a field gives, event by event and as it is finished, are the log of its events. Those known so far begin
-/// that log, whatever events of the same tick or of later ones follow.
+/// What a field gives, event by event and as it is finished, is the log of all its events. What it has given so far
+/// begins that log, whatever events follow in the order of their ticks.
+///
+/// Mistake: a tick's row is known as soon as an event falls into it (`too_soon`, `not_yet`).
+/// Witness: `in_order`, `more_in_order` of PushedExamples.
 pub fn rows_add_up()
     ensures step { AddOneEvent }
     ensures end { AddTheEnd }

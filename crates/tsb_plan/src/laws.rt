@@ -2,8 +2,8 @@
 //! nothing.
 ghost use Rattle.tsb_plan.specs.Laws.{AreInOrder, HaveCells, ShareNoCell, LeaveNoCell, PlansAreTold, GiveBackWhatIsPut, LeaveOthers};
 
-/// The list of all objects has each at its place among them, and no other. Each object at each of its indices has a
-/// cell of its own, and these are all cells of a plan: those from 0 to below `PLAN_CELLS`.
+/// Each value of a plan has its own cell. Each object at each of its indices has one, and no cell of a plan is unused:
+/// they are those from 0 to below `PLAN_CELLS`. The list of all objects has each at its place among them, and no other.
 pub fn cells_are_told_apart()
     ensures in_order { AreInOrder }
     ensures within { HaveCells }
@@ -11,8 +11,8 @@ pub fn cells_are_told_apart()
     ensures used { LeaveNoCell }
 {}
 
-/// The cells of a plan are the table of what it says of each object at each index. `get` gives what `put` put, at that
-/// object and index; at any other it gives what it gave before.
+/// `get` gives what `put` put. At any other object or index it gives what it gave before, and the cells of a plan are
+/// the encoding of what it says of each object at each index.
 pub fn values_are_told_apart()
     ensures told { PlansAreTold }
     ensures back { GiveBackWhatIsPut }

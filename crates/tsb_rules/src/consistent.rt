@@ -2,29 +2,37 @@
 //! `Checked::plan` says that a checked plan is such a plan.
 ghost use Rattle.tsb_rules.specs.Consistent.{OfConsistentPlans, PhasesArePlaced, ConcurrentGoTogether, FirstSequenceListsRings, SequencesInUseListRings, PreemptsAreSound, PatternsAreWhole, CoordinatedPhasesAgree};
 
-/// Each enabled phase is of ring 1 or 2 and on one of the sides. Two concurrent phases are enabled, of the
-/// two rings and of one side, and concurrent the other way round.
+/// Concurrent phases are of the two rings and of one side. Each enabled phase is of ring 1 or 2 and on one of the
+/// sides. Two concurrent phases are enabled, of the two rings and of one side, and each names the other.
+///
+/// Needs: a plan that breaks no rule.
 pub fn concurrency_is_sound()
     ensures placed { OfConsistentPlans PhasesArePlaced }
     ensures together { OfConsistentPlans ConcurrentGoTogether }
 {}
 
-/// Sequence 1, and the sequence of each used pattern, lists for each ring the phases of the ring, each once
-/// and no other, sides in rising order, with zeros only behind them.
+/// A sequence in use lists exactly the phases of each ring. Sequence 1, and the sequence of each used pattern, lists
+/// for each ring its phases, each once and no other, sides in rising order, with zeros only after them.
+///
+/// Needs: a plan that breaks no rule.
 pub fn sequences_list_rings()
     ensures first { OfConsistentPlans FirstSequenceListsRings }
     ensures used { OfConsistentPlans SequencesInUseListRings }
 {}
 
-/// Each list of a preempt is of enabled, pairwise concurrent phases. A preempt with an empty dwell list has
-/// empty track and exit lists.
+/// Each list of a preempt is of enabled, pairwise concurrent phases. A preempt with an empty dwell list has empty track
+/// and exit lists.
+///
+/// Needs: a plan that breaks no rule.
 pub fn preempts_are_sound()
     ensures { OfConsistentPlans PreemptsAreSound }
 {}
 
-/// A used pattern has a sequence, a split table and an offset below its cycle. It has coordinated phases:
-/// they are enabled, not omitted, on one side, pairwise concurrent, one of each ring that has phases there,
-/// and their splits end at one time.
+/// The coordinated phases of a pattern go together. A used pattern has a sequence, a split table and an offset below
+/// its cycle. Its coordinated phases are enabled, not omitted, on one side, pairwise concurrent, one of each ring that
+/// has phases there, and their splits end at one time.
+///
+/// Needs: a plan that breaks no rule.
 pub fn coordinated_phases_agree()
     ensures whole { OfConsistentPlans PatternsAreWhole }
     ensures coordinated { OfConsistentPlans CoordinatedPhasesAgree }

@@ -2,22 +2,49 @@
 //! nothing.
 ghost use Rattle.tsb_step.specs.ClearanceLaws.{ClearedAreOver, CoordinatedClearAtZero, EndedGreensHaveLasted, GreensClearInTime, StartedHaveReverted};
 
-/// A green that ends has lasted its least time and shows DontWalk, a phase that goes Red is over, and one that
-/// starts has passed its red revert.
+/// `ended`: A green that ends has lasted its least green and shows DontWalk. So it is also at a crossing, or where a
+/// preempt ends it; from any state, not in runs alone.
+///
+/// Not said: anything of walks that ended before.
+/// Mistake: a preempt that ends a green at once, `ready_at_once` (`is_not_ready`, `would_be_ready`).
+///
+/// `cleared`: A phase that goes Red is over. Its yellow change and red clearance have lasted; from any state.
+///
+/// Mistakes: a phase that is cleared as its green has ended, `clears_at_once` (`is_not_over`, `would_be_cleared`), or
+/// in its yellow, `clears_early` of tsb_safety (`does_not_clear`, `would_go_red`).
+/// Witness: `clears_2` of TimeRuns.
+///
+/// `started`: A phase that starts has its red revert timer Off, or has waited for it. So it is from any state.
+///
+/// Not said: that the timer is on after a yellow.
+/// Mistake: a start without a look at red revert, `starting_as_wanted` of tsb_ring (`reverts`, `reverts_not`).
+/// Witness: `starts_4` of TimeRuns.
 pub fn moves_have_waited()
     ensures ended { EndedGreensHaveLasted }
     ensures cleared { ClearedAreOver }
     ensures started { StartedHaveReverted }
 {}
 
-/// A green that ends is followed by its yellow change and its red clearance, each in full, and then its phase
-/// is over, whatever detectors and preempts do meanwhile.
+/// Yellow and red clearance come in full. A green of an enabled phase that ends is followed by Yellow for exactly its
+/// yellow change and by red clearance for exactly its red clearance. The phase is over in the tick in which these end
+/// and in none before, whatever detectors and preempts do meanwhile.
+///
+/// Not said: anything where an input that is no tick comes between, such as a commit of another yellow, or where the
+/// controller trips.
+/// Mistake: a phase that is over as its yellow ends, `over_after_yellow` (`is_not_over`, `would_be_over`).
+/// Witness: `ends_now` of TimeRuns.
 pub fn greens_clear_in_time()
     ensures { GreensClearInTime }
 {}
 
-/// A coordinated phase that is forced off at its instant has ended its yellow change and red clearance where the
-/// local counter is 0.
+/// A coordinated phase that is forced off at its instant has cleared at local zero. Where its green ends at its
+/// force-off instant, it is over in a tick after which the local counter is 0.
+///
+/// Needs: what `greens_clear_in_time` needs: ticks alone come between, and the controller does not trip.
+/// Not said: that the green ends at the instant. A force-off waits for the initial time, for pedestrians and for a
+/// conflict.
+/// Mistakes: those of the law `forced_phases_end_with_their_splits` of tsb_coord, such as `instant_from_own`.
+/// Witness: `forced_off`, `paced_ends`, `at_zero` of TimeRuns.
 pub fn coordinated_phases_clear_at_zero()
     ensures { CoordinatedClearAtZero }
 {}

@@ -1,12 +1,12 @@
 //! What holds of the cells of the desk, each law the contract of a function that does nothing.
 ghost use Rattle.tsb_transact.specs.Laws.{RowsAreTold, StatesAreRead};
 
-/// A row that the desk can hold is the table of what it says.
+/// A row that the layer can have is the encoding of what is read in it.
 pub fn rows_are_told()
     ensures { RowsAreTold }
 {}
 
-/// A desk in range is read in its table as it is, and that table is a row that a desk allows.
+/// The encoding of a state in range is read as it, and is a row that the layer can have.
 pub fn states_are_read()
     ensures { StatesAreRead }
 {}

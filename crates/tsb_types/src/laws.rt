@@ -1,8 +1,8 @@
 //! What holds of every list of phases, each law the contract of a function that does nothing.
 ghost use Rattle.tsb_types.specs.Laws.{NameWhatPasses, AreLists, TellTheirPhases, AreOneIfTheSame};
 
-/// The list of the phases that pass a test names just these, and is a word of 16 bits. A list is told by
-/// the phases that it names.
+/// A list in a cell names exactly the phases that pass a test. It is a word of 16 bits, and two lists that name the
+/// same phases are the same.
 pub fn lists_tell_their_phases()
     ensures names { NameWhatPasses }
     ensures within { AreLists }
