@@ -1,14 +1,14 @@
 #!/usr/bin/env python3
 """Finds what the documents cite and the repository does not have; run it at the top, or by tools/ready.py.
 
-Names in what the comments above laws say of mistakes and witnesses have to stand in `specs/` or `proofs/` of the law's
-crate, or of one that is named there. Otherwise a comment of the source is no place in which a name stands.
-
 A path below `crates`, `docs`, `examples` or `tools` has to be there. Each name between backticks has to stand in the
 sources, or as the name of a file. Names that are said to stand in a file, as in "`is_ready` and `may_end` in
 `crates/tsb_phase/specs/Ready.antt`", or in "`Wants.antt` there", have to stand in that file. Code blocks are left out,
 and so is what is no name, such as a line of a display; of the glossary the names of the standards. docs/DEFINITIONS.md,
 which tools/definitions_index.py writes from the source, may be missing and is not looked at.
+
+The comment above a law names mistakes and witnesses: each has to be in `specs/` or `proofs/` of the law's crate, or of
+one that is named there. A name that only comments of programs have counts as missing.
 """
 import functools
 import itertools

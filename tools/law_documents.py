@@ -1,11 +1,11 @@
 #!/usr/bin/env python3
 """Writes what docs/LAWS.md and docs/PROVED.md say of laws, from the comments above them; run it at the top.
 
-In docs/LAWS.md a line `<!-- laws` begins a list of laws: a crate, a colon and functions in each line. What stands between
-the end of that list and `<!-- end of laws -->` is written anew; all else there is written by hand. docs/PROVED.md has
-one such part, a table of all titles, section by section. With `--check` nothing is written; it then fails where a
-document is not what the comments give, and names the first line that differs. With `--lacking` it lists the laws whose
-comments name no mistake or no witness.
+In docs/LAWS.md a line `<!-- laws` begins a list of laws, each line a crate, a colon and functions. What follows that
+list, up to `<!-- end of laws -->`, is written from the comments, and all else there by hand. docs/PROVED.md has one
+such part, the tables of all titles, section by section. With `--check` nothing is written: the script then fails where
+a document is not what the comments give, and names the first line that differs. With `--lacking` it lists the laws
+whose comments name no mistake or no witness.
 """
 import dataclasses
 import itertools
@@ -30,10 +30,10 @@ class Entry:
     law: Law
     crates: list[str]
 
-    def contract(self, between: str) -> str:
-        """The function, the clause where it is of one, and the crates."""
+    def contract(self) -> str:
+        """The function, the crates, and the clause where it is of one."""
         clause = f", clause `{self.law.clause}`" if self.law.clause else ""
-        return f"`{self.law.function}`{clause}{between}{', '.join(self.crates)}"
+        return f"`{self.law.function}` of {', '.join(self.crates)}{clause}"
 
 
 def listed(text: str) -> Iterator[tuple[str, str]]:
@@ -65,7 +65,7 @@ def wrapped(text: str, indent: str = "") -> str:
 
 def told(entry: Entry) -> str:
     """An entry of docs/LAWS.md."""
-    first = wrapped(f"**{entry.law.title}** ({entry.contract(', ')}). {entry.law.sentences}".strip())
+    first = wrapped(f"**{entry.law.title}** ({entry.contract()}). {entry.law.sentences}".strip())
     notes = (wrapped(f"- *{label}:* {text}", "  ") for label, text in entry.law.notes)
     return "\n".join([first, *notes]) + "\n"
 
@@ -85,7 +85,7 @@ def tables(text: str) -> str:
             continue
         if f"**{section}**" not in lines:
             lines += ["", f"**{section}**", "", "| Law | Contract |", "|---|---|"]
-        lines += [f"| {it.law.title} | {it.contract(' of ')} |" for it in entries(part)]
+        lines += [f"| {it.law.title} | {it.contract()} |" for it in entries(part)]
     return "\n".join([*lines, "", ""])
 
 

@@ -1,6 +1,7 @@
-"""Laws as the source tells them: each is a public function that computes nothing and whose contract is the law.
+"""Laws as the source has them: each is a public function that computes nothing and whose contract is the law.
 
-The comment above it begins with the law's title, one sentence, and then says more. Lines that begin with a label follow:
+The comment above it begins with the law's title, one sentence, and then says more. Lines that begin with a label
+follow:
 
     /// A start waits for what it crosses. A phase starts only when ...
     ///
@@ -8,8 +9,8 @@ The comment above it begins with the law's title, one sentence, and then says mo
     /// Mistake: one ring crosses as soon as it has cleared, `starting_once_cleared` (`still_serves_6`).
     /// Witness: `starts_4` of TimeRuns.
 
-A law of several clauses may have a paragraph for each, which begins with the clause's name: "`safe`: No two phases ...".
-The lines with labels after it are of that clause.
+A law of several clauses may have a paragraph for each, which begins with the clause's name, as in "`safe`: No two
+phases ...". The lines with labels after it are of that clause.
 """
 import dataclasses
 import functools
@@ -77,7 +78,7 @@ def title_of(text: str, place: str) -> tuple[str, str]:
 
 
 def laws_of(crate: str, function: str, lines: list[str], clauses: list[str]) -> list[Law]:
-    """The laws that the comment above a function tells."""
+    """What the comment above a function says of it, or of each of its clauses."""
     if not lines:
         raise BrokenComment(f"{crate} {function}: has no comment")
     found: list[Law] = []

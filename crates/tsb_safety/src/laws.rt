@@ -79,8 +79,8 @@ pub fn omitted_are_not_served()
     ensures { OmittedAreNotServed }
 {}
 
-/// All red ends while a phase is callable or a preempt is in service. While that is so in each tick, be it by now one
-/// phase and now another, all red lasts for at most the largest red revert and two ticks, whatever inputs come.
+/// All red ends while a phase is callable or a preempt is in service. While that is so in each tick, be it by one
+/// phase or by another, all red lasts for at most the largest red revert and two ticks, whatever inputs come.
 ///
 /// Needs: as `commitments_are_served`, and that no value of the plan is over the greatest of its object.
 /// Not said: which phase starts then. Where no phase is callable and no preempt is in service, all red may last.
