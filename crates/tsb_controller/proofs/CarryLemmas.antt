@@ -11,7 +11,7 @@ use Rattle.tsb_phase.specs.declared.conditions.Conditions.{Conditions}
 use Rattle.tsb_phase.specs.Phase.{Phase, Given}
 use Rattle.tsb_phase.specs.Moves.{ended, cleared, started_by, once_ended, once_cleared, once_started}
 use Rattle.tsb_phase.specs.Promises.{given_of, IsEnded, KeepsOthers, IsClearing, IsCleared, IsStarted}
-use Rattle.tsb_phase.specs.Cells.{phase_in}
+use Rattle.tsb_phase.specs.Cells.{phase_in, row_in}
 use Rattle.tsb_controller.specs.Carried.{IsEndedIf, IsClearedIf, IsStartedIf, AreApart, IsCarriedOut, moved_by}
 use Rattle.tsb_step.proofs.OnceLemmas.{equal_turned}
 
@@ -58,7 +58,7 @@ again false false f x same = refl
 
 -- the interval is the same at whatever tick the cells are read
 pub same-interval : (m n : ℕ) (row : List ℕ) (p : ℕ) → (phase_in m row p).interval ≡ (phase_in n row p).interval
-unfolding phase_in
+unfolding phase_in row_in
 same-interval m n row p =
     elim (cases_Bool (is_phase p)) [
       | inl on ↦ rw on refl

@@ -19,7 +19,7 @@ use Rattle.tsb_plan.specs.Plan.{Plan}
 use Rattle.tsb_detect.specs.Cells.{detector_in}
 use Rattle.tsb_detect.specs.Detector.{Detector, is_detector}
 use Rattle.tsb_phase.specs.Cells as phase_cells
-use Rattle.tsb_phase.specs.Cells.{phase_in}
+use Rattle.tsb_phase.specs.Cells.{phase_in, row_in}
 use Rattle.tsb_phase.specs.Next as phase_next
 use Rattle.tsb_phase.specs.Next.{interval_after}
 use Rattle.tsb_phase.specs.Phase as phase
@@ -37,7 +37,7 @@ use Rattle.tsb_controller.proofs.CarryLemmas.{same-interval}
 -- ## What rows say at whatever tick they are read
 
 pub part-at : (m n : ℕ) (cells : List ℕ) (p : ℕ) → (phase_in m cells p).pedestrian ≡ (phase_in n cells p).pedestrian
-unfolding phase_in
+unfolding phase_in row_in
 part-at m n cells p = elim (cases_Bool (is_phase p)) [
   | inl on ↦ rw on refl
   | inr out ↦ rw out refl
@@ -124,7 +124,7 @@ module _ (now : ℕ) (plan : Plan) (cells : List ℕ) (given : phase.Given) (m :
   was = phase_in (now - 1) cells p
 
   older : (phase_in now cells p).timer ≡ On 0 → ⊥
-  unfolding phase_in
+  unfolding phase_in row_in
   older e = elim (cases_Bool (is_phase p)) [
     | inl on ↦ (let here : timer_at now (slice_index cells (8 + p)) ≡ On 0 = rw on at e in not-begun now (slice_index cells (8 + p)) one (by.each p (among_16 p on).from (among_16 p on).to).timer here)
     | inr out ↦ (let no : Off ≡ On 0 = rw out at e in absurd cc)

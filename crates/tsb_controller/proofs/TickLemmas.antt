@@ -32,7 +32,7 @@ use Rattle.tsb_calls.specs.Promises as calls
 use Rattle.tsb_calls.proofs.LookLemmas.{look-alike}
 use Rattle.tsb_calls.proofs.NextLemmas.{ticks-give}
 use Rattle.tsb_phase.specs.Cells as phase_cells
-use Rattle.tsb_phase.specs.Cells.{phase_in}
+use Rattle.tsb_phase.specs.Cells.{phase_in, row_in}
 use Rattle.tsb_phase.specs.Laws as phase_laws
 use Rattle.tsb_phase.specs.Laws.{IsToldTheSame}
 use Rattle.tsb_phase.specs.Moves.{once_ended, once_cleared, once_started}
@@ -91,7 +91,7 @@ green-set i p = go (has i.green p) (has i.yellow p) (has i.red_clear p) refl ref
 -- the interval timer that tick `now` reads
 pub timer-read : (now : ℕ) (row : List ℕ) (p : ℕ) → 1 ≤ now → 1 ≤ p → p ≤ 16 → phase_cells.IsBy (now - 1) row →
     (phase_in now row p).timer ≡ (as_read (phase_in (now - 1) row p)).timer
-unfolding phase_in
+unfolding phase_in row_in
 timer-read now row p one from to by =
     rw (is_phase_from p from to) (timer_at-this now (slice_index row (8 + p)) one (by.each p from to).timer)
 

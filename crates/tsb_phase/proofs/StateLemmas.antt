@@ -29,7 +29,7 @@ use Rattle.tsb_phase.specs.Laws.{IsInRange, AreInRange, StatesAreRead}
 use Rattle.tsb_phase.specs.Rows.{row_in, phase_of, IsRowBy}
 use Rattle.tsb_phase.proofs.GreenLemmas.{part-told, same_phase}
 use Rattle.tsb_phase.proofs.RowLemmas.{same_values}
-use Rattle.tsb_phase.proofs.ReadLemmas.{phase_in-row, phase-by}
+use Rattle.tsb_phase.proofs.ReadLemmas.{phase_in-row}
 use Rattle.tsb_types.proofs.IntervalLemmas.{serves-green, serves-yellow, serves-red_clear}
 
 -- ## One phase, and the row that keeps it
@@ -327,9 +327,7 @@ state-by : (now : ℕ) (f : ℕ → Phase) → AreInRange now f → IsBy now (ph
 state-by now f are = record {
   full = full now f;
   lists = lists-small now f;
-  each = λ p from to.
-      phase-by now (phases_cells now f) p
-      (subst (λ (r : PhaseRow). IsRowBy now r) (sym (row-read now f p from to)) (is-held now (f p) (are.each p from to)));
+  each = λ p from to. subst (λ (r : PhaseRow). IsRowBy now r) (sym (row-read now f p from to)) (is-held now (f p) (are.each p from to));
 }
 
 pub outside : (now : ℕ) (row : List ℕ) (p : ℕ) → is_phase p ≡ false → phase_in now row p ≡ at_power_up

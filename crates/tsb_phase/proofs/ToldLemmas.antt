@@ -15,7 +15,7 @@ use Rattle.tsb_types.proofs.ClipLemmas.{is_phase_from}
 use Rattle.tsb_phase.specs.declared.TheConstants.{CELLS}
 use Rattle.tsb_phase.specs.declared.ending.Ending.TheVariants.{MaxOut, GapOut}
 use Rattle.tsb_phase.specs.DynamicMaximum.{is_same}
-use Rattle.tsb_phase.specs.Cells.{number_in, number_cell, phase_in, phases_cells, IsBy}
+use Rattle.tsb_phase.specs.Cells.{number_in, number_cell, phase_in, row_in, phases_cells, IsBy}
 use Rattle.tsb_phase.specs.Laws.{RowsAreTold}
 use Rattle.tsb_rows.proofs.TableLemmas.{list-told, more, column}
 
@@ -80,7 +80,7 @@ module _ (now : ℕ) (row : List ℕ) (by : IsBy now row) where
       list_of 16 (λ p. is_walk (phase_in now row p).pedestrian) ∷ list_of 16 (λ p. is_clearance (phase_in now row p).pedestrian) ∷
       list_of 16 (λ p. (phase_in now row p).gapped) ∷ list_of 16 (λ p. (phase_in now row p).forced) ∷
       list_of 16 (λ p. is_same MaxOut (phase_in now row p).last_ending) ∷ list_of 16 (λ p. is_same GapOut (phase_in now row p).last_ending) ∷ []) ≡ take 9 row
-  unfolding phase_in
+  unfolding phase_in row_in
   lists =
       rw (
         list-told row 0 (λ p. is_green (phase_in now row p).interval) (by.lists 0 (omega arith)) (λ p from to. rw (is_phase_from p from to) (green-by _ _ _)),
@@ -96,7 +96,7 @@ module _ (now : ℕ) (row : List ℕ) (by : IsBy now row) where
       ) (nine row (omega (arith, full)))
 
   phases-told : phases_cells now (phase_in now row) ≡ row
-  unfolding phase_in
+  unfolding phase_in row_in
   phases-told =
       more row 105 (λ p. number_cell (phase_in now row p).running_maximum) _
       (more row 89 (λ p. timer_cell now (phase_in now row p).red_revert) _

@@ -24,7 +24,7 @@ use Rattle.tsb_calls.specs.declared.TheConstants.{CELLS as CALL_CELLS}
 use Rattle.tsb_phase.specs.declared.TheConstants.{CELLS as PHASE_CELLS}
 use Rattle.tsb_phase.specs.Phase.{Phase}
 use Rattle.tsb_phase.specs.Cells as phases
-use Rattle.tsb_phase.specs.Cells.{phase_in}
+use Rattle.tsb_phase.specs.Cells.{phase_in, row_in}
 use Rattle.tsb_phase.proofs.StateLemmas as phase_states
 use Rattle.tsb_ring.specs.declared.TheConstants.{CELLS as RING_CELLS}
 use Rattle.tsb_coord.specs.declared.TheConstants.{CELLS as PATTERN_CELLS}
@@ -142,45 +142,51 @@ module _ (c : ℕ) (row : List ℕ) (f : ℕ → Detector) (by : detect.IsBy c r
 
 module _ (c : ℕ) (row : List ℕ) (f : ℕ → Phase) (by : phases.IsBy c row) (read : phase_in c row ≡ f) (p : ℕ) (from : 1 ≤ p) (to : p ≤ 16) where
   timer-in : timer_at c (slice_index row (8 + p)) ≡ (phase_in c row p).timer
-  unfolding phase_in
+  unfolding phase_in row_in
   timer-in = rw (is_phase_from p from to) refl
 
   pedestrian-in : timer_at c (slice_index row (24 + p)) ≡ (phase_in c row p).pedestrian_timer
-  unfolding phase_in
+  unfolding phase_in row_in
   pedestrian-in = rw (is_phase_from p from to) refl
 
   passage-in : timer_at c (slice_index row (40 + p)) ≡ (phase_in c row p).passage
-  unfolding phase_in
+  unfolding phase_in row_in
   passage-in = rw (is_phase_from p from to) refl
 
   conflict-in : timer_at c (slice_index row (56 + p)) ≡ (phase_in c row p).conflict
-  unfolding phase_in
+  unfolding phase_in row_in
   conflict-in = rw (is_phase_from p from to) refl
 
   reduction-in : timer_at c (slice_index row (72 + p)) ≡ (phase_in c row p).reduction
-  unfolding phase_in
+  unfolding phase_in row_in
   reduction-in = rw (is_phase_from p from to) refl
 
   red_revert-in : timer_at c (slice_index row (88 + p)) ≡ (phase_in c row p).red_revert
-  unfolding phase_in
+  unfolding phase_in row_in
   red_revert-in = rw (is_phase_from p from to) refl
 
   keeps-timer : Keeps c (slice_index row (8 + p)) (f p).timer
+  unfolding row_in
   keeps-timer = keeps c _ _ (by.each p from to).timer (timer-in ∙ ap (λ (g : ℕ → Phase). (g p).timer) read)
 
   keeps-pedestrian : Keeps c (slice_index row (24 + p)) (f p).pedestrian_timer
+  unfolding row_in
   keeps-pedestrian = keeps c _ _ (by.each p from to).pedestrian_timer (pedestrian-in ∙ ap (λ (g : ℕ → Phase). (g p).pedestrian_timer) read)
 
   keeps-passage : Keeps c (slice_index row (40 + p)) (f p).passage
+  unfolding row_in
   keeps-passage = keeps c _ _ (by.each p from to).passage (passage-in ∙ ap (λ (g : ℕ → Phase). (g p).passage) read)
 
   keeps-conflict : Keeps c (slice_index row (56 + p)) (f p).conflict
+  unfolding row_in
   keeps-conflict = keeps c _ _ (by.each p from to).conflict (conflict-in ∙ ap (λ (g : ℕ → Phase). (g p).conflict) read)
 
   keeps-reduction : Keeps c (slice_index row (72 + p)) (f p).reduction
+  unfolding row_in
   keeps-reduction = keeps c _ _ (by.each p from to).reduction (reduction-in ∙ ap (λ (g : ℕ → Phase). (g p).reduction) read)
 
   keeps-red_revert : Keeps c (slice_index row (88 + p)) (f p).red_revert
+  unfolding row_in
   keeps-red_revert = keeps c _ _ (by.each p from to).red_revert (red_revert-in ∙ ap (λ (g : ℕ → Phase). (g p).red_revert) read)
 
 module _ (c : ℕ) (row : List ℕ) (f : Preempts) (by : preempts.IsBy c row) (read : preempts_in c row ≡ f) where

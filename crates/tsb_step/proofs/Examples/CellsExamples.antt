@@ -24,6 +24,7 @@ use Rattle.tsb_preempt.specs.Cells.{service_in, preempts_in}
 use Rattle.tsb_heads.specs.declared.monitor.Trip.TheVariants.{Conflict, GreenToRed}
 use Rattle.tsb_transact.specs.declared.desk_state.DeskState.TheVariants.{Transaction}
 use Rattle.tsb_transact.specs.Cells.{desk_in}
+use Rattle.tsb_phase.specs.Cells.{row_in}
 use Rattle.tsb_step.specs.declared.first_cell.TheConstants.{DESK, DETECTORS, CALLS, PHASES, RINGS, COORD, PREEMPTS, MONITOR, ALL_CELLS}
 use Rattle.tsb_step.specs.State.{State}
 use Rattle.tsb_step.specs.Cells.{cells_of, state_in, clock}
@@ -105,7 +106,7 @@ unfolding opened busy
 detector_again = refl
 
 phase_again : (again.phases 16).timer ≡ On 12
-unfolding opened busy
+unfolding opened busy row_in
 phase_again = refl
 
 service_again : again.preempts.service ≡ busy.preempts.service

@@ -3,13 +3,13 @@ use Rattle.tsb_plan.specs.Plan.{Plan}
 use Rattle.tsb_plan.specs.PlanOf.{plan_of}
 use Rattle.tsb_phase.specs.Promises.{IsQuiet, KeepsReady, KeepsOver, KeepsRedRevertPassed, KeepsGapped}
 use Rattle.tsb_phase.specs.Layer.{cells_of}
-use Rattle.tsb_phase.proofs.ReadLemmas.{row-by, later}
+use Rattle.tsb_phase.proofs.ReadLemmas.{later}
 use Rattle.tsb_phase.proofs.QuietLemmas.{ticked-still, ready-still, over-still, reverted-still, gapped-still}
 use Rattle.tsb_phase.proofs.phases.Phases.due.Goals as goal
 
 pub still_until-requires-clause-by : goal.still_until-requires-clause-by
 still_until-requires-clause-by c = λ p from within.
-    later (c.args.now - 1) c.args.now _ (omega arith) (row-by (c.args.now - 1) (cells_of c.args.self.now) p (c.requires.by.each p from within))
+    later (c.args.now - 1) c.args.now _ (omega arith) (c.requires.by.each p from within)
 
 pub returns-clause-quiet : goal.returns-clause-quiet
 returns-clause-quiet c =
