@@ -16,6 +16,7 @@ use Rattle.tsb_types.specs.Sets.{has, is_phase, list_of, set_of_list}
 use Rattle.tsb_types.proofs.ClipLemmas.{among_16}
 use Rattle.tsb_types.proofs.SetLemmas.{names-list_of}
 use Rattle.tsb_plan.specs.Plan.{Plan}
+use Rattle.tsb_detect.specs.Cells as detect_cells
 use Rattle.tsb_detect.specs.Cells.{detector_in}
 use Rattle.tsb_detect.specs.Detector.{Detector, is_detector}
 use Rattle.tsb_phase.specs.Cells as phase_cells
@@ -44,14 +45,14 @@ part-at m n cells p = elim (cases_Bool (is_phase p)) [
 ]
 
 pub output-at : (m n : ℕ) (cells : List ℕ) (d : ℕ) → (detector_in m cells d).output ≡ (detector_in n cells d).output
-unfolding detector_in
+unfolding detector_in detect_cells.row_in
 output-at m n cells d = elim (cases_Bool (is_detector d)) [
   | inl on ↦ rw on refl
   | inr out ↦ rw out refl
 ]
 
 pub actuated-at : (m n : ℕ) (cells : List ℕ) (d : ℕ) → (detector_in m cells d).actuated ≡ (detector_in n cells d).actuated
-unfolding detector_in
+unfolding detector_in detect_cells.row_in
 actuated-at m n cells d = elim (cases_Bool (is_detector d)) [
   | inl on ↦ rw on refl
   | inr out ↦ rw out refl

@@ -5,10 +5,10 @@ use Rattle.tsb_types.specs.declared.row.Row.{Row}
 use Rattle.tsb_types.specs.Sets.{has_number}
 use Rattle.tsb_plan.specs.Plan.{Plan}
 use Rattle.tsb_detect.specs.Detector.{is_minute}
-use Rattle.tsb_detect.specs.Cells.{IsBy}
+use Rattle.tsb_detect.specs.Cells.{IsBy, row_in}
 use Rattle.tsb_detect.specs.Promises.{IsQuiet}
-use Rattle.tsb_detect.specs.Rows.{row_in, IsSettled, is_due, is_tested}
-use Rattle.tsb_detect.proofs.ReadLemmas.{rows-read, row-by, ticked}
+use Rattle.tsb_detect.specs.Rows.{IsSettled, is_due, is_tested}
+use Rattle.tsb_detect.proofs.ReadLemmas.{rows-read, ticked}
 use Rattle.tsb_detect.proofs.NextLemmas.{settled-visit}
 use Rattle.tsb_detect.proofs.ToldLemmas.{detectors-later}
 
@@ -20,7 +20,7 @@ in-minute now wait t within after before =
     ]
 
 pub rows-range : (now : ℕ) (cells : List ℕ) → IsBy now cells → (d : ℕ) → 1 ≤ d → d ≤ 16 → (row_in cells d).change ≤ now + 1
-rows-range now cells by d from to = (row-by now cells d (by.each d from to)).change
+rows-range now cells by d from to = (by.each d from to).change
 
 pub quiet-next : (now : ℕ) (row : Row) (plan : Plan) (cells : List ℕ) → IsQuiet now (now + 1) row plan cells
 quiet-next now row plan cells t greens after before = absurd (omega (arith, after, before))

@@ -9,7 +9,8 @@ use Rattle.tsb_plan.specs.Plan.{Plan}
 use Rattle.tsb_plan.specs.Parts.{detector_delay}
 use Rattle.tsb_detect.specs.declared.detector_row.DetectorRow.{DetectorRow}
 use Rattle.tsb_detect.specs.Detector.{is_minute, has_lasted, differs, change_timer, new_alarm}
-use Rattle.tsb_detect.specs.Rows.{row_in, detector_of, alarm_of_row, row_with, IsRowBy, IsRead, IsVisit, HasNoAlarm, IsUnjudged, steady_limit}
+use Rattle.tsb_detect.specs.Cells.{row_in, detector_of, alarm_of_row, IsRowBy}
+use Rattle.tsb_detect.specs.Rows.{row_with, IsRead, IsVisit, HasNoAlarm, IsUnjudged, steady_limit}
 use Rattle.tsb_detect.proofs.RowLemmas.{same_values}
 use Rattle.tsb_detect.proofs.NextLemmas.{none-of, alarm-none, settled-visit}
 

@@ -1,5 +1,5 @@
 -- Laws of states: the table of detectors is read as they were, and a tick looks only at what is its own.
-use Rattle.std.proofs.Common.{zero, suc, ◌≡◌, ℕ, ◌+◌, ◌-◌, ◌<◌, ◌≤◌, ◌==◌, Bool, true, false, if◌then◌else◌, List, [], ◌∷◌, ◌++◌, length, slice_index, map, refl, sym, ap, ap₂, ◌∙◌, arith, inl, inr, Option, Some, None, is_some}
+use Rattle.std.proofs.Common.{zero, suc, ◌≡◌, ℕ, ◌+◌, ◌-◌, ◌<◌, ◌≤◌, ◌==◌, Bool, true, false, List, [], ◌∷◌, ◌++◌, length, slice_index, map, refl, sym, ap, ap₂, ◌∙◌, arith, inl, inr, Option, Some, None, is_some}
 use Rattle.std.proofs.Math.Path.{fun_ext}
 use Rattle.std.proofs.lemmas.Bool.{cases_Bool}
 use Rattle.std.proofs.lemmas.Bool.Decides.{nat_tests}
@@ -21,7 +21,7 @@ use Rattle.tsb_detect.specs.declared.alarm.Alarm.{Alarm}
 use Rattle.tsb_detect.specs.declared.alarm.Alarm.TheVariants.{NoActivity, MaxPresence, Erratic}
 use Rattle.tsb_detect.specs.declared.greens.Greens.{Greens}
 use Rattle.tsb_detect.specs.Detector.{Detector, at_power_up, is_detector, is_erratic, of_called, all_after, next}
-use Rattle.tsb_detect.specs.Cells.{detector_in, detectors_cells, alarm_in, is_inactive, is_present, IsDetectorBy, IsBy}
+use Rattle.tsb_detect.specs.Cells.{alarm_of, alarm_of_row, row_in, detector_in, detectors_cells, is_inactive, is_present, IsRowBy, IsBy}
 use Rattle.tsb_detect.specs.Laws.{AreStatesBy, CallsPhases}
 use Rattle.tsb_detect.specs.Promises.{IsTicked, green_timer}
 use Rattle.tsb_detect.proofs.ReadLemmas.{same_detector}
@@ -29,8 +29,7 @@ use Rattle.tsb_detect.proofs.NextLemmas.{on-time-of}
 
 -- ## The table is read
 
-alarm-read : (a : Option Alarm) →
-    (if is_inactive a then Some NoActivity else (if is_present a then Some MaxPresence else (if is_erratic a then Some Erratic else None))) ≡ a
+alarm-read : (a : Option Alarm) → alarm_of (is_inactive a) (is_present a) (is_erratic a) ≡ a
 alarm-read None = refl
 alarm-read (Some NoActivity) = refl
 alarm-read (Some MaxPresence) = refl
@@ -54,9 +53,7 @@ present-not_erratic (Some NoActivity) h = refl
 present-not_erratic (Some MaxPresence) h = refl
 present-not_erratic (Some Erratic) h = absurd cc
 
-alarm-of : (a b c x y z : Bool) → a ≡ x → b ≡ y → c ≡ z →
-    (if a then Some NoActivity else (if b then Some MaxPresence else (if c then Some Erratic else None)))
-    ≡ (if x then Some NoActivity else (if y then Some MaxPresence else (if z then Some Erratic else None)))
+alarm-of : (a b c x y z : Bool) → a ≡ x → b ≡ y → c ≡ z → alarm_of a b c ≡ alarm_of x y z
 alarm-of a b c x y z p q r = rw (p, q, r) refl
 
 at-rest : (now : ℕ) (row : List ℕ) (d : ℕ) → is_detector d ≡ false → detector_in now row d ≡ at_power_up
@@ -133,7 +130,8 @@ module _ (now : ℕ) (f : ℕ → Detector) where
     erratic-at : names (list_in (detectors_cells now f) 5) d ≡ is_erratic (f d).alarm
     erratic-at = list-at 5 (λ e. is_erratic (f e).alarm) d (omega arith) refl from to
 
-    alarm-at : alarm_in (detectors_cells now f) d ≡ (f d).alarm
+    alarm-at : alarm_of_row (row_in (detectors_cells now f) d) ≡ (f d).alarm
+    unfolding row_in
     alarm-at = alarm-of _ _ _ _ _ _ inactive-at present-at erratic-at ∙ alarm-read (f d).alarm
 
     change-read : timer_at now (slice_index (detectors_cells now f) (21 + d)) ≡ (f d).change
@@ -143,13 +141,14 @@ module _ (now : ℕ) (f : ℕ → Detector) where
     extend-read = ap (λ (cell : ℕ). timer_at now cell) extend-at ∙ timer_at-timer_cell now (f d).extend (s.each d from to).extend
 
     detector-read : detector_in now (detectors_cells now f) d ≡ f d
-    unfolding detector_in
+    unfolding detector_in row_in
     detector-read =
         rw (is_phase_from d from to) (same_detector _ _ input-at output-at actuated-at alarm-at rises-at change-read
         (on-time-of _ _ _ _ input-at change-read ∙ sym (s.each d from to).on_time) extend-read)
 
-    detector-by : IsDetectorBy now (detectors_cells now f) d
-    detector-by = record {
+    row-by : IsRowBy now (row_in (detectors_cells now f) d)
+    unfolding row_in
+    row-by = record {
       inactive_present = λ h. present-at ∙ inactive-not_present (f d).alarm (sym inactive-at ∙ h);
       inactive_erratic = λ h. erratic-at ∙ inactive-not_erratic (f d).alarm (sym inactive-at ∙ h);
       present_erratic = λ h. erratic-at ∙ present-not_erratic (f d).alarm (sym present-at ∙ h);
@@ -175,7 +174,7 @@ module _ (now : ℕ) (f : ℕ → Detector) where
   states-by s = record {
     full = length-cells;
     lists = λ k below. omega (arith, cell-at k below, small k below);
-    each = λ d from to. detector-by s d from to;
+    each = λ d from to. row-by s d from to;
   }
 
 -- ## What a tick looks at

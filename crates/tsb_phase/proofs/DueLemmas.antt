@@ -19,8 +19,7 @@ use Rattle.tsb_phase.specs.DynamicMaximum.{maximum_in_use}
 use Rattle.tsb_phase.specs.Pedestrian.{ended_by, walk_time, clearance_time, is_resting_in_walk, pedestrian_now, pedestrian_timer_in}
 use Rattle.tsb_phase.specs.Ready.{is_ready, is_over, is_gapped_now, red_revert_passed, has_passed, green_is_done, may_end, needs_forced, has_timed_out}
 use Rattle.tsb_phase.specs.Next.{next_from_read}
-use Rattle.tsb_phase.specs.Rows.{row_in, phase_of, interval_of_row, pedestrian_of_row, IsRowBy}
-use Rattle.tsb_phase.specs.Cells.{number_in}
+use Rattle.tsb_phase.specs.Cells.{number_in, row_in, phase_of, interval_of_row, pedestrian_of_row, IsRowBy}
 use Rattle.tsb_phase.specs.Due.{least_of, has_expired, IsKept, IsStill, StaysReverted}
 use Rattle.tsb_phase.proofs.BoundLemmas.{gap_falls_on}
 use Rattle.tsb_phase.proofs.GreenLemmas.{same_phase, next-green}

@@ -6,9 +6,8 @@ use Rattle.tsb_phase.specs.declared.conditions.Conditions.{Conditions}
 use Rattle.tsb_phase.specs.Phase.{Phase, none_moved}
 use Rattle.tsb_phase.specs.Ready.{is_ready, is_over, is_gapped_now, red_revert_passed}
 use Rattle.tsb_phase.specs.Next.{next_from_read}
-use Rattle.tsb_phase.specs.Cells.{IsBy}
+use Rattle.tsb_phase.specs.Cells.{IsBy, row_in, phase_of}
 use Rattle.tsb_phase.specs.Promises.{given_of, read_in, IsTicked, TellsReady, TellsOver, TellsRedRevertPassed, TellsGapped}
-use Rattle.tsb_phase.specs.Rows.{row_in, phase_of}
 use Rattle.tsb_phase.specs.Due.{IsStill}
 use Rattle.tsb_phase.proofs.ReadLemmas.{phase_in-row, stays-by, read-in}
 

@@ -24,9 +24,8 @@ use Rattle.tsb_phase.specs.declared.ending.Ending.TheVariants.{MaxOut, GapOut}
 use Rattle.tsb_phase.specs.declared.phase_row.PhaseRow.{PhaseRow}
 use Rattle.tsb_phase.specs.DynamicMaximum.{is_same}
 use Rattle.tsb_phase.specs.Phase.{Phase, at_power_up}
-use Rattle.tsb_phase.specs.Cells.{number_in, number_cell, phase_in, phases_cells, IsBy}
+use Rattle.tsb_phase.specs.Cells.{number_in, number_cell, phase_in, phases_cells, IsBy, row_in, phase_of, IsRowBy}
 use Rattle.tsb_phase.specs.Laws.{IsInRange, AreInRange, StatesAreRead}
-use Rattle.tsb_phase.specs.Rows.{row_in, phase_of, IsRowBy}
 use Rattle.tsb_phase.proofs.GreenLemmas.{part-told, same_phase}
 use Rattle.tsb_phase.proofs.RowLemmas.{same_values}
 use Rattle.tsb_phase.proofs.ReadLemmas.{phase_in-row}

@@ -9,7 +9,7 @@ use Rattle.tsb_phase.specs.Phase.{Given, none_moved, held_of}
 use Rattle.tsb_phase.specs.Green.{initial, gap, passage_timer, conflict_timer, reduction_timer, gapped_latch, forced_latch}
 use Rattle.tsb_phase.specs.Ready.{is_ready, is_over, is_gapped_now, red_revert_passed}
 use Rattle.tsb_phase.specs.Next.{next_from_read}
-use Rattle.tsb_phase.specs.Rows.{phase_of, row_in}
+use Rattle.tsb_phase.specs.Cells.{phase_of, row_in}
 
 -- tick t makes of the row what it was, and tells of it what tick `now` tells
 pub record IsStill (plan : Plan) (given : Given) (p : ℕ) (r : PhaseRow) (now t : ℕ) : Type 0 where

@@ -7,7 +7,7 @@ ghost use Rattle.tsb_plan.specs.PlanOf.{plan_of};
 ghost use Rattle.tsb_phase.specs.Phase.{Given};
 ghost use Rattle.tsb_phase.specs.Pedestrian.{ended_by, pedestrian_now};
 ghost use Rattle.tsb_phase.specs.Promises.{given_of};
-ghost use Rattle.tsb_phase.specs.Rows.{row_in, phase_of, interval_of_row, pedestrian_of_row, IsRowBy};
+ghost use Rattle.tsb_phase.specs.Cells.{row_in, phase_of, interval_of_row, pedestrian_of_row, IsRowBy};
 ghost use Rattle.tsb_phase.specs.Due.{least_of, has_expired, IsKept, IsStill, StaysReverted};
 
 use crate::conditions::Conditions;

@@ -2,7 +2,8 @@
 ghost use Rattle.std.specs.Prelude.{◌≡◌, ◌≢◌, ℕ, ◌+◌, ◌*◌, ◌<◌, ◌≤◌, true, false, slice_index};
 ghost use Rattle.tsb_types.specs.Sets.{has, names, list_in};
 ghost use Rattle.tsb_rows.specs.Rows.{Elsewhere};
-ghost use Rattle.tsb_phase.specs.Rows.{row_in, list_of_row, cell_of_row, with_list, with_cell};
+ghost use Rattle.tsb_phase.specs.Cells.{row_in};
+ghost use Rattle.tsb_phase.specs.Rows.{list_of_row, cell_of_row, with_list, with_cell};
 
 use crate::phase_row::PhaseRow;
 use crate::phases::Phases;

@@ -7,7 +7,8 @@ ghost use Rattle.tsb_types.specs.Sets.{has};
 ghost use Rattle.tsb_cells.specs.Timer.{timer_at};
 ghost use Rattle.tsb_phase.specs.Ready.{has_passed};
 ghost use Rattle.tsb_phase.specs.Promises.{given_of};
-ghost use Rattle.tsb_phase.specs.Rows.{row_in, interval_of_row, IsRowBy, IsVisit, IsFresh, IsToldAs, told};
+ghost use Rattle.tsb_phase.specs.Cells.{row_in, interval_of_row, IsRowBy};
+ghost use Rattle.tsb_phase.specs.Rows.{IsVisit, IsFresh, IsToldAs, told};
 
 use crate::conditions::Conditions;
 use crate::phases::Phases;

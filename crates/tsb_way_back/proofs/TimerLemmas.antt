@@ -127,17 +127,19 @@ keeps c cell t few e = record {
 
 module _ (c : ℕ) (row : List ℕ) (f : ℕ → Detector) (by : detect.IsBy c row) (read : detector_in c row ≡ f) (d : ℕ) (from : 1 ≤ d) (to : d ≤ 16) where
   change-in : timer_at c (slice_index row (21 + d)) ≡ (detector_in c row d).change
-  unfolding detector_in
+  unfolding detector_in detect.row_in
   change-in = rw (is_phase_from d from to) refl
 
   extend-in : timer_at c (slice_index row (37 + d)) ≡ (detector_in c row d).extend
-  unfolding detector_in
+  unfolding detector_in detect.row_in
   extend-in = rw (is_phase_from d from to) refl
 
   keeps-change : Keeps c (slice_index row (21 + d)) (f d).change
+  unfolding detect.row_in
   keeps-change = keeps c _ _ (by.each d from to).change (change-in ∙ ap (λ (g : ℕ → Detector). (g d).change) read)
 
   keeps-extend : Keeps c (slice_index row (37 + d)) (f d).extend
+  unfolding detect.row_in
   keeps-extend = keeps c _ _ (by.each d from to).extend (extend-in ∙ ap (λ (g : ℕ → Detector). (g d).extend) read)
 
 module _ (c : ℕ) (row : List ℕ) (f : ℕ → Phase) (by : phases.IsBy c row) (read : phase_in c row ≡ f) (p : ℕ) (from : 1 ≤ p) (to : p ≤ 16) where

@@ -3,7 +3,8 @@ ghost use Rattle.std.specs.Prelude.{◌≡◌, ℕ, ◌+◌, ◌-◌, ◌%◌, �
 ghost use Rattle.tsb_objects.specs.Checked.{checked_plan};
 ghost use Rattle.tsb_plan.specs.PlanOf.{plan_of};
 ghost use Rattle.tsb_types.specs.Sets.{has_number};
-ghost use Rattle.tsb_detect.specs.Rows.{row_in, is_tested};
+ghost use Rattle.tsb_detect.specs.Cells.{row_in};
+ghost use Rattle.tsb_detect.specs.Rows.{is_tested};
 
 use crate::detectors::Detectors;
 use crate::diagnostics::{MINUTE, steady_limit, timed};

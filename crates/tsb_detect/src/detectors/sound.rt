@@ -5,7 +5,8 @@ ghost use Rattle.tsb_plan.specs.Parts.{call_phase};
 ghost use Rattle.tsb_types.specs.Sets.{has_number};
 ghost use Rattle.tsb_detect.specs.Detector.{is_minute, new_alarm};
 ghost use Rattle.tsb_detect.specs.Promises.{green_timer_of};
-ghost use Rattle.tsb_detect.specs.Rows.{row_in, row_with, detector_of, IsRead, IsVisit, IsUnjudged, HasNoAlarm};
+ghost use Rattle.tsb_detect.specs.Cells.{row_in, detector_of};
+ghost use Rattle.tsb_detect.specs.Rows.{row_with, IsRead, IsVisit, IsUnjudged, HasNoAlarm};
 
 use super::cells::{ACTUATIONS, CHANGES, EXTENDS, INPUTS, OUTPUTS, RISES};
 use crate::detectors::Detectors;

@@ -5,7 +5,8 @@ ghost use Rattle.tsb_plan.specs.PlanOf.{plan_of};
 ghost use Rattle.tsb_plan.specs.Parts.{call_phase};
 ghost use Rattle.tsb_types.specs.Sets.{has_number};
 ghost use Rattle.tsb_detect.specs.Promises.{green_timer_of};
-ghost use Rattle.tsb_detect.specs.Rows.{row_in, IsRead, IsVisit, IsSettled, HasNoAlarm, is_due, is_tested};
+ghost use Rattle.tsb_detect.specs.Cells.{row_in};
+ghost use Rattle.tsb_detect.specs.Rows.{IsRead, IsVisit, IsSettled, HasNoAlarm, is_due, is_tested};
 
 use super::cells::{ACTUATIONS, CHANGES, ERRATIC, INACTIVE, INPUTS, OUTPUTS, PRESENT};
 use crate::detectors::Detectors;

@@ -1,7 +1,7 @@
 use Rattle.tsb_cells.specs.Timer.{timer_at}
 use Rattle.tsb_plan.specs.PlanOf.{plan_of}
 use Rattle.tsb_phase.specs.Promises.{given_of}
-use Rattle.tsb_phase.specs.Rows.{phase_of}
+use Rattle.tsb_phase.specs.Cells.{phase_of}
 use Rattle.tsb_phase.proofs.DueLemmas.{part-clear, not-at-limit}
 use Rattle.tsb_phase.proofs.due.due_clearance.Goals as goal
 

@@ -7,7 +7,7 @@ use Rattle.tsb_phase.specs.DynamicMaximum.{maximum_in_use}
 use Rattle.tsb_phase.specs.Green.{initial}
 use Rattle.tsb_phase.specs.Phase.{Given}
 use Rattle.tsb_phase.specs.Promises.{given_of}
-use Rattle.tsb_phase.specs.Rows.{IsRowBy}
+use Rattle.tsb_phase.specs.Cells.{IsRowBy}
 use Rattle.tsb_phase.proofs.ReadLemmas.{later}
 use Rattle.tsb_phase.proofs.DueLemmas.{green-still, at-limit}
 use Rattle.tsb_phase.proofs.due.due_kept.Goals as goal

@@ -2,7 +2,7 @@ use Rattle.std.proofs.Common.{ℕ, arith}
 use Rattle.tsb_cells.specs.Timer.{timer_at}
 use Rattle.tsb_plan.specs.PlanOf.{plan_of}
 use Rattle.tsb_phase.specs.declared.phase_row.PhaseRow.{PhaseRow}
-use Rattle.tsb_phase.specs.Rows.{IsRowBy}
+use Rattle.tsb_phase.specs.Cells.{IsRowBy}
 use Rattle.tsb_phase.proofs.ReadLemmas.{later}
 use Rattle.tsb_phase.proofs.DueLemmas.{yellow-still, at-limit, not-at-limit}
 use Rattle.tsb_phase.proofs.due.due_yellow.Goals as goal

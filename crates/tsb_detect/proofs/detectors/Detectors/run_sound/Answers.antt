@@ -6,7 +6,8 @@ use Rattle.tsb_plan.specs.Parts.{call_phase}
 use Rattle.tsb_types.specs.Sets.{has_number}
 use Rattle.tsb_detect.specs.declared.detector_row.DetectorRow.{DetectorRow}
 use Rattle.tsb_detect.specs.Promises.{green_timer_of}
-use Rattle.tsb_detect.specs.Rows.{row_in, row_with, with_list, IsVisit}
+use Rattle.tsb_detect.specs.Cells.{row_in}
+use Rattle.tsb_detect.specs.Rows.{row_with, with_list, IsVisit}
 use Rattle.tsb_detect.specs.Layer.{cells_of}
 use Rattle.tsb_detect.proofs.SoundLemmas.{input-of, output-of, row-of-lists}
 use Rattle.tsb_detect.proofs.detectors.Detectors.run_sound.Goals as goal

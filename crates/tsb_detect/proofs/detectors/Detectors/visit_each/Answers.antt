@@ -8,7 +8,8 @@ use Rattle.tsb_plan.specs.Parts.{call_phase}
 use Rattle.tsb_types.specs.Sets.{has_number}
 use Rattle.tsb_detect.specs.declared.detector_row.DetectorRow.{DetectorRow}
 use Rattle.tsb_detect.specs.Promises.{green_timer_of}
-use Rattle.tsb_detect.specs.Rows.{row_in, IsVisit}
+use Rattle.tsb_detect.specs.Cells.{row_in}
+use Rattle.tsb_detect.specs.Rows.{IsVisit}
 use Rattle.tsb_detect.specs.Layer.{cells_of}
 use Rattle.tsb_detect.proofs.detectors.Detectors.visit_each.Goals as goal
 

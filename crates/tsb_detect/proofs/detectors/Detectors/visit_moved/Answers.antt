@@ -9,7 +9,8 @@ use Rattle.tsb_types.specs.Sets.{has_number}
 use Rattle.tsb_detect.specs.declared.detector_row.DetectorRow.{DetectorRow}
 use Rattle.tsb_detect.specs.Detector.{new_alarm}
 use Rattle.tsb_detect.specs.Promises.{green_timer_of}
-use Rattle.tsb_detect.specs.Rows.{row_in, row_with, detector_of, IsVisit, HasNoAlarm}
+use Rattle.tsb_detect.specs.Cells.{row_in, detector_of}
+use Rattle.tsb_detect.specs.Rows.{row_with, IsVisit, HasNoAlarm}
 use Rattle.tsb_detect.specs.Layer.{cells_of}
 use Rattle.tsb_detect.proofs.SoundLemmas.{part, no-alarm, unmoved-visit, kept, taken}
 use Rattle.tsb_detect.proofs.detectors.Detectors.visit_moved.Goals as goal

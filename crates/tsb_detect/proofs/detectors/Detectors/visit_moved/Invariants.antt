@@ -3,7 +3,8 @@ use Rattle.tsb_plan.specs.PlanOf.{plan_of}
 use Rattle.tsb_plan.specs.Parts.{call_phase}
 use Rattle.tsb_types.specs.Sets.{has_number, size_of_numbers}
 use Rattle.tsb_detect.specs.Promises.{green_timer_of}
-use Rattle.tsb_detect.specs.Rows.{row_in, row_with, IsVisit, HasNoAlarm}
+use Rattle.tsb_detect.specs.Cells.{row_in}
+use Rattle.tsb_detect.specs.Rows.{row_with, IsVisit, HasNoAlarm}
 use Rattle.tsb_detect.specs.Layer.{cells_of, kept_of, is_open, KeepsLists}
 use Rattle.tsb_detect.proofs.detectors.Detectors.visit_moved.Given as goal
 

@@ -5,7 +5,7 @@ use Rattle.tsb_plan.specs.PlanOf.{plan_of}
 use Rattle.tsb_phase.specs.declared.phase_row.PhaseRow.{PhaseRow}
 use Rattle.tsb_phase.specs.Phase.{Given}
 use Rattle.tsb_phase.specs.Promises.{given_of}
-use Rattle.tsb_phase.specs.Rows.{row_in, IsRowBy}
+use Rattle.tsb_phase.specs.Cells.{row_in, IsRowBy}
 use Rattle.tsb_phase.specs.Due.{IsStill}
 use Rattle.tsb_phase.specs.Layer.{cells_of}
 use Rattle.tsb_phase.proofs.ReadLemmas.{later}

@@ -2,7 +2,7 @@ use Rattle.std.proofs.Common.{◌≡◌, ℕ, ◌<◌, ◌≤◌, false}
 use Rattle.tsb_plan.specs.PlanOf.{plan_of}
 use Rattle.tsb_types.specs.Sets.{has, size}
 use Rattle.tsb_phase.specs.Promises.{given_of}
-use Rattle.tsb_phase.specs.Rows.{row_in}
+use Rattle.tsb_phase.specs.Cells.{row_in}
 use Rattle.tsb_phase.specs.Due.{IsStill}
 use Rattle.tsb_phase.specs.Layer.{cells_of}
 use Rattle.tsb_phase.proofs.phases.Phases.still_until.Given as goal
