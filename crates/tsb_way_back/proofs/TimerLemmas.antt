@@ -12,7 +12,6 @@ use Rattle.tsb_cells.specs.DiffLaws.{IsChange}
 use Rattle.tsb_cells.proofs.ChangeLemmas.{tells_each_change}
 use Rattle.tsb_cells.proofs.TimerLemmas.{timer_at-timer_cell, timer_cell-timer_at, timer_cell-le, timer_cell-advanced, timer_at-next, IsWithin-timer_at}
 use Rattle.tsb_types.specs.declared.row.Row.{Row}
-use Rattle.tsb_types.proofs.ClipLemmas.{is_phase_from}
 use Rattle.tsb_plan.specs.declared.object.TheConstants.{PLAN_CELLS}
 use Rattle.tsb_plan.specs.Plan.{Plan}
 use Rattle.tsb_detect.specs.declared.TheConstants.{CELLS as DETECTOR_CELLS}
@@ -20,12 +19,14 @@ use Rattle.tsb_detect.specs.Detector.{Detector}
 use Rattle.tsb_detect.specs.Cells as detect
 use Rattle.tsb_detect.specs.Cells.{detector_in}
 use Rattle.tsb_detect.proofs.StateLemmas as detect_states
+use Rattle.tsb_detect.proofs.ReadLemmas.{detector_in-row}
 use Rattle.tsb_calls.specs.declared.TheConstants.{CELLS as CALL_CELLS}
 use Rattle.tsb_phase.specs.declared.TheConstants.{CELLS as PHASE_CELLS}
 use Rattle.tsb_phase.specs.Phase.{Phase}
 use Rattle.tsb_phase.specs.Cells as phases
-use Rattle.tsb_phase.specs.Cells.{phase_in, row_in}
+use Rattle.tsb_phase.specs.Cells.{phase_in}
 use Rattle.tsb_phase.proofs.StateLemmas as phase_states
+use Rattle.tsb_phase.proofs.ReadLemmas.{phase_in-row}
 use Rattle.tsb_ring.specs.declared.TheConstants.{CELLS as RING_CELLS}
 use Rattle.tsb_coord.specs.declared.TheConstants.{CELLS as PATTERN_CELLS}
 use Rattle.tsb_preempt.specs.declared.TheConstants.{CELLS as PREEMPT_CELLS}
@@ -126,70 +127,44 @@ keeps c cell t few e = record {
 }
 
 module _ (c : ℕ) (row : List ℕ) (f : ℕ → Detector) (by : detect.IsBy c row) (read : detector_in c row ≡ f) (d : ℕ) (from : 1 ≤ d) (to : d ≤ 16) where
-  change-in : timer_at c (slice_index row (21 + d)) ≡ (detector_in c row d).change
-  unfolding detector_in detect.row_in
-  change-in = rw (is_phase_from d from to) refl
-
-  extend-in : timer_at c (slice_index row (37 + d)) ≡ (detector_in c row d).extend
-  unfolding detector_in detect.row_in
-  extend-in = rw (is_phase_from d from to) refl
+  detector-kept : detect.detector_of c (detect.row_in row d) ≡ f d
+  detector-kept = sym (detector_in-row c row d from to) ∙ ap (λ (g : ℕ → Detector). g d) read
 
   keeps-change : Keeps c (slice_index row (21 + d)) (f d).change
   unfolding detect.row_in
-  keeps-change = keeps c _ _ (by.each d from to).change (change-in ∙ ap (λ (g : ℕ → Detector). (g d).change) read)
+  keeps-change = keeps c _ _ (by.each d from to).change (ap (λ (x : Detector). x.change) detector-kept)
 
   keeps-extend : Keeps c (slice_index row (37 + d)) (f d).extend
   unfolding detect.row_in
-  keeps-extend = keeps c _ _ (by.each d from to).extend (extend-in ∙ ap (λ (g : ℕ → Detector). (g d).extend) read)
+  keeps-extend = keeps c _ _ (by.each d from to).extend (ap (λ (x : Detector). x.extend) detector-kept)
 
 module _ (c : ℕ) (row : List ℕ) (f : ℕ → Phase) (by : phases.IsBy c row) (read : phase_in c row ≡ f) (p : ℕ) (from : 1 ≤ p) (to : p ≤ 16) where
-  timer-in : timer_at c (slice_index row (8 + p)) ≡ (phase_in c row p).timer
-  unfolding phase_in row_in
-  timer-in = rw (is_phase_from p from to) refl
-
-  pedestrian-in : timer_at c (slice_index row (24 + p)) ≡ (phase_in c row p).pedestrian_timer
-  unfolding phase_in row_in
-  pedestrian-in = rw (is_phase_from p from to) refl
-
-  passage-in : timer_at c (slice_index row (40 + p)) ≡ (phase_in c row p).passage
-  unfolding phase_in row_in
-  passage-in = rw (is_phase_from p from to) refl
-
-  conflict-in : timer_at c (slice_index row (56 + p)) ≡ (phase_in c row p).conflict
-  unfolding phase_in row_in
-  conflict-in = rw (is_phase_from p from to) refl
-
-  reduction-in : timer_at c (slice_index row (72 + p)) ≡ (phase_in c row p).reduction
-  unfolding phase_in row_in
-  reduction-in = rw (is_phase_from p from to) refl
-
-  red_revert-in : timer_at c (slice_index row (88 + p)) ≡ (phase_in c row p).red_revert
-  unfolding phase_in row_in
-  red_revert-in = rw (is_phase_from p from to) refl
+  phase-kept : phases.phase_of c (phases.row_in row p) ≡ f p
+  phase-kept = sym (phase_in-row c row p from to) ∙ ap (λ (g : ℕ → Phase). g p) read
 
   keeps-timer : Keeps c (slice_index row (8 + p)) (f p).timer
-  unfolding row_in
-  keeps-timer = keeps c _ _ (by.each p from to).timer (timer-in ∙ ap (λ (g : ℕ → Phase). (g p).timer) read)
+  unfolding phases.row_in
+  keeps-timer = keeps c _ _ (by.each p from to).timer (ap (λ (x : Phase). x.timer) phase-kept)
 
   keeps-pedestrian : Keeps c (slice_index row (24 + p)) (f p).pedestrian_timer
-  unfolding row_in
-  keeps-pedestrian = keeps c _ _ (by.each p from to).pedestrian_timer (pedestrian-in ∙ ap (λ (g : ℕ → Phase). (g p).pedestrian_timer) read)
+  unfolding phases.row_in
+  keeps-pedestrian = keeps c _ _ (by.each p from to).pedestrian_timer (ap (λ (x : Phase). x.pedestrian_timer) phase-kept)
 
   keeps-passage : Keeps c (slice_index row (40 + p)) (f p).passage
-  unfolding row_in
-  keeps-passage = keeps c _ _ (by.each p from to).passage (passage-in ∙ ap (λ (g : ℕ → Phase). (g p).passage) read)
+  unfolding phases.row_in
+  keeps-passage = keeps c _ _ (by.each p from to).passage (ap (λ (x : Phase). x.passage) phase-kept)
 
   keeps-conflict : Keeps c (slice_index row (56 + p)) (f p).conflict
-  unfolding row_in
-  keeps-conflict = keeps c _ _ (by.each p from to).conflict (conflict-in ∙ ap (λ (g : ℕ → Phase). (g p).conflict) read)
+  unfolding phases.row_in
+  keeps-conflict = keeps c _ _ (by.each p from to).conflict (ap (λ (x : Phase). x.conflict) phase-kept)
 
   keeps-reduction : Keeps c (slice_index row (72 + p)) (f p).reduction
-  unfolding row_in
-  keeps-reduction = keeps c _ _ (by.each p from to).reduction (reduction-in ∙ ap (λ (g : ℕ → Phase). (g p).reduction) read)
+  unfolding phases.row_in
+  keeps-reduction = keeps c _ _ (by.each p from to).reduction (ap (λ (x : Phase). x.reduction) phase-kept)
 
   keeps-red_revert : Keeps c (slice_index row (88 + p)) (f p).red_revert
-  unfolding row_in
-  keeps-red_revert = keeps c _ _ (by.each p from to).red_revert (red_revert-in ∙ ap (λ (g : ℕ → Phase). (g p).red_revert) read)
+  unfolding phases.row_in
+  keeps-red_revert = keeps c _ _ (by.each p from to).red_revert (ap (λ (x : Phase). x.red_revert) phase-kept)
 
 module _ (c : ℕ) (row : List ℕ) (f : Preempts) (by : preempts.IsBy c row) (read : preempts_in c row ≡ f) where
   delay-in : (n : ℕ) → 1 ≤ n → n ≤ 4 → timer_at c (slice_index row (1 + n)) ≡ (preempts_in c row).delay n

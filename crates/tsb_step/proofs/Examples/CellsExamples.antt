@@ -14,9 +14,9 @@ use Rattle.tsb_plan.specs.Objects.{objects, first_cell}
 use Rattle.tsb_plan.specs.Quad.{quad}
 use Rattle.tsb_detect.specs.declared.alarm.Alarm.TheVariants.{Erratic}
 use Rattle.tsb_detect.specs.Detector as detector
-use Rattle.tsb_detect.specs.Cells.{detector_in}
+use Rattle.tsb_detect.specs.Cells as detectors
 use Rattle.tsb_phase.specs.Phase as phase
-use Rattle.tsb_phase.specs.Cells.{phase_in}
+use Rattle.tsb_phase.specs.Cells as phases
 use Rattle.tsb_ring.specs.Rings.{Ring2}
 use Rattle.tsb_ring.specs.Cells.{rings_in}
 use Rattle.tsb_preempt.specs.Preempts as preempts
@@ -24,14 +24,13 @@ use Rattle.tsb_preempt.specs.Cells.{service_in, preempts_in}
 use Rattle.tsb_heads.specs.declared.monitor.Trip.TheVariants.{Conflict, GreenToRed}
 use Rattle.tsb_transact.specs.declared.desk_state.DeskState.TheVariants.{Transaction}
 use Rattle.tsb_transact.specs.Cells.{desk_in}
-use Rattle.tsb_phase.specs.Cells.{row_in}
 use Rattle.tsb_step.specs.declared.first_cell.TheConstants.{DESK, DETECTORS, CALLS, PHASES, RINGS, COORD, PREEMPTS, MONITOR, ALL_CELLS}
 use Rattle.tsb_step.specs.State.{State}
 use Rattle.tsb_step.specs.Cells.{cells_of, state_in, clock}
 use Rattle.tsb_step.specs.MonitorCells.{monitor_cells, lamp_in, trip_in}
 
 unfoldable opened : Unit {0}
-unfolding quad objects first_cell run_from number_of_bits cells_of state_in detector_in phase_in rings_in service_in preempts_in desk_in
+unfolding quad objects first_cell run_from number_of_bits cells_of state_in detectors.detector_in detectors.row_in phases.phase_in phases.row_in rings_in service_in preempts_in desk_in
 opened = tt
 
 -- the controller tripped at tick 40, and is now at 50
@@ -106,7 +105,7 @@ unfolding opened busy
 detector_again = refl
 
 phase_again : (again.phases 16).timer ≡ On 12
-unfolding opened busy row_in
+unfolding opened busy
 phase_again = refl
 
 service_again : again.preempts.service ≡ busy.preempts.service
