@@ -72,7 +72,7 @@ impl Phases {
 
     /// The row of a phase.
     #[inline(always)]
-    #[tactic(auto, unfolding(crate::specs::Rows::row_in))]
+    #[tactic(auto, unfolding(crate::specs::Cells::row_in))]
     pub(crate) fn load(&self, p: Phase) -> PhaseRow
         ensures { result ≡ row_in (cells_of self.now) p }
     {

@@ -63,7 +63,7 @@ impl Phases {
     }
 
     /// The phases whose red revert timer is Off or has reached its time.
-    #[tactic(auto, unfolding(crate::specs::Rows::row_in))]
+    #[tactic(auto, unfolding(crate::specs::Cells::row_in))]
     fn reverted(&self, now: u32, plan: &Checked) -> PhaseSet
         requires { now + 1 < 2 ^ 32 }
         ensures { (p : ℕ) → 1 ≤ p → p ≤ 16 →
@@ -79,7 +79,7 @@ impl Phases {
     }
 
     /// The phases in service.
-    #[tactic(auto, unfolding(crate::specs::Rows::row_in))]
+    #[tactic(auto, unfolding(crate::specs::Cells::row_in))]
     pub(crate) fn in_service(&self) -> PhaseSet
         ensures { (p : ℕ) → has result p ≡ in_service (interval_of_row (row_in (cells_of self.now) p)) }
     {

@@ -61,7 +61,7 @@ impl Detectors {
 
     /// The row of a detector.
     #[inline(always)]
-    #[tactic(auto, unfolding(crate::specs::Rows::row_in))]
+    #[tactic(auto, unfolding(crate::specs::Cells::row_in))]
     pub(super) fn load(&self, d: Detector) -> DetectorRow
         ensures { result ≡ row_in (cells_of self.now) d }
     {

@@ -22,7 +22,7 @@ impl Detectors {
 
     /// The detectors that the lists do not show to be as their inputs.
     #[inline(always)]
-    #[tactic(auto, unfolding(crate::specs::Rows::row_in))]
+    #[tactic(auto, unfolding(crate::specs::Cells::row_in))]
     pub(super) fn unsettled(&self, inputs: NumberSet) -> NumberSet
         ensures { (d : ℕ) → has_number result d ≡ false → IsSettled (has_number inputs d) (row_in (cells_of self.now) d) }
     {
@@ -37,7 +37,7 @@ impl Detectors {
 
     /// The detectors that have an alarm.
     #[inline(always)]
-    #[tactic(auto, unfolding(crate::specs::Rows::row_in))]
+    #[tactic(auto, unfolding(crate::specs::Cells::row_in))]
     fn alarmed(&self) -> NumberSet
         ensures { (d : ℕ) → has_number result d ≡ false → HasNoAlarm (row_in (cells_of self.now) d) }
     {
@@ -48,7 +48,7 @@ impl Detectors {
 
     /// The cell of a change timer.
     #[inline(always)]
-    #[tactic(auto, unfolding(crate::specs::Rows::row_in))]
+    #[tactic(auto, unfolding(crate::specs::Cells::row_in))]
     pub(super) fn change(&self, now: u32, d: Detector) -> u32
         requires range { (e : ℕ) → 1 ≤ e → e ≤ 16 → (row_in (cells_of self.now) e).change ≤ now + 1 }
         ensures value { result ≡ (row_in (cells_of self.now) d).change }
