@@ -3,8 +3,6 @@ use Rattle.std.proofs.Common.{◌≡◌, ℕ, zero, suc, ◌-◌, ◌<◌, ◌�
 use Rattle.std.specs.Prelude.{Result, Ok, Err, OnOk, OnErr}
 use Rattle.std.proofs.lemmas.Bool.Decides.{nat_tests}
 use Rattle.tsb_history.specs.History.{Change, newest, newest_kind, older}
-use Rattle.tsb_history.specs.declared.kinds.Kind.{Kind}
-use Rattle.tsb_history.specs.declared.kinds.Kind.TheVariants as kinds
 use Rattle.tsb_plan.specs.Objects.{AreInRange}
 use Rattle.tsb_transact.specs.Cells.{desk_in}
 use Rattle.tsb_transact.specs.Desk as desk
@@ -23,6 +21,7 @@ use Rattle.tsb_step.proofs.PlaceLemmas.{memory_is_consistent}
 use Rattle.tsb_controller.specs.Whole.{All, AreAllBy, all_in, all_changes, all_put_back}
 use Rattle.tsb_controller.proofs.WholeLemmas.{records-joined, records-back}
 use Rattle.tsb_controller.proofs.ChangeLemmas.{entries-within, changes-few, rows-back}
+use Rattle.tsb_step.proofs.WayLemmas.{ticks-at_most}
 use Rattle.tsb_bench.specs.Cabinet.{IsDone, next_tick}
 use Rattle.tsb_bench.specs.Held.{Held, state_of, whole, ticks, IsHeld, CanUndo, HasSoundPast}
 
@@ -41,29 +40,13 @@ back-said now a r held can = records-back rows_are_told r now a held.by can.with
 -- it moves the tick number by as much as its kind says
 moved : (i : Input) (now : ℕ) → (next_tick now i - ticks_of (kind_of i) ≡ now) × (ticks_of (kind_of i) ≤ next_tick now i)
 moved (inputs.Tick row) now = (omega arith, omega arith)
-moved (inputs.Pattern n) now = (omega arith, omega arith)
-moved (inputs.Switch n on) now = (omega arith, omega arith)
-moved (inputs.Fault lamp) now = (omega arith, omega arith)
-moved inputs.Reset now = (omega arith, omega arith)
-moved (inputs.Begin station) now = (omega arith, omega arith)
-moved (inputs.Set station id v) now = (omega arith, omega arith)
-moved (inputs.Verify station) now = (omega arith, omega arith)
-moved (inputs.Commit station) now = (omega arith, omega arith)
-moved (inputs.Abort station) now = (omega arith, omega arith)
+moved i now = (omega arith, omega arith)
 
 -- no tick leads beyond the last
 limited : (i : Input) (now : ℕ) (a : All) → verdict (all_in now a) i ≡ None → now ≤ last_tick → next_tick now i ≤ last_tick
 unfolding verdict
 limited (inputs.Tick row) now a allowed below = grind (arith, nat_tests)
-limited (inputs.Pattern n) now a allowed below = below
-limited (inputs.Switch n on) now a allowed below = below
-limited (inputs.Fault lamp) now a allowed below = below
-limited inputs.Reset now a allowed below = below
-limited (inputs.Begin station) now a allowed below = below
-limited (inputs.Set station id v) now a allowed below = below
-limited (inputs.Verify station) now a allowed below = below
-limited (inputs.Commit station) now a allowed below = below
-limited (inputs.Abort station) now a allowed below = below
+limited i now a allowed below = below
 
 -- what has been done to rows that a bench may have, of the types that keep their values in range
 pub record Applied (i : Input) (now : ℕ) (old new : All) (entries : List (ℕ × ℕ)) : Type 0 where
@@ -177,18 +160,6 @@ pub record GoesBack (t : ℕ) (h new : Held) : Type 0 where
   pub same : sought t (state_of new) new.records ≡ sought t (state_of h) h.records
   pub smaller : length new.records < length h.records
 
-ticks_of-le : (k : Kind) → ticks_of k ≤ 1
-ticks_of-le kinds.Tick = omega arith
-ticks_of-le kinds.Pattern = omega arith
-ticks_of-le kinds.Switch = omega arith
-ticks_of-le kinds.Fault = omega arith
-ticks_of-le kinds.Reset = omega arith
-ticks_of-le kinds.Begin = omega arith
-ticks_of-le kinds.Set = omega arith
-ticks_of-le kinds.Verify = omega arith
-ticks_of-le kinds.Commit = omega arith
-ticks_of-le kinds.Abort = omega arith
-
 -- an undo that answers Ok, at a tick number above t
 goes-on : (t : ℕ) (h new : Held) → t < h.tick → HasSoundPast h.tick h.rows h.records → 0 < length h.records → whole new ≡ taken_back (state_of h) h.records → GoesBack t h new
 goes-on t h new above sound some is = record {
@@ -201,7 +172,7 @@ goes-on t h new above sound some is = record {
     at [] good = omega arith
     at (r ∷ rs) good =
         let now_is : (undone r (state_of h)).now ≡ h.tick - ticks_of r.kind = ap (λ (s : State). s.now) (back-said h.tick h.rows r good.0 good.1) in
-        omega (arith, ticks_of-le r.kind, now_is)
+        omega (arith, ticks-at_most r.kind, now_is)
 
     shorter : (rs : List Change) → 0 < length rs → length (taken_back (state_of h) rs).records < length rs
     shorter [] less = absurd (omega arith)

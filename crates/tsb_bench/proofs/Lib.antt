@@ -5,7 +5,6 @@ pub mod DeskLemmas
 pub mod PartLemmas
 pub mod PassingLemmas
 pub mod ValueLemmas
-pub mod RefusalLemmas
 pub mod SessionLemmas
 pub mod WatchedLemmas
 pub mod RoomLemmas

@@ -173,15 +173,7 @@ ok-plain = written (codes "ok") refl refl
 
 pub taken-plain : (i : Input) (s : State) → IsPlain (taken_line (Apply i) s)
 taken-plain (inputs.Verify station) s = verified-plain s.desk.rule
-taken-plain (inputs.Tick row) s = ok-plain
-taken-plain (inputs.Pattern n) s = ok-plain
-taken-plain (inputs.Switch n on) s = ok-plain
-taken-plain (inputs.Fault lamp) s = ok-plain
-taken-plain inputs.Reset s = ok-plain
-taken-plain (inputs.Begin station) s = ok-plain
-taken-plain (inputs.Set station id v) s = ok-plain
-taken-plain (inputs.Commit station) s = ok-plain
-taken-plain (inputs.Abort station) s = ok-plain
+taken-plain i s = ok-plain
 
 pub refused-plain : (e : Refusal) → e ≢ Memory → IsPlain (refused_line e)
 refused-plain Memory other = absurd (other refl)
@@ -199,15 +191,7 @@ refused-plain InService other = written (refused_line InService) refl refl
 
 pub undone-plain : (k : Kind) → IsPlain (undone_line k)
 undone-plain kinds.Tick = written (undone_line kinds.Tick) refl refl
-undone-plain kinds.Pattern = written (undone_line kinds.Pattern) refl refl
-undone-plain kinds.Switch = written (undone_line kinds.Switch) refl refl
-undone-plain kinds.Fault = written (undone_line kinds.Fault) refl refl
-undone-plain kinds.Reset = written (undone_line kinds.Reset) refl refl
-undone-plain kinds.Begin = written (undone_line kinds.Begin) refl refl
-undone-plain kinds.Set = written (undone_line kinds.Set) refl refl
-undone-plain kinds.Verify = written (undone_line kinds.Verify) refl refl
-undone-plain kinds.Commit = written (undone_line kinds.Commit) refl refl
-undone-plain kinds.Abort = written (undone_line kinds.Abort) refl refl
+undone-plain k = written (undone_line k) refl refl
 
 pub when-plain : (t : Option ℕ) → IsPlain (when_line t)
 when-plain None = written (codes "never") refl refl

@@ -7,11 +7,10 @@ use Rattle.tsb_past.specs.declared.commands.Command.TheVariants as asks
 use Rattle.tsb_past.specs.declared.commands.Answer.{Answer}
 use Rattle.tsb_past.specs.declared.commands.Answer.TheVariants.{Took, Refused}
 use Rattle.tsb_step.specs.declared.inputs.Input.{Input}
-use Rattle.tsb_step.specs.declared.inputs.Input.TheVariants as inputs
 use Rattle.tsb_step.specs.Play.{Cmd, remaining_after}
 use Rattle.tsb_step.specs.Runs.{replay}
 use Rattle.tsb_command_text.specs.declared.command.Command.{Command}
-use Rattle.tsb_command_text.specs.declared.command.Command.TheVariants.{Step, Back, Seek, Undo, Show, When, Begin, Set, Verify, Commit, Abort, Pattern, Preempt, Fault, Reset, Quit}
+use Rattle.tsb_command_text.specs.declared.command.Command.TheVariants.{Step, Show, Quit}
 use Rattle.tsb_command_text.specs.declared.command.Reading.{Reading}
 use Rattle.tsb_command_text.specs.declared.command.Reading.TheVariants.{Skip, Bad, Leave, Do}
 use Rattle.tsb_command_text.specs.Readings.{reading}
@@ -147,19 +146,7 @@ answered-alike : (given : Setup) (is : List Input) (c : Command) (text other : L
 answered-alike given is (Step n) text other left others x y = steps-alike given n is text other left others x y
 answered-alike given is Show text other left others x y = shown-alike given is text other left others x y
 answered-alike given is Quit text other left others x y = quit-alike given is text other left others x y
-answered-alike given is (Back n) text other left others x y = asked-alike given is (asks.Back n) text other left others x y
-answered-alike given is (Seek t) text other left others x y = asked-alike given is (asks.Seek t) text other left others x y
-answered-alike given is Undo text other left others x y = asked-alike given is asks.Undo text other left others x y
-answered-alike given is (When w) text other left others x y = asked-alike given is (asks.When w) text other left others x y
-answered-alike given is (Begin s) text other left others x y = asked-alike given is (asks.Apply (inputs.Begin s)) text other left others x y
-answered-alike given is (Set s o v) text other left others x y = asked-alike given is (asks.Apply (inputs.Set s o v)) text other left others x y
-answered-alike given is (Verify s) text other left others x y = asked-alike given is (asks.Apply (inputs.Verify s)) text other left others x y
-answered-alike given is (Commit s) text other left others x y = asked-alike given is (asks.Apply (inputs.Commit s)) text other left others x y
-answered-alike given is (Abort s) text other left others x y = asked-alike given is (asks.Apply (inputs.Abort s)) text other left others x y
-answered-alike given is (Pattern n) text other left others x y = asked-alike given is (asks.Apply (inputs.Pattern n)) text other left others x y
-answered-alike given is (Preempt n on) text other left others x y = asked-alike given is (asks.Apply (inputs.Switch n on)) text other left others x y
-answered-alike given is (Fault lamp) text other left others x y = asked-alike given is (asks.Apply (inputs.Fault lamp)) text other left others x y
-answered-alike given is Reset text other left others x y = asked-alike given is (asks.Apply inputs.Reset) text other left others x y
+answered-alike given is c text other left others x y = asked-alike given is _ text other left others x y
 
 -- ## Lines
 

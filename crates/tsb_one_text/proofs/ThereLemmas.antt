@@ -7,13 +7,12 @@ use Rattle.tsb_past.specs.declared.commands.Command.TheVariants as asks
 use Rattle.tsb_past.specs.declared.commands.Answer.{Answer}
 use Rattle.tsb_past.specs.declared.commands.Answer.TheVariants.{Took, Refused, Undone, Moved, Nothing, Changed}
 use Rattle.tsb_step.specs.declared.inputs.Input.{Input}
-use Rattle.tsb_step.specs.declared.inputs.Input.TheVariants as inputs
 use Rattle.tsb_step.specs.Play.{Cmd, IsRight, run, remaining_after}
 use Rattle.tsb_step.specs.Runs.{replay}
 use Rattle.tsb_step.specs.Step.{kind_of, verdict}
 use Rattle.tsb_step.specs.Watches.{TellsLastChange}
 use Rattle.tsb_command_text.specs.declared.command.Command.{Command}
-use Rattle.tsb_command_text.specs.declared.command.Command.TheVariants.{Step, Back, Seek, Undo, Show, When, Begin, Set, Verify, Commit, Abort, Pattern, Preempt, Fault, Reset, Quit}
+use Rattle.tsb_command_text.specs.declared.command.Command.TheVariants.{Step, Back, Seek, Undo, Show, When, Quit}
 use Rattle.tsb_command_text.specs.declared.command.Reading.{Reading}
 use Rattle.tsb_command_text.specs.declared.command.Reading.TheVariants.{Skip, Bad, Leave, Do}
 use Rattle.tsb_command_text.specs.Readings.{reading}
@@ -21,30 +20,27 @@ use Rattle.tsb_lines.specs.Lines.{lines_of}
 use Rattle.tsb_text.specs.Answers.{Setup, Asked, Steps, Answers, told, next_tick, refused_line, display_line}
 use Rattle.tsb_text.specs.Text.{Says, IsAnswered}
 use Rattle.tsb_text.specs.Written.{with_feed}
-use Rattle.tsb_text.proofs.RefusalLemmas.{never-memory, as-refusal}
+use Rattle.tsb_step.proofs.RefusalLemmas.{never-memory, refuses}
 use Rattle.tsb_text.proofs.WatchLemmas.{some-change}
 use Rattle.tsb_one_text.specs.Laws.{tells_memory, Untold}
 use Rattle.tsb_one_text.proofs.PlainLemmas.{IsPlain, plain-before, display-plain, taken-plain, refused-plain, undone-plain, when-plain, nothing-plain, bad-plain}
 
--- an answer to a command that adds nothing to what a text tells of memory
-record Plain (given : Setup) (is : List Input) (c : Command) : Type 0 where
+-- an answer that adds nothing to what a text tells of memory
+record Plain (IsAnswer : List ℕ → List Input → Type 0) : Type 0 where
   text : List ℕ
   left : List Input
-  answers : Answers given is c text left
+  answers : IsAnswer text left
   tells : (rest : List ℕ) → tells_memory (text ++ rest) ≡ tells_memory rest
 
--- the same of the answer to what asks the bench once, and of ticks
-record PlainAsked (given : Setup) (is : List Input) (cmd : Cmd) : Type 0 where
-  text : List ℕ
-  left : List Input
-  answers : Asked given is cmd text left
-  tells : (rest : List ℕ) → tells_memory (text ++ rest) ≡ tells_memory rest
+-- so of the answer to what asks the bench once, to ticks, and to any command
+abbrev PlainAsked : Setup → List Input → Cmd → Type 0
+PlainAsked given is cmd = Plain (λ text left. Asked given is cmd text left)
 
-record PlainSteps (given : Setup) (is : List Input) (n : ℕ) : Type 0 where
-  text : List ℕ
-  left : List Input
-  answers : Steps given is n text left
-  tells : (rest : List ℕ) → tells_memory (text ++ rest) ≡ tells_memory rest
+abbrev PlainSteps : Setup → List Input → ℕ → Type 0
+PlainSteps given is n = Plain (λ text left. Steps given is n text left)
+
+abbrev PlainAnswers : Setup → List Input → Command → Type 0
+PlainAnswers given is c = Plain (λ text left. Answers given is c text left)
 
 -- ## What asks the bench once
 
@@ -66,15 +62,12 @@ record IsRefused (given : Setup) (is : List Input) (i : Input) : Type 0 where
 right-input : (given : Setup) (is : List Input) (i : Input) → IsRight given.plan is (asks.Apply i) Took ⊎ IsRefused given is i
 right-input given is i = at (verdict (replay given.plan is) i) refl
   where
-    never : verdict (replay given.plan is) i ≢ Some Memory
-    never = never-memory (replay given.plan is) i
-
     at : (found : Option Refusal) → verdict (replay given.plan is) i ≡ found → IsRight given.plan is (asks.Apply i) Took ⊎ IsRefused given is i
     at None e = inl e
     at (Some x) e = inr (record {
       refusal = x;
-      right = as-refusal (verdict (replay given.plan is) i) x never e;
-      other = λ h. never (e ∙ ap Some h);
+      right = refuses (replay given.plan is) i x e;
+      other = λ h. never-memory (replay given.plan is) i (e ∙ ap Some h);
     })
 
 input-told : (given : Setup) (is : List Input) (i : Input) → PlainAsked given is (asks.Apply i)
@@ -138,11 +131,11 @@ steps-told given (suc n) is = elim (right-input given is (next_tick given is)) [
 
 -- ## Every command
 
-command-told : (given : Setup) (is : List Input) (c : Command) → Plain given is c
-command-told given is (Step n) = let a : PlainSteps given is n = steps-told given n is in record { text = a.text; left = a.left; answers = a.answers; tells = a.tells }
-command-told given is (Back n) = let a : PlainAsked given is (asks.Back n) = back-told given is n in record { text = a.text; left = a.left; answers = a.answers; tells = a.tells }
-command-told given is (Seek t) = let a : PlainAsked given is (asks.Seek t) = seek-told given is t in record { text = a.text; left = a.left; answers = a.answers; tells = a.tells }
-command-told given is Undo = let a : PlainAsked given is asks.Undo = undo-told given is in record { text = a.text; left = a.left; answers = a.answers; tells = a.tells }
+command-told : (given : Setup) (is : List Input) (c : Command) → PlainAnswers given is c
+command-told given is (Step n) = steps-told given n is
+command-told given is (Back n) = back-told given is n
+command-told given is (Seek t) = seek-told given is t
+command-told given is Undo = undo-told given is
 command-told given is Show = record {
   text = with_feed (display_line (replay given.plan is));
   left = is;
@@ -150,16 +143,8 @@ command-told given is Show = record {
   tells = λ rest. plain-before (display_line (replay given.plan is)) rest (display-plain (replay given.plan is));
 }
 command-told given is Quit = record { text = []; left = is; answers = (refl, refl); tells = λ rest. refl }
-command-told given is (When w) = let a : PlainAsked given is (asks.When w) = when-told given is w in record { text = a.text; left = a.left; answers = a.answers; tells = a.tells }
-command-told given is (Begin s) = let a : PlainAsked given is (asks.Apply (inputs.Begin s)) = input-told given is (inputs.Begin s) in record { text = a.text; left = a.left; answers = a.answers; tells = a.tells }
-command-told given is (Set s o v) = let a : PlainAsked given is (asks.Apply (inputs.Set s o v)) = input-told given is (inputs.Set s o v) in record { text = a.text; left = a.left; answers = a.answers; tells = a.tells }
-command-told given is (Verify s) = let a : PlainAsked given is (asks.Apply (inputs.Verify s)) = input-told given is (inputs.Verify s) in record { text = a.text; left = a.left; answers = a.answers; tells = a.tells }
-command-told given is (Commit s) = let a : PlainAsked given is (asks.Apply (inputs.Commit s)) = input-told given is (inputs.Commit s) in record { text = a.text; left = a.left; answers = a.answers; tells = a.tells }
-command-told given is (Abort s) = let a : PlainAsked given is (asks.Apply (inputs.Abort s)) = input-told given is (inputs.Abort s) in record { text = a.text; left = a.left; answers = a.answers; tells = a.tells }
-command-told given is (Pattern n) = let a : PlainAsked given is (asks.Apply (inputs.Pattern n)) = input-told given is (inputs.Pattern n) in record { text = a.text; left = a.left; answers = a.answers; tells = a.tells }
-command-told given is (Preempt n on) = let a : PlainAsked given is (asks.Apply (inputs.Switch n on)) = input-told given is (inputs.Switch n on) in record { text = a.text; left = a.left; answers = a.answers; tells = a.tells }
-command-told given is (Fault lamp) = let a : PlainAsked given is (asks.Apply (inputs.Fault lamp)) = input-told given is (inputs.Fault lamp) in record { text = a.text; left = a.left; answers = a.answers; tells = a.tells }
-command-told given is Reset = let a : PlainAsked given is (asks.Apply inputs.Reset) = input-told given is inputs.Reset in record { text = a.text; left = a.left; answers = a.answers; tells = a.tells }
+command-told given is (When w) = when-told given is w
+command-told given is c = input-told given is _
 
 -- ## Lines
 
@@ -179,7 +164,7 @@ says-told given Bad is Rest later =
     }
 says-told given Leave is Rest later = record { text = []; so = refl; tells = refl }
 says-told given (Do c) is Rest later =
-    let a : Plain given is c = command-told given is c in
+    let a : PlainAnswers given is c = command-told given is c in
     let next : Told (Rest a.left) = later a.left in
     record { text = a.text ++ next.text; so = (a.text, next.text, a.left, a.answers, refl, next.so); tells = a.tells next.text ∙ next.tells }
 

@@ -173,14 +173,9 @@ latched plan (inputs.Tick row ∷ is) p h =
     or_true true = refl
     or_true false = refl
 latched plan (inputs.Pattern n ∷ is) p h = absurd (false≢true h)
-latched plan (inputs.Switch n on ∷ is) p h = latched plan is p h
 latched plan (inputs.Fault lamp ∷ is) p h = latched plan is p (sym (lit_latch (replay plan is) lamp p) ∙ h)
 latched plan (inputs.Reset ∷ is) p h = latched plan is p (reset_latch (replay plan is) p h)
-latched plan (inputs.Begin station ∷ is) p h = latched plan is p h
-latched plan (inputs.Set station id v ∷ is) p h = latched plan is p h
-latched plan (inputs.Verify station ∷ is) p h = latched plan is p h
-latched plan (inputs.Commit station ∷ is) p h = latched plan is p h
-latched plan (inputs.Abort station ∷ is) p h = latched plan is p h
+latched plan (i ∷ is) p h = latched plan is p h
 
 few_now : (plan : Plan) (is : List Input) → plan.phase_count ≤ 16 → (replay plan is).plan.phase_count ≤ 16
 few_now plan is few = let same = count_run plan is in omega (arith, same, few)

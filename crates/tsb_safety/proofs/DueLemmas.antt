@@ -52,29 +52,19 @@ ring_same s (inputs.Tick row) p good taken serves = tick_same row
   where
     tick_same : (row : Row) → ring_of (step s (inputs.Tick row)).plan p ≡ ring_of s.plan p
     tick_same row = ap (λ (x : Plan). ring_of x p) (plan_stays s row)
-ring_same s (inputs.Pattern n) p good taken serves = refl
-ring_same s (inputs.Switch n on) p good taken serves = refl
 ring_same s (inputs.Fault lamp) p good taken serves = ap (λ (x : Plan). ring_of x p) (enabled_lit s lamp)
 ring_same s inputs.Reset p good taken serves = ap (λ (x : Plan). ring_of x p) (plan_of_reset s)
-ring_same s (inputs.Begin station) p good taken serves = refl
-ring_same s (inputs.Set station id v) p good taken serves = refl
-ring_same s (inputs.Verify station) p good taken serves = refl
 ring_same s (inputs.Commit station) p good taken serves =
     kept is_structural s.plan s.desk.edits (leaves_structure s station p good taken serves) PhaseRing p refl
-ring_same s (inputs.Abort station) p good taken serves = refl
+ring_same s i p good taken serves = refl
 
 count_same : (s : State) (i : Input) → (step s i).plan.phase_count ≡ s.plan.phase_count
 unfolding step
 count_same s (inputs.Tick row) = ap (λ (x : Plan). x.phase_count) (plan_stays s row)
-count_same s (inputs.Pattern n) = refl
-count_same s (inputs.Switch n on) = refl
 count_same s (inputs.Fault lamp) = ap (λ (x : Plan). x.phase_count) (enabled_lit s lamp)
 count_same s inputs.Reset = ap (λ (x : Plan). x.phase_count) (plan_of_reset s)
-count_same s (inputs.Begin station) = refl
-count_same s (inputs.Set station id v) = refl
-count_same s (inputs.Verify station) = refl
 count_same s (inputs.Commit station) = same_phase_count s.plan s.desk.edits
-count_same s (inputs.Abort station) = refl
+count_same s i = refl
 
 pub count_run : (plan : Plan) (is : List Input) → (replay plan is).plan.phase_count ≡ plan.phase_count
 count_run plan [] = refl

@@ -71,15 +71,10 @@ ticked_in_range s row was = subst (λ (x : Plan). IsInRange x) (sym (plan_stays 
 step_in_range : (s : State) (i : Input) → IsGood s → IsInRange s.plan → IsInRange (step s i).plan
 unfolding step
 step_in_range s (inputs.Tick row) good was = ticked_in_range s row was
-step_in_range s (inputs.Pattern n) good was = was
-step_in_range s (inputs.Switch n on) good was = was
 step_in_range s (inputs.Fault lamp) good was = subst (λ (x : Plan). IsInRange x) (sym (enabled_lit s lamp)) was
 step_in_range s inputs.Reset good was = subst (λ (x : Plan). IsInRange x) (sym (plan_of_reset s)) was
-step_in_range s (inputs.Begin station) good was = was
-step_in_range s (inputs.Set station id v) good was = was
-step_in_range s (inputs.Verify station) good was = was
 step_in_range s (inputs.Commit station) good was = edits_in_range s.plan s.desk.edits good.fit was
-step_in_range s (inputs.Abort station) good was = was
+step_in_range s i good was = was
 
 pub in_range_run : (plan : Plan) (is : List Input) → IsConsistent plan → AreTaken plan is → IsInRange plan → IsInRange (replay plan is).plan
 in_range_run plan [] ok taken first = first

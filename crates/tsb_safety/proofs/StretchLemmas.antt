@@ -104,15 +104,10 @@ pub data Goes (s : State) (i : Input) : Type 0 where
 pub goes : (s : State) (i : Input) → s.trip ≡ None → Goes s i
 unfolding step
 goes s (inputs.Tick row) dark = ticks row refl
-goes s (inputs.Pattern n) dark = stays refl (record { interval = λ p. refl; part = λ p. refl; now = refl; commitment = λ r. refl; crossing = refl; side = refl })
-goes s (inputs.Switch n on) dark = stays refl (record { interval = λ p. refl; part = λ p. refl; now = refl; commitment = λ r. refl; crossing = refl; side = refl })
 goes s (inputs.Fault lamp) dark = stays refl (lit_same s lamp)
 goes s inputs.Reset dark = stays refl (reset_same s dark)
-goes s (inputs.Begin station) dark = stays refl (record { interval = λ p. refl; part = λ p. refl; now = refl; commitment = λ r. refl; crossing = refl; side = refl })
-goes s (inputs.Set station id v) dark = stays refl (record { interval = λ p. refl; part = λ p. refl; now = refl; commitment = λ r. refl; crossing = refl; side = refl })
-goes s (inputs.Verify station) dark = stays refl (record { interval = λ p. refl; part = λ p. refl; now = refl; commitment = λ r. refl; crossing = refl; side = refl })
 goes s (inputs.Commit station) dark = stays refl (committed_same s)
-goes s (inputs.Abort station) dark = stays refl (record { interval = λ p. refl; part = λ p. refl; now = refl; commitment = λ r. refl; crossing = refl; side = refl })
+goes s i dark = stays refl (record { interval = λ p. refl; part = λ p. refl; now = refl; commitment = λ r. refl; crossing = refl; side = refl })
 
 -- ## Phases after a tick
 

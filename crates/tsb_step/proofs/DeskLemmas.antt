@@ -8,7 +8,7 @@ use Rattle.tsb_transact.specs.Desk.{closed}
 use Rattle.tsb_transact.specs.Commit.{forgets_last_phases}
 use Rattle.tsb_transact.specs.Calls.{committed_plan}
 use Rattle.tsb_step.specs.declared.inputs.Input.{Input}
-use Rattle.tsb_step.specs.declared.inputs.Input.TheVariants.{Tick, Pattern, Switch, Fault, Reset, Begin, Set, Verify, Commit, Abort}
+use Rattle.tsb_step.specs.declared.inputs.Input.TheVariants.{Tick, Pattern, Switch, Fault, Reset, Commit}
 use Rattle.tsb_step.specs.State.{State}
 use Rattle.tsb_step.specs.Step.{step, ticked, with_lamp, reset}
 use Rattle.tsb_step.specs.Signs.{field, watched}
@@ -19,16 +19,13 @@ use Rattle.tsb_step.specs.DeskLaws.{is_of_desk, is_commit, by_any_station, witho
 
 pub change_the_desk_alone : (s : State) (i : Input) → is_of_desk i ≡ true → step s i ≡ record s { desk = (step s i).desk }
 unfolding step
-change_the_desk_alone s (Begin station) of = refl
-change_the_desk_alone s (Set station id v) of = refl
-change_the_desk_alone s (Verify station) of = refl
-change_the_desk_alone s (Abort station) of = refl
 change_the_desk_alone s (Tick row) of = cc
 change_the_desk_alone s (Pattern n) of = cc
 change_the_desk_alone s (Switch n on) of = cc
 change_the_desk_alone s (Fault lamp) of = cc
 change_the_desk_alone s Reset of = cc
 change_the_desk_alone s (Commit station) of = cc
+change_the_desk_alone s i of = refl
 
 -- ## What the others make of it, where the controller has tripped and where it has not
 
@@ -49,15 +46,9 @@ reset_leaves s false tripped = rw tripped refl
 pub leave_the_desk : (s : State) (i : Input) → is_of_desk i ≡ false → is_commit i ≡ false → (step s i).desk ≡ s.desk
 unfolding step
 leave_the_desk s (Tick row) of commits = tick_leaves s row (is_some s.trip) refl
-leave_the_desk s (Pattern n) of commits = refl
-leave_the_desk s (Switch n on) of commits = refl
 leave_the_desk s (Fault lamp) of commits = lamp_leaves s lamp (is_some s.trip) refl
 leave_the_desk s Reset of commits = reset_leaves s (is_some s.trip) refl
-leave_the_desk s (Begin station) of commits = cc
-leave_the_desk s (Set station id v) of commits = cc
-leave_the_desk s (Verify station) of commits = cc
-leave_the_desk s (Abort station) of commits = cc
-leave_the_desk s (Commit station) of commits = cc
+leave_the_desk s i of commits = cc
 
 -- ## They read nothing of the desk
 
@@ -82,15 +73,9 @@ pub read_no_desk : (s : State) (i : Input) → is_of_desk i ≡ false → is_com
     without_desk (step s i) ≡ without_desk (step (without_desk s) i)
 unfolding step
 read_no_desk s (Tick row) of commits = tick_reads_no_desk s row (is_some s.trip) refl
-read_no_desk s (Pattern n) of commits = refl
-read_no_desk s (Switch n on) of commits = refl
 read_no_desk s (Fault lamp) of commits = lamp_reads_no_desk s lamp (is_some s.trip) refl
 read_no_desk s Reset of commits = reset_reads_no_desk s (is_some s.trip) refl
-read_no_desk s (Begin station) of commits = cc
-read_no_desk s (Set station id v) of commits = cc
-read_no_desk s (Verify station) of commits = cc
-read_no_desk s (Abort station) of commits = cc
-read_no_desk s (Commit station) of commits = cc
+read_no_desk s i of commits = cc
 
 -- ## Commits
 
@@ -106,51 +91,19 @@ pub commit_puts : (s : State) (i : Input) → is_commit i ≡ true →
     without_desk (step s i) ≡ put (committed_plan s.plan s.desk) (forgets_last_phases s.plan s.desk.edits) (without_desk s)
 unfolding step
 commit_puts s (Commit station) commits = refl
-commit_puts s (Tick row) commits = cc
-commit_puts s (Pattern n) commits = cc
-commit_puts s (Switch n on) commits = cc
-commit_puts s (Fault lamp) commits = cc
-commit_puts s Reset commits = cc
-commit_puts s (Begin station) commits = cc
-commit_puts s (Set station id v) commits = cc
-commit_puts s (Verify station) commits = cc
-commit_puts s (Abort station) commits = cc
+commit_puts s i commits = cc
 
 pub commits_leave_no_edits : (s : State) (i : Input) → is_commit i ≡ true → (step s i).desk ≡ closed
 unfolding step
 commits_leave_no_edits s (Commit station) commits = refl
-commits_leave_no_edits s (Tick row) commits = cc
-commits_leave_no_edits s (Pattern n) commits = cc
-commits_leave_no_edits s (Switch n on) commits = cc
-commits_leave_no_edits s (Fault lamp) commits = cc
-commits_leave_no_edits s Reset commits = cc
-commits_leave_no_edits s (Begin station) commits = cc
-commits_leave_no_edits s (Set station id v) commits = cc
-commits_leave_no_edits s (Verify station) commits = cc
-commits_leave_no_edits s (Abort station) commits = cc
+commits_leave_no_edits s i commits = cc
 
 -- an input that is no commit is what it is by any station
 pub is_itself : (i : Input) → is_commit i ≡ false → by_any_station i ≡ i
 is_itself (Commit station) commits = cc
-is_itself (Tick row) commits = refl
-is_itself (Pattern n) commits = refl
-is_itself (Switch n on) commits = refl
-is_itself (Fault lamp) commits = refl
-is_itself Reset commits = refl
-is_itself (Begin station) commits = refl
-is_itself (Set station id v) commits = refl
-is_itself (Verify station) commits = refl
-is_itself (Abort station) commits = refl
+is_itself i commits = refl
 
 -- and commits stay commits
 pub still_commits : (i : Input) → is_commit (by_any_station i) ≡ is_commit i
 still_commits (Commit station) = refl
-still_commits (Tick row) = refl
-still_commits (Pattern n) = refl
-still_commits (Switch n on) = refl
-still_commits (Fault lamp) = refl
-still_commits Reset = refl
-still_commits (Begin station) = refl
-still_commits (Set station id v) = refl
-still_commits (Verify station) = refl
-still_commits (Abort station) = refl
+still_commits i = refl

@@ -7,7 +7,7 @@ use Rattle.tsb_transact.specs.Desk.{with_edits}
 use Rattle.tsb_transact.specs.Commit.{forgets_last_phases}
 use Rattle.tsb_transact.specs.Calls.{committed_plan}
 use Rattle.tsb_step.specs.declared.inputs.Input.{Input}
-use Rattle.tsb_step.specs.declared.inputs.Input.TheVariants.{Tick, Pattern, Switch, Fault, Reset, Begin, Set, Verify, Commit, Abort}
+use Rattle.tsb_step.specs.declared.inputs.Input.TheVariants.{Begin, Set, Verify, Commit, Abort}
 use Rattle.tsb_step.specs.State.{State}
 use Rattle.tsb_step.specs.Step.{step}
 use Rattle.tsb_step.specs.Signs.{display}
@@ -25,11 +25,7 @@ once_after s (Set station id v) once = once_with (record { id = id; value = v })
 once_after s (Verify station) once = once
 once_after s (Commit station) once = tt
 once_after s (Abort station) once = tt
-once_after s (Tick row) once = subst (λ d. AreOnce d.edits) (sym (leave_the_desk s (Tick row) refl refl)) once
-once_after s (Pattern n) once = once
-once_after s (Switch n on) once = once
-once_after s (Fault lamp) once = subst (λ d. AreOnce d.edits) (sym (leave_the_desk s (Fault lamp) refl refl)) once
-once_after s Reset once = subst (λ d. AreOnce d.edits) (sym (leave_the_desk s Reset refl refl)) once
+once_after s i once = subst (λ d. AreOnce d.edits) (sym (leave_the_desk s i refl refl)) once
 
 run_is_once : (plan : Plan) (is : List Input) → AreOnce (replay plan is).desk.edits
 run_is_once plan [] = tt
@@ -104,16 +100,8 @@ both_alike plan i j is js off off_too alike same plans =
 -- ## Both runs
 
 no_commit : (i : Input) → is_of_desk i ≡ true → is_commit i ≡ false
-no_commit (Begin station) of = refl
-no_commit (Set station id v) of = refl
-no_commit (Verify station) of = refl
-no_commit (Abort station) of = refl
-no_commit (Tick row) of = refl
-no_commit (Pattern n) of = refl
-no_commit (Switch n on) of = refl
-no_commit (Fault lamp) of = refl
-no_commit Reset of = refl
 no_commit (Commit station) of = cc
+no_commit i of = refl
 
 -- an input of the desk makes no difference
 left_out : (plan : Plan) (i : Input) (is : List Input) → is_of_desk i ≡ true →

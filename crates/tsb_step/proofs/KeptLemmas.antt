@@ -79,15 +79,10 @@ module _ (Q : Plan → (ℕ → Interval) → rings.State → Type 0) (kept : Is
   after_input : (s : State) (i : Input) → verdict s i ≡ None → IsGood s → Holds s → Holds (step s i)
   unfolding step
   after_input s (inputs.Tick row) taken good was = after_tick s row good was
-  after_input s (inputs.Pattern n) taken good was = was
-  after_input s (inputs.Switch n on) taken good was = was
   after_input s (inputs.Fault lamp) taken good was = after_lamp s lamp was
   after_input s inputs.Reset taken good was = after_reset s was
-  after_input s (inputs.Begin station) taken good was = was
-  after_input s (inputs.Set station id v) taken good was = was
-  after_input s (inputs.Verify station) taken good was = was
   after_input s (inputs.Commit station) taken good was = after_commit s station taken good was
-  after_input s (inputs.Abort station) taken good was = was
+  after_input s i taken good was = was
 
   pub kept_run : (plan : Plan) (is : List Input) → IsConsistent plan → AreTaken plan is → Q (replay plan is).plan (interval (replay plan is)) (replay plan is).rings
   kept_run plan [] ok taken = at_start plan

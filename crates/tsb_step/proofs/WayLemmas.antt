@@ -6,8 +6,10 @@ use Rattle.tsb_types.specs.declared.lamp.Lamp.{Lamp}
 use Rattle.tsb_types.specs.declared.row.Row.{Row}
 use Rattle.tsb_plan.specs.Plan.{Plan}
 use Rattle.tsb_past.specs.Laws.{GivesBack, CountsTicks}
+use Rattle.tsb_history.specs.declared.kinds.Kind.{Kind}
+use Rattle.tsb_history.specs.declared.kinds.Kind.TheVariants as kinds
 use Rattle.tsb_step.specs.declared.inputs.Input.{Input}
-use Rattle.tsb_step.specs.declared.inputs.Input.TheVariants.{Tick, Pattern, Switch, Fault, Reset, Begin, Set, Verify, Commit, Abort}
+use Rattle.tsb_step.specs.declared.inputs.Input.TheVariants.{Tick, Fault, Reset}
 use Rattle.tsb_step.specs.State.{State, start, restarted}
 use Rattle.tsb_step.specs.Tick.{next}
 use Rattle.tsb_step.specs.Signs.{watched}
@@ -23,8 +25,6 @@ now-step s (Tick row) = go (is_some s.trip)
     go : (b : Bool) → (if b then record s { now = s.now + 1 } else (if b then next s row else watched s (next s row))).now ≡ s.now + 1
     go true = refl
     go false = refl
-now-step s (Pattern n) = omega arith
-now-step s (Switch n on) = omega arith
 now-step s (Fault lamp) = go (is_some s.trip)
   where
     go : (b : Bool) → (if b then record s { lamp = lamp } else watched s (record s { lamp = lamp })).now ≡ s.now + 0
@@ -35,23 +35,11 @@ now-step s Reset = go (is_some s.trip)
     go : (b : Bool) → (if b then restarted s else s).now ≡ s.now + 0
     go true = omega arith
     go false = omega arith
-now-step s (Begin station) = omega arith
-now-step s (Set station id v) = omega arith
-now-step s (Verify station) = omega arith
-now-step s (Commit station) = omega arith
-now-step s (Abort station) = omega arith
+now-step s i = omega arith
 
-ticks-at_most : (i : Input) → ticks_of (kind_of i) ≤ 1
-ticks-at_most (Tick row) = omega arith
-ticks-at_most (Pattern n) = omega arith
-ticks-at_most (Switch n on) = omega arith
-ticks-at_most (Fault lamp) = omega arith
-ticks-at_most Reset = omega arith
-ticks-at_most (Begin station) = omega arith
-ticks-at_most (Set station id v) = omega arith
-ticks-at_most (Verify station) = omega arith
-ticks-at_most (Commit station) = omega arith
-ticks-at_most (Abort station) = omega arith
+pub ticks-at_most : (k : Kind) → ticks_of k ≤ 1
+ticks-at_most kinds.Tick = omega arith
+ticks-at_most k = omega arith
 
 pub records_give_back : (s : State) (i : Input) → state_in s.now (cells_of s) ≡ s → length (cells_of s) ≡ length (cells_of (step s i)) →
     GivesBack controller s i
@@ -67,5 +55,5 @@ ticks_are_counted plan = record {
   begins = refl;
   on = λ s i. (let moved : (step s i).now ≡ s.now + ticks_of (kind_of i) = now-step s i in omega (arith, moved));
   by_one = λ s i. (let moved : (step s i).now ≡ s.now + ticks_of (kind_of i) = now-step s i in
-      let few : ticks_of (kind_of i) ≤ 1 = ticks-at_most i in omega (arith, moved, few));
+      let few : ticks_of (kind_of i) ≤ 1 = ticks-at_most (kind_of i) in omega (arith, moved, few));
 }

@@ -1,5 +1,4 @@
 pub mod WrittenLemmas
-pub mod RefusalLemmas
 pub mod WatchLemmas
 pub mod TextLemmas
 pub mod AnswerLemmas

@@ -9,20 +9,19 @@ use Rattle.tsb_past.specs.declared.commands.Command.TheVariants as asks
 use Rattle.tsb_past.specs.declared.commands.Answer.{Answer}
 use Rattle.tsb_past.specs.declared.commands.Answer.TheVariants.{Took, Refused, Undone, Moved, Nothing, Changed}
 use Rattle.tsb_step.specs.declared.inputs.Input.{Input}
-use Rattle.tsb_step.specs.declared.inputs.Input.TheVariants as inputs
 use Rattle.tsb_step.specs.Play.{Cmd, IsRight, run}
 use Rattle.tsb_step.specs.Runs.{replay}
 use Rattle.tsb_step.specs.Step.{kind_of, verdict}
 use Rattle.tsb_step.specs.Watches.{TellsLastChange}
 use Rattle.tsb_command_text.specs.declared.command.Command.{Command}
-use Rattle.tsb_command_text.specs.declared.command.Command.TheVariants.{Step, Back, Seek, Undo, Show, When, Begin, Set, Verify, Commit, Abort, Pattern, Preempt, Fault, Reset, Quit}
+use Rattle.tsb_command_text.specs.declared.command.Command.TheVariants.{Step, Back, Seek, Undo, Show, When, Quit}
 use Rattle.tsb_command_text.specs.declared.command.Reading.{Reading}
 use Rattle.tsb_command_text.specs.declared.command.Reading.TheVariants.{Skip, Bad, Leave, Do}
 use Rattle.tsb_command_text.specs.Readings.{reading}
 use Rattle.tsb_lines.specs.Lines.{lines_of, split, ended, onto_first, without_return, HasNoFeed}
 use Rattle.tsb_text.specs.Answers.{Setup, Asked, Steps, Answers, next_tick}
 use Rattle.tsb_text.specs.Text.{Says, IsAnswered, IsText}
-use Rattle.tsb_text.proofs.RefusalLemmas.{never-memory, as-refusal}
+use Rattle.tsb_step.proofs.RefusalLemmas.{refuses}
 use Rattle.tsb_text.proofs.WatchLemmas.{some-change}
 
 -- ## There is an answer to each command: one that does not run out of memory
@@ -32,7 +31,7 @@ right-input given is i = at (verdict (replay given.plan is) i) refl
   where
     at : (found : Option Refusal) → verdict (replay given.plan is) i ≡ found → IsRight given.plan is (asks.Apply i) Took ⊎ ((e : Refusal) × IsRight given.plan is (asks.Apply i) (Refused e))
     at None e = inl e
-    at (Some x) e = inr (x, as-refusal (verdict (replay given.plan is) i) x (never-memory (replay given.plan is) i) e)
+    at (Some x) e = inr (x, refuses (replay given.plan is) i x e)
 
 pub some-steps : (given : Setup) (n : ℕ) (is : List Input) → (text : List ℕ) × (left : List Input) × Steps given is n text left
 some-steps given zero is = ([], is, (refl, refl))
@@ -83,15 +82,7 @@ some-answer given is Undo = some-undo given is
 some-answer given is Show = (_, _, (refl, refl))
 some-answer given is Quit = (_, _, (refl, refl))
 some-answer given is (When w) = some-when given is w
-some-answer given is (Begin s) = some-input given is (inputs.Begin s)
-some-answer given is (Set s o v) = some-input given is (inputs.Set s o v)
-some-answer given is (Verify s) = some-input given is (inputs.Verify s)
-some-answer given is (Commit s) = some-input given is (inputs.Commit s)
-some-answer given is (Abort s) = some-input given is (inputs.Abort s)
-some-answer given is (Pattern n) = some-input given is (inputs.Pattern n)
-some-answer given is (Preempt n on) = some-input given is (inputs.Switch n on)
-some-answer given is (Fault lamp) = some-input given is (inputs.Fault lamp)
-some-answer given is Reset = some-input given is inputs.Reset
+some-answer given is c = some-input given is _
 
 pub some-says : (given : Setup) (r : Reading) (is : List Input) (Rest : List Input → List ℕ → Type 0) → ((new : List Input) → (t : List ℕ) × Rest new t) → (t : List ℕ) × Says given r is t Rest
 some-says given Skip is Rest k = k is

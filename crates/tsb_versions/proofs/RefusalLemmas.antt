@@ -16,7 +16,7 @@ use Rattle.tsb_phase.specs.Phase as phase
 use Rattle.tsb_plan.specs.Objects.{is_structural}
 use Rattle.tsb_transact.specs.Commit as commit
 use Rattle.tsb_step.specs.declared.inputs.Input.{Input}
-use Rattle.tsb_step.specs.declared.inputs.Input.TheVariants.{Tick, Pattern, Switch, Fault, Reset, Begin, Set, Verify, Commit, Abort}
+use Rattle.tsb_step.specs.declared.inputs.Input.TheVariants.{Set, Commit}
 use Rattle.tsb_step.specs.State.{State, interval}
 use Rattle.tsb_step.specs.Signs.{commitment}
 use Rattle.tsb_step.specs.Tables.{indices_for, greatest_for, version_of, has_place, place_refusal}
@@ -150,18 +150,11 @@ serving-same s is =
 
 pub verdict-same : (s : State) (i : Input) → IsNarrowState s → IsWithin i → verdict (widened_state s) (widened_input i) ≡ verdict s i
 unfolding verdict
-verdict-same s (Tick row) is low = refl
-verdict-same s (Pattern n) is low = refl
-verdict-same s (Switch n on) is low = refl
-verdict-same s (Fault lamp) is low = refl
-verdict-same s Reset is low = refl
-verdict-same s (Begin station) is low = refl
 verdict-same s (Set station id v) is low = set_refusal-same s station id v is low
-verdict-same s (Verify station) is low = refl
 verdict-same s (Commit station) is low =
     rw (
       serving-same s is,
       changes_some-same is_structural s.plan s.desk.edits is.edits,
       changes_some-same commit.is_preempt_list s.plan s.desk.edits is.edits,
     ) refl
-verdict-same s (Abort station) is low = refl
+verdict-same s i is low = refl

@@ -127,16 +127,13 @@ committed-same s is =
 pub step-same : (s : State) (i : Input) → IsNarrowState s → IsWithin i → step (widened_state s) (widened_input i) ≡ widened_state (step s i)
 unfolding step
 step-same s (Tick row) is low = ticked-same row s is
-step-same s (Pattern n) is low = refl
-step-same s (Switch n on) is low = refl
 step-same s (Fault lamp) is low = with_lamp-same lamp s is low
 step-same s Reset is low = reset-same s
-step-same s (Begin station) is low = refl
 step-same s (Set station id v) is low = ap (λ (d : Desk). record (widened_state s) { desk = d }) (set-same s id v is low)
 step-same s (Verify station) is low =
     ap (λ rule. record (widened_state s) { desk = desk.after_check rule (widened_desk s.desk) }) (found-same s is)
 step-same s (Commit station) is low = committed-same s is
-step-same s (Abort station) is low = refl
+step-same s i is low = refl
 
 -- ## States of the narrow bench stay such
 

@@ -13,7 +13,7 @@ use Rattle.tsb_bench.specs.Held.{Held, state_of, whole}
 use Rattle.tsb_bench.proofs.HeldLemmas.{sound-held}
 use Rattle.tsb_bench.proofs.PassingLemmas.{may-later, sound-passed, records-passed, back-passed, sound-taken, records-taken, back-taken}
 use Rattle.tsb_bench.proofs.RoomLemmas.{newest-told, none-left, all-left}
-use Rattle.tsb_bench.proofs.RefusalLemmas.{never-memory, refuses}
+use Rattle.tsb_step.proofs.RefusalLemmas.{never-memory, refuses}
 use Rattle.tsb_bench.proofs.bench.Bench.apply.Goals as goal
 
 -- ## A tick that is passed over

@@ -1,7 +1,7 @@
 -- No input is refused as out of memory by what it asks: the verdict on it is another refusal, or none.
-use Rattle.std.proofs.Common.{◌≡◌, ◌≢◌, ℕ, Bool, true, false, ◌&&◌, if◌then◌else◌, Option, Some, None, nat_le, nat_lt, ◌==◌, ◌||◌, not, length, is_some}
+use Rattle.std.proofs.Common.{◌≡◌, ◌≢◌, ℕ, Bool, true, false, ◌&&◌, if◌then◌else◌, Option, Some, None, nat_le, nat_lt, ◌==◌, ◌||◌, not, is_some}
 use Rattle.tsb_types.specs.declared.refusal.Refusal.{Refusal}
-use Rattle.tsb_types.specs.declared.refusal.Refusal.TheVariants.{Memory, NoSuchObject, OutOfRange, Busy, NotOwner, NotOpen, NotVerified, TooManyEdits, NoSuchPattern, NoSuchPreempt, TickLimit, InService}
+use Rattle.tsb_types.specs.declared.refusal.Refusal.TheVariants.{Memory, NoSuchObject, OutOfRange, NotOwner, NotVerified, TooManyEdits, NoSuchPattern, NoSuchPreempt, TickLimit, InService}
 use Rattle.tsb_plan.specs.Plan.{Plan}
 use Rattle.tsb_plan.specs.declared.object.ObjectId.{ObjectId}
 use Rattle.tsb_past.specs.Play.{IsRefusal}
@@ -12,26 +12,11 @@ use Rattle.tsb_transact.specs.Calls as desk
 use Rattle.tsb_transact.specs.Commit as commit
 use Rattle.tsb_transact.specs.Desk.{is_done}
 use Rattle.tsb_step.specs.declared.inputs.Input.{Input}
-use Rattle.tsb_step.specs.declared.inputs.Input.TheVariants.{Tick, Pattern, Switch, Fault, Reset, Begin, Set, Verify, Commit, Abort}
+use Rattle.tsb_step.specs.declared.inputs.Input.TheVariants.{Tick, Pattern, Switch, Begin, Set, Verify, Commit, Abort}
 use Rattle.tsb_step.specs.State.{State}
 use Rattle.tsb_step.specs.Step.{verdict, is_serving, last_tick}
 use Rattle.tsb_step.specs.Tables.{place_refusal, version_of, has_place, greatest_of}
 use Rattle.tsb_plan.specs.Versions.{has_object}
-
--- what was found is a refusal, if it is not memory
-pub as-refusal : (found : Option Refusal) (e : Refusal) → found ≢ Some Memory → found ≡ Some e → IsRefusal found e
-as-refusal found Memory n h = absurd (n h)
-as-refusal found NoSuchObject n h = h
-as-refusal found OutOfRange n h = h
-as-refusal found (Busy station) n h = h
-as-refusal found NotOwner n h = h
-as-refusal found NotOpen n h = h
-as-refusal found NotVerified n h = h
-as-refusal found TooManyEdits n h = h
-as-refusal found NoSuchPattern n h = h
-as-refusal found NoSuchPreempt n h = h
-as-refusal found TickLimit n h = h
-as-refusal found InService n h = h
 
 -- one of two
 either : (b : Bool) (x y : Option Refusal) → x ≢ Some Memory → y ≢ Some Memory → (if b then x else y) ≢ Some Memory
@@ -60,8 +45,6 @@ unfolding verdict
 never-memory s (Tick row) = either (nat_lt s.now last_tick) None (Some TickLimit) (λ h. cc) (λ h. cc)
 never-memory s (Pattern n) = either (n == 0 || coordination.is_pattern s.plan n) None (Some NoSuchPattern) (λ h. cc) (λ h. cc)
 never-memory s (Switch n on) = either (preempts.is_preempt n && (not on || has_dwell s.plan n)) None (Some NoSuchPreempt) (λ h. cc) (λ h. cc)
-never-memory s (Fault lamp) = λ h. cc
-never-memory s Reset = λ h. cc
 never-memory s (Begin station) = busy s.desk.owner
 never-memory s (Set station id v) =
     first (desk.stranger_refusal station s.desk.owner) _ (stranger station s.desk.owner)
@@ -72,3 +55,9 @@ never-memory s (Commit station) =
     (first (desk.refused_if (not (is_done s.desk.state)) NotVerified) _ (either (not (is_done s.desk.state)) (Some NotVerified) None (λ h. cc) (λ h. cc))
     (either (commit.must_wait s.plan (is_serving s) (is_some s.preempts.service) s.desk.edits) (Some InService) None (λ h. cc) (λ h. cc)))
 never-memory s (Abort station) = stranger station s.desk.owner
+never-memory s i = λ h. cc
+
+-- so a verdict is a refusal that may be answered
+pub refuses : (s : State) (i : Input) (e : Refusal) → verdict s i ≡ Some e → IsRefusal (verdict s i) e
+refuses s i Memory h = absurd (never-memory s i h)
+refuses s i e h = h
