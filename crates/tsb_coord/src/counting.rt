@@ -5,7 +5,7 @@ ghost use Rattle.tsb_plan.specs.Parts.{cycle, is_used};
 ghost use Rattle.tsb_objects.specs.Checked.{checked_plan};
 ghost use Rattle.tsb_coord.specs.Coordinated.{counter};
 
-use tsb_objects::{Checked, Object, Pattern};
+use tsb_objects::{Checked, Pattern};
 
 /// The cycle of a pattern that is used, in ticks, with its range.
 #[inline(always)]
@@ -15,9 +15,7 @@ pub(crate) fn cycle_of(plan: &Checked, n: Pattern) -> u32
     ensures some { 1 ≤ result }
     ensures range { result ≤ 2550 }
 {
-    10 * plan
-        .plan()
-        .at(Object::PatternCycleTime, u32::from(n.number()))
+    plan.plan().cycle(n)
 }
 
 /// The local counter of a pattern that is used: the tick number less the offset, within the cycle.

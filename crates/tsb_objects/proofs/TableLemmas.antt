@@ -5,12 +5,10 @@ use Rattle.std.proofs.lemmas.Bool.Decides.{nat_tests}
 use Rattle.tsb_plan.specs.declared.object.Object.{Object}
 use Rattle.tsb_plan.specs.declared.object.Object.TheVariants.{PhaseConcurrency}
 use Rattle.tsb_plan.specs.Objects.{AreInRange, indices, has_index, value_in}
-use Rattle.tsb_plan.specs.Parts.{unless_zero}
 use Rattle.tsb_plan.specs.Plan.{is_concurrent}
 use Rattle.tsb_plan.specs.PlanOf.{plan_in}
 use Rattle.tsb_rules.specs.Consistent.{IsPhase}
 use Rattle.tsb_rules.specs.Rules.{first_broken}
-use Rattle.tsb_types.specs.Lists.{is}
 use Rattle.tsb_types.specs.Sets.{names}
 use Rattle.tsb_types.proofs.SetLemmas.{names-zero, names-above}
 use Rattle.tsb_rules.proofs.ConsistentLemmas.{together}
@@ -52,9 +50,3 @@ named-back cells ranged none q (suc k) from within =
           named-outside (value_in cells PhaseConcurrency q) (suc k) (ranged.each PhaseConcurrency q) (omega arith)
           ∙ sym (rw outside (names-zero q))
     ]
-
--- a number that is not 0 is the one that a value names exactly when it is that value
-pub is-unless_zero : (n p : ℕ) → 1 ≤ p → (n == p) ≡ is p (unless_zero n)
-is-unless_zero n zero from = absurd (omega arith)
-is-unless_zero zero (suc p) from = let other : (0 == suc p) ≡ false = grind (arith, nat_tests) in other
-is-unless_zero (suc n) (suc p) from = let some : (suc n == 0) ≡ false = grind (arith, nat_tests) in rw some refl

@@ -1,7 +1,7 @@
 -- The tables of a checked plan: what the plan says of all its phases at once, as sets.
 use Rattle.std.specs.Prelude.{◌≡◌, ℕ, ◌+◌, ◌<◌, ◌==◌, nat_le, slice_index}
-use Rattle.tsb_plan.specs.declared.object.Object.TheVariants.{VehicleDetectorCallPhase, PedestrianDetectorCallPhase, VehicleDetectorDelay, VehicleDetectorNoActivity, VehicleDetectorMaxPresence}
-use Rattle.tsb_plan.specs.Plan.{Plan, is_enabled, is_non_locking, has_minimum_recall, has_maximum_recall, has_pedestrian_recall, has_soft_recall, has_dual_entry, ring_of, side_of}
+use Rattle.tsb_plan.specs.declared.object.Object.TheVariants.{VehicleDetectorDelay, VehicleDetectorNoActivity, VehicleDetectorMaxPresence}
+use Rattle.tsb_plan.specs.Plan.{Plan, is_enabled, is_non_locking, has_soft_recall, has_dual_entry, ring_of, side_of}
 use Rattle.tsb_objects.specs.declared.detector_tables.DetectorTables.{DetectorTables}
 use Rattle.tsb_objects.specs.declared.tables.PhaseTables.{PhaseTables}
 use Rattle.tsb_rules.specs.Rules.{has_walk}
@@ -11,20 +11,14 @@ use Rattle.tsb_types.specs.Sets.{names, has, has_number}
 pub record ArePhaseTables (plan : Plan) (tables : PhaseTables) : Type 0 where
   pub enabled : (p : ℕ) → has tables.enabled p ≡ is_enabled plan p
   pub non_locking : (p : ℕ) → has tables.non_locking p ≡ is_non_locking plan p
-  pub minimum_recall : (p : ℕ) → has tables.minimum_recall p ≡ has_minimum_recall plan p
-  pub maximum_recall : (p : ℕ) → has tables.maximum_recall p ≡ has_maximum_recall plan p
-  pub pedestrian_recall : (p : ℕ) → has tables.pedestrian_recall p ≡ has_pedestrian_recall plan p
   pub soft_recall : (p : ℕ) → has tables.soft_recall p ≡ has_soft_recall plan p
   pub dual_entry : (p : ℕ) → has tables.dual_entry p ≡ has_dual_entry plan p
   pub walk : (p : ℕ) → has tables.with_walk p ≡ has_walk plan p
   pub rings : (k p : ℕ) → k < 2 → names (slice_index tables.rings k) p ≡ (ring_of plan p == k + 1)
   pub sides : (k p : ℕ) → k < 4 → names (slice_index tables.sides k) p ≡ (side_of plan p == k + 1)
 
--- what the tables of detectors say; in an array the first word is of phase 1
+-- what the tables of detectors say
 pub record AreDetectorTables (plan : Plan) (tables : DetectorTables) : Type 0 where
-  pub detectors : (k d : ℕ) → k < 16 → names (slice_index tables.detectors k) d ≡ (plan.value VehicleDetectorCallPhase d == k + 1)
-  pub pedestrian_detectors : (k d : ℕ) → k < 16 →
-      names (slice_index tables.pedestrian_detectors k) d ≡ (plan.value PedestrianDetectorCallPhase d == k + 1)
   pub delay : (d : ℕ) → has_number tables.with_delay d ≡ nat_le 1 (plan.value VehicleDetectorDelay d)
   pub no_activity : (d : ℕ) → has_number tables.with_no_activity d ≡ nat_le 1 (plan.value VehicleDetectorNoActivity d)
   pub maximum_presence : (d : ℕ) → has_number tables.with_maximum_presence d ≡ nat_le 1 (plan.value VehicleDetectorMaxPresence d)

@@ -4,17 +4,13 @@
 ghost use Rattle.tsb_objects.specs.Tables.{AreDetectorTables};
 ghost use Rattle.tsb_plan.specs.PlanOf.{plan_of};
 
-use crate::tables::{columns, numbers_with};
+use crate::tables::numbers_with;
 use tsb_plan::{Object, Plan};
 use tsb_types::NumberSet;
 
-/// What a plan says of all its detectors at once. Each word of an array is a list, as `phaseConcurrency` has it.
+/// What a plan says of all its detectors at once.
 #[derive(Clone, Copy, PartialEq, Eq)]
 pub struct DetectorTables {
-    /// Of each phase, the vehicle detectors that call it (`vehicleDetectorCallPhase`).
-    pub(crate) detectors: [u16; 16],
-    /// Of each phase, the pedestrian detectors that call it (`pedestrianDetectorCallPhase`).
-    pub(crate) pedestrian_detectors: [u16; 16],
     /// The vehicle detectors with a delay (`vehicleDetectorDelay`).
     pub(crate) with_delay: NumberSet,
     /// The vehicle detectors that fail by no activity (`vehicleDetectorNoActivity`).
@@ -29,8 +25,6 @@ impl DetectorTables {
         ensures { AreDetectorTables (plan_of plan.now) result }
     {
         DetectorTables {
-            detectors: columns(plan, Object::VehicleDetectorCallPhase),
-            pedestrian_detectors: columns(plan, Object::PedestrianDetectorCallPhase),
             with_delay: numbers_with(plan, Object::VehicleDetectorDelay),
             with_no_activity: numbers_with(plan, Object::VehicleDetectorNoActivity),
             with_maximum_presence: numbers_with(plan, Object::VehicleDetectorMaxPresence),

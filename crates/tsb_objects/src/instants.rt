@@ -2,27 +2,14 @@
 #![tactic(auto, unfolding(tsb_plan::specs::PlanOf::plan_of))]
 
 ghost use Rattle.std.specs.Prelude.{◌≡◌, ◌≤◌, ◌<◌, ◌*◌, ◌+◌, ◌%◌, true, Some, None, IfSome};
-ghost use Rattle.tsb_plan.specs.Objects.{indices, greatest};
 ghost use Rattle.tsb_plan.specs.Parts.{cycle, is_used};
 ghost use Rattle.tsb_plan.specs.Plan.{yellow_change, red_clear};
 ghost use Rattle.tsb_plan.specs.PlanOf.{plan_of};
 ghost use Rattle.tsb_objects.specs.Instants.{end_of, instant_from, reference, force_off};
 
-use tsb_plan::{Object, Plan};
+use tsb_plan::Plan;
 use tsb_rules::split_end;
 use tsb_types::{Pattern, Phase};
-
-/// The value of an object of 16 patterns or phases that is at most 255.
-fn value(plan: &Plan, object: Object, number: u8) -> u32
-    requires of_16 { indices object ≡ 16 }
-    requires small { greatest object ≤ 255 }
-    requires from_one { 1 ≤ number }
-    requires within { number ≤ 16 }
-    ensures value { result ≡ (plan_of plan.now).value object number }
-    ensures range { result ≤ 255 }
-{
-    plan.at(object, u32::from(number))
-}
 
 /// The cycle of a pattern that is used.
 fn cycle_of(plan: &Plan, n: Pattern) -> u32
@@ -31,7 +18,7 @@ fn cycle_of(plan: &Plan, n: Pattern) -> u32
     ensures some { 1 ≤ result }
     ensures range { result ≤ 2550 }
 {
-    10 * value(plan, Object::PatternCycleTime, n.number())
+    plan.cycle(n)
 }
 
 /// Yellow change and red clearance of a phase.
@@ -39,8 +26,7 @@ fn clearance(plan: &Plan, p: Phase) -> u32
     ensures value { result ≡ yellow_change (plan_of plan.now) p + red_clear (plan_of plan.now) p }
     ensures range { result ≤ 510 }
 {
-    value(plan, Object::PhaseYellowChange, p.number())
-        + value(plan, Object::PhaseRedClear, p.number())
+    plan.yellow_change(p) + plan.red_clear(p)
 }
 
 /// When the split of a phase ends.

@@ -18,12 +18,6 @@ pub struct PhaseTables {
     pub(crate) enabled: PhaseSet,
     /// The phases that do not lock their calls (`phaseNonLock`).
     pub(crate) non_locking: PhaseSet,
-    /// The phases with minimum recall (`phaseMinRecall`).
-    pub(crate) minimum_recall: PhaseSet,
-    /// The phases with maximum recall (`phaseMaxRecall`).
-    pub(crate) maximum_recall: PhaseSet,
-    /// The phases with pedestrian recall (`phasePedRecall`).
-    pub(crate) pedestrian_recall: PhaseSet,
     /// The phases with soft recall (`phaseSoftRecall`).
     pub(crate) soft_recall: PhaseSet,
     /// The phases with dual entry (`phaseDualEntry`).
@@ -44,9 +38,6 @@ impl PhaseTables {
         PhaseTables {
             enabled: phases_with(plan, Object::PhaseEnabled),
             non_locking: phases_with(plan, Object::PhaseNonLock),
-            minimum_recall: phases_with(plan, Object::PhaseMinRecall),
-            maximum_recall: phases_with(plan, Object::PhaseMaxRecall),
-            pedestrian_recall: phases_with(plan, Object::PhasePedRecall),
             soft_recall: phases_with(plan, Object::PhaseSoftRecall),
             dual_entry: phases_with(plan, Object::PhaseDualEntry),
             with_walk: PhaseSet::from_list(numbers_with(plan, Object::PhaseWalk).list()),
@@ -90,7 +81,7 @@ pub(crate) fn numbers_with(plan: &Plan, object: Object) -> NumberSet
 }
 
 /// For each value from 1 on, the numbers at which the object has it, as a list.
-pub(crate) fn columns<const N: usize>(plan: &Plan, object: Object) -> [u16; N]
+fn columns<const N: usize>(plan: &Plan, object: Object) -> [u16; N]
     requires few { indices object ≤ 16 }
     requires within { N ≤ 16 }
     ensures full { length result ≡ N }

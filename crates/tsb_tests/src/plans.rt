@@ -70,9 +70,7 @@ fn quad_has_its_values(rt: HostRuntime) {
 #[test]
 fn plans_tell_of_phases_and_detectors(rt: HostRuntime) {
     let values = [
-        (Object::PhaseNonLock, 2, 1),
         (Object::PhasePedRecall, 2, 1),
-        (Object::PhaseSoftRecall, 2, 1),
         (Object::PhaseSimGapDisable, 2, 1),
         (Object::PhaseRestInWalk, 2, 1),
         (Object::PhaseVariableInitial, 2, 1),
@@ -94,11 +92,8 @@ fn plans_tell_of_phases_and_detectors(rt: HostRuntime) {
         return;
     };
     let (second, third) = (Phase::of(2), Phase::of(3));
-    assert!(rt; plan.is_non_locking(second) && !plan.is_non_locking(third));
     assert!(rt; plan.has_minimum_recall(second) && !plan.has_minimum_recall(third));
     assert!(rt; plan.has_pedestrian_recall(second) && !plan.has_pedestrian_recall(third));
-    assert!(rt; plan.has_soft_recall(second) && !plan.has_soft_recall(third));
-    assert!(rt; plan.has_dual_entry(second) && !plan.has_dual_entry(third));
     assert!(rt; plan.disables_simultaneous_gap(second) && !plan.disables_simultaneous_gap(third));
     assert!(rt; plan.rests_in_walk(second) && !plan.rests_in_walk(third));
     assert!(rt; plan.has_variable_initial(second) && !plan.has_variable_initial(third));

@@ -139,7 +139,7 @@ fn plans_are_accepted(rt: HostRuntime) {
         Ok(two) => {
             assert!(rt; *two.plan() == Plan::two());
             assert!(rt; two.enabled().list() == 0x000A);
-            assert!(rt; two.maximum_recall().list() == 0x000A);
+            assert!(rt; two.on_maximum_recall(None).list() == 0x000A);
         }
         Err(_) => assert!(rt; false, "two was refused"),
     }
@@ -241,15 +241,14 @@ fn tables_of_quad_are_its_sets(rt: HostRuntime) {
     };
     assert!(rt; quad.enabled().list() == 0x00FF);
     assert!(rt; quad.non_locking().list() == 0);
-    assert!(rt; (quad.minimum_recall().list(), quad.maximum_recall().list()) == (0x0022, 0));
-    assert!(rt; (quad.pedestrian_recall().list(), quad.soft_recall().list()) == (0, 0));
+    assert!(rt; quad.soft_recall().list() == 0);
     assert!(rt; (quad.dual_entry().list(), quad.with_walk().list()) == (0x00AA, 0x0002));
     assert!(rt; (quad.ring(Ring::of(1)).list(), quad.ring(Ring::of(2)).list()) == (0x000F, 0x00F0));
     assert!(rt; (quad.side(Side::of(1)).list(), quad.side(Side::of(2)).list()) == (0x0033, 0x00CC));
     assert!(rt; quad.side(Side::of(4)).list() == 0);
     assert!(rt; quad.concurrent_to(Phase::of(1)).list() == 0x0030);
-    assert!(rt; quad.detectors_of(Phase::of(3)).list() == 0x0004);
-    assert!(rt; quad.pedestrian_detectors_of(Phase::of(2)).list() == 0x0002);
+    assert!(rt; quad.phases_called_by(NumberSet::from_list(0x0004)).list() == 0x0004);
+    assert!(rt; quad.walks_called_by(NumberSet::from_list(0x0002)).list() == 0x0002);
 }
 
 #[test]

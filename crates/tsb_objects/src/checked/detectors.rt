@@ -9,17 +9,9 @@ ghost use Rattle.tsb_types.specs.Sets.{has, has_number};
 
 use crate::checked::Checked;
 use crate::unions::of_eight;
-use tsb_types::{NumberSet, Phase, PhaseSet};
+use tsb_types::{NumberSet, PhaseSet};
 
 impl Checked {
-    /// The vehicle detectors that call a phase (`vehicleDetectorCallPhase`).
-    #[inline(always)]
-    pub fn detectors_of(&self, p: Phase) -> NumberSet
-        ensures { (d : ℕ) → has_number result d ≡ is p (call_phase (checked_plan self.now) d) }
-    {
-        NumberSet::from_list(self.detector_tables.detectors[usize::from(p.number()) - 1])
-    }
-
     /// The phases that some vehicle detector of a set calls (`vehicleDetectorCallPhase`).
     #[inline(always)]
     pub fn phases_called_by(&self, detectors: NumberSet) -> PhaseSet
@@ -27,14 +19,6 @@ impl Checked {
             ≡ some_passes (λ d. is p (call_phase (checked_plan self.now) d) && has_number detectors d) (run_from 1 16) }
     {
         self.union_tables.called.of(detectors)
-    }
-
-    /// The pedestrian detectors that call a phase (`pedestrianDetectorCallPhase`).
-    #[inline(always)]
-    pub fn pedestrian_detectors_of(&self, p: Phase) -> NumberSet
-        ensures { (d : ℕ) → has_number result d ≡ is p (pedestrian_call_phase (checked_plan self.now) d) }
-    {
-        NumberSet::from_list(self.detector_tables.pedestrian_detectors[usize::from(p.number()) - 1])
     }
 
     /// The phases whose walk some pedestrian detector of a set calls (`pedestrianDetectorCallPhase`).

@@ -4,7 +4,7 @@
 ghost use Rattle.std.specs.Prelude.{◌≡◌, ℕ, ◌≤◌, ◌==◌, ◌&&◌, not};
 ghost use Rattle.tsb_objects.specs.Checked.{checked_plan};
 ghost use Rattle.tsb_rules.specs.Rules.{has_walk};
-ghost use Rattle.tsb_plan.specs.Plan.{is_enabled, is_non_locking, has_minimum_recall, has_maximum_recall, has_pedestrian_recall, has_soft_recall, has_dual_entry, ring_of, side_of, is_concurrent};
+ghost use Rattle.tsb_plan.specs.Plan.{is_enabled, is_non_locking, has_soft_recall, has_dual_entry, ring_of, side_of, is_concurrent};
 ghost use Rattle.tsb_types.specs.Lists.{some_passes, run_from};
 ghost use Rattle.tsb_types.specs.Sets.{has};
 
@@ -26,30 +26,6 @@ impl Checked {
         ensures { (p : ℕ) → has result p ≡ is_non_locking (checked_plan self.now) p }
     {
         self.phase_tables.non_locking
-    }
-
-    /// The phases with minimum recall (`phaseMinRecall`), in use or not.
-    #[inline(always)]
-    pub fn minimum_recall(&self) -> PhaseSet
-        ensures { (p : ℕ) → has result p ≡ has_minimum_recall (checked_plan self.now) p }
-    {
-        self.phase_tables.minimum_recall
-    }
-
-    /// The phases with maximum recall (`phaseMaxRecall`), in use or not.
-    #[inline(always)]
-    pub fn maximum_recall(&self) -> PhaseSet
-        ensures { (p : ℕ) → has result p ≡ has_maximum_recall (checked_plan self.now) p }
-    {
-        self.phase_tables.maximum_recall
-    }
-
-    /// The phases with pedestrian recall (`phasePedRecall`), in use or not.
-    #[inline(always)]
-    pub fn pedestrian_recall(&self) -> PhaseSet
-        ensures { (p : ℕ) → has result p ≡ has_pedestrian_recall (checked_plan self.now) p }
-    {
-        self.phase_tables.pedestrian_recall
     }
 
     /// The phases with soft recall (`phaseSoftRecall`), in use or not.

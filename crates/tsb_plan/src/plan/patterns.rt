@@ -53,7 +53,8 @@ impl Plan {
     /// The cycle of the pattern, 0 where the pattern is not used (`patternCycleTime`), in tenths of a
     /// second.
     pub fn cycle(&self, pattern: Pattern) -> u32
-        ensures { result ≡ cycle (plan_of self.now) pattern }
+        ensures value { result ≡ cycle (plan_of self.now) pattern }
+        ensures range { result ≤ 2550 }
     {
         10 * self.value(Object::PatternCycleTime, u32::from(pattern.number()))
     }

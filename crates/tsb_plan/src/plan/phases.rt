@@ -8,7 +8,7 @@ use crate::plan::Plan;
 use tsb_types::{Phase, PhaseSet};
 
 impl Plan {
-    ghost use Rattle.tsb_plan.specs.Plan.{is_enabled, is_non_locking, has_minimum_recall, has_maximum_recall, has_pedestrian_recall, has_soft_recall, has_dual_entry, disables_simultaneous_gap, rests_in_walk, has_variable_initial, ring_of, side_of, is_concurrent, walk, pedestrian_clear, minimum_green, maximum, maximum_initial, added_initial, passage, minimum_gap, time_before_reduction, cars_before_reduction, time_to_reduce, dynamic_maximum_limit, dynamic_maximum_step, yellow_change, red_clear, red_revert};
+    ghost use Rattle.tsb_plan.specs.Plan.{is_enabled, has_minimum_recall, has_maximum_recall, has_pedestrian_recall, disables_simultaneous_gap, rests_in_walk, has_variable_initial, ring_of, side_of, is_concurrent, walk, pedestrian_clear, minimum_green, maximum, maximum_initial, added_initial, passage, minimum_gap, time_before_reduction, cars_before_reduction, time_to_reduce, dynamic_maximum_limit, dynamic_maximum_step, yellow_change, red_clear, red_revert};
     ghost use Rattle.tsb_plan.specs.PlanOf.{plan_of};
     ghost use Rattle.tsb_types.specs.Sets.{has};
 
@@ -17,13 +17,6 @@ impl Plan {
         ensures { result ≡ is_enabled (plan_of self.now) phase }
     {
         self.of_phase(Object::PhaseEnabled, phase) == 1
-    }
-
-    /// Whether a call of the phase is forgotten when its detector falls (`phaseNonLock`).
-    pub fn is_non_locking(&self, phase: Phase) -> bool
-        ensures { result ≡ is_non_locking (plan_of self.now) phase }
-    {
-        self.of_phase(Object::PhaseNonLock, phase) == 1
     }
 
     /// Whether the phase has minimum recall (`phaseMinRecall`).
@@ -45,20 +38,6 @@ impl Plan {
         ensures { result ≡ has_pedestrian_recall (plan_of self.now) phase }
     {
         self.of_phase(Object::PhasePedRecall, phase) == 1
-    }
-
-    /// Whether the phase has soft recall (`phaseSoftRecall`).
-    pub fn has_soft_recall(&self, phase: Phase) -> bool
-        ensures { result ≡ has_soft_recall (plan_of self.now) phase }
-    {
-        self.of_phase(Object::PhaseSoftRecall, phase) == 1
-    }
-
-    /// Whether the phase has dual entry (`phaseDualEntry`).
-    pub fn has_dual_entry(&self, phase: Phase) -> bool
-        ensures { result ≡ has_dual_entry (plan_of self.now) phase }
-    {
-        self.of_phase(Object::PhaseDualEntry, phase) == 1
     }
 
     /// Whether a phase that has gapped out stays so (`phaseSimGapDisable`).
@@ -91,7 +70,8 @@ impl Plan {
 
     /// The side of the phase, 1 to 4, or 0 for none (`phaseSide`, profile).
     pub fn side(&self, phase: Phase) -> u32
-        ensures { result ≡ side_of (plan_of self.now) phase }
+        ensures value { result ≡ side_of (plan_of self.now) phase }
+        ensures range { result ≤ 4 }
     {
         self.of_phase(Object::PhaseSide, phase)
     }
@@ -127,7 +107,8 @@ impl Plan {
     /// The maximum of the phase that is in use, in tenths of a second: `phaseMaximum2` where `unitMax2`
     /// is 1, and else `phaseMaximum1`.
     pub fn maximum(&self, phase: Phase) -> u32
-        ensures { result ≡ maximum (plan_of self.now) phase }
+        ensures value { result ≡ maximum (plan_of self.now) phase }
+        ensures range { result ≤ 2550 }
     {
         let object = if self.value(Object::UnitMax2, 1) == 1 {
             Object::PhaseMaximum2
@@ -146,14 +127,16 @@ impl Plan {
 
     /// What each vehicle adds to the initial of the phase (`phaseAddedInitial`), in tenths of a second.
     pub fn added_initial(&self, phase: Phase) -> u32
-        ensures { result ≡ added_initial (plan_of self.now) phase }
+        ensures value { result ≡ added_initial (plan_of self.now) phase }
+        ensures range { result ≤ 255 }
     {
         self.of_phase(Object::PhaseAddedInitial, phase)
     }
 
     /// The passage time of the phase (`phasePassage`), in tenths of a second.
     pub fn passage(&self, phase: Phase) -> u32
-        ensures { result ≡ passage (plan_of self.now) phase }
+        ensures value { result ≡ passage (plan_of self.now) phase }
+        ensures range { result ≤ 255 }
     {
         self.of_phase(Object::PhasePassage, phase)
     }
@@ -161,7 +144,8 @@ impl Plan {
     /// The gap down to which the passage time of the phase is reduced (`phaseMinimumGap`), in tenths
     /// of a second.
     pub fn minimum_gap(&self, phase: Phase) -> u32
-        ensures { result ≡ minimum_gap (plan_of self.now) phase }
+        ensures value { result ≡ minimum_gap (plan_of self.now) phase }
+        ensures range { result ≤ 255 }
     {
         self.of_phase(Object::PhaseMinimumGap, phase)
     }
@@ -183,7 +167,8 @@ impl Plan {
 
     /// The time in which the gap of the phase is reduced (`phaseTimeToReduce`), in tenths of a second.
     pub fn time_to_reduce(&self, phase: Phase) -> u32
-        ensures { result ≡ time_to_reduce (plan_of self.now) phase }
+        ensures value { result ≡ time_to_reduce (plan_of self.now) phase }
+        ensures range { result ≤ 2550 }
     {
         10 * self.of_phase(Object::PhaseTimeToReduce, phase)
     }
@@ -191,7 +176,8 @@ impl Plan {
     /// The limit of the running maximum of the phase, 0 for no dynamic maximum (`phaseDynamicMaxLimit`,
     /// profile), in tenths of a second.
     pub fn dynamic_maximum_limit(&self, phase: Phase) -> u32
-        ensures { result ≡ dynamic_maximum_limit (plan_of self.now) phase }
+        ensures value { result ≡ dynamic_maximum_limit (plan_of self.now) phase }
+        ensures range { result ≤ 2550 }
     {
         10 * self.of_phase(Object::PhaseDynamicMaxLimit, phase)
     }
@@ -199,21 +185,24 @@ impl Plan {
     /// The step of the running maximum of the phase, 0 for no dynamic maximum (`phaseDynamicMaxStep`,
     /// profile), in tenths of a second.
     pub fn dynamic_maximum_step(&self, phase: Phase) -> u32
-        ensures { result ≡ dynamic_maximum_step (plan_of self.now) phase }
+        ensures value { result ≡ dynamic_maximum_step (plan_of self.now) phase }
+        ensures range { result ≤ 255 }
     {
         self.of_phase(Object::PhaseDynamicMaxStep, phase)
     }
 
     /// The yellow change of the phase (`phaseYellowChange`), in tenths of a second.
     pub fn yellow_change(&self, phase: Phase) -> u32
-        ensures { result ≡ yellow_change (plan_of self.now) phase }
+        ensures value { result ≡ yellow_change (plan_of self.now) phase }
+        ensures range { result ≤ 255 }
     {
         self.of_phase(Object::PhaseYellowChange, phase)
     }
 
     /// The red clearance of the phase (`phaseRedClear`), in tenths of a second.
     pub fn red_clear(&self, phase: Phase) -> u32
-        ensures { result ≡ red_clear (plan_of self.now) phase }
+        ensures value { result ≡ red_clear (plan_of self.now) phase }
+        ensures range { result ≤ 255 }
     {
         self.of_phase(Object::PhaseRedClear, phase)
     }

@@ -15,21 +15,21 @@ returns c = λ d soon.
     let e : ℕ = c.args.passed in
     let k : ℕ = c.args.reduced in
     let most = c.max.ensures in
+    let time = c.time_to_reduce-to_reduce.ensures.value in
     elim (leb_tells c.div_ceil.result d) [
       | inl over ↦
           (let least : c.gap-least.result ≡ gap plan p (On (time_to_reduce plan p)) =
-          c.gap-least.ensures ∙ ap (λ (n : ℕ). gap plan p (On (10 * n))) c.value-to_reduce.ensures.value in
+          c.gap-least.ensures ∙ ap (λ (n : ℕ). gap plan p (On n)) time in
           let level = c.saturating_sub-2.ensures in
           let reached = over.1 in
           under_least plan p e k d (omega (arith, soon, most, level, least, reached)))
       | inr below ↦
-          (let time : 10 * c.value-to_reduce.result ≡ time_to_reduce plan p = ap (λ (n : ℕ). 10 * n) c.value-to_reduce.ensures.value in
-          let width : c.saturating_sub-width.result ≡ passage plan p - minimum_gap plan p =
-          c.saturating_sub-width.ensures ∙ ap₂ (λ (a b : ℕ). a - b) c.value-passage.ensures.value c.value-minimum.ensures.value in
+          (let width : c.saturating_sub-width.result ≡ passage plan p - minimum_gap plan p =
+          c.saturating_sub-width.ensures ∙ ap₂ (λ (a b : ℕ). a - b) c.passage-passage.ensures.value c.minimum_gap-minimum.ensures.value in
           let left : c.saturating_sub-left.result ≡ time_to_reduce plan p * (passage plan p - e) - (passage plan p - minimum_gap plan p) * min k (time_to_reduce plan p) =
           c.saturating_sub-left.ensures
           ∙ ap₂ (λ (a b : ℕ). a - b)
-          (ap₂ (λ (a b : ℕ). a * b) time (c.saturating_sub.ensures ∙ ap (λ (n : ℕ). n - e) c.value-passage.ensures.value))
+          (ap₂ (λ (a b : ℕ). a * b) time (c.saturating_sub.ensures ∙ ap (λ (n : ℕ). n - e) c.passage-passage.ensures.value))
           (ap₂ (λ (a b : ℕ). a * b) width (c.min.ensures ∙ ap (λ (n : ℕ). min k n) time)) in
           let slope : c.max-slope.result ≡ max (passage plan p - minimum_gap plan p + time_to_reduce plan p) 1 =
           c.max-slope.ensures ∙ ap₂ (λ (a b : ℕ). max (a + b) 1) width time in
