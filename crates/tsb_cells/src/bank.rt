@@ -1,5 +1,5 @@
 //! A row of cells that knows between which cells it was written.
-ghost use Rattle.std.specs.Prelude.{◌≡◌, ℕ, ◌+◌, ◌^◌, ◌<◌, ◌≤◌, ◌++◌, true, false, length, slice_index, slice_set, replicate, take, drop};
+ghost use Rattle.std.specs.Prelude.{◌≡◌, ◌≢◌, ℕ, ◌+◌, ◌^◌, ◌<◌, ◌≤◌, ◌++◌, true, false, length, slice_index, slice_set, replicate, take, drop};
 ghost use Rattle.arrayvec.specs.ArrayVec.{array_vec_len};
 ghost use Rattle.tsb_cells.specs.Diff.{diff, shifted};
 ghost use Rattle.tsb_cells.specs.Row.{row_at, with_row};
@@ -60,6 +60,8 @@ impl<const N: usize> Bank<N> {
         requires in_range { at < N }
         requires opened { is_open self.old ≡ true }
         ensures cells { cells_of self.new ≡ slice_set (cells_of self.old) at value }
+        ensures here { slice_index (cells_of self.new) at ≡ value }
+        ensures others { (j : ℕ) → j ≢ at → slice_index (cells_of self.new) j ≡ slice_index (cells_of self.old) j }
         ensures kept { kept_of self.new ≡ kept_of self.old }
         ensures opened { is_open self.new ≡ true }
     {

@@ -10,13 +10,13 @@ ghost use Rattle.tsb_controller.specs.Rows.{AreBy};
 ghost use Rattle.tsb_controller.specs.Promises.{IsTicked};
 
 use crate::carry::carry_out;
-use crate::values::{Movement, Sensed, preempt_of};
+use crate::values::{Movement, Sensed};
 use tsb_calls::Calls;
 use tsb_coord::Coord;
 use tsb_detect::{Detectors, Greens};
 use tsb_objects::{Called, Checked, Row};
 use tsb_phase::Phases;
-use tsb_preempt::Preempts;
+use tsb_preempt::{Preempts, preempt_of};
 use tsb_ring::{RingOrder, Rings};
 
 /// The six layers that have a part in a tick. Their cells change between `open` and `close_onto`.

@@ -6,34 +6,21 @@ ghost use Rattle.tsb_types.specs.Flow.{target_of};
 ghost use Rattle.tsb_types.specs.Sets.{has};
 ghost use Rattle.tsb_coord.specs.Cells as coord;
 ghost use Rattle.tsb_preempt.specs.Preempts.{is_outside};
-ghost use Rattle.tsb_preempt.specs.Service.{stage_phases};
 ghost use Rattle.tsb_step.specs.Step.{last_tick};
 ghost use Rattle.tsb_controller.specs.Rows.{AreBy};
 ghost use Rattle.tsb_controller.specs.Promises.{IsTicked};
 ghost use Rattle.tsb_controller.specs.Passing.{wanted_in, IsSeen, ArePhasesStill, AreOthersStill, AreQuietUntil, UnchangedRowsAreSame, WatchedTicksAreTicked, WatchedTicksPass};
 
 use crate::controller::Controller;
-use crate::values::{Sensed, preempt_of};
+use crate::values::Sensed;
 use tsb_cells::Reversible;
 use tsb_detect::Greens;
 use tsb_objects::limits::TICKS;
 use tsb_objects::{Checked, PhaseSet, Plan, Preempt, Row, Stage};
-use tsb_preempt::PreemptOrders;
+use tsb_preempt::{PreemptOrders, preempt_of, stage_phases};
 
 /// The list that names phases 1 to 16.
 const ALL_PHASES: u16 = 65535;
-
-/// The phases of a preempt in a stage.
-#[inline(always)]
-fn stage_phases(plan: &Plan, n: Preempt, stage: Stage) -> PhaseSet
-    ensures { (p : ℕ) → has result p ≡ stage_phases (plan_of plan.now) n stage p }
-{
-    match stage {
-        Stage::Track => plan.track_phases(n),
-        Stage::Dwell => plan.dwell_phases(n),
-        Stage::Exit => plan.exit_phases(n),
-    }
-}
 
 /// What a preempt that serves these phases asks in a tick in which nothing happens to it.
 #[inline(always)]

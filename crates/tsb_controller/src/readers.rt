@@ -36,13 +36,7 @@ fn has_service(intervals: &Intervals) -> bool
         .green
         .union(intervals.yellow)
         .union(intervals.red_clear);
-    match served.first() {
-        Some(phase) => {
-            phase.known();
-            true
-        }
-        None => false,
-    }
+    served.first().is_some()
 }
 
 /// Whether something is in service, or a commitment of either ring or a crossing stands.

@@ -1,5 +1,5 @@
 //! The values that the layers give one another in a tick, put together.
-ghost use Rattle.std.specs.Prelude.{◌≡◌, ℕ, ◌||◌, length, option_map};
+ghost use Rattle.std.specs.Prelude.{◌≡◌, ℕ, ◌||◌, length};
 ghost use Rattle.tsb_types.specs.Lists.{is};
 ghost use Rattle.tsb_types.specs.Sets.{has};
 ghost use Rattle.tsb_phase.specs.Counts.{AreCounts};
@@ -8,8 +8,7 @@ ghost use Rattle.tsb_controller.specs.Found.{observed, orders, for_rings, AreCon
 use tsb_calls::{Decided, Observed};
 use tsb_coord::Coordination;
 use tsb_objects::{
-    Called, Intervals, Moves, NumberSet, Orders, Pedestrians, Phase, PhaseSet, Preempt, Row, Stage,
-    Timing,
+    Called, Intervals, Moves, NumberSet, Orders, Pedestrians, Phase, PhaseSet, Preempt, Row, Timing,
 };
 use tsb_phase::Conditions;
 use tsb_preempt::PreemptOrders;
@@ -126,14 +125,4 @@ fn either(first: Option<Phase>, second: Option<Phase>) -> PhaseSet
         set.insert(phase);
     }
     set
-}
-
-/// The preempt of a stage.
-pub(crate) fn preempt_of(stage: Option<(Preempt, Stage)>) -> Option<Preempt>
-    ensures { result ≡ option_map (λ x. x.0) stage }
-{
-    match stage {
-        Some((preempt, _)) => Some(preempt),
-        None => None,
-    }
 }

@@ -7,7 +7,7 @@ use Rattle.tsb_types.specs.declared.lamp.Lamp.TheVariants as lamps
 use Rattle.tsb_types.specs.declared.lamp.Aspect.{Aspect}
 use Rattle.tsb_types.specs.declared.lamp.Aspect.TheVariants.{Dark, Red, Yellow, Green, FlashingRed}
 use Rattle.tsb_types.specs.Intervals.{is_green, is_yellow, is_red_clear}
-use Rattle.tsb_types.specs.Lists.{first}
+use Rattle.tsb_types.specs.Lists.{first, run_from}
 use Rattle.tsb_plan.specs.Plan.{Plan, phases, ring_of}
 use Rattle.tsb_plan.specs.Parts.{is_included, is_modifier}
 use Rattle.tsb_rules.specs.PatternRules.{some_and}
@@ -21,7 +21,7 @@ use Rattle.tsb_heads.specs.Monitoring.{is_red, are_in_conflict, conflict_of, con
 use Rattle.tsb_heads.specs.Reading.{shown_by, heads_of, heads_of_field}
 use Rattle.tsb_heads.specs.Promises.{IsSame}
 use Rattle.tsb_heads.specs.Laws.{AreAlike, ShowAlike, DisplaysLookOnlyAtTheirOwn, LampsLookOnlyAtTheirOwn, FieldsAreTold, MonitorsLookOnlyAtTheirOwn, StayingHeadsPass, PassedHeadsPassAgain}
-use Rattle.tsb_heads.proofs.SetLemmas.{first-never}
+use Rattle.tsb_types.proofs.FirstLemmas.{first-none}
 use Rattle.tsb_types.proofs.FirstLemmas.{first-within}
 use Rattle.tsb_types.proofs.ClipLemmas.{any-agree, first-agree}
 
@@ -172,7 +172,7 @@ stays-red FlashingRed = refl
 none-goes : (plan : Plan) (heads : Heads) → green_to_red plan heads heads ≡ None
 unfolding green_to_red
 none-goes plan heads =
-    ap (λ (o : Option ℕ). option_map (λ (p : ℕ). GreenToRed p) o) (first-never (goes_red heads heads) 1 plan.phase_count (λ p. stays-red (heads.vehicle p)))
+    ap (λ (o : Option ℕ). option_map (λ (p : ℕ). GreenToRed p) o) (first-none (goes_red heads heads) (run_from 1 plan.phase_count) (λ p. stays-red (heads.vehicle p)))
 
 pub staying-pass : StayingHeadsPass
 staying-pass plan heads none = ap₂ (λ (a b : Option Trip). option_or a b) none (none-goes plan heads)

@@ -8,7 +8,7 @@ ghost use Rattle.tsb_phase.specs.Rows.{list_of_row, cell_of_row, with_list, with
 use crate::phase_row::PhaseRow;
 use crate::phases::Phases;
 use tsb_objects::{Phase, PhaseSet};
-use tsb_rows::{phases, put, put_phases};
+use tsb_rows::{phases, put_phases};
 
 /// The lists, each in the cell of this number.
 pub(crate) const GREENS: usize = 0;
@@ -170,7 +170,7 @@ impl Phases {
         ensures kept { kept_of self.new ≡ kept_of self.old }
         ensures opened { is_open self.new ≡ true }
     {
-        put(&mut self.bank, place(k, p), value);
+        self.bank.put(place(k, p), value);
     }
 
     /// Puts the row of a phase into the cells, where it differs from what it was.

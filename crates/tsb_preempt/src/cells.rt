@@ -10,7 +10,6 @@ ghost use Rattle.tsb_preempt.specs.Rows.{serving_of, delay_cell, IsStored, IsSer
 use crate::preempts::Preempts;
 use crate::serving::{Serving, delay_cell};
 use tsb_objects::{NumberSet, Preempt, Stage};
-use tsb_rows::put;
 
 /// The list of switches that are on.
 pub(crate) const SWITCHES: usize = 0;
@@ -90,7 +89,7 @@ impl Preempts {
         ensures kept { kept_of self.new ≡ kept_of self.old }
         ensures opened { is_open self.new ≡ true }
     {
-        put(&mut self.bank, k, u32::from(set.list()) % LISTS);
+        self.bank.put(k, u32::from(set.list()) % LISTS);
     }
 
     /// The delay timer of a preempt runs, begins or is Off.
@@ -106,7 +105,7 @@ impl Preempts {
         ensures opened { is_open self.new ≡ true }
     {
         let cell = delay_cell(now, inputs.contains(n), self.delay(n));
-        put(&mut self.bank, DELAYS + usize::from(n), cell);
+        self.bank.put(DELAYS + usize::from(n), cell);
     }
 
     /// The delay timers run, begin or are Off.
@@ -166,10 +165,10 @@ impl Preempts {
         ensures kept { kept_of self.new ≡ kept_of self.old }
         ensures opened { is_open self.new ≡ true }
     {
-        put(&mut self.bank, IN_SERVICE, preempt);
-        put(&mut self.bank, STAGE_IN_SERVICE, stage);
-        put(&mut self.bank, SERVICE_TIMER, timer);
-        put(&mut self.bank, STAGE_TIMER, stage_timer);
+        self.bank.put(IN_SERVICE, preempt);
+        self.bank.put(STAGE_IN_SERVICE, stage);
+        self.bank.put(SERVICE_TIMER, timer);
+        self.bank.put(STAGE_TIMER, stage_timer);
     }
 
     /// Puts the service into its cells.

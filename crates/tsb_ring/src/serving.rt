@@ -11,7 +11,6 @@ ghost use Rattle.tsb_ring.specs.Wants.{is_targeted};
 
 use crate::conditions::Conditions;
 use crate::crossing::{ring_1, ring_2};
-use crate::walk::least;
 use tsb_objects::{Checked, Phase, PhaseSet, Ring};
 
 /// The phases of a ring.
@@ -40,7 +39,9 @@ pub(crate) fn in_service(conditions: &Conditions) -> PhaseSet
 pub(crate) fn serving(plan: &Checked, conditions: &Conditions, r: Ring) -> Option<Phase>
     ensures { result ≡ serving (checked_plan plan.now) (given_of (checked_plan plan.now) conditions.now) (ring_numbered r) }
 {
-    least(of_ring(plan, r).intersection(in_service(conditions)))
+    of_ring(plan, r)
+        .intersection(in_service(conditions))
+        .first()
 }
 
 /// A preempt's target.

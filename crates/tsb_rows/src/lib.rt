@@ -5,4 +5,4 @@
 
 pub mod lists;
 
-pub use lists::{list, phases, put, put_list, put_phases};
+pub use lists::{list, phases, put_list, put_phases};

@@ -28,19 +28,6 @@ pub fn phases<const N: usize>(bank: &Bank<N>, k: usize) -> PhaseSet
     PhaseSet::from_list((bank.get(k) % LISTS) as u16)
 }
 
-/// Puts `value` into the cell `at`, and says cell by cell what this makes of the row. The bank has to be open.
-#[inline(always)]
-pub fn put<const N: usize>(bank: &mut Bank<N>, at: usize, value: u32)
-    requires in_range { at < N }
-    requires opened { is_open bank.old ≡ true }
-    ensures here { slice_index (cells_of bank.new) at ≡ value }
-    ensures others { Elsewhere at (cells_of bank.old) (cells_of bank.new) }
-    ensures kept { kept_of bank.new ≡ kept_of bank.old }
-    ensures opened { is_open bank.new ≡ true }
-{
-    bank.put(at, value);
-}
-
 /// Makes the list of the cell `k` that of a set. The bank has to be open.
 #[inline(always)]
 pub fn put_list<const N: usize>(bank: &mut Bank<N>, k: usize, set: NumberSet)
@@ -52,7 +39,7 @@ pub fn put_list<const N: usize>(bank: &mut Bank<N>, k: usize, set: NumberSet)
     ensures kept { kept_of bank.new ≡ kept_of bank.old }
     ensures opened { is_open bank.new ≡ true }
 {
-    put(bank, k, u32::from(set.list()));
+    bank.put(k, u32::from(set.list()));
 }
 
 /// Makes the list of the cell `k` that of a set of phases. The bank has to be open.
@@ -66,5 +53,5 @@ pub fn put_phases<const N: usize>(bank: &mut Bank<N>, k: usize, set: PhaseSet)
     ensures kept { kept_of bank.new ≡ kept_of bank.old }
     ensures opened { is_open bank.new ≡ true }
 {
-    put(bank, k, u32::from(set.list()));
+    put_list(bank, k, NumberSet::from_list(set.list()));
 }

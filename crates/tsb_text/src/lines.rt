@@ -2,16 +2,17 @@
 
 ghost use Rattle.std.specs.Prelude.{◌≡◌, ◌≤◌, ◌++◌, codes, length};
 ghost use Rattle.tsb_display_text.specs.Line.{tick_field};
-ghost use Rattle.tsb_text.specs.Answers.{busy_line, display_line, preempt_in_service, refused_line, taken_line, undone_line, verified_line};
+ghost use Rattle.tsb_text.specs.Answers.{busy_line, display_line, refused_line, taken_line, undone_line, verified_line};
 ghost use Rattle.tsb_bench.specs.Held.{state_of};
 
 use arrayvec::ArrayString;
 use tsb_bench::{Bench, Cmd, Input, Kind};
 use tsb_display_text::LineBytes;
 use tsb_lines::seven_digits;
-use tsb_objects::{Preempt, Refusal, Rule, Station};
+use tsb_objects::{Refusal, Rule, Station};
 use tsb_past::Command as Ask;
 use tsb_plan_text::rule_line;
+use tsb_preempt::preempt_of;
 
 /// The display line as text, without a line feed: the tick number in 7 digits; a letter for each of the 16 vehicle
 /// heads, for each of the 16 pedestrian heads and for each of the 4 overlaps; the preempt in service; the local counter
@@ -19,7 +20,7 @@ use tsb_plan_text::rule_line;
 pub fn line(bench: &Bench) -> ArrayString<64>
     ensures { result.bytes ≡ display_line (state_of bench.now) }
 {
-    let preempt = preempt_of(bench);
+    let preempt = preempt_of(bench.stage());
     tsb_display_text::line(bench.now(), &bench.display(), preempt, bench.local())
 }
 
@@ -27,18 +28,8 @@ pub fn line(bench: &Bench) -> ArrayString<64>
 pub(crate) fn line_bytes(bench: &Bench) -> LineBytes
     ensures { result ≡ display_line (state_of bench.now) }
 {
-    let preempt = preempt_of(bench);
+    let preempt = preempt_of(bench.stage());
     tsb_display_text::line_bytes(bench.now(), &bench.display(), preempt, bench.local())
-}
-
-/// The preempt in service.
-fn preempt_of(bench: &Bench) -> Option<Preempt>
-    ensures { result ≡ preempt_in_service (state_of bench.now) }
-{
-    match bench.stage() {
-        Some((preempt, _)) => Some(preempt),
-        None => None,
-    }
 }
 
 /// What tells that an input of this kind was taken back.

@@ -15,7 +15,7 @@ ghost use Rattle.tsb_transact.specs.Desk.{closed};
 ghost use Rattle.tsb_transact.specs.Promises.{UnlessMemory};
 ghost use Rattle.tsb_transact.specs.Rows.{IsRow, Leaves, pairs_in};
 
-use crate::cells::{blank, put};
+use crate::cells::blank;
 use crate::head_cells::{COUNT, RULE, STATE, TRANSACTION};
 use crate::places::place;
 use crate::{CELLS, MOST_EDITS};
@@ -79,7 +79,7 @@ fn rewrite_edit(
     ensures kept { kept_of bank.new ≡ kept_of bank.old }
     ensures opened { is_open bank.new ≡ true }
 {
-    put(bank, 5 + 2 * i, value);
+    bank.put(5 + 2 * i, value);
     edits[i] = value;
 }
 
@@ -103,9 +103,9 @@ fn add_edit(bank: &mut Bank<CELLS>, edits: &mut IndexMap<u32, u32>, place: u32, 
     ensures opened { is_open bank.new ≡ true }
 {
     let n = edits.len();
-    put(bank, 4 + 2 * n, place);
-    put(bank, 5 + 2 * n, value);
-    put(bank, COUNT, n as u32 + 1);
+    bank.put(4 + 2 * n, place);
+    bank.put(5 + 2 * n, value);
+    bank.put(COUNT, n as u32 + 1);
     insert(edits, place, value);
 }
 
@@ -153,8 +153,8 @@ pub fn edit_transaction(
     ensures opened { is_open bank.new ≡ true }
 {
     put_edit(bank, edits, place(id), value);
-    put(bank, STATE, TRANSACTION);
-    put(bank, RULE, 0);
+    bank.put(STATE, TRANSACTION);
+    bank.put(RULE, 0);
     let _len = edits.len();
 }
 

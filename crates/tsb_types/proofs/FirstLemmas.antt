@@ -1,5 +1,6 @@
 -- The first of a list that passes a test.
-use Rattle.std.proofs.Common.{zero, suc, ◌≡◌, ℕ, ◌+◌, ◌<◌, ◌≤◌, Bool, true, false, if◌then◌else◌, List, [], ◌∷◌, Some, None, refl, sym, ◌∙◌, ap, arith, inl, inr}
+use Rattle.std.proofs.Common.{zero, suc, ◌≡◌, ℕ, ◌+◌, ◌<◌, ◌≤◌, Bool, true, false, if◌then◌else◌, ◌||◌, List, [], ◌∷◌, Some, None, is_some, refl, sym, ◌∙◌, ap, arith, inl, inr}
+use Rattle.std.specs.List.{list_any}
 use Rattle.std.proofs.Math.Path.{fun_ext}
 use Rattle.std.proofs.lemmas.Bool.{cases_eq}
 use Rattle.tsb_types.specs.Lists.{first, run_from}
@@ -21,6 +22,15 @@ first-passes test (q ∷ qs) p e = go (test q) refl e (λ (f : first test qs ≡
 -- two tests that say the same find the same
 pub first-same : (f g : ℕ → Bool) (ps : List ℕ) → ((p : ℕ) → f p ≡ g p) → first f ps ≡ first g ps
 first-same f g ps same = ap (λ (test : ℕ → Bool). first test ps) (fun_ext same)
+
+-- there is one exactly where some passes
+pub first-any : (test : ℕ → Bool) (ps : List ℕ) → is_some (first test ps) ≡ list_any test ps
+first-any test [] = refl
+first-any test (p ∷ ps) = go (test p) (first-any test ps)
+  where
+    go : (b : Bool) → is_some (first test ps) ≡ list_any test ps → is_some (if b then Some p else first test ps) ≡ (b || list_any test ps)
+    go true later = refl
+    go false later = later
 
 -- ## The first of a run of numbers
 

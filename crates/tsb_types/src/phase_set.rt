@@ -1,5 +1,6 @@
 //! Sets of phases.
 ghost use Rattle.std.specs.Prelude.{◌≡◌, ◌≢◌, ℕ, ◌<◌, ◌≤◌, ◌&&◌, ◌||◌, not, true, false, None, IfSome};
+ghost use Rattle.tsb_types.specs.Lists.{first, run_from};
 ghost use Rattle.tsb_types.specs.Sets.{names, has, size};
 
 use crate::number_set::NumberSet;
@@ -119,6 +120,7 @@ impl PhaseSet {
         ensures within { IfSome result (λ p. p ≤ 16) }
         ensures had { IfSome result (λ p. has self p ≡ true) }
         ensures least { IfSome result (λ p. (q : ℕ) → q < p → has self q ≡ false) }
+        ensures found { result ≡ first (has self) (run_from 1 16) }
     {
         match self.numbers.first() {
             Some(number) => Some(Phase::of(number)),

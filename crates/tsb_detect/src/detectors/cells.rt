@@ -8,7 +8,7 @@ use crate::detector_row::DetectorRow;
 use crate::detectors::Detectors;
 use crate::sets::{has, with};
 use tsb_objects::{Detector, NumberSet};
-use tsb_rows::{list, put};
+use tsb_rows::list;
 
 /// The lists, each in the cell of this number.
 pub(super) const INPUTS: usize = 0;
@@ -123,7 +123,7 @@ impl Detectors {
         ensures opened { is_open self.new ≡ true }
     {
         if was != value {
-            put(&mut self.bank, place(k, d), value);
+            self.bank.put(place(k, d), value);
         }
     }
 

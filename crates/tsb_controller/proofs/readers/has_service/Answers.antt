@@ -1,18 +1,15 @@
-use Rattle.std.proofs.Common.{sym, ◌∙◌, arith, refl}
+use Rattle.std.proofs.Common.{◌∙◌, ap, is_some}
 use Rattle.tsb_types.specs.Flow.{interval_of}
 use Rattle.tsb_types.specs.Intervals.{in_service}
-use Rattle.tsb_heads.proofs.SetLemmas.{any-never, any-one}
+use Rattle.tsb_types.specs.Lists.{run_from}
+use Rattle.tsb_types.specs.Sets.{has}
+use Rattle.tsb_types.proofs.FirstLemmas.{first-any, first-same}
 use Rattle.tsb_ring.proofs.BoolLemmas.{served}
 use Rattle.tsb_controller.proofs.readers.has_service.Goals as goal
 
-pub returns-in-Some : goal.returns-in-Some
-returns-in-Some c =
-    let is = c.known.ensures in
-    sym (any-one (λ p. in_service (interval_of c.args.intervals.now p)) 1 16 c.in-Some.phase
-    (sym (c.union-served.ensures c.in-Some.phase ∙ rw (c.union.ensures c.in-Some.phase) (served _ _ _)) ∙ c.in-Some.ensures.had)
-    is.from (omega (arith, is.within)))
-
-pub returns-in-None : goal.returns-in-None
-returns-in-None c =
-    sym (any-never (λ p. in_service (interval_of c.args.intervals.now p)) 1 16
-    (λ q. sym (c.union-served.ensures q ∙ rw (c.union.ensures q) (served _ _ _)) ∙ c.in-None.ensures.none refl q))
+pub returns : goal.returns
+returns c =
+    c.is_some.ensures
+    ∙ ap is_some (c.first.ensures.found ∙ first-same (has c.union-served.result) (λ p. in_service (interval_of c.args.intervals.now p)) (run_from 1 16)
+    (λ p. c.union-served.ensures p ∙ rw (c.union.ensures p) (served _ _ _)))
+    ∙ first-any (λ p. in_service (interval_of c.args.intervals.now p)) (run_from 1 16)

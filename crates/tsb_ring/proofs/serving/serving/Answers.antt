@@ -8,5 +8,5 @@ use Rattle.tsb_types.proofs.FirstLemmas.{first-same}
 
 pub returns : goal.returns
 unfolding checked_plan plan_of serving
-returns c = c.least.ensures ∙ first-same _ _ (run_from 1 16) (λ p.
+returns c = c.first.ensures.found ∙ first-same _ _ (run_from 1 16) (λ p.
     c.intersection.ensures p ∙ rw (c.of_ring.ensures p, c.in_service.ensures p) refl)
