@@ -1,15 +1,12 @@
 -- The contracts of the public calls of `Controller`, clause by clause, over its rows: `old` before a call, `new` after
 -- it.
 use Rattle.std.specs.Prelude.{◌≡◌, ℕ, ◌-◌, Bool, Option, None, is_some, option_map}
-use Rattle.tsb_types.specs.declared.interval.Interval.{Interval}
-use Rattle.tsb_types.specs.declared.interval.PedestrianInterval.{PedestrianInterval}
 use Rattle.tsb_types.specs.declared.lamp.Lamp.{Lamp}
 use Rattle.tsb_types.specs.declared.row.Row.{Row}
 use Rattle.tsb_types.specs.declared.stage.Stage.{Stage}
 use Rattle.tsb_plan.specs.Plan.{Plan}
 use Rattle.tsb_objects.specs.declared.checked.Checked.{Checked}
 use Rattle.tsb_objects.specs.Checked.{checked_plan}
-use Rattle.tsb_detect.specs.declared.alarm.Alarm.{Alarm}
 use Rattle.tsb_ring.specs.Rings.{forgotten}
 use Rattle.tsb_heads.specs.declared.display.Display.{Display}
 use Rattle.tsb_heads.specs.declared.field.Field.{Field}
@@ -19,7 +16,7 @@ use Rattle.tsb_heads.specs.Reading.{heads_of, heads_of_field}
 use Rattle.tsb_transact.specs.Desk.{Desk, closed}
 use Rattle.tsb_step.specs.Cells.{clock_at}
 use Rattle.tsb_step.specs.Signs.{display, field, local, stage}
-use Rattle.tsb_step.specs.State.{start, restarted, interval, pedestrian_part}
+use Rattle.tsb_step.specs.State.{start, restarted}
 use Rattle.tsb_step.specs.Step.{ticked, with_pattern, with_switch, with_lamp, is_serving}
 use Rattle.tsb_step.specs.Tick.{next}
 use Rattle.tsb_controller.specs.Rows.{Rows, Beside, AreBy, untripped, state_of}
@@ -94,26 +91,6 @@ TellsServing rows result = (now : ℕ) (b : Beside) (checked : Checked) → b.pl
 -- `is_preempted()`: a preempt is in service
 abbrev pub TellsPreempted : Rows → Bool → Type 0
 TellsPreempted rows result = (now : ℕ) (b : Beside) → result ≡ is_some (state_of now b rows).preempts.service
-
--- `interval(p)`
-abbrev pub TellsInterval : Rows → ℕ → Interval → Type 0
-TellsInterval rows p result = (now : ℕ) (b : Beside) → result ≡ interval (state_of now b rows) p
-
--- `pedestrian(p)`
-abbrev pub TellsPedestrian : Rows → ℕ → PedestrianInterval → Type 0
-TellsPedestrian rows p result = (now : ℕ) (b : Beside) → result ≡ pedestrian_part (state_of now b rows) p
-
--- `calls_vehicle(p)`: the vehicle memory of phase p
-abbrev pub TellsVehicleCall : Rows → ℕ → Bool → Type 0
-TellsVehicleCall rows p result = (now : ℕ) (b : Beside) → result ≡ (state_of now b rows).memories.vehicle p
-
--- `output(d)`, of a vehicle detector
-abbrev pub TellsOutput : Rows → ℕ → Bool → Type 0
-TellsOutput rows d result = (now : ℕ) (b : Beside) → result ≡ ((state_of now b rows).detectors d).output
-
--- `alarm(d)`: the diagnostic that stands against it, if any
-abbrev pub TellsAlarm : Rows → ℕ → Option Alarm → Type 0
-TellsAlarm rows d result = (now : ℕ) (b : Beside) → result ≡ ((state_of now b rows).detectors d).alarm
 
 -- `stage()`
 abbrev pub TellsStage : Rows → Option (ℕ × Stage) → Type 0

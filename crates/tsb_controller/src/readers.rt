@@ -1,5 +1,5 @@
-//! What the controller tells of its state: what phases, detectors, rings, preempts and coordination are in, and why a
-//! pattern or a switch would be refused.
+//! What the controller tells of its state: whether it serves, the preempt in service, the local counter, why a pattern
+//! or a switch would be refused; and layers, lent to those who read what they are in.
 ghost use Rattle.std.specs.Prelude.{◌≡◌, ◌≤◌, ◌||◌, false, is_some};
 ghost use Rattle.std.specs.List.{list_any};
 ghost use Rattle.tsb_types.specs.Flow.{interval_of};
@@ -15,16 +15,13 @@ ghost use Rattle.tsb_preempt.specs.Layer as preempts;
 ghost use Rattle.tsb_ring.specs.Cells as rings;
 ghost use Rattle.tsb_coord.specs.Cells as coord;
 ghost use Rattle.tsb_step.specs.Step.{last_tick};
-ghost use Rattle.tsb_controller.specs.Promises.{TellsServing, TellsPreempted, TellsInterval, TellsPedestrian, TellsVehicleCall, TellsOutput, TellsAlarm, TellsStage, TellsLocal};
+ghost use Rattle.tsb_controller.specs.Promises.{TellsServing, TellsPreempted, TellsStage, TellsLocal};
 
 use crate::controller::Controller;
 use tsb_calls::Calls;
 use tsb_coord::Coord;
-use tsb_detect::{Alarm, Detectors};
-use tsb_objects::{
-    Checked, Detector, Interval, Intervals, PedestrianInterval, Phase, Preempt, Refusal, Ring,
-    Side, Stage,
-};
+use tsb_detect::Detectors;
+use tsb_objects::{Checked, Intervals, Phase, Preempt, Refusal, Ring, Side, Stage};
 use tsb_phase::Phases;
 use tsb_preempt::Preempts;
 
@@ -73,41 +70,6 @@ impl Controller {
         ensures { TellsPreempted (rows_of self.now) result }
     {
         self.preempts.stage().is_some()
-    }
-
-    /// The interval of a phase.
-    pub fn interval(&self, p: Phase) -> Interval
-        ensures { TellsInterval (rows_of self.now) p result }
-    {
-        self.phases.interval(p)
-    }
-
-    /// The pedestrian part of a phase.
-    pub fn pedestrian(&self, p: Phase) -> PedestrianInterval
-        ensures { TellsPedestrian (rows_of self.now) p result }
-    {
-        self.phases.ped(p)
-    }
-
-    /// Whether a phase has a vehicle memory.
-    pub fn calls_vehicle(&self, p: Phase) -> bool
-        ensures { TellsVehicleCall (rows_of self.now) p result }
-    {
-        self.calls.vehicle(p)
-    }
-
-    /// Whether a vehicle detector has an output.
-    pub fn output(&self, d: Detector) -> bool
-        ensures { TellsOutput (rows_of self.now) d result }
-    {
-        self.detectors.output(d)
-    }
-
-    /// The alarm of a vehicle detector.
-    pub fn alarm(&self, d: Detector) -> Option<Alarm>
-        ensures { TellsAlarm (rows_of self.now) d result }
-    {
-        self.detectors.alarm(d)
     }
 
     /// The preempt in service and its stage, or `None` where none is in service.
