@@ -316,7 +316,7 @@ impl Bench {
         self.seek(self.tick - ticks)
     }
 
-    /// The greatest tick number, of those not taken back, at which the watched value changed; `None` where it never did.
+    /// The tick number of the newest change of the watched value, of those not taken back; `None` where it never changed.
     /// An input that is no tick counts at the tick number in force (profile). It takes no memory.
     pub fn when(&self, watch: Watch) -> Option<u32>
         ensures { TellsLastChange watch (pasts (state_of self.now) self.now.records) result }
