@@ -1,4 +1,5 @@
 pub mod LineLemmas
+pub mod KeptLemmas
 pub mod WordLemmas
 pub mod LawLemmas
 pub mod DigitLemmas

@@ -1,5 +1,5 @@
 -- Lines of a text, which is a list of bytes.
-use Rattle.std.specs.Prelude.{ℕ, ◌≡◌, ◌==◌, ◌||◌, List, [], ◌∷◌, if◌then◌else◌, true, false, Bool}
+use Rattle.std.specs.Prelude.{ℕ, ◌≡◌, ◌==◌, ◌||◌, List, [], ◌∷◌, if◌then◌else◌, take, true, false, Bool}
 
 -- b before the first line
 abbrev pub onto_first : ℕ → List (List ℕ) → List (List ℕ)
@@ -32,6 +32,10 @@ ended (l ∷ m ∷ ms) = without_return l ∷ ended (m ∷ ms)
 -- the last line feed is the last line, as it is.
 abbrev pub lines_of : List ℕ → List (List ℕ)
 lines_of text = ended (split text)
+
+-- what a reader keeps of a line until it ends: its first bytes, at most so many
+abbrev pub kept : ℕ → List ℕ → List ℕ
+kept most line = take most line
 
 -- empty, or spaces alone
 abbrev pub is_blank : List ℕ → Bool

@@ -1,13 +1,16 @@
-//! Lines of texts, words of lines, the numbers that words spell, and digits of numbers. Nothing here takes memory.
+//! Lines of texts, the line that a reader keeps until it ends, words of lines, the numbers that words spell, and digits
+//! of numbers. Nothing here takes memory.
 //!
 //! What is said here is "profile": this project's own choice.
 #![tactic(auto)]
 
 pub mod digits;
+pub mod kept;
 pub mod laws;
 pub mod lines;
 pub mod words;
 
 pub use digits::{digit, seven_digits};
+pub use kept::KeptLine;
 pub use lines::{is_skipped, next_line, without_return};
 pub use words::{next_word, number};
