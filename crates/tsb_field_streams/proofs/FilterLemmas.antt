@@ -48,6 +48,8 @@ ticks-follow from a b le = elim (leb_tells from a) [
 -- a row that is no earlier than the last moves the moment on
 pub stands_later : (g : Given) (s : Stand) (f : Filter) (moment : ℕ) → StandsAt g s f → s.last ≤ moment → StandsAt g (record s { last = moment }) (record f { last = moment })
 stands_later g s f moment at le = record {
+  device = at.device;
+  wires = at.wires;
   columns = at.columns;
   last = refl;
   others = at.others;

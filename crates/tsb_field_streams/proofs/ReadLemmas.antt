@@ -1,9 +1,10 @@
 -- What a stream has read, line after line.
-use Rattle.std.proofs.Common.{◌≡◌, ℕ, ◌+◌, ◌<◌, ◌≤◌, List, [], ◌∷◌, ◌++◌, length, take, take_all, refl, sym, ap, ◌∙◌, append_assoc, length-append, arith, inl, inr, Result, Ok, Err}
-use Rattle.std.proofs.lemmas.List.{append-nil, length-take-le, take-append-le}
-use Rattle.std.proofs.lemmas.Bool.{cases_lt, lt-ltb}
+use Rattle.std.proofs.Common.{◌≡◌, ℕ, ◌+◌, ◌<◌, ◌≤◌, List, [], ◌∷◌, ◌++◌, length, refl, sym, ap, ◌∙◌, append_assoc, arith, inl, inr, Result, Ok, Err}
+use Rattle.std.proofs.lemmas.List.{append-nil}
+use Rattle.std.proofs.lemmas.Bool.{lt-ltb}
 use Rattle.std.proofs.lemmas.Bool.Decides.{eqb_tells}
-use Rattle.tsb_lines.specs.Lines.{lines_of, without_return}
+use Rattle.tsb_lines.specs.Lines.{kept, lines_of, without_return}
+use Rattle.tsb_lines.proofs.KeptLemmas.{kept-tells}
 use Rattle.tsb_lines.proofs.LineLemmas.{feedless-more, length-return, lines-alone, lines-joined}
 use Rattle.tsb_field_streams.specs.declared.error.FilterError.{FilterError}
 use Rattle.tsb_field_streams.specs.declared.error.FilterError.TheVariants.{Malformed}
@@ -18,44 +19,15 @@ unfolding with_line
 too-long g n s line lt = rw (lt-ltb 1000 (length line) lt) refl
 
 -- it is enough to keep so many bytes of a line that ends
-pub kept-line : (g : Given) (n : ℕ) (s : Stand) (held : List ℕ) → with_line g n s (without_return (take 1002 held)) ≡ with_line g n s (without_return held)
-kept-line g n s held = elim (cases_lt (length held) 1002) [
-  | inl short ↦ ap (λ (v : List ℕ). with_line g n s (without_return v)) (take_all 1002 held (omega (arith, short)))
-  | inr long ↦
-      let full : length (take 1002 held) ≡ 1002 = length-take-le 1002 held long in
-      let one : length (take 1002 held) ≤ length (without_return (take 1002 held)) + 1 = length-return (take 1002 held) in
-      let all : length held ≤ length (without_return held) + 1 = length-return held in
-      too-long g n s (without_return (take 1002 held)) (omega (arith, full, one)) ∙ sym (too-long g n s (without_return held) (omega (arith, all, long)))
-]
+pub kept-line : (g : Given) (n : ℕ) (s : Stand) (held : List ℕ) → with_line g n s (without_return (kept 1002 held)) ≡ with_line g n s (without_return held)
+kept-line g n s held = kept-tells (λ (v : List ℕ). with_line g n s (without_return v)) 1002 (Err (Malformed n)) long held
+  where
+    long : (line : List ℕ) → 1002 ≤ length line → with_line g n s (without_return line) ≡ Err (Malformed n)
+    long line le = let all : length line ≤ length (without_return line) + 1 = length-return line in too-long g n s (without_return line) (omega (arith, all, le))
 
 -- and of the last one
-pub kept-last : (g : Given) (n : ℕ) (s : Stand) (held : List ℕ) → with_line g n s (take 1002 held) ≡ with_line g n s held
-kept-last g n s held = elim (cases_lt (length held) 1002) [
-  | inl short ↦ ap (λ (v : List ℕ). with_line g n s v) (take_all 1002 held (omega (arith, short)))
-  | inr long ↦
-      let full : length (take 1002 held) ≡ 1002 = length-take-le 1002 held long in
-      too-long g n s (take 1002 held) (omega (arith, full)) ∙ sym (too-long g n s held (omega (arith, long)))
-]
-
--- a byte more of a line that is kept whole
-pub kept-more : (held kept new : List ℕ) (b : ℕ) → kept ≡ take 1002 held → (length kept ≡ 1002 → ⊥) → new ≡ kept ++ b ∷ [] → new ≡ take 1002 (held ++ b ∷ [])
-kept-more held kept new b e other is = elim (cases_lt (length held) 1002) [
-  | inl less ↦
-      let all : kept ≡ held = e ∙ take_all 1002 held (omega (arith, less)) in
-      let long : length (held ++ b ∷ []) ≤ 1002 = longer held b less in
-      is ∙ ap (λ (v : List ℕ). v ++ b ∷ []) all ∙ sym (take_all 1002 (held ++ b ∷ []) long)
-  | inr more ↦ let full : length kept ≡ 1002 = ap length e ∙ length-take-le 1002 held more in absurd (other full)
-]
-  where
-    longer : (xs : List ℕ) (b : ℕ) → length xs < 1002 → length (xs ++ b ∷ []) ≤ 1002
-    longer xs b lt = let l : length (xs ++ b ∷ []) ≡ length xs + 1 = length-append xs (b ∷ []) in omega (arith, l, lt)
-
--- a byte more of a line that is too long
-pub kept-cut : (held kept : List ℕ) (b : ℕ) → kept ≡ take 1002 held → length kept ≡ 1002 → kept ≡ take 1002 (held ++ b ∷ [])
-kept-cut held kept b e long = elim (cases_lt (length held) 1002) [
-  | inl less ↦ let all : length kept ≡ length held = ap length (e ∙ take_all 1002 held (omega (arith, less))) in absurd (omega (arith, all, less, long))
-  | inr more ↦ e ∙ sym (take-append-le 1002 held (b ∷ []) more)
-]
+pub kept-last : (g : Given) (n : ℕ) (s : Stand) (held : List ℕ) → with_line g n s (kept 1002 held) ≡ with_line g n s held
+kept-last g n s held = kept-tells (λ (v : List ℕ). with_line g n s v) 1002 (Err (Malformed n)) (λ line le. too-long g n s line (omega (arith, le))) held
 
 -- ## Lines
 

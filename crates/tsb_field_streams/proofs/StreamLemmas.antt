@@ -7,7 +7,8 @@ use Rattle.std.specs.declared.result.Result.TheVariants.{Ok, Err}
 use Rattle.std.specs.Io.KnownBytes.{Appends, Consumes, IsAtEnd, Keeps}
 use Rattle.tsb_streams.specs.Writes.{AppendsFront}
 use Rattle.tsb_streams.proofs.StreamLemmas.{appends-kept, appends-more, appends-nothing, consumes-kept, consumes-more, consumes-nothing, front-more, front-rest}
-use Rattle.tsb_lines.specs.Lines.{without_return}
+use Rattle.tsb_lines.specs.Lines.{kept, without_return}
+use Rattle.tsb_lines.proofs.KeptLemmas.{kept-more}
 use Rattle.tsb_field_log.specs.declared.field.Rows.{Rows}
 use Rattle.tsb_field_log.specs.Changes.{changes, rows_of}
 use Rattle.tsb_field_log.specs.Fields.{rows_in}
@@ -102,7 +103,7 @@ write-fault (Err d) e is fault = let same : Err e ≡ Err Write = sym is ∙ fau
 
 -- the rows of a line that was taken are written, or the writer fails
 rows-went : (r : Result (Unit {0}) FilterError) (g : Given) (bytes : List ℕ) (s t : Stand) (stream : Stream) (rows : Rows) (a b c : Option (List ℕ))
-    → HasRead g bytes stream.number t [] → filtered g bytes ≡ Ok t → stream.held.items ≡ [] → StandsAt g t stream.filter → Appends a b (known_log g s)
+    → HasRead g bytes stream.number t [] → filtered g bytes ≡ Ok t → stream.line ≡ [] → StandsAt g t stream.filter → Appends a b (known_log g s)
     → rows_before g.from g.wires t.events ≡ rows_before g.from g.wires s.events ++ rows_in rows
     → OnOk r (Appends b c (log_text (rows_in rows))) → AppendsFront b c (log_text (rows_in rows)) → OnErr r (r ≡ Err Write) → Went r g bytes stream a c
 rows-went (Ok u) g bytes s t stream rows a b c read comes empty stands grown more ok front fault = record {
@@ -120,7 +121,7 @@ rows-went (Err e) g bytes s t stream rows a b c read comes empty stands grown mo
     )
 
 pub line-went : (r : Result (Unit {0}) FilterError) (g : Given) (bytes line : List ℕ) (old new : Stream) (rows : Rows) (a b c : Option (List ℕ)) → (f : Follows g bytes old a b)
-    → line ≡ without_return old.held.items → Takes g f.stand (with_line g old.number f.stand line) (Ok rows) new.filter → new.held.items ≡ [] → new.number ≡ one_more old.number
+    → line ≡ without_return old.line → Takes g f.stand (with_line g old.number f.stand line) (Ok rows) new.filter → new.line ≡ [] → new.number ≡ one_more old.number
     → OnOk r (Appends b c (log_text (rows_in rows))) → AppendsFront b c (log_text (rows_in rows)) → OnErr r (r ≡ Err Write) → Went r g (bytes ++ 10 ∷ []) new a c
 line-went r g bytes line old new rows a b c f is takes empty next ok front fault = goes (with_line g old.number f.stand line) refl takes
   where
@@ -137,7 +138,7 @@ line-went r g bytes line old new rows a b c f is takes empty next ok front fault
 
 -- a line that has a fault
 pub line-fault : (g : Given) (bytes line : List ℕ) (old : Stream) (filter : Filter) (e : FilterError) (a b : Option (List ℕ)) → (f : Follows g bytes old a b)
-    → line ≡ without_return old.held.items → Takes g f.stand (with_line g old.number f.stand line) (Err e) filter
+    → line ≡ without_return old.line → Takes g f.stand (with_line g old.number f.stand line) (Err e) filter
     → WroteFront g (bytes ++ 10 ∷ []) a b × ((e ≡ Write) ⊎ Sticks g (bytes ++ 10 ∷ []) e)
 line-fault g bytes line old filter e a b f is takes =
     (wrote-more g bytes (10 ∷ []) a b (wrote-before g bytes old a b f), inr (goes (with_line g old.number f.stand line) refl takes))
@@ -153,12 +154,12 @@ line-fault g bytes line old filter e a b f is takes =
 
 -- a byte that ends no line
 pub byte-went : (g : Given) (bytes : List ℕ) (b : ℕ) (old new : Stream) (a c : Option (List ℕ)) → (f : Follows g bytes old a c) → (b ≡ 10 → ⊥) → new.filter ≡ old.filter → new.number ≡ old.number
-    → new.held.items ≡ take 1002 (f.held ++ b ∷ []) → Follows g (bytes ++ b ∷ []) new a c
-byte-went g bytes b old new a c f other same number kept = record {
+    → new.line ≡ kept 1002 (old.line ++ b ∷ []) → Follows g (bytes ++ b ∷ []) new a c
+byte-went g bytes b old new a c f other same number is = record {
   stand = f.stand;
   held = f.held ++ b ∷ [];
   read = subst (λ (n : ℕ). HasRead g (bytes ++ b ∷ []) n f.stand (f.held ++ b ∷ [])) (sym number) (read-byte g bytes old.number f.stand f.held b f.read other);
-  kept = kept;
+  kept = is ∙ ap (λ (v : List ℕ). kept 1002 (v ++ b ∷ [])) f.kept ∙ kept-more 1002 f.held b;
   stands = subst (λ (filter : Filter). StandsAt g f.stand filter) (sym same) f.stands;
   grown = f.grown;
 }
@@ -196,7 +197,7 @@ pub record LastTaken (g : Given) (bytes : List ℕ) (old : Stream) (rows : Rows)
   pub grown : Appends a b (known_log g before)
   pub more : rows_before g.from g.wires stand.events ≡ rows_before g.from g.wires before.events ++ rows_in rows
 
-pub last-taken : (g : Given) (bytes line : List ℕ) (old : Stream) (rows : Rows) (filter : Filter) (a b : Option (List ℕ)) → (f : Follows g bytes old a b) → line ≡ old.held.items
+pub last-taken : (g : Given) (bytes line : List ℕ) (old : Stream) (rows : Rows) (filter : Filter) (a b : Option (List ℕ)) → (f : Follows g bytes old a b) → line ≡ old.line
     → Takes g f.stand (with_line g old.number f.stand line) (Ok rows) filter → LastTaken g bytes old rows filter a b
 last-taken g bytes line old rows filter a b f is takes = goes (with_line g old.number f.stand line) refl takes
   where
@@ -214,7 +215,7 @@ last-taken g bytes line old rows filter a b f is takes = goes (with_line g old.n
       more = stands.1;
     }
 
-pub last-fault : (g : Given) (bytes line : List ℕ) (old : Stream) (filter : Filter) (e : FilterError) (a b : Option (List ℕ)) → (f : Follows g bytes old a b) → line ≡ old.held.items
+pub last-fault : (g : Given) (bytes line : List ℕ) (old : Stream) (filter : Filter) (e : FilterError) (a b : Option (List ℕ)) → (f : Follows g bytes old a b) → line ≡ old.line
     → Takes g f.stand (with_line g old.number f.stand line) (Err e) filter → Finished (Err e) g bytes a b
 last-fault g bytes line old filter e a b f is takes = (wrote-before g bytes old a b f, inr (inl (goes (with_line g old.number f.stand line) refl takes)))
   where
@@ -402,7 +403,7 @@ unfolding changes log_text
 nothing-known g = refl
 
 -- before the first byte
-pub follows-start : (g : Given) (stream : Stream) (a : Option (List ℕ)) → StandsAt g start stream.filter → stream.number ≡ 1 → stream.held.items ≡ [] → Follows g [] stream a a
+pub follows-start : (g : Given) (stream : Stream) (a : Option (List ℕ)) → StandsAt g start stream.filter → stream.number ≡ 1 → stream.line ≡ [] → Follows g [] stream a a
 follows-start g stream a stands number empty = record {
   stand = start;
   held = [];

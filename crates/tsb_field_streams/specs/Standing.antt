@@ -1,5 +1,5 @@
 -- How far a filter has come by the lines that it has taken.
-use Rattle.std.specs.Prelude.{◌≡◌, ◌≤◌, ◌++◌, length, Result, Ok, Err}
+use Rattle.std.specs.Prelude.{◌≡◌, ◌≤◌, ◌++◌, length, option_map, Result, Ok, Err}
 use Rattle.tsb_field_log.specs.declared.field.Rows.{Rows}
 use Rattle.tsb_field_log.specs.Fields.{tick_at, rows_in}
 use Rattle.tsb_field_log.specs.Pushed.{last_tick, rows_before}
@@ -14,8 +14,10 @@ use Rattle.tsb_field_streams.specs.Filtering.{Given, Stand}
 abbrev pub left_out_of : Filter → LeftOut
 left_out_of f = f.left_out
 
--- a filter has come to this
+-- a filter of what is given has come to this
 pub record StandsAt (g : Given) (s : Stand) (f : Filter) : Type 0 where
+  pub device : g.device ≡ option_map (λ d. d.now) f.device
+  pub wires : g.wires ≡ f.wires.now
   pub columns : f.columns ≡ s.columns
   pub last : f.last ≡ s.last
   pub others : f.left_out.of_other_devices ≡ s.others

@@ -1,6 +1,7 @@
 -- What a filter of a stream has read and written.
-use Rattle.std.specs.Prelude.{◌≡◌, ◌⊎◌, ◌<◌, ◌≤◌, ◌+◌, ℕ, List, ◌++◌, length, take, Option, Result, Ok, Err}
+use Rattle.std.specs.Prelude.{◌≡◌, ◌⊎◌, ◌<◌, ◌≤◌, ◌+◌, ℕ, List, ◌++◌, length, Option, Result, Ok, Err}
 use Rattle.std.specs.Io.KnownBytes.{Appends, Consumes, IsAtEnd}
+use Rattle.tsb_lines.specs.Lines.{kept}
 use Rattle.tsb_log_text.specs.Logs.{log_of}
 use Rattle.tsb_field_log.specs.Changes.{rows_of}
 use Rattle.tsb_field_log.specs.LogText.{log_text}
@@ -30,7 +31,7 @@ pub record Follows (g : Given) (bytes : List ℕ) (stream : Stream) (old new : O
   pub stand : Stand
   pub held : List ℕ
   pub read : HasRead g bytes stream.number stand held
-  pub kept : stream.held.items ≡ take KEPT held
+  pub kept : stream.line ≡ kept KEPT held
   pub stands : StandsAt g stand stream.filter
   pub grown : Appends old new (known_log g stand)
 

@@ -30,7 +30,11 @@ pub struct LeftOut {
 
 /// What is known behind some lines of events.
 #[derive(Drop)]
-pub struct Filter {
+pub struct Filter<'a> {
+    /// The device whose rows count, byte for byte, or all where it is `None`.
+    device: Option<&'a [u8]>,
+    /// The wires that the field was made with.
+    wires: &'a [Wire],
     /// Where the columns stand, known from the first line that is not skipped.
     columns: Option<Columns>,
     /// The moment of the last row that counted, in nanoseconds, and 0 before any.
@@ -47,15 +51,19 @@ const NO_ROWS: Rows = Rows {
     second: None,
 };
 
-impl Filter {
+impl<'a> Filter<'a> {
     ghost use Rattle.tsb_field_streams.specs.Standing.{StandsAt, Takes, left_out_of};
 
-    /// Before the first line. The field has taken no event yet.
+    /// Before the first line. Rows of `device` count, byte for byte, or all where it is `None`; `wires` are those that the
+    /// field was made with, which has taken no event yet.
     #[tactic(auto, using(crate::proofs::FilterLemmas::none_known))]
-    pub fn new(field: Field) -> Filter
-        ensures { (g : Given) → HasTaken g.from g.wires [] field → StandsAt g start result }
+    pub fn new(device: Option<&'a [u8]>, wires: &'a [Wire], field: Field) -> Filter<'a>
+        ensures { (g : Given) → g.device ≡ option_map (λ d. d.now) device.entry → g.wires ≡ wires.now → HasTaken g.from g.wires [] field
+            → StandsAt g start result }
     {
         Filter {
+            device,
+            wires,
             columns: None,
             last: 0,
             rows: 0,
@@ -68,22 +76,14 @@ impl Filter {
     }
 
     /// Takes the line with this number, counted from 1, without its end, and gives the rows of the log that it makes known.
-    /// Rows of `device` count, byte for byte, or all where it is `None`; `wires` are those that the field was made with.
     ///
     /// The first line may begin with a byte order mark. A line that is blank or begins with `#` is skipped; the first that
     /// is not names the columns, or is a row with its columns in the usual places. Of rows of other devices nothing is
     /// asked but that they are rows; of the others each is no earlier than the one before. The errors are `Malformed`,
     /// `TimeOrder`, `PastEnd` and `LogTooLarge`; no line is taken behind one.
     #[tactic(auto, unfolding(crate::specs::Filtering::with_line))]
-    pub fn take_line(
-        &mut self,
-        device: Option<&[u8]>,
-        wires: &[Wire],
-        number: u32,
-        line: &[u8],
-    ) -> Result<Rows, FilterError>
-        ensures takes { (g : Given) (s : Stand) → g.device ≡ option_map (λ d. d.now) device.entry → g.wires ≡ wires.now → StandsAt g s self.old
-            → Takes g s (with_line g number s line.now) result self.new }
+    pub fn take_line(&mut self, number: u32, line: &[u8]) -> Result<Rows, FilterError>
+        ensures takes { (g : Given) (s : Stand) → StandsAt g s self.old → Takes g s (with_line g number s line.now) result self.new }
     {
         if line.len() > LINE {
             return Err(FilterError::Malformed(number));
@@ -92,22 +92,15 @@ impl Filter {
         if is_skipped(text) {
             return Ok(NO_ROWS);
         }
-        self.take_text(device, wires, number, text)
+        self.take_text(number, text)
     }
 
     /// Takes a line that is not skipped.
-    fn take_text(
-        &mut self,
-        device: Option<&[u8]>,
-        wires: &[Wire],
-        number: u32,
-        text: &[u8],
-    ) -> Result<Rows, FilterError>
-        ensures takes { (g : Given) (s : Stand) → g.device ≡ option_map (λ d. d.now) device.entry → g.wires ≡ wires.now → StandsAt g s self.old
-            → Takes g s (with_text g number s text.now s.columns) result self.new }
+    fn take_text(&mut self, number: u32, text: &[u8]) -> Result<Rows, FilterError>
+        ensures takes { (g : Given) (s : Stand) → StandsAt g s self.old → Takes g s (with_text g number s text.now s.columns) result self.new }
     {
         if let Some(columns) = self.columns {
-            return self.take_row_line(device, wires, number, columns, text);
+            return self.take_row_line(number, columns, text);
         }
         if let Some(columns) = header(text) {
             self.columns = Some(columns);
@@ -115,32 +108,28 @@ impl Filter {
         }
         let usual = Columns::usual();
         self.columns = Some(usual);
-        self.take_row_line(device, wires, number, usual, text)
+        self.take_row_line(number, usual, text)
     }
 
     /// Takes a line that is a row, with its columns in these places.
     fn take_row_line(
         &mut self,
-        device: Option<&[u8]>,
-        wires: &[Wire],
         number: u32,
         columns: Columns,
         text: &[u8],
     ) -> Result<Rows, FilterError>
-        ensures takes { (g : Given) (s : Stand) → g.device ≡ option_map (λ d. d.now) device.entry → g.wires ≡ wires.now → StandsAt g s self.old
-            → Takes g s (with_row_line g number s columns text.now) result self.new }
+        ensures takes { (g : Given) (s : Stand) → StandsAt g s self.old → Takes g s (with_row_line g number s columns text.now) result self.new }
     {
-        match event_row(text, columns, device) {
+        match event_row(text, columns, self.device) {
             None => Err(FilterError::Malformed(number)),
-            Some(row) => self.take_row(wires, number, row),
+            Some(row) => self.take_row(number, row),
         }
     }
 
     /// Takes a row.
     #[tactic(auto, using(crate::proofs::FilterLemmas::stands_later))]
-    fn take_row(&mut self, wires: &[Wire], number: u32, row: EventRow) -> Result<Rows, FilterError>
-        ensures takes { (g : Given) (s : Stand) → g.wires ≡ wires.now → StandsAt g s self.old
-            → Takes g s (with_row g number s row) result self.new }
+    fn take_row(&mut self, number: u32, row: EventRow) -> Result<Rows, FilterError>
+        ensures takes { (g : Given) (s : Stand) → StandsAt g s self.old → Takes g s (with_row g number s row) result self.new }
     {
         if !row.ours {
             self.left_out.of_other_devices = self.left_out.of_other_devices.saturating_add(1);
@@ -152,21 +141,16 @@ impl Filter {
         self.last = row.moment.nanos;
         match Signal::of_code(row.code) {
             None => Ok(NO_ROWS),
-            Some(signal) => self.take_signal(wires, row, signal),
+            Some(signal) => self.take_signal(row, signal),
         }
     }
 
     /// Takes what a row says of an input.
-    fn take_signal(
-        &mut self,
-        wires: &[Wire],
-        row: EventRow,
-        signal: Signal,
-    ) -> Result<Rows, FilterError>
-        ensures takes { (g : Given) (s : Stand) → g.wires ≡ wires.now → StandsAt g s self.old → s.last ≡ row.moment.nanos
+    fn take_signal(&mut self, row: EventRow, signal: Signal) -> Result<Rows, FilterError>
+        ensures takes { (g : Given) (s : Stand) → StandsAt g s self.old → s.last ≡ row.moment.nanos
             → Takes g s (with_signal g s row (Some signal)) result self.new }
     {
-        if !is_wired(wires, signal.kind, row.parameter) {
+        if !is_wired(self.wires, signal.kind, row.parameter) {
             self.left_out.without_input = self.left_out.without_input.saturating_add(1);
             return Ok(NO_ROWS);
         }

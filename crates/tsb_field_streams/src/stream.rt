@@ -7,12 +7,11 @@ ghost use Rattle.tsb_field_streams.specs.Streaming.{Ended, EndedBehind, Finished
 use crate::error::FilterError;
 use crate::filter::{Filter, LINE, LeftOut};
 use crate::rows::{pass_rows_on, write_rows};
-use arrayvec::ArrayVec;
 use std::alloc::Global;
 use std::io::{Read, Write};
 use tsb_event_text::Moment;
 use tsb_field_log::{Field, Wire, wires};
-use tsb_lines::without_return;
+use tsb_lines::KeptLine;
 
 /// The most events of a stream, in bytes: 1 GiB.
 pub const EVENTS: usize = 1_073_741_824;
@@ -25,81 +24,55 @@ const CHUNK: usize = 4096;
 
 /// A stream between two bytes: what is known behind its whole lines, and the first bytes of the line that is not whole.
 #[derive(Drop)]
-struct Stream {
-    filter: Filter,
+struct Stream<'a> {
+    filter: Filter<'a>,
     /// The number of the line that is not whole, counted from 1; it stays at 4,294,967,295 once it has come to it.
     number: u32,
-    held: ArrayVec<u8, KEPT>,
+    line: KeptLine<KEPT>,
 }
 
-impl Stream {
+impl Stream<'_> {
     /// Takes the line feed that ends a line.
-    fn end_line<W: Write>(
-        &mut self,
-        device: Option<&[u8]>,
-        wires: &[Wire],
-        writer: &mut W,
-    ) -> Result<(), FilterError>
-        ensures went { (g : Given) (bytes : List ℕ) (begun : Option (List ℕ)) → g.device ≡ option_map (λ d. d.now) device.entry → g.wires ≡ wires.now
-            → Follows g bytes self.old begun (W.contents writer.old) → Went result g (bytes ++ 10 ∷ []) self.new begun (W.contents writer.new) }
+    fn end_line<W: Write>(&mut self, writer: &mut W) -> Result<(), FilterError>
+        ensures went { (g : Given) (bytes : List ℕ) (begun : Option (List ℕ)) → Follows g bytes self.old begun (W.contents writer.old)
+            → Went result g (bytes ++ 10 ∷ []) self.new begun (W.contents writer.new) }
     {
-        let line = without_return(&self.held);
-        let rows = self.filter.take_line(device, wires, self.number, line)?;
-        self.held.clear();
+        let line = self.line.ended();
+        let rows = self.filter.take_line(self.number, line)?;
+        self.line.clear();
         self.number = self.number.saturating_add(1);
         write_rows(writer, rows)
     }
 
     /// Takes one byte more.
-    fn feed<W: Write>(
-        &mut self,
-        device: Option<&[u8]>,
-        wires: &[Wire],
-        byte: u8,
-        writer: &mut W,
-    ) -> Result<(), FilterError>
-        ensures went { (g : Given) (bytes : List ℕ) (begun : Option (List ℕ)) → g.device ≡ option_map (λ d. d.now) device.entry → g.wires ≡ wires.now
-            → Follows g bytes self.old begun (W.contents writer.old) → Went result g (bytes ++ byte ∷ []) self.new begun (W.contents writer.new) }
+    fn feed<W: Write>(&mut self, byte: u8, writer: &mut W) -> Result<(), FilterError>
+        ensures went { (g : Given) (bytes : List ℕ) (begun : Option (List ℕ)) → Follows g bytes self.old begun (W.contents writer.old)
+            → Went result g (bytes ++ byte ∷ []) self.new begun (W.contents writer.new) }
     {
         if byte == b'\n' {
-            return self.end_line(device, wires, writer);
+            return self.end_line(writer);
         }
-        if !self.held.is_full() {
-            self.held.push(byte);
-        }
+        self.line.push(byte);
         Ok(())
     }
 
     /// Takes these bytes.
-    fn feed_all<W: Write>(
-        &mut self,
-        device: Option<&[u8]>,
-        wires: &[Wire],
-        bytes: &[u8],
-        writer: &mut W,
-    ) -> Result<(), FilterError>
-        ensures went { (g : Given) (before : List ℕ) (begun : Option (List ℕ)) → g.device ≡ option_map (λ d. d.now) device.entry → g.wires ≡ wires.now
-            → Follows g before self.old begun (W.contents writer.old) → Went result g (before ++ bytes.now) self.new begun (W.contents writer.new) }
+    fn feed_all<W: Write>(&mut self, bytes: &[u8], writer: &mut W) -> Result<(), FilterError>
+        ensures went { (g : Given) (before : List ℕ) (begun : Option (List ℕ)) → Follows g before self.old begun (W.contents writer.old)
+            → Went result g (before ++ bytes.now) self.new begun (W.contents writer.new) }
     {
         for byte in bytes {
-            self.feed(device, wires, *byte, writer)?;
+            self.feed(*byte, writer)?;
         }
         Ok(())
     }
 
     /// Takes what stands behind the last line feed as the last line, and writes the rest of the log.
-    fn finish<W: Write>(
-        &mut self,
-        device: Option<&[u8]>,
-        wires: &[Wire],
-        writer: &mut W,
-    ) -> Result<LeftOut, FilterError>
-        ensures finished { (g : Given) (bytes : List ℕ) (begun : Option (List ℕ)) → g.device ≡ option_map (λ d. d.now) device.entry → g.wires ≡ wires.now
-            → Follows g bytes self.old begun (W.contents writer.old) → Finished result g bytes begun (W.contents writer.new) }
+    fn finish<W: Write>(&mut self, writer: &mut W) -> Result<LeftOut, FilterError>
+        ensures finished { (g : Given) (bytes : List ℕ) (begun : Option (List ℕ)) → Follows g bytes self.old begun (W.contents writer.old)
+            → Finished result g bytes begun (W.contents writer.new) }
     {
-        let rows = self
-            .filter
-            .take_line(device, wires, self.number, &self.held)?;
+        let rows = self.filter.take_line(self.number, self.line.last())?;
         write_rows(writer, rows)?;
         let rest = self.filter.finish()?;
         write_rows(writer, rest)?;
@@ -110,13 +83,10 @@ impl Stream {
     /// Reads events up to their end, and writes their log.
     fn run<R: Read, W: Write>(
         &mut self,
-        device: Option<&[u8]>,
-        wires: &[Wire],
         reader: &mut R,
         writer: &mut W,
     ) -> Result<LeftOut, FilterError>
-        ensures ended { (g : Given) → g.device ≡ option_map (λ d. d.now) device.entry → g.wires ≡ wires.now
-            → Follows g [] self.old (W.contents writer.old) (W.contents writer.old)
+        ensures ended { (g : Given) → Follows g [] self.old (W.contents writer.old) (W.contents writer.old)
             → EndedBehind result g (R.remaining reader.old) (R.remaining reader.new) (W.contents writer.old) (W.contents writer.new) }
     {
         let mut chunk = [0; CHUNK];
@@ -129,13 +99,13 @@ impl Stream {
                 Err(_) => return Err(FilterError::Read),
             };
             if count == 0 {
-                return self.finish(device, wires, writer);
+                return self.finish(writer);
             }
             if left < count {
                 return Err(FilterError::TooLarge);
             }
             left -= count;
-            self.feed_all(device, wires, &room[..count], writer)?;
+            self.feed_all(&room[..count], writer)?;
         }
     }
 }
@@ -165,9 +135,9 @@ pub fn log<R: Read, W: Write>(
         return Err(FilterError::Memory);
     };
     let mut stream = Stream {
-        filter: Filter::new(field),
+        filter: Filter::new(device, &all, field),
         number: 1,
-        held: ArrayVec::new(),
+        line: KeptLine::new(),
     };
-    stream.run(device, &all, reader, writer)
+    stream.run(reader, writer)
 }

@@ -34,14 +34,14 @@ fn said(
         None => 0,
     };
     let all = wires(alloc, mapped)?;
-    let mut filter = Filter::new(Field::new(alloc, from, &all)?);
+    let mut filter = Filter::new(device, &all, Field::new(alloc, from, &all)?);
     let mut text = Vec::new(alloc);
     let mut number: u32 = 0;
     let mut fault = None;
     for line in lines {
         number = number.saturating_add(1);
         if fault.is_none() {
-            match filter.take_line(device, &all, number, *line) {
+            match filter.take_line(number, *line) {
                 Ok(rows) => push_rows(&mut text, rows)?,
                 Err(error) => fault = Some(error),
             }

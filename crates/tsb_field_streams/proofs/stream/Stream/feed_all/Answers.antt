@@ -5,26 +5,26 @@ use Rattle.tsb_field_streams.proofs.stream.Stream.feed_all.Goals as goal
 
 pub loop-byte-init : goal.loop-byte-init
 loop-byte-init g c = record {
-  follows = λ given before begun device wired f. follows-same given before _ _ _ _ (sym (append-nil before)) f;
+  follows = λ given before begun f. follows-same given before _ _ _ _ (sym (append-nil before)) f;
 }
 
 pub returns-in_err-feed : goal.returns-in_err-feed
 returns-in_err-feed g c = record {
-  went = λ given before begun device wired f.
+  went = λ given before begun f.
       let is : c.from_residual.result ≡ Err c.in_err-feed.field-0.0 = search rules in
       rw is (piece-fault given before c.args.bytes.now c.loop-byte.byte-index (get_or c.args.bytes.now c.loop-byte.byte-index 0) c.in_err-feed.field-0.0 _ _ c.loop-byte-test.true refl
-      (c.in_err-feed.ensures.went given _ begun device wired (c.loop-byte.invariant.follows given before begun device wired f)));
+      (c.in_err-feed.ensures.went given _ begun (c.loop-byte.invariant.follows given before begun f)));
 }
 
 pub loop-byte-preserved : goal.loop-byte-preserved
 loop-byte-preserved g c = record {
-  follows = λ given before begun device wired f.
+  follows = λ given before begun f.
       piece-more given before c.args.bytes.now c.loop-byte.byte-index (get_or c.args.bytes.now c.loop-byte.byte-index 0) _ _ _ c.loop-byte-test.true refl
-      (c.in_ok-feed.ensures.went given _ begun device wired (c.loop-byte.invariant.follows given before begun device wired f));
+      (c.in_ok-feed.ensures.went given _ begun (c.loop-byte.invariant.follows given before begun f));
 }
 
 pub returns : goal.returns
 returns g c = record {
-  went = λ given before begun device wired f.
-      piece-end given before c.args.bytes.now c.loop-byte.byte-index _ _ _ c.loop-byte-test.false (c.loop-byte.invariant.follows given before begun device wired f);
+  went = λ given before begun f.
+      piece-end given before c.args.bytes.now c.loop-byte.byte-index _ _ _ c.loop-byte-test.false (c.loop-byte.invariant.follows given before begun f);
 }

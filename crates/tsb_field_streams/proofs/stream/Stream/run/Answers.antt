@@ -4,39 +4,39 @@ use Rattle.tsb_field_streams.proofs.stream.Stream.run.Goals as goal
 
 pub returns-in-Err : goal.returns-in-Err
 returns-in-Err g c = record {
-  ended = λ given device wired f.
-      ended-read given c.loop-count.self c.loop-count.left _ _ _ _ _ (c.loop-count.invariant.going given device wired f) c.in-Err.ensures.bytes;
+  ended = λ given f.
+      ended-read given c.loop-count.self c.loop-count.left _ _ _ _ _ (c.loop-count.invariant.going given f) c.in-Err.ensures.bytes;
 }
 
 pub returns-then-count-eq0 : goal.returns-then-count-eq0
 returns-then-count-eq0 g c = record {
-  ended = λ given device wired f.
-      let k = c.loop-count.invariant.going given device wired f in
+  ended = λ given f.
+      let k = c.loop-count.invariant.going given f in
       ended-end c.finish.result given c.loop-count.self c.loop-count.left (take c.in-Ok.count c.read.new.buf) _ _ _ _ _ _ k c.in-Ok.ensures.bytes.0
       (ap (λ (n : ℕ). take n c.read.new.buf) c.if-count-eq0.true) (c.in-Ok.ensures.bytes.1 c.if-count-eq0.true (search rules))
-      (c.finish.ensures.finished given k.read _ device wired k.follows);
+      (c.finish.ensures.finished given k.read _ k.follows);
 }
 
 pub returns-then-left-count : goal.returns-then-left-count
 returns-then-left-count g c = record {
-  ended = λ given device wired f.
-      ended-large given c.loop-count.self c.loop-count.left c.in-Ok.count (take c.in-Ok.count c.read.new.buf) _ _ _ _ _ (c.loop-count.invariant.going given device wired f)
+  ended = λ given f.
+      ended-large given c.loop-count.self c.loop-count.left c.in-Ok.count (take c.in-Ok.count c.read.new.buf) _ _ _ _ _ (c.loop-count.invariant.going given f)
       c.in-Ok.ensures.bytes.0 (sym c.in-Ok.ensures.bound.1) c.if-left-count.true (search rules);
 }
 
 pub loop-count-preserved : goal.loop-count-preserved
 loop-count-preserved g c = record {
-  going = λ given device wired f.
-      let k = c.loop-count.invariant.going given device wired f in
+  going = λ given f.
+      let k = c.loop-count.invariant.going given f in
       going-more given c.loop-count.self c.feed_all.new.self c.loop-count.left c.in-Ok.count (take c.in-Ok.count c.read.new.buf) _ _ _ _ _ _ k c.in-Ok.ensures.bytes.0 (sym c.in-Ok.ensures.bound.1)
-      c.if-left-count.false (c.in_ok-feed_all.ensures.went given k.read _ device wired k.follows);
+      c.if-left-count.false (c.in_ok-feed_all.ensures.went given k.read _ k.follows);
 }
 
 pub returns-in_err-feed_all : goal.returns-in_err-feed_all
 returns-in_err-feed_all g c = record {
-  ended = λ given device wired f.
-      let k = c.loop-count.invariant.going given device wired f in
+  ended = λ given f.
+      let k = c.loop-count.invariant.going given f in
       let is : c.from_residual.result ≡ Err c.in_err-feed_all.field-0.0 = search rules in
       rw is (ended-fault c.in_err-feed_all.field-0.0 given c.loop-count.self c.loop-count.left c.in-Ok.count (take c.in-Ok.count c.read.new.buf) _ _ _ _ _ _ k c.in-Ok.ensures.bytes.0 (sym c.in-Ok.ensures.bound.1)
-      c.if-left-count.false (c.in_err-feed_all.ensures.went given k.read _ device wired k.follows));
+      c.if-left-count.false (c.in_err-feed_all.ensures.went given k.read _ k.follows));
 }

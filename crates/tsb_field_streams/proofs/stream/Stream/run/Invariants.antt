@@ -1,4 +1,4 @@
-use Rattle.std.proofs.Common.{◌≡◌, [], option_map}
+use Rattle.std.proofs.Common.{[]}
 use Rattle.tsb_field_streams.specs.Filtering.{Given}
 use Rattle.tsb_field_streams.specs.Streaming.{Follows}
 use Rattle.tsb_field_streams.proofs.StreamLemmas.{Going}
@@ -6,8 +6,7 @@ use Rattle.tsb_field_streams.proofs.stream.Stream.run.Given as goal
 
 abbrev pub invariant-loop-count : goal.invariant-loop-count
 invariant-loop-count g l = record {
-  going : (given : Given) → given.device ≡ option_map (λ d. d.now) l.device → given.wires ≡ l.wires
-      → Follows given [] l.fn.self (g.W.Write.contents l.fn.writer) (g.W.Write.contents l.fn.writer)
+  going : (given : Given) → Follows given [] l.fn.self (g.W.Write.contents l.fn.writer) (g.W.Write.contents l.fn.writer)
       → Going given l.self l.left (g.R.Read.remaining l.fn.reader) (g.R.Read.remaining l.reader) (g.W.Write.contents l.fn.writer) (g.W.Write.contents l.writer);
 }
 
