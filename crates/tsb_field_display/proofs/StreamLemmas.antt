@@ -1,13 +1,13 @@
 -- Bytes that come one after the other, and the display lines in them.
-use Rattle.std.proofs.Common.{◌≡◌, ℕ, ◌+◌, ◌≤◌, ◌==◌, List, [], ◌∷◌, ◌++◌, length, true, false, refl, sym, ap, ◌∙◌, append_assoc, length-append, Some, None, Ok, Err, arith, subst, take, take_all, inl, inr}
+use Rattle.std.proofs.Common.{◌≡◌, ℕ, ◌+◌, ◌≤◌, ◌==◌, List, [], ◌∷◌, ◌++◌, length, true, false, refl, sym, ap, ◌∙◌, append_assoc, Some, None, Ok, Err, arith, subst, inl, inr}
 use Rattle.std.specs.declared.option.Option.{Option}
 use Rattle.std.specs.List.{cons_option, filter_map}
 use Rattle.std.specs.Io.KnownBytes.{Consumes, IsAtEnd}
-use Rattle.std.proofs.lemmas.Bool.{cases_lt}
 use Rattle.std.proofs.lemmas.Bool.Decides.{eqb_tells}
-use Rattle.std.proofs.lemmas.List.{append-nil, length-take-le, take-append-le}
+use Rattle.std.proofs.lemmas.List.{append-nil}
 use Rattle.std.proofs.lemmas.List.Sums.{fold-append}
-use Rattle.tsb_lines.specs.Lines.{HasNoFeed, without_return}
+use Rattle.tsb_lines.specs.Lines.{HasNoFeed, kept, without_return}
+use Rattle.tsb_lines.proofs.KeptLemmas.{kept-more, kept-tells}
 use Rattle.tsb_lines.proofs.LineLemmas.{feedless-more, length-return, split-alone, split-joined}
 use Rattle.tsb_streams.proofs.StreamLemmas.{consumes-more, consumes-nothing}
 use Rattle.tsb_field_display.specs.declared.error.HistoryError.{HistoryError}
@@ -28,31 +28,17 @@ other-length line long = let off : (length line == 53) ≡ false = elim (eqb_tel
 long-shows : (line : List ℕ) → 55 ≤ length line → shown_in line ≡ None
 long-shows line long = let most = length-return line in other-length (without_return line) (omega (arith, long, most))
 
--- the bytes that are held of a line show what it shows
-held-shows : (line : List ℕ) → shown_in (take 55 line) ≡ shown_in line
-held-shows line = elim (cases_lt (length line) 55) [
-  | inl less ↦ ap shown_in (take_all 55 line (omega (arith, less)))
-  | inr long ↦ let full = length-take-le 55 line long in long-shows (take 55 line) (omega (arith, full)) ∙ sym (long-shows line long)
-]
+-- the bytes that are kept of a line show what it shows
+held-shows : (line : List ℕ) → shown_in (kept 55 line) ≡ shown_in line
+held-shows line = kept-tells shown_in 55 None long-shows line
 
--- what is known where these lines have ended, and the bytes of this line that are held
+-- what is known where these lines have ended, and the bytes of this line that are kept
 abbrev pub stand : List Shown → List ℕ → Stand
-stand shown line = record { shown = shown; held = take 55 line }
+stand shown line = record { shown = shown; held = kept 55 line }
 
--- a byte more of the line is held, unless enough are
+-- a byte more of the line
 held-further : (shown : List Shown) (line : List ℕ) (b : ℕ) → with_held (stand shown line) b ≡ stand shown (line ++ b ∷ [])
-held-further shown line b = elim (cases_lt (length line) 55) [
-  | inl less ↦
-      let all : take 55 line ≡ line = take_all 55 line (omega (arith, less)) in
-      let off : (length line == 55) ≡ false = elim (eqb_tells (length line) 55) [ inl on ↦ absurd (omega (arith, less, on.1)) | inr off ↦ off.0 ] in
-      let more : length (line ++ b ∷ []) ≡ length line + 1 = length-append line (b ∷ []) in
-      let one : take 55 (line ++ b ∷ []) ≡ line ++ b ∷ [] = take_all 55 (line ++ b ∷ []) (omega (arith, more, less)) in
-      rw (all, off, one) refl
-  | inr long ↦
-      let full : (length (take 55 line) == 55) ≡ true = ap (λ (n : ℕ). n == 55) (length-take-le 55 line long) in
-      let same : take 55 (line ++ b ∷ []) ≡ take 55 line = take-append-le 55 line (b ∷ []) long in
-      rw (full, same) refl
-]
+held-further shown line b = ap (λ (v : List ℕ). record { shown = shown; held = v }) (kept-more 55 line b)
 
 -- ## Display lines
 
@@ -79,7 +65,7 @@ lines-on [] line shown f =
 lines-on (b ∷ bytes) line shown f = elim (eqb_tells b 10) [
   | inl on ↦
       ap (λ (s : Stand). (with_line (with_bytes s bytes)).shown) (byte-feed (stand shown line) b on.0)
-      ∙ lines-on bytes [] (with_shown shown (shown_in (take 55 line))) tt
+      ∙ lines-on bytes [] (with_shown shown (shown_in (kept 55 line))) tt
       ∙ ap (λ (o : Option Shown). with_shown shown o ++ shown_lines bytes) (held-shows line)
       ∙ shown-on shown (shown_lines bytes) (shown_in line)
       ∙ sym (ap (λ (v : ℕ). shown ++ shown_lines (line ++ v ∷ bytes)) on.1

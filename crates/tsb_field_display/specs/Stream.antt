@@ -1,12 +1,13 @@
 -- The display lines in what a session answers, and how far one has come who takes it byte after byte.
-use Rattle.std.specs.Prelude.{◌≡◌, ℕ, ◌==◌, Bool, false, List, [], ◌∷◌, ◌++◌, length, if◌then◌else◌, Option, Some, None, Result, Ok, Err}
+use Rattle.std.specs.Prelude.{◌≡◌, ℕ, ◌==◌, Bool, false, List, [], ◌∷◌, ◌++◌, if◌then◌else◌, Option, Some, None, Result, Ok, Err}
 use Rattle.std.specs.List.{filter_map, fold}
 use Rattle.std.specs.Io.KnownBytes.{Consumes, IsAtEnd}
-use Rattle.tsb_lines.specs.Lines.{split, without_return}
+use Rattle.tsb_lines.specs.Lines.{kept, split, without_return}
 use Rattle.tsb_field_display.specs.declared.error.HistoryError.{HistoryError}
 use Rattle.tsb_field_display.specs.declared.history.History.{History}
 use Rattle.tsb_field_display.specs.declared.shown.Shown.{Shown}
 use Rattle.tsb_field_display.specs.declared.stream.Stream.{Stream}
+use Rattle.tsb_field_display.specs.declared.stream.TheConstants.{KEPT}
 use Rattle.tsb_field_display.specs.Reading.{shown_of}
 use Rattle.tsb_field_display.specs.Remaining.{Keeps}
 
@@ -52,10 +53,10 @@ with_shown shown (Some line) = shown ++ line ∷ []
 abbrev pub with_line : Stand → Stand
 with_line s = record { shown = with_shown s.shown (shown_in s.held); held = [] }
 
--- a byte more of the line, unless as many are held as a display line has with its return, 54, and one by which a longer
+-- a byte more of the line, of which as many are kept as a display line has with its return, and one by which a longer
 -- line is known
 abbrev pub with_held : Stand → ℕ → Stand
-with_held s byte = if length s.held == 55 then s else record s { held = s.held ++ byte ∷ [] }
+with_held s byte = record s { held = kept KEPT (s.held ++ byte ∷ []) }
 
 -- a byte more: a line feed ends the line
 abbrev pub with_byte : Stand → ℕ → Stand
@@ -68,7 +69,7 @@ with_bytes s bytes = fold with_byte s bytes
 -- a stream has come to this
 pub record StandsAt (s : Stand) (stream : Stream) : Type 0 where
   pub shown : Keeps stream.history s.shown
-  pub held : stream.held.items ≡ s.held
+  pub held : stream.line ≡ s.held
 
 -- these bytes were read so far, and a stream has taken them
 pub record Going (input left : Option (List ℕ)) (stream : Stream) : Type 0 where

@@ -6,11 +6,10 @@ ghost use Rattle.tsb_field_display.specs.Stream.{GoesOn, Going, HistoryRead, Sta
 use crate::error::HistoryError;
 use crate::history::History;
 use crate::reading::read_line;
-use arrayvec::ArrayVec;
 use std::alloc::{AllocError, Global};
 use std::io::Read;
 use tsb_display_text::WIDTH;
-use tsb_lines::without_return;
+use tsb_lines::KeptLine;
 
 /// How many bytes of a line are kept: those of a display line, the carriage return behind them, and one more, by which
 /// a longer line is known.
@@ -24,7 +23,7 @@ const CHUNK: usize = 4096;
 #[derive(Drop)]
 struct Stream {
     history: History,
-    held: ArrayVec<u8, KEPT>,
+    line: KeptLine<KEPT>,
 }
 
 impl Stream {
@@ -34,7 +33,7 @@ impl Stream {
     {
         Stream {
             history: History::new(alloc),
-            held: ArrayVec::new(),
+            line: KeptLine::new(),
         }
     }
 
@@ -42,10 +41,10 @@ impl Stream {
     fn end_line(&mut self) -> Result<(), AllocError>
         ensures { (s : Stand) → StandsAt s self.old → OnOk result (StandsAt (with_line s) self.new) }
     {
-        if let Some(shown) = read_line(without_return(&self.held)) {
+        if let Some(shown) = read_line(self.line.ended()) {
             self.history.push(shown)?;
         }
-        self.held.clear();
+        self.line.clear();
         Ok(())
     }
 
@@ -56,9 +55,7 @@ impl Stream {
         if byte == b'\n' {
             return self.end_line();
         }
-        if !self.held.is_full() {
-            self.held.push(byte);
-        }
+        self.line.push(byte);
         Ok(())
     }
 
