@@ -1,6 +1,6 @@
 //! Lines of texts, words of lines, and numbers.
 
-use tsb_lines::{is_skipped, laws, next_line, next_word, number, without_return};
+use tsb_lines::{KeptLine, is_skipped, laws, next_line, next_word, number, without_return};
 
 #[test]
 fn lines_end_at_line_feeds(rt: HostRuntime) {
@@ -16,6 +16,22 @@ fn lines_end_at_line_feeds(rt: HostRuntime) {
     assert!(rt; rest.is_none());
     assert!(rt; without_return(line) == b"last".as_slice());
     laws::lines_make_up_the_text();
+}
+
+#[test]
+fn a_line_is_kept_until_it_ends(rt: HostRuntime) {
+    let mut line: KeptLine<4> = KeptLine::new();
+    assert!(rt; line.last().is_empty() && line.ended().is_empty());
+    line.push(b'a');
+    line.push(b'b');
+    line.push(b'\r');
+    assert!(rt; line.last() == b"ab\r".as_slice() && line.ended() == b"ab".as_slice());
+    line.push(b'\r');
+    line.push(b'c');
+    assert!(rt; line.last() == b"ab\r\r".as_slice() && line.ended() == b"ab\r".as_slice());
+    line.clear();
+    line.push(b'd');
+    assert!(rt; line.last() == b"d".as_slice() && line.ended() == b"d".as_slice());
 }
 
 #[test]
