@@ -11,11 +11,12 @@ use Rattle.tsb_plan.specs.Two.{two}
 use Rattle.tsb_plan_text.specs.declared.error.PlanError.{PlanError}
 use Rattle.tsb_log_text.specs.declared.error.LogError.{LogError}
 use Rattle.tsb_text.specs.declared.error.SessionError.{SessionError}
-use Rattle.tsb_text.specs.declared.error.SessionError.TheVariants.{Write}
 use Rattle.tsb_text.specs.Answers.{Setup}
 use Rattle.tsb_text.specs.Ended.{Ended}
 use Rattle.tsb_streams.specs.Writes.{AppendsFront}
-use Rattle.tsb.specs.Lines.{Fails, FailsToRead, TellsWords, plan_line, log_line}
+use Rattle.tsb.specs.Lines.{FailsToRead, TellsEnd, TellsWords, plan_line, log_line}
+use Rattle.tsb_program.specs.Failures.{Fails}
+use Rattle.tsb_program.specs.declared.failure.Failure.TheVariants.{Write}
 use Rattle.tsb_program.specs.Read.{HasLog, RefusesLog}
 use Rattle.tsb.specs.Read.{HasPlan, RefusesPlan}
 
@@ -42,7 +43,7 @@ Checks status file old new told tells =
 -- a session ended well with 0 and nothing told, or by a fault, with 3 and its line
 abbrev pub EndsSo : Result (Unit {0}) SessionError → ℕ → Option (List ℕ) → Option (List ℕ) → Type 0
 EndsSo (Ok u) status told tells = (status ≡ 0) × (tells ≡ told)
-EndsSo (Err fault) status told tells = Fails fault status told tells
+EndsSo (Err fault) status told tells = TellsEnd fault status told tells
 
 -- a session on this plan and log ended so
 abbrev pub Talked : ℕ → Setup → Option (List ℕ) → Option (List ℕ) → Option (List ℕ) → Option (List ℕ) → Option (List ℕ) → Option (List ℕ) → Type 0

@@ -6,29 +6,21 @@ use Rattle.tsb_plan_text.specs.FaultLines.{plan_fault}
 use Rattle.tsb_log_text.specs.declared.error.LogError.{LogError}
 use Rattle.tsb_log_text.specs.FaultLines.{log_fault}
 use Rattle.tsb_text.specs.declared.error.SessionError.{SessionError}
-use Rattle.tsb_text.specs.declared.error.SessionError.TheVariants.{Memory, Read, Write, TooLarge}
+use Rattle.tsb_text.specs.declared.error.SessionError.TheVariants as ends
 use Rattle.tsb_words.specs.declared.WordsError.{WordsError}
 use Rattle.tsb_words.specs.declared.WordsError.TheVariants as words
+use Rattle.tsb_program.specs.Failures.{Fails, failure_of}
+use Rattle.tsb_program.specs.declared.failure.Failure.TheVariants.{Memory, Read, Write}
 use Rattle.tsb_program.specs.declared.files.FileError.{FileError}
-use Rattle.tsb_program.specs.declared.files.FileError.TheVariants as files
 use Rattle.tsb_program.specs.declared.read.ReadError.{ReadError}
 use Rattle.tsb_program.specs.declared.read.ReadError.TheVariants as faults
 
--- the line of a failure: of memory, of a read or a write, or commands without end
-abbrev pub failure_line : SessionError → List ℕ
-failure_line Memory = codes "memory\n"
-failure_line Read = codes "read fault\n"
-failure_line Write = codes "write fault\n"
-failure_line TooLarge = codes "commands: too large\n"
-
--- the program ends with 3, and this failure is told
-abbrev pub Fails : SessionError → ℕ → Option (List ℕ) → Option (List ℕ) → Type 0
-Fails fault status told tells = (status ≡ 3) × AppendsFront told tells (failure_line fault)
-
--- the failure of a file that was not read
-abbrev pub failure_of : FileError → SessionError
-failure_of files.Memory = Memory
-failure_of files.Read = Read
+-- what ended a session is told, with 3: a failure, or commands without end
+abbrev pub TellsEnd : SessionError → ℕ → Option (List ℕ) → Option (List ℕ) → Type 0
+TellsEnd ends.Memory status told tells = Fails Memory status told tells
+TellsEnd ends.Read status told tells = Fails Read status told tells
+TellsEnd ends.Write status told tells = Fails Write status told tells
+TellsEnd ends.TooLarge status told tells = (status ≡ 3) × AppendsFront told tells (codes "commands: too large\n")
 
 -- a file or memory failed
 abbrev pub FailsToRead : ℕ → Option (List ℕ) → Option (List ℕ) → Type 0

@@ -5,7 +5,7 @@ ghost use Rattle.tsb_words.specs.declared.Asked.{Asked};
 ghost use Rattle.tsb_words.specs.declared.WordsError.{WordsError};
 ghost use Rattle.tsb_words.specs.Words.{Spells};
 ghost use Rattle.tsb_objects.specs.Checked.{checked_plan};
-ghost use Rattle.tsb.specs.Lines.{Fails, Refuses, TellsWords, failure_line, failure_of};
+ghost use Rattle.tsb.specs.Lines.{Refuses, TellsEnd, TellsWords};
 ghost use Rattle.tsb_program.specs.Statuses.{number};
 ghost use Rattle.tsb.specs.Read.{PlanRead, plan_made};
 ghost use Rattle.tsb.specs.Ends.{Checks, Judged, Ran, RanBuiltIn, Did, Talked};
@@ -15,7 +15,8 @@ use std::convert::AsStr;
 use std::fmt::Display;
 use std::io::{Read, Write};
 use tsb_program::{
-    FileError, Files, ReadError, Status, line_of, log_of, read_file, tell, write_line,
+    Failure, FileError, Files, ReadError, Status, fail, line_of, log_of, read_file, tell,
+    write_line,
 };
 use tsb_text::{Checked, Log, PLAN_LIMIT, Plan, PlanError, SessionError, read_plan, session};
 use tsb_words::{Asked, WordsError, read_words};
@@ -49,31 +50,12 @@ pub fn tell_words_fault<E: Write>(errors: &mut E, fault: WordsError) -> u8
     ensures { TellsWords fault result (E.contents errors.old) (E.contents errors.new) }
 {
     match fault {
-        WordsError::Memory => fail(errors, SessionError::Memory),
+        WordsError::Memory => fail(errors, Failure::Memory),
         WordsError::Bad => tell(
             errors,
             Status::BadWords,
             b"usage: tsb check PLAN or tsb run PLAN LOG\n",
         ),
-    }
-}
-
-/// Tells that a read, a write or memory failed.
-fn fail<E: Write>(errors: &mut E, fault: SessionError) -> u8
-    ensures { Fails fault result (E.contents errors.old) (E.contents errors.new) }
-{
-    tell(errors, Status::Failed, failure_line(fault))
-}
-
-/// The line of a failure.
-fn failure_line(fault: SessionError) -> &'static [u8]
-    ensures { result.now ≡ failure_line fault }
-{
-    match fault {
-        SessionError::Memory => b"memory\n",
-        SessionError::Read => b"read fault\n",
-        SessionError::Write => b"write fault\n",
-        SessionError::TooLarge => b"commands: too large\n",
     }
 }
 
@@ -96,25 +78,15 @@ fn plan_made(answer: Result<Checked, PlanError>) -> Result<Checked, ReadError<Pl
     }
 }
 
-/// The failure of a file that was not read.
-fn failure_of(fault: FileError) -> SessionError
-    ensures { result ≡ failure_of fault }
-{
-    match fault {
-        FileError::Memory => SessionError::Memory,
-        FileError::Read => SessionError::Read,
-    }
-}
-
 /// Tells why there is no plan or log.
 fn refuse<E: Write, T: Display + Drop>(alloc: Global, errors: &mut E, fault: ReadError<T>) -> u8
     ensures { Refuses T.output fault result (E.contents errors.old) (E.contents errors.new) }
 {
     match fault {
-        ReadError::Failed(fault) => fail(errors, failure_of(fault)),
+        ReadError::Failed(fault) => fail(errors, fault.failure()),
         ReadError::Refused(fault) => match line_of(alloc, fault) {
             Ok(line) => tell(errors, Status::Refused, line.as_bytes()),
-            Err(_) => fail(errors, SessionError::Memory),
+            Err(_) => fail(errors, Failure::Memory),
         },
     }
 }
@@ -134,9 +106,9 @@ fn check<F: Files, W: Write, E: Write>(
         Ok(_) => judge(output, errors, Status::Done, b"plan ok\n"),
         Err(ReadError::Refused(fault)) => match line_of(alloc, fault) {
             Ok(line) => judge(output, errors, Status::Refused, line.as_bytes()),
-            Err(_) => fail(errors, SessionError::Memory),
+            Err(_) => fail(errors, Failure::Memory),
         },
-        Err(ReadError::Failed(fault)) => fail(errors, failure_of(fault)),
+        Err(ReadError::Failed(fault)) => fail(errors, fault.failure()),
     }
 }
 
@@ -147,7 +119,7 @@ fn judge<W: Write, E: Write>(output: &mut W, errors: &mut E, status: Status, lin
 {
     match write_line(output, line) {
         Ok(()) => status.number(),
-        Err(_) => fail(errors, SessionError::Write),
+        Err(_) => fail(errors, Failure::Write),
     }
 }
 
@@ -206,6 +178,18 @@ fn talk<R: Read, W: Write, E: Write>(
 {
     match session(alloc, plan, log, input, output) {
         Ok(()) => Status::Done.number(),
-        Err(fault) => fail(errors, fault),
+        Err(fault) => tell_end(errors, fault),
+    }
+}
+
+/// Tells what ended a session before its commands did.
+fn tell_end<E: Write>(errors: &mut E, fault: SessionError) -> u8
+    ensures { TellsEnd fault result (E.contents errors.old) (E.contents errors.new) }
+{
+    match fault {
+        SessionError::Memory => fail(errors, Failure::Memory),
+        SessionError::Read => fail(errors, Failure::Read),
+        SessionError::Write => fail(errors, Failure::Write),
+        SessionError::TooLarge => tell(errors, Status::Failed, b"commands: too large\n"),
     }
 }

@@ -2,7 +2,7 @@
 use Rattle.std.proofs.Common.{◌≡◌, ℕ, List, subst, inl, inr}
 use Rattle.std.specs.Prelude.{Err}
 use Rattle.std.specs.declared.option.Option.{Option}
-use Rattle.tsb_program.specs.declared.files.FileError.TheVariants as files
+use Rattle.tsb_program.specs.Failures.{failure_of}
 use Rattle.tsb_program.specs.declared.read.ReadError.{ReadError}
 use Rattle.tsb_program.specs.declared.read.ReadError.TheVariants as faults
 use Rattle.tsb_event_text.specs.declared.times.Moment.{Moment}
@@ -11,14 +11,12 @@ use Rattle.tsb_log_text.specs.declared.log.LogRow.{LogRow}
 use Rattle.tsb_field_display.specs.declared.shown.Shown.{Shown}
 use Rattle.tsb_field_events.specs.Merge.{session_events}
 use Rattle.tsb_field_events.specs.Texts.{IsLog}
-use Rattle.tsb_field.specs.declared.end.Failure.TheVariants.{Memory, Read}
 use Rattle.tsb_field.specs.Ends.{IsEvents, LogNamed, Pictured, Stops, TellsNoLog}
 
 -- there is no log
 pub stops : (fault : ReadError LogError) (known : List ℕ → Option (List ℕ)) (path : Option (List ℕ)) (status : ℕ) (told tells : Option (List ℕ)) → LogNamed (Err fault) known path
     → TellsNoLog fault status told tells → Stops known path status told tells
-stops (faults.Failed files.Memory) known path status told tells named line = inr (named, Memory, line)
-stops (faults.Failed files.Read) known path status told tells named line = inr (named, Read, line)
+stops (faults.Failed why) known path status told tells named line = inr (named, failure_of why, line)
 stops (faults.Refused fault) known path status told tells none line = inl (fault, none, line)
 
 -- what was handed on is the same

@@ -5,7 +5,9 @@ use Rattle.std.specs.Prelude.{◌≡◌, ◌⊎◌, ℕ, List, [], IsSome, Optio
 use Rattle.std.specs.Io.KnownBytes.{Appends, Consumes, IsAtEnd, Keeps}
 use Rattle.tsb_streams.specs.Writes.{AppendsFront}
 use Rattle.tsb_program.specs.Read.{HasLog, RefusesLog}
-use Rattle.tsb_program.specs.declared.files.FileError.TheVariants as files
+use Rattle.tsb_program.specs.Failures.{Fails, failure_of}
+use Rattle.tsb_program.specs.declared.failure.Failure.{Failure}
+use Rattle.tsb_program.specs.declared.failure.Failure.TheVariants.{Write}
 use Rattle.tsb_program.specs.declared.read.ReadError.{ReadError}
 use Rattle.tsb_program.specs.declared.read.ReadError.TheVariants as faults
 use Rattle.tsb_log_text.specs.declared.error.LogError.{LogError}
@@ -27,9 +29,7 @@ use Rattle.tsb_field_streams.specs.declared.filter.LeftOut.{LeftOut}
 use Rattle.tsb_field_words.specs.Words.{Wish, diagram, events, log, seen}
 use Rattle.tsb_field_words.specs.declared.words.Asked.{Asked}
 use Rattle.tsb_field_words.specs.declared.words.WordsError.{WordsError}
-use Rattle.tsb_field.specs.declared.end.Failure.{Failure}
-use Rattle.tsb_field.specs.declared.end.Failure.TheVariants.{Memory, Read, Write}
-use Rattle.tsb_field.specs.Lines.{Fails, Refuses, TellsFault, TellsLate, TellsLeftOut, TellsWords}
+use Rattle.tsb_field.specs.Lines.{Refuses, TellsFault, TellsLate, TellsLeftOut, TellsWords}
 
 -- ## `log`
 
@@ -69,8 +69,7 @@ LogNamed (Err (faults.Failed why)) files path = IsSome path
 
 -- why there is no log is told
 abbrev pub TellsNoLog : ReadError LogError → ℕ → Option (List ℕ) → Option (List ℕ) → Type 0
-TellsNoLog (faults.Failed files.Memory) status told tells = Fails Memory status told tells
-TellsNoLog (faults.Failed files.Read) status told tells = Fails Read status told tells
+TellsNoLog (faults.Failed why) status told tells = Fails (failure_of why) status told tells
 TellsNoLog (faults.Refused fault) status told tells = Refuses 1 (Some (log_fault fault)) status told tells
 
 -- ## Texts of a session

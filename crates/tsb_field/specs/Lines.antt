@@ -7,23 +7,13 @@ use Rattle.tsb_field_streams.specs.FaultLines.{filter_fault}
 use Rattle.tsb_field_streams.specs.declared.filter.LeftOut.{LeftOut}
 use Rattle.tsb_field_words.specs.declared.words.WordsError.{WordsError}
 use Rattle.tsb_field_words.specs.declared.words.WordsError.TheVariants as words
-use Rattle.tsb_field.specs.declared.end.Failure.{Failure}
-use Rattle.tsb_field.specs.declared.end.Failure.TheVariants.{Memory, Read, Write}
+use Rattle.tsb_program.specs.Failures.{Fails}
+use Rattle.tsb_program.specs.declared.failure.Failure.TheVariants.{Memory, Read, Write}
 
 -- how the program is used
 abbrev pub usage : List ℕ
 usage =
     codes "usage: tsb_field log --from TIME [--device ID] [--vehicle CHANNEL=DETECTOR].. [--pedestrian CHANNEL=DETECTOR].. [--preempt CHANNEL=INPUT]..\n    or tsb_field events --from TIME --device ID [--log LOG]\n    or tsb_field diagram [--log LOG] [--title TEXT] [--seconds-per-line N]\n"
-
--- the line of a failure: of memory, of a read or of a write
-abbrev pub failure_line : Failure → List ℕ
-failure_line Memory = codes "memory\n"
-failure_line Read = codes "read fault\n"
-failure_line Write = codes "write fault\n"
-
--- the program ends with 3, and this failure is told
-abbrev pub Fails : Failure → ℕ → Option (List ℕ) → Option (List ℕ) → Type 0
-Fails failure status told tells = (status ≡ 3) × AppendsFront told tells (failure_line failure)
 
 -- bad words end with 2 and how the program is used; words may run out of memory
 abbrev pub TellsWords : WordsError → ℕ → Option (List ℕ) → Option (List ℕ) → Type 0

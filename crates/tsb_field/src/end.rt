@@ -1,6 +1,6 @@
 //! How the program ends, and the lines that it tells.
 ghost use Rattle.std.specs.Prelude.{◌≡◌, IfOk, string_bytes};
-ghost use Rattle.tsb_field.specs.Lines.{Fails, Refuses, TellsFault, TellsLate, TellsLeftOut, TellsWords, failure_line, left_out_line};
+ghost use Rattle.tsb_field.specs.Lines.{Refuses, TellsFault, TellsLate, TellsLeftOut, TellsWords, left_out_line};
 ghost use Rattle.tsb_field.specs.Ends.{Written};
 
 use std::alloc::{AllocError, Global};
@@ -8,15 +8,7 @@ use std::fmt::Display;
 use std::io::Write;
 use tsb_field_streams::{FilterError, LeftOut};
 use tsb_field_words::WordsError;
-use tsb_program::{Status, line_of, tell, write_line};
-
-/// What failed.
-#[derive(Clone, Copy, PartialEq, Eq)]
-pub(crate) enum Failure {
-    Memory,
-    Read,
-    Write,
-}
+use tsb_program::{Failure, Status, fail, line_of, tell, write_line};
 
 /// How the program is used.
 const USAGE: &[u8] =
@@ -32,24 +24,6 @@ pub(crate) fn tell_words_fault<E: Write>(errors: &mut E, fault: WordsError) -> u
     match fault {
         WordsError::Memory => fail(errors, Failure::Memory),
         WordsError::Bad => tell(errors, Status::BadWords, USAGE),
-    }
-}
-
-/// Tells that a read, a write or memory failed.
-pub(crate) fn fail<E: Write>(errors: &mut E, failure: Failure) -> u8
-    ensures { Fails failure result (E.contents errors.old) (E.contents errors.new) }
-{
-    tell(errors, Status::Failed, failure_line(failure))
-}
-
-/// The line of a failure.
-fn failure_line(failure: Failure) -> &'static [u8]
-    ensures { result.now ≡ failure_line failure }
-{
-    match failure {
-        Failure::Memory => b"memory\n",
-        Failure::Read => b"read fault\n",
-        Failure::Write => b"write fault\n",
     }
 }
 

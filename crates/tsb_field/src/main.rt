@@ -5,14 +5,14 @@
 mod end;
 mod run;
 
-use crate::end::{Failure, fail, tell_words_fault};
+use crate::end::tell_words_fault;
 use crate::run::run_words;
 use std::convert::AsStr;
 use std::env;
 use std::io::BufWriter;
 use std::process::ExitCode;
 use tsb_field_words::WordsError;
-use tsb_program::Disk;
+use tsb_program::{Disk, Failure, fail};
 
 /// How many bytes wait before they are written.
 const BUFFER: usize = 65_536;

@@ -6,9 +6,7 @@ ghost use Rattle.tsb_field_words.specs.declared.words.WordsError.{WordsError};
 ghost use Rattle.tsb_field_words.specs.Program.{Spells};
 ghost use Rattle.tsb_field.specs.Ends.{Did, LogNamed, Logged, Pictured, TellsNoLog, Told, title_of};
 
-use crate::end::{
-    Failure, fail, refuse, tell_fault, tell_late, tell_left_out, tell_words_fault, write_all,
-};
+use crate::end::{refuse, tell_fault, tell_late, tell_left_out, tell_words_fault, write_all};
 use std::alloc::Global;
 use std::convert::AsStr;
 use std::io::{Read, Write};
@@ -20,7 +18,7 @@ use tsb_field_log::Wire;
 use tsb_field_streams::log;
 use tsb_field_words::{Asked, read_words};
 use tsb_log_text::{Log, LogError};
-use tsb_program::{FileError, Files, ReadError, log_of};
+use tsb_program::{Failure, Files, ReadError, fail, log_of};
 use tsb_streams::pass_on;
 
 /// What stands over a diagram where words give no title.
@@ -202,8 +200,7 @@ fn refuse_log<E: Write>(alloc: Global, errors: &mut E, fault: ReadError<LogError
     ensures { TellsNoLog fault result (E.contents errors.old) (E.contents errors.new) }
 {
     match fault {
-        ReadError::Failed(FileError::Memory) => fail(errors, Failure::Memory),
-        ReadError::Failed(FileError::Read) => fail(errors, Failure::Read),
+        ReadError::Failed(fault) => fail(errors, fault.failure()),
         ReadError::Refused(fault) => refuse(alloc, errors, fault),
     }
 }

@@ -2,8 +2,10 @@
 
 ghost use Rattle.std.specs.Prelude.{◌≡◌, ℕ, List, Option, None, IfOk};
 ghost use Rattle.std.specs.IoError.{error_kind};
+ghost use Rattle.tsb_program.specs.Failures.{failure_of};
 ghost use Rattle.tsb_program.specs.Read.{IsFront, file_fault};
 
+use crate::failure::Failure;
 use std::alloc::Global;
 use std::fs::File;
 use std::io::{self, ErrorKind, Read};
@@ -42,6 +44,18 @@ pub enum FileError {
     Memory,
     /// It could not be opened or read.
     Read,
+}
+
+impl FileError {
+    /// What failed.
+    pub fn failure(self) -> Failure
+        ensures { result ≡ failure_of self }
+    {
+        match self {
+            FileError::Memory => Failure::Memory,
+            FileError::Read => Failure::Read,
+        }
+    }
 }
 
 impl From<io::Error> for FileError {

@@ -1,11 +1,13 @@
 //! What the programs share: the files that they read, the lines that they tell, and the statuses that they end with.
 #![tactic(auto)]
 
+mod failure;
 mod files;
 mod lines;
 mod read;
 mod status;
 
+pub use failure::{Failure, fail};
 pub use files::{Disk, FileError, Files, read_file};
 pub use lines::{line_of, tell, write_line};
 pub use read::{ReadError, log_of};

@@ -1,5 +1,5 @@
 use Rattle.std.proofs.Common.{inl, inr, refl}
-use Rattle.tsb_field.specs.declared.end.Failure.TheVariants.{Memory}
+use Rattle.tsb_program.specs.declared.failure.Failure.TheVariants.{Memory}
 use Rattle.tsb_field.proofs.EndLemmas.{stops}
 use Rattle.tsb_field.proofs.run.write_diagram.Goals as goal
 

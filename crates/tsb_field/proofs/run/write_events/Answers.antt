@@ -1,7 +1,7 @@
 use Rattle.std.proofs.Common.{◌∙◌, inl, inr, refl, subst, sym, List, ℕ}
 use Rattle.tsb_field_display.specs.Remaining.{last_tick}
 use Rattle.tsb_field_display.specs.Stream.{shown_lines}
-use Rattle.tsb_field.specs.declared.end.Failure.TheVariants.{Memory}
+use Rattle.tsb_program.specs.declared.failure.Failure.TheVariants.{Memory}
 use Rattle.tsb_field.specs.Ends.{Written}
 use Rattle.tsb_field.proofs.EndLemmas.{events-are, stops}
 use Rattle.tsb_field.proofs.run.write_events.Goals as goal

@@ -1,0 +1,36 @@
+//! What fails a program, and the line that it tells of it.
+ghost use Rattle.std.specs.Prelude.{◌≡◌};
+ghost use Rattle.tsb_program.specs.Failures.{Fails, failure_line};
+
+use crate::lines::tell;
+use crate::status::Status;
+use std::io::Write;
+
+/// What failed.
+#[derive(Clone, Copy, PartialEq, Eq)]
+pub enum Failure {
+    /// There was no memory.
+    Memory,
+    /// A read.
+    Read,
+    /// A write.
+    Write,
+}
+
+/// Tells that a read, a write or memory failed, and gives the status that the program ends with.
+pub fn fail<E: Write>(errors: &mut E, failure: Failure) -> u8
+    ensures { Fails failure result (E.contents errors.old) (E.contents errors.new) }
+{
+    tell(errors, Status::Failed, failure_line(failure))
+}
+
+/// The line of a failure.
+fn failure_line(failure: Failure) -> &'static [u8]
+    ensures { result.now ≡ failure_line failure }
+{
+    match failure {
+        Failure::Memory => b"memory\n",
+        Failure::Read => b"read fault\n",
+        Failure::Write => b"write fault\n",
+    }
+}
