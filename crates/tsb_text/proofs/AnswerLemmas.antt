@@ -22,7 +22,7 @@ use Rattle.tsb_log_text.specs.declared.log.LogRow.{LogRow}
 use Rattle.tsb_log_text.specs.Logs.{row_at}
 use Rattle.tsb_types.specs.declared.row.Row.{Row}
 use Rattle.std.proofs.lemmas.List.{append-nil}
-use Rattle.tsb_text.specs.declared.error.WriteError.{WriteError}
+use Rattle.tsb_streams.specs.declared.writes.WriteError.{WriteError}
 use Rattle.tsb_text.specs.Answers.{Setup, Asked, Steps, Answers, next_tick, told, refused_line, display_line}
 use Rattle.tsb_text.specs.Talk.{Stands, Done, StepsOn}
 use Rattle.tsb_text.specs.Written.{Said, Wrote, with_feed}

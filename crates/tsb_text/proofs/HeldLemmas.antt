@@ -1,14 +1,14 @@
--- The bytes that are held are those of the line that is not whole yet, of a long one the first.
-use Rattle.std.proofs.Common.{◌≡◌, ℕ, ◌+◌, ◌<◌, ◌≤◌, List, [], ◌∷◌, ◌++◌, length, refl, sym, ap, ◌∙◌, append_assoc, length-append, Ok, Err, arith, subst, zero, suc, take, drop, get_or, take_all, inl, inr}
-use Rattle.std.proofs.lemmas.List.{append-nil, length-take-le, take-append-le, take_more, take-append-drop}
-use Rattle.std.proofs.lemmas.Bool.{cases_lt}
+-- The bytes that are held are what is kept of the line that is not whole yet.
+use Rattle.std.proofs.Common.{◌≡◌, ℕ, ◌+◌, ◌<◌, ◌≤◌, List, [], ◌∷◌, ◌++◌, length, refl, sym, ap, ◌∙◌, append_assoc, Ok, Err, subst, take, drop, get_or, take_all, inl, inr}
+use Rattle.std.proofs.lemmas.List.{append-nil, take-append-drop}
 use Rattle.std.specs.declared.result.Result.{Result}
 use Rattle.tsb_command_text.specs.declared.command.Reading.{Reading}
 use Rattle.tsb_command_text.specs.declared.command.Reading.TheVariants.{Bad, Leave}
 use Rattle.tsb_command_text.specs.Readings.{reading}
-use Rattle.tsb_lines.specs.Lines.{without_return}
+use Rattle.tsb_lines.specs.Lines.{HasNoFeed, kept, without_return}
+use Rattle.tsb_lines.proofs.KeptLemmas.{feedless-kept, kept-more, kept-tells}
 use Rattle.tsb_lines.proofs.LineLemmas.{feedless-more}
-use Rattle.tsb_text.specs.declared.error.WriteError.{WriteError}
+use Rattle.tsb_streams.specs.declared.writes.WriteError.{WriteError}
 use Rattle.tsb_text.specs.declared.talk.Flow.{Flow}
 use Rattle.tsb_text.specs.declared.talk.Flow.TheVariants.{On, Over}
 use Rattle.tsb_text.specs.Ended.{Quits}
@@ -19,60 +19,34 @@ use Rattle.tsb_text.proofs.TextLemmas.{reading-returned}
 pub holds-start : (held : List ℕ) → held ≡ [] → Holds [] held
 holds-start held e = record { done = []; rest = []; whole = refl; ended = inl refl; unfinished = tt; kept = e }
 
--- fewer bytes than are kept are all of the line
-all-kept : (held rest : List ℕ) → held ≡ take 202 rest → length held < 202 → rest ≡ held
-all-kept held rest e short = elim (cases_lt (length rest) 202) [
-  | inl less ↦ sym (e ∙ take_all 202 rest (omega (arith, less)))
-  | inr more ↦ let full : length held ≡ 202 = ap length e ∙ length-take-le 202 rest more in absurd (omega (arith, full, short))
-]
+-- what is kept has no line feed
+pub holds-clean : (bytes held : List ℕ) → Holds bytes held → HasNoFeed held
+holds-clean bytes held h = subst (λ (v : List ℕ). HasNoFeed v) (sym h.kept) (feedless-kept 202 h.rest h.unfinished)
 
 -- a byte more of the line
-pub holds-push : (bytes held new : List ℕ) (b : ℕ) → Holds bytes held → (b ≡ 10 → ⊥) → length held < 202 → new ≡ held ++ b ∷ [] → Holds (bytes ++ b ∷ []) new
-holds-push bytes held new b h n short e =
-    let all : h.rest ≡ held = all-kept held h.rest h.kept short in
-    let long : length (h.rest ++ b ∷ []) ≡ length h.rest + 1 = length-append h.rest (b ∷ []) in
-    let few : length h.rest ≡ length held = ap length all in
-    record {
-      done = h.done;
-      rest = h.rest ++ b ∷ [];
-      whole = ap (λ (v : List ℕ). v ++ b ∷ []) h.whole ∙ append_assoc h.done h.rest (b ∷ []);
-      ended = h.ended;
-      unfinished = feedless-more h.rest b h.unfinished n;
-      kept = e ∙ ap (λ (v : List ℕ). v ++ b ∷ []) (sym all) ∙ sym (take_all 202 (h.rest ++ b ∷ []) (omega (arith, long, few, short)));
-    }
+pub holds-byte : (bytes held new : List ℕ) (b : ℕ) → Holds bytes held → (b ≡ 10 → ⊥) → new ≡ kept 202 (held ++ b ∷ []) → Holds (bytes ++ b ∷ []) new
+holds-byte bytes held new b h n is = record {
+  done = h.done;
+  rest = h.rest ++ b ∷ [];
+  whole = ap (λ (v : List ℕ). v ++ b ∷ []) h.whole ∙ append_assoc h.done h.rest (b ∷ []);
+  ended = h.ended;
+  unfinished = feedless-more h.rest b h.unfinished n;
+  kept = is ∙ ap (λ (v : List ℕ). kept 202 (v ++ b ∷ [])) h.kept ∙ kept-more 202 h.rest b;
+}
 
--- a byte more of a line that is too long
-pub holds-cut : (bytes held : List ℕ) (b : ℕ) → Holds bytes held → (b ≡ 10 → ⊥) → 202 ≤ length held → Holds (bytes ++ b ∷ []) held
-holds-cut bytes held b h n long =
-    let more : 202 ≤ length h.rest = elim (cases_lt (length h.rest) 202) [
-      | inl less ↦ let same : held ≡ h.rest = h.kept ∙ take_all 202 h.rest (omega (arith, less)) in let few : length held ≡ length h.rest = ap length same in absurd (omega (arith, few, less, long))
-      | inr le ↦ le
-    ] in
-    record {
-      done = h.done;
-      rest = h.rest ++ b ∷ [];
-      whole = ap (λ (v : List ℕ). v ++ b ∷ []) h.whole ∙ append_assoc h.done h.rest (b ∷ []);
-      ended = h.ended;
-      unfinished = feedless-more h.rest b h.unfinished n;
-      kept = h.kept ∙ sym (take-append-le 202 h.rest (b ∷ []) more);
-    }
-
--- a line that is `quit` was held whole
+-- a line that is `quit` was kept whole
 quits-line : (bytes held : List ℕ) → Holds bytes held → reading (without_return held) ≡ Leave → Quits (bytes ++ 10 ∷ [])
-quits-line bytes held h leaves = elim (cases_lt (length held) 202) [
-  | inl short ↦
-      let all : h.rest ≡ held = all-kept held h.rest h.kept short in
-      record {
-        front = h.done;
-        line = h.rest;
-        more = [];
-        whole = ap (λ (v : List ℕ). v ++ 10 ∷ []) h.whole ∙ append_assoc h.done h.rest (10 ∷ []);
-        ended = h.ended;
-        one = h.unfinished;
-        reads = ap (λ (v : List ℕ). reading (without_return v)) all ∙ leaves;
-      }
-  | inr long ↦ let bad : reading (without_return held) ≡ Bad = reading-returned held long in let no : Bad ≡ Leave = sym bad ∙ leaves in absurd (cc)
-]
+quits-line bytes held h leaves = record {
+  front = h.done;
+  line = h.rest;
+  more = [];
+  whole = ap (λ (v : List ℕ). v ++ 10 ∷ []) h.whole ∙ append_assoc h.done h.rest (10 ∷ []);
+  ended = h.ended;
+  one = h.unfinished;
+  reads =
+      sym (kept-tells (λ (v : List ℕ). reading (without_return v)) 202 Bad reading-returned h.rest)
+      ∙ ap (λ (v : List ℕ). reading (without_return v)) (sym h.kept) ∙ leaves;
+}
 
 pub holds-line : (r : Result Flow WriteError) (bytes held new : List ℕ) (asked : Reading) (line : List ℕ) → Holds bytes held → asked ≡ reading line → line ≡ without_return held → new ≡ [] → (r ≡ Ok Over → asked ≡ Leave) → HeldAfter r (bytes ++ 10 ∷ []) new
 holds-line (Ok On) bytes held new asked line h reads is empty over =

@@ -12,7 +12,7 @@ use Rattle.tsb_lines.specs.Lines.{HasNoFeed}
 use Rattle.tsb_log_text.specs.declared.log.LogRow.{LogRow}
 use Rattle.tsb_text.specs.declared.error.SessionError.{SessionError}
 use Rattle.tsb_text.specs.declared.error.SessionError.TheVariants.{Memory, Read, Write, TooLarge}
-use Rattle.tsb_text.specs.declared.error.WriteError.{WriteError}
+use Rattle.tsb_streams.specs.declared.writes.WriteError.{WriteError}
 use Rattle.tsb_text.specs.declared.talk.Flow.{Flow}
 use Rattle.tsb_text.specs.declared.talk.Flow.TheVariants.{On, Over}
 use Rattle.tsb_text.specs.Answers.{Setup}
@@ -21,7 +21,7 @@ use Rattle.tsb_text.specs.Ended.{Carries, IsWhole, IsBegun, Quits, AnswersWhole,
 use Rattle.tsb_text.specs.Talk.{Stands, Went, Finished, Holds, HeldAfter, Going, as_session}
 use Rattle.tsb_text.specs.Written.{Said, Wrote}
 use Rattle.tsb_text.proofs.TextLemmas.{some-text}
-use Rattle.tsb_text.proofs.HeldLemmas.{holds-start}
+use Rattle.tsb_text.proofs.HeldLemmas.{holds-clean, holds-start}
 use Rattle.tsb_text.proofs.TalkLemmas.{joined}
 use Rattle.tsb_text.proofs.WrittenLemmas.{said-nothing, said-more}
 
@@ -105,10 +105,10 @@ begun-going given is read held said k =
     record { rest = λ more. let some : (t : List ℕ) × IsText given is (held ++ more) t = some-text given is (held ++ more) in (some.0, k.on more some.0 some.1) }
 
 -- a read failed
-pub ended-read : (given : Setup) (log : List LogRow) (bench : Whole) (held : List ℕ) (budget : ℕ) (i l l2 o n : Option (List ℕ)) (waits : List ℕ) → Going given log bench held budget i l o n waits → waits ≡ [] → HasNoFeed held → Keeps l l2
+pub ended-read : (given : Setup) (log : List LogRow) (bench : Whole) (held : List ℕ) (budget : ℕ) (i l l2 o n : Option (List ℕ)) (waits : List ℕ) → Going given log bench held budget i l o n waits → waits ≡ [] → Keeps l l2
     → Ended (Err Read) given i l2 o n
 unfolding EndedText
-ended-read given log bench held budget i l l2 o n waits g none clean k =
+ended-read given log bench held budget i l l2 o n waits g none k =
     let f : length g.read + budget ≡ 16777216 = g.fits in
     let all : take 16777216 g.read ≡ g.read = take_all 16777216 g.read (omega (arith, f)) in
     record {
@@ -119,14 +119,14 @@ ended-read given log bench held budget i l l2 o n waits g none clean k =
       so = ended-so (Err Read) given l2 g.read waits g.wrote.text g.wrote.said.gone g.wrote.said.kept (inr (begun-going given g.inputs g.read held g.wrote.text g.wrote.so));
       large = (λ e. absurd (cc), λ h. absurd (omega (arith, h, f)));
       most = omega (arith, f);
-      answered = λ x. subst (λ (v : List ℕ). AnswersWhole given v g.wrote.said.gone) (sym all) (whole-answered given g.inputs g.read held waits g.wrote.text g.wrote.said.gone g.wrote.said.kept none clean g.wrote.so);
+      answered = λ x. subst (λ (v : List ℕ). AnswersWhole given v g.wrote.said.gone) (sym all) (whole-answered given g.inputs g.read held waits g.wrote.text g.wrote.said.gone g.wrote.said.kept none (holds-clean g.read held g.holds) g.wrote.so);
     }
 
 -- a byte stands behind those that may be read
-pub ended-large : (given : Setup) (log : List LogRow) (bench : Whole) (held : List ℕ) (budget : ℕ) (i l l2 o n : Option (List ℕ)) (waits : List ℕ) (count most : ℕ) (piece : List ℕ) → Going given log bench held budget i l o n waits → waits ≡ [] → HasNoFeed held → Consumes l l2 piece
+pub ended-large : (given : Setup) (log : List LogRow) (bench : Whole) (held : List ℕ) (budget : ℕ) (i l l2 o n : Option (List ℕ)) (waits : List ℕ) (count most : ℕ) (piece : List ℕ) → Going given log bench held budget i l o n waits → waits ≡ [] → Consumes l l2 piece
     → budget < count → count ≡ length piece → count ≤ most → (budget < most → most ≤ 1) → Ended (Err TooLarge) given i l2 o n
 unfolding EndedText
-ended-large given log bench held budget i l l2 o n waits count most piece g none clean k over long room one =
+ended-large given log bench held budget i l l2 o n waits count most piece g none k over long room one =
     let f : length g.read + budget ≡ 16777216 = g.fits in
     let all : length (g.read ++ piece) ≡ length g.read + length piece = length-append g.read piece in
     let single : most ≤ 1 = one (omega (arith, over, room)) in
@@ -144,7 +144,7 @@ ended-large given log bench held budget i l l2 o n waits count most piece g none
       so = ended-so (Err TooLarge) given l2 (g.read ++ piece) waits g.wrote.text g.wrote.said.gone g.wrote.said.kept (inr front);
       large = (λ e. omega (arith, f, all, over, long), λ h. refl);
       most = omega (arith, f, all, over, long, room, single);
-      answered = λ x. subst (λ (v : List ℕ). AnswersWhole given v g.wrote.said.gone) (sym first) (whole-answered given g.inputs g.read held waits g.wrote.text g.wrote.said.gone g.wrote.said.kept none clean g.wrote.so);
+      answered = λ x. subst (λ (v : List ℕ). AnswersWhole given v g.wrote.said.gone) (sym first) (whole-answered given g.inputs g.read held waits g.wrote.text g.wrote.said.gone g.wrote.said.kept none (holds-clean g.read held g.holds) g.wrote.so);
     }
 
 never-read : (r : Result (Unit {0}) WriteError) → as_session r ≡ Err Read → ⊥

@@ -9,10 +9,10 @@ use Rattle.tsb_command_text.specs.declared.command.Command.{Command}
 use Rattle.tsb_command_text.specs.declared.command.Reading.{Reading}
 use Rattle.tsb_command_text.specs.declared.command.Reading.TheVariants.{Skip, Bad, Leave, Do}
 use Rattle.tsb_command_text.specs.Readings.{reading}
-use Rattle.tsb_lines.specs.Lines.{lines_of, without_return, HasNoFeed}
+use Rattle.tsb_lines.specs.Lines.{kept, lines_of, without_return, HasNoFeed}
 use Rattle.tsb_lines.proofs.LineLemmas.{lines-joined, lines-alone}
 use Rattle.tsb_log_text.specs.declared.log.LogRow.{LogRow}
-use Rattle.tsb_text.specs.declared.error.WriteError.{WriteError}
+use Rattle.tsb_streams.specs.declared.writes.WriteError.{WriteError}
 use Rattle.tsb_text.specs.declared.talk.Flow.{Flow}
 use Rattle.tsb_text.specs.declared.talk.Flow.TheVariants.{On, Over}
 use Rattle.tsb_text.specs.Answers.{Setup, Answers}
@@ -20,7 +20,7 @@ use Rattle.tsb_text.specs.Text.{Says, IsAnswered, IsText}
 use Rattle.tsb_text.specs.Ended.{Carries, IsWhole, IsBegun}
 use Rattle.tsb_text.specs.Talk.{Stands, Done, Obeyed, Went, Finished}
 use Rattle.tsb_text.specs.Written.{Said, Wrote, with_feed}
-use Rattle.tsb_text.proofs.TextLemmas.{some-answered, text-cut}
+use Rattle.tsb_text.proofs.TextLemmas.{some-answered, text-kept}
 use Rattle.tsb_text.proofs.WrittenLemmas.{said-nothing, said-more}
 use Rattle.tsb_streams.proofs.StreamLemmas.{front-more, front-rest}
 
@@ -110,19 +110,15 @@ went-line r given log is bench asked h line held a b p q f reads lines empty obe
     at (Ok Over) o = record { text = o.text; said = o.said; so = record { all = λ more. goes o.text more [] (o.so (lines_of more)) } }
     at (Err e) o = record { text = o.text; said = o.said; so = record { rest = λ more. ((o.so (lines_of more)).0, goes (o.text ++ (o.so (lines_of more)).0) more [] (o.so (lines_of more)).1) } }
 
-pub went-kept : (given : Setup) (log : List LogRow) (is : List Input) (bench : Whole) (bytes held : List ℕ) (a : Option (List ℕ)) (p : List ℕ) → held ≡ bytes → Stands given log bench is → Went (Ok On) given is bytes log bench held a a p p
-went-kept given log is bench bytes held a p same stands =
-    (is, stands, record { text = []; said = said-nothing a p; so = record { on = λ more text t. subst (λ (v : List ℕ). IsText given is (v ++ more) text) same t } })
-
-pub went-cut : (given : Setup) (log : List LogRow) (is : List Input) (bench : Whole) (h : List ℕ) (b : ℕ) (a : Option (List ℕ)) (p : List ℕ) → HasNoFeed h → 202 ≤ length h → (b ≡ 10 → ⊥) → Stands given log bench is
-    → Went (Ok On) given is (h ++ b ∷ []) log bench h a a p p
-went-cut given log is bench h b a p f long n stands = (
+pub went-kept : (given : Setup) (log : List LogRow) (is : List Input) (bench : Whole) (line held : List ℕ) (a : Option (List ℕ)) (p : List ℕ) → HasNoFeed line → held ≡ kept 202 line → Stands given log bench is
+    → Went (Ok On) given is line log bench held a a p p
+went-kept given log is bench line held a p f same stands = (
   is,
   stands,
   record {
     text = [];
     said = said-nothing a p;
-    so = record { on = λ more text t. subst (λ (v : List ℕ). IsText given is v text) (sym (append_assoc h (b ∷ []) more)) (text-cut given is h b more text f long n t) };
+    so = record { on = λ more text t. text-kept given is line more text f (subst (λ (v : List ℕ). IsText given is (v ++ more) text) same t) };
   },
 )
 

@@ -18,7 +18,9 @@ use Rattle.tsb_command_text.specs.declared.command.Command.TheVariants.{Step, Ba
 use Rattle.tsb_command_text.specs.declared.command.Reading.{Reading}
 use Rattle.tsb_command_text.specs.declared.command.Reading.TheVariants.{Skip, Bad, Leave, Do}
 use Rattle.tsb_command_text.specs.Readings.{reading}
-use Rattle.tsb_lines.specs.Lines.{lines_of, split, ended, onto_first, without_return, HasNoFeed}
+use Rattle.tsb_lines.specs.Lines.{lines_of, split, ended, kept, onto_first, without_return, HasNoFeed}
+use Rattle.tsb_lines.proofs.KeptLemmas.{feedless-kept, kept-tells}
+use Rattle.tsb_lines.proofs.LineLemmas.{length-return}
 use Rattle.tsb_text.specs.Answers.{Setup, Asked, Steps, Answers, next_tick}
 use Rattle.tsb_text.specs.Text.{Says, IsAnswered, IsText}
 use Rattle.tsb_step.proofs.RefusalLemmas.{refuses}
@@ -102,7 +104,7 @@ some-text given is bytes = some-answered given (lines_of bytes) is
 
 -- h before the first line
 onto_line : List ℕ → List (List ℕ) → List (List ℕ)
-onto_line h [] = h ∷ []
+onto_line h [] = (h ++ []) ∷ []
 onto_line h (l ∷ ls) = (h ++ l) ∷ ls
 
 onto-nothing : (b : ℕ) (ls : List (List ℕ)) → onto_first b ls ≡ onto_line [] (onto_first b ls)
@@ -124,38 +126,30 @@ split-front (b ∷ h) x f =
     let rest : split (h ++ x) ≡ onto_line h (split x) = split-front h x f.1 in
     elim (eqb_tells b 10) [ inl z ↦ absurd (f.0 z.1) | inr on ↦ rw (on.0, rest) (onto-cons b h (split x)) ]
 
-length-without : (raw : List ℕ) → length raw ≤ suc (length (without_return raw))
-length-without [] = omega arith
-length-without (b ∷ []) = elim (eqb b 13) as (λ t. 1 ≤ suc (length (cond t [] (b ∷ [])))) [ true ↦ omega arith | false ↦ omega arith ]
-length-without (b ∷ c ∷ bs) = let rest : length (c ∷ bs) ≤ suc (length (without_return (c ∷ bs))) = length-without (c ∷ bs) in omega (arith, rest)
-
 reading-long : (line : List ℕ) → 200 < length line → reading line ≡ Bad
 reading-long line long = let lt : nat_lt 200 (length line) ≡ true = search (rules, long) in rw lt refl
 
 pub reading-returned : (raw : List ℕ) → 202 ≤ length raw → reading (without_return raw) ≡ Bad
-reading-returned raw long = let more : length raw ≤ suc (length (without_return raw)) = length-without raw in reading-long (without_return raw) (omega (arith, more, long))
+reading-returned raw long = let more : length raw ≤ length (without_return raw) + 1 = length-return raw in reading-long (without_return raw) (omega (arith, more, long))
 
--- where the first of these lines is long, another long line in its place is answered so as well
-cut-lines : (given : Setup) (is : List Input) (l m : List ℕ) (ls : List (List ℕ)) (t : List ℕ) → 202 ≤ length l → 202 ≤ length m → IsAnswered given is (ended (l ∷ ls)) t → IsAnswered given is (ended (m ∷ ls)) t
-cut-lines given is l m [] t long too a =
-    let was : reading l ≡ Bad = reading-long l (omega (arith, long)) in
-    let now : reading m ≡ Bad = reading-long m (omega (arith, too)) in
-    subst (λ (r : Reading). Says given r is t (λ new rest. rest ≡ [])) (was ∙ sym now) a
-cut-lines given is l m (k ∷ ks) t long too a =
-    let was : reading (without_return l) ≡ Bad = reading-returned l long in
-    let now : reading (without_return m) ≡ Bad = reading-returned m too in
-    subst (λ (r : Reading). Says given r is t (λ new rest. IsAnswered given new (ended (k ∷ ks)) rest)) (was ∙ sym now) a
+-- what is kept of the first line is answered as the line is
+kept-first : (given : Setup) (is : List Input) (line l : List ℕ) (ls : List (List ℕ)) (t : List ℕ) → IsAnswered given is (ended ((kept 202 line ++ l) ∷ ls)) t → IsAnswered given is (ended ((line ++ l) ∷ ls)) t
+kept-first given is line l [] t a =
+    let same : reading (kept 202 line ++ l) ≡ reading (line ++ l) =
+    kept-tells (λ (v : List ℕ). reading (v ++ l)) 202 Bad (λ v long. let all : length (v ++ l) ≡ length v + length l = length-append v l in reading-long (v ++ l) (omega (arith, all, long))) line in
+    subst (λ (r : Reading). Says given r is t (λ new rest. rest ≡ [])) same a
+kept-first given is line l (k ∷ ks) t a =
+    let same : reading (without_return (kept 202 line ++ l)) ≡ reading (without_return (line ++ l)) =
+    kept-tells (λ (v : List ℕ). reading (without_return (v ++ l))) 202 Bad (λ v long. let all : length (v ++ l) ≡ length v + length l = length-append v l in reading-returned (v ++ l) (omega (arith, all, long))) line in
+    subst (λ (r : Reading). Says given r is t (λ new rest. IsAnswered given new (ended (k ∷ ks)) rest)) same a
 
-cut-first : (given : Setup) (is : List Input) (h : List ℕ) (b : ℕ) (ls : List (List ℕ)) (t : List ℕ) → 202 ≤ length h → IsAnswered given is (ended (onto_line h ls)) t → IsAnswered given is (ended (onto_line h (onto_first b ls))) t
+-- where bytes begin with a line, what is kept of it serves
+pub text-kept : (given : Setup) (is : List Input) (line more t : List ℕ) → HasNoFeed line → IsText given is (kept 202 line ++ more) t → IsText given is (line ++ more) t
 unfolding onto_line
-cut-first given is h b [] t long a = cut-lines given is h (h ++ b ∷ []) [] t long (let e : length (h ++ b ∷ []) ≡ length h + 1 = length-append h (b ∷ []) in omega (arith, e, long)) a
-cut-first given is h b (l ∷ ls) t long a =
-    cut-lines given is (h ++ l) (h ++ b ∷ l) ls t
-    (let e : length (h ++ l) ≡ length h + length l = length-append h l in omega (arith, e, long))
-    (let e : length (h ++ b ∷ l) ≡ length h + suc (length l) = length-append h (b ∷ l) in omega (arith, e, long)) a
-
-pub text-cut : (given : Setup) (is : List Input) (h : List ℕ) (b : ℕ) (more t : List ℕ) → HasNoFeed h → 202 ≤ length h → (b ≡ 10 → ⊥) → IsText given is (h ++ more) t → IsText given is (h ++ b ∷ more) t
-text-cut given is h b more t f long n x =
-    let front : IsAnswered given is (ended (onto_line h (split more))) t = subst (λ (ls : List (List ℕ)). IsAnswered given is (ended ls) t) (split-front h more f) x in
-    let next : split (b ∷ more) ≡ onto_first b (split more) = elim (eqb_tells b 10) [ inl z ↦ absurd (n z.1) | inr on ↦ rw on.0 refl ] in
-    subst (λ (ls : List (List ℕ)). IsAnswered given is (ended ls) t) (sym (split-front h (b ∷ more) f ∙ ap (onto_line h) next)) (cut-first given is h b (split more) t long front)
+text-kept given is line more t f x =
+    subst (λ (ls : List (List ℕ)). IsAnswered given is (ended ls) t) (sym (split-front line more f))
+    (at (split more) (subst (λ (ls : List (List ℕ)). IsAnswered given is (ended ls) t) (split-front (kept 202 line) more (feedless-kept 202 line f)) x))
+  where
+    at : (ls : List (List ℕ)) → IsAnswered given is (ended (onto_line (kept 202 line) ls)) t → IsAnswered given is (ended (onto_line line ls)) t
+    at [] a = kept-first given is line [] [] t a
+    at (l ∷ ls) a = kept-first given is line l ls t a

@@ -1,16 +1,17 @@
 -- How far a session has come with the bytes that it has read: what its own calls tell one another.
-use Rattle.std.specs.Prelude.{◌≡◌, ◌+◌, ℕ, List, [], ◌++◌, length, take, Option, Result, Ok, Err}
+use Rattle.std.specs.Prelude.{◌≡◌, ◌+◌, ℕ, List, [], ◌++◌, length, Option, Result, Ok, Err}
 use Rattle.std.specs.Io.KnownBytes.{Consumes}
 use Rattle.tsb_step.specs.declared.inputs.Input.{Input}
 use Rattle.tsb_step.specs.Past.{Whole}
 use Rattle.tsb_step.specs.Play.{Follows}
 use Rattle.tsb_command_text.specs.declared.command.Reading.{Reading}
 use Rattle.tsb_command_text.specs.Readings.{reading}
-use Rattle.tsb_lines.specs.Lines.{HasNoFeed}
+use Rattle.tsb_lines.specs.Lines.{HasNoFeed, kept}
 use Rattle.tsb_log_text.specs.declared.log.LogRow.{LogRow}
 use Rattle.tsb_text.specs.declared.error.SessionError.{SessionError}
 use Rattle.tsb_text.specs.declared.error.SessionError.TheVariants.{Write}
-use Rattle.tsb_text.specs.declared.error.WriteError.{WriteError}
+use Rattle.tsb_streams.specs.declared.writes.WriteError.{WriteError}
+use Rattle.tsb_text.specs.declared.talk.TheConstants.{KEPT}
 use Rattle.tsb_text.specs.declared.talk.Flow.{Flow}
 use Rattle.tsb_text.specs.declared.talk.Flow.TheVariants.{On, Over}
 use Rattle.tsb_text.specs.Answers.{Setup, Steps}
@@ -66,14 +67,14 @@ Obeyed (Err e) given inputs reading log bench old new waited waits =
 
 -- ## Which bytes are held
 
--- of the line that no line feed has ended yet the first bytes are held, enough to tell that it is too long
+-- of the line that no line feed has ended yet as many bytes are kept as tell that it is too long
 pub record Holds (bytes held : List ℕ) : Type 0 where
   pub done : List ℕ
   pub rest : List ℕ
   pub whole : bytes ≡ done ++ rest
   pub ended : EndsLine done
   pub unfinished : HasNoFeed rest
-  pub kept : held ≡ take 202 rest
+  pub kept : held ≡ kept KEPT rest
 
 -- after bytes were taken: the session goes on with those held, or a line was `quit`
 abbrev pub HeldAfter : Result Flow WriteError → List ℕ → List ℕ → Type 0

@@ -1,6 +1,7 @@
 //! What ends a session before its commands do.
 
 use thiserror::Error;
+pub(crate) use tsb_streams::WriteError;
 
 /// What ends a session before its commands do. What was written until then is a prefix of the session's text.
 #[derive(Clone, Copy, Debug, PartialEq, Eq, Error)]
@@ -19,7 +20,3 @@ pub enum SessionError {
     #[error("commands: too large")]
     TooLarge,
 }
-
-/// A write failed, was interrupted or took no byte, or the writer did not pass on what it had taken.
-#[derive(Clone, Copy, PartialEq, Eq)]
-pub(crate) struct WriteError;

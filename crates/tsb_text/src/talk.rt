@@ -3,7 +3,6 @@
 ghost use Rattle.std.specs.Prelude.{◌≡◌, ◌∷◌, [], ◌++◌, ℕ, List, Err, Ok, OnErr, OnOk, true};
 ghost use Rattle.std.specs.Io.{ReadsAtMost};
 ghost use Rattle.std.specs.Io.KnownBytes.{ReadConsumes};
-ghost use Rattle.tsb_lines.specs.Lines.{HasNoFeed};
 ghost use Rattle.tsb_objects.specs.Checked.{checked_plan};
 ghost use Rattle.tsb_step.specs.declared.inputs.Input.{Input};
 ghost use Rattle.tsb_bench.specs.Held.{whole};
@@ -18,12 +17,11 @@ ghost use Rattle.tsb_text.specs.Written.{Said, Wrote};
 use crate::answers::obey;
 use crate::error::{SessionError, WriteError};
 use crate::pending::Pending;
-use arrayvec::ArrayVec;
 use std::alloc::Global;
 use std::io::{self, Read, Write};
 use tsb_bench::Bench;
 use tsb_command_text::{LINE, Reading, reading_of};
-use tsb_lines::without_return;
+use tsb_lines::KeptLine;
 use tsb_log_text::Log;
 use tsb_objects::Checked;
 
@@ -43,12 +41,12 @@ pub(crate) enum Flow {
     Over,
 }
 
-/// A session between two bytes: its bench, and the bytes of the line that is not whole yet, of a long one the first.
+/// A session between two bytes: its bench, and what is kept of the line that is not whole yet.
 #[derive(Drop)]
 struct Talk {
     bench: Bench,
     place: usize,
-    held: ArrayVec<u8, KEPT>,
+    line: KeptLine<KEPT>,
     pending: Pending,
 }
 
@@ -62,7 +60,7 @@ impl Talk {
     ) -> Result<Flow, WriteError>
         ensures obeyed { (given : Setup) (inputs : List Input) → Stands given log.now (whole self.old.bench) inputs
             → Obeyed result given inputs asked log.now (whole self.new.bench) (W.contents writer.old) (W.contents writer.new) self.old.pending.waits self.new.pending.waits }
-        ensures held { self.new.held ≡ self.old.held }
+        ensures held { self.new.line ≡ self.old.line }
         ensures blame { OnErr result (self.new.pending.watch.failed ≡ true) }
         ensures over { result ≡ Ok Over → asked ≡ Leave }
     {
@@ -89,21 +87,17 @@ impl Talk {
 
     /// Takes one byte more.
     fn feed<W: Write>(&mut self, log: &Log, byte: u8, writer: &mut W) -> Result<Flow, WriteError>
-        requires { HasNoFeed self.old.held.items }
         ensures went { (given : Setup) (inputs : List Input) → Stands given log.now (whole self.old.bench) inputs
-            → Went result given inputs (self.old.held.items ++ byte ∷ []) log.now (whole self.new.bench) self.new.held.items (W.contents writer.old) (W.contents writer.new) self.old.pending.waits self.new.pending.waits }
-        ensures clean { HasNoFeed self.new.held.items }
+            → Went result given inputs (self.old.line ++ byte ∷ []) log.now (whole self.new.bench) self.new.line (W.contents writer.old) (W.contents writer.new) self.old.pending.waits self.new.pending.waits }
         ensures blame { OnErr result (self.new.pending.watch.failed ≡ true) }
-        ensures holds { (bytes : List ℕ) → Holds bytes self.old.held.items → HeldAfter result (bytes ++ byte ∷ []) self.new.held.items }
+        ensures holds { (bytes : List ℕ) → Holds bytes self.old.line → HeldAfter result (bytes ++ byte ∷ []) self.new.line }
     {
         if byte == b'\n' {
-            let asked = reading_of(without_return(&self.held));
-            self.held.clear();
+            let asked = reading_of(self.line.ended());
+            self.line.clear();
             return self.answer(log, asked, writer);
         }
-        if !self.held.is_full() {
-            self.held.push(byte);
-        }
+        self.line.push(byte);
         Ok(Flow::On)
     }
 
@@ -114,12 +108,10 @@ impl Talk {
         bytes: &[u8],
         writer: &mut W,
     ) -> Result<Flow, WriteError>
-        requires { HasNoFeed self.old.held.items }
         ensures went { (given : Setup) (inputs : List Input) → Stands given log.now (whole self.old.bench) inputs
-            → Went result given inputs (self.old.held.items ++ bytes.now) log.now (whole self.new.bench) self.new.held.items (W.contents writer.old) (W.contents writer.new) self.old.pending.waits self.new.pending.waits }
-        ensures clean { HasNoFeed self.new.held.items }
+            → Went result given inputs (self.old.line ++ bytes.now) log.now (whole self.new.bench) self.new.line (W.contents writer.old) (W.contents writer.new) self.old.pending.waits self.new.pending.waits }
         ensures blame { OnErr result (self.new.pending.watch.failed ≡ true) }
-        ensures holds { (before : List ℕ) → Holds before self.old.held.items → HeldAfter result (before ++ bytes.now) self.new.held.items }
+        ensures holds { (before : List ℕ) → Holds before self.old.line → HeldAfter result (before ++ bytes.now) self.new.line }
     {
         for byte in bytes {
             match self.feed(log, *byte, writer)? {
@@ -132,12 +124,11 @@ impl Talk {
 
     /// Answers what stands behind the last line feed, at the end of the input, and writes all that waits.
     fn finish<W: Write>(&mut self, log: &Log, writer: &mut W) -> Result<(), WriteError>
-        requires { HasNoFeed self.old.held.items }
         ensures finished { (given : Setup) (inputs : List Input) → Stands given log.now (whole self.old.bench) inputs
-            → Wrote (W.contents writer.old) (W.contents writer.new) self.old.pending.waits self.new.pending.waits (Finished result given inputs self.old.held.items self.new.pending.waits) }
+            → Wrote (W.contents writer.old) (W.contents writer.new) self.old.pending.waits self.new.pending.waits (Finished result given inputs self.old.line self.new.pending.waits) }
         ensures blame { OnErr result (self.new.pending.watch.failed ≡ true) }
     {
-        let asked = reading_of(&self.held);
+        let asked = reading_of(self.line.last());
         let _ = self.answer(log, asked, writer)?;
         self.send(writer)
     }
@@ -148,7 +139,7 @@ impl Talk {
         ensures ok { OnOk result (self.new.pending.waits ≡ []) }
         ensures flushed { OnOk result (self.new.pending.watch.flushed ≡ true) }
         ensures blame { OnErr result (self.new.pending.watch.failed ≡ true) }
-        ensures rest { (self.new.bench ≡ self.old.bench) × (self.new.held ≡ self.old.held) }
+        ensures rest { (self.new.bench ≡ self.old.bench) × (self.new.line ≡ self.old.line) }
     {
         self.pending.send(writer)
     }
@@ -160,7 +151,7 @@ impl Talk {
         reader: &mut R,
         writer: &mut W,
     ) -> Result<(), SessionError>
-        requires held { self.old.held.items ≡ [] }
+        requires held { self.old.line ≡ [] }
         requires waits { self.old.pending.waits ≡ [] }
         requires flushed { self.old.pending.watch.flushed ≡ true }
         ensures ended { (given : Setup) → Stands given log.now (whole self.old.bench) []
@@ -242,7 +233,7 @@ pub fn session<R: Read, W: Write>(
     let mut talk = Talk {
         bench,
         place: 0,
-        held: ArrayVec::new(),
+        line: KeptLine::new(),
         pending: Pending::new(),
     };
     talk.run(log, reader, writer)
