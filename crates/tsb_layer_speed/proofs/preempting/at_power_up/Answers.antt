@@ -1,4 +1,0 @@
-use Rattle.tsb_layer_speed.proofs.preempting.at_power_up.Goals as goal
-
-pub returns-clause-by : goal.returns-clause-by
-returns-clause-by c = c.new.ensures.by 0
