@@ -50,6 +50,7 @@ impl Driven for Calling {
 
 impl Ticked for Calling {
     type Given = Given;
+
     type Answer = Called;
 
     fn read(numbers: &mut Numbers) -> Result<Given, Fault> {

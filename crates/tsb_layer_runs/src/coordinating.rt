@@ -97,6 +97,7 @@ impl Driven for Coordinating {
 
 impl Ticked for Coordinating {
     type Given = Given;
+
     type Answer = bool;
 
     fn read(numbers: &mut Numbers) -> Result<Given, Fault> {

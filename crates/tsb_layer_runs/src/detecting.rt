@@ -52,6 +52,7 @@ impl Driven for Detecting {
 
 impl Ticked for Detecting {
     type Given = Given;
+
     type Answer = ();
 
     fn read(numbers: &mut Numbers) -> Result<Given, Fault> {

@@ -19,11 +19,7 @@ pub enum Fault {
 
 /// Passes where what a layer answers is the same as the line says.
 pub fn same(is_same: bool) -> Result<(), Fault> {
-    if is_same {
-        Ok(())
-    } else {
-        Err(Fault::Differs)
-    }
+    if is_same { Ok(()) } else { Err(Fault::Differs) }
 }
 
 impl From<AllocError> for Fault {

@@ -97,6 +97,7 @@ impl Driven for Heading {
 
 impl Ticked for Heading {
     type Given = Given;
+
     type Answer = bool;
 
     fn read(numbers: &mut Numbers) -> Result<Given, Fault> {

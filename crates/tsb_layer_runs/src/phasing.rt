@@ -11,9 +11,7 @@ use crate::numbers::Numbers;
 use crate::timed::ticks_before;
 use std::alloc::Global;
 use tsb_cells::Reversible;
-use tsb_objects::{
-    Called, Checked, Interval, Orders, Pattern, Phase, PhaseSet, Preempt, Timing,
-};
+use tsb_objects::{Called, Checked, Interval, Orders, Pattern, Phase, PhaseSet, Preempt, Timing};
 use tsb_phase::laws::rows_stay_by;
 use tsb_phase::{Conditions, Phases};
 use tsb_types::limits;
@@ -99,6 +97,7 @@ impl Driven for Phasing {
 
 impl Ticked for Phasing {
     type Given = Given;
+
     type Answer = Timing;
 
     fn read(numbers: &mut Numbers) -> Result<Given, Fault> {
@@ -129,8 +128,22 @@ impl Ticked for Phasing {
         self.layer.open();
         let conditions = given.conditions();
         let timing = self.layer.tick(now, &conditions, plan);
-        carried_out(&mut self.layer, now, &given.first, &timing, &conditions, plan);
-        carried_out(&mut self.layer, now, &given.second, &timing, &conditions, plan);
+        carried_out(
+            &mut self.layer,
+            now,
+            &given.first,
+            &timing,
+            &conditions,
+            plan,
+        );
+        carried_out(
+            &mut self.layer,
+            now,
+            &given.second,
+            &timing,
+            &conditions,
+            plan,
+        );
         self.layer.close_onto(out, 0);
         self.now = now;
         Ok(timing)

@@ -70,6 +70,7 @@ impl Driven for Preempting {
 
 impl Ticked for Preempting {
     type Given = Given;
+
     type Answer = PreemptOrders;
 
     fn read(numbers: &mut Numbers) -> Result<Given, Fault> {

@@ -40,6 +40,7 @@ impl Driven for Ringing {
 
 impl Ticked for Ringing {
     type Given = Conditions;
+
     type Answer = Moves;
 
     fn read(numbers: &mut Numbers) -> Result<Conditions, Fault> {

@@ -1,20 +1,20 @@
 //! Answers to cases.
 
-use crate::case::Run;
+use crate::case::{Case, Run};
 use crate::ticks::write_rows;
 use anyhow::Result;
 use std::alloc::Global;
 use std::io::Write;
 use tsb_text::{read_log, read_plan, session};
 
-/// Writes the answer to what is given. To a plan text it is its first fault, or `plan ok`; to a log its first fault, or
-/// a line for each tick that is asked for; to a session the first fault of its plan or else of its log, or else its
-/// text.
-pub fn answer<W: Write>(alloc: Global, given: Run, output: &mut W) -> Result<()> {
-    match given {
+/// Writes the answer to a case. To a plan text it is its first fault, or `plan ok`; to a log its first fault, or a line
+/// for each tick that is asked for; to a session the first fault of its plan or else of its log, or else its text.
+pub fn answer<W: Write>(alloc: Global, case: &Case, output: &mut W) -> Result<()> {
+    match case.given {
         Run::Plan(text) => judge(alloc, text, output),
-        Run::Log(text, ticks) => tell_rows(alloc, text, ticks, output),
+        Run::Log(text) => tell_rows(alloc, text, case.left, output),
         Run::Session(plan, log, commands) => talk(alloc, plan, log, commands, output),
+        Run::Told(plan, log, commands, _) => talk(alloc, plan, log, commands, output),
     }
 }
 

@@ -1,6 +1,7 @@
 //! Lines that are counted and bytes that are summed as they are written.
 
 use std::io::{self, Write};
+use tsb_lines::{next_word, number};
 
 /// How many lines were written, and the 32-bit FNV-1a of their bytes. No byte is kept.
 #[derive(Clone, Copy, PartialEq, Eq)]
@@ -18,9 +19,17 @@ impl Digest {
         }
     }
 
-    /// So many lines, with this sum.
-    pub fn of(lines: u32, sum: u32) -> Digest {
-        Digest { lines, sum }
+    /// The digest that two words tell, how many lines and their sum.
+    pub fn read(words: &[u8]) -> Option<Digest> {
+        let (lines, words) = next_word(words)?;
+        let (sum, words) = next_word(words)?;
+        if next_word(words).is_some() {
+            return None;
+        }
+        Some(Digest {
+            lines: number(lines)?,
+            sum: number(sum)?,
+        })
     }
 
     fn add(&mut self, byte: u8) {

@@ -1,12 +1,13 @@
 //! The sessions of a file.
 
-use crate::case::read_case;
-use crate::error::FileError;
-use crate::talk::is_as_expected;
+use crate::answer::answer;
+use crate::case::{Case, Run};
+use crate::cases::next_case;
+use crate::digest::Digest;
+use crate::error::CaseError;
 use anyhow::Result;
 use std::alloc::Global;
 use std::io::{self, Write};
-use tsb_lines::{is_skipped, next_line};
 
 /// How many sessions that differ are named.
 const NAMED: u32 = 10;
@@ -26,24 +27,30 @@ pub fn run<W: Write>(alloc: Global, file: &str, text: &[u8], output: &mut W) -> 
         differ: 0,
     };
     let mut rest = text;
-    // A line that is skipped has at least its line feed, and a session has more.
-    for _line in 0..=text.len() {
-        let (line, behind) = next_line(rest);
-        if is_skipped(line) {
-            let Some(behind) = behind else {
-                break;
-            };
-            rest = behind;
-        } else {
-            let behind = behind.ok_or(FileError::Malformed)?;
-            let (case, behind) = read_case(line, behind).ok_or(FileError::Malformed)?;
-            let is_right = is_as_expected(alloc, &case)?;
-            tally.count(file, case.name, is_right, output)?;
-            rest = behind;
-        }
+    // A case has at least one byte.
+    for _case in 0..=text.len() {
+        let Some((case, behind)) = next_case(rest)? else {
+            break;
+        };
+        let is_right = is_as_expected(alloc, &case)?;
+        tally.count(file, case.name, is_right, output)?;
+        rest = behind;
     }
     tally.tell(file, output)?;
     Ok(())
+}
+
+/// Whether a session writes its answers, or as many lines with the sum that its head tells.
+fn is_as_expected(alloc: Global, case: &Case) -> Result<bool> {
+    if let Run::Told(_, _, _, answers) = case.given {
+        let mut written = Vec::new(alloc);
+        answer(alloc, case, &mut written)?;
+        return Ok(written.as_slice() == answers);
+    }
+    let expected = Digest::read(case.left).ok_or(CaseError::Malformed)?;
+    let mut written = Digest::new();
+    answer(alloc, case, &mut written)?;
+    Ok(written == expected)
 }
 
 impl Tally {

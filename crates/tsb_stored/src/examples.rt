@@ -1,7 +1,7 @@
 //! The examples: what each writes, beside what it is to write.
 
 use crate::answer::answer;
-use crate::case::Run;
+use crate::case::{Case, Run};
 use anyhow::{Context, Result};
 use std::fs;
 use std::io::Write;
@@ -32,11 +32,20 @@ fn run_example<R: Files + AllocGlobal, W: Write>(rt: &R, line: &str, output: &mu
         let log = read(rt, log, "")?;
         let commands = read(rt, name, ".commands")?;
         let given = Run::Session(&plan, &log, &commands);
-        answer(rt.alloc(), given, &mut written)?;
+        answer(rt.alloc(), &case(name, given), &mut written)?;
     } else {
-        answer(rt.alloc(), Run::Plan(&plan), &mut written)?;
+        answer(rt.alloc(), &case(name, Run::Plan(&plan)), &mut written)?;
     }
     compare(name, &written, &expected, output)
+}
+
+/// An example as a case.
+fn case<'a>(name: &'a str, given: Run<'a>) -> Case<'a> {
+    Case {
+        name: name.as_bytes(),
+        given,
+        left: &[],
+    }
 }
 
 /// The bytes of a file among the examples.

@@ -1,7 +1,7 @@
 //! The cases of a file.
 ghost use Rattle.std.specs.Prelude.{◌≡◌, [], List, ℕ, IfOk, IfSome, MatchOption};
 ghost use Rattle.tsb_lines.specs.Lines.{lines_of};
-ghost use Rattle.tsb_cases.specs.Cases.{IsCase, IsFirst, IsGiven, IsNext, headed};
+ghost use Rattle.tsb_stored.specs.Cases.{IsCase, IsFirst, IsGiven, IsNext, headed};
 
 use crate::answer::answer;
 use crate::case::{Case, Run};
@@ -23,7 +23,7 @@ pub fn run<W: Write>(alloc: Global, text: &[u8], output: &mut W) -> Result<()> {
         output.write_all(b"== ")?;
         output.write_all(case.name)?;
         output.write_all(b"\n")?;
-        answer(alloc, case.given, output)?;
+        answer(alloc, &case, output)?;
         rest = behind;
     }
     Ok(())
@@ -31,9 +31,9 @@ pub fn run<W: Write>(alloc: Global, text: &[u8], output: &mut W) -> Result<()> {
 
 /// The first case of a text and what stands behind it, or `None` where there is no further case. Blank lines and lines
 /// that begin with `#` are skipped before a case.
-fn next_case(text: &[u8]) -> Result<Option<(Case, &[u8])>, CaseError>
+pub fn next_case(text: &[u8]) -> Result<Option<(Case, &[u8])>, CaseError>
     ensures { IfOk result (λ found. MatchOption found (headed (lines_of text.now) ≡ [])
-        (λ first. IsFirst first.0.given first.0.name.now text.now first.1.now)) }
+        (λ first. IsFirst first.0.given first.0.name.now first.0.left.now text.now first.1.now)) }
 {
     let mut rest = text;
     loop {
@@ -49,35 +49,45 @@ fn next_case(text: &[u8]) -> Result<Option<(Case, &[u8])>, CaseError>
     }
 }
 
-/// The case with this head, and what stands behind its pieces. A head is the kind, the name and the length of each
-/// piece; of a log also the ticks that are asked for.
+/// The case with this head, and what stands behind its pieces. A head is the kind, the name, the length of each piece,
+/// and the words that are left.
 fn read_case<'a>(head: &'a [u8], text: &'a [u8]) -> Option<(Case<'a>, &'a [u8])>
-    ensures { IfSome result (λ found. IsCase found.0.given found.0.name.now head.now text.now found.1.now) }
+    ensures { IfSome result (λ found. IsCase found.0.given found.0.name.now found.0.left.now head.now text.now found.1.now) }
 {
     let (kind, words) = next_word(head)?;
     let (name, words) = next_word(words)?;
-    let (given, rest) = read_given(kind, words, text)?;
-    Some((Case { name, given }, rest))
+    let (given, left, rest) = read_given(kind, words, text)?;
+    Some((Case { name, given, left }, rest))
 }
 
-fn read_given<'a>(kind: &[u8], words: &'a [u8], text: &'a [u8]) -> Option<(Run<'a>, &'a [u8])>
-    ensures { IfSome result (λ found. IsGiven found.0 kind.now words.now text.now found.1.now) }
+/// What is run, told by the kind and these words, the words that are left, and what stands behind the pieces.
+fn read_given<'a>(
+    kind: &[u8],
+    words: &'a [u8],
+    text: &'a [u8],
+) -> Option<(Run<'a>, &'a [u8], &'a [u8])>
+    ensures { IfSome result (λ found. IsGiven found.0 kind.now words.now text.now found.1.now found.2.now) }
 {
     if kind == b"plan".as_slice() {
-        let (plan, _, rest) = read_piece(words, text)?;
-        return Some((Run::Plan(plan), rest));
+        let (plan, left, rest) = read_piece(words, text)?;
+        return Some((Run::Plan(plan), left, rest));
     }
     if kind == b"log".as_slice() {
-        let (log, ticks, rest) = read_piece(words, text)?;
-        return Some((Run::Log(log, ticks), rest));
+        let (log, left, rest) = read_piece(words, text)?;
+        return Some((Run::Log(log), left, rest));
     }
-    if kind == b"session".as_slice() {
-        let (plan, words, rest) = read_piece(words, text)?;
-        let (log, words, rest) = read_piece(words, rest)?;
-        let (commands, _, rest) = read_piece(words, rest)?;
-        return Some((Run::Session(plan, log, commands), rest));
+    let is_told = kind == b"told".as_slice();
+    if !is_told && kind != b"session".as_slice() {
+        return None;
     }
-    None
+    let (plan, words, rest) = read_piece(words, text)?;
+    let (log, words, rest) = read_piece(words, rest)?;
+    let (commands, left, rest) = read_piece(words, rest)?;
+    if !is_told {
+        return Some((Run::Session(plan, log, commands), left, rest));
+    }
+    let (answers, left, rest) = read_piece(left, rest)?;
+    Some((Run::Told(plan, log, commands, answers), left, rest))
 }
 
 /// The piece whose length is the first of these words, the words behind it, and the text behind the piece.

@@ -7,6 +7,9 @@ pub struct Case<'a> {
     pub name: &'a [u8],
     /// What is run.
     pub given: Run<'a>,
+    /// The words of its head after the lengths of its pieces: of a log the ticks whose rows are asked for, of a session
+    /// how many lines it writes and their sum, where they stand.
+    pub left: &'a [u8],
 }
 
 /// What is run.
@@ -14,8 +17,10 @@ pub struct Case<'a> {
 pub enum Run<'a> {
     /// A plan text, to be judged.
     Plan(&'a [u8]),
-    /// A log, and the ticks whose rows are asked for, as words of a line.
-    Log(&'a [u8], &'a [u8]),
+    /// A log.
+    Log(&'a [u8]),
     /// A session: a plan text, a log and commands.
     Session(&'a [u8], &'a [u8], &'a [u8]),
+    /// A session with its answers: a plan text, a log, commands and the answers.
+    Told(&'a [u8], &'a [u8], &'a [u8], &'a [u8]),
 }

@@ -1,7 +1,7 @@
 use Rattle.std.proofs.Common.{◌≡◌, length}
 use Rattle.tsb_lines.specs.Lines.{lines_of}
-use Rattle.tsb_cases.specs.Cases.{headed}
-use Rattle.tsb_cases.proofs.cases.next_case.Given as goal
+use Rattle.tsb_stored.specs.Cases.{headed}
+use Rattle.tsb_stored.proofs.cases.next_case.Given as goal
 
 abbrev pub invariant-loop-behind : goal.invariant-loop-behind
 invariant-loop-behind l = record {

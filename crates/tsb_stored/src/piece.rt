@@ -1,6 +1,6 @@
 //! Pieces of a text whose length is known.
 ghost use Rattle.std.specs.Prelude.{◌≡◌, List, ℕ, MatchOption};
-ghost use Rattle.tsb_cases.specs.Pieces.{IsSplit};
+ghost use Rattle.tsb_stored.specs.Pieces.{IsSplit};
 
 /// The piece of so many bytes that a text begins with, and what stands behind the line feed that ends it. `None` where
 /// the text has no such piece. The piece itself may have any bytes.
