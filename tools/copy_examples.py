@@ -1,16 +1,16 @@
 #!/usr/bin/env python3
-"""Gives tsb_cases its copy of the examples, and the lines that it is to write of them; run it at the top.
+"""Gives tsb_stored its copy of the examples, and the lines that it is to write of them; run it at the top.
 
-`examples/` is the source: its files go to `crates/tsb_cases/data/examples`, byte for byte, and for each line of
-`list.txt` the last lines of `crates/tsb_cases/stdout` tell that the example answers as expected. The test command
-compares the two folders, and tsb_cases what it writes with its `stdout`.
+`examples/` is the source: its files go to `crates/tsb_stored/data/examples`, byte for byte, and for each line of
+`list.txt` the last lines of `crates/tsb_stored/stdout` tell that the example answers as expected. The test command
+compares the two folders, and tsb_stored what it writes with its `stdout`.
 """
 import pathlib
 import shutil
 
 EXAMPLES = pathlib.Path("examples")
-COPY = pathlib.Path("crates/tsb_cases/data/examples")
-STDOUT = pathlib.Path("crates/tsb_cases/stdout")
+COPY = pathlib.Path("crates/tsb_stored/data/examples")
+STDOUT = pathlib.Path("crates/tsb_stored/stdout")
 
 # What stays where it is: of the repository's folder alone.
 OWN = shutil.ignore_patterns("README.md", ".gitattributes")
