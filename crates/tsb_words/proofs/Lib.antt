@@ -1,10 +1,18 @@
+-- what `clap` makes of words
+pub mod WordLemmas
 -- words that are flags, and words that are none
 pub mod FlagLemmas
 -- one level of a parse, a word at a time
 pub mod LevelLemmas
--- the two subcommands, whatever words stand behind their names
+-- the two subcommands of `tsb`, whatever words stand behind their names
 pub mod FileLemmas
--- all words of the program
+-- all words of `tsb`
 pub mod ProgramLemmas
 -- what is made of what was met
 pub mod MetLemmas
+-- what options of `tsb_field` say, by what the getters answer
+pub mod OptionLemmas
+-- words and the wires that they spell
+pub mod WireLemmas
+-- words that are computed
+mod Examples

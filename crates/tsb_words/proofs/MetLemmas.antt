@@ -9,8 +9,8 @@ use Rattle.clap.specs.declared.parser.matches.Found.{Found}
 use Rattle.clap.specs.declared.parser.matches.SubCommand.{SubCommand}
 use Rattle.clap.proofs.WalkLemmas.{first_value-rows}
 use Rattle.std.specs.Box.{box_value}
-use Rattle.tsb_words.specs.Program.{asked_by, asked_for}
-use Rattle.tsb_words.specs.Words.{Wish, check, run}
+use Rattle.tsb_words.specs.BenchProgram.{asked_by, asked_for}
+use Rattle.tsb_words.specs.BenchWords.{Wish, check, run}
 
 names-met : {Z : Type 0} (o : Option (Box SubCommand Z))
     → option_map (λ (b : Box SubCommand Z). (out-SubCommand (box_value b)).name.now) o ≡ option_map (λ (p : Text × List Row). p.0) (subcommand_rows o)

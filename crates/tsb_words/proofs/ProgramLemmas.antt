@@ -1,20 +1,16 @@
--- What the program makes of all its words.
-use Rattle.std.proofs.Common.{◌≡◌, ◌∙◌, Bool, true, false, cond, ◌||◌, List, [], ◌∷◌, ◌++◌, Option, Some, None, option_map, is_some, if◌then◌else◌, refl, sym, ap, ap₂, subst, subst₂, inl, inr, codes, bytes_eq, fold, append_assoc, drop, Result, Err}
+-- What `tsb` makes of all its words.
+use Rattle.std.proofs.Common.{◌≡◌, ◌∙◌, Bool, true, false, cond, ◌||◌, List, [], ◌∷◌, ◌++◌, Option, Some, None, option_map, is_some, if◌then◌else◌, refl, sym, ap, ap₂, subst, subst₂, inl, inr, codes, bytes_eq, fold, append_assoc, drop, option_and_then}
 use Rattle.std.proofs.lemmas.List.{append-nil}
 use Rattle.std.proofs.lemmas.Slice.Eq.{bytes_eq-Decides}
 use Rattle.clap.specs.Walk.{Held, Names, Row, Rule, Step, Text, Walk, finished, has_long, has_short, idle, nothing_held, settled, stop_after, subcommand_met, subcommand_or_other, walk, walk_from, walked}
-use Rattle.clap.specs.Simple.{App, Shape, built, entered, is_simple, names_of, subcommand_of}
+use Rattle.clap.specs.Simple.{App, Shape, built, entered, names_of, subcommand_of}
 use Rattle.clap.specs.Faults.{built_fault, check_fault, defaults_fault, entered_fault, fault_of, is_simple_and_free, other_fault, settle_fault, step_fault, walk_fault}
-use Rattle.clap.specs.Kinds.{HasKind, IsAmong, Kinds, or_else}
-use Rattle.clap.specs.Values.{kind_of}
-use Rattle.clap.specs.declared.error.Error.{Error}
-use Rattle.clap.specs.declared.error.kind.ErrorKind.{ErrorKind}
-use Rattle.clap.specs.declared.error.kind.ErrorKind.TheVariants.{DisplayHelp, InvalidSubcommand, OutOfMemory, UnknownArgument}
+use Rattle.clap.specs.Kinds.{Kinds, or_else}
+use Rattle.clap.specs.declared.error.kind.ErrorKind.TheVariants.{DisplayHelp, InvalidSubcommand, UnknownArgument}
 use Rattle.clap.proofs.OnLiterals.{clap_on_literals}
-use Rattle.tsb_words.specs.declared.Asked.{Asked}
-use Rattle.tsb_words.specs.declared.WordsError.{WordsError}
-use Rattle.tsb_words.specs.Program.{asked_by, program, words_fault}
-use Rattle.tsb_words.specs.Words.{SpelledBy, Wish, built_in_of, check_of, files, run_of, wish_of}
+use Rattle.tsb_words.specs.Words.{met_by, met_where}
+use Rattle.tsb_words.specs.BenchProgram.{asked_by, program}
+use Rattle.tsb_words.specs.BenchWords.{Wish, built_in_of, check_of, files, run_of, wish_of}
 use Rattle.tsb_words.proofs.FlagLemmas.{Fails, HasHelpAlone, Sorted, fails-first, fails-last, flag-fails, help, held_with, one-found, or-nothing, sorted, value-met}
 use Rattle.tsb_words.proofs.LevelLemmas.{Level, fault_of_word, met_of_word, standing}
 use Rattle.tsb_words.proofs.FileLemmas.{Agrees, check-words, check_shape, run-words, run_shape}
@@ -69,14 +65,14 @@ by-fails fault w f = fails-first fault (or_else (entered_fault P w.stopped)
 abbrev faults : List Text → Kinds
 faults words = built_fault P nothing_held words
 
-abbrev met_by : List Text → Option (Text × List Row)
-met_by words = entered P (stop_after top.rules names words)
+abbrev named_by : List Text → Option (Text × List Row)
+named_by words = entered P (stop_after top.rules names words)
 
 faults-check : (rest : List Text) → faults (codes "check" ∷ rest) ≡ or_else (Level check_shape (standing [] None 1 false) rest).0 []
 unfolding clap_on_literals
 faults-check rest = ap₂ By (stopped-fault top names (codes "check") [] rest) (stopped-walk top.rules names (codes "check") [] rest)
 
-met-check : (rest : List Text) → met_by (codes "check" ∷ rest) ≡ Some (codes "check", (Level check_shape (standing [] None 1 false) rest).1)
+met-check : (rest : List Text) → named_by (codes "check" ∷ rest) ≡ Some (codes "check", (Level check_shape (standing [] None 1 false) rest).1)
 unfolding clap_on_literals
 met-check rest = ap (λ (w : Walk). entered P w.stopped) (stopped-walk top.rules names (codes "check") [] rest)
 
@@ -84,12 +80,12 @@ faults-run : (rest : List Text) → faults (codes "run" ∷ rest) ≡ or_else (L
 unfolding clap_on_literals
 faults-run rest = ap₂ By (stopped-fault top names (codes "run") [] rest) (stopped-walk top.rules names (codes "run") [] rest)
 
-met-run : (rest : List Text) → met_by (codes "run" ∷ rest) ≡ Some (codes "run", (Level run_shape (standing [] None 1 false) rest).1)
+met-run : (rest : List Text) → named_by (codes "run" ∷ rest) ≡ Some (codes "run", (Level run_shape (standing [] None 1 false) rest).1)
 unfolding clap_on_literals
 met-run rest = ap (λ (w : Walk). entered P w.stopped) (stopped-walk top.rules names (codes "run") [] rest)
 
 abbrev AllAgree : List Text → Type 0
-AllAgree words = Agrees (wish_of words) (faults words) (met_by words)
+AllAgree words = Agrees (wish_of words) (faults words) (named_by words)
 
 agree-check : (rest : List Text) → AllAgree (codes "check" ∷ rest)
 agree-check rest =
@@ -158,10 +154,10 @@ no-wish word rest check run dash =
 agree-help : (word : Text) (rest : List Text) (b : Bool) → bytes_eq (codes "help") word ≡ b
     → bytes_eq (codes "check") word ≡ false → bytes_eq (codes "run") word ≡ false → bytes_eq word (codes "--") ≡ false → AllAgree (word ∷ rest)
 agree-help word rest true is check run dash =
-    subst (λ (o : Option Wish). Agrees o (faults (word ∷ rest)) (met_by (word ∷ rest))) (sym (no-wish word rest check run dash))
+    subst (λ (o : Option Wish). Agrees o (faults (word ∷ rest)) (named_by (word ∷ rest))) (sym (no-wish word rest check run dash))
     (subst (λ (w : Text). Fails (faults (w ∷ rest))) ((bytes_eq-Decides (codes "help") word).0 is) (fails-help rest))
 agree-help word rest false is check run dash =
-    subst (λ (o : Option Wish). Agrees o (faults (word ∷ rest)) (met_by (word ∷ rest))) (sym (no-wish word rest check run dash))
+    subst (λ (o : Option Wish). Agrees o (faults (word ∷ rest)) (named_by (word ∷ rest))) (sym (no-wish word rest check run dash))
     (fails-by-first word rest
     (subst (λ (o : Option Text). Fails (first_fault word o)) (sym (no-name word check run is)) (fails-sorted word dash (sorted word dash))))
 
@@ -186,38 +182,15 @@ agree (word ∷ rest) = agree-checks word rest (bytes_eq (codes "check") word) r
 
 -- ## All words, the program's name before them
 
-pub agree-all : (words : List Text) → Agrees (wish_of (drop 1 words)) (fault_of program words) (subcommand_of program words)
-agree-all words = agree (drop 1 words)
+agreed : (wish : Option Wish) (kinds : Kinds) (met : Option (Text × List Row)) → Agrees wish kinds met → option_and_then asked_by (met_where kinds met) ≡ wish
+agreed None [] met agrees = let no : [] ≡ agrees.0 ∷ agrees.1 = agrees.2 in absurd (let bad : ⊥ = cc in bad)
+agreed None (k ∷ ks) met agrees = refl
+agreed (Some wish) [] met agrees = agrees.1
+agreed (Some wish) (k ∷ ks) met agrees = let no : (k ∷ ks) ≡ [] = agrees.0 in absurd (let bad : ⊥ = cc in bad)
 
-pub is-simple : is_simple program ≡ true
-unfolding clap_on_literals
-is-simple = refl
+pub agree-all : (words : List Text) → option_and_then asked_by (met_by program words) ≡ wish_of (drop 1 words)
+agree-all words = agreed (wish_of (drop 1 words)) (fault_of program words) (subcommand_of program words) (agree (drop 1 words))
 
 pub is-simple-and-free : is_simple_and_free program ≡ true
 unfolding clap_on_literals
 is-simple-and-free = refl
-
--- words that pass ask for what was read of them
-pub spelled : (wish : Option Wish) (kinds : Kinds) (met : Option (Text × List Row)) (answer : Result Asked WordsError)
-    → Agrees wish kinds met → kinds ≡ [] → SpelledBy (asked_by met) answer → SpelledBy wish answer
-spelled None kinds met answer agrees none answered =
-    let some : kinds ≡ agrees.0 ∷ agrees.1 = agrees.2 in
-    absurd (let bad : ⊥ = cc in bad)
-spelled (Some wish) kinds met answer agrees none answered = subst (λ (o : Option Wish). SpelledBy o answer) agrees.1 answered
-
--- words that fail ask for nothing
-pub spelled-bad : (wish : Option Wish) (kinds : Kinds) (met : Option (Text × List Row)) → Agrees wish kinds met → (kinds ≡ [] → ⊥) → wish ≡ None
-spelled-bad None kinds met agrees some = refl
-spelled-bad (Some wish) kinds met agrees some = absurd (some agrees.0)
-
-answers-error : (wish : Option Wish) (k : ErrorKind) → wish ≡ None → SpelledBy wish (Err (words_fault k))
-answers-error wish OutOfMemory none = tt
-answers-error wish k none = none
-
--- an error is bad words, or out of memory
-pub spelled-error : (words : List Text) (e : Error) → HasKind (fault_of program words) e → SpelledBy (wish_of (drop 1 words)) (Err (words_fault (kind_of e)))
-spelled-error words e (inl memory) = subst (λ (k : ErrorKind). SpelledBy (wish_of (drop 1 words)) (Err (words_fault k))) (sym memory) tt
-spelled-error words e (inr among) =
-    answers-error (wish_of (drop 1 words)) (kind_of e)
-    (spelled-bad (wish_of (drop 1 words)) (fault_of program words) (subcommand_of program words) (agree-all words)
-    (λ none. let nothing : IsAmong (kind_of e) [] = subst (λ (ks : Kinds). IsAmong (kind_of e) ks) none among in nothing))

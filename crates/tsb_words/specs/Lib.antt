@@ -1,4 +1,12 @@
--- what the words of the command line ask for
+-- what `clap` makes of words, and why they ask for nothing
 pub mod Words
--- the command as `clap` reads it
-pub mod Program
+-- what the words of `tsb` ask for
+pub mod BenchWords
+-- its command as `clap` reads it
+pub mod BenchProgram
+-- what words of `tsb_field` may ask for
+pub mod FieldWords
+-- wires as words spell them
+pub mod Wires
+-- its command as `clap` reads it, and what is made of what it answers
+pub mod FieldProgram

@@ -1,68 +1,41 @@
--- What the words of the command line ask for, by the text of each.
-use Rattle.std.specs.Prelude.{◌≡◌, ℕ, ◌==◌, ◌&&◌, Bool, true, false, if◌then◌else◌, List, [], ◌∷◌, drop, Option, Some, None, option_map, Result, Ok, Err, codes, chars, bytes_eq}
-use Rattle.tsb_words.specs.declared.Asked.{Asked}
-use Rattle.tsb_words.specs.declared.Asked.TheVariants as asks
-use Rattle.tsb_words.specs.declared.WordsError.{WordsError}
-use Rattle.tsb_words.specs.declared.WordsError.TheVariants.{Memory, Bad}
+-- What words of a command line ask for, where a program takes them, and why they ask for nothing.
+use Rattle.std.specs.Prelude.{◌≡◌, Option, Some, None, List, [], ◌∷◌, Result, Ok, Err}
+use Rattle.std.specs.declared.io.ErrorKind.{ErrorKind as DeviceKind}
+use Rattle.std.specs.declared.io.ErrorKind.TheVariants as device
+use Rattle.clap.specs.Faults.{fault_of}
+use Rattle.clap.specs.Kinds.{Kinds}
+use Rattle.clap.specs.Simple.{App, subcommand_of}
+use Rattle.clap.specs.Walk.{Row, Text}
+use Rattle.clap.specs.declared.error.kind.ErrorKind.{ErrorKind}
+use Rattle.clap.specs.declared.error.kind.ErrorKind.TheVariants as kinds
+use Rattle.tsb_words.specs.declared.error.WordsError.{WordsError}
+use Rattle.tsb_words.specs.declared.error.WordsError.TheVariants.{Memory, Bad}
 
--- what words may ask for: to check the plan in this file, to run the plan and the log in these, or the built-in plan
-pub data Wish : Type 0 where
-  check : List ℕ → Wish
-  run : List ℕ → List ℕ → Wish
-  built_in : Wish
+-- out of memory is told as such, and all else that `clap` answers as bad words, help among it
+abbrev pub words_fault : ErrorKind → WordsError
+words_fault kinds.OutOfMemory = Memory
+words_fault kind = Bad
 
--- it is not empty
-abbrev pub has_some : List ℕ → Bool
-has_some [] = false
-has_some (x ∷ xs) = true
+-- the same of the call that gives the words
+abbrev pub given_fault : DeviceKind → WordsError
+given_fault device.OutOfMemory = Memory
+given_fault kind = Bad
 
--- behind a first hyphen stands a character: the word is a flag, of which the program has none
-abbrev pub is_flag : List ℕ → Bool
-is_flag [] = false
-is_flag (x ∷ rest) = x == 45 && has_some (chars rest)
+-- bad words are those that ask for nothing, and memory may run out
+abbrev pub IsRefused : {W : Type 0} → Option W → WordsError → Type 0
+IsRefused wish Bad = wish ≡ None
+IsRefused wish Memory = Unit {0}
 
--- the files that words name. The first word `--` is passed over; behind it each word is a file, also one like a flag.
-abbrev pub files : List (List ℕ) → Option (List (List ℕ))
-files [] = Some []
-files (word ∷ rest) =
-    if bytes_eq word (codes "--") then Some rest
-    else (if is_flag word then None else option_map (λ (names : List (List ℕ)). word ∷ names) (files rest))
+-- the answer is this wish, by what is seen of an answer
+abbrev pub SpelledBy : {W A : Type 0} → (A → W) → Option W → Result A WordsError → Type 0
+SpelledBy seen wish (Ok asked) = wish ≡ Some (seen asked)
+SpelledBy seen wish (Err fault) = IsRefused wish fault
 
--- `check` names one file
-abbrev pub check_of : Option (List (List ℕ)) → Option Wish
-check_of (Some (plan ∷ [])) = Some (check plan)
-check_of other = None
+-- the subcommand that words meet, if any, where they fail by none of these kinds
+abbrev pub met_where : Kinds → Option (Text × List Row) → Option (Option (Text × List Row))
+met_where [] met = Some met
+met_where (kind ∷ kinds) met = None
 
--- `run` names two
-abbrev pub run_of : Option (List (List ℕ)) → Option Wish
-run_of (Some (plan ∷ log ∷ [])) = Some (run plan log)
-run_of other = None
-
--- the built-in plan is asked for by no word
-abbrev pub built_in_of : List (List ℕ) → Option Wish
-built_in_of [] = Some built_in
-built_in_of (word ∷ rest) = None
-
--- what the words behind the program's name ask for, if they are words of the program
-abbrev pub wish_of : List (List ℕ) → Option Wish
-wish_of [] = Some built_in
-wish_of (word ∷ rest) =
-    if bytes_eq (codes "check") word then check_of (files rest)
-    else (if bytes_eq (codes "run") word then run_of (files rest)
-    else (if bytes_eq word (codes "--") then built_in_of rest else None))
-
--- what was answered, by the text of the files
-abbrev pub seen : Asked → Wish
-seen (asks.Check plan) = check plan.now
-seen (asks.Run plan log) = run plan.now log.now
-seen asks.BuiltIn = built_in
-
--- the answer is this wish; bad words are those that ask for nothing, and memory may run out
-abbrev pub SpelledBy : Option Wish → Result Asked WordsError → Type 0
-SpelledBy wish (Ok asked) = wish ≡ Some (seen asked)
-SpelledBy wish (Err Bad) = wish ≡ None
-SpelledBy wish (Err Memory) = Unit {0}
-
--- words, of which the first is the program's name, give this answer
-abbrev pub Spells : List (List ℕ) → Result Asked WordsError → Type 0
-Spells words answer = SpelledBy (wish_of (drop 1 words)) answer
+-- the subcommand that words meet, if any, where `clap` takes them for this command
+abbrev pub met_by : App → List Text → Option (Option (Text × List Row))
+met_by app words = met_where (fault_of app words) (subcommand_of app words)

@@ -1,0 +1,54 @@
+-- What options say, by what the getters of `clap` answer.
+use Rattle.std.proofs.Common.{◌≡◌, ◌∙◌, List, Option, Some, None, [], ap, sym, codes, option_and_then, option_map, unwrap_or}
+use Rattle.clap.specs.Matches.{first_value, matched_of, raw_values}
+use Rattle.clap.specs.Walk.{Text, first_of, rows_of}
+use Rattle.clap.specs.declared.parser.matches.Found.{Found}
+use Rattle.clap.proofs.WalkLemmas.{first_value-rows, raw_values-rows}
+use Rattle.tsb_event_text.specs.Times.{moment_of}
+use Rattle.tsb_event_text.specs.declared.times.Moment.{Moment}
+use Rattle.tsb_words.specs.FieldProgram.{diagram_in, diagram_with, events_in, events_with, log_in, log_with, moment_in, seconds_said, texts_in, wires_in}
+use Rattle.tsb_field_log.specs.declared.inputs.Wire.{Wire}
+use Rattle.tsb_words.specs.FieldWords.{Wish, log}
+
+-- the first value of an option, as a getter answers it
+pub first_is : (f : Found) (id : Text) (o : Option Text) → o ≡ first_value f id → first_of id (rows_of f) ≡ o
+first_is f id o e = sym (first_value-rows f id) ∙ sym e
+
+pub moment_none : (f : Found) → None ≡ first_value f (codes "from") → moment_in (rows_of f) ≡ None
+moment_none f e = ap (option_and_then moment_of) (first_is f (codes "from") None e)
+
+pub moment_some : (f : Found) (text : Text) → Some text ≡ first_value f (codes "from") → moment_in (rows_of f) ≡ moment_of text
+moment_some f text e = ap (option_and_then moment_of) (first_is f (codes "from") (Some text) e)
+
+-- what `events` asks for, by what the getters answer
+pub getters_events : (f : Found) (asked : Option Wish) (from : Option Moment) (device file : Option Text)
+    → from ≡ moment_in (rows_of f) → device ≡ first_value f (codes "device") → file ≡ first_value f (codes "log")
+    → asked ≡ events_with from device file → asked ≡ events_in (rows_of f)
+getters_events f asked from device file from-is device-is file-is is =
+    is
+    ∙ (ap (λ (m : Option Moment). events_with m device file) from-is
+    ∙ (ap (λ (d : Option Text). events_with (moment_in (rows_of f)) d file) (sym (first_is f (codes "device") device device-is))
+    ∙ ap (λ (l : Option Text). events_with (moment_in (rows_of f)) (first_of (codes "device") (rows_of f)) l) (sym (first_is f (codes "log") file file-is))))
+
+-- and what `diagram` asks for
+pub getters_diagram : (f : Found) (asked : Option Wish) (file title seconds : Option Text)
+    → file ≡ first_value f (codes "log") → title ≡ first_value f (codes "title") → seconds ≡ first_value f (codes "seconds-per-line")
+    → asked ≡ diagram_with file title (seconds_said seconds) → asked ≡ diagram_in (rows_of f)
+getters_diagram f asked file title seconds file-is title-is seconds-is is =
+    is
+    ∙ (ap (λ (l : Option Text). diagram_with l title (seconds_said seconds)) (sym (first_is f (codes "log") file file-is))
+    ∙ (ap (λ (t : Option Text). diagram_with (first_of (codes "log") (rows_of f)) t (seconds_said seconds)) (sym (first_is f (codes "title") title title-is))
+    ∙ ap (λ (s : Option Text). diagram_with (first_of (codes "log") (rows_of f)) (first_of (codes "title") (rows_of f)) (seconds_said s)) (sym (first_is f (codes "seconds-per-line") seconds seconds-is))))
+
+-- the values of an option, as a getter answers them
+pub texts_is : (f : Found) (id : Text) (o : Option (List Text)) → o ≡ option_map raw_values (matched_of f id) → unwrap_or o [] ≡ texts_in id (rows_of f)
+texts_is f id o e = ap (λ (p : Option (List Text)). unwrap_or p []) (e ∙ raw_values-rows f id)
+
+-- what `log` asks for, by what the getters answer
+pub getters_log : (f : Found) (from : Moment) (device : Option Text) (wires : List Wire)
+    → Some from ≡ moment_in (rows_of f) → device ≡ first_value f (codes "device") → wires_in (rows_of f) ≡ Some wires
+    → log_in (rows_of f) ≡ Some (log from device wires)
+getters_log f from device wires from-is device-is wires-is =
+    ap (λ (m : Option Moment). log_with m (first_of (codes "device") (rows_of f)) (wires_in (rows_of f))) (sym from-is)
+    ∙ (ap (λ (d : Option Text). log_with (Some from) d (wires_in (rows_of f))) (first_is f (codes "device") device device-is)
+    ∙ ap (λ (w : Option (List Wire)). log_with (Some from) device w) wires-is)

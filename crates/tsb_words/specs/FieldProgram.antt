@@ -1,0 +1,135 @@
+-- The command of `tsb_field` as `clap` reads it, and what is made of what `clap` answers.
+use Rattle.std.specs.Prelude.{◌≡◌, Bool, true, false, if◌then◌else◌, Option, Some, None, option_and_then, option_map, unwrap_or, List, [], ◌∷◌, ◌++◌, ℕ, codes, bytes_eq, Result}
+use Rattle.clap.specs.Simple.{App, Shape, app_of, new_rule, new_shape}
+use Rattle.clap.specs.Walk.{Row, Rule, Text, all_of, first_of}
+use Rattle.clap.specs.declared.builder.action.ArgAction.TheVariants.{Append}
+use Rattle.clap.specs.declared.builder.command.Command.{Command}
+use Rattle.clap.specs.declared.builder.command.Command.TheViews.{out-Command}
+use Rattle.tsb_event_text.specs.Events.{can_be_written}
+use Rattle.tsb_event_text.specs.Times.{moment_of}
+use Rattle.tsb_event_text.specs.declared.times.Moment.{Moment}
+use Rattle.tsb_field_log.specs.declared.inputs.Kind.TheVariants.{Vehicle, Pedestrian, Preempt}
+use Rattle.tsb_field_log.specs.declared.inputs.Wire.{Wire}
+use Rattle.tsb_words.specs.declared.field_files.Asked.{Asked}
+use Rattle.tsb_words.specs.declared.error.WordsError.{WordsError}
+use Rattle.tsb_words.specs.FieldWords.{Wish, diagram, events, log, seconds_of, seen}
+use Rattle.tsb_words.specs.Words.{SpelledBy, met_by}
+use Rattle.tsb_words.specs.Wires.{joined, wires_of}
+
+-- an option with one value, that may come once
+abbrev pub option_rule : Text → Rule
+option_rule name = record (new_rule name) { long = Some name }
+
+-- one that has to come
+abbrev pub required_rule : Text → Rule
+required_rule name = record (option_rule name) { required = true }
+
+-- one that may come several times
+abbrev pub repeated_rule : Text → Rule
+repeated_rule name = record (option_rule name) { action = Some Append }
+
+-- a subcommand with these options
+abbrev pub shape_with : Text → List Rule → Shape
+shape_with name rules = record (new_shape name) { rules = rules }
+
+-- the options of wires
+abbrev pub wire_rules : List Rule
+wire_rules = repeated_rule (codes "vehicle") ∷ repeated_rule (codes "pedestrian") ∷ repeated_rule (codes "preempt") ∷ []
+
+-- the words of `log`
+abbrev pub log_shape : Shape
+log_shape = shape_with (codes "log")
+    (required_rule (codes "from") ∷ option_rule (codes "device") ∷ wire_rules)
+
+-- those of `events`
+abbrev pub events_shape : Shape
+events_shape = shape_with (codes "events")
+    (required_rule (codes "from") ∷ required_rule (codes "device") ∷ option_rule (codes "log") ∷ [])
+
+-- those of `diagram`
+abbrev pub diagram_shape : Shape
+diagram_shape = shape_with (codes "diagram")
+    (option_rule (codes "log") ∷ option_rule (codes "title") ∷ option_rule (codes "seconds-per-line") ∷ [])
+
+-- the program with its subcommands
+abbrev pub program : App
+program = record {
+  top = record (new_shape (codes "tsb_field")) { is_leaf = false };
+  subs = log_shape ∷ events_shape ∷ diagram_shape ∷ [];
+}
+
+-- an argument of the command belongs to its subcommands as well
+abbrev pub has_globals : Command → Bool
+has_globals command = (out-Command command).has_globals
+
+-- the command with these options behind its own
+abbrev pub with_rules : List Rule → App → App
+with_rules rules app = record app { top = record app.top { rules = app.top.rules ++ rules } }
+
+-- the command is this subcommand, without any of its own
+abbrev pub IsLeaf : Shape → Command → Type 0
+IsLeaf shape command = (app_of command ≡ record { top = shape; subs = [] }) × (has_globals command ≡ false)
+
+-- the values of an option that may come several times
+abbrev pub texts_in : Text → List Row → List Text
+texts_in id rows = unwrap_or (all_of id rows) []
+
+-- what `--from` says
+abbrev pub moment_in : List Row → Option Moment
+moment_in rows = option_and_then moment_of (first_of (codes "from") rows)
+
+-- the seconds of an option that may be left out
+abbrev pub seconds_said : Option Text → Option (Option ℕ)
+seconds_said None = Some None
+seconds_said (Some digits) = option_map (λ (n : ℕ). Some n) (seconds_of digits)
+
+-- what `--seconds-per-line` says
+abbrev pub seconds_in : List Row → Option (Option ℕ)
+seconds_in rows = seconds_said (first_of (codes "seconds-per-line") rows)
+
+-- the wires of all options: of vehicle detectors, of pedestrian detectors, of preempts
+abbrev pub wires_in : List Row → Option (List Wire)
+wires_in rows = joined (joined (wires_of Vehicle (texts_in (codes "vehicle") rows)) (wires_of Pedestrian (texts_in (codes "pedestrian") rows)))
+    (wires_of Preempt (texts_in (codes "preempt") rows))
+
+-- a log, where it is said from when and on which wires
+abbrev pub log_with : Option Moment → Option Text → Option (List Wire) → Option Wish
+log_with (Some from) device (Some wires) = Some (log from device wires)
+log_with from device wires = None
+
+-- what `log` asks for, with these options
+abbrev pub log_in : List Row → Option Wish
+log_in rows = log_with (moment_in rows) (first_of (codes "device") rows) (wires_in rows)
+
+-- events, where it is said from when and of which device, and a line can name that
+abbrev pub events_with : Option Moment → Option Text → Option Text → Option Wish
+events_with (Some from) (Some device) file = if can_be_written device then Some (events from device file) else None
+events_with from device file = None
+
+-- what `events` asks for, with these options
+abbrev pub events_in : List Row → Option Wish
+events_in rows = events_with (moment_in rows) (first_of (codes "device") rows) (first_of (codes "log") rows)
+
+-- a diagram, where its seconds are spelled
+abbrev pub diagram_with : Option Text → Option Text → Option (Option ℕ) → Option Wish
+diagram_with file title None = None
+diagram_with file title (Some seconds) = Some (diagram file title seconds)
+
+-- what `diagram` asks for, with these options
+abbrev pub diagram_in : List Row → Option Wish
+diagram_in rows = diagram_with (first_of (codes "log") rows) (first_of (codes "title") rows) (seconds_in rows)
+
+-- what the subcommand asks for that was met, with its options
+abbrev pub asked_by : Option (Text × List Row) → Option Wish
+asked_by None = None
+asked_by (Some met) =
+    if bytes_eq met.0 (codes "log") then log_in met.1
+    else (if bytes_eq met.0 (codes "events") then events_in met.1 else diagram_in met.1)
+
+-- what words ask for, of which the first is the program's name: by what `clap` reads of them where it takes them
+abbrev pub wish_of : List Text → Option Wish
+wish_of words = option_and_then asked_by (met_by program words)
+
+-- words give this answer
+abbrev pub Spells : List Text → Result Asked WordsError → Type 0
+Spells words answer = SpelledBy seen (wish_of words) answer

@@ -1,0 +1,32 @@
+-- What words of `tsb_field` may ask for.
+use Rattle.std.specs.Prelude.{◌≡◌, ℕ, ◌&&◌, nat_le, List, Option, Some, None, option_map, Result, Ok, Err, if◌then◌else◌}
+use Rattle.tsb_lines.specs.Words.{number_of}
+use Rattle.tsb_event_text.specs.declared.times.Moment.{Moment}
+use Rattle.tsb_field_log.specs.declared.inputs.Wire.{Wire}
+use Rattle.tsb_words.specs.declared.field_files.options.TheConstants.{MOST_SECONDS}
+use Rattle.tsb_words.specs.declared.field_files.Asked.{Asked}
+use Rattle.tsb_words.specs.declared.field_files.Asked.TheVariants as asks
+
+-- what words may ask for, by the text of each name
+pub data Wish : Type 0 where
+  -- a log from this moment on, of this device or of each, on these wires
+  log : Moment → Option (List ℕ) → List Wire → Wish
+  -- events from this moment on, of this device, with the log in this file
+  events : Moment → List ℕ → Option (List ℕ) → Wish
+  -- a diagram with the log in this file, with this title and so many seconds a line
+  diagram : Option (List ℕ) → Option (List ℕ) → Option ℕ → Wish
+
+-- so many seconds, where a line of a diagram may show them: from 1 on
+abbrev pub seconds_at : Option ℕ → Option ℕ
+seconds_at None = None
+seconds_at (Some n) = if nat_le 1 n && nat_le n MOST_SECONDS then Some n else None
+
+-- the seconds that digits spell
+abbrev pub seconds_of : List ℕ → Option ℕ
+seconds_of digits = seconds_at (number_of digits)
+
+-- what was answered, by the text of each name
+abbrev pub seen : Asked → Wish
+seen (asks.Log from device wires) = log from (option_map (λ name. name.now) device) wires.items
+seen (asks.Events from device file) = events from device.now (option_map (λ name. name.now) file)
+seen (asks.Diagram file title seconds) = diagram (option_map (λ name. name.now) file) (option_map (λ name. name.now) title) seconds

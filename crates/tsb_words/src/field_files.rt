@@ -1,0 +1,176 @@
+//! The words of `tsb_field`, and what they ask for.
+ghost use Rattle.std.specs.Prelude.{◌≡◌, map, option_map};
+ghost use Rattle.clap.specs.Words.{found_of, rows_of};
+ghost use Rattle.clap.specs.Simple.{subcommand_rows_of};
+ghost use Rattle.tsb_words.specs.FieldProgram.{Spells, asked_by, diagram_in, diagram_with, events_in, events_with, log_in, seconds_said, wires_in};
+ghost use Rattle.tsb_words.specs.FieldWords.{seen};
+ghost use Rattle.tsb_words.specs.Wires.{AreSpelled};
+ghost use Rattle.tsb_words.specs.Words.{SpelledBy};
+
+mod commands;
+mod options;
+mod wires;
+
+pub use options::MOST_SECONDS;
+
+use crate::error::WordsError;
+use crate::matches::matches_of;
+use clap::ArgMatches;
+use commands::program;
+use options::{moment, seconds_said};
+use std::alloc::Global;
+use std::convert::AsStr;
+use tsb_event_text::{Moment, can_be_written};
+use tsb_field_log::{Kind, Wire};
+use wires::add_option;
+
+/// What the words ask for.
+#[derive(Drop)]
+pub enum Asked<'a> {
+    /// A log of inputs, made of the events of a controller's log.
+    Log {
+        /// The moment at which tick 1 begins.
+        from: Moment,
+        /// The device whose events count, or `None` where those of each device do.
+        device: Option<&'a str>,
+        /// The wires: vehicle detectors, then pedestrian detectors, then preempts, of each kind in the order of the
+        /// words.
+        wires: Vec<Wire>,
+    },
+    /// Events of a controller's log, made of display lines.
+    Events {
+        /// The moment at which tick 1 begins.
+        from: Moment,
+        /// The device that the events are of, which a line can name (`can_be_written`).
+        device: &'a str,
+        /// The file of the log of inputs.
+        log: Option<&'a str>,
+    },
+    /// A diagram of display lines.
+    Diagram {
+        /// The file of the log of inputs.
+        log: Option<&'a str>,
+        /// What stands over the diagram.
+        title: Option<&'a str>,
+        /// How many seconds a line of the diagram shows, 1 to 86,400.
+        seconds_per_line: Option<u32>,
+    },
+}
+
+/// What the words ask for, of which the first is the program's name.
+///
+/// `log` has `--from TIME`, and may have `--device ID` and any number of `--vehicle CHANNEL=DETECTOR`,
+/// `--pedestrian CHANNEL=DETECTOR` and `--preempt CHANNEL=INPUT`; `events` has `--from TIME` and `--device ID`, and may
+/// have `--log LOG`; `diagram` may have `--log LOG`, `--title TEXT` and `--seconds-per-line N`. Options come in any
+/// order, and `--NAME=VALUE` is `--NAME VALUE`. A value that begins with a hyphen stands behind `=`. All else is `Bad`,
+/// a request for help among it, and a device of `events` with a double quote, an end of a line or over 900 bytes.
+/// `Memory` may come in place of every answer.
+pub fn read_words<'a, S: AsStr>(alloc: Global, words: &'a [S]) -> Result<Asked<'a>, WordsError>
+    ensures { Spells (map S.text words.now) result }
+{
+    let matches = matches_of(program(alloc)?, words)?;
+    asked_of(alloc, &matches)
+}
+
+/// What the subcommand that was met asks for.
+fn asked_of<'a>(alloc: Global, matches: &ArgMatches<'a>) -> Result<Asked<'a>, WordsError>
+    ensures { SpelledBy seen (asked_by (subcommand_rows_of matches.now)) result }
+{
+    let Some((name, options)) = matches.subcommand() else {
+        return Err(WordsError::Bad);
+    };
+    if name == "log" {
+        return log_asked(alloc, options);
+    }
+    let found = if name == "events" {
+        events_asked(options)
+    } else {
+        diagram_asked(options)
+    };
+    match found {
+        Some(asked) => Ok(asked),
+        None => Err(WordsError::Bad),
+    }
+}
+
+/// What `log` asks for, with these options.
+fn log_asked<'a>(alloc: Global, options: &ArgMatches<'a>) -> Result<Asked<'a>, WordsError>
+    ensures { SpelledBy seen (log_in (rows_of (found_of options.now))) result }
+{
+    let Some(from) = moment(options) else {
+        return Err(WordsError::Bad);
+    };
+    match all_wires(alloc, options) {
+        Ok(wires) => Ok(Asked::Log {
+            from,
+            device: options.get_str("device"),
+            wires,
+        }),
+        Err(error) => Err(error),
+    }
+}
+
+/// The wires of all kinds that options spell.
+fn all_wires(alloc: Global, options: &ArgMatches<'_>) -> Result<Vec<Wire>, WordsError>
+    ensures { AreSpelled (wires_in (rows_of (found_of options.now))) result }
+{
+    let mut wires = Vec::new(alloc);
+    add_option(&mut wires, Kind::Vehicle, options.get_raw("vehicle"))?;
+    add_option(&mut wires, Kind::Pedestrian, options.get_raw("pedestrian"))?;
+    add_option(&mut wires, Kind::Preempt, options.get_raw("preempt"))?;
+    Ok(wires)
+}
+
+/// What `events` asks for, with these options.
+fn events_asked<'a>(options: &ArgMatches<'a>) -> Option<Asked<'a>>
+    ensures { option_map seen result ≡ events_in (rows_of (found_of options.now)) }
+{
+    let from = moment(options);
+    let device = options.get_str("device");
+    let log = options.get_str("log");
+    events_with(from, device, log)
+}
+
+/// Events, where it is said from when and of which device, and a line can name that.
+fn events_with<'a>(
+    from: Option<Moment>,
+    device: Option<&'a str>,
+    log: Option<&'a str>,
+) -> Option<Asked<'a>>
+    ensures { option_map seen result
+        ≡ events_with from (option_map (λ text. text.now) device.entry) (option_map (λ text. text.now) log.entry) }
+{
+    let from = from?;
+    let device = device?;
+    if !can_be_written(device.as_bytes()) {
+        return None;
+    }
+    Some(Asked::Events { from, device, log })
+}
+
+/// What `diagram` asks for, with these options.
+fn diagram_asked<'a>(options: &ArgMatches<'a>) -> Option<Asked<'a>>
+    ensures { option_map seen result ≡ diagram_in (rows_of (found_of options.now)) }
+{
+    let log = options.get_str("log");
+    let title = options.get_str("title");
+    let seconds = options.get_str("seconds-per-line");
+    diagram_with(log, title, seconds)
+}
+
+/// A diagram, where its seconds are spelled.
+fn diagram_with<'a>(
+    log: Option<&'a str>,
+    title: Option<&'a str>,
+    seconds: Option<&str>,
+) -> Option<Asked<'a>>
+    ensures { option_map seen result
+        ≡ diagram_with (option_map (λ text. text.now) log.entry) (option_map (λ text. text.now) title.entry) (seconds_said (option_map (λ text. text.now) seconds.entry)) }
+{
+    let seconds_per_line = seconds_said(seconds)?;
+    Some(Asked::Diagram {
+        log,
+        title,
+        seconds_per_line,
+    })
+}

@@ -1,0 +1,84 @@
+//! The command of the program, as `clap` reads it.
+ghost use Rattle.std.specs.Prelude.{◌≡◌, IfOk, false};
+ghost use Rattle.clap.specs.Words.{app_of, rule_of};
+ghost use Rattle.tsb_words.specs.FieldProgram.{IsLeaf, diagram_shape, events_shape, log_shape, option_rule, program, has_globals, repeated_rule, required_rule, wire_rules, with_rules};
+
+use clap::{Arg, ArgAction, Command};
+use std::alloc::{AllocError, Global};
+
+/// The command of the program.
+pub(crate) fn program<'a>(alloc: Global) -> Result<Command<'a>, AllocError>
+    ensures { IfOk result (λ command. app_of command ≡ program) }
+{
+    let log = log_command(alloc)?;
+    let events = events_command(alloc)?;
+    let diagram = diagram_command(alloc)?;
+    Command::new(alloc, "tsb_field")
+        .subcommand(log)?
+        .subcommand(events)?
+        .subcommand(diagram)
+}
+
+/// `log`.
+fn log_command<'a>(alloc: Global) -> Result<Command<'a>, AllocError>
+    ensures { IfOk result (IsLeaf log_shape) }
+{
+    let sources = Command::new(alloc, "log")
+        .arg(required(alloc, "from"))?
+        .arg(option(alloc, "device"))?;
+    with_wires(alloc, sources)
+}
+
+/// The command with the options of wires.
+fn with_wires<'a>(alloc: Global, command: Command<'a>) -> Result<Command<'a>, AllocError>
+    ensures { IfOk result (λ more. (app_of more ≡ with_rules wire_rules (app_of command.entry)) × (has_globals more ≡ has_globals command.entry)) }
+{
+    command
+        .arg(repeated(alloc, "vehicle"))?
+        .arg(repeated(alloc, "pedestrian"))?
+        .arg(repeated(alloc, "preempt"))
+}
+
+/// `events`.
+fn events_command<'a>(alloc: Global) -> Result<Command<'a>, AllocError>
+    ensures { IfOk result (IsLeaf events_shape) }
+{
+    Command::new(alloc, "events")
+        .arg(required(alloc, "from"))?
+        .arg(required(alloc, "device"))?
+        .arg(option(alloc, "log"))
+}
+
+/// `diagram`.
+fn diagram_command<'a>(alloc: Global) -> Result<Command<'a>, AllocError>
+    ensures { IfOk result (IsLeaf diagram_shape) }
+{
+    Command::new(alloc, "diagram")
+        .arg(option(alloc, "log"))?
+        .arg(option(alloc, "title"))?
+        .arg(option(alloc, "seconds-per-line"))
+}
+
+/// An option with one value, `--NAME VALUE`, that may come once.
+fn option<'a>(alloc: Global, name: &'a str) -> Arg<'a>
+    ensures rule { rule_of result ≡ option_rule name.now }
+    ensures own { result.global ≡ false }
+{
+    Arg::new(alloc, name).long(name)
+}
+
+/// An option that has to come.
+fn required<'a>(alloc: Global, name: &'a str) -> Arg<'a>
+    ensures rule { rule_of result ≡ required_rule name.now }
+    ensures own { result.global ≡ false }
+{
+    option(alloc, name).required(true)
+}
+
+/// An option that may come several times, with a value each.
+fn repeated<'a>(alloc: Global, name: &'a str) -> Arg<'a>
+    ensures rule { rule_of result ≡ repeated_rule name.now }
+    ensures own { result.global ≡ false }
+{
+    option(alloc, name).action(ArgAction::Append)
+}

@@ -1,0 +1,44 @@
+//! What options say, of the matches of a subcommand.
+ghost use Rattle.std.specs.Prelude.{◌≡◌, option_map};
+ghost use Rattle.clap.specs.Words.{found_of, rows_of};
+ghost use Rattle.tsb_words.specs.FieldProgram.{moment_in, seconds_said};
+ghost use Rattle.tsb_words.specs.FieldWords.{seconds_of};
+
+use clap::ArgMatches;
+use tsb_event_text::{Moment, read_moment};
+use tsb_lines::number;
+
+/// The most seconds that a line of a diagram shows: a day.
+pub const MOST_SECONDS: u32 = 86_400;
+
+/// What `--from` says.
+pub(crate) fn moment(matches: &ArgMatches<'_>) -> Option<Moment>
+    ensures { result ≡ moment_in (rows_of (found_of matches.now)) }
+{
+    let text = matches.get_str("from")?;
+    read_moment(text.as_bytes())
+}
+
+/// What `--seconds-per-line` says, where it came: `None` where it says no number of seconds.
+pub(crate) fn seconds_said(text: Option<&str>) -> Option<Option<u32>>
+    ensures { result ≡ seconds_said (option_map (λ text. text.now) text.entry) }
+{
+    match text {
+        None => Some(None),
+        Some(text) => {
+            let seconds = seconds(text.as_bytes())?;
+            Some(Some(seconds))
+        }
+    }
+}
+
+/// The seconds that digits spell.
+fn seconds(digits: &[u8]) -> Option<u32>
+    ensures { result ≡ seconds_of digits.now }
+{
+    let seconds = number(digits)?;
+    if seconds < 1 || seconds > MOST_SECONDS {
+        return None;
+    }
+    Some(seconds)
+}

@@ -1,0 +1,21 @@
+//! What `clap` makes of words.
+ghost use Rattle.std.specs.Prelude.{◌≡◌, map, true};
+ghost use Rattle.clap.specs.Words.{app_of, is_simple_and_free};
+ghost use Rattle.clap.specs.Simple.{subcommand_rows_of};
+ghost use Rattle.tsb_words.specs.Words.{SpelledBy, met_by};
+
+use crate::error::WordsError;
+use clap::{ArgMatches, Command};
+use std::convert::AsStr;
+
+/// The matches of words, of which the first is the program's name, where the command takes them.
+pub(crate) fn matches_of<'a, S: AsStr>(
+    command: Command<'a>,
+    words: &'a [S],
+) -> Result<ArgMatches<'a>, WordsError>
+    ensures { is_simple_and_free (app_of command.entry) ≡ true
+        → SpelledBy subcommand_rows_of (met_by (app_of command.entry) (map S.text words.now)) result }
+{
+    let matches = command.try_get_matches_from(words)?;
+    Ok(matches)
+}
