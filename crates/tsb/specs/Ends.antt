@@ -3,9 +3,9 @@
 -- Of each stream there are the bytes before and after: `input` and `left`, `old` and `new`, `told` and `tells`.
 use Rattle.std.specs.Prelude.{◌≡◌, ◌⊎◌, ℕ, List, [], Option, Result, Ok, Err, codes}
 use Rattle.std.specs.Io.KnownBytes.{Appends}
-use Rattle.tsb_words.specs.declared.Asked.{Asked}
-use Rattle.tsb_words.specs.declared.Asked.TheVariants as asks
-use Rattle.tsb_words.specs.declared.WordsError.{WordsError}
+use Rattle.tsb_words.specs.declared.bench.Asked.{Asked}
+use Rattle.tsb_words.specs.declared.bench.Asked.TheVariants as asks
+use Rattle.tsb_words.specs.declared.error.WordsError.{WordsError}
 use Rattle.tsb_plan.specs.Plan.{Plan}
 use Rattle.tsb_plan.specs.Two.{two}
 use Rattle.tsb_plan_text.specs.declared.error.PlanError.{PlanError}

@@ -7,8 +7,8 @@ use Rattle.tsb_log_text.specs.declared.error.LogError.{LogError}
 use Rattle.tsb_log_text.specs.FaultLines.{log_fault}
 use Rattle.tsb_text.specs.declared.error.SessionError.{SessionError}
 use Rattle.tsb_text.specs.declared.error.SessionError.TheVariants as ends
-use Rattle.tsb_words.specs.declared.WordsError.{WordsError}
-use Rattle.tsb_words.specs.declared.WordsError.TheVariants as words
+use Rattle.tsb_words.specs.declared.error.WordsError.{WordsError}
+use Rattle.tsb_words.specs.declared.error.WordsError.TheVariants as words
 use Rattle.tsb_program.specs.Failures.{Fails, failure_of}
 use Rattle.tsb_program.specs.declared.failure.Failure.TheVariants.{Memory, Read, Write}
 use Rattle.tsb_program.specs.declared.files.FileError.{FileError}

@@ -1,9 +1,9 @@
 //! What the program does for its words.
 
 ghost use Rattle.std.specs.Prelude.{◌≡◌, [], Result, map};
-ghost use Rattle.tsb_words.specs.declared.Asked.{Asked};
-ghost use Rattle.tsb_words.specs.declared.WordsError.{WordsError};
-ghost use Rattle.tsb_words.specs.Words.{Spells};
+ghost use Rattle.tsb_words.specs.declared.bench.Asked.{Asked};
+ghost use Rattle.tsb_words.specs.declared.error.WordsError.{WordsError};
+ghost use Rattle.tsb_words.specs.BenchWords.{Spells};
 ghost use Rattle.tsb_objects.specs.Checked.{checked_plan};
 ghost use Rattle.tsb.specs.Lines.{Refuses, TellsEnd, TellsWords};
 ghost use Rattle.tsb_program.specs.Statuses.{number};
@@ -19,7 +19,8 @@ use tsb_program::{
     write_line,
 };
 use tsb_text::{Checked, Log, PLAN_LIMIT, Plan, PlanError, SessionError, read_plan, session};
-use tsb_words::{Asked, WordsError, read_words};
+use tsb_words::WordsError;
+use tsb_words::bench::{Asked, read_words};
 
 /// Does what the words ask for, of which the first is the program's name, and gives the status that the program ends
 /// with: 0 where all was done, 1 for a refused plan or log, 2 for bad words, 3 where a read, a write or memory failed.

@@ -26,9 +26,9 @@ use Rattle.tsb_field_streams.specs.Filtering.{Given}
 use Rattle.tsb_field_streams.specs.Streaming.{Ended}
 use Rattle.tsb_field_streams.specs.declared.error.FilterError.{FilterError}
 use Rattle.tsb_field_streams.specs.declared.filter.LeftOut.{LeftOut}
-use Rattle.tsb_field_words.specs.Words.{Wish, diagram, events, log, seen}
-use Rattle.tsb_field_words.specs.declared.words.Asked.{Asked}
-use Rattle.tsb_field_words.specs.declared.words.WordsError.{WordsError}
+use Rattle.tsb_words.specs.FieldWords.{Wish, diagram, events, log, seen}
+use Rattle.tsb_words.specs.declared.field_files.Asked.{Asked}
+use Rattle.tsb_words.specs.declared.error.WordsError.{WordsError}
 use Rattle.tsb_field.specs.Lines.{Refuses, TellsFault, TellsLate, TellsLeftOut, TellsWords}
 
 -- ## `log`

@@ -5,8 +5,8 @@ use Rattle.tsb_field_streams.specs.declared.error.FilterError.{FilterError}
 use Rattle.tsb_field_streams.specs.declared.error.FilterError.TheVariants as ends
 use Rattle.tsb_field_streams.specs.FaultLines.{filter_fault}
 use Rattle.tsb_field_streams.specs.declared.filter.LeftOut.{LeftOut}
-use Rattle.tsb_field_words.specs.declared.words.WordsError.{WordsError}
-use Rattle.tsb_field_words.specs.declared.words.WordsError.TheVariants as words
+use Rattle.tsb_words.specs.declared.error.WordsError.{WordsError}
+use Rattle.tsb_words.specs.declared.error.WordsError.TheVariants as words
 use Rattle.tsb_program.specs.Failures.{Fails}
 use Rattle.tsb_program.specs.declared.failure.Failure.TheVariants.{Memory, Read, Write}
 

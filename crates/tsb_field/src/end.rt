@@ -7,8 +7,8 @@ use std::alloc::{AllocError, Global};
 use std::fmt::Display;
 use std::io::Write;
 use tsb_field_streams::{FilterError, LeftOut};
-use tsb_field_words::WordsError;
 use tsb_program::{Failure, Status, fail, line_of, tell, write_line};
+use tsb_words::WordsError;
 
 /// How the program is used.
 const USAGE: &[u8] =

@@ -11,8 +11,8 @@ use std::convert::AsStr;
 use std::env;
 use std::io::BufWriter;
 use std::process::ExitCode;
-use tsb_field_words::WordsError;
 use tsb_program::{Disk, Failure, fail};
+use tsb_words::WordsError;
 
 /// How many bytes wait before they are written.
 const BUFFER: usize = 65_536;

@@ -1,9 +1,9 @@
 //! What the program does for its words.
 ghost use Rattle.std.specs.Prelude.{◌≡◌, Result, map, option_map};
 ghost use Rattle.tsb_field_log.specs.Mapping.{wires_of};
-ghost use Rattle.tsb_field_words.specs.declared.words.Asked.{Asked};
-ghost use Rattle.tsb_field_words.specs.declared.words.WordsError.{WordsError};
-ghost use Rattle.tsb_field_words.specs.Program.{Spells};
+ghost use Rattle.tsb_words.specs.declared.field_files.Asked.{Asked};
+ghost use Rattle.tsb_words.specs.declared.error.WordsError.{WordsError};
+ghost use Rattle.tsb_words.specs.FieldProgram.{Spells};
 ghost use Rattle.tsb_field.specs.Ends.{Did, LogNamed, Logged, Pictured, TellsNoLog, Told, title_of};
 
 use crate::end::{refuse, tell_fault, tell_late, tell_left_out, tell_words_fault, write_all};
@@ -16,10 +16,10 @@ use tsb_field_display::{HistoryError, read_history};
 use tsb_field_events::{EventsError, events_text};
 use tsb_field_log::Wire;
 use tsb_field_streams::log;
-use tsb_field_words::{Asked, read_words};
 use tsb_log_text::{Log, LogError};
 use tsb_program::{Failure, Files, ReadError, fail, log_of};
 use tsb_streams::pass_on;
+use tsb_words::field_files::{Asked, read_words};
 
 /// What stands over a diagram where words give no title.
 const TITLE: &[u8] = b"Phase diagram";

@@ -3,7 +3,8 @@
 use std::alloc::Global;
 use tsb_event_text::read_moment;
 use tsb_field_log::{Kind, Wire};
-use tsb_field_words::{Asked, WordsError, read_words};
+use tsb_words::WordsError;
+use tsb_words::field_files::{Asked, read_words};
 
 fn is_bad(alloc: Global, words: &[&str]) -> bool {
     match read_words(alloc, words) {

@@ -1,7 +1,7 @@
 use Rattle.std.proofs.Common.{◌∙◌, Ok, Some, ap}
-use Rattle.tsb_field_words.specs.Words.{seen}
-use Rattle.tsb_field_words.specs.declared.words.Asked.{Asked}
-use Rattle.tsb_field_words.specs.declared.words.Asked.TheVariants as asks
+use Rattle.tsb_words.specs.FieldWords.{seen}
+use Rattle.tsb_words.specs.declared.field_files.Asked.{Asked}
+use Rattle.tsb_words.specs.declared.field_files.Asked.TheVariants as asks
 use Rattle.tsb_field.proofs.EndLemmas.{pictured-as}
 use Rattle.tsb_field.proofs.run.run_words.Goals as goal
 
