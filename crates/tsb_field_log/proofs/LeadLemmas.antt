@@ -17,7 +17,7 @@ use Rattle.tsb_field_log.specs.Inputs.{is_of, is_same_kind, on_at, switched_on}
 use Rattle.tsb_field_log.specs.Ticks.{begin_of, is_on_in, input_on, row_in}
 use Rattle.tsb_field_log.specs.Leads.{on_after, lead_of, lead_taken, lead_opened, lead_on, row_of_leads}
 use Rattle.tsb_field_log.specs.Wires.{has_input, is_input, leads_to}
-use Rattle.tsb_field_log.specs.Fields.{AreBefore}
+use Rattle.tsb_field_log.specs.Streets.{AreBefore}
 
 -- ## One more event
 

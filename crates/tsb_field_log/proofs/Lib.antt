@@ -4,7 +4,7 @@ pub mod ChangeLemmas
 pub mod TextLemmas
 pub mod LawLemmas
 pub mod LeadLemmas
-pub mod FieldLemmas
+pub mod StreetLemmas
 pub mod PushedLemmas
 pub mod RowLineLemmas
 pub mod MappingLemmas

@@ -7,11 +7,11 @@ use Rattle.tsb_field_log.specs.declared.inputs.Wire.{Wire}
 use Rattle.tsb_field_log.specs.declared.inputs.InputEvent.{InputEvent}
 use Rattle.tsb_field_log.specs.Ticks.{begin_of, row_in}
 use Rattle.tsb_field_log.specs.Changes.{change, changes, rows_of}
-use Rattle.tsb_field_log.specs.Fields.{tick_at, row_before, rows_until, unwritten}
+use Rattle.tsb_field_log.specs.Streets.{tick_at, row_before, rows_until, unwritten}
 use Rattle.tsb_field_log.specs.Pushed.{AreInOrderBehind, last_tick_behind, last_tick, rows_before, rows_given}
 use Rattle.tsb_field_log.specs.Laws.{AddOneEvent, AddTheEnd, AddUpToTheLog, BeginTheLog}
 use Rattle.tsb_field_log.proofs.LeadLemmas.{untouched}
-use Rattle.tsb_field_log.proofs.FieldLemmas.{before-first, before-next, LiesIn, lies-in, unwritten-zero, unwritten-some}
+use Rattle.tsb_field_log.proofs.StreetLemmas.{before-first, before-next, LiesIn, lies-in, unwritten-zero, unwritten-some}
 
 -- ## Ticks of events
 

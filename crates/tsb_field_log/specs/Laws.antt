@@ -8,7 +8,7 @@ use Rattle.tsb_log_text.specs.declared.log.LogRow.{LogRow}
 use Rattle.tsb_field_log.specs.Inputs.{is_of, on_at, most_inputs}
 use Rattle.tsb_field_log.specs.Ticks.{begin_of, is_on_in, input_on, row_in}
 use Rattle.tsb_field_log.specs.Changes.{rows_of}
-use Rattle.tsb_field_log.specs.Fields.{rows_until, tick_at}
+use Rattle.tsb_field_log.specs.Streets.{rows_until, tick_at}
 use Rattle.tsb_field_log.specs.Pushed.{AreInOrder, AreInOrderBehind, last_tick, rows_before, rows_given}
 use Rattle.tsb_field_log.specs.LogText.{log_text}
 use Rattle.tsb_field_log.specs.declared.inputs.Kind.TheVariants.{Vehicle, Pedestrian, Preempt}
@@ -64,7 +64,7 @@ abbrev pub AddTheEnd : Type 0
 AddTheEnd = (from : ℕ) (wires : List Wire) (events : List InputEvent) → last_tick from events ≤ TICKS
     → rows_before from wires events ++ rows_until from wires events (last_tick from events) (TICKS + 1) ≡ rows_of (row_in from wires events)
 
--- so all that a field gives is the log of all its events, no row of it twice and none left out
+-- so all that a street gives is the log of all its events, no row of it twice and none left out
 abbrev pub AddUpToTheLog : Type 0
 AddUpToTheLog = (from : ℕ) (wires : List Wire) (events : List InputEvent) → AreInOrder from events
     → rows_given from wires [] events ≡ rows_of (row_in from wires events)

@@ -1,6 +1,6 @@
 -- inputs, the channels of a controller that lead to them, and when a channel is on
 pub mod Inputs
--- ticks of a field, and the inputs that are on in each
+-- ticks of a street, and the inputs that are on in each
 pub mod Ticks
 -- inputs that a bench has, and the wires that lead to them
 pub mod Wires
@@ -10,9 +10,9 @@ pub mod Mapping
 pub mod Leads
 -- the rows of a log: where inputs differ from the row before
 pub mod Changes
--- how far a field has come by its events
-pub mod Fields
--- a field that has taken some events
+-- how far a street has come by its events
+pub mod Streets
+-- a street that has taken some events
 pub mod Taken
 -- the text of a log
 pub mod LogText

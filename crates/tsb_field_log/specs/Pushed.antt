@@ -5,7 +5,7 @@ use Rattle.tsb_types.specs.declared.limits.TheConstants.{TICKS}
 use Rattle.tsb_log_text.specs.declared.log.LogRow.{LogRow}
 use Rattle.tsb_field_log.specs.Ticks.{row_in}
 use Rattle.tsb_field_log.specs.Changes.{changes}
-use Rattle.tsb_field_log.specs.Fields.{rows_until, tick_at, unwritten}
+use Rattle.tsb_field_log.specs.Streets.{rows_until, tick_at, unwritten}
 use Rattle.tsb_field_log.specs.declared.inputs.Wire.{Wire}
 use Rattle.tsb_field_log.specs.declared.inputs.InputEvent.{InputEvent}
 
@@ -31,7 +31,7 @@ AreInOrder from events = AreInOrderBehind from 0 events
 abbrev pub rows_before : ℕ → List Wire → List InputEvent → List LogRow
 rows_before from wires events = changes (row_in from wires events) all_off 1 (unwritten (last_tick from events) - 1)
 
--- what a field gives behind the first events, for more of them one after another, and as it is finished
+-- what a street gives behind the first events, for more of them one after another, and as it is finished
 abbrev pub rows_given : ℕ → List Wire → List InputEvent → List InputEvent → List LogRow
 rows_given from wires events [] = rows_until from wires events (last_tick from events) (TICKS + 1)
 rows_given from wires events (e ∷ more) =

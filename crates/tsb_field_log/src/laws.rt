@@ -26,7 +26,7 @@ pub fn rows_tell_the_inputs()
     ensures inputs { AreTheInputs }
 {}
 
-/// What a field gives, event by event and as it is finished, is the log of all its events. What it has given so far
+/// What a street gives, event by event and as it is finished, is the log of all its events. What it has given so far
 /// begins that log, whatever events follow in the order of their ticks.
 ///
 /// Mistake: a tick's row is known as soon as an event falls into it (`too_soon`, `not_yet`).

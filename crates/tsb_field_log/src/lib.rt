@@ -5,14 +5,14 @@
 //! lost. A row is written where inputs differ from the row before.
 #![tactic(auto)]
 
-mod field;
 mod inputs;
 pub mod laws;
 mod leads;
 mod line;
 mod mapping;
+mod street;
 
-pub use field::{Field, Rows};
 pub use inputs::{InputEvent, Kind, Signal, Wire};
 pub use line::row_line;
 pub use mapping::{is_wired, wires};
+pub use street::{Rows, Street};

@@ -9,11 +9,11 @@ use Rattle.tsb_event_text.specs.declared.rows.EventRow.{EventRow}
 use Rattle.tsb_field_log.specs.declared.inputs.Wire.{Wire}
 use Rattle.tsb_field_log.specs.declared.inputs.Signal.{Signal}
 use Rattle.tsb_field_log.specs.declared.inputs.InputEvent.{InputEvent}
-use Rattle.tsb_field_log.specs.declared.field.Field.{Field}
-use Rattle.tsb_field_log.specs.declared.field.Rows.{Rows}
+use Rattle.tsb_field_log.specs.declared.street.Street.{Street}
+use Rattle.tsb_field_log.specs.declared.street.Rows.{Rows}
 use Rattle.tsb_field_log.specs.Inputs.{signal_of}
 use Rattle.tsb_field_log.specs.Changes.{changes}
-use Rattle.tsb_field_log.specs.Fields.{tick_at, rows_in}
+use Rattle.tsb_field_log.specs.Streets.{tick_at, rows_in}
 use Rattle.tsb_field_log.specs.Pushed.{last_tick, rows_before}
 use Rattle.tsb_field_log.specs.Taken.{HasTaken}
 use Rattle.tsb_field_log.proofs.PushedLemmas.{last-push, order-last}
@@ -54,7 +54,7 @@ stands_later g s f moment at le = record {
   last = refl;
   others = at.others;
   unwired = at.unwired;
-  field = at.field;
+  street = at.street;
   behind = let b : last_tick g.from s.events ≤ tick_at g.from s.last = at.behind in
       let t : tick_at g.from s.last ≤ tick_at g.from moment = ticks-follow g.from s.last moment le in
       omega (arith, b, t);
@@ -68,21 +68,21 @@ pub event-past : (g : Given) (s : Stand) (e : InputEvent) → TICKS < tick_at g.
 event-past g s e past = rw (lt-ltb TICKS (tick_at g.from e.nanos) past) refl
 
 -- an event that was pushed lies within the ticks of a bench
-within : (from : ℕ) (wires : List Wire) (es : List InputEvent) (e : InputEvent) (field : Field) → HasTaken from wires (es ++ e ∷ []) field → tick_at from e.nanos ≤ TICKS
-within from wires es e field t =
+within : (from : ℕ) (wires : List Wire) (es : List InputEvent) (e : InputEvent) (street : Street) → HasTaken from wires (es ++ e ∷ []) street → tick_at from e.nanos ≤ TICKS
+within from wires es e street t =
     let last : last_tick from (es ++ e ∷ []) ≡ tick_at from e.nanos = last-push from es e in
     let most : last_tick from (es ++ e ∷ []) ≤ TICKS = order-last from 0 (es ++ e ∷ []) t.ordered in
     omega (arith, last, most)
 
-pub event-large : (g : Given) (s : Stand) (e : InputEvent) (field : Field) → HasTaken g.from g.wires (s.events ++ e ∷ []) field
+pub event-large : (g : Given) (s : Stand) (e : InputEvent) (street : Street) → HasTaken g.from g.wires (s.events ++ e ∷ []) street
     → MOST_ROWS < length (rows_before g.from g.wires (s.events ++ e ∷ [])) → with_event g s e ≡ Err LogTooLarge
-event-large g s e field t large =
-    rw (le-ltb TICKS (tick_at g.from e.nanos) (within g.from g.wires s.events e field t), lt-ltb MOST_ROWS (length (rows_before g.from g.wires (s.events ++ e ∷ []))) large) refl
+event-large g s e street t large =
+    rw (le-ltb TICKS (tick_at g.from e.nanos) (within g.from g.wires s.events e street t), lt-ltb MOST_ROWS (length (rows_before g.from g.wires (s.events ++ e ∷ []))) large) refl
 
-pub event-taken : (g : Given) (s : Stand) (e : InputEvent) (field : Field) → HasTaken g.from g.wires (s.events ++ e ∷ []) field
+pub event-taken : (g : Given) (s : Stand) (e : InputEvent) (street : Street) → HasTaken g.from g.wires (s.events ++ e ∷ []) street
     → length (rows_before g.from g.wires (s.events ++ e ∷ [])) ≤ MOST_ROWS → with_event g s e ≡ Ok (record s { events = s.events ++ e ∷ [] })
-event-taken g s e field t few =
-    rw (le-ltb TICKS (tick_at g.from e.nanos) (within g.from g.wires s.events e field t), le-ltb MOST_ROWS (length (rows_before g.from g.wires (s.events ++ e ∷ []))) few) refl
+event-taken g s e street t few =
+    rw (le-ltb TICKS (tick_at g.from e.nanos) (within g.from g.wires s.events e street t), le-ltb MOST_ROWS (length (rows_before g.from g.wires (s.events ++ e ∷ []))) few) refl
 
 -- how many rows are known behind it
 pub known-then : (g : Given) (s : Stand) (e : InputEvent) (f : Filter) (rows : Rows) (known : ℕ) → StandsAt g s f

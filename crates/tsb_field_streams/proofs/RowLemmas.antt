@@ -1,8 +1,8 @@
 -- The text of the rows that become known.
 use Rattle.std.proofs.Common.{◌≡◌, [], ◌∷◌, ◌++◌, Some, None, refl, option_to_list}
 use Rattle.tsb_log_text.specs.declared.log.LogRow.{LogRow}
-use Rattle.tsb_field_log.specs.declared.field.Rows.{Rows}
-use Rattle.tsb_field_log.specs.Fields.{rows_in}
+use Rattle.tsb_field_log.specs.declared.street.Rows.{Rows}
+use Rattle.tsb_field_log.specs.Streets.{rows_in}
 use Rattle.tsb_field_log.specs.LogText.{log_text, row_line}
 use Rattle.tsb_field_log.proofs.TextLemmas.{text-append, text-row}
 

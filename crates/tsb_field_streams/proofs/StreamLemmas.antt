@@ -9,9 +9,9 @@ use Rattle.tsb_streams.specs.Writes.{AppendsFront}
 use Rattle.tsb_streams.proofs.StreamLemmas.{appends-kept, appends-more, appends-nothing, consumes-kept, consumes-more, consumes-nothing, front-more, front-rest}
 use Rattle.tsb_lines.specs.Lines.{kept, without_return}
 use Rattle.tsb_lines.proofs.KeptLemmas.{kept-more}
-use Rattle.tsb_field_log.specs.declared.field.Rows.{Rows}
+use Rattle.tsb_field_log.specs.declared.street.Rows.{Rows}
 use Rattle.tsb_field_log.specs.Changes.{changes, rows_of}
-use Rattle.tsb_field_log.specs.Fields.{rows_in}
+use Rattle.tsb_field_log.specs.Streets.{rows_in}
 use Rattle.tsb_field_log.specs.LogText.{log_text}
 use Rattle.tsb_field_log.specs.Pushed.{rows_before}
 use Rattle.tsb_field_log.specs.Ticks.{row_in}
@@ -36,7 +36,7 @@ use Rattle.tsb_field_streams.proofs.ReadLemmas.{all-comes, front-comes, kept-las
 -- the log that is known begins the whole one
 pub known-begins : (g : Given) (s : Stand) (f : Filter) → StandsAt g s f → (tail : List ℕ) × (whole_log g s ≡ known_log g s ++ tail)
 known-begins g s f at =
-    let rest = rows-front g.from g.wires s.events [] (order-last g.from 0 s.events at.field.ordered) in (
+    let rest = rows-front g.from g.wires s.events [] (order-last g.from 0 s.events at.street.ordered) in (
       log_text rest.0,
       ap (λ (es : List InputEvent). log_text (rows_of (row_in g.from g.wires es))) (sym (append-nil s.events)) ∙ ap log_text rest.1
           ∙ text-append (rows_before g.from g.wires s.events) rest.0,

@@ -12,7 +12,7 @@ use Rattle.tsb_field_log.specs.declared.inputs.Wire.{Wire}
 use Rattle.tsb_field_log.specs.declared.inputs.InputEvent.{InputEvent}
 use Rattle.tsb_field_log.specs.Inputs.{signal_of}
 use Rattle.tsb_field_log.specs.Mapping.{is_wired}
-use Rattle.tsb_field_log.specs.Fields.{tick_at}
+use Rattle.tsb_field_log.specs.Streets.{tick_at}
 use Rattle.tsb_field_log.specs.Pushed.{rows_before}
 use Rattle.tsb_field_streams.specs.declared.error.FilterError.{FilterError}
 use Rattle.tsb_field_streams.specs.declared.error.FilterError.TheVariants.{Malformed, TimeOrder, PastEnd, LogTooLarge}

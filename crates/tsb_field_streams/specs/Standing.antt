@@ -1,7 +1,7 @@
 -- How far a filter has come by the lines that it has taken.
 use Rattle.std.specs.Prelude.{◌≡◌, ◌≤◌, ◌++◌, length, option_map, Result, Ok, Err}
-use Rattle.tsb_field_log.specs.declared.field.Rows.{Rows}
-use Rattle.tsb_field_log.specs.Fields.{tick_at, rows_in}
+use Rattle.tsb_field_log.specs.declared.street.Rows.{Rows}
+use Rattle.tsb_field_log.specs.Streets.{tick_at, rows_in}
 use Rattle.tsb_field_log.specs.Pushed.{last_tick, rows_before}
 use Rattle.tsb_field_log.specs.Taken.{HasTaken}
 use Rattle.tsb_field_streams.specs.declared.error.FilterError.{FilterError}
@@ -22,7 +22,7 @@ pub record StandsAt (g : Given) (s : Stand) (f : Filter) : Type 0 where
   pub last : f.last ≡ s.last
   pub others : f.left_out.of_other_devices ≡ s.others
   pub unwired : f.left_out.without_input ≡ s.unwired
-  pub field : HasTaken g.from g.wires s.events f.field
+  pub street : HasTaken g.from g.wires s.events f.street
   pub behind : last_tick g.from s.events ≤ tick_at g.from s.last
   pub rows : f.rows ≡ length (rows_before g.from g.wires s.events)
   pub few : f.rows ≤ MOST_ROWS

@@ -1,7 +1,7 @@
 //! Lines of events, one after another, and the rows of the log that they make known.
 ghost use Rattle.std.specs.Prelude.{◌≡◌, ◌<◌, ◌≤◌, ◌-◌, ◌++◌, [], nat_le, Some, length, option_map, MatchResult, OnOk};
 ghost use Rattle.tsb_field_log.specs.Changes.{rows_of};
-ghost use Rattle.tsb_field_log.specs.Fields.{rows_in};
+ghost use Rattle.tsb_field_log.specs.Streets.{rows_in};
 ghost use Rattle.tsb_field_log.specs.Pushed.{rows_before};
 ghost use Rattle.tsb_field_log.specs.Ticks.{row_in};
 ghost use Rattle.tsb_field_log.specs.Taken.{HasTaken};
@@ -10,7 +10,7 @@ ghost use Rattle.tsb_field_streams.specs.declared.error.FilterError.TheVariants.
 
 use crate::error::FilterError;
 use tsb_event_text::{Columns, EventRow, event_row, header};
-use tsb_field_log::{Field, InputEvent, Rows, Signal, Wire, is_wired};
+use tsb_field_log::{InputEvent, Rows, Signal, Street, Wire, is_wired};
 use tsb_lines::is_skipped;
 
 /// The greatest length of a line, in bytes.
@@ -42,7 +42,7 @@ pub struct Filter<'a> {
     /// How many rows of the log are known.
     rows: u32,
     left_out: LeftOut,
-    field: Field,
+    street: Street,
 }
 
 /// No row of a log.
@@ -55,10 +55,10 @@ impl<'a> Filter<'a> {
     ghost use Rattle.tsb_field_streams.specs.Standing.{StandsAt, Takes, left_out_of};
 
     /// Before the first line. Rows of `device` count, byte for byte, or all where it is `None`; `wires` are those that the
-    /// field was made with, which has taken no event yet.
+    /// street was made with, which has taken no event yet.
     #[tactic(auto, using(crate::proofs::FilterLemmas::none_known))]
-    pub fn new(device: Option<&'a [u8]>, wires: &'a [Wire], field: Field) -> Filter<'a>
-        ensures { (g : Given) → g.device ≡ option_map (λ d. d.now) device.entry → g.wires ≡ wires.now → HasTaken g.from g.wires [] field
+    pub fn new(device: Option<&'a [u8]>, wires: &'a [Wire], street: Street) -> Filter<'a>
+        ensures { (g : Given) → g.device ≡ option_map (λ d. d.now) device.entry → g.wires ≡ wires.now → HasTaken g.from g.wires [] street
             → StandsAt g start result }
     {
         Filter {
@@ -71,7 +71,7 @@ impl<'a> Filter<'a> {
                 of_other_devices: 0,
                 without_input: 0,
             },
-            field,
+            street,
         }
     }
 
@@ -166,7 +166,7 @@ impl<'a> Filter<'a> {
     fn take_event(&mut self, event: InputEvent) -> Result<Rows, FilterError>
         ensures takes { (g : Given) (s : Stand) → StandsAt g s self.old → s.last ≡ event.nanos → Takes g s (with_event g s event) result self.new }
     {
-        let Some(rows) = self.field.push(event) else {
+        let Some(rows) = self.street.push(event) else {
             return Err(FilterError::PastEnd);
         };
         if !self.has_room(rows) {
@@ -184,7 +184,7 @@ impl<'a> Filter<'a> {
         ensures fits { (g : Given) (s : Stand) → StandsAt g s self.old → OnOk result (length (rows_of (row_in g.from g.wires s.events)) ≤ MOST_ROWS) }
         ensures counts { left_out_of self.new ≡ left_out_of self.old }
     {
-        let rows = self.field.finish();
+        let rows = self.street.finish();
         if !self.has_room(rows) {
             return Err(FilterError::LogTooLarge);
         }

@@ -3,7 +3,7 @@ ghost use Rattle.std.specs.Prelude.{◌≡◌, ◌+◌, ◌≤◌, ◌++◌, Err
 ghost use Rattle.std.specs.Io.KnownBytes.{Appends, Keeps};
 ghost use Rattle.arrayvec.specs.ArrayVec.{array_vec_len};
 ghost use Rattle.tsb_streams.specs.Writes.{AppendsFront};
-ghost use Rattle.tsb_field_log.specs.Fields.{rows_in};
+ghost use Rattle.tsb_field_log.specs.Streets.{rows_in};
 ghost use Rattle.tsb_field_log.specs.LogText.{log_text};
 ghost use Rattle.tsb_field_streams.specs.declared.error.FilterError.TheVariants.{Write as write};
 

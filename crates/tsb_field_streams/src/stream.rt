@@ -10,7 +10,7 @@ use crate::rows::{pass_rows_on, write_rows};
 use std::alloc::Global;
 use std::io::{Read, Write};
 use tsb_event_text::Moment;
-use tsb_field_log::{Field, Wire, wires};
+use tsb_field_log::{Street, Wire, wires};
 use tsb_lines::KeptLine;
 
 /// The most events of a stream, in bytes: 1 GiB.
@@ -131,11 +131,11 @@ pub fn log<R: Read, W: Write>(
     let Ok(all) = wires(alloc, mapped) else {
         return Err(FilterError::Memory);
     };
-    let Ok(field) = Field::new(alloc, from.nanos, &all) else {
+    let Ok(street) = Street::new(alloc, from.nanos, &all) else {
         return Err(FilterError::Memory);
     };
     let mut stream = Stream {
-        filter: Filter::new(device, &all, field),
+        filter: Filter::new(device, &all, street),
         number: 1,
         line: KeptLine::new(),
     };

@@ -2,7 +2,7 @@
 
 use std::alloc::{AllocError, Global};
 use tsb_event_text::read_moment;
-use tsb_field_log::{Field, Kind, Rows, Wire, row_line, wires};
+use tsb_field_log::{Kind, Rows, Street, Wire, row_line, wires};
 use tsb_field_streams::{Filter, FilterError, LeftOut};
 
 /// What a filter makes of lines from 07:00:00 on.
@@ -34,7 +34,7 @@ fn said(
         None => 0,
     };
     let all = wires(alloc, mapped)?;
-    let mut filter = Filter::new(device, &all, Field::new(alloc, from, &all)?);
+    let mut filter = Filter::new(device, &all, Street::new(alloc, from, &all)?);
     let mut text = Vec::new(alloc);
     let mut number: u32 = 0;
     let mut fault = None;

@@ -2,7 +2,7 @@
 
 use std::alloc::{AllocError, Global};
 use std::test::Fail;
-use tsb_field_log::{Field, InputEvent, Kind, Rows, Wire, is_wired, laws, row_line, wires};
+use tsb_field_log::{InputEvent, Kind, Rows, Street, Wire, is_wired, laws, row_line, wires};
 use tsb_log_text::LogRow;
 use tsb_types::{NumberSet, Row};
 
@@ -125,13 +125,13 @@ fn write(text: &mut Vec<u8>, rows: Rows) -> Result<(), AllocError> {
 /// The log of events, all of which lie within the ticks of a bench.
 fn log(alloc: Global, events: &[InputEvent]) -> Result<Vec<u8>, AllocError> {
     let mut text = Vec::new(alloc);
-    let mut field = Field::new(alloc, START, &[WIRE])?;
+    let mut street = Street::new(alloc, START, &[WIRE])?;
     for event in events {
-        if let Some(rows) = field.push(*event) {
+        if let Some(rows) = street.push(*event) {
             write(&mut text, rows)?;
         }
     }
-    write(&mut text, field.finish())?;
+    write(&mut text, street.finish())?;
     Ok(text)
 }
 
@@ -168,10 +168,10 @@ fn logs_tell_the_ticks_that_inputs_are_on(rt: HostRuntime) -> Result<(), Fail> {
 
 #[test]
 fn events_past_the_last_tick_are_refused(rt: HostRuntime) -> Result<(), Fail> {
-    let mut field = Field::new(rt.alloc(), START, &[WIRE])?;
-    assert!(rt; field.push(goes(true, START + 600_000_000_000_000)) == None);
+    let mut street = Street::new(rt.alloc(), START, &[WIRE])?;
+    assert!(rt; street.push(goes(true, START + 600_000_000_000_000)) == None);
     assert!(rt;
-        field.finish()
+        street.finish()
             == Rows {
                 first: None,
                 second: None

@@ -9,7 +9,7 @@ use Rattle.tsb_field_log.specs.declared.inputs.Wire.{Wire}
 use Rattle.tsb_field_log.specs.declared.inputs.InputEvent.{InputEvent}
 use Rattle.tsb_field_log.specs.Ticks.{row_in}
 use Rattle.tsb_field_log.specs.Changes.{changes}
-use Rattle.tsb_field_log.specs.Fields.{rows_until}
+use Rattle.tsb_field_log.specs.Streets.{rows_until}
 use Rattle.tsb_field_log.specs.Pushed.{AreInOrder, AreInOrderBehind, last_tick, rows_before}
 use Rattle.tsb_field_log.proofs.Examples.TickExamples.{start, wire, other, goes, other_goes, two, detector_3}
 

@@ -11,6 +11,6 @@ returns g c =
     let given : Given = record { from = c.args.from.nanos; device = option_map (λ d. d.now) c.args.device; wires = wires_of c.args.mapped.now } in
     let first : c.deref.result.now ≡ wires_of c.args.mapped.now = c.deref.ensures.value ∙ c.in-Ok.ensures in
     let second : c.deref-2.result.now ≡ wires_of c.args.mapped.now = c.deref-2.ensures.value ∙ c.in-Ok.ensures in
-    let taken : HasTaken c.args.from.nanos (wires_of c.args.mapped.now) [] c.in-Ok-new.field =
-    subst (λ (wires : List Wire). HasTaken c.args.from.nanos wires [] c.in-Ok-new.field) first c.in-Ok-new.ensures.taken in
+    let taken : HasTaken c.args.from.nanos (wires_of c.args.mapped.now) [] c.in-Ok-new.street =
+    subst (λ (wires : List Wire). HasTaken c.args.from.nanos wires [] c.in-Ok-new.street) first c.in-Ok-new.ensures.taken in
     inl (c.run.ensures.ended given (follows-start given _ _ (c.new-2.ensures given refl (sym second) taken) refl c.new-3.ensures))

@@ -2,7 +2,7 @@ use Rattle.std.proofs.Common.{◌≡◌, ◌≤◌, arith}
 use Rattle.tsb_field_log.specs.Pushed.{last_tick}
 use Rattle.tsb_field_log.proofs.PushedLemmas.{order-last}
 use Rattle.tsb_field_log.proofs.TakenLemmas.{taken-whole}
-use Rattle.tsb_field_log.proofs.field.Field.finish.Goals as goal
+use Rattle.tsb_field_log.proofs.street.Street.finish.Goals as goal
 
 pub returns-clause-whole : goal.returns-clause-whole
 returns-clause-whole c from wires events t =

@@ -1,9 +1,9 @@
-//! The inputs of a field, from event to event.
+//! The inputs of a street, from event to event.
 ghost use Rattle.std.specs.Prelude.{◌≡◌, ◌↔◌, ◌⊎◌, ◌+◌, ◌-◌, ◌<◌, ◌≤◌, ◌++◌, ◌∷◌, [], ℕ, List, None, IfOk, IfSome, IsNone, MatchOption, if◌then◌else◌, map, nat_le, nat_lt, option_to_list};
 ghost use Rattle.tsb_types.specs.declared.limits.TheConstants.{TICKS};
 ghost use Rattle.tsb_field_log.specs.Ticks.{begin_of, row_in};
 ghost use Rattle.tsb_field_log.specs.Changes.{change, changes, rows_of};
-ghost use Rattle.tsb_field_log.specs.Fields.{AreBefore, Follows, row_before, rows_in, rows_until, tick_at};
+ghost use Rattle.tsb_field_log.specs.Streets.{AreBefore, Follows, row_before, rows_in, rows_until, tick_at};
 ghost use Rattle.tsb_field_log.specs.Leads.{lead_opened, lead_taken};
 ghost use Rattle.tsb_field_log.specs.Pushed.{last_tick, rows_before};
 ghost use Rattle.tsb_field_log.specs.Taken.{HasTaken};
@@ -28,10 +28,10 @@ pub struct Rows {
     pub second: Option<LogRow>,
 }
 
-/// The inputs of a field, as its events come in. It gives the rows of a log, each as soon as no later event can change
+/// The inputs of a street, as its events come in. It gives the rows of a log, each as soon as no later event can change
 /// it.
 #[derive(Drop)]
-pub struct Field {
+pub struct Street {
     /// The moment at which tick 1 begins.
     from: u128,
     leads: Vec<Lead>,
@@ -41,20 +41,20 @@ pub struct Field {
     before: Row,
 }
 
-impl Field {
-    /// A field with these wires, before its first event: all is off. Tick 1 begins at `from`, in nanoseconds as a
+impl Street {
+    /// A street with these wires, before its first event: all is off. Tick 1 begins at `from`, in nanoseconds as a
     /// `Moment` counts them. The error is that memory ran out.
-    pub fn new(alloc: Global, from: u128, wires: &[Wire]) -> Result<Field, AllocError>
+    pub fn new(alloc: Global, from: u128, wires: &[Wire]) -> Result<Street, AllocError>
         ensures follows { IfOk result (Follows wires.now []) }
-        ensures from { IfOk result (λ field. field.from ≡ from) }
-        ensures tick { IfOk result (λ field. field.tick ≡ 0) }
-        ensures taken { IfOk result (λ field. HasTaken from wires.now [] field) }
+        ensures from { IfOk result (λ street. street.from ≡ from) }
+        ensures tick { IfOk result (λ street. street.tick ≡ 0) }
+        ensures taken { IfOk result (λ street. HasTaken from wires.now [] street) }
     {
         let mut leads = Vec::new(alloc);
         for wire in wires {
             leads.push(Lead::off(*wire))?;
         }
-        Ok(Field {
+        Ok(Street {
             from,
             leads,
             tick: 0,
@@ -62,8 +62,8 @@ impl Field {
         })
     }
 
-    /// Takes an event, and gives the rows that have become known. `None` where it lies past tick 6,000,000: the field is
-    /// then as it was. Events come in the order of their ticks.
+    /// Takes an event, and gives the rows that have become known. `None` where it lies past tick 6,000,000: the street
+    /// is then as it was. Events come in the order of their ticks.
     pub fn push(&mut self, event: InputEvent) -> Option<Rows>
         ensures past { IsNone result ↔ (TICKS < tick_at self.old.from event.nanos) }
         ensures pushed { (wires : List Wire) (events : List InputEvent) → Follows wires events self.old
@@ -94,7 +94,7 @@ impl Field {
     }
 }
 
-impl Field {
+impl Street {
     /// Goes to a tick, before its first event, where that is a later one, and gives the rows of the ticks before it.
     fn advance(&mut self, to: u32) -> Rows
         requires { to ≤ TICKS + 1 }

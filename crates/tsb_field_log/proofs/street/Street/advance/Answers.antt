@@ -1,9 +1,9 @@
 use Rattle.std.proofs.Common.{◌≡◌, ◌≤◌, ◌+◌, ◌∙◌, arith, ap}
-use Rattle.tsb_field_log.specs.Fields.{Follows}
-use Rattle.tsb_field_log.specs.declared.field.Field.{Field}
-use Rattle.tsb_field_log.proofs.FieldLemmas.{follows-start, Settles, two-settles, told-until, until-none, unwritten-zero, unwritten-some}
-use Rattle.tsb_field_log.proofs.field.Field.advance.Goals as goal
-use Rattle.tsb_field_log.proofs.field.Field.advance.Goals.{then-self-eq0, else-self-eq0}
+use Rattle.tsb_field_log.specs.Streets.{Follows}
+use Rattle.tsb_field_log.specs.declared.street.Street.{Street}
+use Rattle.tsb_field_log.proofs.StreetLemmas.{follows-start, Settles, two-settles, told-until, until-none, unwritten-zero, unwritten-some}
+use Rattle.tsb_field_log.proofs.street.Street.advance.Goals as goal
+use Rattle.tsb_field_log.proofs.street.Street.advance.Goals.{then-self-eq0, else-self-eq0}
 
 pub returns-then-to-self-clause-rows : goal.returns-then-to-self-clause-rows
 returns-then-to-self-clause-rows c wires events f le = (f, until-none c.args.self.now.from wires events c.args.self.now.tick c.args.to c.if-to-self.true)
@@ -27,13 +27,13 @@ returns-clause-rows c wires events f le =
       | then-self-eq0 w ↦
           let begun : Follows wires events w.begin.new.self =
           follows-start wires events c.args.self.now w.begin.new.self f w.if-self-eq0.true w.begin.ensures.leads w.begin.ensures.tick w.begin.ensures.rest.0 w.begin.ensures.rest.1 in
-          let one : s.tick ≡ 1 = ap (λ (x : Field). x.tick) w.self-is ∙ w.begin.ensures.tick in
-          let from : s.from ≡ c.args.self.now.from = ap (λ (x : Field). x.from) w.self-is ∙ w.begin.ensures.rest.0 in
+          let one : s.tick ≡ 1 = ap (λ (x : Street). x.tick) w.self-is ∙ w.begin.ensures.tick in
+          let from : s.from ≡ c.args.self.now.from = ap (λ (x : Street). x.from) w.self-is ∙ w.begin.ensures.rest.0 in
           let two = two-settles wires events s c.settle_until-first.new.self c.settle_until-second.new.self c.settle_until-first.result c.settle_until-second.result c.args.to (rw w.self-is begun) (omega (arith, one)) p q in
           (two.0, told-until wires events s c.args.self.now.from c.args.self.now.tick 1 c.args.to _ two.1 from one (unwritten-zero c.args.self.now.tick w.if-self-eq0.true))
       | else-self-eq0 w ↦
-          let same : s.tick ≡ c.args.self.now.tick = ap (λ (x : Field). x.tick) w.self-is in
-          let from : s.from ≡ c.args.self.now.from = ap (λ (x : Field). x.from) w.self-is in
+          let same : s.tick ≡ c.args.self.now.tick = ap (λ (x : Street). x.tick) w.self-is in
+          let from : s.from ≡ c.args.self.now.from = ap (λ (x : Street). x.from) w.self-is in
           let one : 1 ≤ c.args.self.now.tick = omega (arith, w.if-self-eq0.false) in
           let two = two-settles wires events s c.settle_until-first.new.self c.settle_until-second.new.self c.settle_until-first.result c.settle_until-second.result c.args.to (rw w.self-is f) (omega (arith, one, same)) p q in
           (two.0, told-until wires events s c.args.self.now.from c.args.self.now.tick c.args.self.now.tick c.args.to _ two.1 from same (unwritten-some c.args.self.now.tick one))

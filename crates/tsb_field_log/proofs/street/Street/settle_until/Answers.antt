@@ -3,10 +3,10 @@ use Rattle.tsb_types.specs.declared.row.Row.{Row}
 use Rattle.tsb_field_log.specs.Ticks.{row_in}
 use Rattle.tsb_field_log.specs.Changes.{change}
 use Rattle.tsb_field_log.specs.Leads.{row_of_leads}
-use Rattle.tsb_field_log.specs.Fields.{row_before}
+use Rattle.tsb_field_log.specs.Streets.{row_before}
 use Rattle.tsb_field_log.proofs.LeadLemmas.{row-leads}
-use Rattle.tsb_field_log.proofs.FieldLemmas.{follows-next, settled}
-use Rattle.tsb_field_log.proofs.field.Field.settle_until.Goals as goal
+use Rattle.tsb_field_log.proofs.StreetLemmas.{follows-next, settled}
+use Rattle.tsb_field_log.proofs.street.Street.settle_until.Goals as goal
 
 pub returns-clause-rows : goal.returns-clause-rows
 returns-clause-rows c wires events f lt one how =

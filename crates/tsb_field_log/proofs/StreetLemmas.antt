@@ -1,4 +1,4 @@
--- A field from event to event: which rows become known.
+-- A street from event to event: which rows become known.
 use Rattle.std.proofs.Common.{◌≡◌, ℕ, ◌+◌, ◌-◌, ◌/◌, ◌<◌, ◌≤◌, Bool, true, false, if◌then◌else◌, leb, ltb, zero, suc, List, [], ◌∷◌, ◌++◌, map, refl, sym, ap, ◌∙◌, subst, arith, inl, inr, ◌⊎◌, append-nil, None, Option}
 use Rattle.std.proofs.lemmas.Bool.{le-leb, lt-ltb, eq-eqb}
 use Rattle.std.proofs.lemmas.Bool.Decides.{leb_tells}
@@ -8,11 +8,11 @@ use Rattle.tsb_types.specs.declared.row.Row.{Row}
 use Rattle.tsb_log_text.specs.declared.log.LogRow.{LogRow}
 use Rattle.tsb_field_log.specs.declared.inputs.Wire.{Wire}
 use Rattle.tsb_field_log.specs.declared.inputs.InputEvent.{InputEvent}
-use Rattle.tsb_field_log.specs.declared.field.Field.{Field}
+use Rattle.tsb_field_log.specs.declared.street.Street.{Street}
 use Rattle.tsb_field_log.specs.Ticks.{begin_of, row_in}
 use Rattle.tsb_field_log.specs.Changes.{same_row, change, changes}
 use Rattle.tsb_field_log.specs.Leads.{lead_of, lead_taken, lead_opened, row_of_leads}
-use Rattle.tsb_field_log.specs.Fields.{tick_at, AreBefore, row_before, unwritten, Follows, rows_until}
+use Rattle.tsb_field_log.specs.Streets.{tick_at, AreBefore, row_before, unwritten, Follows, rows_until}
 use Rattle.tsb_field_log.proofs.LeadLemmas.{leads-push, leads-opened, row-leads, untouched}
 
 before-later : (m n : ℕ) (es : List InputEvent) → m ≤ n → AreBefore m es → AreBefore n es
@@ -91,7 +91,7 @@ before-last inputs tick one =
 
 -- ## From tick to tick
 
-pub follows-next : (wires : List Wire) (es : List InputEvent) (old new : Field) (next : ℕ) (row : Row) → Follows wires es old → old.tick < next → 1 ≤ old.tick → (next ≡ old.tick + 1) ⊎ AreBefore (begin_of old.from old.tick) es
+pub follows-next : (wires : List Wire) (es : List InputEvent) (old new : Street) (next : ℕ) (row : Row) → Follows wires es old → old.tick < next → 1 ≤ old.tick → (next ≡ old.tick + 1) ⊎ AreBefore (begin_of old.from old.tick) es
     → new.leads.items ≡ map lead_opened old.leads.items → new.tick ≡ next → new.from ≡ old.from → new.before ≡ row → row ≡ row_in old.from wires es old.tick → Follows wires es new
 follows-next wires es old new next row f lt one how leads tick from before is = record {
   leads =
@@ -107,7 +107,7 @@ follows-next wires es old new next row f lt one how leads tick from before is = 
     last (inl e) = ap (λ (n : ℕ). row_before (row_in old.from wires es) n) e ∙ before-next (row_in old.from wires es) old.tick one
     last (inr ended) = before-last (row_in old.from wires es) next (omega (arith, lt, one)) ∙ still old.from old.tick (next - 1) es wires (omega (arith, lt)) ended
 
-pub follows-start : (wires : List Wire) (es : List InputEvent) (old new : Field) → Follows wires es old → old.tick ≡ 0 → new.leads.items ≡ map lead_opened old.leads.items → new.tick ≡ 1 → new.from ≡ old.from → new.before ≡ old.before
+pub follows-start : (wires : List Wire) (es : List InputEvent) (old new : Street) → Follows wires es old → old.tick ≡ 0 → new.leads.items ≡ map lead_opened old.leads.items → new.tick ≡ 1 → new.from ≡ old.from → new.before ≡ old.before
     → Follows wires es new
 follows-start wires es old new f none leads tick from before = record {
   leads =
@@ -120,7 +120,7 @@ follows-start wires es old new f none leads tick from before = record {
 }
 
 -- what settling a tick does
-pub record Settles (to next : ℕ) (old new : Field) (row : Option LogRow) : Type 0 where
+pub record Settles (to next : ℕ) (old new : Street) (row : Option LogRow) : Type 0 where
   pub from : new.from ≡ old.from
   pub tick : new.tick ≡ (if ltb old.tick to then next else old.tick)
   pub stays : to ≤ old.tick → (new ≡ old) × (row ≡ None)
@@ -128,14 +128,14 @@ pub record Settles (to next : ℕ) (old new : Field) (row : Option LogRow) : Typ
       → Follows wires events new × (option_to_list row ≡ changes (row_in old.from wires events) (row_before (row_in old.from wires events) old.tick) old.tick (next - old.tick))
 
 -- the rows from a tick on, up to another
-abbrev pub Told : List Wire → List InputEvent → Field → ℕ → List LogRow → Type 0
-Told wires es field to rows = rows ≡ changes (row_in field.from wires es) (row_before (row_in field.from wires es) field.tick) field.tick (to - field.tick)
+abbrev pub Told : List Wire → List InputEvent → Street → ℕ → List LogRow → Type 0
+Told wires es street to rows = rows ≡ changes (row_in street.from wires es) (row_before (row_in street.from wires es) street.tick) street.tick (to - street.tick)
 
-none-told : (wires : List Wire) (es : List InputEvent) (field : Field) (to : ℕ) → to ≤ field.tick → Told wires es field to []
+none-told : (wires : List Wire) (es : List InputEvent) (street : Street) (to : ℕ) → to ≤ street.tick → Told wires es street to []
 unfolding changes
-none-told wires es field to le = let none : to - field.tick ≡ 0 = omega (arith, le) in sym (ap (λ (n : ℕ). changes (row_in field.from wires es) (row_before (row_in field.from wires es) field.tick) field.tick n) none)
+none-told wires es street to le = let none : to - street.tick ≡ 0 = omega (arith, le) in sym (ap (λ (n : ℕ). changes (row_in street.from wires es) (row_before (row_in street.from wires es) street.tick) street.tick n) none)
 
-pub two-settles : (wires : List Wire) (es : List InputEvent) (s s1 s2 : Field) (first second : Option LogRow) (to : ℕ) → Follows wires es s → 1 ≤ s.tick → Settles to (s.tick + 1) s s1 first → Settles to to s1 s2 second
+pub two-settles : (wires : List Wire) (es : List InputEvent) (s s1 s2 : Street) (first second : Option LogRow) (to : ℕ) → Follows wires es s → 1 ≤ s.tick → Settles to (s.tick + 1) s s1 first → Settles to to s1 s2 second
     → Follows wires es s2 × Told wires es s to (option_to_list first ++ option_to_list second)
 two-settles wires es s s1 s2 first second to f one p q = elim (leb_tells (suc s.tick) to) [
   | inl z ↦ below z.1 (rw z.0 at p.tick) (p.rows wires es f z.1 one (inl refl))
@@ -146,7 +146,7 @@ two-settles wires es s s1 s2 first second to f one p q = elim (leb_tells (suc s.
     past le =
         let (same, none) = p.stays le in
         let (same2, none2) = q.stays (rw same le) in
-        (subst (λ (x : Field). Follows wires es x) (sym (same2 ∙ same)) f, rw (none, none2) (none-told wires es s to le))
+        (subst (λ (x : Street). Follows wires es x) (sym (same2 ∙ same)) f, rw (none, none2) (none-told wires es s to le))
 
     below : s.tick < to → s1.tick ≡ s.tick + 1
         → Follows wires es s1 × (option_to_list first ≡ changes (row_in s.from wires es) (row_before (row_in s.from wires es) s.tick) s.tick (s.tick + 1 - s.tick))
@@ -165,7 +165,7 @@ two-settles wires es s s1 s2 first second to f one p q = elim (leb_tells (suc s.
           let over : to < suc s1.tick = z.1 in
           let all : to - s.tick ≡ s.tick + 1 - s.tick = omega (arith, over, next, lt) in
           let (same2, none2) = q.stays (omega (arith, over)) in (
-            subst (λ (x : Field). Follows wires es x) (sym same2) told.0,
+            subst (λ (x : Street). Follows wires es x) (sym same2) told.0,
             rw none2 (append-nil (option_to_list first)) ∙ told.1 ∙ ap (λ (n : ℕ). changes (row_in s.from wires es) (row_before (row_in s.from wires es) s.tick) s.tick n) (sym all),
           )
     ]
@@ -180,7 +180,7 @@ unwritten-zero tick e = rw e refl
 pub unwritten-some : (tick : ℕ) → 1 ≤ tick → unwritten tick ≡ tick
 unwritten-some tick one = rw (le-leb 1 tick one) refl
 
-pub told-until : (wires : List Wire) (es : List InputEvent) (s : Field) (from tick n to : ℕ) (rows : List LogRow) → Told wires es s to rows → s.from ≡ from → s.tick ≡ n → unwritten tick ≡ n → rows ≡ rows_until from wires es tick to
+pub told-until : (wires : List Wire) (es : List InputEvent) (s : Street) (from tick n to : ℕ) (rows : List LogRow) → Told wires es s to rows → s.from ≡ from → s.tick ≡ n → unwritten tick ≡ n → rows ≡ rows_until from wires es tick to
 told-until wires es s from tick n to rows told e t u =
     told ∙ ap (λ (k : ℕ). changes (row_in k wires es) (row_before (row_in k wires es) s.tick) s.tick (to - s.tick)) e
     ∙ ap (λ (k : ℕ). changes (row_in from wires es) (row_before (row_in from wires es) k) k (to - k)) t ∙ sym (until-at from wires es tick n to u)
@@ -215,7 +215,7 @@ pub late-is : (from nanos tick : ℕ) → LiesIn from nanos tick → ltb 0 tick 
 late-is from nanos zero lies = sym (elim (leb_tells (begin_of from 0) nanos) [ inl z ↦ absurd (let le : begin_of from 0 ≤ nanos = z.1 in let lt : nanos < from = lies.first refl in omega (arith, le, lt)) | inr z ↦ z.0 ])
 late-is from nanos (suc k) lies = lt-ltb 0 (suc k) (omega arith) ∙ sym (le-leb (begin_of from (suc k)) nanos (lies.within (omega arith)))
 
-pub follows-push : (wires : List Wire) (es : List InputEvent) (e : InputEvent) (old new : Field) (early late : Bool) → Follows wires es old → LiesIn old.from e.nanos old.tick → early ≡ leb e.nanos (begin_of old.from old.tick)
+pub follows-push : (wires : List Wire) (es : List InputEvent) (e : InputEvent) (old new : Street) (early late : Bool) → Follows wires es old → LiesIn old.from e.nanos old.tick → early ≡ leb e.nanos (begin_of old.from old.tick)
     → late ≡ leb (begin_of old.from old.tick) e.nanos → new.leads.items ≡ map (lead_taken e early late) old.leads.items → new.from ≡ old.from → new.tick ≡ old.tick → new.before ≡ old.before → Follows wires (es ++ e ∷ []) new
 follows-push wires es e old new early late f lies is_early is_late leads from tick before = record {
   leads =

@@ -1,10 +1,10 @@
 use Rattle.std.proofs.Common.{◌≡◌, ◌≤◌, ◌∙◌, arith, ap, sym, subst, nat_lt, nat_le}
 use Rattle.tsb_field_log.specs.Ticks.{begin_of}
-use Rattle.tsb_field_log.specs.Fields.{tick_at, rows_until}
+use Rattle.tsb_field_log.specs.Streets.{tick_at, rows_until}
 use Rattle.tsb_field_log.specs.Pushed.{last_tick}
-use Rattle.tsb_field_log.proofs.FieldLemmas.{LiesIn, follows-push, lies-in, late-is}
+use Rattle.tsb_field_log.proofs.StreetLemmas.{LiesIn, follows-push, lies-in, late-is}
 use Rattle.tsb_field_log.proofs.TakenLemmas.{taken-push}
-use Rattle.tsb_field_log.proofs.field.Field.push.Goals as goal
+use Rattle.tsb_field_log.proofs.street.Street.push.Goals as goal
 
 pub returns-clause-pushed : goal.returns-clause-pushed
 returns-clause-pushed c wires events f le =

@@ -1,4 +1,4 @@
--- How far a field has come: the tick of its last event, and what stands before it.
+-- How far a street has come: the tick of its last event, and what stands before it.
 use Rattle.std.specs.Prelude.{◌≡◌, ℕ, ◌+◌, ◌-◌, ◌/◌, ◌<◌, nat_le, nat_lt, List, [], ◌∷◌, ◌++◌, map, if◌then◌else◌, option_to_list}
 use Rattle.tsb_types.specs.Sets.{all_off}
 use Rattle.tsb_types.specs.declared.row.Row.{Row}
@@ -8,8 +8,8 @@ use Rattle.tsb_field_log.specs.Changes.{changes}
 use Rattle.tsb_field_log.specs.Leads.{lead_of}
 use Rattle.tsb_field_log.specs.declared.inputs.Wire.{Wire}
 use Rattle.tsb_field_log.specs.declared.inputs.InputEvent.{InputEvent}
-use Rattle.tsb_field_log.specs.declared.field.Field.{Field}
-use Rattle.tsb_field_log.specs.declared.field.Rows.{Rows}
+use Rattle.tsb_field_log.specs.declared.street.Street.{Street}
+use Rattle.tsb_field_log.specs.declared.street.Rows.{Rows}
 
 -- the tick that a moment lies in, and 0 where it is before tick 1
 abbrev pub tick_at : ℕ → ℕ → ℕ
@@ -28,11 +28,11 @@ row_before inputs tick = if nat_le tick 1 then all_off else inputs (tick - 1)
 abbrev pub unwritten : ℕ → ℕ
 unwritten tick = if nat_le 1 tick then tick else 1
 
--- a field has come to its present tick by these events, on these wires
-pub record Follows (wires : List Wire) (events : List InputEvent) (field : Field) : Type 0 where
-  pub leads : field.leads.items ≡ map (lead_of field.from field.tick events) wires
-  pub ended : AreBefore (begin_of field.from (field.tick + 1)) events
-  pub before : field.before ≡ row_before (row_in field.from wires events) field.tick
+-- a street has come to its present tick by these events, on these wires
+pub record Follows (wires : List Wire) (events : List InputEvent) (street : Street) : Type 0 where
+  pub leads : street.leads.items ≡ map (lead_of street.from street.tick events) wires
+  pub ended : AreBefore (begin_of street.from (street.tick + 1)) events
+  pub before : street.before ≡ row_before (row_in street.from wires events) street.tick
 
 -- the rows that become known as a tick begins, where the last of these events fell into an earlier one
 abbrev pub rows_until : ℕ → List Wire → List InputEvent → ℕ → ℕ → List LogRow
