@@ -12,7 +12,7 @@ use std::convert::AsStr;
 use std::io::{Read, Write};
 use tsb_event_text::Moment;
 use tsb_field_diagram::diagram_text;
-use tsb_field_display::{HistoryError, read_history};
+use tsb_field_display::{ReplayError, read_replay};
 use tsb_field_events::{EventsError, events_text};
 use tsb_field_log::Wire;
 use tsb_field_streams::log;
@@ -119,15 +119,15 @@ fn write_events<F: Files, R: Read, W: Write, E: Write>(
         Ok(rows) => rows,
         Err(fault) => return refuse_log(alloc, errors, fault),
     };
-    let history = match read_history(alloc, input) {
-        Ok(history) => history,
+    let replay = match read_replay(alloc, input) {
+        Ok(replay) => replay,
         Err(fault) => return fail(errors, failure_of(fault)),
     };
     match events_text(
         alloc,
         from,
         device.as_bytes(),
-        history.changes(),
+        replay.changes(),
         rows.rows(),
     ) {
         Ok(text) => write_all(output, errors, &text),
@@ -164,16 +164,16 @@ fn write_diagram<F: Files, R: Read, W: Write, E: Write>(
         Ok(rows) => rows,
         Err(fault) => return refuse_log(alloc, errors, fault),
     };
-    let history = match read_history(alloc, input) {
-        Ok(history) => history,
+    let replay = match read_replay(alloc, input) {
+        Ok(replay) => replay,
         Err(fault) => return fail(errors, failure_of(fault)),
     };
     match diagram_text(
         alloc,
         title,
         seconds,
-        history.changes(),
-        history.last_tick(),
+        replay.changes(),
+        replay.last_tick(),
         rows.rows(),
     ) {
         Ok(text) => write_all(output, errors, &text),
@@ -206,9 +206,9 @@ fn refuse_log<E: Write>(alloc: Global, errors: &mut E, fault: ReadError<LogError
 }
 
 /// The failure of a session that was not read.
-fn failure_of(fault: HistoryError) -> Failure {
+fn failure_of(fault: ReplayError) -> Failure {
     match fault {
-        HistoryError::Memory => Failure::Memory,
-        HistoryError::Read => Failure::Read,
+        ReplayError::Memory => Failure::Memory,
+        ReplayError::Read => Failure::Read,
     }
 }

@@ -3,7 +3,7 @@ pub mod SameLemmas
 pub mod NumberLemmas
 pub mod LawLemmas
 pub mod LineLemmas
-pub mod HistoryLemmas
+pub mod ReplayLemmas
 pub mod EventLemmas
 pub mod StreamLemmas
 pub mod Examples

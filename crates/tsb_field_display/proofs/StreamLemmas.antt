@@ -10,12 +10,12 @@ use Rattle.tsb_lines.specs.Lines.{HasNoFeed, kept, without_return}
 use Rattle.tsb_lines.proofs.KeptLemmas.{kept-more, kept-tells}
 use Rattle.tsb_lines.proofs.LineLemmas.{feedless-more, length-return, split-alone, split-joined}
 use Rattle.tsb_streams.proofs.StreamLemmas.{consumes-more, consumes-nothing}
-use Rattle.tsb_field_display.specs.declared.error.HistoryError.{HistoryError}
+use Rattle.tsb_field_display.specs.declared.error.ReplayError.{ReplayError}
 use Rattle.tsb_field_display.specs.declared.shown.Shown.{Shown}
 use Rattle.tsb_field_display.specs.declared.stream.Stream.{Stream}
 use Rattle.tsb_field_display.specs.Reading.{is_display, shown_of}
 use Rattle.tsb_field_display.specs.Remaining.{Keeps}
-use Rattle.tsb_field_display.specs.Stream.{Going, HistoryRead, Stand, StandsAt, shown_in, shown_lines, start, with_byte, with_bytes, with_held, with_line, with_shown}
+use Rattle.tsb_field_display.specs.Stream.{Going, ReplayRead, Stand, StandsAt, shown_in, shown_lines, start, with_byte, with_bytes, with_held, with_line, with_shown}
 
 -- ## A line of which the first bytes are held
 
@@ -93,17 +93,17 @@ going_more i l m old new bytes going taken stands = record {
   stands = subst (λ (s : Stand). StandsAt s new) (sym (fold-append with_byte start going.bytes bytes)) (stands (with_bytes start going.bytes) going.stands);
 }
 
-pub read_fault : (i l m : Option (List ℕ)) (stream : Stream) (bytes : List ℕ) (e : HistoryError) → Going i l stream → Consumes l m bytes → HistoryRead (Err e) i m
+pub read_fault : (i l m : Option (List ℕ)) (stream : Stream) (bytes : List ℕ) (e : ReplayError) → Going i l stream → Consumes l m bytes → ReplayRead (Err e) i m
 read_fault i l m stream bytes e going taken =
     record { bytes = going.bytes ++ bytes; taken = consumes-more i l m going.bytes bytes going.taken taken; so = tt }
 
 pub read_end : (i l : Option (List ℕ)) (old new : Stream) → Going i l old → IsAtEnd l → ((s : Stand) → StandsAt s old → StandsAt (with_line s) new)
-    → HistoryRead (Ok new.history) i l
+    → ReplayRead (Ok new.replay) i l
 read_end i l old new going end ends = record {
   bytes = going.bytes;
   taken = going.taken;
   so = (
     end,
-    subst (λ (lines : List Shown). Keeps new.history lines) (lines-taken going.bytes) (ends (with_bytes start going.bytes) going.stands).shown,
+    subst (λ (lines : List Shown). Keeps new.replay lines) (lines-taken going.bytes) (ends (with_bytes start going.bytes) going.stands).shown,
   );
 }

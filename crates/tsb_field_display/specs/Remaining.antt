@@ -3,7 +3,7 @@ use Rattle.std.specs.Prelude.{◌≡◌, ℕ, nat_lt, Bool, true, false, List, [
 use Rattle.std.specs.List.{list_all}
 use Rattle.tsb_field_display.specs.declared.shown.Signals.{Signals}
 use Rattle.tsb_field_display.specs.declared.shown.Shown.{Shown}
-use Rattle.tsb_field_display.specs.declared.history.History.{History}
+use Rattle.tsb_field_display.specs.declared.replay.Replay.{Replay}
 use Rattle.tsb_field_display.specs.Shows.{nothing_lit, is_same}
 
 -- ## Lines that remain
@@ -59,14 +59,14 @@ no_line = record { tick = 0; signals = nothing_lit }
 -- ## Histories
 
 -- the changes that it keeps
-abbrev pub changes_in : History → List Shown
-changes_in history = history.changes.items
+abbrev pub changes_in : Replay → List Shown
+changes_in replay = replay.changes.items
 
 -- the last tick that it keeps
-abbrev pub last_in : History → Option ℕ
-last_in history = history.last
+abbrev pub last_in : Replay → Option ℕ
+last_in replay = replay.last
 
 -- it keeps the changes of what remains of these lines, and the tick of the last of them
-pub record Keeps (history : History) (lines : List Shown) : Type 0 where
-  pub changes : changes_in history ≡ changes_of (remaining lines)
-  pub last : last_in history ≡ last_tick lines
+pub record Keeps (replay : Replay) (lines : List Shown) : Type 0 where
+  pub changes : changes_in replay ≡ changes_of (remaining lines)
+  pub last : last_in replay ≡ last_tick lines

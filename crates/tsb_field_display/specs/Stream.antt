@@ -3,8 +3,8 @@ use Rattle.std.specs.Prelude.{◌≡◌, ℕ, ◌==◌, Bool, false, List, [], �
 use Rattle.std.specs.List.{filter_map, fold}
 use Rattle.std.specs.Io.KnownBytes.{Consumes, IsAtEnd}
 use Rattle.tsb_lines.specs.Lines.{kept, split, without_return}
-use Rattle.tsb_field_display.specs.declared.error.HistoryError.{HistoryError}
-use Rattle.tsb_field_display.specs.declared.history.History.{History}
+use Rattle.tsb_field_display.specs.declared.error.ReplayError.{ReplayError}
+use Rattle.tsb_field_display.specs.declared.replay.Replay.{Replay}
 use Rattle.tsb_field_display.specs.declared.shown.Shown.{Shown}
 use Rattle.tsb_field_display.specs.declared.stream.Stream.{Stream}
 use Rattle.tsb_field_display.specs.declared.stream.TheConstants.{KEPT}
@@ -21,13 +21,13 @@ shown_in line = shown_of (without_return line)
 abbrev pub shown_lines : List ℕ → List Shown
 shown_lines bytes = filter_map shown_in (split bytes)
 
--- these bytes were read, up to the end, and the history keeps their display lines; or reading them was ended by a fault
-abbrev pub ReadSo : Result History HistoryError → Option (List ℕ) → List ℕ → Type 0
-ReadSo (Ok history) left bytes = IsAtEnd left × Keeps history (shown_lines bytes)
+-- these bytes were read, up to the end, and the replay keeps their display lines; or reading them was ended by a fault
+abbrev pub ReadSo : Result Replay ReplayError → Option (List ℕ) → List ℕ → Type 0
+ReadSo (Ok replay) left bytes = IsAtEnd left × Keeps replay (shown_lines bytes)
 ReadSo (Err e) left bytes = Unit {0}
 
 -- the bytes that were read
-pub record HistoryRead (result : Result History HistoryError) (input left : Option (List ℕ)) : Type 0 where
+pub record ReplayRead (result : Result Replay ReplayError) (input left : Option (List ℕ)) : Type 0 where
   pub bytes : List ℕ
   pub taken : Consumes input left bytes
   pub so : ReadSo result left bytes
@@ -68,7 +68,7 @@ with_bytes s bytes = fold with_byte s bytes
 
 -- a stream has come to this
 pub record StandsAt (s : Stand) (stream : Stream) : Type 0 where
-  pub shown : Keeps stream.history s.shown
+  pub shown : Keeps stream.replay s.shown
   pub held : stream.line ≡ s.held
 
 -- these bytes were read so far, and a stream has taken them

@@ -3,15 +3,15 @@
 
 pub mod error;
 pub mod events;
-pub mod history;
 pub mod laws;
 pub mod reading;
+pub mod replay;
 pub mod shown;
 pub mod stream;
 
-pub use error::HistoryError;
+pub use error::ReplayError;
 pub use events::{DisplayEvent, EVENTS, Events, events_between};
-pub use history::History;
 pub use reading::read_line;
+pub use replay::Replay;
 pub use shown::{PedestrianHeads, Shown, Signals, VehicleHeads};
-pub use stream::read_history;
+pub use stream::read_replay;

@@ -1,11 +1,11 @@
 //! Reading what a session answers: of its lines the display lines.
 ghost use Rattle.std.specs.Prelude.{ℕ, Err, List, MatchResult, OnOk, Option};
 ghost use Rattle.std.specs.Io.KnownBytes.{IsAtEnd};
-ghost use Rattle.tsb_field_display.specs.Stream.{GoesOn, Going, HistoryRead, Stand, StandsAt, with_byte, with_bytes, with_line, start};
+ghost use Rattle.tsb_field_display.specs.Stream.{GoesOn, Going, ReplayRead, Stand, StandsAt, with_byte, with_bytes, with_line, start};
 
-use crate::error::HistoryError;
-use crate::history::History;
+use crate::error::ReplayError;
 use crate::reading::read_line;
+use crate::replay::Replay;
 use std::alloc::{AllocError, Global};
 use std::io::Read;
 use tsb_display_text::WIDTH;
@@ -18,11 +18,11 @@ const KEPT: usize = WIDTH + 2;
 /// How many bytes one read asks for.
 const CHUNK: usize = 4096;
 
-/// What is known behind some bytes: the history of the lines that have ended, and the bytes of the line that has not,
+/// What is known behind some bytes: the replay of the lines that have ended, and the bytes of the line that has not,
 /// of a long one the first.
 #[derive(Drop)]
 struct Stream {
-    history: History,
+    replay: Replay,
     line: KeptLine<KEPT>,
 }
 
@@ -32,7 +32,7 @@ impl Stream {
         ensures { StandsAt start result }
     {
         Stream {
-            history: History::new(alloc),
+            replay: Replay::new(alloc),
             line: KeptLine::new(),
         }
     }
@@ -42,7 +42,7 @@ impl Stream {
         ensures { (s : Stand) → StandsAt s self.old → OnOk result (StandsAt (with_line s) self.new) }
     {
         if let Some(shown) = read_line(self.line.ended()) {
-            self.history.push(shown)?;
+            self.replay.push(shown)?;
         }
         self.line.clear();
         Ok(())
@@ -75,28 +75,28 @@ impl Stream {
         &mut self,
         reader: &mut R,
         chunk: &mut [u8; CHUNK],
-    ) -> Result<bool, HistoryError>
+    ) -> Result<bool, ReplayError>
         ensures { (input : Option (List ℕ)) → Going input (R.remaining reader.old) self.old → MatchResult result
             (λ more. GoesOn more input (R.remaining reader.new) self.new)
-            (λ e. HistoryRead (Err e) input (R.remaining reader.new)) }
+            (λ e. ReplayRead (Err e) input (R.remaining reader.new)) }
     {
         let Ok(count) = reader.read(chunk) else {
-            return Err(HistoryError::Read);
+            return Err(ReplayError::Read);
         };
         let Ok(()) = self.feed_all(&chunk[..count]) else {
-            return Err(HistoryError::Memory);
+            return Err(ReplayError::Memory);
         };
         Ok(count != 0)
     }
 
-    /// Ends the last line, which no line feed ends, and gives the history.
-    fn finish(mut self) -> Result<History, HistoryError>
-        ensures { (input left : Option (List ℕ)) → Going input left self → IsAtEnd left → HistoryRead result input left }
+    /// Ends the last line, which no line feed ends, and gives the replay.
+    fn finish(mut self) -> Result<Replay, ReplayError>
+        ensures { (input left : Option (List ℕ)) → Going input left self → IsAtEnd left → ReplayRead result input left }
     {
         let Ok(()) = self.end_line() else {
-            return Err(HistoryError::Memory);
+            return Err(ReplayError::Memory);
         };
-        Ok(self.history)
+        Ok(self.replay)
     }
 }
 
@@ -107,8 +107,8 @@ impl Stream {
 /// `Read` comes where a read fails or is interrupted, or after 2^64 - 1 reads, and `Memory` where there is none to keep
 /// a change. Nothing is read behind either, and what was read until then is lost.
 #[tactic(auto, using(crate::proofs::StreamLemmas::going_start))]
-pub fn read_history<R: Read>(alloc: Global, reader: &mut R) -> Result<History, HistoryError>
-    ensures { HistoryRead result (R.remaining reader.old) (R.remaining reader.new) }
+pub fn read_replay<R: Read>(alloc: Global, reader: &mut R) -> Result<Replay, ReplayError>
+    ensures { ReplayRead result (R.remaining reader.old) (R.remaining reader.new) }
 {
     let mut stream = Stream::new(alloc);
     let mut chunk = [0; CHUNK];
@@ -117,5 +117,5 @@ pub fn read_history<R: Read>(alloc: Global, reader: &mut R) -> Result<History, H
             return stream.finish();
         }
     }
-    Err(HistoryError::Read)
+    Err(ReplayError::Read)
 }

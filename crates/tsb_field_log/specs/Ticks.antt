@@ -1,5 +1,5 @@
--- Ticks of a street, and the inputs that are on in each. A tick is a tenth of a second. Tick 1 begins at the moment that
--- a log is made from; events before it say how it begins.
+-- Ticks of a street, and the inputs that are on in each. A tick is a tenth of a second. Tick 1 begins at the moment
+-- that a log is made from; events before it say how it begins.
 use Rattle.std.specs.Prelude.{ℕ, ◌+◌, ◌-◌, ◌*◌, ◌==◌, ◌&&◌, ◌||◌, Bool, false, List, [], ◌∷◌}
 use Rattle.tsb_types.specs.Sets.{list_of, set_of_list}
 use Rattle.tsb_types.specs.declared.row.Row.{Row}

@@ -33,7 +33,7 @@ pub struct LeftOut {
 pub struct Filter<'a> {
     /// The device whose rows count, byte for byte, or all where it is `None`.
     device: Option<&'a [u8]>,
-    /// The wires that the field was made with.
+    /// The wires that the street was made with.
     wires: &'a [Wire],
     /// Where the columns stand, known from the first line that is not skipped.
     columns: Option<Columns>,

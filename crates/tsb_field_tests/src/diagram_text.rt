@@ -2,7 +2,7 @@
 
 use std::alloc::{AllocError, Global};
 use tsb_field_diagram::diagram_text;
-use tsb_field_display::{History, Shown, read_line};
+use tsb_field_display::{Replay, Shown, read_line};
 use tsb_log_text::LogRow;
 use tsb_types::{NumberSet, Row};
 
@@ -131,14 +131,14 @@ const DARK_LINE: &[u8] = b"<svg width=\"1160\" height=\"36\" y=\"64\">
 ";
 
 /// The lines of a display, as far as they are some.
-fn history(alloc: Global, lines: &[&[u8]]) -> Result<History, AllocError> {
-    let mut history = History::new(alloc);
+fn replay(alloc: Global, lines: &[&[u8]]) -> Result<Replay, AllocError> {
+    let mut replay = Replay::new(alloc);
     for line in lines {
         if let Some(shown) = read_line(line) {
-            history.push(shown)?;
+            replay.push(shown)?;
         }
     }
-    Ok(history)
+    Ok(replay)
 }
 
 /// A row of a log.
@@ -220,9 +220,9 @@ fn a_character_that_xml_forbids_is_told_as_one_sign(rt: HostRuntime) -> Result<(
 #[test]
 fn lines_break_and_bars_are_their_ticks(rt: HostRuntime) -> Result<(), AllocError> {
     let alloc = rt.alloc();
-    let history = history(alloc, &[RED, GREEN, CLEARING, YELLOW, FLASH])?;
+    let replay = replay(alloc, &[RED, GREEN, CLEARING, YELLOW, FLASH])?;
     let rows = [row(40, 2, 0, 0), row(60, 0, 1, 2), row(105, 0, 0, 0)];
-    let text = lines_of(alloc, 10, history.changes(), 130, &rows)?;
+    let text = lines_of(alloc, 10, replay.changes(), 130, &rows)?;
     assert!(rt; text.as_slice() == TWO_LINES);
     Ok(())
 }
@@ -230,8 +230,8 @@ fn lines_break_and_bars_are_their_ticks(rt: HostRuntime) -> Result<(), AllocErro
 #[test]
 fn what_is_dark_has_no_band(rt: HostRuntime) -> Result<(), AllocError> {
     let alloc = rt.alloc();
-    let history = history(alloc, &[DARK])?;
-    let text = lines_of(alloc, 60, history.changes(), 20, &[])?;
+    let replay = replay(alloc, &[DARK])?;
+    let text = lines_of(alloc, 60, replay.changes(), 20, &[])?;
     assert!(rt; text.as_slice() == DARK_LINE);
     Ok(())
 }
@@ -239,12 +239,12 @@ fn what_is_dark_has_no_band(rt: HostRuntime) -> Result<(), AllocError> {
 #[test]
 fn no_seconds_are_one_and_many_are_a_day(rt: HostRuntime) -> Result<(), AllocError> {
     let alloc = rt.alloc();
-    let history = history(alloc, &[RED, GREEN])?;
-    let one = lines_of(alloc, 1, history.changes(), 25, &[])?;
-    let none = lines_of(alloc, 0, history.changes(), 25, &[])?;
+    let replay = replay(alloc, &[RED, GREEN])?;
+    let one = lines_of(alloc, 1, replay.changes(), 25, &[])?;
+    let none = lines_of(alloc, 0, replay.changes(), 25, &[])?;
     assert!(rt; none.as_slice() == one.as_slice());
-    let day = lines_of(alloc, 86_400, history.changes(), 25, &[])?;
-    let more = lines_of(alloc, u32::MAX, history.changes(), 25, &[])?;
+    let day = lines_of(alloc, 86_400, replay.changes(), 25, &[])?;
+    let more = lines_of(alloc, u32::MAX, replay.changes(), 25, &[])?;
     assert!(rt; more.as_slice() == day.as_slice());
     Ok(())
 }

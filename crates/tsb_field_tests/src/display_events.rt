@@ -2,7 +2,7 @@
 //! from the rules.
 
 use std::alloc::{AllocError, Global};
-use tsb_field_display::{History, Shown, Signals, events_between, read_line};
+use tsb_field_display::{Replay, Shown, Signals, events_between, read_line};
 use tsb_types::NumberSet;
 
 /// Phase 2 red and then green, with a walk, and overlap 1.
@@ -135,25 +135,25 @@ fn at(tick: u32, line: &[u8]) -> Shown {
 }
 
 #[test]
-fn a_history_keeps_the_changes_that_remain(rt: HostRuntime) -> Result<(), AllocError> {
-    let mut history = History::new(rt.alloc());
-    assert!(rt; history.changes() == [].as_slice());
-    assert!(rt; history.last_tick() == None);
-    history.push(at(1, RED))?;
-    history.push(at(2, GREEN))?;
-    history.push(at(3, GREEN))?;
-    history.push(at(4, YELLOW))?;
-    history.push(at(5, YELLOW))?;
-    assert!(rt; history.changes() == [at(1, RED), at(2, GREEN), at(4, YELLOW)].as_slice());
-    assert!(rt; history.last_tick() == Some(5));
-    history.push(at(4, GREEN))?;
-    assert!(rt; history.changes() == [at(1, RED), at(2, GREEN)].as_slice());
-    assert!(rt; history.last_tick() == Some(4));
-    history.push(at(2, RED))?;
-    history.push(at(3, FLASH))?;
-    assert!(rt; history.changes() == [at(1, RED), at(3, FLASH)].as_slice());
-    history.push(at(0, RED))?;
-    assert!(rt; history.changes() == [at(0, RED)].as_slice());
-    assert!(rt; history.last_tick() == Some(0));
+fn a_replay_keeps_the_changes_that_remain(rt: HostRuntime) -> Result<(), AllocError> {
+    let mut replay = Replay::new(rt.alloc());
+    assert!(rt; replay.changes() == [].as_slice());
+    assert!(rt; replay.last_tick() == None);
+    replay.push(at(1, RED))?;
+    replay.push(at(2, GREEN))?;
+    replay.push(at(3, GREEN))?;
+    replay.push(at(4, YELLOW))?;
+    replay.push(at(5, YELLOW))?;
+    assert!(rt; replay.changes() == [at(1, RED), at(2, GREEN), at(4, YELLOW)].as_slice());
+    assert!(rt; replay.last_tick() == Some(5));
+    replay.push(at(4, GREEN))?;
+    assert!(rt; replay.changes() == [at(1, RED), at(2, GREEN)].as_slice());
+    assert!(rt; replay.last_tick() == Some(4));
+    replay.push(at(2, RED))?;
+    replay.push(at(3, FLASH))?;
+    assert!(rt; replay.changes() == [at(1, RED), at(3, FLASH)].as_slice());
+    replay.push(at(0, RED))?;
+    assert!(rt; replay.changes() == [at(0, RED)].as_slice());
+    assert!(rt; replay.last_tick() == Some(0));
     Ok(())
 }

@@ -1,7 +1,7 @@
 //! What is kept of all that a session answers. Expected values are worked by hand from the rules.
 
 use std::io::{self, ErrorKind, Read, Write};
-use tsb_field_display::{HistoryError, Shown, Signals, read_history, read_line};
+use tsb_field_display::{ReplayError, Shown, Signals, read_line, read_replay};
 
 const RED: &[u8] = b"0000001 -R-R------------ -D-------------- R--- 0 ----";
 
@@ -74,29 +74,29 @@ fn at(tick: u32, line: &[u8]) -> Shown {
 }
 
 #[test]
-fn display_lines_among_answers_are_kept(rt: HostRuntime) -> Result<(), HistoryError> {
+fn display_lines_among_answers_are_kept(rt: HostRuntime) -> Result<(), ReplayError> {
     let mut reader = ANSWERS;
-    let history = read_history(rt.alloc(), &mut reader)?;
-    assert!(rt; history.changes() == [at(1, RED), at(2, GREEN), at(4, YELLOW)].as_slice());
-    assert!(rt; history.last_tick() == Some(4));
+    let replay = read_replay(rt.alloc(), &mut reader)?;
+    assert!(rt; replay.changes() == [at(1, RED), at(2, GREEN), at(4, YELLOW)].as_slice());
+    assert!(rt; replay.last_tick() == Some(4));
     assert!(rt; reader.is_empty());
     Ok(())
 }
 
 #[test]
-fn no_answer_leaves_no_line(rt: HostRuntime) -> Result<(), HistoryError> {
+fn no_answer_leaves_no_line(rt: HostRuntime) -> Result<(), ReplayError> {
     let others: [&[u8]; 5] = [b"", b"\n", b"\r\n\r\n", b"ok\nnothing", b"undone tick\r"];
     for answers in others {
         let mut reader = answers;
-        let history = read_history(rt.alloc(), &mut reader)?;
-        assert!(rt; history.changes() == [].as_slice());
-        assert!(rt; history.last_tick() == None);
+        let replay = read_replay(rt.alloc(), &mut reader)?;
+        assert!(rt; replay.changes() == [].as_slice());
+        assert!(rt; replay.last_tick() == None);
     }
     Ok(())
 }
 
 #[test]
-fn one_return_is_no_part_of_a_line(rt: HostRuntime) -> Result<(), HistoryError> {
+fn one_return_is_no_part_of_a_line(rt: HostRuntime) -> Result<(), ReplayError> {
     let ends: [(&[u8], bool); 10] = [
         (b"", true),
         (b"\n", true),
@@ -111,14 +111,14 @@ fn one_return_is_no_part_of_a_line(rt: HostRuntime) -> Result<(), HistoryError> 
     ];
     for (end, is_read) in ends {
         let mut reader = STILL_GREEN.chain(end);
-        let history = read_history(rt.alloc(), &mut reader)?;
-        assert!(rt; history.last_tick().is_some() == is_read);
+        let replay = read_replay(rt.alloc(), &mut reader)?;
+        assert!(rt; replay.last_tick().is_some() == is_read);
     }
     Ok(())
 }
 
 #[test]
-fn a_display_line_may_stand_behind_none(rt: HostRuntime) -> Result<(), HistoryError> {
+fn a_display_line_may_stand_behind_none(rt: HostRuntime) -> Result<(), ReplayError> {
     let fronts: [(&[u8], bool); 4] = [
         (b"\n", true),
         (b"ok\n", true),
@@ -130,14 +130,14 @@ fn a_display_line_may_stand_behind_none(rt: HostRuntime) -> Result<(), HistoryEr
     ];
     for (front, is_read) in fronts {
         let mut reader = front.chain(GREEN);
-        let history = read_history(rt.alloc(), &mut reader)?;
-        assert!(rt; history.last_tick().is_some() == is_read);
+        let replay = read_replay(rt.alloc(), &mut reader)?;
+        assert!(rt; replay.last_tick().is_some() == is_read);
     }
     Ok(())
 }
 
 #[test]
-fn lines_that_go_back_take_lines_back(rt: HostRuntime) -> Result<(), HistoryError> {
+fn lines_that_go_back_take_lines_back(rt: HostRuntime) -> Result<(), ReplayError> {
     let mut reader: &[u8] = b"0000001 -R-R------------ -D-------------- R--- 0 ----
 0000002 -G-R------------ -W-------------- G--- 0 ----
 0000003 -Y-R------------ -D-------------- Y--- 0 ----
@@ -145,15 +145,15 @@ fn lines_that_go_back_take_lines_back(rt: HostRuntime) -> Result<(), HistoryErro
 0000002 -R-R------------ -D-------------- R--- 0 ----
 0000003 -G-R------------ -W-------------- G--- 0 ----
 ";
-    let history = read_history(rt.alloc(), &mut reader)?;
-    assert!(rt; history.changes() == [at(1, RED), at(3, GREEN)].as_slice());
-    assert!(rt; history.last_tick() == Some(3));
+    let replay = read_replay(rt.alloc(), &mut reader)?;
+    assert!(rt; replay.changes() == [at(1, RED), at(3, GREEN)].as_slice());
+    assert!(rt; replay.last_tick() == Some(3));
     Ok(())
 }
 
 /// A line that is longer than one read, and than all that is held of a line.
 #[test]
-fn a_long_line_is_skipped(rt: HostRuntime) -> Result<(), HistoryError> {
+fn a_long_line_is_skipped(rt: HostRuntime) -> Result<(), ReplayError> {
     for length in [1, 54, 55, 56, 4096, 10_000] {
         let long = io::repeat(b'-').take(length);
         let mut reader = RED
@@ -161,26 +161,26 @@ fn a_long_line_is_skipped(rt: HostRuntime) -> Result<(), HistoryError> {
             .chain(long)
             .chain(b"\n".as_slice())
             .chain(YELLOW);
-        let history = read_history(rt.alloc(), &mut reader)?;
-        assert!(rt; history.changes() == [at(1, RED), at(4, YELLOW)].as_slice());
+        let replay = read_replay(rt.alloc(), &mut reader)?;
+        assert!(rt; replay.changes() == [at(1, RED), at(4, YELLOW)].as_slice());
         let mut reader = RED.chain(io::repeat(b'-').take(length));
-        let history = read_history(rt.alloc(), &mut reader)?;
-        assert!(rt; history.changes() == [].as_slice());
+        let replay = read_replay(rt.alloc(), &mut reader)?;
+        assert!(rt; replay.changes() == [].as_slice());
     }
     Ok(())
 }
 
 #[test]
-fn pieces_are_read_as_the_whole(rt: HostRuntime) -> Result<(), HistoryError> {
+fn pieces_are_read_as_the_whole(rt: HostRuntime) -> Result<(), ReplayError> {
     for piece in [1, 2, 7, 53, 54, 4096] {
         let mut reader = Pieces {
             left: ANSWERS,
             piece,
             odd: None,
         };
-        let history = read_history(rt.alloc(), &mut reader)?;
-        assert!(rt; history.changes() == [at(1, RED), at(2, GREEN), at(4, YELLOW)].as_slice());
-        assert!(rt; history.last_tick() == Some(4));
+        let replay = read_replay(rt.alloc(), &mut reader)?;
+        assert!(rt; replay.changes() == [at(1, RED), at(2, GREEN), at(4, YELLOW)].as_slice());
+        assert!(rt; replay.last_tick() == Some(4));
         assert!(rt; reader.left.is_empty());
     }
     Ok(())
@@ -201,8 +201,8 @@ fn a_read_that_fails_ends_the_reading(rt: HostRuntime) {
                 piece: 1,
                 odd: Some((calls, Odd::Fails(kind))),
             };
-            let read = read_history(rt.alloc(), &mut reader);
-            assert!(rt; matches!(read, Err(HistoryError::Read)));
+            let read = read_replay(rt.alloc(), &mut reader);
+            assert!(rt; matches!(read, Err(ReplayError::Read)));
             assert!(rt; reader.left.len() == ANSWERS.len() - calls);
         }
     }
@@ -210,17 +210,17 @@ fn a_read_that_fails_ends_the_reading(rt: HostRuntime) {
 
 /// A reader gives no byte, at each of its reads: that is the end of the answers.
 #[test]
-fn a_read_of_nothing_is_the_end(rt: HostRuntime) -> Result<(), HistoryError> {
+fn a_read_of_nothing_is_the_end(rt: HostRuntime) -> Result<(), ReplayError> {
     for calls in 0..=ANSWERS.len() {
         let mut reader = Pieces {
             left: ANSWERS,
             piece: 1,
             odd: Some((calls, Odd::IsIdle)),
         };
-        let history = read_history(rt.alloc(), &mut reader)?;
+        let replay = read_replay(rt.alloc(), &mut reader)?;
         let mut front = &ANSWERS[..calls];
-        let whole = read_history(rt.alloc(), &mut front)?;
-        assert!(rt; history.changes() == whole.changes());
+        let whole = read_replay(rt.alloc(), &mut front)?;
+        assert!(rt; replay.changes() == whole.changes());
         assert!(rt; reader.left.len() == ANSWERS.len() - calls);
     }
     Ok(())
@@ -229,8 +229,8 @@ fn a_read_of_nothing_is_the_end(rt: HostRuntime) -> Result<(), HistoryError> {
 #[test]
 fn faults_have_texts(rt: HostRuntime) {
     for (fault, text) in [
-        (HistoryError::Memory, "memory"),
-        (HistoryError::Read, "read fault"),
+        (ReplayError::Memory, "memory"),
+        (ReplayError::Read, "read fault"),
     ] {
         let mut line = Vec::new(rt.alloc());
         assert!(rt; write!(line, "{fault}").is_ok());

@@ -6,10 +6,10 @@ use Rattle.tsb_field.proofs.run.write_diagram.Goals as goal
 pub returns-in-Err : goal.returns-in-Err
 returns-in-Err g c = inl (refl, refl, stops c.in-Err.fault _ _ c.refuse_log.result _ _ c.in-Err.ensures c.refuse_log.ensures)
 
-pub returns-in-Err-read_history : goal.returns-in-Err-read_history
-returns-in-Err-read_history g c =
-    inr (c.in-Ok.rows, c.in-Ok.ensures, inr (c.in-Err-read_history.ensures.bytes, c.in-Err-read_history.ensures.taken, refl, c.failure_of.result, c.fail.ensures))
+pub returns-in-Err-read_replay : goal.returns-in-Err-read_replay
+returns-in-Err-read_replay g c =
+    inr (c.in-Ok.rows, c.in-Ok.ensures, inr (c.in-Err-read_replay.ensures.bytes, c.in-Err-read_replay.ensures.taken, refl, c.failure_of.result, c.fail.ensures))
 
 pub returns : goal.returns
 returns g c =
-    inr (c.in-Ok.rows, c.in-Ok.ensures, inr (c.in-Ok-read_history.ensures.bytes, c.in-Ok-read_history.ensures.taken, refl, Memory, c.fail-in-Err-diagram_text.ensures))
+    inr (c.in-Ok.rows, c.in-Ok.ensures, inr (c.in-Ok-read_replay.ensures.bytes, c.in-Ok-read_replay.ensures.taken, refl, Memory, c.fail-in-Err-diagram_text.ensures))

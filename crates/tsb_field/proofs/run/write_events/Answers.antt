@@ -9,13 +9,13 @@ use Rattle.tsb_field.proofs.run.write_events.Goals as goal
 pub returns-in-Err : goal.returns-in-Err
 returns-in-Err g c = inl (refl, refl, stops c.in-Err.fault _ _ c.refuse_log.result _ _ c.in-Err.ensures c.refuse_log.ensures)
 
-pub returns-in-Err-read_history : goal.returns-in-Err-read_history
-returns-in-Err-read_history g c =
-    inr (inl (c.in-Ok.rows, c.in-Ok.ensures, inr (c.in-Err-read_history.ensures.bytes, c.in-Err-read_history.ensures.taken, refl, c.failure_of.result, c.fail.ensures)))
+pub returns-in-Err-read_replay : goal.returns-in-Err-read_replay
+returns-in-Err-read_replay g c =
+    inr (inl (c.in-Ok.rows, c.in-Ok.ensures, inr (c.in-Err-read_replay.ensures.bytes, c.in-Err-read_replay.ensures.taken, refl, c.failure_of.result, c.fail.ensures)))
 
 pub returns-in-Ok-events_text : goal.returns-in-Ok-events_text
 returns-in-Ok-events_text g c =
-    let read = c.in-Ok-read_history.ensures in
+    let read = c.in-Ok-read_replay.ensures in
     inr (inl (
       c.in-Ok.rows,
       c.in-Ok.ensures,
@@ -33,4 +33,4 @@ returns-in-Ok-events_text g c =
 
 pub returns-in-Err-Memory : goal.returns-in-Err-Memory
 returns-in-Err-Memory g c =
-    inr (inl (c.in-Ok.rows, c.in-Ok.ensures, inr (c.in-Ok-read_history.ensures.bytes, c.in-Ok-read_history.ensures.taken, refl, Memory, c.fail-in-Err-Memory.ensures)))
+    inr (inl (c.in-Ok.rows, c.in-Ok.ensures, inr (c.in-Ok-read_replay.ensures.bytes, c.in-Ok-read_replay.ensures.taken, refl, Memory, c.fail-in-Err-Memory.ensures)))

@@ -1,5 +1,5 @@
 use Rattle.std.proofs.Common.{take}
-use Rattle.tsb_field_display.specs.declared.error.HistoryError.TheVariants.{Memory}
+use Rattle.tsb_field_display.specs.declared.error.ReplayError.TheVariants.{Memory}
 use Rattle.tsb_field_display.proofs.StreamLemmas.{read_fault}
 use Rattle.tsb_field_display.proofs.stream.Stream.take_read.Goals as goal
 

@@ -189,7 +189,7 @@ before-take (line ∷ lines) tick (suc (suc count)) r within above below =
     sym (rw early (ap (λ (ls : List Shown). line ∷ ls) (sym (before-take lines tick (suc count) r.1 (omega (arith, within))
     (λ j from less. above (suc j) (omega (arith, from)) (omega (arith, less))) (λ k e. below (suc k) (ap suc e))))))
 
--- ## A history
+-- ## A replay
 
 -- what is kept is cut at the tick of a further line
 pub cut : (lines kept : List Shown) (tick count : ℕ) → kept ≡ changes_of (remaining lines) → count ≤ length kept →

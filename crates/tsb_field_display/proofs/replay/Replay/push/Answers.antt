@@ -1,11 +1,11 @@
 use Rattle.std.proofs.Common.{◌≡◌, ◌∙◌, List, [], ◌∷◌, ◌++◌, true, false, Bool, take, if◌then◌else◌, ap, sym, refl, append-nil, Result, Ok, Err}
 use Rattle.std.specs.Result.{OnErr}
 use Rattle.tsb_field_display.specs.declared.shown.Shown.{Shown}
-use Rattle.tsb_field_display.specs.declared.history.History.{History}
+use Rattle.tsb_field_display.specs.declared.replay.Replay.{Replay}
 use Rattle.tsb_field_display.specs.Remaining.{before_tick, shows_last}
-use Rattle.tsb_field_display.proofs.HistoryLemmas.{cut, kept-further, last-further}
-use Rattle.tsb_field_display.proofs.history.History.push.Goals as goal
-use Rattle.tsb_field_display.proofs.history.History.push.Goals.{then-not-shows_last+in_ok-push, else-not-shows_last}
+use Rattle.tsb_field_display.proofs.ReplayLemmas.{cut, kept-further, last-further}
+use Rattle.tsb_field_display.proofs.replay.Replay.push.Goals as goal
+use Rattle.tsb_field_display.proofs.replay.Replay.push.Goals.{then-not-shows_last+in_ok-push, else-not-shows_last}
 
 on_err : {A E : Type 0} (r : Result A E) (P : Type 0) → P → OnErr r P
 on_err (Ok a) P p = tt
@@ -41,13 +41,13 @@ returns-clause-ok c lines held =
     elim c.if-not-shows_last.branch [
       | then-not-shows_last+in_ok-push w ↦ record {
         changes = kept-further lines _ c.truncate.new.self.items _ c.args.shown held.changes is_cut
-            (ap (λ (h : History). h.changes.items) w.self-is ∙ w.in_ok-push.ensures.items
+            (ap (λ (h : Replay). h.changes.items) w.self-is ∙ w.in_ok-push.ensures.items
             ∙ kept false c.truncate.new.self.items c.args.shown (shows ∙ w.if-not-shows_last.true));
         last = sym (last-further lines c.args.shown);
       }
       | else-not-shows_last w ↦ record {
         changes = kept-further lines _ c.truncate.new.self.items _ c.args.shown held.changes is_cut
-            (ap (λ (h : History). h.changes.items) w.self-is
+            (ap (λ (h : Replay). h.changes.items) w.self-is
             ∙ kept true c.truncate.new.self.items c.args.shown (shows ∙ w.if-not-shows_last.false));
         last = sym (last-further lines c.args.shown);
       }

@@ -1,6 +1,6 @@
 use Rattle.std.proofs.Common.{ℕ, ◌≤◌, ◌<◌, length, get_or}
 use Rattle.tsb_field_display.specs.Remaining.{no_line}
-use Rattle.tsb_field_display.proofs.history.count_before.Given as goal
+use Rattle.tsb_field_display.proofs.replay.count_before.Given as goal
 
 -- those from count on are not before the tick
 abbrev pub invariant-loop-count : goal.invariant-loop-count

@@ -10,17 +10,17 @@ use std::alloc::{AllocError, Global};
 /// tick on, as a session does that goes back, and then stands itself. Only the first line is kept and those that show
 /// something else than the line before, so that it takes memory by what changes and not by ticks.
 #[derive(Drop)]
-pub struct History {
+pub struct Replay {
     changes: Vec<Shown>,
     last: Option<u32>,
 }
 
-impl History {
+impl Replay {
     /// That of no line. It takes no memory.
-    pub fn new(alloc: Global) -> History
+    pub fn new(alloc: Global) -> Replay
         ensures { Keeps result [] }
     {
-        History {
+        Replay {
             changes: Vec::new(alloc),
             last: None,
         }
