@@ -20,7 +20,7 @@ size_of [] = 0
 size_of (r ∷ rs) = size_of rs + record_size (length r.entries)
 
 -- the records, newest first, and for how many bytes of further records there is memory
-pub record Past : Type 0 where
+pub record Recorded : Type 0 where
   pub records : List Change
   pub room : ℕ
 

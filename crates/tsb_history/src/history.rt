@@ -19,10 +19,10 @@ pub struct History {
 
 impl Model for History {
     ghost use Rattle.std.specs.Prelude.{vec_len, vec_capacity, length, ◌-◌};
-    ghost use Rattle.tsb_history.specs.History.{Past};
+    ghost use Rattle.tsb_history.specs.History.{Recorded};
     ghost use Rattle.tsb_history.specs.Bytes.{changes_at, IsKept};
 
-    ghost Value = { Past };
+    ghost Value = { Recorded };
 
     ghost view = { λ a. record {
       records = changes_at a.count a.bytes.items (length a.bytes.items);

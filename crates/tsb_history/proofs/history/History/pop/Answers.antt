@@ -1,7 +1,7 @@
 use Rattle.std.proofs.Common.{◌≡◌, ◌≤◌, ◌+◌, ◌-◌, ◌∙◌, ap, sym, subst, arith, rules, length, vec_len, vec_capacity, Some}
 use Rattle.tsb_history.specs.declared.kinds.Kind.{Kind}
 use Rattle.tsb_history.specs.Bytes.{change_at, changes_at, start_at}
-use Rattle.tsb_history.specs.History.{Change, Past, newest_kind, older, size_of}
+use Rattle.tsb_history.specs.History.{Change, Recorded, newest_kind, older, size_of}
 use Rattle.tsb_history.proofs.PlaceLemmas.{newest_kind-some, size-newest}
 use Rattle.tsb_history.proofs.ByteLemmas.{shrunk, kept-shrunk}
 use Rattle.tsb_history.proofs.history.History.pop.Goals as goal
@@ -35,5 +35,5 @@ returns-clause-room c =
     ≡ size_of (older (changes_at c.self.inside.count c.self.inside.bytes.items (length c.self.inside.bytes.items))) + length c.self.inside.bytes.items =
     size-newest c.self.inside.count c.self.inside.bytes.items (length c.self.inside.bytes.items) c.if-self-eq0.false c.self.invariant.laid in
     let within : start_at c.self.inside.bytes.items (length c.self.inside.bytes.items) ≤ length c.self.inside.bytes.items = omega arith in
-    subst (λ (p : Past). size_of (changes_at (c.self.inside.count - 1) c.truncate.new.self.items (length c.truncate.new.self.items)) + (vec_capacity c.truncate.new.self - vec_len c.truncate.new.self) ≡ size_of p.records + p.room) c.self.view_is
+    subst (λ (p : Recorded). size_of (changes_at (c.self.inside.count - 1) c.truncate.new.self.items (length c.truncate.new.self.items)) + (vec_capacity c.truncate.new.self - vec_len c.truncate.new.self) ≡ size_of p.records + p.room) c.self.view_is
     (omega (arith, start, left, took, within, c.self.inside.bytes.ok.0, c.self.inside.bytes.ok.1, c.truncate.ensures.len, c.truncate.ensures.capacity))
