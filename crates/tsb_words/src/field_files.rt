@@ -11,12 +11,11 @@ mod commands;
 mod options;
 mod wires;
 
-pub use options::MOST_SECONDS;
-
 use crate::error::WordsError;
 use crate::matches::matches_of;
 use clap::ArgMatches;
 use commands::program;
+pub use options::MOST_SECONDS;
 use options::{moment, seconds_said};
 use std::alloc::Global;
 use std::convert::AsStr;
