@@ -29,6 +29,3 @@ fn main(rt: HostRuntime) -> ExitCode {
 fn words_given(rt: &HostRuntime) -> Result<Vec<String>, WordsError> {
     Ok(env::args(rt)?.collect(rt.alloc())?)
 }
-
-#[cfg(test)]
-mod tests;

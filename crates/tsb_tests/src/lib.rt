@@ -28,6 +28,8 @@ mod plan_texts;
 #[cfg(test)]
 mod plans;
 #[cfg(test)]
+mod programs;
+#[cfg(test)]
 mod rules;
 #[cfg(test)]
 mod sessions;
