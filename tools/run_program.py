@@ -98,10 +98,11 @@ def word_runs():
     """Words that are none of the program's, and paths that look like none."""
     for words in [
         ["check"], ["run"], ["run", "two.json"], ["what"], ["two.json"], [""], ["check", "two.json", "two.json"],
-        ["run", "two.json", "empty.log", "empty.log"], ["--help"], ["-h"], ["help"], ["--version"], ["--what"],
+        ["run", "two.json", "empty.log", "empty.log"], ["--help"], ["-h"], ["help"], ["help", "check"], ["--version"],
+        ["--what"],
         ["check", "--help"], ["check", "two.json", "--what"], ["check", "--what"], ["Check", "two.json"],
-        ["check", "-x"], ["--", "two.json"], ["--", "check", "two.json"], ["check", "--"],
-        ["check", "--", "two.json", "--"],
+        ["-"], ["check", "-x"], ["check", "-1"], ["--", "two.json"], ["--", "check", "two.json"], ["check", "--"],
+        ["check", "--", "two.json", "--"], ["run", "--", "two.json"],
         [b"\xff"], ["check", b"\xff.json"], ["run", "two.json", b"\xc3"], [b"\xff", "two.json"],
     ]:
         yield Run(words, 2, b"", USAGE, b"step 1\n")
@@ -109,7 +110,12 @@ def word_runs():
         yield Run(["check", path], 0, OK)
     for words in [["check", "--", "two.json"], ["check", "two.json", "--"], ["check", "--", "--help"]]:
         yield Run(words, 0, OK)
-    yield Run(["run", "--", "two.json", "empty.log"], 0)
+    session = (EXAMPLES / "step_and_back.expected").read_bytes()
+    for words in [
+        ["--"], ["run", "--", "two.json", "empty.log"], ["run", "two.json", "--", "empty.log"],
+        ["run", "--", "--help", "empty.log"],
+    ]:
+        yield Run(words, 0, session, b"", b"step 1\nback 1\n")
     yield Run(["check", "two.json "], 1, RULE)
     yield Run(["check", " two.json"], 1, RULE)
 
@@ -143,10 +149,12 @@ def stream_runs():
         yield Run(words, 3, b"", READ, stdin=TORN)
         yield Run(words, 3, b"", WRITE, b"show\n", stdout=FULL)
         yield Run(words, 3, session, b"commands: too large\n", too_long)
+        yield Run(words, 3, b"", b"commands: too large\n", stdin=ENDLESS)
     yield Run(["check", "two.json"], 3, b"", WRITE, stdout=FULL)
     yield Run(["check", "two_short_yellow.json"], 3, b"", WRITE, stdout=FULL)
     yield Run(["what"], 2, stderr=FULL)
     yield Run(["check", "none.json"], 3, stderr=FULL)
+    yield Run(["run", "two_short_yellow.json", "empty.log"], 1, stderr=FULL)
     yield Run(["run", "two.json", "same_tick.log"], 1, stderr=FULL)
 
 
