@@ -177,11 +177,12 @@ def memory(program, wrong):
 # --- reads and writes ---
 
 def reads(program, wrong):
-    """Fails each read. One of a file that is interrupted is tried again; one of commands is not."""
+    """Fails each read. One of a file that is interrupted is tried again; one of commands is not. A file for which the
+    machine has no memory is told as such."""
     text = text_of(INPUTS + WAY_BACK)
-    whole = program.run(RUN, text)[:3]
+    of_file = {errno.EIO: (3, b"", READ), errno.ENOMEM: (3, b"", MEMORY), errno.EINTR: program.run(RUN, text)[:3]}
     of_files = program.calls(RUN, kind="read", piece=PIECE) - 1
-    for error in [errno.EIO, errno.EINTR, 0]:
+    for error in [*of_file, 0]:
         for number, ended in program.sweep(RUN, text, kind="read", error=error, piece=PIECE):
             what, given = f"read {number}, error {error}", text[:PIECE * (number - of_files - 1)]
             if number > of_files:
@@ -189,7 +190,7 @@ def reads(program, wrong):
                 answers = program.run(RUN, told).output
                 wrong.compare(what, ended, (3, answers, READ) if error else (0, answers, b""))
             elif error:
-                wrong.compare(what, ended, (3, b"", READ) if error == errno.EIO else whole)
+                wrong.compare(what, ended, of_file[error])
 
 
 def writes(program, wrong):

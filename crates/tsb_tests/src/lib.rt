@@ -1,4 +1,4 @@
-//! Tests of the crates below that need not stand beside their code: a crate with tests is proved twice.
+//! Tests of the crates below, none of which has its own: a crate with tests is proved twice.
 #![tactic(auto)]
 
 #[cfg(test)]
