@@ -26,7 +26,7 @@ pub trait Driven: Drop {
 }
 
 /// A layer that has ticks, with what a line `t` says of them.
-pub trait Ticked: Driven {
+pub trait Ticked: Drop {
     /// What a tick gives it.
     type Given: Drop;
 
@@ -48,7 +48,7 @@ pub trait Ticked: Driven {
     ) -> Result<Self::Answer, Fault>
         requires { array_vec_len out.old ≡ 0 };
 
-    /// Whether this is what the line says that it answers to the tick.
+    /// Whether the line says that it answers this to the tick. A line that is only timed says nothing of it.
     fn tells(
         &self,
         _given: &Self::Given,

@@ -84,7 +84,12 @@ fn time_all(rt: &HostRuntime, asked: Asked) -> Result<()> {
 }
 
 /// Writes how long so many rounds of a layer's stored ticks take.
-fn time<T: Ticked>(rt: &HostRuntime, name: &str, plan: &Checked, asked: Asked) -> Result<()> {
+fn time<T: Driven + Ticked>(
+    rt: &HostRuntime,
+    name: &str,
+    plan: &Checked,
+    asked: Asked,
+) -> Result<()> {
     let path = format!(in rt.alloc(); "timed/{name}.runs")?;
     let text = fs::read(rt, path.as_str()).context(format_args!("{path}"))?;
     let givens = read::<T>(rt.alloc(), &text)?;

@@ -1,6 +1,6 @@
 //! A layer that is timed over stored ticks.
 
-use crate::driven::{Changes, Ticked};
+use crate::driven::{Changes, Driven, Ticked};
 use crate::fault::Fault;
 use crate::numbers::Numbers;
 use anyhow::Result as Anyhow;
@@ -22,7 +22,11 @@ fn summed(sum: u32, changed: usize, is_due: bool) -> u32 {
 
 /// Runs a layer from power-up, and gives a sum of what each tick changes.
 #[inline(never)]
-pub fn run<T: Ticked>(alloc: Global, plan: &Checked, givens: &[T::Given]) -> Result<u32, Fault> {
+pub fn run<T: Driven + Ticked>(
+    alloc: Global,
+    plan: &Checked,
+    givens: &[T::Given],
+) -> Result<u32, Fault> {
     let mut layer = T::power_up(alloc, plan)?;
     let mut out = Changes::new();
     let mut sum = 0u32;
@@ -37,7 +41,7 @@ pub fn run<T: Ticked>(alloc: Global, plan: &Checked, givens: &[T::Given]) -> Res
 /// Runs a layer from power-up over ticks of which each repeats so many times, as a bench that passes over ticks: it asks
 /// after a tick that changed nothing how many may be passed over. Gives a sum as `run` does, of the other ticks.
 #[inline(never)]
-pub fn run_passing<T: Ticked>(
+pub fn run_passing<T: Driven + Ticked>(
     alloc: Global,
     plan: &Checked,
     givens: &[T::Given],
