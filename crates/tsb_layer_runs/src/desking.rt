@@ -83,7 +83,7 @@ impl Desking {
             DeskState::Done => 3,
         })?;
         match self.desk.rule() {
-            Some(rule) => numbers.tells(rule as u32 + 1)?,
+            Some(rule) => numbers.tells((rule as u32).saturating_add(1))?,
             None => numbers.tells(0)?,
         }
         numbers.tells(self.desk.edits().len().min(64) as u32)

@@ -17,7 +17,7 @@ pub fn ticks_before(due: u32, now: u32) -> u32 {
 /// A sum of how many cells each tick changes, with one more for a tick that is due.
 #[inline(always)]
 fn summed(sum: u32, changed: usize, is_due: bool) -> u32 {
-    sum.rotate_left(3) ^ (changed.min(1000) as u32 + u32::from(is_due))
+    sum.rotate_left(3) ^ (changed.min(1000) as u32).saturating_add(u32::from(is_due))
 }
 
 /// Runs a layer from power-up, and gives a sum of what each tick changes.

@@ -1,7 +1,7 @@
 //! The cases of a file.
 ghost use Rattle.std.specs.Prelude.{◌≡◌, [], List, ℕ, IfOk, IfSome, MatchOption};
 ghost use Rattle.tsb_lines.specs.Lines.{lines_of};
-ghost use Rattle.tsb_stored.specs.Cases.{IsCase, IsFirst, IsGiven, IsNext, headed};
+ghost use Rattle.tsb_stored.specs.Cases.{AreThree, IsCase, IsFirst, IsGiven, IsNext, headed};
 
 use crate::answer::answer;
 use crate::case::{Case, Run};
@@ -76,18 +76,29 @@ fn read_given<'a>(
         let (log, left, rest) = read_piece(words, text)?;
         return Some((Run::Log(log), left, rest));
     }
-    let is_told = kind == b"told".as_slice();
-    if !is_told && kind != b"session".as_slice() {
-        return None;
+    if kind == b"session".as_slice() {
+        let ((plan, log, commands), left, rest) = read_three(words, text)?;
+        return Some((Run::Session(plan, log, commands), left, rest));
     }
+    if kind == b"told".as_slice() {
+        let ((plan, log, commands), words, rest) = read_three(words, text)?;
+        let (answers, left, rest) = read_piece(words, rest)?;
+        return Some((Run::Told(plan, log, commands, answers), left, rest));
+    }
+    None
+}
+
+/// Three pieces in turn, by the next of these words, the words that are left, and the text behind the pieces.
+fn read_three<'a>(
+    words: &'a [u8],
+    text: &'a [u8],
+) -> Option<((&'a [u8], &'a [u8], &'a [u8]), &'a [u8], &'a [u8])>
+    ensures { IfSome result (λ found. AreThree words.now text.now found.0.0.now found.0.1.now found.0.2.now found.1.now found.2.now) }
+{
     let (plan, words, rest) = read_piece(words, text)?;
     let (log, words, rest) = read_piece(words, rest)?;
     let (commands, left, rest) = read_piece(words, rest)?;
-    if !is_told {
-        return Some((Run::Session(plan, log, commands), left, rest));
-    }
-    let (answers, left, rest) = read_piece(left, rest)?;
-    Some((Run::Told(plan, log, commands, answers), left, rest))
+    Some(((plan, log, commands), left, rest))
 }
 
 /// The piece whose length is the first of these words, the words behind it, and the text behind the piece.
