@@ -93,7 +93,8 @@ fn read_three<'a>(
     words: &'a [u8],
     text: &'a [u8],
 ) -> Option<((&'a [u8], &'a [u8], &'a [u8]), &'a [u8], &'a [u8])>
-    ensures { IfSome result (λ found. AreThree words.now text.now found.0.0.now found.0.1.now found.0.2.now found.1.now found.2.now) }
+    ensures { IfSome result
+        (λ found. AreThree words.now text.now found.0.0.now found.0.1.now found.0.2.now found.1.now found.2.now) }
 {
     let (plan, words, rest) = read_piece(words, text)?;
     let (log, words, rest) = read_piece(words, rest)?;
