@@ -106,8 +106,8 @@ impl Ticked for Coordinating {
         })
     }
 
-    /// One tick, as a bench has it: what coordination asked stands until it is due, or until another pattern is selected.
-    /// It answers whether it asks another force-off, or another pattern runs.
+    /// One tick, as a bench has it: what coordination asked stands until it is due, or until another pattern is
+    /// selected. It answers whether it asks another force-off, or another pattern runs.
     #[inline(always)]
     fn tick(&mut self, given: &Given, plan: &Checked, out: &mut Changes) -> Result<bool, Fault> {
         if self.now >= limits::TICKS {

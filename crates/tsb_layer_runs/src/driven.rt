@@ -76,8 +76,8 @@ pub trait Ticked: Drop {
     fn pass(&mut self) {}
 }
 
-/// A line `t`: how many ticks, what each gives the layer, what it answers, and what the first changes; the others change
-/// nothing.
+/// A line `t`: how many ticks, what each gives the layer, what it answers, and what the first changes; the others
+/// change nothing.
 pub fn ticks<T: Ticked>(layer: &mut T, numbers: Numbers, plan: &Checked) -> Result<u32, Fault> {
     let mut numbers = numbers;
     let times = numbers.number()?;

@@ -57,9 +57,9 @@ impl<'a> Numbers<'a> {
         })
     }
 
-    /// What the rings are given: the intervals that were, the sequence in effect, the phases that may be served next, those
-    /// that are ready, over and past their red revert, the omitted ones, and a preempt's target. What the rings do not
-    /// read is empty.
+    /// What the rings are given: the intervals that were, the sequence in effect, the phases that may be served next,
+    /// those that are ready, over and past their red revert, the omitted ones, and a preempt's target. What the rings
+    /// do not read is empty.
     pub fn ring_conditions(&mut self) -> Result<Conditions, Fault> {
         let none = PhaseSet::empty();
         let intervals = self.intervals()?;

@@ -52,7 +52,8 @@ pub fn next_case(text: &[u8]) -> Result<Option<(Case, &[u8])>, CaseError>
 /// The case with this head, and what stands behind its pieces. A head is the kind, the name, the length of each piece,
 /// and the words that are left.
 fn read_case<'a>(head: &'a [u8], text: &'a [u8]) -> Option<(Case<'a>, &'a [u8])>
-    ensures { IfSome result (λ found. IsCase found.0.given found.0.name.now found.0.left.now head.now text.now found.1.now) }
+    ensures { IfSome result
+        (λ found. IsCase found.0.given found.0.name.now found.0.left.now head.now text.now found.1.now) }
 {
     let (kind, words) = next_word(head)?;
     let (name, words) = next_word(words)?;
