@@ -2,5 +2,5 @@
 pub mod Lamps
 -- which command the words of a line are
 pub mod Commands
--- what a line asks of a session: a command, to leave, nothing, or bad
+-- what a line asks of a session: a command, or nothing; or it is bad
 pub mod Readings

@@ -48,8 +48,6 @@ pub enum Reading {
     Skip,
     /// The line is no command, or too long.
     Bad,
-    /// The line is `quit`.
-    Leave,
-    /// Any other command.
+    /// This command.
     Do(Command),
 }

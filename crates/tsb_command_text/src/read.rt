@@ -1,7 +1,8 @@
 //! The command of a line.
 ghost use Rattle.std.specs.Prelude.{◌≡◌};
-ghost use Rattle.tsb_command_text.specs.Commands.{command_of, command_of_five, command_of_one, command_of_three, command_of_two, on_or_off, watch_of_one, watch_of_two};
+ghost use Rattle.tsb_command_text.specs.Commands.{command_in, command_of, command_of_five, command_of_one, command_of_three, command_of_two, on_or_off, watch_of_one, watch_of_two};
 ghost use Rattle.tsb_command_text.specs.Readings.{reading};
+ghost use Rattle.tsb_lines.specs.Words.{words_of};
 ghost use Rattle.tsb_plan.specs.Names.{object_named};
 ghost use Rattle.tsb_plan.specs.declared.version.Version.TheVariants.{Two};
 
@@ -24,9 +25,8 @@ pub fn reading_of(line: &[u8]) -> Reading
     if is_skipped(line) {
         return Reading::Skip;
     }
-    match read_command(line) {
+    match of_words(line) {
         None => Reading::Bad,
-        Some(Command::Quit) => Reading::Leave,
         Some(command) => Reading::Do(command),
     }
 }
@@ -39,6 +39,13 @@ pub fn read_command(line: &[u8]) -> Option<Command>
     if line.len() > LINE {
         return None;
     }
+    of_words(line)
+}
+
+/// The command that the words of a line are, however long it is.
+fn of_words(line: &[u8]) -> Option<Command>
+    ensures { result ≡ command_in (words_of line.now) }
+{
     let (name, rest) = next_word(line)?;
     let Some((first, rest)) = next_word(rest) else {
         return of_one(name);

@@ -12,12 +12,12 @@ use Rattle.tsb_step.specs.Runs.{replay}
 use Rattle.tsb_command_text.specs.declared.command.Command.{Command}
 use Rattle.tsb_command_text.specs.declared.command.Command.TheVariants.{Step, Show, Quit}
 use Rattle.tsb_command_text.specs.declared.command.Reading.{Reading}
-use Rattle.tsb_command_text.specs.declared.command.Reading.TheVariants.{Skip, Bad, Leave, Do}
+use Rattle.tsb_command_text.specs.declared.command.Reading.TheVariants.{Skip, Bad, Do}
 use Rattle.tsb_command_text.specs.Readings.{reading}
 use Rattle.tsb_lines.specs.Lines.{lines_of}
 use Rattle.tsb_text.specs.Answers.{Setup, Asked, Ticked, Stopped, Steps, Answers, told, next_tick, refused_line, display_line}
 use Rattle.tsb_text.specs.Ended.{EndsLine, EndedSo}
-use Rattle.tsb_text.specs.Text.{Says, IsAnswered, IsText}
+use Rattle.tsb_text.specs.Text.{GoesOn, Says, IsAnswered, IsText}
 use Rattle.tsb_text.specs.Written.{with_feed}
 use Rattle.tsb_one_text.specs.Laws.{tells_memory, PartsAtMemory, AreEqualButForMemory, Session}
 use Rattle.tsb_one_text.proofs.AnswerLemmas.{answers-alike, took-refused, refused-same}
@@ -161,16 +161,20 @@ texts-behind Rest text other rest more left others on x y (inl same) =
 texts-behind Rest text other rest more left others on x y (inr (inl p)) = inr (inl (parts-before text other rest more p))
 texts-behind Rest text other rest more left others on x y (inr (inr p)) = inr (inr (parts-before other text more rest p))
 
+more-equal : (c : Command) (Rest : List ℕ → Type 0) (text other : List ℕ) → ((v w : List ℕ) → Rest v → Rest w → AreEqualButForMemory v w) →
+    GoesOn c Rest text → GoesOn c Rest other → AreEqualButForMemory text other
+more-equal Quit Rest text other on x y = inl (x ∙ sym y)
+more-equal c Rest text other on x y = on text other x y
+
 says-equal : (given : Setup) (r : Reading) (is : List Input) (Rest : List Input → List ℕ → Type 0) (text other : List ℕ) →
     ((new : List Input) (v w : List ℕ) → Rest new v → Rest new w → AreEqualButForMemory v w) → Says given r is text Rest → Says given r is other Rest → AreEqualButForMemory text other
 says-equal given Skip is Rest text other on x y = on is text other x y
 says-equal given Bad is Rest text other on x y =
     subst₂ AreEqualButForMemory (sym x.1) (sym y.1)
     (equal-behind (with_feed (codes "bad command")) x.0 y.0 (ends-feed (codes "bad command")) (on is x.0 y.0 x.2 y.2))
-says-equal given Leave is Rest text other on x y = inl (x ∙ sym y)
 says-equal given (Do c) is Rest text other on x y =
     subst₂ AreEqualButForMemory (sym x.4) (sym y.4)
-    (texts-behind Rest x.0 y.0 x.1 y.1 x.2 y.2 on x.5 y.5 (answered-alike given is c x.0 y.0 x.2 y.2 x.3 y.3))
+    (texts-behind (λ new text. GoesOn c (Rest new) text) x.0 y.0 x.1 y.1 x.2 y.2 (λ new v w. more-equal c (Rest new) v w (on new)) x.5 y.5 (answered-alike given is c x.0 y.0 x.2 y.2 x.3 y.3))
 
 lines-equal : (given : Setup) (ls : List (List ℕ)) (is : List Input) (text other : List ℕ) → IsAnswered given is ls text → IsAnswered given is ls other → AreEqualButForMemory text other
 lines-equal given [] is text other x y = inl (x ∙ sym y)

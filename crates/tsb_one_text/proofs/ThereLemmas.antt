@@ -14,11 +14,11 @@ use Rattle.tsb_step.specs.Watches.{TellsLastChange}
 use Rattle.tsb_command_text.specs.declared.command.Command.{Command}
 use Rattle.tsb_command_text.specs.declared.command.Command.TheVariants.{Step, Back, Seek, Undo, Show, When, Quit}
 use Rattle.tsb_command_text.specs.declared.command.Reading.{Reading}
-use Rattle.tsb_command_text.specs.declared.command.Reading.TheVariants.{Skip, Bad, Leave, Do}
+use Rattle.tsb_command_text.specs.declared.command.Reading.TheVariants.{Skip, Bad, Do}
 use Rattle.tsb_command_text.specs.Readings.{reading}
 use Rattle.tsb_lines.specs.Lines.{lines_of}
 use Rattle.tsb_text.specs.Answers.{Setup, Asked, Steps, Answers, told, next_tick, refused_line, display_line}
-use Rattle.tsb_text.specs.Text.{Says, IsAnswered}
+use Rattle.tsb_text.specs.Text.{GoesOn, Says, IsAnswered}
 use Rattle.tsb_text.specs.Written.{with_feed}
 use Rattle.tsb_step.proofs.RefusalLemmas.{never-memory, refuses}
 use Rattle.tsb_text.proofs.WatchLemmas.{some-change}
@@ -153,6 +153,10 @@ record Told (P : List ℕ → Type 0) : Type 0 where
   so : P text
   tells : tells_memory text ≡ false
 
+more-told : (c : Command) (Rest : List ℕ → Type 0) → Told Rest → Told (GoesOn c Rest)
+more-told Quit Rest later = record { text = []; so = refl; tells = refl }
+more-told c Rest later = later
+
 says-told : (given : Setup) (r : Reading) (is : List Input) (Rest : List Input → List ℕ → Type 0) → ((new : List Input) → Told (Rest new)) → Told (λ text. Says given r is text Rest)
 says-told given Skip is Rest later = let next : Told (Rest is) = later is in record { text = next.text; so = next.so; tells = next.tells }
 says-told given Bad is Rest later =
@@ -162,10 +166,9 @@ says-told given Bad is Rest later =
       so = (next.text, refl, next.so);
       tells = plain-before (codes "bad command") next.text bad-plain ∙ next.tells;
     }
-says-told given Leave is Rest later = record { text = []; so = refl; tells = refl }
 says-told given (Do c) is Rest later =
     let a : PlainAnswers given is c = command-told given is c in
-    let next : Told (Rest a.left) = later a.left in
+    let next : Told (GoesOn c (Rest a.left)) = more-told c (Rest a.left) (later a.left) in
     record { text = a.text ++ next.text; so = (a.text, next.text, a.left, a.answers, refl, next.so); tells = a.tells next.text ∙ next.tells }
 
 lines-told : (given : Setup) (ls : List (List ℕ)) (is : List Input) → Told (IsAnswered given is ls)

@@ -100,5 +100,5 @@ fn lines_of_over_200_bytes_are_bad(rt: HostRuntime) {
     assert!(rt; reading_of(&line) == Reading::Bad);
     assert!(rt; reading_of(b"  ".as_slice()) == Reading::Skip);
     assert!(rt; reading_of(b" # quit".as_slice()) == Reading::Bad);
-    assert!(rt; reading_of(b" quit ".as_slice()) == Reading::Leave);
+    assert!(rt; reading_of(b" quit ".as_slice()) == Reading::Do(Command::Quit));
 }

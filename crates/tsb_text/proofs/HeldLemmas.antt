@@ -3,7 +3,8 @@ use Rattle.std.proofs.Common.{◌≡◌, ℕ, ◌+◌, ◌<◌, ◌≤◌, List,
 use Rattle.std.proofs.lemmas.List.{append-nil, take-append-drop}
 use Rattle.std.specs.declared.result.Result.{Result}
 use Rattle.tsb_command_text.specs.declared.command.Reading.{Reading}
-use Rattle.tsb_command_text.specs.declared.command.Reading.TheVariants.{Bad, Leave}
+use Rattle.tsb_command_text.specs.declared.command.Command.TheVariants.{Quit}
+use Rattle.tsb_command_text.specs.declared.command.Reading.TheVariants.{Bad, Do}
 use Rattle.tsb_command_text.specs.Readings.{reading}
 use Rattle.tsb_lines.specs.Lines.{HasNoFeed, kept, without_return}
 use Rattle.tsb_lines.proofs.KeptLemmas.{feedless-kept, kept-more, kept-tells}
@@ -35,7 +36,7 @@ holds-byte bytes held new b h n is = record {
 }
 
 -- a line that is `quit` was kept whole
-quits-line : (bytes held : List ℕ) → Holds bytes held → reading (without_return held) ≡ Leave → Quits (bytes ++ 10 ∷ [])
+quits-line : (bytes held : List ℕ) → Holds bytes held → reading (without_return held) ≡ Do Quit → Quits (bytes ++ 10 ∷ [])
 quits-line bytes held h leaves = record {
   front = h.done;
   line = h.rest;
@@ -48,7 +49,7 @@ quits-line bytes held h leaves = record {
       ∙ ap (λ (v : List ℕ). reading (without_return v)) (sym h.kept) ∙ leaves;
 }
 
-pub holds-line : (r : Result Flow WriteError) (bytes held new : List ℕ) (asked : Reading) (line : List ℕ) → Holds bytes held → asked ≡ reading line → line ≡ without_return held → new ≡ [] → (r ≡ Ok Over → asked ≡ Leave) → HeldAfter r (bytes ++ 10 ∷ []) new
+pub holds-line : (r : Result Flow WriteError) (bytes held new : List ℕ) (asked : Reading) (line : List ℕ) → Holds bytes held → asked ≡ reading line → line ≡ without_return held → new ≡ [] → (r ≡ Ok Over → asked ≡ Do Quit) → HeldAfter r (bytes ++ 10 ∷ []) new
 holds-line (Ok On) bytes held new asked line h reads is empty over =
     record { done = bytes ++ 10 ∷ []; rest = []; whole = sym (append-nil (bytes ++ 10 ∷ [])); ended = inr (bytes, refl); unfinished = tt; kept = empty }
 holds-line (Ok Over) bytes held new asked line h reads is empty over = quits-line bytes held h (ap reading (sym is) ∙ sym reads ∙ over refl)

@@ -6,8 +6,9 @@ use Rattle.std.specs.declared.result.Result.{Result}
 use Rattle.tsb_step.specs.declared.inputs.Input.{Input}
 use Rattle.tsb_step.specs.Past.{Whole}
 use Rattle.tsb_command_text.specs.declared.command.Command.{Command}
+use Rattle.tsb_command_text.specs.declared.command.Command.TheVariants.{Quit}
 use Rattle.tsb_command_text.specs.declared.command.Reading.{Reading}
-use Rattle.tsb_command_text.specs.declared.command.Reading.TheVariants.{Skip, Bad, Leave, Do}
+use Rattle.tsb_command_text.specs.declared.command.Reading.TheVariants.{Skip, Bad, Do}
 use Rattle.tsb_command_text.specs.Readings.{reading}
 use Rattle.tsb_lines.specs.Lines.{kept, lines_of, without_return, HasNoFeed}
 use Rattle.tsb_lines.proofs.LineLemmas.{lines-joined, lines-alone}
@@ -16,11 +17,11 @@ use Rattle.tsb_streams.specs.declared.writes.WriteError.{WriteError}
 use Rattle.tsb_text.specs.declared.talk.Flow.{Flow}
 use Rattle.tsb_text.specs.declared.talk.Flow.TheVariants.{On, Over}
 use Rattle.tsb_text.specs.Answers.{Setup, Answers}
-use Rattle.tsb_text.specs.Text.{Says, IsAnswered, IsText}
+use Rattle.tsb_text.specs.Text.{GoesOn, Says, IsAnswered, IsText}
 use Rattle.tsb_text.specs.Ended.{Carries, IsWhole, IsBegun}
-use Rattle.tsb_text.specs.Talk.{Stands, Done, Obeyed, Went, Finished}
+use Rattle.tsb_text.specs.Talk.{Stands, Done, Obeyed, Went, Finished, flow_after}
 use Rattle.tsb_text.specs.Written.{Said, Wrote, with_feed}
-use Rattle.tsb_text.proofs.TextLemmas.{some-answered, text-kept}
+use Rattle.tsb_text.proofs.TextLemmas.{some-more, some-answered, text-kept}
 use Rattle.tsb_text.proofs.WrittenLemmas.{said-nothing, said-more}
 use Rattle.tsb_streams.proofs.StreamLemmas.{front-more, front-rest}
 
@@ -54,29 +55,25 @@ obeyed-bad_fault given log is bench r a b p q fault e said = record {
   );
 }
 
-pub obeyed-leave : (given : Setup) (log : List LogRow) (is : List Input) (bench : Whole) (r : Reading) (a : Option (List ℕ)) (p : List ℕ) → r ≡ Leave → Obeyed (Ok Over) given is r log bench a a p p
-obeyed-leave given log is bench r a p e =
-    record { text = []; said = said-nothing a p; so = λ lines. subst (λ (x : Reading). Says given x is [] (λ new text. IsAnswered given new lines text)) (sym e) refl }
+carried-out : (given : Setup) (log : List LogRow) (is : List Input) (bench : Whole) (c : Command) (a b : Option (List ℕ)) (p q : List ℕ)
+    → Done (Ok tt) given log bench (Answers given is c) a b p q → Obeyed (Ok (flow_after c)) given is (Do c) log bench a b p q
+carried-out given log is bench Quit a b p q done =
+    record { text = done.2.text; said = done.2.said; so = λ lines. (done.2.text, [], done.0, done.2.so, sym (append-nil done.2.text), refl) }
+carried-out given log is bench c a b p q done =
+    (done.0, done.1, record { text = done.2.text; said = done.2.said; so = λ lines rest h. (done.2.text, rest, done.0, done.2.so, refl, h) })
 
-pub obeyed-do : (given : Setup) (log : List LogRow) (is : List Input) (bench : Whole) (r : Reading) (c : Command) (a b : Option (List ℕ)) (p q : List ℕ) → r ≡ Do c
-    → Done (Ok tt) given log bench (Answers given is c) a b p q → Obeyed (Ok On) given is r log bench a b p q
-obeyed-do given log is bench r c a b p q e done = (
-  done.0,
-  done.1,
-  record {
-    text = done.2.text;
-    said = done.2.said;
-    so = λ lines rest h. subst (λ (x : Reading). Says given x is (done.2.text ++ rest) (λ new text. IsAnswered given new lines text)) (sym e)
-        (done.2.text, rest, done.0, done.2.so, refl, h);
-  },
-)
+pub obeyed-do : (given : Setup) (log : List LogRow) (is : List Input) (bench : Whole) (r : Reading) (c : Command) (flow : Flow) (a b : Option (List ℕ)) (p q : List ℕ) → r ≡ Do c → flow ≡ flow_after c
+    → Done (Ok tt) given log bench (Answers given is c) a b p q → Obeyed (Ok flow) given is r log bench a b p q
+obeyed-do given log is bench r c flow a b p q e after done =
+    subst (λ (x : Reading). Obeyed (Ok flow) given is x log bench a b p q) (sym e)
+    (subst (λ (f : Flow). Obeyed (Ok f) given is (Do c) log bench a b p q) (sym after) (carried-out given log is bench c a b p q done))
 
 pub obeyed-do_fault : (given : Setup) (log : List LogRow) (is : List Input) (bench : Whole) (r : Reading) (c : Command) (a b : Option (List ℕ)) (p q : List ℕ) (fault : WriteError) → r ≡ Do c
     → Done (Err fault) given log bench (Answers given is c) a b p q → Obeyed (Err fault) given is r log bench a b p q
 obeyed-do_fault given log is bench r c a b p q fault e done = record {
   text = done.text;
   said = done.said;
-  so = λ lines. let t : (t : List ℕ) × IsAnswered given done.so.1 lines t = some-answered given lines done.so.1 in (
+  so = λ lines. let t : (t : List ℕ) × GoesOn c (λ text. IsAnswered given done.so.1 lines text) t = some-more c (λ text. IsAnswered given done.so.1 lines text) (some-answered given lines done.so.1) in (
     done.so.0 ++ t.0,
     subst (λ (x : Reading). Says given x is (done.text ++ (done.so.0 ++ t.0)) (λ new text. IsAnswered given new lines text)) (sym e)
         (done.text ++ done.so.0, t.0, done.so.1, done.so.2, sym (append_assoc done.text done.so.0 t.0), t.1),

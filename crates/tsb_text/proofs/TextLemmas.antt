@@ -16,13 +16,13 @@ use Rattle.tsb_step.specs.Watches.{TellsLastChange}
 use Rattle.tsb_command_text.specs.declared.command.Command.{Command}
 use Rattle.tsb_command_text.specs.declared.command.Command.TheVariants.{Step, Back, Seek, Undo, Show, When, Quit}
 use Rattle.tsb_command_text.specs.declared.command.Reading.{Reading}
-use Rattle.tsb_command_text.specs.declared.command.Reading.TheVariants.{Skip, Bad, Leave, Do}
+use Rattle.tsb_command_text.specs.declared.command.Reading.TheVariants.{Skip, Bad, Do}
 use Rattle.tsb_command_text.specs.Readings.{reading}
 use Rattle.tsb_lines.specs.Lines.{lines_of, split, ended, kept, onto_first, without_return, HasNoFeed}
 use Rattle.tsb_lines.proofs.KeptLemmas.{feedless-kept, kept-tells}
 use Rattle.tsb_lines.proofs.LineLemmas.{length-return}
 use Rattle.tsb_text.specs.Answers.{Setup, Asked, Steps, Answers, next_tick}
-use Rattle.tsb_text.specs.Text.{Says, IsAnswered, IsText}
+use Rattle.tsb_text.specs.Text.{GoesOn, Says, IsAnswered, IsText}
 use Rattle.tsb_step.proofs.RefusalLemmas.{refuses}
 use Rattle.tsb_text.proofs.WatchLemmas.{some-change}
 
@@ -86,12 +86,16 @@ some-answer given is Quit = (_, _, (refl, refl))
 some-answer given is (When w) = some-when given is w
 some-answer given is c = some-input given is _
 
+pub some-more : (c : Command) (Rest : List ℕ → Type 0) → (t : List ℕ) × Rest t → (t : List ℕ) × GoesOn c Rest t
+some-more Quit Rest k = ([], refl)
+some-more c Rest k = k
+
 pub some-says : (given : Setup) (r : Reading) (is : List Input) (Rest : List Input → List ℕ → Type 0) → ((new : List Input) → (t : List ℕ) × Rest new t) → (t : List ℕ) × Says given r is t Rest
 some-says given Skip is Rest k = k is
 some-says given Bad is Rest k = (_, ((k is).0, refl, (k is).1))
-some-says given Leave is Rest k = ([], refl)
 some-says given (Do c) is Rest k = let a : (text : List ℕ) × (left : List Input) × Answers given is c text left = some-answer given is c in
-    (a.0 ++ (k a.1).0, (a.0, (k a.1).0, a.1, a.2, refl, (k a.1).1))
+    let more : (t : List ℕ) × GoesOn c (Rest a.1) t = some-more c (Rest a.1) (k a.1) in
+    (a.0 ++ more.0, (a.0, more.0, a.1, a.2, refl, more.1))
 
 pub some-answered : (given : Setup) (ls : List (List ℕ)) (is : List Input) → (t : List ℕ) × IsAnswered given is ls t
 some-answered given [] is = ([], refl)

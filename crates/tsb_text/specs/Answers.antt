@@ -136,7 +136,7 @@ Steps given is (suc n) text new =
 abbrev pub Answers : Setup → List Input → Command → List ℕ → List Input → Type 0
 Answers given is (Step n) text new = Steps given is n text new
 Answers given is Show text new = (text ≡ with_feed (display_line (replay given.plan is))) × (new ≡ is)
--- it ends the session, which answers no line then
+-- it has no answer
 Answers given is Quit text new = (text ≡ []) × (new ≡ is)
 -- the way back
 Answers given is (Back n) text new = Asked given is (asks.Back n) text new

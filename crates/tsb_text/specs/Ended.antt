@@ -2,7 +2,8 @@
 use Rattle.std.specs.Prelude.{◌≡◌, ◌⊎◌, ◌↔◌, ◌<◌, ◌≤◌, ℕ, List, [], ◌∷◌, ◌++◌, length, take, Option, Result, Ok, Err}
 use Rattle.std.specs.Io.KnownBytes.{Appends, Consumes, IsAtEnd}
 use Rattle.tsb_step.specs.declared.inputs.Input.{Input}
-use Rattle.tsb_command_text.specs.declared.command.Reading.TheVariants.{Leave}
+use Rattle.tsb_command_text.specs.declared.command.Command.TheVariants.{Quit}
+use Rattle.tsb_command_text.specs.declared.command.Reading.TheVariants.{Do}
 use Rattle.tsb_command_text.specs.Readings.{reading}
 use Rattle.tsb_lines.specs.Lines.{HasNoFeed, without_return}
 use Rattle.tsb_text.specs.declared.error.SessionError.{SessionError}
@@ -34,7 +35,7 @@ pub record Quits (bytes : List ℕ) : Type 0 where
   pub whole : bytes ≡ front ++ (line ++ 10 ∷ more)
   pub ended : EndsLine front
   pub one : HasNoFeed line
-  pub reads : reading (without_return line) ≡ Leave
+  pub reads : reading (without_return line) ≡ Do Quit
 
 -- how a session ended, after these bytes were read: it wrote a text of theirs, at the end of the input or where a line
 -- was `quit`, and then whatever comes behind; or after a fault a prefix of one, whatever comes behind them or at the

@@ -4,6 +4,8 @@ use Rattle.std.specs.Io.KnownBytes.{Consumes}
 use Rattle.tsb_step.specs.declared.inputs.Input.{Input}
 use Rattle.tsb_step.specs.Past.{Whole}
 use Rattle.tsb_step.specs.Play.{Follows}
+use Rattle.tsb_command_text.specs.declared.command.Command.{Command}
+use Rattle.tsb_command_text.specs.declared.command.Command.TheVariants.{Quit}
 use Rattle.tsb_command_text.specs.declared.command.Reading.{Reading}
 use Rattle.tsb_command_text.specs.Readings.{reading}
 use Rattle.tsb_lines.specs.Lines.{HasNoFeed, kept}
@@ -40,6 +42,11 @@ StepsOn given inputs n now k said =
     (text : List ℕ) (last : List Input) → Steps given now k text last → Steps given inputs n (said ++ text) last
 
 -- ## What was said of a line
+
+-- whether a session goes on after a command
+abbrev pub flow_after : Command → Flow
+flow_after Quit = Over
+flow_after c = On
 
 -- this answers the line, and then what answers the lines behind it
 abbrev pub AnswersLine : Setup → List Input → Reading → List Input → List ℕ → Type 0

@@ -1,20 +1,26 @@
 -- The text of a session: what is answered to the lines that were read, in turn, up to a line `quit` or the end.
 use Rattle.std.specs.Prelude.{◌≡◌, ℕ, List, [], ◌∷◌, ◌++◌, codes}
 use Rattle.tsb_step.specs.declared.inputs.Input.{Input}
+use Rattle.tsb_command_text.specs.declared.command.Command.{Command}
+use Rattle.tsb_command_text.specs.declared.command.Command.TheVariants.{Quit}
 use Rattle.tsb_command_text.specs.declared.command.Reading.{Reading}
-use Rattle.tsb_command_text.specs.declared.command.Reading.TheVariants.{Skip, Bad, Leave, Do}
+use Rattle.tsb_command_text.specs.declared.command.Reading.TheVariants.{Skip, Bad, Do}
 use Rattle.tsb_command_text.specs.Readings.{reading}
 use Rattle.tsb_lines.specs.Lines.{lines_of}
 use Rattle.tsb_text.specs.Answers.{Setup, Answers}
 use Rattle.tsb_text.specs.Written.{with_feed}
 
+-- what is said after the answer to a command, where Rest says what may be: nothing after `quit`
+abbrev pub GoesOn : Command → (List ℕ → Type 0) → List ℕ → Type 0
+GoesOn Quit Rest text = text ≡ []
+GoesOn c Rest text = Rest text
+
 -- what is answered to a line, where Rest says what may be to the lines behind it
 abbrev pub Says : Setup → Reading → List Input → List ℕ → (List Input → List ℕ → Type 0) → Type 0
 Says given Skip inputs text Rest = Rest inputs text
 Says given Bad inputs text Rest = (rest : List ℕ) × (text ≡ with_feed (codes "bad command") ++ rest) × Rest inputs rest
-Says given Leave inputs text Rest = text ≡ []
 Says given (Do c) inputs text Rest =
-    (answer rest : List ℕ) × (new : List Input) × Answers given inputs c answer new × (text ≡ answer ++ rest) × Rest new rest
+    (answer rest : List ℕ) × (new : List Input) × Answers given inputs c answer new × (text ≡ answer ++ rest) × GoesOn c (Rest new) rest
 
 -- a text that a session may write to these lines, where these inputs remain
 abbrev pub IsAnswered : Setup → List Input → List (List ℕ) → List ℕ → Type 0

@@ -8,10 +8,11 @@ ghost use Rattle.tsb_step.specs.declared.inputs.Input.{Input};
 ghost use Rattle.tsb_bench.specs.Held.{whole};
 ghost use Rattle.tsb_text.specs.Answers.{Setup};
 ghost use Rattle.tsb_text.specs.Ended.{Ended};
-ghost use Rattle.tsb_text.specs.Talk.{Stands, Obeyed, Went, Finished, Holds, HeldAfter, as_session};
+ghost use Rattle.tsb_text.specs.Talk.{Stands, Obeyed, Went, Finished, Holds, HeldAfter, as_session, flow_after};
 ghost use Rattle.tsb_text.specs.declared.error.SessionError.TheVariants.{Write};
 ghost use Rattle.tsb_text.specs.declared.talk.Flow.TheVariants.{Over};
-ghost use Rattle.tsb_command_text.specs.declared.command.Reading.TheVariants.{Leave};
+ghost use Rattle.tsb_command_text.specs.declared.command.Command.TheVariants.{Quit};
+ghost use Rattle.tsb_command_text.specs.declared.command.Reading.TheVariants.{Do};
 ghost use Rattle.tsb_text.specs.Written.{Said, Wrote};
 
 use crate::answers::obey;
@@ -20,7 +21,7 @@ use crate::pending::Pending;
 use std::alloc::Global;
 use std::io::{self, Read, Write};
 use tsb_bench::Bench;
-use tsb_command_text::{LINE, Reading, reading_of};
+use tsb_command_text::{Command, LINE, Reading, reading_of};
 use tsb_lines::KeptLine;
 use tsb_log_text::Log;
 use tsb_objects::Checked;
@@ -62,7 +63,7 @@ impl Talk {
             → Obeyed result given inputs asked log.now (whole self.new.bench) (W.contents writer.old) (W.contents writer.new) self.old.pending.waits self.new.pending.waits }
         ensures held { self.new.line ≡ self.old.line }
         ensures blame { OnErr result (self.new.pending.watch.failed ≡ true) }
-        ensures over { result ≡ Ok Over → asked ≡ Leave }
+        ensures over { result ≡ Ok Over → asked ≡ Do Quit }
     {
         match asked {
             Reading::Skip => Ok(Flow::On),
@@ -70,7 +71,6 @@ impl Talk {
                 self.pending.say(writer, b"bad command")?;
                 Ok(Flow::On)
             }
-            Reading::Leave => Ok(Flow::Over),
             Reading::Do(command) => {
                 obey(
                     &mut self.bench,
@@ -80,7 +80,7 @@ impl Talk {
                     &mut self.pending,
                     writer,
                 )?;
-                Ok(Flow::On)
+                Ok(flow_after(command))
             }
         }
     }
@@ -188,6 +188,17 @@ impl Talk {
                 Flow::Over => return as_session(sent),
             }
         }
+    }
+}
+
+/// Whether a session goes on after a command.
+fn flow_after(command: Command) -> Flow
+    ensures flow { result ≡ flow_after command }
+    ensures over { result ≡ Over → command ≡ Quit }
+{
+    match command {
+        Command::Quit => Flow::Over,
+        _ => Flow::On,
     }
 }
 
