@@ -1,5 +1,5 @@
 -- What is said of an answer, where a bench has come from power-up by some inputs.
-use Rattle.std.proofs.Common.{◌≡◌, ℕ, ◌+◌, List, [], ◌∷◌, ◌++◌, refl, sym, ap, ◌∙◌, append_assoc, Ok, Err, subst, suc, OnOk, OnErr, inl, inr, codes}
+use Rattle.std.proofs.Common.{◌≡◌, ℕ, ◌+◌, List, [], ◌∷◌, ◌++◌, None, refl, sym, ap, ◌∙◌, append_assoc, Ok, Err, subst, suc, OnOk, OnErr, inl, inr, codes}
 use Rattle.std.specs.declared.option.Option.{Option}
 use Rattle.std.specs.declared.result.Result.{Result}
 use Rattle.tsb_plan.specs.Plan.{Plan}
@@ -8,13 +8,15 @@ use Rattle.tsb_past.specs.declared.commands.Command.TheVariants.{Apply}
 use Rattle.tsb_past.specs.declared.commands.Answer.{Answer}
 use Rattle.tsb_past.specs.declared.commands.Answer.TheVariants.{Took, Refused}
 use Rattle.tsb_past.specs.Play as play
+use Rattle.tsb_past.specs.Play.{IsRefusal}
 use Rattle.tsb_past.proofs.PlayLemmas as past
 use Rattle.tsb_step.specs.declared.inputs.Input.{Input}
 use Rattle.tsb_step.specs.declared.inputs.Input.TheVariants.{Tick}
 use Rattle.tsb_step.specs.State.{State, start}
-use Rattle.tsb_step.specs.Past.{Whole, controller}
+use Rattle.tsb_step.specs.Past.{Whole, controller, record_of, earlier}
 use Rattle.tsb_step.specs.Play.{Cmd, IsRight, remaining_after, Follows}
 use Rattle.tsb_step.specs.Runs.{replay}
+use Rattle.tsb_step.specs.Step.{step, verdict}
 use Rattle.tsb_step.specs.Watches.{watched}
 use Rattle.tsb_bench.specs.Held.{Held, state_of, whole}
 use Rattle.tsb_command_text.specs.declared.command.Command.TheVariants.{Show, Quit}
@@ -62,6 +64,16 @@ pub quit-done : (given : Setup) (log : List LogRow) (is : List Input) (bench : W
 quit-done given log is bench a p stands = (is, stands, record { text = []; said = said-nothing a p; so = (refl, refl) })
 
 -- ## Ticks
+
+-- what is right of an input that the bench takes, and of one that it refuses
+pub took-right : (old new : Held) (i : Input) → verdict (state_of old) i ≡ None → state_of new ≡ step (state_of old) i
+    → new.records ≡ record_of i (state_of old) (state_of new) ∷ old.records → earlier (whole new) 1 ≡ whole old
+    → (plan : Plan) (inputs : List Input) → Follows plan (whole old) inputs → IsRight plan inputs (Apply i) Took × Follows plan (whole new) (i ∷ inputs)
+took-right old new i allowed steps told back plan = past.answers-took controller (start plan) watched (whole old) (whole new) i allowed steps told back
+
+pub refused-right : (old new : Held) (i : Input) (e : Refusal) → IsRefusal (verdict (state_of old) i) e → new ≡ old
+    → (plan : Plan) (inputs : List Input) → Follows plan (whole old) inputs → IsRight plan inputs (Apply i) (Refused e) × Follows plan (whole new) inputs
+refused-right old new i e refused same plan = past.answers-refused controller (start plan) watched (whole old) (whole new) i e refused (ap whole same)
 
 -- so far: the ticks that are to come answer the rest
 pub record Stepping (given : Setup) (log : List LogRow) (is : List Input) (n : ℕ) (bench : Whole) (k : ℕ) (a b : Option (List ℕ)) (p q : List ℕ) : Type 0 where

@@ -1,12 +1,8 @@
 //! Answers to commands.
 
-ghost use Rattle.std.specs.Prelude.{◌≡◌, ◌+◌, [], ◌∷◌, List, MatchResult, OnErr, OnOk, true};
-ghost use Rattle.tsb_plan.specs.Plan as words;
-ghost use Rattle.tsb_past.specs.declared.commands.Answer.TheVariants.{Took, Refused};
+ghost use Rattle.std.specs.Prelude.{◌≡◌, ◌+◌, [], List, OnErr, OnOk, true};
 ghost use Rattle.tsb_past.specs.declared.commands.Command.TheVariants.{Apply};
 ghost use Rattle.tsb_step.specs.declared.inputs.Input.{Input as InputValue};
-ghost use Rattle.tsb_step.specs.declared.inputs.Input.TheVariants.{Tick};
-ghost use Rattle.tsb_step.specs.Play.{Follows, IsRight};
 ghost use Rattle.tsb_bench.specs.Held.{whole};
 ghost use Rattle.tsb_log_text.specs.declared.log.LogRow.{LogRow};
 ghost use Rattle.tsb_text.specs.Answers.{Setup, Answers, Asked, Steps, when_line};
@@ -20,8 +16,6 @@ use std::io::Write;
 use tsb_bench::{Answer, Bench, Cmd, Input, answer};
 use tsb_command_text::Command;
 use tsb_log_text::Log;
-use tsb_objects::{Refusal, Row};
-use tsb_past::Command as Ask;
 
 /// Carries out a command, and says its answer. Of `log` it takes the rows of ticks; `place` says where the last one was
 /// found.
@@ -41,10 +35,10 @@ pub(crate) fn obey<W: Write>(
         Command::Step(ticks) => step(bench, log, place, ticks, pending, writer),
         Command::Show => pending.say(writer, &line_bytes(bench)),
         Command::Quit => Ok(()),
-        Command::Back(ticks) => ask(bench, Ask::Back(ticks), pending, writer),
-        Command::Seek(tick) => ask(bench, Ask::Seek(tick), pending, writer),
-        Command::Undo => ask(bench, Ask::Undo, pending, writer),
-        Command::When(watch) => ask(bench, Ask::When(watch), pending, writer),
+        Command::Back(ticks) => ask(bench, Cmd::Back(ticks), pending, writer),
+        Command::Seek(tick) => ask(bench, Cmd::Seek(tick), pending, writer),
+        Command::Undo => ask(bench, Cmd::Undo, pending, writer),
+        Command::When(watch) => ask(bench, Cmd::When(watch), pending, writer),
         Command::Begin(station) => apply(bench, Input::Begin(station), pending, writer),
         Command::Set(station, id, value) => {
             apply(bench, Input::Set(station, id, value), pending, writer)
@@ -74,7 +68,7 @@ fn step<W: Write>(
 {
     for _i in 0..ticks {
         let row = log.row(next_tick(bench), place);
-        match tick(bench, row) {
+        match bench.apply(Input::Tick(row)) {
             Ok(()) => pending.say(writer, &line_bytes(bench))?,
             Err(refusal) => return pending.say(writer, refused_line(refusal)),
         }
@@ -89,20 +83,6 @@ fn next_tick(bench: &Bench) -> u32
     bench.now() + 1
 }
 
-/// Lets the bench take a tick.
-fn tick(bench: &mut Bench, row: Row) -> Result<(), Refusal>
-    ensures { (plan : words.Plan) (inputs : List InputValue) → Follows plan (whole bench.old) inputs → MatchResult result
-        (λ u. IsRight plan inputs (Apply (Tick row)) Took × Follows plan (whole bench.new) (Tick row ∷ inputs))
-        (λ e. IsRight plan inputs (Apply (Tick row)) (Refused e) × Follows plan (whole bench.new) inputs) }
-{
-    match answer(bench, Ask::Apply(Input::Tick(row))) {
-        Answer::Took => Ok(()),
-        Answer::Refused(refusal) => Err(refusal),
-        // No other answer is right for an input.
-        _ => Ok(()),
-    }
-}
-
 /// Applies an input, and says what tells the answer.
 fn apply<W: Write>(
     bench: &mut Bench,
@@ -114,7 +94,7 @@ fn apply<W: Write>(
         → Done result given log (whole bench.new) (Asked given inputs (Apply input)) (W.contents writer.old) (W.contents writer.new) pending.old.waits pending.new.waits }
     ensures blame { OnErr result (pending.new.watch.failed ≡ true) }
 {
-    ask(bench, Ask::Apply(input), pending, writer)
+    ask(bench, Cmd::Apply(input), pending, writer)
 }
 
 /// Asks the bench, and says what tells its answer.

@@ -9,8 +9,7 @@ use arrayvec::ArrayString;
 use tsb_bench::{Bench, Cmd, Input, Kind};
 use tsb_display_text::LineBytes;
 use tsb_lines::seven_digits;
-use tsb_objects::{Refusal, Rule, Station};
-use tsb_past::Command as Ask;
+use tsb_objects::{Preempt, Refusal, Rule, Station};
 use tsb_plan_text::rule_line;
 use tsb_preempt::preempt_of;
 
@@ -57,7 +56,7 @@ pub(crate) fn taken_line(command: &Cmd, bench: &Bench) -> &'static [u8]
     ensures short { length result.now ≤ 63 }
 {
     match command {
-        Ask::Apply(Input::Verify(_)) => verified_line(bench.desk().rule()),
+        Cmd::Apply(Input::Verify(_)) => verified_line(bench.desk().rule()),
         _ => b"ok",
     }
 }
