@@ -7,11 +7,13 @@ use Rattle.tsb_past.specs.declared.commands.Command.TheVariants as asks
 use Rattle.tsb_past.specs.declared.commands.Answer.{Answer}
 use Rattle.tsb_past.specs.declared.commands.Answer.TheVariants as answers
 use Rattle.tsb_past.specs.Laws.{TellsKinds}
-use Rattle.tsb_past.specs.Play.{Does, DoAll, IsNewest}
+use Rattle.tsb_past.specs.Play.{Answers, Does, DoAll, IsNewest}
+use Rattle.tsb_past.proofs.PlayLemmas.{benches_answer}
+use Rattle.tsb_plan.specs.Plan.{Plan}
 use Rattle.tsb_step.specs.declared.inputs.Input.{Input}
 use Rattle.tsb_step.specs.Past.{Whole, controller, record_of, earlier}
 use Rattle.tsb_step.specs.Play.{Cmd}
-use Rattle.tsb_step.specs.State.{State}
+use Rattle.tsb_step.specs.State.{State, start}
 use Rattle.tsb_step.specs.Step.{step, verdict}
 use Rattle.tsb_step.specs.Watches.{watched}
 
@@ -27,6 +29,13 @@ does-took w new i allowed steps told back =
 pub newest-is-kind : (rs : List Change) (k : Kind) → newest_kind rs ≡ Some k → IsNewest controller rs k
 newest-is-kind [] k h = absurd cc
 newest-is-kind (r ∷ rs) k h = cc
+
+-- a bench that does what it says answers right
+abbrev IsDoneRight : Whole → Cmd → Answer → Whole → Type 0
+IsDoneRight old c a new = record { does : Does controller watched old c a new; right : (plan : Plan) → Answers controller (start plan) watched old c a new }
+
+pub does-right : (old new : Whole) (c : Cmd) (a : Answer) → Does controller watched old c a new → IsDoneRight old c a new
+does-right old new c a does = record { does = does; right = λ plan. benches_answer controller (start plan) watched tells-kinds old new c a does }
 
 -- one command more
 doing-more : (w mid new : Whole) (cs : List Cmd) (ans : List Answer) (c : Cmd) (a : Answer) → DoAll controller watched w cs ans mid → Does controller watched mid c a new →

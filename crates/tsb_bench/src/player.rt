@@ -16,7 +16,7 @@ ghost use Rattle.tsb_bench.specs.Held.{state_of, whole};
 use crate::bench::Bench;
 use std::alloc::Global;
 use tsb_objects::{Checked, Refusal};
-use tsb_past::{Answer, Command};
+use tsb_past::Answer;
 use tsb_step::Cmd;
 
 /// Carries out a command, and gives its answer. It does what it says; and so, where the bench has come from power-up by
@@ -25,31 +25,24 @@ pub fn answer(bench: &mut Bench, command: Cmd) -> Answer
     ensures does { play.Does controller watched (whole bench.old) command result (whole bench.new) }
     ensures right { (plan : Plan) → play.Answers controller (start plan) watched (whole bench.old) command result (whole bench.new) }
 {
-    act(bench, command)
-}
-
-/// Carries out a command, and gives its answer.
-fn act(bench: &mut Bench, command: Cmd) -> Answer
-    ensures { play.Does controller watched (whole bench.old) command result (whole bench.new) }
-{
     match command {
-        Command::Apply(input) => match bench.apply(input) {
+        Cmd::Apply(input) => match bench.apply(input) {
             Ok(()) => Answer::Took,
             Err(refusal) => Answer::Refused(refusal),
         },
-        Command::Undo => match bench.undo() {
+        Cmd::Undo => match bench.undo() {
             Ok(kind) => Answer::Undone(kind),
             Err(_) => Answer::Nothing,
         },
-        Command::Back(ticks) => match bench.back(ticks) {
+        Cmd::Back(ticks) => match bench.back(ticks) {
             Ok(()) => Answer::Moved,
             Err(_) => Answer::Nothing,
         },
-        Command::Seek(tick) => match bench.seek(tick) {
+        Cmd::Seek(tick) => match bench.seek(tick) {
             Ok(()) => Answer::Moved,
             Err(_) => Answer::Nothing,
         },
-        Command::When(watch) => Answer::Changed(bench.when(watch)),
+        Cmd::When(watch) => Answer::Changed(bench.when(watch)),
     }
 }
 
