@@ -9,7 +9,7 @@ use arrayvec::ArrayString;
 use tsb_bench::{Bench, Cmd, Input, Kind};
 use tsb_display_text::LineBytes;
 use tsb_lines::seven_digits;
-use tsb_objects::{Preempt, Refusal, Rule, Station};
+use tsb_objects::{Refusal, Rule, Station};
 use tsb_plan_text::rule_line;
 use tsb_preempt::preempt_of;
 
