@@ -6,7 +6,7 @@ use Rattle.std.proofs.lemmas.List.Elements.{All-cons, All-tail, All-head}
 use Rattle.std.proofs.lemmas.Nat.{from_le_bytes-to_le_bytes_2, from_le_bytes-to_le_bytes_4}
 use Rattle.std.specs.Int.{w16, w32, to_le_bytes}
 use Rattle.tsb_history.specs.declared.kinds.Kind.{Kind}
-use Rattle.tsb_history.specs.declared.kinds.Kind.TheVariants.{Tick, Pattern, Switch, Fault, Reset, Begin, Set, Verify, Commit, Abort}
+use Rattle.tsb_history.specs.declared.kinds.Kind.TheVariants.{Tick}
 use Rattle.tsb_history.specs.History.{Change, older, size_of, FitsEntry, FitsRecord}
 use Rattle.tsb_history.specs.Bytes.{entries_at, count_at, start_at, change_at, changes_at, IsRecordAt, IsLaid, two_at, four_at, kind_of, code_of, entry_bytes, entries_bytes, record_bytes, IsKept, bytes_of}
 use Rattle.tsb_history.proofs.PlaceLemmas.{length-entries_at, changes_same, laid_same, Agree}
@@ -59,15 +59,7 @@ entries_read (e ∷ es) more fits =
 -- a kind is read from its own byte
 kind-code : (k : Kind) → kind_of (code_of k) ≡ k
 kind-code Tick = refl
-kind-code Pattern = refl
-kind-code Switch = refl
-kind-code Fault = refl
-kind-code Reset = refl
-kind-code Begin = refl
-kind-code Set = refl
-kind-code Verify = refl
-kind-code Commit = refl
-kind-code Abort = refl
+kind-code k = refl
 
 -- a record behind other bytes is read whole
 pub record IsRead (bs : List ℕ) (r : Change) : Type 0 where
