@@ -13,7 +13,7 @@ use Rattle.tsb_log_text.specs.declared.error.LogError.{LogError}
 use Rattle.tsb_text.specs.declared.error.SessionError.{SessionError}
 use Rattle.tsb_text.specs.Answers.{Setup}
 use Rattle.tsb_text.specs.Ended.{Ended}
-use Rattle.tsb_streams.specs.Writes.{AppendsFront}
+use Rattle.tsb_lines.specs.Writes.{AppendsFront}
 use Rattle.tsb.specs.Lines.{FailsToRead, TellsEnd, TellsWords, plan_line, log_line}
 use Rattle.tsb_program.specs.Failures.{Fails}
 use Rattle.tsb_program.specs.declared.failure.Failure.TheVariants.{Write}

@@ -1,6 +1,6 @@
 -- The lines that the program writes of faults, each with its end.
 use Rattle.std.specs.Prelude.{◌≡◌, ◌⊎◌, ℕ, List, [], ◌∷◌, ◌++◌, IfSome, Option, codes}
-use Rattle.tsb_streams.specs.Writes.{AppendsFront}
+use Rattle.tsb_lines.specs.Writes.{AppendsFront}
 use Rattle.tsb_plan_text.specs.declared.error.PlanError.{PlanError}
 use Rattle.tsb_plan_text.specs.FaultLines.{plan_fault}
 use Rattle.tsb_log_text.specs.declared.error.LogError.{LogError}

@@ -7,7 +7,7 @@ use Rattle.tsb_plan.specs.Objects.{AreInRange}
 use Rattle.tsb_transact.specs.Cells.{desk_in}
 use Rattle.tsb_transact.specs.Desk as desk
 use Rattle.tsb_transact.proofs.ToldLemmas.{rows_are_told}
-use Rattle.tsb_past.proofs.PastLemmas.{sought-back}
+use Rattle.tsb_machine.proofs.PastLemmas.{sought-back}
 use Rattle.tsb_step.specs.Good.{IsGood}
 use Rattle.tsb_step.specs.Past.{Whole, controller, ticks_of, undone, taken_back, earlier, sought, record_of}
 use Rattle.tsb_objects.specs.Checked.{checked_plan}

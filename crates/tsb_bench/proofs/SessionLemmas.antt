@@ -3,12 +3,12 @@ use Rattle.std.proofs.Common.{◌≡◌, ℕ, ◌+◌, ◌<◌, List, [], ◌∷
 use Rattle.std.proofs.lemmas.List.{take_more}
 use Rattle.tsb_history.specs.History.{Change, newest_kind}
 use Rattle.tsb_history.specs.declared.kinds.Kind.{Kind}
-use Rattle.tsb_past.specs.declared.commands.Command.TheVariants as asks
-use Rattle.tsb_past.specs.declared.commands.Answer.{Answer}
-use Rattle.tsb_past.specs.declared.commands.Answer.TheVariants as answers
-use Rattle.tsb_past.specs.Laws.{TellsKinds}
-use Rattle.tsb_past.specs.Play.{Answers, Does, DoAll, IsNewest}
-use Rattle.tsb_past.proofs.PlayLemmas.{benches_answer}
+use Rattle.tsb_machine.specs.declared.commands.Command.TheVariants as asks
+use Rattle.tsb_machine.specs.declared.commands.Answer.{Answer}
+use Rattle.tsb_machine.specs.declared.commands.Answer.TheVariants as answers
+use Rattle.tsb_machine.specs.Laws.{TellsKinds}
+use Rattle.tsb_machine.specs.Play.{Answers, Does, DoAll, IsNewest}
+use Rattle.tsb_machine.proofs.PlayLemmas.{benches_answer}
 use Rattle.tsb_plan.specs.Plan.{Plan}
 use Rattle.tsb_step.specs.declared.inputs.Input.{Input}
 use Rattle.tsb_step.specs.Past.{Whole, controller, record_of, earlier}

@@ -9,7 +9,7 @@ ghost use Rattle.tsb_plan.specs.PlanOf.{plan_of};
 ghost use Rattle.tsb_types.specs.declared.refusal.Refusal.TheVariants.{Memory};
 ghost use Rattle.tsb_heads.specs.Promises.{IsSame};
 ghost use Rattle.tsb_heads.specs.Reading.{heads_of};
-ghost use Rattle.tsb_past.specs.Play.{IsRefusal};
+ghost use Rattle.tsb_machine.specs.Play.{IsRefusal};
 ghost use Rattle.tsb_step.specs.Good.{IsGood};
 ghost use Rattle.tsb_step.specs.Past.{record_of, earlier, pasts, sought, ticks_of, IsLeastBack};
 ghost use Rattle.tsb_step.specs.Signs.{display, local, stage, IsSafe};

@@ -34,7 +34,7 @@ use tsb_cells::{Bank, Diff, Reversible};
 use tsb_controller::Controller;
 use tsb_history::Record;
 use tsb_objects::{Checked, PLAN_CELLS, Refusal, limits};
-use tsb_plan_changes::put_back;
+use tsb_records::plan_changes::put_back;
 use tsb_records::{part_of, touches, undo_entry};
 use tsb_step::first_cell::{ALL_CELLS, DESK, DETECTORS, LAYER_CELLS, MONITOR};
 use tsb_step::{Input, MONITOR_CELLS};

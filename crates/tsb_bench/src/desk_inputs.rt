@@ -25,7 +25,7 @@ use crate::cabinet::{Cabinet, Changes};
 use tsb_cells::Reversible;
 use tsb_controller::Controller;
 use tsb_objects::{Checked, ObjectId, Refusal, Station};
-use tsb_plan_changes::differences_onto;
+use tsb_records::plan_changes::differences_onto;
 use tsb_step::first_cell::DESK;
 use tsb_transact::Desk;
 

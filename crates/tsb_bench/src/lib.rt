@@ -1,7 +1,7 @@
 //! The bench: the whole controller, which can be wound back. It takes inputs, gives a display, and takes the newest
 //! inputs back, with the whole controller as it was.
 //!
-//! [`Bench`] meets the one step of the definitions (`tsb_step`), and the way back of `tsb_past`: what holds of every run
+//! [`Bench`] meets the one step of the definitions (`tsb_step`), and the way back of `tsb_machine`: what holds of every run
 //! and of every session by them holds of what [`play`] leaves: [`plays_keep_the_laws`].
 #![tactic(auto)]
 
@@ -21,5 +21,5 @@ pub use play_laws::plays_keep_the_laws;
 pub use player::{answer, play};
 pub use room_laws::room_lasts;
 pub use tsb_history::Kind;
-pub use tsb_past::Answer;
+pub use tsb_machine::Answer;
 pub use tsb_step::{Cmd, Input};

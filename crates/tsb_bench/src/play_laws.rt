@@ -10,8 +10,8 @@ ghost use Rattle.tsb_bench.specs.Held.{state_of};
 ghost use Rattle.tsb_bench.specs.PlayLaws.{ClearsGreens, EndsWhatHasHeld, HasSafeField, KeepsCommitments, ServesItsSide, TripsByFaults, TurnsRedFromYellow, TurnsOverlapsRedFromYellow};
 
 use crate::bench::Bench;
+use tsb_machine::Answer;
 use tsb_objects::Checked;
-use tsb_past::Answer;
 use tsb_step::Cmd;
 use tsb_step::clearance_laws::greens_clear_in_time;
 use tsb_step::laws::{

@@ -3,7 +3,7 @@ ghost use Rattle.std.specs.Prelude.{◌≡◌, ℕ, ◌≤◌, length, drop, rev
 ghost use Rattle.tsb_types.specs.declared.refusal.Refusal.TheVariants.{Memory};
 ghost use Rattle.tsb_objects.specs.Checked.{checked_plan};
 ghost use Rattle.tsb_plan.specs.Plan.{Plan};
-ghost use Rattle.tsb_past.specs.Play as play;
+ghost use Rattle.tsb_machine.specs.Play as play;
 ghost use Rattle.tsb_step.specs.Past.{controller, earlier};
 ghost use Rattle.tsb_step.specs.Play.{records_of, remaining, AreRight};
 ghost use Rattle.tsb_step.specs.Runs.{replay, AreTaken};
@@ -15,8 +15,8 @@ ghost use Rattle.tsb_bench.specs.Held.{state_of, whole};
 
 use crate::bench::Bench;
 use std::alloc::Global;
+use tsb_machine::Answer;
 use tsb_objects::{Checked, Refusal};
-use tsb_past::Answer;
 use tsb_step::Cmd;
 
 /// Carries out a command, and gives its answer. It does what it says; and so, where the bench has come from power-up by

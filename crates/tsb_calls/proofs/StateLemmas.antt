@@ -7,7 +7,7 @@ use Rattle.tsb_types.specs.Lists.{run_from}
 use Rattle.tsb_types.specs.Sets.{names, list_of, list_in, is_phase}
 use Rattle.tsb_types.proofs.SetLemmas.{list_of-below, names-above}
 use Rattle.tsb_types.proofs.ClipLemmas.{among_16, is_phase_from}
-use Rattle.tsb_rows.proofs.TableLemmas.{front-read, column-read, length-column, list-read}
+use Rattle.tsb_cells.proofs.TableLemmas.{front-read, column-read, length-column, list-read}
 use Rattle.tsb_calls.specs.Memories.{Memories}
 use Rattle.tsb_calls.specs.Cells.{memories_in, memories_cells, IsBy}
 use Rattle.tsb_calls.specs.Laws.{AreOff, AreInRange, AreRead}

@@ -3,3 +3,5 @@ pub mod DiffLemmas
 pub mod PartLemmas
 pub mod RowLemmas
 pub mod TimerLemmas
+pub mod TableLemmas
+pub mod WriteLemmas

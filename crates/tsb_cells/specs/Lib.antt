@@ -10,3 +10,5 @@ pub mod Row
 pub mod Timer
 -- that a timer is read as it was written
 pub mod TimerLaws
+-- that one cell of a row changes and no other
+pub mod Lists

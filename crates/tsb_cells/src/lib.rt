@@ -9,6 +9,7 @@ pub mod bank;
 pub mod diff;
 pub mod laws;
 pub mod layout;
+pub mod lists;
 pub mod reversible;
 pub mod timer;
 

@@ -12,7 +12,7 @@ use Rattle.tsb_types.specs.Lists.{run_from}
 use Rattle.tsb_types.specs.Sets.{names, list_of, list_in, has_number}
 use Rattle.tsb_types.proofs.SetLemmas.{list_of-below}
 use Rattle.tsb_types.proofs.ClipLemmas.{IsAmong, among_16, is_phase_from}
-use Rattle.tsb_rows.proofs.TableLemmas.{front-read, column-read, length-column, list-read}
+use Rattle.tsb_cells.proofs.TableLemmas.{front-read, column-read, length-column, list-read}
 use Rattle.tsb_plan.specs.Plan.{Plan}
 use Rattle.tsb_plan.specs.Parts.{call_phase, unless_zero}
 use Rattle.tsb_plan.specs.declared.object.Object.TheVariants.{VehicleDetectorCallPhase}

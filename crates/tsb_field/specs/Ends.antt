@@ -3,7 +3,7 @@
 -- Of each stream there are the bytes before and after: `input` and `left`, `old` and `new`, `told` and `tells`.
 use Rattle.std.specs.Prelude.{◌≡◌, ◌⊎◌, ℕ, List, [], IsSome, Option, Some, None, Result, Ok, Err, unwrap_or, codes}
 use Rattle.std.specs.Io.KnownBytes.{Appends, Consumes, IsAtEnd, Keeps}
-use Rattle.tsb_streams.specs.Writes.{AppendsFront}
+use Rattle.tsb_lines.specs.Writes.{AppendsFront}
 use Rattle.tsb_program.specs.Read.{HasLog, RefusesLog}
 use Rattle.tsb_program.specs.Failures.{Fails, failure_of}
 use Rattle.tsb_program.specs.declared.failure.Failure.{Failure}

@@ -1,6 +1,6 @@
 -- The lines that the program tells, each with its end.
 use Rattle.std.specs.Prelude.{◌≡◌, ◌⊎◌, ℕ, ◌==◌, ◌&&◌, Bool, true, false, List, [], ◌∷◌, ◌++◌, IfSome, Option, Some, codes, decimal}
-use Rattle.tsb_streams.specs.Writes.{AppendsFront}
+use Rattle.tsb_lines.specs.Writes.{AppendsFront}
 use Rattle.tsb_field_streams.specs.declared.error.FilterError.{FilterError}
 use Rattle.tsb_field_streams.specs.declared.error.FilterError.TheVariants as ends
 use Rattle.tsb_field_streams.specs.FaultLines.{filter_fault}

@@ -16,9 +16,9 @@ use tsb_field_display::{ReplayError, read_replay};
 use tsb_field_events::{EventsError, events_text};
 use tsb_field_log::Wire;
 use tsb_field_streams::log;
+use tsb_lines::pass_on;
 use tsb_log_text::{Log, LogError};
 use tsb_program::{Failure, Files, ReadError, fail, log_of};
-use tsb_streams::pass_on;
 use tsb_words::field_files::{Asked, read_words};
 
 /// What stands over a diagram where words give no title.

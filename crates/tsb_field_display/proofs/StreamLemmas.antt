@@ -9,7 +9,7 @@ use Rattle.std.proofs.lemmas.List.Sums.{fold-append}
 use Rattle.tsb_lines.specs.Lines.{HasNoFeed, kept, without_return}
 use Rattle.tsb_lines.proofs.KeptLemmas.{kept-more, kept-tells}
 use Rattle.tsb_lines.proofs.LineLemmas.{feedless-more, length-return, split-alone, split-joined}
-use Rattle.tsb_streams.proofs.StreamLemmas.{consumes-more, consumes-nothing}
+use Rattle.tsb_lines.proofs.StreamLemmas.{consumes-more, consumes-nothing}
 use Rattle.tsb_field_display.specs.declared.error.ReplayError.{ReplayError}
 use Rattle.tsb_field_display.specs.declared.shown.Shown.{Shown}
 use Rattle.tsb_field_display.specs.declared.stream.Stream.{Stream}

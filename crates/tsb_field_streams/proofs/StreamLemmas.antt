@@ -5,8 +5,8 @@ use Rattle.std.specs.declared.option.Option.{Option}
 use Rattle.std.specs.declared.result.Result.{Result}
 use Rattle.std.specs.declared.result.Result.TheVariants.{Ok, Err}
 use Rattle.std.specs.Io.KnownBytes.{Appends, Consumes, IsAtEnd, Keeps}
-use Rattle.tsb_streams.specs.Writes.{AppendsFront}
-use Rattle.tsb_streams.proofs.StreamLemmas.{appends-kept, appends-more, appends-nothing, consumes-kept, consumes-more, consumes-nothing, front-more, front-rest}
+use Rattle.tsb_lines.specs.Writes.{AppendsFront}
+use Rattle.tsb_lines.proofs.StreamLemmas.{appends-kept, appends-more, appends-nothing, consumes-kept, consumes-more, consumes-nothing, front-more, front-rest}
 use Rattle.tsb_lines.specs.Lines.{kept, without_return}
 use Rattle.tsb_lines.proofs.KeptLemmas.{kept-more}
 use Rattle.tsb_field_log.specs.declared.street.Rows.{Rows}

@@ -2,7 +2,7 @@
 ghost use Rattle.std.specs.Prelude.{◌≡◌, ◌+◌, ◌≤◌, ◌++◌, Err, OnErr, OnOk, option_to_list};
 ghost use Rattle.std.specs.Io.KnownBytes.{Appends, Keeps};
 ghost use Rattle.arrayvec.specs.ArrayVec.{array_vec_len};
-ghost use Rattle.tsb_streams.specs.Writes.{AppendsFront};
+ghost use Rattle.tsb_lines.specs.Writes.{AppendsFront};
 ghost use Rattle.tsb_field_log.specs.Streets.{rows_in};
 ghost use Rattle.tsb_field_log.specs.LogText.{log_text};
 ghost use Rattle.tsb_field_streams.specs.declared.error.FilterError.TheVariants.{Write as write};
@@ -11,8 +11,8 @@ use crate::error::FilterError;
 use arrayvec::ArrayVec;
 use std::io::Write;
 use tsb_field_log::{Rows, row_line};
+use tsb_lines::{pass_on, write_text};
 use tsb_log_text::LogRow;
-use tsb_streams::{pass_on, write_text};
 
 /// How many bytes the lines of two rows have.
 const ROWS: usize = 78;

@@ -3,3 +3,5 @@ pub mod KeptLemmas
 pub mod WordLemmas
 pub mod LawLemmas
 pub mod DigitLemmas
+-- known bytes of readers and writers, a piece at a time
+pub mod StreamLemmas

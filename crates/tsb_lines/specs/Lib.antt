@@ -6,3 +6,5 @@ pub mod Words
 pub mod Digits
 -- what holds of lines and words
 pub mod Laws
+-- what a writer has taken of a text
+pub mod Writes

@@ -9,8 +9,10 @@ pub mod kept;
 pub mod laws;
 pub mod lines;
 pub mod words;
+pub mod writes;
 
 pub use digits::{digit, seven_digits};
 pub use kept::KeptLine;
 pub use lines::{is_skipped, next_line, without_return};
 pub use words::{next_word, number};
+pub use writes::{WriteError, pass_on, write_text};

@@ -17,7 +17,7 @@ use Rattle.tsb_phase.specs.declared.ending.Ending.TheVariants.{MaxOut, GapOut}
 use Rattle.tsb_phase.specs.DynamicMaximum.{is_same}
 use Rattle.tsb_phase.specs.Cells.{number_in, number_cell, phase_in, row_in, phases_cells, IsBy}
 use Rattle.tsb_phase.specs.Laws.{RowsAreTold}
-use Rattle.tsb_rows.proofs.TableLemmas.{list-told, more, column}
+use Rattle.tsb_cells.proofs.TableLemmas.{list-told, more, column}
 
 -- ## What the lists tell
 

@@ -1,14 +1,14 @@
 //! Rows of phases in the cells: how they are read, and written where they change.
 ghost use Rattle.std.specs.Prelude.{◌≡◌, ◌≢◌, ℕ, ◌+◌, ◌*◌, ◌<◌, ◌≤◌, true, false, slice_index};
 ghost use Rattle.tsb_types.specs.Sets.{has, names, list_in};
-ghost use Rattle.tsb_rows.specs.Rows.{Elsewhere};
+ghost use Rattle.tsb_cells.specs.Lists.{Elsewhere};
 ghost use Rattle.tsb_phase.specs.Cells.{row_in};
 ghost use Rattle.tsb_phase.specs.Rows.{list_of_row, cell_of_row, with_list, with_cell};
 
 use crate::phase_row::PhaseRow;
 use crate::phases::Phases;
+use tsb_cells::lists::{phases, put_phases};
 use tsb_objects::{Phase, PhaseSet};
-use tsb_rows::{phases, put_phases};
 
 /// The lists, each in the cell of this number.
 pub(crate) const GREENS: usize = 0;

@@ -15,8 +15,8 @@ use crate::phases::Phases;
 use crate::rows::{GREENS, RED_CLEARS, RED_REVERTS, YELLOWS};
 use crate::visit::{has_passed, visit_green, visit_red_clear, visit_yellow};
 use tsb_cells::Timer;
+use tsb_cells::lists::phases;
 use tsb_objects::{Checked, Phase, PhaseSet, Timing};
-use tsb_rows::phases;
 
 impl Phases {
     ghost use Rattle.tsb_phase.specs.Layer.{cells_of, kept_of, is_open, KeepsLists};

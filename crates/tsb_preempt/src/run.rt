@@ -15,8 +15,8 @@ use crate::cells::{SPENT, SWITCHES};
 use crate::orders::PreemptOrders;
 use crate::preempts::Preempts;
 use crate::serving::{Serving, beginning, requests, served, spends, stage_phases};
+use tsb_cells::lists::list;
 use tsb_objects::{Intervals, NumberSet, PhaseSet, Plan, Preempt, Row};
-use tsb_rows::list;
 
 /// The list that names phases 1 to 16.
 const ALL_PHASES: u16 = 65535;

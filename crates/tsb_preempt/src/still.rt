@@ -18,8 +18,8 @@ use crate::preempts::Preempts;
 use crate::serving::{
     Serving, ends_dwell, has_input, has_reached, is_exit_green, is_track_green, may_begin, requests,
 };
+use tsb_cells::lists::list;
 use tsb_objects::{Intervals, NumberSet, Plan, Preempt, Stage};
-use tsb_rows::list;
 
 /// Whether the timer of Track neither begins nor ends Track.
 #[inline(always)]

@@ -1,6 +1,6 @@
 -- What fails a program, and how it ends then.
 use Rattle.std.specs.Prelude.{◌≡◌, ℕ, List, Option, codes}
-use Rattle.tsb_streams.specs.Writes.{AppendsFront}
+use Rattle.tsb_lines.specs.Writes.{AppendsFront}
 use Rattle.tsb_program.specs.declared.failure.Failure.{Failure}
 use Rattle.tsb_program.specs.declared.failure.Failure.TheVariants.{Memory, Read, Write}
 use Rattle.tsb_program.specs.declared.files.FileError.{FileError}

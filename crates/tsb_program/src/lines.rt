@@ -1,14 +1,14 @@
 //! Lines that a program writes.
 ghost use Rattle.std.specs.Prelude.{◌≡◌, ◌++◌, ◌∷◌, [], IfOk, IfSome, OnOk, string_bytes};
 ghost use Rattle.std.specs.Io.KnownBytes.{Appends};
-ghost use Rattle.tsb_streams.specs.Writes.{AppendsFront};
+ghost use Rattle.tsb_lines.specs.Writes.{AppendsFront};
 ghost use Rattle.tsb_program.specs.Statuses.{number};
 
 use crate::status::Status;
 use std::alloc::{AllocError, Global};
 use std::fmt::Display;
 use std::io::Write;
-use tsb_streams::{WriteError, pass_on, write_text};
+use tsb_lines::{WriteError, pass_on, write_text};
 
 /// Writes a line of faults, and gives the number of the status. Where the line can't be written, nobody can be told of it.
 pub fn tell<E: Write>(errors: &mut E, status: Status, line: &[u8]) -> u8

@@ -3,5 +3,6 @@
 #![tactic(auto)]
 
 pub mod parts;
+pub mod plan_changes;
 
 pub use parts::{part_of, touches, undo_entry, undo_part};

@@ -4,7 +4,7 @@ use Rattle.tsb_types.specs.declared.refusal.Refusal.{Refusal}
 use Rattle.tsb_types.specs.declared.refusal.Refusal.TheVariants.{Memory, NoSuchObject, OutOfRange, NotOwner, NotVerified, TooManyEdits, NoSuchPattern, NoSuchPreempt, TickLimit, InService}
 use Rattle.tsb_plan.specs.Plan.{Plan}
 use Rattle.tsb_plan.specs.declared.object.ObjectId.{ObjectId}
-use Rattle.tsb_past.specs.Play.{IsRefusal}
+use Rattle.tsb_machine.specs.Play.{IsRefusal}
 use Rattle.tsb_coord.specs.Coordinated as coordination
 use Rattle.tsb_preempt.specs.Preempts as preempts
 use Rattle.tsb_preempt.specs.Service.{has_dwell}

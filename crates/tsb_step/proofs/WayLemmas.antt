@@ -5,7 +5,7 @@ use Rattle.tsb_cells.proofs.DiffLemmas.{apply_diff-diff}
 use Rattle.tsb_types.specs.declared.lamp.Lamp.{Lamp}
 use Rattle.tsb_types.specs.declared.row.Row.{Row}
 use Rattle.tsb_plan.specs.Plan.{Plan}
-use Rattle.tsb_past.specs.Laws.{GivesBack, CountsTicks}
+use Rattle.tsb_machine.specs.Laws.{GivesBack, CountsTicks}
 use Rattle.tsb_history.specs.declared.kinds.Kind.{Kind}
 use Rattle.tsb_history.specs.declared.kinds.Kind.TheVariants as kinds
 use Rattle.tsb_step.specs.declared.inputs.Input.{Input}

@@ -1,15 +1,15 @@
 -- The whole controller with its history, and the way back through the records. The record of an input tells what it
 -- changed, each cell with its value before, so that it can be taken back. What the way back is, of any machine with
--- records, stands in tsb_past.
+-- records, stands in tsb_machine.
 use Rattle.std.specs.Prelude.{◌≡◌, ℕ, ◌-◌, List, length}
 use Rattle.tsb_cells.specs.Diff.{diff, apply_diff}
 use Rattle.tsb_history.specs.History.{Change}
 use Rattle.tsb_history.specs.declared.kinds.Kind.{Kind}
 use Rattle.tsb_history.specs.declared.kinds.Kind.TheVariants.{Tick}
 use Rattle.tsb_plan.specs.Plan.{Plan}
-use Rattle.tsb_past.specs.Machine.{Machine}
-use Rattle.tsb_past.specs.Past as past
-use Rattle.tsb_past.specs.Laws.{GivesBack, CountsTicks, TellsKinds}
+use Rattle.tsb_machine.specs.Machine.{Machine}
+use Rattle.tsb_machine.specs.Past as past
+use Rattle.tsb_machine.specs.Laws.{GivesBack, CountsTicks, TellsKinds}
 use Rattle.tsb_step.specs.declared.inputs.Input.{Input}
 use Rattle.tsb_step.specs.State.{State, start}
 use Rattle.tsb_step.specs.Step.{step, verdict, kind_of}

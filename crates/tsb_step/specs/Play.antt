@@ -1,14 +1,14 @@
 -- What a list of commands comes to: the inputs that remain, and which answer is right where it stands. Inputs are piled
 -- up, the newest first; the state is that of a replay of the inputs that remain. What each of these is, of any machine
--- with records, stands in tsb_past.
+-- with records, stands in tsb_machine.
 use Rattle.std.specs.Prelude.{ℕ, List}
 use Rattle.tsb_history.specs.History.{Change}
 use Rattle.tsb_types.specs.declared.watch.Watch.{Watch}
 use Rattle.tsb_plan.specs.Plan.{Plan}
-use Rattle.tsb_past.specs.declared.commands.Command.{Command}
-use Rattle.tsb_past.specs.declared.commands.Answer.{Answer}
-use Rattle.tsb_past.specs.Machine as machine
-use Rattle.tsb_past.specs.Play as play
+use Rattle.tsb_machine.specs.declared.commands.Command.{Command}
+use Rattle.tsb_machine.specs.declared.commands.Answer.{Answer}
+use Rattle.tsb_machine.specs.Machine as machine
+use Rattle.tsb_machine.specs.Play as play
 use Rattle.tsb_step.specs.declared.inputs.Input.{Input}
 use Rattle.tsb_step.specs.State.{State, start}
 use Rattle.tsb_step.specs.Past.{controller, Whole}

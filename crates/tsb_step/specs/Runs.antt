@@ -1,7 +1,7 @@
 -- Runs of the controller: inputs are piled up, the newest first.
 use Rattle.std.specs.Prelude.{List}
 use Rattle.tsb_plan.specs.Plan.{Plan}
-use Rattle.tsb_past.specs.Machine as machine
+use Rattle.tsb_machine.specs.Machine as machine
 use Rattle.tsb_step.specs.declared.inputs.Input.{Input}
 use Rattle.tsb_step.specs.State.{State, start}
 use Rattle.tsb_step.specs.Past.{controller}

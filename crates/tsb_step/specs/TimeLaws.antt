@@ -22,7 +22,7 @@ use Rattle.tsb_heads.specs.Monitoring.{conflict}
 use Rattle.tsb_ring.specs.Moves.{is_started}
 use Rattle.tsb_step.specs.declared.inputs.Input.{Input}
 use Rattle.tsb_step.specs.declared.inputs.Input.TheVariants.{Tick, Reset}
-use Rattle.tsb_past.specs.declared.commands.Answer.{Answer}
+use Rattle.tsb_machine.specs.declared.commands.Answer.{Answer}
 use Rattle.tsb_step.specs.State.{State, interval, pedestrian_part}
 use Rattle.tsb_step.specs.Tick.{phases_given, phase_read, moves}
 use Rattle.tsb_step.specs.Signs.{display, field}

@@ -7,7 +7,7 @@ use Rattle.tsb_types.specs.declared.stage.Stage.{Stage}
 use Rattle.tsb_types.specs.declared.watch.Watch.{Watch}
 use Rattle.tsb_types.specs.declared.watch.Watch.TheVariants as watches
 use Rattle.tsb_detect.specs.declared.alarm.Alarm.{Alarm}
-use Rattle.tsb_past.specs.Watches as told
+use Rattle.tsb_machine.specs.Watches as told
 use Rattle.tsb_step.specs.State.{State, Tripped, interval, pedestrian_part}
 use Rattle.tsb_step.specs.Signs.{stage}
 use Rattle.tsb_step.specs.Past.{controller}

@@ -1,7 +1,7 @@
 //! The commands of a session.
 
 use crate::inputs::Input;
-use tsb_past::Command;
+use tsb_machine::Command;
 use tsb_types::Watch;
 
 /// A command of a session of the controller.

@@ -87,7 +87,7 @@ pub fn plans_in_memory_are_consistent()
 
 /// The record of an input takes the input back. It does so where the cells of a state can be read as the state. The
 /// record is of the input's kind; the tick number begins at 0 and goes on by one at most. The laws of the way back of
-/// every machine ask for this (tsb_past).
+/// every machine ask for this (tsb_machine).
 pub fn records_give_back()
     ensures back { RecordsGiveBack }
     ensures kinds { RecordsTellKinds }

@@ -4,12 +4,12 @@ use Rattle.std.specs.declared.option.Option.{Option}
 use Rattle.std.specs.declared.result.Result.{Result}
 use Rattle.tsb_plan.specs.Plan.{Plan}
 use Rattle.tsb_types.specs.declared.refusal.Refusal.{Refusal}
-use Rattle.tsb_past.specs.declared.commands.Command.TheVariants.{Apply}
-use Rattle.tsb_past.specs.declared.commands.Answer.{Answer}
-use Rattle.tsb_past.specs.declared.commands.Answer.TheVariants.{Took, Refused}
-use Rattle.tsb_past.specs.Play as play
-use Rattle.tsb_past.specs.Play.{IsRefusal}
-use Rattle.tsb_past.proofs.PlayLemmas as past
+use Rattle.tsb_machine.specs.declared.commands.Command.TheVariants.{Apply}
+use Rattle.tsb_machine.specs.declared.commands.Answer.{Answer}
+use Rattle.tsb_machine.specs.declared.commands.Answer.TheVariants.{Took, Refused}
+use Rattle.tsb_machine.specs.Play as play
+use Rattle.tsb_machine.specs.Play.{IsRefusal}
+use Rattle.tsb_machine.proofs.PlayLemmas as past
 use Rattle.tsb_step.specs.declared.inputs.Input.{Input}
 use Rattle.tsb_step.specs.declared.inputs.Input.TheVariants.{Tick}
 use Rattle.tsb_step.specs.State.{State, start}
@@ -24,7 +24,7 @@ use Rattle.tsb_log_text.specs.declared.log.LogRow.{LogRow}
 use Rattle.tsb_log_text.specs.Logs.{row_at}
 use Rattle.tsb_types.specs.declared.row.Row.{Row}
 use Rattle.std.proofs.lemmas.List.{append-nil}
-use Rattle.tsb_streams.specs.declared.writes.WriteError.{WriteError}
+use Rattle.tsb_lines.specs.declared.writes.WriteError.{WriteError}
 use Rattle.tsb_text.specs.Answers.{Setup, Asked, Steps, Answers, next_tick, told, refused_line, display_line}
 use Rattle.tsb_text.specs.Talk.{Stands, Done, StepsOn}
 use Rattle.tsb_text.specs.Written.{Said, Wrote, with_feed}

@@ -9,12 +9,12 @@ use Rattle.tsb_command_text.specs.Readings.{reading}
 use Rattle.tsb_lines.specs.Lines.{HasNoFeed, kept, without_return}
 use Rattle.tsb_lines.proofs.KeptLemmas.{feedless-kept, kept-more, kept-tells}
 use Rattle.tsb_lines.proofs.LineLemmas.{feedless-more}
-use Rattle.tsb_streams.specs.declared.writes.WriteError.{WriteError}
+use Rattle.tsb_lines.specs.declared.writes.WriteError.{WriteError}
 use Rattle.tsb_text.specs.declared.talk.Flow.{Flow}
 use Rattle.tsb_text.specs.declared.talk.Flow.TheVariants.{On, Over}
 use Rattle.tsb_text.specs.Ended.{Quits}
 use Rattle.tsb_text.specs.Talk.{Holds, HeldAfter}
-use Rattle.tsb_streams.proofs.StreamLemmas.{front-more}
+use Rattle.tsb_lines.proofs.StreamLemmas.{front-more}
 use Rattle.tsb_text.proofs.TextLemmas.{reading-returned}
 
 pub holds-start : (held : List ℕ) → held ≡ [] → Holds [] held

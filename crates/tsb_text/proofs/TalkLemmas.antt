@@ -13,7 +13,7 @@ use Rattle.tsb_command_text.specs.Readings.{reading}
 use Rattle.tsb_lines.specs.Lines.{kept, lines_of, without_return, HasNoFeed}
 use Rattle.tsb_lines.proofs.LineLemmas.{lines-joined, lines-alone}
 use Rattle.tsb_log_text.specs.declared.log.LogRow.{LogRow}
-use Rattle.tsb_streams.specs.declared.writes.WriteError.{WriteError}
+use Rattle.tsb_lines.specs.declared.writes.WriteError.{WriteError}
 use Rattle.tsb_text.specs.declared.talk.Flow.{Flow}
 use Rattle.tsb_text.specs.declared.talk.Flow.TheVariants.{On, Over}
 use Rattle.tsb_text.specs.Answers.{Setup, Answers}
@@ -23,7 +23,7 @@ use Rattle.tsb_text.specs.Talk.{Stands, Done, Obeyed, Went, Finished, flow_after
 use Rattle.tsb_text.specs.Written.{Said, Wrote, with_feed}
 use Rattle.tsb_text.proofs.TextLemmas.{some-more, some-answered, text-kept}
 use Rattle.tsb_text.proofs.WrittenLemmas.{said-nothing, said-more}
-use Rattle.tsb_streams.proofs.StreamLemmas.{front-more, front-rest}
+use Rattle.tsb_lines.proofs.StreamLemmas.{front-more, front-rest}
 
 -- ## A line
 

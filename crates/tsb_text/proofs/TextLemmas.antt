@@ -5,9 +5,9 @@ use Rattle.std.specs.declared.option.Option.{Option}
 use Rattle.tsb_plan.specs.Plan.{Plan}
 use Rattle.tsb_types.specs.declared.refusal.Refusal.{Refusal}
 use Rattle.tsb_types.specs.declared.watch.Watch.{Watch}
-use Rattle.tsb_past.specs.declared.commands.Command.TheVariants as asks
-use Rattle.tsb_past.specs.declared.commands.Answer.{Answer}
-use Rattle.tsb_past.specs.declared.commands.Answer.TheVariants.{Took, Refused, Undone, Moved, Nothing, Changed}
+use Rattle.tsb_machine.specs.declared.commands.Command.TheVariants as asks
+use Rattle.tsb_machine.specs.declared.commands.Answer.{Answer}
+use Rattle.tsb_machine.specs.declared.commands.Answer.TheVariants.{Took, Refused, Undone, Moved, Nothing, Changed}
 use Rattle.tsb_step.specs.declared.inputs.Input.{Input}
 use Rattle.tsb_step.specs.Play.{Cmd, IsRight, run}
 use Rattle.tsb_step.specs.Runs.{replay}

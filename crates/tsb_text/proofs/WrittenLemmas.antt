@@ -3,7 +3,7 @@ use Rattle.std.proofs.Common.{◌≡◌, ℕ, ◌+◌, ◌-◌, ◌≤◌, List,
 use Rattle.std.proofs.lemmas.List.{append-nil, take-append-drop, drop-drop}
 use Rattle.std.specs.declared.option.Option.{Option}
 use Rattle.std.specs.Io.KnownBytes.{Appends, Keeps}
-use Rattle.tsb_streams.proofs.StreamLemmas.{appends-kept, appends-more, appends-nothing}
+use Rattle.tsb_lines.proofs.StreamLemmas.{appends-kept, appends-more, appends-nothing}
 use Rattle.tsb_text.specs.Written.{Said}
 
 pub said-nothing : (a : Option (List ℕ)) (w : List ℕ) → Said a a w w []

@@ -8,9 +8,9 @@ use Rattle.tsb_types.specs.declared.stage.Stage.{Stage}
 use Rattle.tsb_rules.specs.declared.rules.Rule.{Rule}
 use Rattle.tsb_plan.specs.Plan.{Plan}
 use Rattle.tsb_plan_text.specs.RuleLines.{rule_line}
-use Rattle.tsb_past.specs.declared.commands.Command.TheVariants as asks
-use Rattle.tsb_past.specs.declared.commands.Answer.{Answer}
-use Rattle.tsb_past.specs.declared.commands.Answer.TheVariants.{Took, Refused, Undone, Moved, Nothing, Changed}
+use Rattle.tsb_machine.specs.declared.commands.Command.TheVariants as asks
+use Rattle.tsb_machine.specs.declared.commands.Answer.{Answer}
+use Rattle.tsb_machine.specs.declared.commands.Answer.TheVariants.{Took, Refused, Undone, Moved, Nothing, Changed}
 use Rattle.tsb_step.specs.declared.inputs.Input.{Input}
 use Rattle.tsb_step.specs.declared.inputs.Input.TheVariants as inputs
 use Rattle.tsb_step.specs.Play.{Cmd, IsRight, remaining_after}

@@ -12,7 +12,7 @@ use Rattle.tsb_lines.specs.Lines.{HasNoFeed, kept}
 use Rattle.tsb_log_text.specs.declared.log.LogRow.{LogRow}
 use Rattle.tsb_text.specs.declared.error.SessionError.{SessionError}
 use Rattle.tsb_text.specs.declared.error.SessionError.TheVariants.{Write}
-use Rattle.tsb_streams.specs.declared.writes.WriteError.{WriteError}
+use Rattle.tsb_lines.specs.declared.writes.WriteError.{WriteError}
 use Rattle.tsb_text.specs.declared.talk.TheConstants.{KEPT}
 use Rattle.tsb_text.specs.declared.talk.Flow.{Flow}
 use Rattle.tsb_text.specs.declared.talk.Flow.TheVariants.{On, Over}

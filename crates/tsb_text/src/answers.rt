@@ -1,7 +1,7 @@
 //! Answers to commands.
 
 ghost use Rattle.std.specs.Prelude.{◌≡◌, ◌+◌, [], List, OnErr, OnOk, true};
-ghost use Rattle.tsb_past.specs.declared.commands.Command.TheVariants.{Apply};
+ghost use Rattle.tsb_machine.specs.declared.commands.Command.TheVariants.{Apply};
 ghost use Rattle.tsb_step.specs.declared.inputs.Input.{Input as InputValue};
 ghost use Rattle.tsb_bench.specs.Held.{whole};
 ghost use Rattle.tsb_log_text.specs.declared.log.LogRow.{LogRow};

@@ -7,8 +7,8 @@ ghost use Rattle.tsb_detect.specs.Rows.{list_of_row, cell_of_row, with_list, wit
 use crate::detector_row::DetectorRow;
 use crate::detectors::Detectors;
 use crate::sets::{has, with};
+use tsb_cells::lists::list;
 use tsb_objects::{Detector, NumberSet};
-use tsb_rows::list;
 
 /// The lists, each in the cell of this number.
 pub(super) const INPUTS: usize = 0;
@@ -93,7 +93,7 @@ impl Detectors {
         if was != on {
             d.known();
             let changed = with(list(&self.bank, k), d, on);
-            tsb_rows::put_list(&mut self.bank, k, changed);
+            tsb_cells::lists::put_list(&mut self.bank, k, changed);
         }
     }
 
@@ -107,7 +107,7 @@ impl Detectors {
         ensures kept { kept_of self.new ≡ kept_of self.old }
         ensures opened { is_open self.new ≡ true }
     {
-        tsb_rows::put_list(&mut self.bank, k, set);
+        tsb_cells::lists::put_list(&mut self.bank, k, set);
     }
 
     /// Puts a value into the cell of kind `k` of a detector, where that is a change.

@@ -13,8 +13,8 @@ use crate::detectors::Detectors;
 use crate::greens::Greens;
 use crate::output::{green_of, sound_row};
 use crate::sets::{differing, has, joined};
+use tsb_cells::lists::list;
 use tsb_objects::{Detector, NumberSet, Plan};
-use tsb_rows::list;
 
 impl Detectors {
     ghost use Rattle.tsb_detect.specs.Layer.{cells_of, kept_of, is_open, KeepsLists};

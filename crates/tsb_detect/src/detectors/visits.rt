@@ -14,8 +14,8 @@ use crate::diagnostics::{MINUTE, is_tested, timed};
 use crate::greens::Greens;
 use crate::output::{green_of, next_row};
 use crate::sets::{all, differing, has, joined};
+use tsb_cells::lists::list;
 use tsb_objects::{Checked, Detector, NumberSet, Plan};
-use tsb_rows::list;
 
 impl Detectors {
     ghost use Rattle.tsb_detect.specs.Layer.{cells_of, kept_of, is_open, KeepsLists};

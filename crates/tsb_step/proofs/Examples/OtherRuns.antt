@@ -14,9 +14,9 @@ use Rattle.tsb_rules.specs.Rules.{first_broken}
 use Rattle.tsb_rules.proofs.TwoLemmas.{two-meets}
 use Rattle.tsb_heads.specs.declared.monitor.Trip.TheVariants.{Conflict}
 use Rattle.tsb_heads.specs.Monitoring.{has_right_of_way}
-use Rattle.tsb_past.specs.declared.commands.Command.TheVariants.{Apply, Undo}
-use Rattle.tsb_past.specs.declared.commands.Answer.{Answer}
-use Rattle.tsb_past.specs.declared.commands.Answer.TheVariants.{Took, Undone}
+use Rattle.tsb_machine.specs.declared.commands.Command.TheVariants.{Apply, Undo}
+use Rattle.tsb_machine.specs.declared.commands.Answer.{Answer}
+use Rattle.tsb_machine.specs.declared.commands.Answer.TheVariants.{Took, Undone}
 use Rattle.tsb_step.specs.declared.inputs.Input.{Input}
 use Rattle.tsb_step.specs.declared.inputs.Input.TheVariants.{Tick, Switch, Begin, Set, Verify, Commit}
 use Rattle.tsb_step.specs.State.{interval}

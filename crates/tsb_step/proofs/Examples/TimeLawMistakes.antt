@@ -28,8 +28,8 @@ use Rattle.tsb_heads.specs.Monitoring.{conflict}
 use Rattle.tsb_ring.specs.Rings.{Ring1}
 use Rattle.tsb_transact.specs.declared.desk_state.DeskState.TheVariants.{Done}
 use Rattle.tsb_step.specs.declared.inputs.Input.TheVariants.{Tick, Pattern, Commit}
-use Rattle.tsb_past.specs.declared.commands.Command.TheVariants.{Apply}
-use Rattle.tsb_past.specs.declared.commands.Answer.TheVariants.{Took}
+use Rattle.tsb_machine.specs.declared.commands.Command.TheVariants.{Apply}
+use Rattle.tsb_machine.specs.declared.commands.Answer.TheVariants.{Took}
 use Rattle.tsb_step.proofs.Examples.Scenes.{opened, resting, walking, red, at_barrier, these, all_red}
 use Rattle.tsb_step.proofs.Examples.StepExamples.{edit, editing}
 use Rattle.tsb_step.specs.State.{State, start, interval, pedestrian_part}

@@ -1,13 +1,13 @@
 use Rattle.std.proofs.Common.{◌≡◌, ◌∙◌, List, ◌++◌, ◌∷◌, [], ap, sym, subst, not}
 use Rattle.std.proofs.lemmas.Bool.{cond-true}
 use Rattle.tsb_objects.specs.Checked.{checked_plan}
-use Rattle.tsb_past.specs.declared.commands.Answer.{Answer}
-use Rattle.tsb_past.specs.Laws.{IsReplayed}
-use Rattle.tsb_past.specs.Past.{after}
-use Rattle.tsb_past.specs.Play.{Does, DoAll}
-use Rattle.tsb_past.proofs.PastLemmas.{earlier_are_replays}
-use Rattle.tsb_past.proofs.PlayLemmas.{replay-fold, played-all}
-use Rattle.tsb_past.proofs.SessionLemmas.{sessions_are_replays}
+use Rattle.tsb_machine.specs.declared.commands.Answer.{Answer}
+use Rattle.tsb_machine.specs.Laws.{IsReplayed}
+use Rattle.tsb_machine.specs.Past.{after}
+use Rattle.tsb_machine.specs.Play.{Does, DoAll}
+use Rattle.tsb_machine.proofs.PastLemmas.{earlier_are_replays}
+use Rattle.tsb_machine.proofs.PlayLemmas.{replay-fold, played-all}
+use Rattle.tsb_machine.proofs.SessionLemmas.{sessions_are_replays}
 use Rattle.tsb_step.specs.Past.{Whole, controller, earlier}
 use Rattle.tsb_step.specs.Play.{Cmd, remaining}
 use Rattle.tsb_step.specs.State.{start}

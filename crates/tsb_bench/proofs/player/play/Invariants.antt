@@ -1,7 +1,7 @@
 use Rattle.std.proofs.Common.{[], take}
 use Rattle.tsb_objects.specs.Checked.{checked_plan}
-use Rattle.tsb_past.specs.Past.{after}
-use Rattle.tsb_past.specs.Play.{DoAll}
+use Rattle.tsb_machine.specs.Past.{after}
+use Rattle.tsb_machine.specs.Play.{DoAll}
 use Rattle.tsb_step.specs.Past.{controller}
 use Rattle.tsb_step.specs.State.{start}
 use Rattle.tsb_step.specs.Watches.{watched}

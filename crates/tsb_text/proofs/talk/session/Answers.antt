@@ -1,6 +1,6 @@
 use Rattle.std.proofs.Common.{refl}
 use Rattle.tsb_objects.specs.Checked.{checked_plan}
-use Rattle.tsb_past.proofs.PlayLemmas.{follows-start}
+use Rattle.tsb_machine.proofs.PlayLemmas.{follows-start}
 use Rattle.tsb_step.specs.Past.{controller}
 use Rattle.tsb_step.specs.State.{start}
 use Rattle.tsb_bench.specs.Held.{whole}

@@ -1,5 +1,5 @@
 use Rattle.std.proofs.Common.{◌≡◌, ◌∙◌, sym, ap, subst, rules, arith}
-use Rattle.tsb_past.proofs.PastLemmas.{sought-here, sought-least}
+use Rattle.tsb_machine.proofs.PastLemmas.{sought-here, sought-least}
 use Rattle.tsb_step.specs.Past.{Whole, controller, sought, IsLeastBack}
 use Rattle.tsb_bench.specs.Held.{Held, state_of, whole, HasSoundPast}
 use Rattle.tsb_bench.proofs.HeldLemmas.{GoesBack, goes-back}

@@ -1,0 +1,117 @@
+-- A run from power-up that meets all premises of the laws of overlaps and of red revert: preempt 2 wants 6 alone, so that the green
+-- of 2 ends with no commitment; preempt 1 wants 2 again, which waits for its red revert.
+use Rattle.std.proofs.Common.{◌≡◌, ◌≢◌, ℕ, ◌+◌, ◌≤◌, true, false, List, [], ◌∷◌, ◌++◌, None, refl, sym, arith, ◌∙◌}
+use Rattle.tsb_cells.specs.declared.timer.Timer.TheVariants.{On}
+use Rattle.tsb_types.specs.Sets.{all_off}
+use Rattle.tsb_types.specs.declared.lamp.Aspect.TheVariants as aspects
+use Rattle.tsb_types.specs.declared.row.Row.{Row}
+use Rattle.tsb_plan.specs.declared.object.Object.{Object}
+use Rattle.tsb_plan.specs.declared.object.Object.TheVariants.{PhaseRedClear, PreemptMinimumGreen, PreemptDwellPhase}
+use Rattle.tsb_plan.specs.Objects.{greatest}
+use Rattle.tsb_plan.specs.Parts.{is_minus_green_yellow}
+use Rattle.tsb_plan.specs.Plan.{Plan, with_values}
+use Rattle.tsb_plan.specs.Quad.{quad}
+use Rattle.tsb_rules.specs.Rules.{first_broken}
+use Rattle.tsb_ring.specs.Moves.{is_started}
+use Rattle.tsb_step.specs.declared.inputs.Input.{Input}
+use Rattle.tsb_step.specs.declared.inputs.Input.TheVariants.{Tick, Switch}
+use Rattle.tsb_step.specs.Tick.{moves}
+use Rattle.tsb_step.specs.Signs.{display}
+use Rattle.tsb_step.specs.Runs.{replay, AreTaken}
+use Rattle.tsb_step.specs.Laws.{IsConsistent, is_unlit}
+use Rattle.tsb_step.proofs.Examples.Scenes.{opened}
+use Rattle.tsb_laws.proofs.safety.Examples.PlanFits.{Fits, values_fit, quad_fits, consistent}
+use Rattle.tsb_laws.proofs.safety.Examples.TickRuns.{ticks, all_taken, dark_then}
+
+abbrev again_values : List (Object × ℕ × ℕ)
+again_values = (PhaseRedClear, 2, 0) ∷ (PreemptMinimumGreen, 2, 0) ∷ (PreemptDwellPhase, 2, 32) ∷ (PreemptDwellPhase, 1, 34) ∷ []
+
+unfoldable again : Plan
+again = with_values quad again_values
+
+again_fits : Fits greatest again.value
+unfolding again
+again_fits = values_fit greatest again_values quad refl (quad_fits greatest refl refl)
+
+again_count : again.phase_count ≡ 16
+unfolding quad again
+again_count = refl
+
+breaks_none : first_broken again ≡ None
+unfolding opened again
+breaks_none = refl
+
+again_consistent : IsConsistent again
+again_consistent = consistent greatest again again_count breaks_none again_fits
+
+-- the green of 2 ends in the second tick
+abbrev ended : List Input
+ended = Switch 1 true ∷ Tick all_off ∷ Switch 2 true ∷ Tick all_off ∷ []
+
+ended_taken : AreTaken again ended
+unfolding opened again
+ended_taken = ((((tt, refl), refl), refl), refl)
+
+ended_unlit : is_unlit again ended ≡ true
+ended_unlit = refl
+
+ticked_2 : (replay again ended).now ≡ 2
+unfolding opened again
+ticked_2 = refl
+
+taken_then : (n : ℕ) → n ≤ 500 → AreTaken again (ticks all_off n ++ ended)
+taken_then n few = all_taken again all_off ended n ended_taken (let at = ticked_2 in omega (arith, at, few))
+
+untripped : (n : ℕ) → n ≤ 500 → (replay again (ticks all_off n ++ ended)).trip ≡ None
+untripped n few = dark_then again all_off ended again_consistent ended_taken ended_unlit n (let at = ticked_2 in omega (arith, at, few))
+
+-- ## Overlaps clear in yellow: 29 ticks later overlap 1, of 1 and 2, shows yellow, and in the next it turns red
+
+record OverlapClearance (plan : Plan) (is : List Input) (row : Row) (o : ℕ) : Type 0 where
+  consistent : IsConsistent plan
+  taken : AreTaken plan is
+  untripped : (replay plan is).trip ≡ None
+  normal : is_minus_green_yellow (replay plan is).plan o ≡ false
+  head : (display (replay plan is)).overlap o ≢ aspects.Red
+  head_then : (display (replay plan (Tick row ∷ is))).overlap o ≡ aspects.Red
+
+is_normal : is_minus_green_yellow (replay again (ticks all_off 29 ++ ended)).plan 1 ≡ false
+unfolding opened again
+is_normal = refl
+
+shows_yellow : (display (replay again (ticks all_off 29 ++ ended))).overlap 1 ≡ aspects.Yellow
+unfolding opened again
+shows_yellow = refl
+
+shows_red : (display (replay again (ticks all_off 30 ++ ended))).overlap 1 ≡ aspects.Red
+unfolding opened again
+shows_red = refl
+
+an_overlap : OverlapClearance again (ticks all_off 29 ++ ended) all_off 1
+an_overlap = record {
+  consistent = again_consistent;
+  taken = taken_then 29 (omega arith);
+  untripped = untripped 29 (omega arith);
+  normal = is_normal;
+  head = λ h. (let bad : aspects.Yellow ≡ aspects.Red = sym shows_yellow ∙ h in absurd cc);
+  head_then = shows_red;
+}
+
+-- ## Starts after red revert: 2 starts as its red revert of 20 ticks has passed
+
+record RedRevert (plan : Plan) (is : List Input) (row : Row) (p : ℕ) : Type 0 where
+  consistent : IsConsistent plan
+  taken : AreTaken plan is
+  untripped : (replay plan is).trip ≡ None
+  starts : is_started (moves (replay plan is) row) p ≡ true
+
+has_waited : ((replay again (ticks all_off 49 ++ ended)).phases 2).red_revert ≡ On 19
+unfolding opened again
+has_waited = refl
+
+starts_2 : is_started (moves (replay again (ticks all_off 49 ++ ended)) all_off) 2 ≡ true
+unfolding opened again
+starts_2 = refl
+
+a_red_revert : RedRevert again (ticks all_off 49 ++ ended) all_off 2
+a_red_revert = record { consistent = again_consistent; taken = taken_then 49 (omega arith); untripped = untripped 49 (omega arith); starts = starts_2 }

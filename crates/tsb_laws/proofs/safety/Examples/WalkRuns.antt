@@ -1,0 +1,167 @@
+-- A run from power-up that meets all premises of the law of walks: 2 walks for 10 ticks and clears for 10, computed as far as the
+-- tick in which its green ends; 1, which is called meanwhile, starts within 40 ticks more.
+use Rattle.std.proofs.Common.{◌≡◌, ◌≢◌, ℕ, ◌+◌, ◌≤◌, true, false, max, List, [], ◌∷◌, ◌++◌, Some, None, refl, sym, ap, subst, arith, append_assoc, ◌∙◌}
+use Rattle.tsb_types.specs.Sets.{all_off}
+use Rattle.tsb_types.specs.declared.interval.Interval.TheVariants.{Green, Yellow}
+use Rattle.tsb_types.specs.declared.interval.PedestrianInterval.TheVariants.{DontWalk, Walk}
+use Rattle.tsb_types.specs.declared.row.Row.{Row}
+use Rattle.tsb_plan.specs.declared.object.Object.{Object}
+use Rattle.tsb_plan.specs.declared.object.Object.TheVariants.{PhaseWalk, PhasePedestrianClear, PhasePedRecall, PhaseMinimumGreen, PhasePassage, PhaseMinimumGap}
+use Rattle.tsb_plan.specs.Objects.{greatest}
+use Rattle.tsb_plan.specs.Plan.{Plan, is_concurrent, yellow_change, red_clear, red_revert, with_values}
+use Rattle.tsb_plan.specs.Quad.{quad}
+use Rattle.tsb_rules.specs.Rules.{first_broken}
+use Rattle.tsb_ring.specs.Rings.{Ring1, in_ring}
+use Rattle.tsb_step.specs.declared.inputs.Input.{Input}
+use Rattle.tsb_step.specs.declared.inputs.Input.TheVariants.{Tick}
+use Rattle.tsb_step.specs.State.{interval, pedestrian_part}
+use Rattle.tsb_step.specs.Runs.{replay, AreTaken}
+use Rattle.tsb_step.specs.Laws.{IsConsistent, is_unlit}
+use Rattle.tsb_step.proofs.Examples.Scenes.{opened, vehicle}
+use Rattle.tsb_laws.specs.Stretches.{IsUntripped, EndsGreen, StartsGreen}
+use Rattle.tsb_laws.specs.Intergreens.{WalksBefore, walk_due, clearance_due}
+use Rattle.tsb_laws.specs.Commitments.{CommitsTo}
+use Rattle.tsb_laws.proofs.safety.Examples.PlanFits.{Fits, values_fit, quad_fits, consistent}
+use Rattle.tsb_laws.proofs.safety.Examples.TickRuns.{ticks, now_then, plan_then, all_taken, unlit_then, none_trips, none_trips_since}
+use Rattle.tsb_laws.proofs.safety.Examples.CommitmentRuns.{IsKnown, Starts, starts_then}
+
+abbrev strolling_values : List (Object × ℕ × ℕ)
+strolling_values =
+    (PhaseWalk, 2, 1) ∷ (PhasePedestrianClear, 2, 1) ∷ (PhasePedRecall, 2, 1) ∷
+    (PhaseMinimumGreen, 2, 0) ∷ (PhasePassage, 2, 0) ∷ (PhaseMinimumGap, 2, 0) ∷ []
+
+unfoldable strolling : Plan
+strolling = with_values quad strolling_values
+
+strolling_fits : Fits greatest strolling.value
+unfolding strolling
+strolling_fits = values_fit greatest strolling_values quad refl (quad_fits greatest refl refl)
+
+strolling_count : strolling.phase_count ≡ 16
+unfolding quad strolling
+strolling_count = refl
+
+breaks_none : first_broken strolling ≡ None
+unfolding opened strolling
+breaks_none = refl
+
+strolling_consistent : IsConsistent strolling
+strolling_consistent = consistent greatest strolling strolling_count breaks_none strolling_fits
+
+-- ## The walk begins
+
+abbrev walked : List Input
+walked = Tick all_off ∷ []
+
+taken_1 : AreTaken strolling walked
+unfolding opened strolling
+taken_1 = (tt, refl)
+
+unlit_1 : is_unlit strolling walked ≡ true
+unlit_1 = refl
+
+ticked_1 : (replay strolling walked).now ≡ 1
+unfolding opened strolling
+ticked_1 = refl
+
+no_walk : pedestrian_part (replay strolling []) 2 ≡ DontWalk
+no_walk = refl
+
+walks : pedestrian_part (replay strolling walked) 2 ≡ Walk
+unfolding opened strolling
+walks = refl
+
+-- ## Its green ends 20 ticks later, with a commitment to 1
+
+abbrev mid : List Input
+mid = ticks (vehicle 1) 20
+
+abbrev before_end : List Input
+before_end = ticks (vehicle 1) 19 ++ walked
+
+was_green : interval (replay strolling before_end) 2 ≡ Green
+unfolding opened strolling
+was_green = refl
+
+ends : interval (replay strolling (mid ++ walked)) 2 ≡ Yellow
+unfolding opened strolling
+ends = refl
+
+ringed : in_ring (replay strolling before_end).plan Ring1 2 ≡ true
+unfolding opened strolling
+ringed = refl
+
+made : (replay strolling (mid ++ walked)).rings.commitment Ring1 ≡ Some 1
+unfolding opened strolling
+made = refl
+
+outside : (replay strolling (mid ++ walked)).rings.crossing ≡ None
+unfolding opened strolling
+outside = refl
+
+waits_40 : max (yellow_change (replay strolling (mid ++ walked)).plan 2 + red_clear (replay strolling (mid ++ walked)).plan 2)
+    (red_revert (replay strolling (mid ++ walked)).plan 1) ≡ 40
+unfolding opened strolling
+waits_40 = refl
+
+are_apart : is_concurrent (replay strolling (mid ++ walked)).plan 2 1 ≡ false
+unfolding opened strolling
+are_apart = refl
+
+-- the walk lasts 10 ticks, and the clearance 10
+walk_lasts_10 : walk_due strolling 2 walked mid ≡ 10
+unfolding opened strolling
+walk_lasts_10 = refl
+
+clearance_lasts_10 : clearance_due strolling 2 walked mid ≡ 10
+unfolding opened strolling
+clearance_lasts_10 = refl
+
+commits_to_1 : CommitsTo strolling before_end (vehicle 1) 2 Ring1 1
+commits_to_1 = record {
+  ended = record { was_green = was_green; ends = λ h. (let bad : Yellow ≡ Green = sym ends ∙ h in absurd cc) };
+  ringed = ringed;
+  made = made;
+  outside = outside;
+}
+
+known : IsKnown strolling (mid ++ walked)
+known = record {
+  consistent = strolling_consistent;
+  few = (let count = strolling_count in omega (arith, count));
+  taken = all_taken strolling (vehicle 1) walked 20 taken_1 (let at = ticked_1 in omega (arith, at));
+  unlit = unlit_then strolling (vehicle 1) walked 20 unlit_1;
+  early = (let at = ticked_1 in let clock = now_then strolling (vehicle 1) walked 20 in omega (arith, at, clock));
+}
+
+starts_1 : Starts strolling (mid ++ walked) all_off 1 40
+starts_1 = starts_then strolling before_end all_off (vehicle 1) 2 Ring1 1 40 known commits_to_1 (let at = waits_40 in omega (arith, at)) (omega arith)
+
+-- ## Walks are cleared
+
+record WalkThenStart (plan : Plan) (is later : List Input) (row next : Row) (p q : ℕ) : Type 0 where
+  consistent : IsConsistent plan
+  taken : AreTaken plan (later ++ (Tick row ∷ is))
+  walks : WalksBefore plan is row p later next q
+
+in_time : (replay strolling (mid ++ walked)).now + starts_1.count ≤ 1000
+in_time = let fewer = starts_1.fewer in let early = known.early in omega (arith, fewer, early)
+
+joined : (ticks all_off starts_1.count ++ mid) ++ walked ≡ ticks all_off starts_1.count ++ (mid ++ walked)
+joined = append_assoc (ticks all_off starts_1.count) mid walked
+
+a_walk : WalkThenStart strolling [] (ticks all_off starts_1.count ++ mid) all_off starts_1.next 2 1
+a_walk = record {
+  consistent = strolling_consistent;
+  taken = subst (λ (l : List Input). AreTaken strolling l) (sym joined) (all_taken strolling all_off (mid ++ walked) starts_1.count known.taken in_time);
+  walks = record {
+    no_walk = λ h. (let bad : DontWalk ≡ Walk = sym no_walk ∙ h in absurd cc);
+    walks = walks;
+    untripped = none_trips_since strolling all_off walked mid starts_1.count strolling_consistent known.taken known.unlit in_time
+        (none_trips strolling (vehicle 1) walked strolling_consistent taken_1 unlit_1 20 (let at = ticked_1 in omega (arith, at)));
+    started = subst (λ (l : List Input). StartsGreen strolling l starts_1.next 1) (sym joined) starts_1.started;
+    apart = ap (λ (x : Plan). is_concurrent x 2 1)
+        (ap (λ (l : List Input). (replay strolling l).plan) joined ∙ plan_then strolling all_off (mid ++ walked) starts_1.count)
+        ∙ are_apart;
+  };
+}

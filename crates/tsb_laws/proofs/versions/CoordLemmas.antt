@@ -1,0 +1,170 @@
+-- What runs, and what coordination asks of phases 1 to 8, is the same on the wide plan.
+use Rattle.std.proofs.Common.{◌≡◌, ℕ, ◌+◌, ◌-◌, nat_le, true, false, ◌&&◌, ◌++◌, Option, Some, None, refl, ◌∙◌, ap, ap₂, inl, inr, sum_by}
+use Rattle.std.proofs.Math.Path.{fun_ext}
+use Rattle.std.proofs.lemmas.Bool.{cases_Bool}
+use Rattle.tsb_types.specs.Lists.{run_from, up_to}
+use Rattle.tsb_plan.specs.Plan.{Plan, is_enabled, ring_of, side_of, sequence}
+use Rattle.tsb_plan.specs.Parts.{split_of}
+use Rattle.tsb_plan.specs.Running.{running, split_in_effect, sequence_in_effect, mode_in, mode_in_effect, coordinates_in, is_coordinated_now, is_omitted_now, is_on_minimum_recall, is_on_maximum_recall, is_on_pedestrian_recall}
+use Rattle.tsb_rules.specs.PatternRules.{is_on, has_phases, split_on, split_sum, side_sum, split_before, ring_sequence, split_end}
+use Rattle.tsb_coord.specs.Coordinated.{local_in, local, end_in, instant_from, reference, instant_by, force_off, asks_force_off, asks_hold, asks_omit, sequence_now, serving_order}
+use Rattle.tsb_laws.specs.Widened.{IsNarrow, widened}
+use Rattle.tsb_laws.proofs.versions.ListLemmas.{is_narrow, is_beyond, sum-up_to}
+use Rattle.tsb_laws.proofs.versions.PlanLemmas.{first-same, any-same, sum-same, beyond-narrow, not-enabled, enabled-narrow, split_time-same, split_mode-same, is_coordinated-same, not-coordinated, zeros, sequence-same}
+
+-- ## What runs
+
+pub running-same : (plan : Plan) (selected : Option ℕ) → running (widened plan) selected ≡ running plan selected
+running-same plan None = refl
+running-same plan (Some n) = refl
+
+pub split_in_effect-same : (plan : Plan) (runs : Option ℕ) → split_in_effect (widened plan) runs ≡ split_in_effect plan runs
+split_in_effect-same plan None = refl
+split_in_effect-same plan (Some n) = refl
+
+pub sequence_in_effect-same : (plan : Plan) (runs : Option ℕ) → sequence_in_effect (widened plan) runs ≡ sequence_in_effect plan runs
+sequence_in_effect-same plan None = refl
+sequence_in_effect-same plan (Some n) = refl
+
+mode_in-same : (plan : Plan) (o : Option ℕ) (p : ℕ) → IsNarrow plan → is_narrow p ≡ true → mode_in (widened plan) o p ≡ mode_in plan o p
+mode_in-same plan None p narrow in_it = refl
+mode_in-same plan (Some t) p narrow in_it = split_mode-same plan t p narrow in_it
+
+pub mode_in_effect-same : (plan : Plan) (runs : Option ℕ) (p : ℕ) → IsNarrow plan → is_narrow p ≡ true →
+    mode_in_effect (widened plan) runs p ≡ mode_in_effect plan runs p
+mode_in_effect-same plan runs p narrow in_it =
+    rw (split_in_effect-same plan runs) (mode_in-same plan (split_in_effect plan runs) p narrow in_it)
+
+coordinates_in-same : (plan : Plan) (o : Option ℕ) (p : ℕ) → IsNarrow plan → is_narrow p ≡ true →
+    coordinates_in (widened plan) o p ≡ coordinates_in plan o p
+coordinates_in-same plan None p narrow in_it = refl
+coordinates_in-same plan (Some t) p narrow in_it = is_coordinated-same plan t p narrow in_it
+
+coordinates_in-none : (plan : Plan) (o : Option ℕ) (p : ℕ) → is_beyond p ≡ true → coordinates_in (widened plan) o p ≡ false
+coordinates_in-none plan None p out = refl
+coordinates_in-none plan (Some t) p out = not-coordinated plan t p out
+
+pub is_coordinated_now-same : (plan : Plan) (runs : Option ℕ) (p : ℕ) → IsNarrow plan → is_narrow p ≡ true →
+    is_coordinated_now (widened plan) runs p ≡ is_coordinated_now plan runs p
+is_coordinated_now-same plan runs p narrow in_it =
+    rw (split_in_effect-same plan runs) (coordinates_in-same plan (split_in_effect plan runs) p narrow in_it)
+
+pub not-coordinated_now : (plan : Plan) (runs : Option ℕ) (p : ℕ) → is_beyond p ≡ true → is_coordinated_now (widened plan) runs p ≡ false
+not-coordinated_now plan runs p out = coordinates_in-none plan (split_in_effect (widened plan) runs) p out
+
+pub is_omitted_now-same : (plan : Plan) (runs : Option ℕ) (p : ℕ) → IsNarrow plan → is_narrow p ≡ true →
+    is_omitted_now (widened plan) runs p ≡ is_omitted_now plan runs p
+is_omitted_now-same plan runs p narrow in_it = rw (mode_in_effect-same plan runs p narrow in_it) refl
+
+pub minimum_recall-same : (plan : Plan) (runs : Option ℕ) (p : ℕ) → IsNarrow plan → is_narrow p ≡ true →
+    is_on_minimum_recall (widened plan) runs p ≡ is_on_minimum_recall plan runs p
+minimum_recall-same plan runs p narrow in_it =
+    rw (mode_in_effect-same plan runs p narrow in_it, is_coordinated_now-same plan runs p narrow in_it) refl
+
+pub maximum_recall-same : (plan : Plan) (runs : Option ℕ) (p : ℕ) → IsNarrow plan → is_narrow p ≡ true →
+    is_on_maximum_recall (widened plan) runs p ≡ is_on_maximum_recall plan runs p
+maximum_recall-same plan runs p narrow in_it = rw (mode_in_effect-same plan runs p narrow in_it) refl
+
+pub pedestrian_recall-same : (plan : Plan) (runs : Option ℕ) (p : ℕ) → IsNarrow plan → is_narrow p ≡ true →
+    is_on_pedestrian_recall (widened plan) runs p ≡ is_on_pedestrian_recall plan runs p
+pedestrian_recall-same plan runs p narrow in_it = rw (mode_in_effect-same plan runs p narrow in_it) refl
+
+-- ## Splits and their ends
+
+pub split_before-same : (plan : Plan) (t d q : ℕ) → IsNarrow plan → split_before (widened plan) t d q ≡ split_before plan t d q
+split_before-same plan t d q narrow =
+    elim (cases_Bool (is_enabled plan q)) [
+      | inl on ↦ rw (split_time-same plan t q narrow (enabled-narrow plan q narrow on)) refl
+      | inr off ↦ rw off refl
+    ]
+
+pub is_on-none : (plan : Plan) (r d p : ℕ) → IsNarrow plan → is_narrow p ≡ false → is_on plan r d p ≡ false
+is_on-none plan r d p narrow out = rw (not-enabled plan p narrow out) refl
+
+pub has_phases-same : (plan : Plan) (r d : ℕ) → IsNarrow plan → has_phases (widened plan) r d ≡ has_phases plan r d
+has_phases-same plan r d narrow =
+    any-same plan (is_on (widened plan) r d) (is_on plan r d) narrow (λ p in_it. refl)
+    (λ p out. is_on-none plan r d p narrow (beyond-narrow p out))
+
+pub split_sum-same : (plan : Plan) (t r d : ℕ) → IsNarrow plan → split_sum (widened plan) t r d ≡ split_sum plan t r d
+unfolding split_sum
+split_sum-same plan t r d narrow =
+    sum-same plan (split_on (widened plan) t r d) (split_on plan t r d) narrow
+    (λ p in_it. rw (split_time-same plan t p narrow in_it) refl)
+    (λ p out. rw (is_on-none plan r d p narrow (beyond-narrow p out)) refl)
+
+pub side_sum-same : (plan : Plan) (t d : ℕ) → IsNarrow plan → side_sum (widened plan) t d ≡ side_sum plan t d
+unfolding side_sum
+side_sum-same plan t d narrow = rw (has_phases-same plan 1 d narrow, split_sum-same plan t 1 d narrow, split_sum-same plan t 2 d narrow) refl
+
+-- of the phases up to p in what a sequence has for a ring
+before-same : (plan : Plan) (s t d r p : ℕ) → IsNarrow plan →
+    sum_by (split_before plan t d) (up_to p (ring_sequence (widened plan) s r)) ≡ sum_by (split_before plan t d) (up_to p (ring_sequence plan s r))
+before-same plan s t d r p narrow =
+    elim (cases_Bool (nat_le 1 r && nat_le r 2)) [
+      | inr other ↦ rw other refl
+      | inl ring ↦ rw (ring, sequence-same plan s r narrow)
+          (sum-up_to (split_before plan t d) p (sequence plan s r) zeros (rw (not-enabled plan 0 narrow refl) refl) refl)
+    ]
+
+pub split_end-same : (plan : Plan) (s t p : ℕ) → IsNarrow plan → split_end (widened plan) s t p ≡ split_end plan s t p
+unfolding split_end
+split_end-same plan s t p narrow =
+    ap₂ (λ (m n : ℕ). m + n)
+    (ap (λ f. sum_by f (up_to p (ring_sequence (widened plan) s (ring_of plan p)))) (fun_ext (λ q. split_before-same plan t (side_of plan p) q narrow))
+    ∙ before-same plan s t (side_of plan p) (ring_of plan p) p narrow)
+    (ap (λ f. sum_by f (run_from 1 (side_of plan p - 1))) (fun_ext (λ d. side_sum-same plan t d narrow)))
+
+-- ## Force-off
+
+end_in-same : (plan : Plan) (n : ℕ) (o : Option ℕ) (p : ℕ) → IsNarrow plan → end_in (widened plan) n o p ≡ end_in plan n o p
+end_in-same plan n None p narrow = refl
+end_in-same plan n (Some t) p narrow = split_end-same plan (sequence_in_effect plan (Some n)) t p narrow
+
+pub instant_from-same : (plan : Plan) (n c p : ℕ) → IsNarrow plan → instant_from (widened plan) n c p ≡ instant_from plan n c p
+instant_from-same plan n c p narrow =
+    rw (end_in-same plan n (split_of plan n) p narrow, end_in-same plan n (split_of plan n) c narrow) refl
+
+pub reference-same : (plan : Plan) (n : ℕ) → IsNarrow plan → reference (widened plan) n ≡ reference plan n
+reference-same plan n narrow =
+    first-same plan (is_coordinated_now (widened plan) (Some n)) (is_coordinated_now plan (Some n)) narrow
+    (λ p in_it. is_coordinated_now-same plan (Some n) p narrow in_it) (λ p out. not-coordinated_now plan (Some n) p out)
+
+instant_by-same : (plan : Plan) (n : ℕ) (o : Option ℕ) (p : ℕ) → IsNarrow plan → instant_by (widened plan) n o p ≡ instant_by plan n o p
+instant_by-same plan n None p narrow = refl
+instant_by-same plan n (Some c) p narrow = ap Some (instant_from-same plan n c p narrow)
+
+pub force_off-same : (plan : Plan) (runs : Option ℕ) (p : ℕ) → IsNarrow plan → force_off (widened plan) runs p ≡ force_off plan runs p
+unfolding force_off
+force_off-same plan None p narrow = refl
+force_off-same plan (Some n) p narrow = rw (reference-same plan n narrow, instant_by-same plan n (reference plan n) p narrow) refl
+
+local_in-same : (plan : Plan) (t : ℕ) (runs : Option ℕ) → local_in (widened plan) t runs ≡ local_in plan t runs
+local_in-same plan t None = refl
+local_in-same plan t (Some n) = refl
+
+pub local-same : (plan : Plan) (t : ℕ) (selected : Option ℕ) → local (widened plan) t selected ≡ local plan t selected
+local-same plan t selected = rw (running-same plan selected) (local_in-same plan t (running plan selected))
+
+-- ## The orders
+
+pub asks_force_off-same : (plan : Plan) (t : ℕ) (selected : Option ℕ) (p : ℕ) → IsNarrow plan →
+    asks_force_off (widened plan) t selected p ≡ asks_force_off plan t selected p
+asks_force_off-same plan t selected p narrow =
+    rw (running-same plan selected, local_in-same plan t (running plan selected), force_off-same plan (running plan selected) p narrow) refl
+
+pub asks_hold-same : (plan : Plan) (selected : Option ℕ) (p : ℕ) → IsNarrow plan → is_narrow p ≡ true →
+    asks_hold (widened plan) selected p ≡ asks_hold plan selected p
+asks_hold-same plan selected p narrow in_it =
+    rw (running-same plan selected) (is_coordinated_now-same plan (running plan selected) p narrow in_it)
+
+pub asks_omit-same : (plan : Plan) (selected : Option ℕ) (p : ℕ) → IsNarrow plan → is_narrow p ≡ true →
+    asks_omit (widened plan) selected p ≡ asks_omit plan selected p
+asks_omit-same plan selected p narrow in_it =
+    rw (running-same plan selected) (is_omitted_now-same plan (running plan selected) p narrow in_it)
+
+pub serving_order-same : (plan : Plan) (selected : Option ℕ) (r : ℕ) → IsNarrow plan →
+    serving_order (widened plan) selected r ≡ serving_order plan selected r ++ zeros
+serving_order-same plan selected r narrow =
+    rw (running-same plan selected, sequence_in_effect-same plan (running plan selected))
+    (sequence-same plan (sequence_now plan selected) r narrow)

@@ -1,0 +1,101 @@
+-- A plan text of version 1 that is read, by computing: one phase, in ring 2, whose place in the sequence stands at
+-- index 9 in version 1 and at 17 in a plan. And mistakes: without the translation, and of numbers beyond version 1's
+-- ranges.
+use Rattle.std.specs.Prelude.{◌≡◌, ℕ, List, [], ◌∷◌, Ok, Err, codes, refl}
+use Rattle.std.specs.Fmt.{digits}
+use Rattle.std.specs.Str.{is_utf8, chars}
+use lib.Utf8.{encode}
+use Rattle.serde_json.specs.Data.{Data, Members, no_members, member, object, number, unsigned}
+use Rattle.serde_json.proofs.OnLiterals.{serde_json_on_literals}
+use Rattle.tsb_plan.specs.declared.object.Object.TheVariants.{PhaseEnabled, PhaseRing, PhaseSide, PhaseConcurrency, PhaseYellowChange, SequenceData}
+use Rattle.tsb_plan.specs.declared.version.Version.TheVariants.{One}
+use Rattle.tsb_plan.specs.Names.{object_named}
+use Rattle.tsb_plan.specs.Objects.{objects}
+use Rattle.tsb_plan.specs.Plan.{Plan, empty, with_values}
+use Rattle.tsb_plan.specs.Versions.{greatest_in, translated}
+use Rattle.tsb_plan_text.specs.PlanErrors.{no_such_index, out_of_range, broken}
+use Rattle.tsb_plan_text.specs.PlanText.{data_of, index_named, with_entry, with_member, data_plan, checked, reading}
+use Rattle.tsb_rules.specs.declared.rules.Rule.TheVariants.{K6}
+use Rattle.tsb_laws.specs.Texts.{IsOfVersion1, named_plan}
+use Rattle.tsb_laws.proofs.versions.Examples.Examples.{opened}
+
+-- what a text that is read opens
+unfoldable pub opened_texts : Unit {0}
+unfolding opened serde_json_on_literals is_utf8 chars encode digits object_named objects data_of index_named with_entry with_member data_plan checked reading
+opened_texts = tt
+
+-- ## A text
+
+abbrev text : List ℕ
+text = codes "{\"version\":1,\"phaseEnabled\":{\"2\":1},\"phaseRing\":{\"2\":2},\"phaseSide\":{\"2\":1},\"phaseYellowChange\":{\"2\":30},\"sequenceData\":{\"9\":2}}"
+
+-- a table of one number
+abbrev table : List ℕ → ℕ → Data
+table index n = object (member index (number (unsigned n)) no_members)
+
+-- its members, in the order of their names
+abbrev members : Members
+members =
+    member (codes "phaseEnabled") (table (codes "2") 1) (member (codes "phaseRing") (table (codes "2") 2)
+    (member (codes "phaseSide") (table (codes "2") 1) (member (codes "phaseYellowChange") (table (codes "2") 30)
+    (member (codes "sequenceData") (table (codes "9") 2) (member (codes "version") (number (unsigned 1)) no_members)))))
+
+is_of_version_1 : IsOfVersion1 text members
+unfolding opened_texts
+is_of_version_1 = record { value = object members; is_json = refl; is_table = refl; tells = refl }
+
+abbrev plan : Plan
+plan = with_values empty ((PhaseEnabled, 2, 1) ∷ (PhaseRing, 2, 2) ∷ (PhaseSide, 2, 1) ∷ (PhaseYellowChange, 2, 30) ∷ (SequenceData, 17, 2) ∷ [])
+
+is_read : reading text ≡ Ok plan
+unfolding opened_texts
+is_read = refl
+
+-- what is named at 9 stands at 17
+is_named : (named_plan members).value SequenceData 9 ≡ 2
+unfolding opened_texts
+is_named = refl
+
+is_there : plan.value SequenceData (translated One SequenceData 9) ≡ 2
+is_there = refl
+
+-- ## An index that is not translated
+
+abbrev not_translated : Plan
+not_translated = with_values empty ((PhaseEnabled, 2, 1) ∷ (PhaseRing, 2, 2) ∷ (PhaseSide, 2, 1) ∷ (PhaseYellowChange, 2, 30) ∷ (SequenceData, 9, 2) ∷ [])
+
+-- it does not say the same, and breaks a rule that the plan that is named does not break
+would_not_say_it : not_translated.value SequenceData (translated One SequenceData 9) ≡ 0
+would_not_say_it = refl
+
+would_be_refused : checked not_translated ≡ Err (broken K6)
+unfolding opened_texts
+would_be_refused = refl
+
+-- ## Numbers beyond version 1's ranges: they are refused, and a plan that has one is none of version 1
+
+abbrev with_list : List ℕ
+with_list = codes "{\"version\":1,\"phaseConcurrency\":{\"2\":256}}"
+
+abbrev members_with_list : Members
+members_with_list = member (codes "phaseConcurrency") (table (codes "2") 256) (member (codes "version") (number (unsigned 1)) no_members)
+
+list_is_of_version_1 : IsOfVersion1 with_list members_with_list
+unfolding opened_texts
+list_is_of_version_1 = record { value = object members_with_list; is_json = refl; is_table = refl; tells = refl }
+
+list_is_refused : reading with_list ≡ Err (out_of_range PhaseConcurrency (codes "2"))
+unfolding opened_texts
+list_is_refused = refl
+
+names_too_much : (named_plan members_with_list).value PhaseConcurrency 2 ≡ 256
+unfolding opened_texts
+names_too_much = refl
+
+most : greatest_in One PhaseConcurrency ≡ 255
+most = refl
+
+-- and so is an index that version 1 has not
+index_is_refused : reading (codes "{\"version\":1,\"phaseEnabled\":{\"9\":1}}") ≡ Err (no_such_index PhaseEnabled (codes "9"))
+unfolding opened_texts
+index_is_refused = refl

@@ -1,0 +1,46 @@
+-- What a pattern asks is kept: its coordinated phases end by their force-off alone, and what it omits is not served,
+-- unless a preempt is in service. Each law here is the contract of a function in src/laws.rt, and proved there.
+--
+-- A plan here has 16 phases at most, as every plan in memory has: no hold and no omit is told of a phase of a greater
+-- number.
+use Rattle.std.specs.Prelude.{◌≡◌, ℕ, ◌≤◌, Bool, true, false, ◌&&◌, ◌||◌, List, [], ◌∷◌, Some, None, ◌⊎◌}
+use Rattle.tsb_types.specs.declared.row.Row.{Row}
+use Rattle.tsb_types.specs.Intervals.{is_green}
+use Rattle.tsb_plan.specs.Plan.{Plan}
+use Rattle.tsb_ring.specs.Rings.{Ring}
+use Rattle.tsb_step.specs.declared.inputs.Input.{Input}
+use Rattle.tsb_step.specs.declared.inputs.Input.TheVariants.{Tick}
+use Rattle.tsb_step.specs.State.{interval}
+use Rattle.tsb_step.specs.Tick.{service, hold, forced, omitted}
+use Rattle.tsb_step.specs.Runs.{replay, AreTaken}
+use Rattle.tsb_step.specs.Laws.{IsConsistent}
+use Rattle.tsb_laws.specs.Stretches.{EndsGreen, StartsGreen}
+
+-- ## Coordinated phases
+
+-- the force-off instant of p has come in some tick of the green that p is in now
+abbrev pub was_forced_off : Plan → ℕ → List Input → Bool
+was_forced_off plan p [] = false
+was_forced_off plan p (Tick row ∷ is) = is_green (interval (replay plan is) p) && (forced (replay plan is) p || was_forced_off plan p is)
+was_forced_off plan p (i ∷ is) = was_forced_off plan p is
+
+-- While a pattern runs and no preempt is in service, a tick ends the green of a coordinated phase only by its force-off:
+-- the force-off instant is this tick, or was an earlier one of this green.
+abbrev pub CoordinatedEndByForceOff : Type 0
+CoordinatedEndByForceOff = (plan : Plan) (is : List Input) (row : Row) (p : ℕ) → IsConsistent plan → plan.phase_count ≤ 16 →
+    AreTaken plan is → (replay plan is).trip ≡ None → EndsGreen plan is row p → hold (replay plan is) p ≡ true →
+    service (replay plan is) row ≡ None → (forced (replay plan is) p ≡ true) ⊎ (was_forced_off plan p is ≡ true)
+
+-- ## Omitted phases
+
+-- in a tick in which no preempt is in service, a phase that is omitted starts only where a ring was committed to it
+-- before, and a ring is committed to it after the tick only where it was before
+pub record OmitsHold (plan : Plan) (is : List Input) (row : Row) (q : ℕ) : Type 0 where
+  pub starts : StartsGreen plan is row q → (r : Ring) × ((replay plan is).rings.commitment r ≡ Some q)
+  pub commits : (r : Ring) → (replay plan (Tick row ∷ is)).rings.commitment r ≡ Some q → (replay plan is).rings.commitment r ≡ Some q
+
+-- So it is in every run: an omitted phase enters only by a preempt or by an older commitment.
+abbrev pub OmittedAreNotServed : Type 0
+OmittedAreNotServed = (plan : Plan) (is : List Input) (row : Row) (q : ℕ) → IsConsistent plan → plan.phase_count ≤ 16 →
+    AreTaken plan is → (replay plan is).trip ≡ None → omitted (replay plan is) q ≡ true →
+    service (replay plan is) row ≡ None → OmitsHold plan is row q

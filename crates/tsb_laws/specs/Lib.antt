@@ -1,0 +1,32 @@
+-- stretches of runs: what has held since a moment, and which time was due as it ended
+pub mod Stretches
+-- what lies between a green that ends, or a walk that begins, and the start of a phase that is not concurrent
+pub mod Intergreens
+-- which phases are served, and in what time a commitment is
+pub mod Commitments
+-- in what time a crossing of the barrier is completed
+pub mod Crossings
+-- that coordinated greens end by their force-off, and that what is omitted is not served
+pub mod Coordination
+-- for how long all red lasts while some phase is wanted
+pub mod AllRed
+-- within what time a preempt reaches its dwell: stated, not proved
+pub mod PreemptDwells
+-- the runs of which the laws speak
+pub mod Runs
+-- timers among the cells, and what a tick makes of them
+pub mod Timers
+-- the laws
+pub mod WayBack
+-- the desk after every run
+pub mod Desk
+-- plans, inputs and states of 8 phases and 2 sides as those of 16 and 4
+pub mod Widened
+-- the built-in plans as version 1 has them
+pub mod BuiltIn
+-- that both benches show and refuse the same
+pub mod Versions
+-- plan texts of version 1, and the plans that they name and give
+pub mod Texts
+-- that a session has one text, but for memory
+pub mod OneText

@@ -1,0 +1,63 @@
+-- Plan texts of version 1: the plan of 8 phases and 2 sides that a text names, and what holds of it and of the plan
+-- that is read, as statements. How a text is read, or refused, stands in tsb_plan_text.
+--
+-- All are proved, as the contract of a function that does nothing (src/laws.rt).
+use Rattle.std.specs.Prelude.{◌≡◌, ◌↔◌, ℕ, List, map, if◌then◌else◌, Some, None, Ok}
+use Rattle.serde_json.specs.Data.{Data, Members}
+use Rattle.serde_json.specs.Find.{as_object}
+use Rattle.tsb_types.specs.Lists.{or_number}
+use Rattle.tsb_plan.specs.declared.version.Version.TheVariants.{One}
+use Rattle.tsb_plan.specs.Plan.{Plan}
+use Rattle.tsb_plan.specs.Versions.{has_index_in}
+use Rattle.tsb_plan_text.specs.PlanText.{data_of, version_in, reading}
+use Rattle.tsb_plan_text.specs.PlanTextSays.{number_for}
+use Rattle.tsb_rules.specs.Rules.{first_broken}
+use Rattle.tsb_step.specs.declared.inputs.Input.{Input}
+use Rattle.tsb_step.specs.Runs.{replay, AreTaken}
+use Rattle.tsb_step.specs.Signs.{display}
+use Rattle.tsb_laws.specs.Widened.{IsNarrow, widened_input, AreWithin, widened_state}
+use Rattle.tsb_laws.specs.Versions.{SaysTheSame}
+
+-- the text is a JSON object that tells version 1, and these are its members
+pub record IsOfVersion1 (text : List ℕ) (members : Members) : Type 0 where
+  pub value : Data
+  pub is_json : data_of text ≡ Some value
+  pub is_table : as_object value ≡ Some members
+  pub tells : version_in members ≡ Some One
+
+-- the plan of 8 phases and 2 sides that the members of a text name: at an index of version 1 the number that stands
+-- under the object's name and the index, and 0 where none does
+abbrev pub named_plan : Members → Plan
+named_plan members = record {
+  phase_count = 8;
+  side_count = 2;
+  value = λ o i. if has_index_in One o i then or_number (number_for members o i) 0 else 0;
+}
+
+-- what is said of each text of version 1 that is read, by its members and the plan that it gives
+abbrev pub OfReadTexts : (Members → Plan → Type 0) → Type 0
+OfReadTexts fact = (text : List ℕ) (members : Members) (plan : Plan) → IsOfVersion1 text members → reading text ≡ Ok plan → fact members plan
+
+-- It names a plan of version 1: each number is within that version's range.
+abbrev pub TextsNameNarrowPlans : Type 0
+TextsNameNarrowPlans = OfReadTexts (λ members plan. IsNarrow (named_plan members))
+
+-- The plan that is read is the wide plan, which says the same as the one that is named.
+abbrev pub TextsGiveWidePlans : Type 0
+TextsGiveWidePlans = OfReadTexts (λ members plan. SaysTheSame (named_plan members) plan)
+
+-- The plan that it names breaks no rule.
+abbrev pub NamedPlansBreakNoRule : Type 0
+NamedPlansBreakNoRule = OfReadTexts (λ members plan. first_broken (named_plan members) ≡ None)
+
+-- what a bench of 16 phases and 4 sides does with the plan that is read, beside what one of 8 and 2 does with the plan
+-- that is named: both take the same inputs, show the same heads, and are in the same state but for the translated plan
+-- and edits
+pub record GoesAlike (named read : Plan) (is : List Input) : Type 0 where
+  pub taken : AreTaken named is ↔ AreTaken read (map widened_input is)
+  pub heads : display (replay read (map widened_input is)) ≡ display (replay named is)
+  pub states : replay read (map widened_input is) ≡ widened_state (replay named is)
+
+-- So it is after any inputs within version 1's ranges.
+abbrev pub ReadBenchesGoAlike : Type 0
+ReadBenchesGoAlike = OfReadTexts (λ members plan. (is : List Input) → AreWithin is → GoesAlike (named_plan members) plan is)

@@ -1,0 +1,28 @@
+//! What holds of the texts of sessions, each law the contract of a function that does nothing.
+ghost use Rattle.tsb_laws.specs.OneText.{OneText, SessionsWriteOneText, SomeTextIsUntold, TextsPartAtMemory};
+
+/// Texts of a session are equal but for memory. Two texts that a session may write to the same bytes are equal, or they
+/// are equal up to a line where one of them says `refused E1 Memory`. So they are equal where neither says so, and to
+/// all bytes there is one that does not.
+///
+/// Not said: when memory runs out.
+/// Mistakes: an undo that may be answered by `nothing` whatever remains, `IsLoose` (`would_be_right`, `is_not_right`);
+/// a way back of one tick more than there are, `IsFurther` (`would_both_be_right`, `the_other_is_not`); the law with no
+/// word of memory, which `text` and `short` break (`are_two`).
+/// Witness: `is_text` of Witness, a session with a tick, a transaction and an undo.
+pub fn texts_are_equal_but_for_memory()
+    ensures part { TextsPartAtMemory }
+    ensures one { OneText }
+    ensures some { SomeTextIsUntold }
+{}
+
+/// Two sessions over the same plan, log and bytes write one text. It is so where both answer Ok and neither says
+/// `refused E1 Memory`, however far each has read after a line `quit`.
+///
+/// Not said: anything of sessions that end with a fault. `session` says that these have written the beginning of a
+/// text.
+/// Mistake: a session that ends well before the end of what it was given (`read_a_line`, `read_all`, `would_differ`).
+/// Witness: `session` of Witness.
+pub fn sessions_write_one_text()
+    ensures { SessionsWriteOneText }
+{}

@@ -1,0 +1,91 @@
+//! The safety case of the controller, each law the contract of a function that does nothing.
+ghost use Rattle.tsb_laws.specs.Intergreens.{IntergreensHold, WalksAreCleared};
+ghost use Rattle.tsb_laws.specs.Commitments.{CommitmentsAreServed, EnabledAreServed};
+ghost use Rattle.tsb_laws.specs.Crossings.{CrossingsComplete};
+ghost use Rattle.tsb_laws.specs.AllRed.{AllRedEnds};
+ghost use Rattle.tsb_laws.specs.Coordination.{CoordinatedEndByForceOff, OmittedAreNotServed};
+
+/// `greens`: The intergreen holds. Between the tick that ends a green and the one that starts a phase which is not
+/// concurrent lie at least the yellow change and the red clearance of the first, across inputs of every kind. Each time
+/// is by the plan in effect as what it times ends.
+///
+/// Needs: an untripped stretch.
+/// Mistake: a clearance that is over as its yellow ends, `over_after_yellow` (`clears_on`, `waits_3`, `would_start_3`).
+/// Witness: `an_intergreen` of CommitmentRuns.
+///
+/// `walks`: Pedestrians have cleared before a conflicting green. From the beginning of a walk to the end of its green
+/// lie at least its walk and its pedestrian clearance, and then the intergreen. Under a preempt that ends the phase
+/// these are the smaller times.
+///
+/// Needs: an untripped stretch.
+/// Not said: that the time is enough to cross the road.
+/// Mistake: a green that ends whatever its pedestrians do, `ready_by_green` (`is_not_ready`, `would_be_ready`).
+/// Witness: `a_walk` of WalkRuns.
+pub fn intergreens_hold()
+    ensures greens { IntergreensHold }
+    ensures walks { WalksAreCleared }
+{}
+
+/// Only enabled phases are served. Each phase in service is enabled, and so is each that a ring is committed to.
+///
+/// Mistake: a commit of `phaseEnabled` that does not wait, `disabling` (`has_to_wait`, `would_be_disabled`,
+/// `would_be_green`).
+/// Witness: `a_service` of CrossingRuns.
+pub fn enabled_are_served()
+    ensures { EnabledAreServed }
+{}
+
+/// A commitment is served in time. Outside a crossing, the commitment that is made as a green ends starts within the
+/// larger of that phase's yellow change and red clearance and its own red revert, whatever inputs come.
+///
+/// Needs: an untripped stretch; at most 16 phases, as every plan in memory has. Where a commit changes a time
+/// meanwhile, the largest counts.
+/// Not said: that a call leads to a commitment.
+/// Mistake: a start that waits for the other ring to clear, `may_start_alone` (`starts_2`, `would_wait`).
+/// Witness: `a_commitment` of CommitmentRuns.
+pub fn commitments_are_served()
+    ensures { CommitmentsAreServed }
+{}
+
+/// A crossing of the barrier is completed in time. It ends within one tick and the larger of the clearances of the
+/// phases in service and the red reverts of the phases committed to, whatever inputs come: its side is served, and what
+/// it committed the rings to is Green.
+///
+/// Needs: as `commitments_are_served`.
+/// Not said: that a call on another side leads to a crossing.
+/// Mistake: a crossing that wants a commitment of each ring, `may_start_committed` (`starts_3`, `would_not_complete`).
+/// Witness: `a_crossing` of CrossingRuns.
+pub fn crossings_complete()
+    ensures { CrossingsComplete }
+{}
+
+/// A coordinated green ends only by its force-off. While a pattern runs and no preempt is in service, a tick ends a
+/// coordinated green only where its force-off instant is this tick, or was an earlier one of this green.
+///
+/// Needs: an untripped run; at most 16 phases.
+/// Mistake: a green that a gap ends (`is_held`, `would_time_out`).
+/// Witness: `a_coordination` of CoordinationRuns.
+pub fn coordinated_end_by_force_off()
+    ensures { CoordinatedEndByForceOff }
+{}
+
+/// What a pattern omits is not served. In a tick in which no preempt is in service an omitted phase starts only where a
+/// ring was committed to it before, and no ring commits to it anew.
+///
+/// Needs: an untripped run; at most 16 phases.
+/// Mistake: a call that an omit leaves, `omits_3` (`is_not_callable`, `would_be_called`).
+/// Witness: `an_omission` of CoordinationRuns.
+pub fn omitted_are_not_served()
+    ensures { OmittedAreNotServed }
+{}
+
+/// All red ends while a phase is callable or a preempt is in service. While that is so in each tick, be it by one
+/// phase or by another, all red lasts for at most the largest red revert and two ticks, whatever inputs come.
+///
+/// Needs: as `commitments_are_served`, and that no value of the plan is over the greatest of its object.
+/// Not said: which phase starts then. Where no phase is callable and no preempt is in service, all red may last.
+/// Mistake: a crossing that begins only from greens, `joins_from_green` (`is_idle`, `would_not_join`).
+/// Witness: `an_all_red` (both of AllRedRuns).
+pub fn all_red_ends()
+    ensures { AllRedEnds }
+{}

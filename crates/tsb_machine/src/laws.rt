@@ -1,0 +1,45 @@
+//! What holds of the way back of every machine, each law the contract of a function that does nothing.
+ghost use Rattle.tsb_machine.specs.Machine.{Machine};
+ghost use Rattle.tsb_machine.specs.Laws.{BenchesAnswer, EarlierAreReplays, LastIsGreatest, PastsAreTheRun, SeeksAreLeast, SeeksAreReplays, SessionsAreReplays, UndoGivesBack};
+
+/// Undo takes back what was done. To take back the input that was just applied gives state and history as they were, of
+/// every machine of states and inputs.
+///
+/// Needs: a record that, taken back, gives the state before it.
+pub fn undo_gives_back<S, I, C>()
+    ensures { (m : Machine S I C) → UndoGivesBack m }
+{}
+
+/// Earlier states are those of shorter runs. With the newest k records taken back, state and history are those of a
+/// replay without the newest k inputs.
+///
+/// Needs: as `undo_gives_back`, for each input of the run.
+pub fn earlier_are_replays<S, I, C>()
+    ensures pasts { (m : Machine S I C) (start : S) → PastsAreTheRun m start }
+    ensures earlier { (m : Machine S I C) (start : S) → EarlierAreReplays m start }
+{}
+
+/// Seek is undo repeated, as few times as make the tick number. What it reaches is a replay without these inputs.
+///
+/// Needs: as `earlier_are_replays`, and a tick number that begins at 0 and goes on by one at most.
+pub fn seeks_are_undo_repeated<S, I, C>()
+    ensures replays { (m : Machine S I C) (start : S) → SeeksAreReplays m start }
+    ensures least { (m : Machine S I C) (start : S) → SeeksAreLeast m start }
+{}
+
+/// `when` gives the last change of a value. It is the greatest of the tick numbers not taken back at which the value
+/// became another one.
+///
+/// Needs: as `seeks_are_undo_repeated`.
+pub fn last_is_greatest<S, I, C, V>()
+    ensures { (m : Machine S I C) (start : S) (value : S → V) → LastIsGreatest m start value }
+{}
+
+/// A session is a replay of what remains. A bench that does at each command what it says answers right, and is in the
+/// state of a replay of the inputs that were not undone, each of which was taken.
+///
+/// Needs: a record of its input's kind.
+pub fn sessions_are_replays<S, I, C, W, V>()
+    ensures answers { (m : Machine S I C) (start : S) (watched : W → S → V) → BenchesAnswer m start watched }
+    ensures replays { (m : Machine S I C) (start : S) (watched : W → S → V) → SessionsAreReplays m start watched }
+{}

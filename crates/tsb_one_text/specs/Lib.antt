@@ -1,2 +1,0 @@
--- that a session has one text, but for memory
-pub mod Laws

@@ -1,2 +1,0 @@
--- what a writer has taken of a text
-pub mod Writes

@@ -1,8 +1,0 @@
-use Rattle.tsb_versions.proofs.RunLemmas.{refusals_agree, take_the_same}
-use Rattle.tsb_versions.proofs.laws.benches_take_the_same.Goals as goal
-
-pub returns-clause-refusals : goal.returns-clause-refusals
-returns-clause-refusals c = refusals_agree
-
-pub returns-clause-same : goal.returns-clause-same
-returns-clause-same c = take_the_same
