@@ -26,7 +26,8 @@ not say; docs/READING.md goes from a question to the definition.
 MOST = 6
 
 DEFINITION = re.compile(r"\s*(?:abbrev|unfoldable) pub (\S+)|pub (?:record|data) (\S+)|pub (\S+) :")
-GHOST_USE = re.compile(r"ghost use Rattle\.(\w+)\.specs\.(\w+)\.\{([^}]*)\}")
+# (a crate's definitions may be named by way of one above it, which passes them on under the crate's name)
+GHOST_USE = re.compile(r"ghost use Rattle\.(?:\w+\.specs\.(?=tsb_))?(\w+)(?:\.specs)?\.(\w+)\.\{([^}]*)\}")
 OWNER = re.compile(r"\s*(pub )?(?:pub\(\w+\) )?(?:const )?(?:fn|struct|trait|enum) (\w+)")
 IMPL = re.compile(r"(?:impl(?:<.*?>)?|pub trait) ([\w:<>, ]+ for )?(\w+)")
 

@@ -5,7 +5,7 @@
 
 FOLDER holds the reference, which is no part of this repository (make_sessions.py says which files). Each seed is one
 run: a plan at random, and 1,500 to 4,000 ticks with inputs of all kinds between. What is tested stands in
-`crates/tsb_safety/specs/PreemptDwells.antt`: a preempt that stays in service has all of its dwell phases Green in time.
+`crates/tsb_laws/specs/PreemptDwells.antt`: a preempt that stays in service has all of its dwell phases Green in time.
 It ends with status 1 where a run breaks a law, and tells how often the premises were met.
 """
 import argparse

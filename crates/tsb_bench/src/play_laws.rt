@@ -28,7 +28,7 @@ use tsb_step::time_laws::{
 /// says one law. At each moment a session is where `play` leaves the commands so far.
 ///
 /// Needs: what `play` promises, in its clauses `taken` and `state`.
-/// Not said: the other laws of tsb_step, red revert among them, and those of tsb_safety. They hold of the same runs.
+/// Not said: the other laws of tsb_step, red revert among them, and those of tsb_laws. They hold of the same runs.
 pub fn plays_keep_the_laws(plan: Checked, commands: &[Cmd], answers: &[Answer], bench: &Bench)
     requires taken { AreTaken (checked_plan plan) (remaining (checked_plan plan) commands.now answers.now) }
     requires state { state_of bench.now ≡ replay (checked_plan plan) (remaining (checked_plan plan) commands.now answers.now) }

@@ -1,5 +1,5 @@
 -- Laws of whole runs: of times, starts, commitments, sides and the field. Each is proved as the contract of a function
--- in src/time_laws.rt, but for CellsTellTheState and PastsAreTheRun. These two are proved in tsb_way_back, of the plans
+-- in src/time_laws.rt, but for CellsTellTheState and PastsAreTheRun. These two are proved in tsb_laws, of the plans
 -- that the program holds: no value is over the greatest of its object.
 use Rattle.std.specs.Prelude.{◌≡◌, ◌≢◌, ℕ, suc, ◌+◌, ◌≤◌, Bool, true, false, not, ◌&&◌, ◌||◌, if◌then◌else◌, List, [], ◌∷◌, Some, None, Contains, ◌⊎◌}
 use Rattle.tsb_cells.specs.Timer.{has_reached}
@@ -125,7 +125,7 @@ CommitmentsStandInRuns = OfEveryRun (λ s. (i : Input) (r : Ring) (c : ℕ) → 
     ((step s i).rings.commitment r ≡ Some c) ⊎ ((interval s c ≢ Green) × (interval (step s i) c ≡ Green)))
 
 -- cells tell the state after a run, of a plan of 16 phases and 4 sides and of inputs whose numbers are of the program's
--- types; proved in tsb_way_back, of plans with no value over its object's greatest
+-- types; proved in tsb_laws, of plans with no value over its object's greatest
 abbrev pub CellsTellTheState : (Input → Type 0) → Type 0
 CellsTellTheState IsTyped = (plan : Plan) (is : List Input) → IsConsistent plan → plan.phase_count ≡ 16 → plan.side_count ≡ 4 →
     AreTaken plan is → ((i : Input) → Contains is i → IsTyped i) → state_in (replay plan is).now (cells_of (replay plan is)) ≡ replay plan is

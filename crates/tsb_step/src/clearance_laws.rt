@@ -11,7 +11,7 @@ ghost use Rattle.tsb_step.specs.ClearanceLaws.{ClearedAreOver, CoordinatedClearA
 /// `cleared`: A phase that goes Red is over. Its yellow change and red clearance have lasted; from any state.
 ///
 /// Mistakes: a phase that is cleared as its green has ended, `clears_at_once` (`is_not_over`, `would_be_cleared`), or
-/// in its yellow, `clears_early` of tsb_safety (`does_not_clear`, `would_go_red`).
+/// in its yellow, `clears_early` of tsb_laws (`does_not_clear`, `would_go_red`).
 /// Witness: `clears_2` of TimeRuns.
 ///
 /// `started`: A phase that starts has its red revert timer Off, or has waited for it. So it is from any state.

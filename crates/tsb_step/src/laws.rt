@@ -73,7 +73,7 @@ pub fn preempts_have_phases()
 ///
 /// Not said: what trips it where a lamp was lit.
 /// Mistake: the law without its premise, as a lamp that is lit can trip (`green_on_3`).
-/// Witness: `a_reset` of CoordinationRuns in tsb_safety, a reset after a trip.
+/// Witness: `a_reset` of CoordinationRuns in tsb_laws, a reset after a trip.
 pub fn faults_alone_trip()
     ensures { FaultsAloneTrip }
 {}
