@@ -1,15 +1,15 @@
 -- What reading a file comes to, by what its text gave, and what is told of it.
 use Rattle.std.proofs.Common.{ℕ, List, Option, inl, inr}
 use Rattle.std.specs.Prelude.{Result, Ok, Err, Some}
-use Rattle.tsb_objects.specs.declared.checked.Checked.{Checked}
-use Rattle.tsb_objects.specs.Checked.{checked_plan}
-use Rattle.tsb_plan.specs.Plan.{Plan}
-use Rattle.tsb_plan_text.specs.declared.error.PlanError.{PlanError}
-use Rattle.tsb_plan_text.specs.declared.error.PlanError.TheVariants as told
-use Rattle.tsb_plan_text.specs.PlanErrors as plans
-use Rattle.tsb_plan_text.specs.PlanText.{reading}
-use Rattle.tsb_log_text.specs.declared.error.LogError.{LogError}
-use Rattle.tsb_log_text.specs.FaultLines.{log_fault}
+use Rattle.tsb_text.specs.tsb_objects.declared.checked.Checked.{Checked}
+use Rattle.tsb_text.specs.tsb_objects.Checked.{checked_plan}
+use Rattle.tsb_text.specs.tsb_plan.Plan.{Plan}
+use Rattle.tsb_text.specs.tsb_plan_text.declared.error.PlanError.{PlanError}
+use Rattle.tsb_text.specs.tsb_plan_text.declared.error.PlanError.TheVariants as told
+use Rattle.tsb_text.specs.tsb_plan_text.PlanErrors as plans
+use Rattle.tsb_text.specs.tsb_plan_text.PlanText.{reading}
+use Rattle.tsb_program.specs.tsb_log_text.declared.error.LogError.{LogError}
+use Rattle.tsb_program.specs.tsb_log_text.FaultLines.{log_fault}
 use Rattle.tsb_program.specs.declared.files.FileError.TheVariants as files
 use Rattle.tsb_program.specs.declared.read.ReadError.{ReadError}
 use Rattle.tsb_program.specs.declared.read.ReadError.TheVariants as faults

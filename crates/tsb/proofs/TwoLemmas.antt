@@ -1,10 +1,10 @@
 -- As the built-in plan of two phases meets the rules, no rule that it breaks is ever found.
 use Rattle.std.proofs.Common.{◌≡◌, ◌∙◌, Option, Some, None, ap}
-use Rattle.tsb_plan.specs.Plan.{Plan}
-use Rattle.tsb_plan.specs.Two.{two}
-use Rattle.tsb_rules.specs.declared.rules.Rule.{Rule}
-use Rattle.tsb_rules.specs.Rules.{first_broken}
-use Rattle.tsb_rules.proofs.TwoLemmas.{two-meets}
+use Rattle.tsb_text.specs.tsb_plan.Plan.{Plan}
+use Rattle.tsb_text.specs.tsb_plan.Two.{two}
+use Rattle.tsb_text.specs.tsb_rules.declared.rules.Rule.{Rule}
+use Rattle.tsb_text.specs.tsb_rules.Rules.{first_broken}
+use Rattle.tsb_text.proofs.tsb_rules.TwoLemmas.{two-meets}
 
 not-both : (found : Option Rule) (rule : Rule) → found ≡ None → found ≡ Some rule → ⊥
 not-both found rule none some = cc

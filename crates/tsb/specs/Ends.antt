@@ -6,14 +6,14 @@ use Rattle.std.specs.Io.KnownBytes.{Appends}
 use Rattle.tsb_words.specs.declared.bench.Asked.{Asked}
 use Rattle.tsb_words.specs.declared.bench.Asked.TheVariants as asks
 use Rattle.tsb_words.specs.declared.error.WordsError.{WordsError}
-use Rattle.tsb_plan.specs.Plan.{Plan}
-use Rattle.tsb_plan.specs.Two.{two}
-use Rattle.tsb_plan_text.specs.declared.error.PlanError.{PlanError}
-use Rattle.tsb_log_text.specs.declared.error.LogError.{LogError}
+use Rattle.tsb_text.specs.tsb_plan.Plan.{Plan}
+use Rattle.tsb_text.specs.tsb_plan.Two.{two}
+use Rattle.tsb_text.specs.tsb_plan_text.declared.error.PlanError.{PlanError}
+use Rattle.tsb_program.specs.tsb_log_text.declared.error.LogError.{LogError}
 use Rattle.tsb_text.specs.declared.error.SessionError.{SessionError}
 use Rattle.tsb_text.specs.Answers.{Setup}
 use Rattle.tsb_text.specs.Ended.{Ended}
-use Rattle.tsb_lines.specs.Writes.{AppendsFront}
+use Rattle.tsb_program.specs.tsb_lines.Writes.{AppendsFront}
 use Rattle.tsb.specs.Lines.{FailsToRead, TellsEnd, TellsWords, plan_line, log_line}
 use Rattle.tsb_program.specs.Failures.{Fails}
 use Rattle.tsb_program.specs.declared.failure.Failure.TheVariants.{Write}

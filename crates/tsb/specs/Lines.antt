@@ -1,10 +1,10 @@
 -- The lines that the program writes of faults, each with its end.
 use Rattle.std.specs.Prelude.{◌≡◌, ◌⊎◌, ℕ, List, [], ◌∷◌, ◌++◌, IfSome, Option, codes}
-use Rattle.tsb_lines.specs.Writes.{AppendsFront}
-use Rattle.tsb_plan_text.specs.declared.error.PlanError.{PlanError}
-use Rattle.tsb_plan_text.specs.FaultLines.{plan_fault}
-use Rattle.tsb_log_text.specs.declared.error.LogError.{LogError}
-use Rattle.tsb_log_text.specs.FaultLines.{log_fault}
+use Rattle.tsb_program.specs.tsb_lines.Writes.{AppendsFront}
+use Rattle.tsb_text.specs.tsb_plan_text.declared.error.PlanError.{PlanError}
+use Rattle.tsb_text.specs.tsb_plan_text.FaultLines.{plan_fault}
+use Rattle.tsb_program.specs.tsb_log_text.declared.error.LogError.{LogError}
+use Rattle.tsb_program.specs.tsb_log_text.FaultLines.{log_fault}
 use Rattle.tsb_text.specs.declared.error.SessionError.{SessionError}
 use Rattle.tsb_text.specs.declared.error.SessionError.TheVariants as ends
 use Rattle.tsb_words.specs.declared.error.WordsError.{WordsError}

@@ -1,12 +1,12 @@
 -- What the program has of the plan's file that it read.
 use Rattle.std.specs.Prelude.{◌≡◌, ℕ, List, Option, Result, Ok, Err}
-use Rattle.tsb_plan.specs.Plan.{Plan}
-use Rattle.tsb_plan_text.specs.declared.error.PlanError.{PlanError}
-use Rattle.tsb_plan_text.specs.declared.error.PlanError.TheVariants as told
-use Rattle.tsb_plan_text.specs.PlanErrors.{Tells}
-use Rattle.tsb_objects.specs.declared.checked.Checked.{Checked}
-use Rattle.tsb_objects.specs.Checked.{checked_plan}
-use Rattle.tsb_plan_text.specs.PlanText.{reading}
+use Rattle.tsb_text.specs.tsb_plan.Plan.{Plan}
+use Rattle.tsb_text.specs.tsb_plan_text.declared.error.PlanError.{PlanError}
+use Rattle.tsb_text.specs.tsb_plan_text.declared.error.PlanError.TheVariants as told
+use Rattle.tsb_text.specs.tsb_plan_text.PlanErrors.{Tells}
+use Rattle.tsb_text.specs.tsb_objects.declared.checked.Checked.{Checked}
+use Rattle.tsb_text.specs.tsb_objects.Checked.{checked_plan}
+use Rattle.tsb_text.specs.tsb_plan_text.PlanText.{reading}
 use Rattle.tsb_program.specs.declared.files.FileError.TheVariants as files
 use Rattle.tsb_program.specs.Read.{IsFront}
 use Rattle.tsb_program.specs.declared.read.ReadError.{ReadError}

@@ -6,7 +6,7 @@ use Rattle.tsb_types.specs.declared.refusal.Refusal.TheVariants.{TooManyEdits}
 use Rattle.tsb_plan.specs.declared.object.ObjectId.{ObjectId}
 use Rattle.tsb_plan.specs.Plan.{Plan}
 use Rattle.tsb_plan.specs.PlanOf.{plan_in}
-use Rattle.tsb_ring.specs.Rings.{forgotten}
+use Rattle.tsb_step.specs.tsb_ring.Rings.{forgotten}
 use Rattle.tsb_transact.specs.Calls as calls
 use Rattle.tsb_transact.specs.Calls.{committed_plan, after_commit}
 use Rattle.tsb_transact.specs.Cells.{desk_in}

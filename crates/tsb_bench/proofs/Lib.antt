@@ -8,3 +8,5 @@ pub mod ValueLemmas
 pub mod SessionLemmas
 pub mod WatchedLemmas
 pub mod RoomLemmas
+pub use Rattle.tsb_machine.proofs as tsb_machine
+pub use Rattle.tsb_step.proofs as tsb_step

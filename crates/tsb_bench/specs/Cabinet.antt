@@ -7,7 +7,7 @@ use Rattle.tsb_heads.specs.declared.monitor.Trip.{Trip}
 use Rattle.tsb_transact.specs.Layer as desk
 use Rattle.tsb_step.specs.declared.inputs.Input.{Input}
 use Rattle.tsb_step.specs.declared.inputs.Input.TheVariants.{Tick}
-use Rattle.tsb_ring.specs.Rings.{forgotten}
+use Rattle.tsb_step.specs.tsb_ring.Rings.{forgotten}
 use Rattle.tsb_step.specs.State.{State, Tripped}
 use Rattle.tsb_step.specs.Step.{step, verdict, kind_of, last_tick}
 use Rattle.tsb_step.specs.declared.first_cell.TheConstants.{ALL_CELLS}

@@ -8,3 +8,8 @@ pub mod Held
 pub mod Room
 -- what laws of runs say of what `play` leaves
 pub mod PlayLaws
+-- the names of crates below, for those above
+pub use Rattle.tsb_history.specs as tsb_history
+pub use Rattle.tsb_machine.specs as tsb_machine
+pub use Rattle.tsb_detect.specs as tsb_detect
+pub use Rattle.tsb_step.specs as tsb_step

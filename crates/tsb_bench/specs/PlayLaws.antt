@@ -7,7 +7,7 @@ use Rattle.tsb_types.specs.declared.row.Row.{Row}
 use Rattle.tsb_plan.specs.Parts.{is_minus_green_yellow}
 use Rattle.tsb_plan.specs.Plan.{Plan}
 use Rattle.tsb_heads.specs.Monitoring.{conflict}
-use Rattle.tsb_ring.specs.Rings.{Ring}
+use Rattle.tsb_step.specs.tsb_ring.Rings.{Ring}
 use Rattle.tsb_step.specs.declared.inputs.Input.{Input}
 use Rattle.tsb_step.specs.declared.inputs.Input.TheVariants.{Tick}
 use Rattle.tsb_step.specs.ClearanceLaws.{EndsNow, ClearsInTime}

@@ -9,7 +9,7 @@ ghost use Rattle.tsb_objects.specs.Checked.{checked_plan};
 ghost use Rattle.tsb_plan.specs.declared.object.TheConstants.{PLAN_CELLS};
 ghost use Rattle.tsb_plan.specs.Objects.{AreInRange};
 ghost use Rattle.tsb_plan.specs.PlanOf.{plan_in};
-ghost use Rattle.tsb_rules.specs.Rules.{first_broken};
+ghost use Rattle.tsb_step.specs.tsb_rules.Rules.{first_broken};
 ghost use Rattle.tsb_types.specs.declared.refusal.Refusal.TheVariants.{Memory, TickLimit};
 ghost use Rattle.tsb_transact.specs.Layer.{cells_of, is_open};
 ghost use Rattle.tsb_transact.specs.Rows.{IsRow};

@@ -4,7 +4,7 @@
 ghost use Rattle.std.specs.Prelude.{◌≡◌, ℕ, ◌+◌, ◌≤◌, ◌++◌, [], None, true};
 ghost use Rattle.arrayvec.specs.ArrayVec.{array_vec_len};
 ghost use Rattle.tsb_objects.specs.Checked.{checked_plan};
-ghost use Rattle.tsb_ring.specs.Cells as rings;
+ghost use Rattle.tsb_step.specs.tsb_ring.Cells as rings;
 ghost use Rattle.tsb_transact.specs.Calls as calls;
 ghost use Rattle.tsb_transact.specs.Cells.{desk_in};
 ghost use Rattle.tsb_transact.specs.Layer.{cells_of, kept_of, is_open};

@@ -2,7 +2,7 @@
 use Rattle.std.proofs.Common.{zero, suc, ◌≡◌, ◌≢◌, ℕ, ◌+◌, ◌<◌, ◌≤◌, ◌&&◌, not, Bool, true, false, if◌then◌else◌, count_by, refl, arith, sym, ◌∙◌, ap, ap₂, inl, inr}
 use Rattle.std.proofs.lemmas.Bool.{cases_eq}
 use Rattle.std.proofs.lemmas.List.Sums.{sum_by-cons}
-use Rattle.tsb_types.specs.Lists.{run_from}
+use Rattle.tsb_objects.specs.tsb_types.Lists.{run_from}
 use Rattle.tsb_calls.specs.Layer.{counted_to}
 
 abbrev one : (ℕ → Bool) → ℕ → ℕ

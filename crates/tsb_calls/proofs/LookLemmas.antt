@@ -1,7 +1,7 @@
 -- The calls look at nothing but phases and detectors: two that agree on these give the same.
 use Rattle.std.proofs.Common.{◌≡◌, ℕ, ◌≤◌, ◌==◌, Bool, not, ◌&&◌, refl, ap, arith}
-use Rattle.tsb_types.specs.Clip.{Agree}
-use Rattle.tsb_plan.specs.Plan.{Plan, is_concurrent}
+use Rattle.tsb_objects.specs.tsb_types.Clip.{Agree}
+use Rattle.tsb_objects.specs.tsb_plan.Plan.{Plan, is_concurrent}
 use Rattle.tsb_calls.specs.Memories.{Memories, Given, calls, calls_walk, has_output, actuations, has_button, vehicle_memory, pedestrian_memory, counted}
 use Rattle.tsb_calls.specs.Callable.{has_pedestrian_call, is_callable_otherwise, some_is_callable_otherwise, is_callable, has_conflict}
 use Rattle.tsb_calls.specs.Settled.{Done, vehicle_after, pedestrian_after, count_after, settled}

@@ -2,12 +2,12 @@
 use Rattle.std.proofs.Common.{List, ◌≡◌, ℕ, ◌+◌, ◌≤◌, ◌==◌, Bool, true, false, ◌&&◌, if◌then◌else◌, min, refl, ◌∙◌, arith, inl, inr}
 use Rattle.std.proofs.lemmas.Bool.{cases_Bool}
 use Rattle.std.proofs.lemmas.Bool.Decides.{nat_tests}
-use Rattle.tsb_types.specs.Lists.{is}
-use Rattle.tsb_types.specs.Sets.{has, is_phase}
-use Rattle.tsb_types.specs.Clip.{Agree}
-use Rattle.tsb_plan.specs.Plan.{Plan}
-use Rattle.tsb_plan.specs.Parts.{unless_zero}
-use Rattle.tsb_plan.specs.declared.object.Object.TheVariants.{VehicleDetectorCallPhase}
+use Rattle.tsb_objects.specs.tsb_types.Lists.{is}
+use Rattle.tsb_objects.specs.tsb_types.Sets.{has, is_phase}
+use Rattle.tsb_objects.specs.tsb_types.Clip.{Agree}
+use Rattle.tsb_objects.specs.tsb_plan.Plan.{Plan}
+use Rattle.tsb_objects.specs.tsb_plan.Parts.{unless_zero}
+use Rattle.tsb_objects.specs.tsb_plan.declared.object.Object.TheVariants.{VehicleDetectorCallPhase}
 use Rattle.tsb_calls.specs.Memories.{Memories, Given, calls, was_green, actuations, vehicle_memory, pedestrian_memory, counted, as_set}
 use Rattle.tsb_calls.specs.Settled.{Done, settled, pedestrian_call}
 use Rattle.tsb_calls.specs.Cells.{memories_in}

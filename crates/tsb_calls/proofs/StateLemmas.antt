@@ -3,10 +3,10 @@ use Rattle.std.proofs.Common.{zero, suc, ◌≡◌, ℕ, ◌+◌, ◌<◌, ◌�
 use Rattle.std.proofs.Math.Path.{fun_ext}
 use Rattle.std.proofs.lemmas.Bool.{cases_Bool}
 use Rattle.std.proofs.lemmas.Bool.Decides.{nat_tests}
-use Rattle.tsb_types.specs.Lists.{run_from}
-use Rattle.tsb_types.specs.Sets.{names, list_of, list_in, is_phase}
-use Rattle.tsb_types.proofs.SetLemmas.{list_of-below, names-above}
-use Rattle.tsb_types.proofs.ClipLemmas.{among_16, is_phase_from}
+use Rattle.tsb_objects.specs.tsb_types.Lists.{run_from}
+use Rattle.tsb_objects.specs.tsb_types.Sets.{names, list_of, list_in, is_phase}
+use Rattle.tsb_objects.proofs.tsb_types.SetLemmas.{list_of-below, names-above}
+use Rattle.tsb_objects.proofs.tsb_types.ClipLemmas.{among_16, is_phase_from}
 use Rattle.tsb_cells.proofs.TableLemmas.{front-read, column-read, length-column, list-read}
 use Rattle.tsb_calls.specs.Memories.{Memories}
 use Rattle.tsb_calls.specs.Cells.{memories_in, memories_cells, IsBy}

@@ -1,10 +1,10 @@
 -- What the calls look at: nothing but phases and vehicle detectors 1 to 16 and pedestrian detectors 1 to 8.
 -- LooksOnlyAtItsOwn and TicksGiveNext are the contract of a function in src/laws.rt that does nothing.
 use Rattle.std.specs.Prelude.{◌≡◌, ℕ, ◌≤◌, Bool, false, List}
-use Rattle.tsb_types.specs.Clip.{Agree}
-use Rattle.tsb_types.specs.Sets.{has, is_phase}
-use Rattle.tsb_plan.specs.Plan.{Plan, is_enabled}
-use Rattle.tsb_plan.specs.declared.object.Object.TheVariants.{VehicleDetectorCallPhase}
+use Rattle.tsb_objects.specs.tsb_types.Clip.{Agree}
+use Rattle.tsb_objects.specs.tsb_types.Sets.{has, is_phase}
+use Rattle.tsb_objects.specs.tsb_plan.Plan.{Plan, is_enabled}
+use Rattle.tsb_objects.specs.tsb_plan.declared.object.Object.TheVariants.{VehicleDetectorCallPhase}
 use Rattle.tsb_calls.specs.declared.observed.Observed.{Observed}
 use Rattle.tsb_calls.specs.declared.decided.Decided.{Decided}
 use Rattle.tsb_calls.specs.Memories.{Memories, Given, has_output, as_set}

@@ -1,8 +1,8 @@
 //! Which phases are called, which of them a ring may serve next, and which have to yield to one of these.
 ghost use Rattle.std.specs.Prelude.{◌≡◌, ℕ, ◌≤◌, ◌&&◌, ◌||◌, not, true, false, Bool};
-ghost use Rattle.tsb_types.specs.Lists.{some_passes, run_from};
-ghost use Rattle.tsb_types.specs.Sets.{has};
-ghost use Rattle.tsb_plan.specs.Plan.{has_soft_recall};
+ghost use Rattle.tsb_objects.specs.tsb_types.Lists.{some_passes, run_from};
+ghost use Rattle.tsb_objects.specs.tsb_types.Sets.{has};
+ghost use Rattle.tsb_objects.specs.tsb_plan.Plan.{has_soft_recall};
 ghost use Rattle.tsb_objects.specs.Checked.{checked_plan};
 ghost use Rattle.tsb_calls.specs.Memories.{Memories, has_output};
 ghost use Rattle.tsb_calls.specs.Callable.{has_pedestrian_call, is_called, is_free, is_callable_otherwise, is_callable, has_conflict};

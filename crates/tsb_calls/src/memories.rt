@@ -1,6 +1,6 @@
 //! What detectors put into the memories.
 ghost use Rattle.std.specs.Prelude.{◌≡◌, ℕ, ◌≤◌};
-ghost use Rattle.tsb_types.specs.Sets.{has};
+ghost use Rattle.tsb_objects.specs.tsb_types.Sets.{has};
 ghost use Rattle.tsb_objects.specs.Checked.{checked_plan};
 ghost use Rattle.tsb_calls.specs.Memories.{Memories, has_output, vehicle_memory, pedestrian_memory};
 ghost use Rattle.tsb_calls.specs.Promises.{given_of};

@@ -1,9 +1,9 @@
 //! The phases with a walk, and those that the plan recalls.
 ghost use Rattle.std.specs.Prelude.{◌≡◌, ℕ, ◌≤◌, ◌||◌};
-ghost use Rattle.tsb_types.specs.Sets.{has};
-ghost use Rattle.tsb_plan.specs.Running.{is_on_minimum_recall, is_on_maximum_recall};
+ghost use Rattle.tsb_objects.specs.tsb_types.Sets.{has};
+ghost use Rattle.tsb_objects.specs.tsb_plan.Running.{is_on_minimum_recall, is_on_maximum_recall};
 ghost use Rattle.tsb_objects.specs.Checked.{checked_plan};
-ghost use Rattle.tsb_rules.specs.Rules.{serves_pedestrians};
+ghost use Rattle.tsb_objects.specs.tsb_rules.Rules.{serves_pedestrians};
 
 use crate::observed::Observed;
 use tsb_objects::{Checked, PhaseSet};

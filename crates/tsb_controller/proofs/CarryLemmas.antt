@@ -1,12 +1,12 @@
 -- The moves of the rings on the phases, one call after the other.
 use Rattle.std.proofs.Common.{◌≡◌, ℕ, ◌≤◌, ◌==◌, Bool, true, false, ◌||◌, if◌then◌else◌, List, Option, Some, refl, ap, ◌∙◌, inl, inr, subst}
 use Rattle.std.proofs.lemmas.Bool.{cases_Bool, eqb-true}
-use Rattle.tsb_types.specs.declared.flow.Moves.{Moves}
-use Rattle.tsb_types.specs.declared.flow.Timing.{Timing}
-use Rattle.tsb_types.specs.declared.interval.Interval.TheVariants.{Yellow}
-use Rattle.tsb_types.specs.Lists.{is}
-use Rattle.tsb_types.specs.Sets.{has, is_phase}
-use Rattle.tsb_plan.specs.Plan.{Plan}
+use Rattle.tsb_step.specs.tsb_types.declared.flow.Moves.{Moves}
+use Rattle.tsb_step.specs.tsb_types.declared.flow.Timing.{Timing}
+use Rattle.tsb_step.specs.tsb_types.declared.interval.Interval.TheVariants.{Yellow}
+use Rattle.tsb_step.specs.tsb_types.Lists.{is}
+use Rattle.tsb_step.specs.tsb_types.Sets.{has, is_phase}
+use Rattle.tsb_step.specs.tsb_plan.Plan.{Plan}
 use Rattle.tsb_phase.specs.declared.conditions.Conditions.{Conditions}
 use Rattle.tsb_phase.specs.Phase.{Phase, Given}
 use Rattle.tsb_phase.specs.Moves.{ended, cleared, started_by, once_ended, once_cleared, once_started}

@@ -1,9 +1,9 @@
 -- What the monitor finds is of phases 1 to 16.
 use Rattle.std.proofs.Common.{◌≡◌, ℕ, ◌+◌, ◌<◌, ◌≤◌, Bool, Option, Some, None, IfSome, is_some, refl, sym, subst, arith}
 use Rattle.std.specs.Option.{option_map, option_or}
-use Rattle.tsb_types.specs.Lists.{first}
-use Rattle.tsb_plan.specs.Plan.{Plan, phases}
-use Rattle.tsb_types.proofs.FirstLemmas.{first-within}
+use Rattle.tsb_step.specs.tsb_types.Lists.{first}
+use Rattle.tsb_step.specs.tsb_plan.Plan.{Plan, phases}
+use Rattle.tsb_step.proofs.tsb_types.FirstLemmas.{first-within}
 use Rattle.tsb_heads.specs.declared.monitor.Trip.{Trip}
 use Rattle.tsb_heads.specs.declared.monitor.Trip.TheVariants.{Conflict, GreenToRed}
 use Rattle.tsb_heads.specs.Heads.{Heads}

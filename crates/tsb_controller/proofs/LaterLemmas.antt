@@ -5,17 +5,17 @@ use Rattle.std.proofs.lemmas.Bool.{cases_Bool, true≢false}
 use Rattle.tsb_cells.specs.declared.timer.Timer.TheVariants.{Off, On}
 use Rattle.tsb_cells.specs.Timer.{timer_at}
 use Rattle.tsb_cells.proofs.TimerLemmas.{timer_at-on}
-use Rattle.tsb_types.specs.declared.flow.Timing.{Timing}
-use Rattle.tsb_types.specs.declared.interval.Interval.{Interval}
-use Rattle.tsb_types.specs.declared.interval.Interval.TheVariants.{Red, Green, Yellow, RedClear}
-use Rattle.tsb_types.specs.declared.phase_set.PhaseSet.{PhaseSet}
-use Rattle.tsb_types.specs.declared.stage.Stage.{Stage}
-use Rattle.tsb_types.specs.Clip.{Agree}
-use Rattle.tsb_types.specs.Intervals.{is_green}
-use Rattle.tsb_types.specs.Sets.{has, is_phase, list_of, set_of_list}
-use Rattle.tsb_types.proofs.ClipLemmas.{among_16}
-use Rattle.tsb_types.proofs.SetLemmas.{names-list_of}
-use Rattle.tsb_plan.specs.Plan.{Plan}
+use Rattle.tsb_step.specs.tsb_types.declared.flow.Timing.{Timing}
+use Rattle.tsb_step.specs.tsb_types.declared.interval.Interval.{Interval}
+use Rattle.tsb_step.specs.tsb_types.declared.interval.Interval.TheVariants.{Red, Green, Yellow, RedClear}
+use Rattle.tsb_step.specs.tsb_types.declared.phase_set.PhaseSet.{PhaseSet}
+use Rattle.tsb_step.specs.tsb_types.declared.stage.Stage.{Stage}
+use Rattle.tsb_step.specs.tsb_types.Clip.{Agree}
+use Rattle.tsb_step.specs.tsb_types.Intervals.{is_green}
+use Rattle.tsb_step.specs.tsb_types.Sets.{has, is_phase, list_of, set_of_list}
+use Rattle.tsb_step.proofs.tsb_types.ClipLemmas.{among_16}
+use Rattle.tsb_step.proofs.tsb_types.SetLemmas.{names-list_of}
+use Rattle.tsb_step.specs.tsb_plan.Plan.{Plan}
 use Rattle.tsb_detect.specs.Cells as detect_cells
 use Rattle.tsb_detect.specs.Cells.{detector_in}
 use Rattle.tsb_detect.specs.Detector.{Detector, is_detector}

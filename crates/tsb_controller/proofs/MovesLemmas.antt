@@ -2,12 +2,12 @@
 -- cleared in time.
 use Rattle.std.proofs.Common.{◌≡◌, ℕ, Bool, true, false, ◌&&◌, if◌then◌else◌, List, Option, Some, None, refl, sym, inl, inr, subst}
 use Rattle.std.proofs.lemmas.Bool.{true≢false, and_parts}
-use Rattle.tsb_types.specs.declared.flow.Moves.{Moves}
-use Rattle.tsb_types.specs.Intervals.{in_service}
-use Rattle.tsb_types.specs.Lists.{is}
-use Rattle.tsb_types.specs.Sets.{is_phase}
-use Rattle.tsb_types.proofs.ClipLemmas.{IsAmong, among_16}
-use Rattle.tsb_plan.specs.Plan.{Plan, phases}
+use Rattle.tsb_step.specs.tsb_types.declared.flow.Moves.{Moves}
+use Rattle.tsb_step.specs.tsb_types.Intervals.{in_service}
+use Rattle.tsb_step.specs.tsb_types.Lists.{is}
+use Rattle.tsb_step.specs.tsb_types.Sets.{is_phase}
+use Rattle.tsb_step.proofs.tsb_types.ClipLemmas.{IsAmong, among_16}
+use Rattle.tsb_step.specs.tsb_plan.Plan.{Plan, phases}
 use Rattle.tsb_phase.specs.declared.conditions.Conditions as phase_conditions
 use Rattle.tsb_phase.specs.Promises.{IsTicked, TellsOver, IsClearing}
 use Rattle.tsb_phase.proofs.OverLemmas.{overs-may_clear}

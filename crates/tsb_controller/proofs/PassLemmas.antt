@@ -6,20 +6,20 @@ use Rattle.std.proofs.lemmas.Bool.{cases_Bool}
 use Rattle.std.proofs.lemmas.Bool.Decides.{nat_tests}
 use Rattle.tsb_cells.specs.declared.timer.Timer.{Timer}
 use Rattle.tsb_cells.specs.declared.timer.Timer.TheVariants.{Off}
-use Rattle.tsb_types.specs.declared.flow.Called.{Called}
-use Rattle.tsb_types.specs.declared.flow.Moves.{Moves}
-use Rattle.tsb_types.specs.declared.flow.Orders.{Orders}
-use Rattle.tsb_types.specs.declared.flow.Timing.{Timing}
-use Rattle.tsb_types.specs.declared.lamp.Lamp.{Lamp}
-use Rattle.tsb_types.specs.declared.phase_set.PhaseSet.{PhaseSet}
-use Rattle.tsb_types.specs.declared.row.Row.{Row}
-use Rattle.tsb_types.specs.Clip.{Agree, clipped, within}
-use Rattle.tsb_types.specs.Flow.{interval_of}
-use Rattle.tsb_types.specs.Intervals.{is_green}
-use Rattle.tsb_types.specs.Sets.{has, has_number, is_phase}
-use Rattle.tsb_types.proofs.ClipLemmas.{among_16, clipped-agrees, clipped-same, within-agrees}
-use Rattle.tsb_plan.specs.Plan.{Plan}
-use Rattle.tsb_plan.specs.Parts.{call_phase}
+use Rattle.tsb_step.specs.tsb_types.declared.flow.Called.{Called}
+use Rattle.tsb_step.specs.tsb_types.declared.flow.Moves.{Moves}
+use Rattle.tsb_step.specs.tsb_types.declared.flow.Orders.{Orders}
+use Rattle.tsb_step.specs.tsb_types.declared.flow.Timing.{Timing}
+use Rattle.tsb_step.specs.tsb_types.declared.lamp.Lamp.{Lamp}
+use Rattle.tsb_step.specs.tsb_types.declared.phase_set.PhaseSet.{PhaseSet}
+use Rattle.tsb_step.specs.tsb_types.declared.row.Row.{Row}
+use Rattle.tsb_step.specs.tsb_types.Clip.{Agree, clipped, within}
+use Rattle.tsb_step.specs.tsb_types.Flow.{interval_of}
+use Rattle.tsb_step.specs.tsb_types.Intervals.{is_green}
+use Rattle.tsb_step.specs.tsb_types.Sets.{has, has_number, is_phase}
+use Rattle.tsb_step.proofs.tsb_types.ClipLemmas.{among_16, clipped-agrees, clipped-same, within-agrees}
+use Rattle.tsb_step.specs.tsb_plan.Plan.{Plan}
+use Rattle.tsb_step.specs.tsb_plan.Parts.{call_phase}
 use Rattle.tsb_detect.specs.Cells.{detector_in}
 use Rattle.tsb_detect.specs.Detector.{Detector, all_after}
 use Rattle.tsb_detect.specs.Promises as detect

@@ -3,12 +3,12 @@
 use Rattle.std.proofs.Common.{◌≡◌, ℕ, ◌≤◌, ◌==◌, true, false, Some, None, List, refl, sym, ◌∙◌, inl, inr, arith, slice_index}
 use Rattle.std.proofs.lemmas.Bool.{cases_Bool, true≢false}
 use Rattle.std.proofs.lemmas.Bool.Decides.{nat_tests}
-use Rattle.tsb_types.specs.Sets.{is_phase}
-use Rattle.tsb_types.proofs.ClipLemmas.{is_phase_from}
-use Rattle.tsb_plan.specs.declared.object.Object.TheVariants.{VehicleDetectorCallPhase}
-use Rattle.tsb_plan.specs.Parts.{unless_zero}
-use Rattle.tsb_plan.specs.Plan.{Plan, is_enabled, ring_of}
-use Rattle.tsb_plan.specs.PlanOf.{plan_of}
+use Rattle.tsb_step.specs.tsb_types.Sets.{is_phase}
+use Rattle.tsb_step.proofs.tsb_types.ClipLemmas.{is_phase_from}
+use Rattle.tsb_step.specs.tsb_plan.declared.object.Object.TheVariants.{VehicleDetectorCallPhase}
+use Rattle.tsb_step.specs.tsb_plan.Parts.{unless_zero}
+use Rattle.tsb_step.specs.tsb_plan.Plan.{Plan, is_enabled, ring_of}
+use Rattle.tsb_step.specs.tsb_plan.PlanOf.{plan_of}
 use Rattle.tsb_calls.specs.Looks as calls
 use Rattle.tsb_objects.specs.declared.checked.Checked.{Checked}
 use Rattle.tsb_objects.specs.Checked.{checked_plan}

@@ -1,13 +1,13 @@
 -- What the rows tell of the rings, in the words of the step.
 use Rattle.std.proofs.Common.{◌≡◌, ℕ, Bool, ◌||◌, Option, Some, None, is_some, refl, sym, ap, ap₂, ◌∙◌, arith}
 use Rattle.std.specs.List.{list_any}
-use Rattle.tsb_types.specs.declared.flow.Intervals.{Intervals}
-use Rattle.tsb_types.specs.Flow.{interval_of}
-use Rattle.tsb_types.specs.Intervals.{in_service}
-use Rattle.tsb_types.specs.Lists.{run_from}
-use Rattle.tsb_types.proofs.ClipLemmas.{any-agree}
-use Rattle.tsb_plan.specs.Plan.{Plan, phases}
-use Rattle.tsb_plan.specs.PlanOf.{plan_of}
+use Rattle.tsb_step.specs.tsb_types.declared.flow.Intervals.{Intervals}
+use Rattle.tsb_step.specs.tsb_types.Flow.{interval_of}
+use Rattle.tsb_step.specs.tsb_types.Intervals.{in_service}
+use Rattle.tsb_step.specs.tsb_types.Lists.{run_from}
+use Rattle.tsb_step.proofs.tsb_types.ClipLemmas.{any-agree}
+use Rattle.tsb_step.specs.tsb_plan.Plan.{Plan, phases}
+use Rattle.tsb_step.specs.tsb_plan.PlanOf.{plan_of}
 use Rattle.tsb_objects.specs.declared.checked.Checked.{Checked}
 use Rattle.tsb_objects.specs.Checked.{checked_plan}
 use Rattle.tsb_phase.specs.Promises.{TellsIntervals}

@@ -1,8 +1,8 @@
 -- What is shown and what the monitor finds, by the rows, is what the one step shows and finds.
 use Rattle.std.proofs.Common.{◌≡◌, ℕ, ◌-◌, ◌≤◌, Bool, false, Option, Some, None, is_some, option_map, refl, sym, ap, ap₂, ◌∙◌}
-use Rattle.tsb_types.specs.declared.lamp.Lamp.{Lamp}
-use Rattle.tsb_types.specs.declared.row.Row.{Row}
-use Rattle.tsb_plan.specs.Plan.{Plan}
+use Rattle.tsb_step.specs.tsb_types.declared.lamp.Lamp.{Lamp}
+use Rattle.tsb_step.specs.tsb_types.declared.row.Row.{Row}
+use Rattle.tsb_step.specs.tsb_plan.Plan.{Plan}
 use Rattle.tsb_heads.specs.declared.display.Display.{Display}
 use Rattle.tsb_heads.specs.declared.field.Field.{Field}
 use Rattle.tsb_heads.specs.declared.monitor.Trip.{Trip}

@@ -6,7 +6,7 @@ use Rattle.tsb_cells.specs.Row.{row_at}
 use Rattle.tsb_cells.proofs.DiffLemmas.{length-apply_diff, apply_diff-diff}
 use Rattle.tsb_cells.proofs.PartLemmas.{diff_from-append, diff_from-shifted, diff-append, apply_diff-append, part-part, AreWithin-part, part-own}
 use Rattle.tsb_history.specs.History.{Change}
-use Rattle.tsb_plan.specs.PlanOf.{plan_in}
+use Rattle.tsb_step.specs.tsb_plan.PlanOf.{plan_in}
 use Rattle.tsb_detect.specs.Cells.{detector_in}
 use Rattle.tsb_detect.proofs.ToldLemmas as detect
 use Rattle.tsb_calls.specs.Cells.{memories_in}
@@ -26,7 +26,7 @@ use Rattle.tsb_step.specs.MonitorCells.{lamp_in, trip_in}
 use Rattle.tsb_step.specs.Past.{ticks_of}
 use Rattle.tsb_step.specs.Step.{kind_of}
 use Rattle.tsb_step.proofs.MonitorLemmas as monitor
-use Rattle.tsb_plan.specs.declared.object.TheConstants.{PLAN_CELLS}
+use Rattle.tsb_step.specs.tsb_plan.declared.object.TheConstants.{PLAN_CELLS}
 use Rattle.tsb_transact.specs.declared.TheConstants.{CELLS as DESK_CELLS}
 use Rattle.tsb_detect.specs.declared.TheConstants.{CELLS as DETECTOR_CELLS}
 use Rattle.tsb_calls.specs.declared.TheConstants.{CELLS as CALL_CELLS}
@@ -38,7 +38,7 @@ use Rattle.tsb_step.specs.declared.TheConstants.{MONITOR_CELLS}
 use Rattle.tsb_step.specs.declared.first_cell.TheConstants.{DESK, DETECTORS, CALLS, PHASES, RINGS, COORD, PREEMPTS, MONITOR, ALL_CELLS}
 use Rattle.tsb_controller.specs.Whole.{All, AreFull, AreAllBy, whole, all_in, all_changes, all_put_back, RowsAreTold, RecordsAreJoined, RecordsGoBack, RecordsGiveBack, RecordsAreFew}
 use Rattle.tsb_controller.proofs.FewLemmas.{few}
-use Rattle.tsb_plan.proofs.ToldLemmas.{plan_cells-plan_in}
+use Rattle.tsb_step.proofs.tsb_plan.ToldLemmas.{plan_cells-plan_in}
 
 pub full : (now : ℕ) (a : All) → AreAllBy now a → AreFull a
 full now a by = record {

@@ -1,12 +1,12 @@
 -- What a tick finds, and what it does, step by step, in the words of the layers' contracts, over rows of cells: `old`
 -- before a step, `new` after it.
 use Rattle.std.specs.Prelude.{◌≡◌, ℕ, List, option_map}
-use Rattle.tsb_types.specs.declared.flow.Called.{Called}
-use Rattle.tsb_types.specs.declared.flow.Orders.{Orders}
-use Rattle.tsb_types.specs.declared.flow.Timing.{Timing}
-use Rattle.tsb_types.specs.declared.row.Row.{Row}
-use Rattle.tsb_types.specs.Sets.{has}
-use Rattle.tsb_plan.specs.Plan.{Plan}
+use Rattle.tsb_step.specs.tsb_types.declared.flow.Called.{Called}
+use Rattle.tsb_step.specs.tsb_types.declared.flow.Orders.{Orders}
+use Rattle.tsb_step.specs.tsb_types.declared.flow.Timing.{Timing}
+use Rattle.tsb_step.specs.tsb_types.declared.row.Row.{Row}
+use Rattle.tsb_step.specs.tsb_types.Sets.{has}
+use Rattle.tsb_step.specs.tsb_plan.Plan.{Plan}
 use Rattle.tsb_detect.specs.declared.greens.Greens.{Greens}
 use Rattle.tsb_detect.specs.Cells as detect_cells
 use Rattle.tsb_detect.specs.Promises as detect

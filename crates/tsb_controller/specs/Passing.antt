@@ -1,12 +1,12 @@
 -- Ticks that may be passed over: what a tick finds that leaves the rows as they were, and that ticks behind it with the
 -- same inputs find and leave the same.
 use Rattle.std.specs.Prelude.{◌≡◌, ℕ, ◌<◌, Bool, List, [], Option, Some, None, option_map}
-use Rattle.tsb_types.specs.declared.flow.Called.{Called}
-use Rattle.tsb_types.specs.declared.flow.Intervals.{Intervals}
-use Rattle.tsb_types.specs.declared.lamp.Lamp.{Lamp}
-use Rattle.tsb_types.specs.declared.row.Row.{Row}
-use Rattle.tsb_types.specs.declared.stage.Stage.{Stage}
-use Rattle.tsb_plan.specs.Plan.{Plan}
+use Rattle.tsb_step.specs.tsb_types.declared.flow.Called.{Called}
+use Rattle.tsb_step.specs.tsb_types.declared.flow.Intervals.{Intervals}
+use Rattle.tsb_step.specs.tsb_types.declared.lamp.Lamp.{Lamp}
+use Rattle.tsb_step.specs.tsb_types.declared.row.Row.{Row}
+use Rattle.tsb_step.specs.tsb_types.declared.stage.Stage.{Stage}
+use Rattle.tsb_step.specs.tsb_plan.Plan.{Plan}
 use Rattle.tsb_detect.specs.declared.greens.Greens.{Greens}
 use Rattle.tsb_detect.specs.Promises as detect
 use Rattle.tsb_calls.specs.Promises as calls

@@ -1,7 +1,7 @@
 -- The rows of cells of the six layers side by side, and the state that is read in them at a tick.
 use Rattle.std.specs.Prelude.{ℕ, List, Option, None}
-use Rattle.tsb_types.specs.declared.lamp.Lamp.{Lamp}
-use Rattle.tsb_plan.specs.Plan.{Plan}
+use Rattle.tsb_step.specs.tsb_types.declared.lamp.Lamp.{Lamp}
+use Rattle.tsb_step.specs.tsb_plan.Plan.{Plan}
 use Rattle.tsb_detect.specs.Cells as detect
 use Rattle.tsb_detect.specs.Cells.{detector_in}
 use Rattle.tsb_calls.specs.Cells as calls

@@ -1,8 +1,8 @@
 -- What a display is made from, in the words of the layers' contracts.
 use Rattle.std.specs.Prelude.{ℕ, Bool, Option}
-use Rattle.tsb_types.specs.declared.flow.Intervals.{Intervals}
-use Rattle.tsb_types.specs.declared.flow.Pedestrians.{Pedestrians}
-use Rattle.tsb_plan.specs.Plan.{Plan}
+use Rattle.tsb_step.specs.tsb_types.declared.flow.Intervals.{Intervals}
+use Rattle.tsb_step.specs.tsb_types.declared.flow.Pedestrians.{Pedestrians}
+use Rattle.tsb_step.specs.tsb_plan.Plan.{Plan}
 use Rattle.tsb_phase.specs.Promises.{TellsIntervals, TellsPedestrians}
 use Rattle.tsb_ring.specs.Promises.{TellsCommitment}
 use Rattle.tsb_heads.specs.declared.display.Display.{Display}

@@ -3,8 +3,8 @@
 use Rattle.std.specs.Prelude.{◌≡◌, ℕ, ◌-◌, ◌≤◌, List, [], ◌++◌, length}
 use Rattle.tsb_cells.specs.Diff.{diff, apply_diff, part, shifted, AreWithin}
 use Rattle.tsb_history.specs.History.{Change}
-use Rattle.tsb_plan.specs.declared.object.TheConstants.{PLAN_CELLS}
-use Rattle.tsb_plan.specs.PlanOf.{plan_in}
+use Rattle.tsb_step.specs.tsb_plan.declared.object.TheConstants.{PLAN_CELLS}
+use Rattle.tsb_step.specs.tsb_plan.PlanOf.{plan_in}
 use Rattle.tsb_transact.specs.Cells as desk
 use Rattle.tsb_transact.specs.Cells.{desk_in}
 use Rattle.tsb_transact.specs.declared.TheConstants.{CELLS as DESK_CELLS}

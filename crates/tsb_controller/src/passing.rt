@@ -1,9 +1,9 @@
 //! Ticks that may be passed over, as they change nothing while the inputs stay.
 ghost use Rattle.std.specs.Prelude.{◌≡◌, ℕ, ◌+◌, ◌-◌, ◌<◌, ◌≤◌, false, Some, None};
 ghost use Rattle.tsb_objects.specs.Checked.{checked_plan};
-ghost use Rattle.tsb_plan.specs.PlanOf.{plan_of};
-ghost use Rattle.tsb_types.specs.Flow.{target_of};
-ghost use Rattle.tsb_types.specs.Sets.{has};
+ghost use Rattle.tsb_step.specs.tsb_plan.PlanOf.{plan_of};
+ghost use Rattle.tsb_step.specs.tsb_types.Flow.{target_of};
+ghost use Rattle.tsb_step.specs.tsb_types.Sets.{has};
 ghost use Rattle.tsb_coord.specs.Cells as coord;
 ghost use Rattle.tsb_preempt.specs.Preempts.{is_outside};
 ghost use Rattle.tsb_step.specs.Step.{last_tick};

@@ -2,9 +2,9 @@
 //! or a switch would be refused; and layers, lent to those who read what they are in.
 ghost use Rattle.std.specs.Prelude.{◌≡◌, ◌≤◌, ◌||◌, false, is_some};
 ghost use Rattle.std.specs.List.{list_any};
-ghost use Rattle.tsb_types.specs.Flow.{interval_of};
-ghost use Rattle.tsb_types.specs.Intervals.{in_service};
-ghost use Rattle.tsb_types.specs.Lists.{run_from};
+ghost use Rattle.tsb_step.specs.tsb_types.Flow.{interval_of};
+ghost use Rattle.tsb_step.specs.tsb_types.Intervals.{in_service};
+ghost use Rattle.tsb_step.specs.tsb_types.Lists.{run_from};
 ghost use Rattle.tsb_objects.specs.Checked.{checked_plan};
 ghost use Rattle.tsb_coord.specs.Coordinated.{refusal};
 ghost use Rattle.tsb_preempt.specs.Preempts.{switch_refusal};

@@ -1,7 +1,7 @@
 //! The values that the layers give one another in a tick, put together.
 ghost use Rattle.std.specs.Prelude.{◌≡◌, ℕ, ◌||◌, length};
-ghost use Rattle.tsb_types.specs.Lists.{is};
-ghost use Rattle.tsb_types.specs.Sets.{has};
+ghost use Rattle.tsb_step.specs.tsb_types.Lists.{is};
+ghost use Rattle.tsb_step.specs.tsb_types.Sets.{has};
 ghost use Rattle.tsb_phase.specs.Counts.{AreCounts};
 ghost use Rattle.tsb_controller.specs.Found.{observed, orders, for_rings, AreConditions, AreDecided};
 

@@ -1,7 +1,7 @@
 -- The cell of coordination and the pattern that it says.
 use Rattle.std.proofs.Common.{zero, suc, ◌≡◌, ℕ, ◌≤◌, List, [], ◌∷◌, length, ◌==◌, Option, Some, None, refl, arith}
 use Rattle.std.proofs.lemmas.Bool.{cond-false, ne_eqb}
-use Rattle.tsb_plan.specs.Parts.{unless_zero}
+use Rattle.tsb_objects.specs.tsb_plan.Parts.{unless_zero}
 use Rattle.tsb_coord.specs.Cells.{pattern_in, pattern_cells, IsBy}
 use Rattle.tsb_coord.specs.Laws.{IsSelectable}
 

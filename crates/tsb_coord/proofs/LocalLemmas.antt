@@ -3,14 +3,14 @@ use Rattle.std.proofs.Common.{zero, suc, ◌≡◌, ℕ, ◌+◌, ◌-◌, ◌*�
 use Rattle.std.proofs.Math.Nat.{div-add-mod', mod-lt, mod-add-mod, add-mul-mod_self_right, mul-mod_left}
 use Rattle.std.proofs.lemmas.Bool.{and_parts, leb-true}
 use Rattle.std.proofs.lemmas.Bool.Decides.{nat_tests}
-use Rattle.tsb_types.specs.Lists.{run_from, first, or_number}
-use Rattle.tsb_plan.specs.Plan.{Plan, is_enabled, yellow_change, red_clear}
-use Rattle.tsb_plan.specs.Parts.{is_used, cycle, offset, split_of, is_coordinated}
-use Rattle.tsb_plan.specs.Running.{is_coordinated_now, coordinates_in}
-use Rattle.tsb_rules.specs.Consistent.{IsPhase, IsWhole}
-use Rattle.tsb_rules.specs.PatternRules.{split_end}
-use Rattle.tsb_rules.specs.Rules.{first_broken}
-use Rattle.tsb_rules.proofs.ConsistentLemmas.{whole, coordinated}
+use Rattle.tsb_objects.specs.tsb_types.Lists.{run_from, first, or_number}
+use Rattle.tsb_objects.specs.tsb_plan.Plan.{Plan, is_enabled, yellow_change, red_clear}
+use Rattle.tsb_objects.specs.tsb_plan.Parts.{is_used, cycle, offset, split_of, is_coordinated}
+use Rattle.tsb_objects.specs.tsb_plan.Running.{is_coordinated_now, coordinates_in}
+use Rattle.tsb_objects.specs.tsb_rules.Consistent.{IsPhase, IsWhole}
+use Rattle.tsb_objects.specs.tsb_rules.PatternRules.{split_end}
+use Rattle.tsb_objects.specs.tsb_rules.Rules.{first_broken}
+use Rattle.tsb_objects.proofs.tsb_rules.ConsistentLemmas.{whole, coordinated}
 use Rattle.tsb_coord.specs.Coordinated.{counter, local, residue_of_difference, end_in, end_of, instant_from, reference, instant_by, force_off, agree, asks_force_off, is_pattern}
 use Rattle.tsb_coord.specs.Laws.{clear_of}
 

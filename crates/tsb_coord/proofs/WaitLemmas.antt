@@ -3,14 +3,14 @@ use Rattle.std.proofs.Common.{zero, suc, ◌≡◌, ◌≢◌, ℕ, ◌+◌, ◌
 use Rattle.std.proofs.Math.Nat.{mod-eq_of_lt, mod-lt, add-mul-mod_self_right}
 use Rattle.std.proofs.lemmas.Bool.{cases_lt, ne_eqb, eq-eqb}
 use Rattle.std.proofs.lemmas.Bool.Decides.{nat_tests}
-use Rattle.tsb_types.specs.Lists.{first, run_from}
-use Rattle.tsb_plan.specs.Plan.{Plan, is_enabled}
-use Rattle.tsb_plan.specs.declared.object.Object.TheVariants.{PatternCycleTime}
-use Rattle.tsb_plan.specs.Parts.{is_used, cycle, offset}
-use Rattle.tsb_plan.specs.Running.{running, coordinates_in, is_coordinated_now}
-use Rattle.tsb_rules.specs.Rules.{first_broken}
-use Rattle.tsb_rules.specs.Consistent.{IsWhole, AreCoordinated}
-use Rattle.tsb_rules.proofs.ConsistentLemmas.{whole, coordinated}
+use Rattle.tsb_objects.specs.tsb_types.Lists.{first, run_from}
+use Rattle.tsb_objects.specs.tsb_plan.Plan.{Plan, is_enabled}
+use Rattle.tsb_objects.specs.tsb_plan.declared.object.Object.TheVariants.{PatternCycleTime}
+use Rattle.tsb_objects.specs.tsb_plan.Parts.{is_used, cycle, offset}
+use Rattle.tsb_objects.specs.tsb_plan.Running.{running, coordinates_in, is_coordinated_now}
+use Rattle.tsb_objects.specs.tsb_rules.Rules.{first_broken}
+use Rattle.tsb_objects.specs.tsb_rules.Consistent.{IsWhole, AreCoordinated}
+use Rattle.tsb_objects.proofs.tsb_rules.ConsistentLemmas.{whole, coordinated}
 use Rattle.tsb_coord.specs.declared.coordination.Coordination.{Coordination}
 use Rattle.tsb_coord.specs.Cells.{pattern_in}
 use Rattle.tsb_coord.specs.Coordinated.{counter, local_in, instant_from, reference, force_off, agree, asks_force_off}

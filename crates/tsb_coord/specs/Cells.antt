@@ -4,8 +4,8 @@
 -- |---|---|
 -- | 0 | the pattern that is selected, 1 to 16; 0 for none, which is free operation |
 use Rattle.std.specs.Prelude.{◌≡◌, ℕ, ◌≤◌, List, [], ◌∷◌, length, Option, slice_index}
-use Rattle.tsb_types.specs.Lists.{or_number}
-use Rattle.tsb_plan.specs.Parts.{unless_zero}
+use Rattle.tsb_objects.specs.tsb_types.Lists.{or_number}
+use Rattle.tsb_objects.specs.tsb_plan.Parts.{unless_zero}
 use Rattle.tsb_coord.specs.declared.TheConstants.{CELLS}
 
 -- the pattern that is selected

@@ -7,11 +7,11 @@
 -- `t` is the number of this tick, and `selected` the pattern that the operator selected, if any. Times are in ticks,
 -- which are tenths of a second. All is found from these and the plan, so the only state is which pattern is selected.
 use Rattle.std.specs.Prelude.{ℕ, ◌+◌, ◌-◌, ◌%◌, ◌==◌, nat_le, Bool, ◌&&◌, ◌||◌, if◌then◌else◌, List, Option, Some, None}
-use Rattle.tsb_types.specs.declared.refusal.Refusal.{Refusal}
-use Rattle.tsb_types.specs.declared.refusal.Refusal.TheVariants.{NoSuchPattern}
-use Rattle.tsb_plan.specs.Plan.{Plan, sequence}
-use Rattle.tsb_plan.specs.Parts.{is_used, cycle, offset, unless_zero}
-use Rattle.tsb_plan.specs.Running.{running, sequence_in_effect, is_coordinated_now, is_omitted_now}
+use Rattle.tsb_objects.specs.tsb_types.declared.refusal.Refusal.{Refusal}
+use Rattle.tsb_objects.specs.tsb_types.declared.refusal.Refusal.TheVariants.{NoSuchPattern}
+use Rattle.tsb_objects.specs.tsb_plan.Plan.{Plan, sequence}
+use Rattle.tsb_objects.specs.tsb_plan.Parts.{is_used, cycle, offset, unless_zero}
+use Rattle.tsb_objects.specs.tsb_plan.Running.{running, sequence_in_effect, is_coordinated_now, is_omitted_now}
 pub use Rattle.tsb_objects.specs.Instants.{residue_of_difference, end_in, end_of, instant_from, is_same_from_both, reference, instant_by, agree}
 -- re-exported as well: the instant with which the local counter is compared
 unfoldable pub use Rattle.tsb_objects.specs.Instants.{force_off}

@@ -1,8 +1,8 @@
 -- When the orders of coordination may next be others: the clauses of `Coord::due`, over the cell `row` and a tick
 -- `now`.
 use Rattle.std.specs.Prelude.{◌≡◌, ℕ, ◌+◌, ◌%◌, ◌<◌, ◌⊎◌, true, List, Option, Some, None}
-use Rattle.tsb_plan.specs.Plan.{Plan}
-use Rattle.tsb_plan.specs.Running.{running}
+use Rattle.tsb_objects.specs.tsb_plan.Plan.{Plan}
+use Rattle.tsb_objects.specs.tsb_plan.Running.{running}
 use Rattle.tsb_coord.specs.declared.coordination.Coordination.{Coordination}
 use Rattle.tsb_coord.specs.Cells.{pattern_in}
 use Rattle.tsb_coord.specs.Coordinated.{agree, asks_force_off}

@@ -2,10 +2,10 @@
 -- and that the cell of coordination is that of what it says. Each law here is the contract of a function in
 -- src/laws.rt, and proved there.
 use Rattle.std.specs.Prelude.{◌≡◌, ℕ, ◌+◌, ◌≤◌, true, List, Option, Some}
-use Rattle.tsb_plan.specs.Plan.{Plan, yellow_change, red_clear}
-use Rattle.tsb_plan.specs.Parts.{cycle}
-use Rattle.tsb_plan.specs.Running.{is_coordinated_now}
-use Rattle.tsb_rules.specs.Consistent.{IsPhase}
+use Rattle.tsb_objects.specs.tsb_plan.Plan.{Plan, yellow_change, red_clear}
+use Rattle.tsb_objects.specs.tsb_plan.Parts.{cycle}
+use Rattle.tsb_objects.specs.tsb_plan.Running.{is_coordinated_now}
+use Rattle.tsb_objects.specs.tsb_rules.Consistent.{IsPhase}
 use Rattle.tsb_coord.specs.Cells.{pattern_in, pattern_cells, IsBy}
 use Rattle.tsb_coord.specs.Coordinated.{local, residue_of_difference, end_of, asks_force_off, is_pattern}
 

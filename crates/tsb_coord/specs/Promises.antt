@@ -1,11 +1,11 @@
 -- The contracts of the public calls of `Coord`, clause by clause, over its cells: `old` before a call, `new` after it.
 -- docs/CONTRACTS.md says which value comes from which layer.
 use Rattle.std.specs.Prelude.{◌≡◌, ℕ, ◌≤◌, List, Option, Some, None, Result}
-use Rattle.tsb_types.specs.declared.refusal.Refusal.{Refusal}
-use Rattle.tsb_types.specs.Flow.{answered}
-use Rattle.tsb_types.specs.Sets.{has}
-use Rattle.tsb_plan.specs.Plan.{Plan}
-use Rattle.tsb_plan.specs.Running.{running}
+use Rattle.tsb_objects.specs.tsb_types.declared.refusal.Refusal.{Refusal}
+use Rattle.tsb_objects.specs.tsb_types.Flow.{answered}
+use Rattle.tsb_objects.specs.tsb_types.Sets.{has}
+use Rattle.tsb_objects.specs.tsb_plan.Plan.{Plan}
+use Rattle.tsb_objects.specs.tsb_plan.Running.{running}
 use Rattle.tsb_coord.specs.declared.coordination.Coordination.{Coordination}
 use Rattle.tsb_coord.specs.Coordinated.{at_power_up, local, asks_force_off, asks_hold, asks_omit, sequence_now, refusal, selects}
 use Rattle.tsb_coord.specs.Cells.{pattern_in}

@@ -1,13 +1,13 @@
 //! Coordination over its cell.
 ghost use Rattle.std.specs.Prelude.{◌≡◌, ◌≢◌, ℕ, ◌+◌, ◌<◌, ◌≤◌, ◌^◌, ◌++◌, true, false, Some, None, IfSome, slice_index, length};
 ghost use Rattle.arrayvec.specs.ArrayVec.{array_vec_len};
-ghost use Rattle.tsb_types.specs.declared.limits.TheConstants.{TICKS};
+ghost use Rattle.tsb_objects.specs.tsb_types.declared.limits.TheConstants.{TICKS};
 ghost use Rattle.tsb_cells.specs.Diff.{diff, shifted};
-ghost use Rattle.tsb_plan.specs.Parts.{is_used};
+ghost use Rattle.tsb_objects.specs.tsb_plan.Parts.{is_used};
 ghost use Rattle.tsb_objects.specs.Checked.{checked_plan};
-ghost use Rattle.tsb_plan.specs.Running.{running};
-ghost use Rattle.tsb_types.specs.declared.refusal.Refusal.{Refusal};
-ghost use Rattle.tsb_types.specs.Sets.{has};
+ghost use Rattle.tsb_objects.specs.tsb_plan.Running.{running};
+ghost use Rattle.tsb_objects.specs.tsb_types.declared.refusal.Refusal.{Refusal};
+ghost use Rattle.tsb_objects.specs.tsb_types.Sets.{has};
 ghost use Rattle.tsb_coord.specs.declared.TheConstants.{CELLS};
 ghost use Rattle.tsb_coord.specs.Cells.{pattern_in, IsBy};
 ghost use Rattle.tsb_coord.specs.Coordinated.{refusal};

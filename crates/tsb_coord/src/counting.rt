@@ -1,7 +1,7 @@
 //! The local counter.
 ghost use Rattle.std.specs.Prelude.{◌≡◌, ◌≤◌, ◌<◌, true};
-ghost use Rattle.tsb_types.specs.declared.limits.TheConstants.{TICKS};
-ghost use Rattle.tsb_plan.specs.Parts.{cycle, is_used};
+ghost use Rattle.tsb_objects.specs.tsb_types.declared.limits.TheConstants.{TICKS};
+ghost use Rattle.tsb_objects.specs.tsb_plan.Parts.{cycle, is_used};
 ghost use Rattle.tsb_objects.specs.Checked.{checked_plan};
 ghost use Rattle.tsb_coord.specs.Coordinated.{counter};
 

@@ -1,6 +1,6 @@
 //! What holds of coordination in every plan that meets the rules, and of its cell, each law the contract of a function
 //! that does nothing.
-ghost use Rattle.tsb_rules.specs.Consistent.{OfConsistentPlans};
+ghost use Rattle.tsb_objects.specs.tsb_rules.Consistent.{OfConsistentPlans};
 ghost use Rattle.tsb_coord.specs.Laws.{EndWithTheirSplits, CoordinatedEndAtZero, RowsAreTold, StatesAreRead, StatesAreBy};
 
 /// A phase that is forced off at its instant has time to clear by the end of its split. Its yellow change and red

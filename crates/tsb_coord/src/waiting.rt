@@ -1,6 +1,6 @@
 //! How long the local counter takes to the next force-off instant.
 ghost use Rattle.std.specs.Prelude.{◌≡◌, ◌≤◌, ◌<◌, ◌+◌, ◌%◌, ◌⊎◌, ℕ, true, false, Some, IfSome};
-ghost use Rattle.tsb_plan.specs.Parts.{cycle, is_used};
+ghost use Rattle.tsb_objects.specs.tsb_plan.Parts.{cycle, is_used};
 ghost use Rattle.tsb_objects.specs.Checked.{checked_plan};
 ghost use Rattle.tsb_coord.specs.Coordinated.{force_off, agree};
 ghost use Rattle.tsb_coord.specs.Due.{IsMet};

@@ -1,9 +1,9 @@
 -- Ticks that leave all detectors as they are.
 use Rattle.std.proofs.Common.{◌≡◌, ℕ, ◌+◌, ◌-◌, ◌%◌, ◌<◌, ◌≤◌, false, List, arith, inl, inr}
 use Rattle.std.proofs.lemmas.Bool.Decides.{eqb_tells}
-use Rattle.tsb_types.specs.declared.row.Row.{Row}
-use Rattle.tsb_types.specs.Sets.{has_number}
-use Rattle.tsb_plan.specs.Plan.{Plan}
+use Rattle.tsb_objects.specs.tsb_types.declared.row.Row.{Row}
+use Rattle.tsb_objects.specs.tsb_types.Sets.{has_number}
+use Rattle.tsb_objects.specs.tsb_plan.Plan.{Plan}
 use Rattle.tsb_detect.specs.Detector.{is_minute}
 use Rattle.tsb_detect.specs.Cells.{IsBy, row_in}
 use Rattle.tsb_detect.specs.Promises.{IsQuiet}

@@ -4,9 +4,9 @@ use Rattle.std.proofs.lemmas.Bool.Decides.{nat_tests}
 use Rattle.tsb_cells.specs.declared.timer.Timer.{Timer}
 use Rattle.tsb_cells.specs.declared.timer.Timer.TheVariants.{On}
 use Rattle.tsb_cells.specs.Timer.{timer_at}
-use Rattle.tsb_types.specs.Sets.{names, list_in}
-use Rattle.tsb_plan.specs.Plan.{Plan}
-use Rattle.tsb_plan.specs.Parts.{detector_delay}
+use Rattle.tsb_objects.specs.tsb_types.Sets.{names, list_in}
+use Rattle.tsb_objects.specs.tsb_plan.Plan.{Plan}
+use Rattle.tsb_objects.specs.tsb_plan.Parts.{detector_delay}
 use Rattle.tsb_detect.specs.declared.detector_row.DetectorRow.{DetectorRow}
 use Rattle.tsb_detect.specs.Detector.{is_minute, has_lasted, differs, change_timer, new_alarm}
 use Rattle.tsb_detect.specs.Cells.{row_in, detector_of, alarm_of_row, IsRowBy}

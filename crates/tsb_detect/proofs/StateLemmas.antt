@@ -6,16 +6,16 @@ use Rattle.std.proofs.lemmas.Bool.Decides.{nat_tests}
 use Rattle.tsb_cells.specs.declared.timer.Timer.{Timer}
 use Rattle.tsb_cells.specs.Timer.{timer_at, timer_cell}
 use Rattle.tsb_cells.proofs.TimerLemmas.{timer_at-timer_cell, timer_cell-le, timer_cell-on, timer_cell-off}
-use Rattle.tsb_types.specs.declared.row.Row.{Row}
-use Rattle.tsb_types.specs.Clip.{Agree}
-use Rattle.tsb_types.specs.Lists.{run_from}
-use Rattle.tsb_types.specs.Sets.{names, list_of, list_in, has_number}
-use Rattle.tsb_types.proofs.SetLemmas.{list_of-below}
-use Rattle.tsb_types.proofs.ClipLemmas.{IsAmong, among_16, is_phase_from}
+use Rattle.tsb_objects.specs.tsb_types.declared.row.Row.{Row}
+use Rattle.tsb_objects.specs.tsb_types.Clip.{Agree}
+use Rattle.tsb_objects.specs.tsb_types.Lists.{run_from}
+use Rattle.tsb_objects.specs.tsb_types.Sets.{names, list_of, list_in, has_number}
+use Rattle.tsb_objects.proofs.tsb_types.SetLemmas.{list_of-below}
+use Rattle.tsb_objects.proofs.tsb_types.ClipLemmas.{IsAmong, among_16, is_phase_from}
 use Rattle.tsb_cells.proofs.TableLemmas.{front-read, column-read, length-column, list-read}
-use Rattle.tsb_plan.specs.Plan.{Plan}
-use Rattle.tsb_plan.specs.Parts.{call_phase, unless_zero}
-use Rattle.tsb_plan.specs.declared.object.Object.TheVariants.{VehicleDetectorCallPhase}
+use Rattle.tsb_objects.specs.tsb_plan.Plan.{Plan}
+use Rattle.tsb_objects.specs.tsb_plan.Parts.{call_phase, unless_zero}
+use Rattle.tsb_objects.specs.tsb_plan.declared.object.Object.TheVariants.{VehicleDetectorCallPhase}
 use Rattle.tsb_detect.specs.declared.TheConstants.{CELLS}
 use Rattle.tsb_detect.specs.declared.alarm.Alarm.{Alarm}
 use Rattle.tsb_detect.specs.declared.alarm.Alarm.TheVariants.{NoActivity, MaxPresence, Erratic}

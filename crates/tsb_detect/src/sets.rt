@@ -1,6 +1,6 @@
 //! Sets of detectors: `NumberSet`, by detectors in place of numbers.
 ghost use Rattle.std.specs.Prelude.{◌≡◌, ◌≢◌, ℕ, ◌≤◌, true, false};
-ghost use Rattle.tsb_types.specs.Sets.{has_number};
+ghost use Rattle.tsb_objects.specs.tsb_types.Sets.{has_number};
 
 use tsb_objects::{Detector, NumberSet};
 

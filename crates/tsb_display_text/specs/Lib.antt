@@ -1,2 +1,4 @@
 -- the display line, byte by byte: its letters and digits, its fields, and the whole
 pub mod Line
+-- the names of crates below, for those above
+pub use Rattle.tsb_heads.specs as tsb_heads

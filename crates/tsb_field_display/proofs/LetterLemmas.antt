@@ -5,7 +5,7 @@ use Rattle.std.proofs.lemmas.Bool.{eqb-true, ne_eqb}
 use Rattle.std.proofs.lemmas.Nat.Bits.{bit_at_lowest, bit_at-suc}
 use Rattle.tsb_types.specs.Sets.{names, has_number}
 use Rattle.tsb_types.proofs.SetLemmas.{names-zero, lowest, higher}
-use Rattle.tsb_heads.specs.Promises.{IsApart}
+use Rattle.tsb_display_text.specs.tsb_heads.Promises.{IsApart}
 use Rattle.tsb_field_display.specs.Reading.{list_with, vehicles_of, pedestrians_of}
 
 -- the first head has this letter where the first letter is this one

@@ -11,7 +11,7 @@ use Rattle.tsb_types.specs.declared.lamp.Aspect.{Aspect}
 use Rattle.tsb_types.specs.declared.lamp.Aspect.TheVariants.{Dark, Red, Yellow, Green, FlashingRed}
 use Rattle.tsb_types.specs.declared.lamp.PedestrianAspect.{PedestrianAspect}
 use Rattle.tsb_types.specs.declared.lamp.PedestrianAspect.TheVariants as pedestrian_aspects
-use Rattle.tsb_heads.specs.Heads.{Heads}
+use Rattle.tsb_display_text.specs.tsb_heads.Heads.{Heads}
 use Rattle.tsb_lines.specs.Digits.{digit}
 use Rattle.tsb_display_text.specs.Line.{line_of, letter, pedestrian_letter, tick_field, vehicle_field, pedestrian_field, overlap_field, local_field, preempt_digit}
 use Rattle.tsb_field_display.specs.Shows.{aspect_of, pedestrian_aspect_of}

@@ -1,7 +1,7 @@
 -- What holds of display lines and their events, in words that do not retrace how they are found. Each law here is the
 -- contract of a function in src/laws.rt.
 use Rattle.std.specs.Prelude.{◌≡◌, ℕ, ◌<◌, ◌≤◌, List, [], ◌∷◌, ◌++◌, Option, Some, IfSome}
-use Rattle.tsb_heads.specs.Heads.{Heads}
+use Rattle.tsb_display_text.specs.tsb_heads.Heads.{Heads}
 use Rattle.tsb_display_text.specs.Line.{line_of}
 use Rattle.tsb_field_display.specs.declared.shown.Signals.{Signals}
 use Rattle.tsb_field_display.specs.declared.shown.Shown.{Shown}

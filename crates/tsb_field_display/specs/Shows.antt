@@ -7,7 +7,7 @@ use Rattle.tsb_types.specs.declared.lamp.Aspect.TheVariants.{Dark, Red, Yellow, 
 use Rattle.tsb_types.specs.declared.lamp.PedestrianAspect.{PedestrianAspect}
 use Rattle.tsb_types.specs.declared.lamp.PedestrianAspect.TheVariants as pedestrian_aspects
 use Rattle.tsb_types.specs.declared.number_set.NumberSet.{NumberSet}
-use Rattle.tsb_heads.specs.Promises.{IsApart}
+use Rattle.tsb_display_text.specs.tsb_heads.Promises.{IsApart}
 use Rattle.tsb_field_display.specs.declared.shown.VehicleHeads.{VehicleHeads}
 use Rattle.tsb_field_display.specs.declared.shown.PedestrianHeads.{PedestrianHeads}
 use Rattle.tsb_field_display.specs.declared.shown.Signals.{Signals}

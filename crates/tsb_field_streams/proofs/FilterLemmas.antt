@@ -4,7 +4,7 @@ use Rattle.std.proofs.Math.Nat.{div-mul-le_self}
 use Rattle.std.proofs.lemmas.Nat.{le-div}
 use Rattle.std.proofs.lemmas.Bool.{lt-ltb, le-ltb}
 use Rattle.std.proofs.lemmas.Bool.Decides.{leb_tells}
-use Rattle.tsb_types.specs.declared.limits.TheConstants.{TICKS}
+use Rattle.tsb_log_text.specs.tsb_types.declared.limits.TheConstants.{TICKS}
 use Rattle.tsb_event_text.specs.declared.rows.EventRow.{EventRow}
 use Rattle.tsb_field_log.specs.declared.inputs.Wire.{Wire}
 use Rattle.tsb_field_log.specs.declared.inputs.Signal.{Signal}

@@ -2,15 +2,15 @@
 -- 1 to 16; and heads that stay are let pass again.
 use Rattle.std.proofs.Common.{◌≡◌, ℕ, ◌+◌, ◌<◌, ◌≤◌, Bool, true, false, not, ◌&&◌, ◌||◌, if◌then◌else◌, Option, Some, None, is_some, refl, ap, ap₂, ◌∙◌, arith}
 use Rattle.std.specs.Option.{option_map, option_or}
-use Rattle.tsb_types.specs.declared.interval.Interval.{Interval}
-use Rattle.tsb_types.specs.declared.lamp.Lamp.TheVariants as lamps
-use Rattle.tsb_types.specs.declared.lamp.Aspect.{Aspect}
-use Rattle.tsb_types.specs.declared.lamp.Aspect.TheVariants.{Dark, Red, Yellow, Green, FlashingRed}
-use Rattle.tsb_types.specs.Intervals.{is_green, is_yellow, is_red_clear}
-use Rattle.tsb_types.specs.Lists.{first, run_from}
-use Rattle.tsb_plan.specs.Plan.{Plan, phases, ring_of}
-use Rattle.tsb_plan.specs.Parts.{is_included, is_modifier}
-use Rattle.tsb_rules.specs.PatternRules.{some_and}
+use Rattle.tsb_objects.specs.tsb_types.declared.interval.Interval.{Interval}
+use Rattle.tsb_objects.specs.tsb_types.declared.lamp.Lamp.TheVariants as lamps
+use Rattle.tsb_objects.specs.tsb_types.declared.lamp.Aspect.{Aspect}
+use Rattle.tsb_objects.specs.tsb_types.declared.lamp.Aspect.TheVariants.{Dark, Red, Yellow, Green, FlashingRed}
+use Rattle.tsb_objects.specs.tsb_types.Intervals.{is_green, is_yellow, is_red_clear}
+use Rattle.tsb_objects.specs.tsb_types.Lists.{first, run_from}
+use Rattle.tsb_objects.specs.tsb_plan.Plan.{Plan, phases, ring_of}
+use Rattle.tsb_objects.specs.tsb_plan.Parts.{is_included, is_modifier}
+use Rattle.tsb_objects.specs.tsb_rules.PatternRules.{some_and}
 use Rattle.tsb_heads.specs.declared.monitor.Trip.{Trip}
 use Rattle.tsb_heads.specs.declared.monitor.Trip.TheVariants.{Conflict, GreenToRed}
 use Rattle.tsb_heads.specs.Heads.{Shown, Heads}
@@ -21,9 +21,9 @@ use Rattle.tsb_heads.specs.Monitoring.{is_red, are_in_conflict, conflict_of, con
 use Rattle.tsb_heads.specs.Reading.{shown_by, heads_of, heads_of_field}
 use Rattle.tsb_heads.specs.Promises.{IsSame}
 use Rattle.tsb_heads.specs.Laws.{AreAlike, ShowAlike, DisplaysLookOnlyAtTheirOwn, LampsLookOnlyAtTheirOwn, FieldsAreTold, MonitorsLookOnlyAtTheirOwn, StayingHeadsPass, PassedHeadsPassAgain}
-use Rattle.tsb_types.proofs.FirstLemmas.{first-none}
-use Rattle.tsb_types.proofs.FirstLemmas.{first-within}
-use Rattle.tsb_types.proofs.ClipLemmas.{any-agree, first-agree}
+use Rattle.tsb_objects.proofs.tsb_types.FirstLemmas.{first-none}
+use Rattle.tsb_objects.proofs.tsb_types.FirstLemmas.{first-within}
+use Rattle.tsb_objects.proofs.tsb_types.ClipLemmas.{any-agree, first-agree}
 
 -- ## Displays
 

@@ -1,9 +1,9 @@
 -- What heads show beside red and green, as tests.
 use Rattle.std.specs.Prelude.{Bool, true, false}
-use Rattle.tsb_types.specs.declared.lamp.Aspect.{Aspect}
-use Rattle.tsb_types.specs.declared.lamp.Aspect.TheVariants.{Dark, Red, Yellow, Green, FlashingRed}
-use Rattle.tsb_types.specs.declared.lamp.PedestrianAspect.{PedestrianAspect}
-use Rattle.tsb_types.specs.declared.lamp.PedestrianAspect.TheVariants as pedestrian_aspects
+use Rattle.tsb_objects.specs.tsb_types.declared.lamp.Aspect.{Aspect}
+use Rattle.tsb_objects.specs.tsb_types.declared.lamp.Aspect.TheVariants.{Dark, Red, Yellow, Green, FlashingRed}
+use Rattle.tsb_objects.specs.tsb_types.declared.lamp.PedestrianAspect.{PedestrianAspect}
+use Rattle.tsb_objects.specs.tsb_types.declared.lamp.PedestrianAspect.TheVariants as pedestrian_aspects
 
 -- the steady yellow of a yellow change; flash shows no yellow
 abbrev pub is_yellow : Aspect → Bool

@@ -1,11 +1,11 @@
 -- Laws of displays and of the monitor. Each is the contract of a function in src/laws.rt, and proved there.
 use Rattle.std.specs.Prelude.{◌≡◌, ℕ, ◌≤◌, false, true, Option, None}
-use Rattle.tsb_types.specs.declared.flow.Intervals.{Intervals}
-use Rattle.tsb_types.specs.declared.flow.Pedestrians.{Pedestrians}
-use Rattle.tsb_types.specs.declared.lamp.Lamp.{Lamp}
-use Rattle.tsb_plan.specs.Plan.{Plan}
-use Rattle.tsb_rules.specs.Consistent.{IsPhase}
-use Rattle.tsb_rules.specs.Rules.{first_broken}
+use Rattle.tsb_objects.specs.tsb_types.declared.flow.Intervals.{Intervals}
+use Rattle.tsb_objects.specs.tsb_types.declared.flow.Pedestrians.{Pedestrians}
+use Rattle.tsb_objects.specs.tsb_types.declared.lamp.Lamp.{Lamp}
+use Rattle.tsb_objects.specs.tsb_plan.Plan.{Plan}
+use Rattle.tsb_objects.specs.tsb_rules.Consistent.{IsPhase}
+use Rattle.tsb_objects.specs.tsb_rules.Rules.{first_broken}
 use Rattle.tsb_heads.specs.declared.display.Display.{Display}
 use Rattle.tsb_heads.specs.declared.field.Field.{Field}
 use Rattle.tsb_heads.specs.Heads.{Shown, Heads}

@@ -1,8 +1,8 @@
 -- What the heads of phases show, read from the sets of phases.
 use Rattle.std.specs.Prelude.{ℕ}
-use Rattle.tsb_types.specs.declared.lamp.Aspect.{Aspect}
-use Rattle.tsb_types.specs.declared.lamp.PedestrianAspect.{PedestrianAspect}
-use Rattle.tsb_types.specs.Sets.{has}
+use Rattle.tsb_objects.specs.tsb_types.declared.lamp.Aspect.{Aspect}
+use Rattle.tsb_objects.specs.tsb_types.declared.lamp.PedestrianAspect.{PedestrianAspect}
+use Rattle.tsb_objects.specs.tsb_types.Sets.{has}
 use Rattle.tsb_heads.specs.declared.phase_heads.Vehicles.{Vehicles}
 use Rattle.tsb_heads.specs.declared.phase_heads.Walkers.{Walkers}
 use Rattle.tsb_heads.specs.Reading.{aspect_in, pedestrian_aspect_in}

@@ -1,7 +1,7 @@
 //! The field: what the lamps of the heads show, with an injected lamp laid over the display.
 ghost use Rattle.std.specs.Prelude.{◌≡◌, ◌≢◌, ◌≤◌, ℕ, false, Some};
-ghost use Rattle.tsb_types.specs.declared.lamp.Lamp.TheVariants as lamps;
-ghost use Rattle.tsb_types.specs.Sets.{has_number};
+ghost use Rattle.tsb_objects.specs.tsb_types.declared.lamp.Lamp.TheVariants as lamps;
+ghost use Rattle.tsb_objects.specs.tsb_types.Sets.{has_number};
 ghost use Rattle.tsb_heads.specs.Displays.{laid_over};
 ghost use Rattle.tsb_heads.specs.Reading.{heads_of, display_of};
 ghost use Rattle.tsb_heads.specs.Promises.{IsSame, Flashes, AreApart, NamesOverlaps, IsLaidOver};

@@ -1,7 +1,7 @@
 //! What the heads of all overlaps show, as sets of overlaps.
 ghost use Rattle.std.specs.Prelude.{◌≡◌, ◌≢◌, ◌<◌, ◌≤◌, ℕ, false};
-ghost use Rattle.tsb_types.specs.declared.lamp.Aspect.TheVariants.{FlashingRed};
-ghost use Rattle.tsb_types.specs.Sets.{has_number};
+ghost use Rattle.tsb_objects.specs.tsb_types.declared.lamp.Aspect.TheVariants.{FlashingRed};
+ghost use Rattle.tsb_objects.specs.tsb_types.Sets.{has_number};
 ghost use Rattle.tsb_objects.specs.Checked.{checked_plan};
 ghost use Rattle.tsb_heads.specs.Heads.{Shown};
 ghost use Rattle.tsb_heads.specs.Overlaps.{overlap_head};

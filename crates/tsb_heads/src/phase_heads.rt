@@ -1,10 +1,10 @@
 //! What the heads of all phases show, as sets of phases.
 ghost use Rattle.std.specs.Prelude.{◌≡◌, ℕ, if◌then◌else◌, ◌&&◌, ◌||◌, not};
-ghost use Rattle.tsb_types.specs.declared.lamp.Aspect.TheVariants.{Dark};
-ghost use Rattle.tsb_types.specs.declared.lamp.PedestrianAspect.TheVariants as pedestrian_aspects;
-ghost use Rattle.tsb_types.specs.Flow.{interval_of, pedestrian_of};
-ghost use Rattle.tsb_types.specs.Intervals.{is_dont_walk};
-ghost use Rattle.tsb_types.specs.Sets.{has};
+ghost use Rattle.tsb_objects.specs.tsb_types.declared.lamp.Aspect.TheVariants.{Dark};
+ghost use Rattle.tsb_objects.specs.tsb_types.declared.lamp.PedestrianAspect.TheVariants as pedestrian_aspects;
+ghost use Rattle.tsb_objects.specs.tsb_types.Flow.{interval_of, pedestrian_of};
+ghost use Rattle.tsb_objects.specs.tsb_types.Intervals.{is_dont_walk};
+ghost use Rattle.tsb_objects.specs.tsb_types.Sets.{has};
 ghost use Rattle.tsb_heads.specs.Heads.{aspect_of, pedestrian_aspect_of};
 ghost use Rattle.tsb_heads.specs.PhaseHeads.{vehicle_aspect, pedestrian_aspect, VehiclesAreApart, WalkersAreApart};
 

@@ -4,11 +4,11 @@
 -- A plan here has 16 phases at most, as every plan in memory has: what the layers tell one another is of phases 1 to 16
 -- alone, so that a phase of a greater number would never be served.
 use Rattle.std.specs.Prelude.{◌≡◌, ℕ, ◌+◌, ◌≤◌, Bool, true, false, ◌||◌, List, [], ◌∷◌, ◌++◌, is_some}
-use Rattle.tsb_types.specs.Intervals.{in_service}
-use Rattle.tsb_types.specs.Lists.{some_passes}
-use Rattle.tsb_types.specs.declared.row.Row.{Row}
-use Rattle.tsb_plan.specs.declared.object.Object.{Object}
-use Rattle.tsb_plan.specs.Plan.{Plan, phases, red_revert}
+use Rattle.tsb_step.specs.tsb_types.Intervals.{in_service}
+use Rattle.tsb_step.specs.tsb_types.Lists.{some_passes}
+use Rattle.tsb_step.specs.tsb_types.declared.row.Row.{Row}
+use Rattle.tsb_step.specs.tsb_plan.declared.object.Object.{Object}
+use Rattle.tsb_step.specs.tsb_plan.Plan.{Plan, phases, red_revert}
 use Rattle.tsb_step.specs.declared.inputs.Input.{Input}
 use Rattle.tsb_step.specs.declared.inputs.Input.TheVariants.{Tick}
 use Rattle.tsb_step.specs.State.{State, interval}

@@ -1,13 +1,13 @@
 -- Plans as version 1 of plan texts gives them, value by value; and the built-in plans of two and of eight phases with 8
 -- phases and 2 sides.
 use Rattle.std.specs.Prelude.{ℕ, List, [], ◌∷◌, map}
-use Rattle.tsb_plan.specs.declared.object.Object.{Object}
-use Rattle.tsb_plan.specs.declared.object.Object.TheVariants.{OverlapIncludedPhases, PatternCycleTime, PatternOffsetTime, PatternSplitNumber, PatternSequenceNumber, SequenceData, PreemptMinimumDuration, PreemptMinimumGreen, PreemptMinimumWalk, PreemptEnterPedClear, PreemptDwellPhase, UnitRedRevert}
-use Rattle.tsb_plan.specs.declared.version.Version.TheVariants.{One}
-use Rattle.tsb_plan.specs.Plan.{Plan, with_values}
-use Rattle.tsb_plan.specs.Quad.{with_rows, quad_rows}
-use Rattle.tsb_plan.specs.Two.{two_values}
-use Rattle.tsb_plan.specs.Versions.{translated}
+use Rattle.tsb_step.specs.tsb_plan.declared.object.Object.{Object}
+use Rattle.tsb_step.specs.tsb_plan.declared.object.Object.TheVariants.{OverlapIncludedPhases, PatternCycleTime, PatternOffsetTime, PatternSplitNumber, PatternSequenceNumber, SequenceData, PreemptMinimumDuration, PreemptMinimumGreen, PreemptMinimumWalk, PreemptEnterPedClear, PreemptDwellPhase, UnitRedRevert}
+use Rattle.tsb_step.specs.tsb_plan.declared.version.Version.TheVariants.{One}
+use Rattle.tsb_step.specs.tsb_plan.Plan.{Plan, with_values}
+use Rattle.tsb_step.specs.tsb_plan.Quad.{with_rows, quad_rows}
+use Rattle.tsb_step.specs.tsb_plan.Two.{two_values}
+use Rattle.tsb_step.specs.tsb_plan.Versions.{translated}
 use Rattle.tsb_laws.specs.Widened.{IsOfTable}
 
 -- no object is given

@@ -5,10 +5,10 @@
 -- A plan here has 16 phases at most, as every plan in memory has: what the layers tell one another is of phases 1 to 16
 -- alone, so that a crossing to a phase of a greater number would wait for ever.
 use Rattle.std.specs.Prelude.{◌≡◌, ℕ, suc, ◌+◌, ◌<◌, ◌≤◌, true, List, ◌∷◌, ◌++◌, Some, None, ◌⊎◌}
-use Rattle.tsb_types.specs.declared.row.Row.{Row}
-use Rattle.tsb_types.specs.Intervals.{in_service}
-use Rattle.tsb_plan.specs.Plan.{Plan, yellow_change, red_clear, red_revert}
-use Rattle.tsb_ring.specs.Rings.{Ring}
+use Rattle.tsb_step.specs.tsb_types.declared.row.Row.{Row}
+use Rattle.tsb_step.specs.tsb_types.Intervals.{in_service}
+use Rattle.tsb_step.specs.tsb_plan.Plan.{Plan, yellow_change, red_clear, red_revert}
+use Rattle.tsb_step.specs.tsb_ring.Rings.{Ring}
 use Rattle.tsb_step.specs.declared.inputs.Input.{Input}
 use Rattle.tsb_step.specs.declared.inputs.Input.TheVariants.{Tick}
 use Rattle.tsb_step.specs.State.{interval}

@@ -1,9 +1,9 @@
 -- What holds of the desk after every run, as statements. Both are proved, each as a clause of the contract of a
 -- function that does nothing (src/desk_laws.rt).
 use Rattle.std.specs.Prelude.{◌≡◌, None}
-use Rattle.tsb_rules.specs.Rules.{first_broken}
-use Rattle.tsb_transact.specs.declared.desk_state.DeskState.TheVariants.{Done}
-use Rattle.tsb_transact.specs.Desk.{with_edits}
+use Rattle.tsb_step.specs.tsb_rules.Rules.{first_broken}
+use Rattle.tsb_step.specs.tsb_transact.declared.desk_state.DeskState.TheVariants.{Done}
+use Rattle.tsb_step.specs.tsb_transact.Desk.{with_edits}
 use Rattle.tsb_step.specs.Good.{AreFit}
 use Rattle.tsb_step.specs.Laws.{OfEveryRun}
 

@@ -4,12 +4,12 @@
 --
 -- Each time is by the plan in effect in the tick that ends what it times. That is why a commit between is no exception.
 use Rattle.std.specs.Prelude.{◌≡◌, ◌≢◌, ℕ, ◌+◌, ◌≤◌, Bool, false, not, ◌||◌, List, ◌∷◌, ◌++◌, Option}
-use Rattle.tsb_types.specs.declared.interval.Interval.{Interval}
-use Rattle.tsb_types.specs.declared.interval.PedestrianInterval.TheVariants.{Walk}
-use Rattle.tsb_types.specs.declared.row.Row.{Row}
-use Rattle.tsb_types.specs.Intervals.{is_yellow, is_red_clear, is_walk, is_dont_walk}
-use Rattle.tsb_plan.specs.Plan.{Plan, is_concurrent, yellow_change, red_clear}
-use Rattle.tsb_phase.specs.Pedestrian.{ended_by, walk_time, clearance_time}
+use Rattle.tsb_step.specs.tsb_types.declared.interval.Interval.{Interval}
+use Rattle.tsb_step.specs.tsb_types.declared.interval.PedestrianInterval.TheVariants.{Walk}
+use Rattle.tsb_step.specs.tsb_types.declared.row.Row.{Row}
+use Rattle.tsb_step.specs.tsb_types.Intervals.{is_yellow, is_red_clear, is_walk, is_dont_walk}
+use Rattle.tsb_step.specs.tsb_plan.Plan.{Plan, is_concurrent, yellow_change, red_clear}
+use Rattle.tsb_step.specs.tsb_phase.Pedestrian.{ended_by, walk_time, clearance_time}
 use Rattle.tsb_step.specs.declared.inputs.Input.{Input}
 use Rattle.tsb_step.specs.declared.inputs.Input.TheVariants.{Tick}
 use Rattle.tsb_step.specs.State.{State, interval, pedestrian_part}

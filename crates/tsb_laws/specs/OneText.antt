@@ -4,9 +4,9 @@
 -- All are proved, each as the contract of a function that does nothing (src/laws.rt).
 use Rattle.std.specs.Prelude.{◌≡◌, ◌⊎◌, ℕ, Bool, false, List, ◌++◌, Option, Some, Ok, bytes_eq}
 use Rattle.std.specs.List.{list_any}
-use Rattle.tsb_types.specs.declared.refusal.Refusal.TheVariants.{Memory}
+use Rattle.tsb_step.specs.tsb_types.declared.refusal.Refusal.TheVariants.{Memory}
 use Rattle.tsb_step.specs.declared.inputs.Input.{Input}
-use Rattle.tsb_lines.specs.Lines.{split}
+use Rattle.tsb_text.specs.tsb_lines.Lines.{split}
 use Rattle.tsb_text.specs.Answers.{Setup, refused_line}
 use Rattle.tsb_text.specs.Ended.{EndsLine, Ended}
 use Rattle.tsb_text.specs.Text.{IsText}

@@ -1,12 +1,12 @@
 -- A preempt reaches its dwell: STATED, NOT PROVED. It is tested on runs at random, by `tools/test_stated_laws.py`; the
 -- README of this crate says on how many. Times are in tenths of a second, which are ticks.
 use Rattle.std.specs.Prelude.{◌≡◌, ℕ, ◌+◌, ◌*◌, ◌<◌, ◌≤◌, ◌==◌, Bool, true, false, not, ◌&&◌, max, List, ◌∷◌, ◌++◌, Option, Some, None, ◌⊎◌}
-use Rattle.tsb_types.specs.declared.row.Row.{Row}
-use Rattle.tsb_plan.specs.Parts.{is_dwell_phase, preempt_minimum_green, track_green}
-use Rattle.tsb_plan.specs.Plan.{Plan, yellow_change, red_clear, red_revert}
-use Rattle.tsb_phase.specs.Pedestrian.{walk_time, clearance_time}
-use Rattle.tsb_preempt.specs.Preempts.{is_dwell, is_exit}
-use Rattle.tsb_preempt.specs.Service.{Service, has_track, all_green, begun}
+use Rattle.tsb_step.specs.tsb_types.declared.row.Row.{Row}
+use Rattle.tsb_step.specs.tsb_plan.Parts.{is_dwell_phase, preempt_minimum_green, track_green}
+use Rattle.tsb_step.specs.tsb_plan.Plan.{Plan, yellow_change, red_clear, red_revert}
+use Rattle.tsb_step.specs.tsb_phase.Pedestrian.{walk_time, clearance_time}
+use Rattle.tsb_step.specs.tsb_preempt.Preempts.{is_dwell, is_exit}
+use Rattle.tsb_step.specs.tsb_preempt.Service.{Service, has_track, all_green, begun}
 use Rattle.tsb_step.specs.declared.inputs.Input.{Input}
 use Rattle.tsb_step.specs.declared.inputs.Input.TheVariants.{Tick}
 use Rattle.tsb_step.specs.State.{State, interval}

@@ -1,10 +1,10 @@
 -- The timers that have a cell, which cell that is among all of the controller, and what a tick makes of a timer that
 -- stays Off or runs on.
 use Rattle.std.specs.Prelude.{ℕ, ◌+◌, ◌≤◌, Option, Some, None, List, Contains, is_some, if◌then◌else◌}
-use Rattle.tsb_cells.specs.declared.timer.Timer.{Timer}
-use Rattle.tsb_cells.specs.declared.timer.Timer.TheVariants.{Off}
-use Rattle.tsb_cells.specs.Timer.{advanced}
-use Rattle.tsb_preempt.specs.Service.{Service}
+use Rattle.tsb_step.specs.tsb_cells.declared.timer.Timer.{Timer}
+use Rattle.tsb_step.specs.tsb_cells.declared.timer.Timer.TheVariants.{Off}
+use Rattle.tsb_step.specs.tsb_cells.Timer.{advanced}
+use Rattle.tsb_step.specs.tsb_preempt.Service.{Service}
 use Rattle.tsb_step.specs.declared.first_cell.TheConstants as first_cell
 use Rattle.tsb_step.specs.State.{State}
 

@@ -3,14 +3,14 @@
 --
 -- All are proved, each as the contract of a function that does nothing (src/laws.rt).
 use Rattle.std.specs.Prelude.{◌≡◌, ◌≢◌, ◌↔◌, ℕ, ◌<◌, true, false, List, map}
-use Rattle.tsb_plan.specs.declared.object.Object.{Object}
-use Rattle.tsb_plan.specs.declared.version.Version.TheVariants.{One}
-use Rattle.tsb_plan.specs.Plan.{Plan, empty, with_values, is_enabled}
-use Rattle.tsb_plan.specs.Quad.{quad}
-use Rattle.tsb_plan.specs.Two.{two}
-use Rattle.tsb_plan.specs.Versions.{has_index_in, translated}
-use Rattle.tsb_rules.specs.Rules.{first_broken}
-use Rattle.tsb_phase.specs.Phase as phase
+use Rattle.tsb_step.specs.tsb_plan.declared.object.Object.{Object}
+use Rattle.tsb_step.specs.tsb_plan.declared.version.Version.TheVariants.{One}
+use Rattle.tsb_step.specs.tsb_plan.Plan.{Plan, empty, with_values, is_enabled}
+use Rattle.tsb_step.specs.tsb_plan.Quad.{quad}
+use Rattle.tsb_step.specs.tsb_plan.Two.{two}
+use Rattle.tsb_step.specs.tsb_plan.Versions.{has_index_in, translated}
+use Rattle.tsb_step.specs.tsb_rules.Rules.{first_broken}
+use Rattle.tsb_step.specs.tsb_phase.Phase as phase
 use Rattle.tsb_step.specs.declared.inputs.Input.{Input}
 use Rattle.tsb_step.specs.Runs.{replay, AreTaken}
 use Rattle.tsb_step.specs.Signs.{display, field, local, stage}

@@ -1,12 +1,12 @@
 -- What holds of the cells and the records of every run, as statements. All are proved, each as the contract of a
 -- function that does nothing (src/laws.rt).
 use Rattle.std.specs.Prelude.{◌≡◌, ◌↔◌, ℕ, ◌≤◌, List, length, drop}
-use Rattle.tsb_types.specs.declared.row.Row.{Row}
-use Rattle.tsb_plan.specs.Plan.{Plan}
-use Rattle.tsb_objects.specs.declared.checked.Checked.{Checked}
-use Rattle.tsb_objects.specs.Checked.{checked_plan}
-use Rattle.tsb_machine.specs.Laws.{GiveBack}
-use Rattle.tsb_machine.specs.Past.{after}
+use Rattle.tsb_step.specs.tsb_types.declared.row.Row.{Row}
+use Rattle.tsb_step.specs.tsb_plan.Plan.{Plan}
+use Rattle.tsb_step.specs.tsb_objects.declared.checked.Checked.{Checked}
+use Rattle.tsb_step.specs.tsb_objects.Checked.{checked_plan}
+use Rattle.tsb_step.specs.tsb_machine.Laws.{GiveBack}
+use Rattle.tsb_step.specs.tsb_machine.Past.{after}
 use Rattle.tsb_controller.specs.Whole.{All, AreAllBy, all_in}
 use Rattle.tsb_step.specs.declared.inputs.Input.{Input}
 use Rattle.tsb_step.specs.declared.inputs.Input.TheVariants.{Tick}

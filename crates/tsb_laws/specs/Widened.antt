@@ -1,15 +1,15 @@
 -- The bench of 16 phases and 4 sides that stands for one of 8 and 2: the plan that a plan text of version 1 becomes,
 -- and inputs, edits and states with it. All of it is the profile's own.
 use Rattle.std.specs.Prelude.{◌≡◌, ℕ, ◌+◌, ◌-◌, ◌*◌, ◌/◌, ◌%◌, ◌≤◌, nat_le, nat_lt, Bool, true, false, ◌&&◌, if◌then◌else◌, List, [], ◌∷◌, map, Option, Some, None}
-use Rattle.tsb_types.specs.declared.lamp.Lamp.{Lamp}
-use Rattle.tsb_types.specs.declared.lamp.Lamp.TheVariants as lamps
-use Rattle.tsb_plan.specs.declared.object.Object.{Object}
-use Rattle.tsb_plan.specs.declared.object.ObjectId.{ObjectId}
-use Rattle.tsb_plan.specs.declared.version.Version.TheVariants.{One}
-use Rattle.tsb_plan.specs.Versions.{is_in_rows, has_index_in, greatest_in, translated}
-use Rattle.tsb_plan.specs.Plan.{Plan}
-use Rattle.tsb_transact.specs.declared.edit.Edit.{Edit}
-use Rattle.tsb_transact.specs.Desk.{Desk}
+use Rattle.tsb_step.specs.tsb_types.declared.lamp.Lamp.{Lamp}
+use Rattle.tsb_step.specs.tsb_types.declared.lamp.Lamp.TheVariants as lamps
+use Rattle.tsb_step.specs.tsb_plan.declared.object.Object.{Object}
+use Rattle.tsb_step.specs.tsb_plan.declared.object.ObjectId.{ObjectId}
+use Rattle.tsb_step.specs.tsb_plan.declared.version.Version.TheVariants.{One}
+use Rattle.tsb_step.specs.tsb_plan.Versions.{is_in_rows, has_index_in, greatest_in, translated}
+use Rattle.tsb_step.specs.tsb_plan.Plan.{Plan}
+use Rattle.tsb_step.specs.tsb_transact.declared.edit.Edit.{Edit}
+use Rattle.tsb_step.specs.tsb_transact.Desk.{Desk}
 use Rattle.tsb_step.specs.declared.inputs.Input.{Input}
 use Rattle.tsb_step.specs.declared.inputs.Input.TheVariants.{Fault, Set}
 use Rattle.tsb_step.specs.State.{State}

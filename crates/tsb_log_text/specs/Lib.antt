@@ -10,3 +10,5 @@ pub mod Steps
 pub mod Laws
 -- the line that tells a fault
 pub mod FaultLines
+-- the names of crates below, for those above
+pub use Rattle.tsb_types.specs as tsb_types

@@ -8,3 +8,5 @@ pub mod Watches
 pub mod Play
 -- what holds of the way back, where each record takes its input back
 pub mod Laws
+-- the names of crates below, for those above
+pub use Rattle.tsb_history.specs as tsb_history

@@ -3,3 +3,6 @@ pub mod PassLemmas
 pub mod TableLemmas
 mod InstantLemmas
 mod UnionLemmas
+pub use Rattle.tsb_types.proofs as tsb_types
+pub use Rattle.tsb_plan.proofs as tsb_plan
+pub use Rattle.tsb_rules.proofs as tsb_rules

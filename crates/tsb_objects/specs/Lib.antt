@@ -8,3 +8,7 @@ pub mod PatternTables
 pub mod Unions
 -- the plan of a checked plan
 pub mod Checked
+-- the names of crates below, for those above
+pub use Rattle.tsb_types.specs as tsb_types
+pub use Rattle.tsb_plan.specs as tsb_plan
+pub use Rattle.tsb_rules.specs as tsb_rules

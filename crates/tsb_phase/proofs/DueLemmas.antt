@@ -6,12 +6,12 @@ use Rattle.tsb_cells.specs.declared.timer.Timer.{Timer}
 use Rattle.tsb_cells.specs.declared.timer.Timer.TheVariants.{Off, On}
 use Rattle.tsb_cells.specs.Timer.{timer_at, has_reached, started}
 use Rattle.tsb_cells.proofs.TimerLemmas.{timer_at-on, timer_at-off}
-use Rattle.tsb_types.specs.declared.interval.Interval.{Interval}
-use Rattle.tsb_types.specs.declared.interval.Interval.TheVariants.{Red, Green, Yellow, RedClear}
-use Rattle.tsb_types.specs.declared.interval.PedestrianInterval.{PedestrianInterval}
-use Rattle.tsb_types.specs.declared.interval.PedestrianInterval.TheVariants.{DontWalk, Walk, PedestrianClear}
-use Rattle.tsb_types.specs.Intervals.{is_green, is_dont_walk, in_service}
-use Rattle.tsb_plan.specs.Plan.{Plan, yellow_change, red_clear, red_revert, time_before_reduction, disables_simultaneous_gap}
+use Rattle.tsb_objects.specs.tsb_types.declared.interval.Interval.{Interval}
+use Rattle.tsb_objects.specs.tsb_types.declared.interval.Interval.TheVariants.{Red, Green, Yellow, RedClear}
+use Rattle.tsb_objects.specs.tsb_types.declared.interval.PedestrianInterval.{PedestrianInterval}
+use Rattle.tsb_objects.specs.tsb_types.declared.interval.PedestrianInterval.TheVariants.{DontWalk, Walk, PedestrianClear}
+use Rattle.tsb_objects.specs.tsb_types.Intervals.{is_green, is_dont_walk, in_service}
+use Rattle.tsb_objects.specs.tsb_plan.Plan.{Plan, yellow_change, red_clear, red_revert, time_before_reduction, disables_simultaneous_gap}
 use Rattle.tsb_phase.specs.declared.phase_row.PhaseRow.{PhaseRow}
 use Rattle.tsb_phase.specs.Phase.{Phase, Given, none_moved, held_of}
 use Rattle.tsb_phase.specs.Green.{passage_timer, conflict_timer, begun, begins_reduction, has_cars_before_reduction, reduction_timer, gap_has_expired, gapped_latch, forced_latch, is_gapped, is_by_gap, gap, initial}

@@ -1,11 +1,11 @@
 -- A phase among 1 to 16 looks at nothing of what is none: two that tell phase timing the same of these give the same.
 use Rattle.std.proofs.Common.{◌≡◌, ℕ, ◌≤◌, Bool, if◌then◌else◌, Option, Some, None, refl, ◌∙◌}
-use Rattle.tsb_types.specs.declared.interval.Interval.{Interval}
-use Rattle.tsb_types.specs.declared.interval.Interval.TheVariants.{Red, Green, Yellow, RedClear}
-use Rattle.tsb_types.specs.declared.interval.PedestrianInterval.{PedestrianInterval}
-use Rattle.tsb_types.specs.declared.interval.PedestrianInterval.TheVariants.{DontWalk, Walk, PedestrianClear}
-use Rattle.tsb_types.proofs.ClipLemmas.{sum-agree}
-use Rattle.tsb_plan.specs.Plan.{Plan}
+use Rattle.tsb_objects.specs.tsb_types.declared.interval.Interval.{Interval}
+use Rattle.tsb_objects.specs.tsb_types.declared.interval.Interval.TheVariants.{Red, Green, Yellow, RedClear}
+use Rattle.tsb_objects.specs.tsb_types.declared.interval.PedestrianInterval.{PedestrianInterval}
+use Rattle.tsb_objects.specs.tsb_types.declared.interval.PedestrianInterval.TheVariants.{DontWalk, Walk, PedestrianClear}
+use Rattle.tsb_objects.proofs.tsb_types.ClipLemmas.{sum-agree}
+use Rattle.tsb_objects.specs.tsb_plan.Plan.{Plan}
 use Rattle.tsb_phase.specs.Phase.{Phase, Given, Moved, GreenHeld, as_read, held_of, none_held}
 use Rattle.tsb_phase.specs.Green.{waits_for, cars_waiting, reduction_timer, gapped_latch, is_gapped}
 use Rattle.tsb_phase.specs.Pedestrian.{ended_by, pedestrian_after, pedestrian_now}

@@ -1,7 +1,7 @@
 -- Ticks that leave the cells as they are and tell what an earlier one told, where all phases are still.
 use Rattle.std.proofs.Common.{◌≡◌, ℕ, ◌-◌, ◌<◌, ◌≤◌, List, sym, ap, ◌∙◌, arith}
-use Rattle.tsb_types.specs.declared.flow.Timing.{Timing}
-use Rattle.tsb_plan.specs.Plan.{Plan}
+use Rattle.tsb_objects.specs.tsb_types.declared.flow.Timing.{Timing}
+use Rattle.tsb_objects.specs.tsb_plan.Plan.{Plan}
 use Rattle.tsb_phase.specs.declared.conditions.Conditions.{Conditions}
 use Rattle.tsb_phase.specs.Phase.{Phase, none_moved}
 use Rattle.tsb_phase.specs.Ready.{is_ready, is_over, is_gapped_now, red_revert_passed}

@@ -8,16 +8,16 @@ use Rattle.tsb_cells.specs.declared.timer.Timer.{Timer}
 use Rattle.tsb_cells.specs.declared.timer.Timer.TheVariants.{Off, On}
 use Rattle.tsb_cells.specs.Timer.{timer_cell, is_on}
 use Rattle.tsb_cells.proofs.TimerLemmas.{timer_at-timer_cell, timer_cell-le, timer_cell-on, timer_cell-off}
-use Rattle.tsb_types.specs.declared.interval.Interval.{Interval}
-use Rattle.tsb_types.specs.declared.interval.Interval.TheVariants.{Red, Green, Yellow, RedClear}
-use Rattle.tsb_types.specs.declared.interval.PedestrianInterval.{PedestrianInterval}
-use Rattle.tsb_types.specs.declared.interval.PedestrianInterval.TheVariants.{DontWalk, Walk, PedestrianClear}
-use Rattle.tsb_types.specs.Intervals.{is_green, is_yellow, is_red_clear, is_walk, is_clearance, is_dont_walk, in_service}
-use Rattle.tsb_types.specs.Lists.{run_from}
-use Rattle.tsb_types.specs.Sets.{names, list_of, list_in, is_phase}
-use Rattle.tsb_types.proofs.RunLemmas.{at-run}
-use Rattle.tsb_types.proofs.SetLemmas.{names-list_of, list_of-below}
-use Rattle.tsb_types.proofs.ClipLemmas.{IsAmong, among_16}
+use Rattle.tsb_objects.specs.tsb_types.declared.interval.Interval.{Interval}
+use Rattle.tsb_objects.specs.tsb_types.declared.interval.Interval.TheVariants.{Red, Green, Yellow, RedClear}
+use Rattle.tsb_objects.specs.tsb_types.declared.interval.PedestrianInterval.{PedestrianInterval}
+use Rattle.tsb_objects.specs.tsb_types.declared.interval.PedestrianInterval.TheVariants.{DontWalk, Walk, PedestrianClear}
+use Rattle.tsb_objects.specs.tsb_types.Intervals.{is_green, is_yellow, is_red_clear, is_walk, is_clearance, is_dont_walk, in_service}
+use Rattle.tsb_objects.specs.tsb_types.Lists.{run_from}
+use Rattle.tsb_objects.specs.tsb_types.Sets.{names, list_of, list_in, is_phase}
+use Rattle.tsb_objects.proofs.tsb_types.RunLemmas.{at-run}
+use Rattle.tsb_objects.proofs.tsb_types.SetLemmas.{names-list_of, list_of-below}
+use Rattle.tsb_objects.proofs.tsb_types.ClipLemmas.{IsAmong, among_16}
 use Rattle.tsb_phase.specs.declared.TheConstants.{CELLS}
 use Rattle.tsb_phase.specs.declared.ending.Ending.{Ending}
 use Rattle.tsb_phase.specs.declared.ending.Ending.TheVariants.{MaxOut, GapOut}
@@ -29,7 +29,7 @@ use Rattle.tsb_phase.specs.Laws.{IsInRange, AreInRange, StatesAreRead}
 use Rattle.tsb_phase.proofs.GreenLemmas.{part-told, same_phase}
 use Rattle.tsb_phase.proofs.RowLemmas.{same_values}
 use Rattle.tsb_phase.proofs.ReadLemmas.{phase_in-row}
-use Rattle.tsb_types.proofs.IntervalLemmas.{serves-green, serves-yellow, serves-red_clear}
+use Rattle.tsb_objects.proofs.tsb_types.IntervalLemmas.{serves-green, serves-yellow, serves-red_clear}
 
 -- ## One phase, and the row that keeps it
 

@@ -6,12 +6,12 @@ use Rattle.std.proofs.lemmas.Bool.Decides.{nat_tests}
 use Rattle.tsb_cells.specs.Timer.{timer_cell}
 use Rattle.tsb_cells.proofs.TimerLemmas.{timer_cell-timer_at}
 use Rattle.tsb_cells.proofs.RowLemmas.{take-whole}
-use Rattle.tsb_types.specs.declared.interval.Interval.TheVariants.{Red, Green, Yellow, RedClear}
-use Rattle.tsb_types.specs.declared.interval.PedestrianInterval.TheVariants.{DontWalk, Walk, PedestrianClear}
-use Rattle.tsb_types.specs.Intervals.{is_green, is_yellow, is_red_clear, is_walk, is_clearance}
-use Rattle.tsb_types.specs.Sets.{names, list_of, list_in}
-use Rattle.tsb_types.proofs.SetLemmas.{list_of-names, same-list_of}
-use Rattle.tsb_types.proofs.ClipLemmas.{is_phase_from}
+use Rattle.tsb_objects.specs.tsb_types.declared.interval.Interval.TheVariants.{Red, Green, Yellow, RedClear}
+use Rattle.tsb_objects.specs.tsb_types.declared.interval.PedestrianInterval.TheVariants.{DontWalk, Walk, PedestrianClear}
+use Rattle.tsb_objects.specs.tsb_types.Intervals.{is_green, is_yellow, is_red_clear, is_walk, is_clearance}
+use Rattle.tsb_objects.specs.tsb_types.Sets.{names, list_of, list_in}
+use Rattle.tsb_objects.proofs.tsb_types.SetLemmas.{list_of-names, same-list_of}
+use Rattle.tsb_objects.proofs.tsb_types.ClipLemmas.{is_phase_from}
 use Rattle.tsb_phase.specs.declared.TheConstants.{CELLS}
 use Rattle.tsb_phase.specs.declared.ending.Ending.TheVariants.{MaxOut, GapOut}
 use Rattle.tsb_phase.specs.DynamicMaximum.{is_same}

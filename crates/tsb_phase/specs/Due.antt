@@ -2,8 +2,8 @@
 -- same.
 use Rattle.std.specs.Prelude.{◌≡◌, ℕ, ◌+◌, ◌≤◌, min, Bool, List, Option, Some, None}
 use Rattle.tsb_cells.specs.Timer.{timer_at, has_reached}
-use Rattle.tsb_plan.specs.Plan.{Plan, red_revert}
-use Rattle.tsb_plan.specs.Parts.{preempt_minimum_green}
+use Rattle.tsb_objects.specs.tsb_plan.Plan.{Plan, red_revert}
+use Rattle.tsb_objects.specs.tsb_plan.Parts.{preempt_minimum_green}
 use Rattle.tsb_phase.specs.declared.phase_row.PhaseRow.{PhaseRow}
 use Rattle.tsb_phase.specs.Phase.{Given, none_moved, held_of}
 use Rattle.tsb_phase.specs.Green.{initial, gap, passage_timer, conflict_timer, reduction_timer, gapped_latch, forced_latch}

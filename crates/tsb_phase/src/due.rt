@@ -1,9 +1,9 @@
 //! When a test of phase timing next turns, while what a tick tells it stays the same. `u32::MAX` stands for no tick.
 ghost use Rattle.std.specs.Prelude.{◌≡◌, ℕ, ◌+◌, ◌-◌, ◌<◌, ◌≤◌, ◌^◌, true, false};
 ghost use Rattle.tsb_cells.specs.Timer.{timer_at, has_reached};
-ghost use Rattle.tsb_types.specs.declared.interval.Interval.TheVariants.{RedClear};
-ghost use Rattle.tsb_types.specs.declared.interval.PedestrianInterval.TheVariants.{Walk, PedestrianClear};
-ghost use Rattle.tsb_plan.specs.PlanOf.{plan_of};
+ghost use Rattle.tsb_objects.specs.tsb_types.declared.interval.Interval.TheVariants.{RedClear};
+ghost use Rattle.tsb_objects.specs.tsb_types.declared.interval.PedestrianInterval.TheVariants.{Walk, PedestrianClear};
+ghost use Rattle.tsb_objects.specs.tsb_plan.PlanOf.{plan_of};
 ghost use Rattle.tsb_phase.specs.Phase.{Given};
 ghost use Rattle.tsb_phase.specs.Pedestrian.{ended_by, pedestrian_now};
 ghost use Rattle.tsb_phase.specs.Promises.{given_of};

@@ -1,6 +1,6 @@
 //! Rows of phases in the cells: how they are read, and written where they change.
 ghost use Rattle.std.specs.Prelude.{◌≡◌, ◌≢◌, ℕ, ◌+◌, ◌*◌, ◌<◌, ◌≤◌, true, false, slice_index};
-ghost use Rattle.tsb_types.specs.Sets.{has, names, list_in};
+ghost use Rattle.tsb_objects.specs.tsb_types.Sets.{has, names, list_in};
 ghost use Rattle.tsb_cells.specs.Lists.{Elsewhere};
 ghost use Rattle.tsb_phase.specs.Cells.{row_in};
 ghost use Rattle.tsb_phase.specs.Rows.{list_of_row, cell_of_row, with_list, with_cell};

@@ -1,9 +1,9 @@
 //! A tick over the cells: each phase in service is visited, and what the tick tells of all phases is put together.
 ghost use Rattle.std.specs.Prelude.{◌≡◌, ◌≢◌, ℕ, ◌+◌, ◌<◌, ◌≤◌, ◌^◌, true, false};
 ghost use Rattle.tsb_objects.specs.Checked.{checked_plan};
-ghost use Rattle.tsb_plan.specs.Plan.{red_revert};
-ghost use Rattle.tsb_types.specs.Intervals.{in_service};
-ghost use Rattle.tsb_types.specs.Sets.{has};
+ghost use Rattle.tsb_objects.specs.tsb_plan.Plan.{red_revert};
+ghost use Rattle.tsb_objects.specs.tsb_types.Intervals.{in_service};
+ghost use Rattle.tsb_objects.specs.tsb_types.Sets.{has};
 ghost use Rattle.tsb_cells.specs.Timer.{timer_at};
 ghost use Rattle.tsb_phase.specs.Ready.{has_passed};
 ghost use Rattle.tsb_phase.specs.Promises.{given_of};

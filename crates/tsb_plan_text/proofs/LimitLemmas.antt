@@ -3,8 +3,8 @@ use Rattle.std.proofs.Common.{nat_le, ltb-true, subst, if◌then◌else◌, ◌�
 use Rattle.serde_json.specs.Data.{Data, Members, no_members, member}
 use Rattle.tsb_objects.specs.Checked.{checked_plan}
 use Rattle.tsb_objects.specs.declared.checked.Checked.{Checked}
-use Rattle.tsb_rules.specs.Rules.{first_broken}
-use Rattle.tsb_rules.specs.declared.rules.Rule.{Rule}
+use Rattle.tsb_objects.specs.tsb_rules.Rules.{first_broken}
+use Rattle.tsb_objects.specs.tsb_rules.declared.rules.Rule.{Rule}
 use Rattle.tsb_plan.specs.declared.object.Object.{Object}
 use Rattle.tsb_plan.specs.declared.version.Version.{Version}
 use Rattle.serde_json.specs.Find.{as_object}

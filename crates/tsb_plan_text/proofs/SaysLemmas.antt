@@ -19,15 +19,15 @@ use Rattle.tsb_plan.specs.Objects.{order}
 use Rattle.tsb_plan.specs.Plan.{Plan, empty, with_value, is_same}
 use Rattle.tsb_plan.specs.VersionLaws.{TranslateApart}
 use Rattle.tsb_plan.specs.Versions.{has_object, has_index_in, indices_in, greatest_in, translated}
-use Rattle.tsb_types.specs.Lists.{or_number}
+use Rattle.tsb_objects.specs.tsb_types.Lists.{or_number}
 use Rattle.tsb_plan_text.proofs.NumberLemmas.{index_named_is}
 use Rattle.tsb_plan_text.proofs.RiseLemmas.{IsBefore, Rise, RiseIn, AllRise, read_all_rise}
 use Rattle.tsb_plan_text.proofs.TextLemmas.{read_of_data}
 use Rattle.tsb_plan_text.proofs.TableLemmas.{few_indices}
-use Rattle.tsb_rules.specs.Rules.{first_broken}
+use Rattle.tsb_objects.specs.tsb_rules.Rules.{first_broken}
 use Rattle.tsb_objects.specs.Checked.{checked_plan}
 use Rattle.tsb_objects.specs.declared.checked.Checked.{Checked}
-use Rattle.tsb_rules.specs.declared.rules.Rule.{Rule}
+use Rattle.tsb_objects.specs.tsb_rules.declared.rules.Rule.{Rule}
 use Rattle.tsb_plan_text.specs.declared.error.PlanError.{PlanError}
 use Rattle.tsb_plan_text.specs.PlanErrors.{Gives, Error, not_json, not_a_table, no_version, too_large, no_such_object, object_not_a_table, no_such_index, not_a_whole_number, out_of_range}
 use Rattle.tsb_plan_text.specs.PlanText.{limit, data_of, version_in, data_plan, unless_broken, checked, reading, or_fault, then_on, index_named, whole_number, with_entry, with_table, with_member, with_members}

@@ -1,6 +1,6 @@
 -- The faults of a plan text without where their text lies in memory, and when an answer is that of a definition.
 use Rattle.std.specs.Prelude.{◌≡◌, ℕ, List, Result, Ok, Err, string_bytes}
-use Rattle.tsb_rules.specs.declared.rules.Rule.{Rule}
+use Rattle.tsb_objects.specs.tsb_rules.declared.rules.Rule.{Rule}
 use Rattle.tsb_plan.specs.declared.object.Object.{Object}
 use Rattle.tsb_plan.specs.Plan.{Plan}
 use Rattle.tsb_plan_text.specs.declared.error.PlanError.{PlanError}

@@ -7,15 +7,15 @@ use Rattle.std.specs.Str.{is_utf8}
 use Rattle.serde_json.specs.Data.{Data, Members, no_members, member}
 use Rattle.serde_json.specs.Find.{get_member, as_number, as_object, as_u64}
 use Rattle.serde_json.specs.Read.{read}
-use Rattle.tsb_rules.specs.Rules.{first_broken}
-use Rattle.tsb_rules.specs.declared.rules.Rule.{Rule}
+use Rattle.tsb_objects.specs.tsb_rules.Rules.{first_broken}
+use Rattle.tsb_objects.specs.tsb_rules.declared.rules.Rule.{Rule}
 use Rattle.tsb_plan.specs.declared.object.Object.{Object}
 use Rattle.tsb_plan.specs.declared.version.Version.{Version}
 use Rattle.tsb_plan.specs.declared.version.Version.TheVariants.{One, Two}
 use Rattle.tsb_plan.specs.Names.{object_named}
 use Rattle.tsb_plan.specs.Plan.{Plan, empty, with_value}
 use Rattle.tsb_plan.specs.Versions.{indices_in, greatest_in, translated}
-use Rattle.tsb_types.specs.Lists.{run_from}
+use Rattle.tsb_objects.specs.tsb_types.Lists.{run_from}
 use Rattle.tsb_plan_text.specs.PlanErrors.{Error, too_large, not_json, not_a_table, no_version, no_such_object, object_not_a_table, no_such_index, not_a_whole_number, out_of_range, broken}
 
 -- the longest text that is read, in bytes

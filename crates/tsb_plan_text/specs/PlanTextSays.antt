@@ -8,7 +8,7 @@ use Rattle.tsb_plan.specs.declared.version.Version.{Version}
 use Rattle.tsb_plan.specs.Names.{name_of}
 use Rattle.tsb_plan.specs.Plan.{Plan}
 use Rattle.tsb_plan.specs.Versions.{has_index_in, translated}
-use Rattle.tsb_types.specs.Lists.{or_number}
+use Rattle.tsb_objects.specs.tsb_types.Lists.{or_number}
 use Rattle.tsb_plan_text.specs.PlanText.{data_of, version_in, whole_number}
 
 -- the number that a table has at an index, if it has one

@@ -9,7 +9,7 @@ use Rattle.tsb_types.specs.Lists.{run_from, first}
 use Rattle.tsb_types.specs.Sets as sets
 use Rattle.tsb_types.specs.Sets.{names, has_number, list_in, set_of_list}
 use Rattle.tsb_types.proofs.SetLemmas.{names-zero, same-list_of}
-use Rattle.tsb_plan.specs.Plan.{Plan}
+use Rattle.tsb_objects.specs.tsb_plan.Plan.{Plan}
 use Rattle.tsb_preempt.specs.declared.orders.PreemptOrders.{PreemptOrders}
 use Rattle.tsb_preempt.specs.Preempts.{Preempts, next_from_read}
 use Rattle.tsb_preempt.specs.Cells.{service_in, preempts_in, IsBy}

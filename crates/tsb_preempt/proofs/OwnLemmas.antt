@@ -6,8 +6,8 @@ use Rattle.tsb_types.specs.declared.stage.Stage.{Stage}
 use Rattle.tsb_types.specs.declared.stage.Stage.TheVariants.{Track, Dwell, Exit}
 use Rattle.tsb_types.specs.Intervals.{is_green}
 use Rattle.tsb_types.proofs.ClipLemmas.{all-agree}
-use Rattle.tsb_plan.specs.Plan.{Plan}
-use Rattle.tsb_plan.specs.Parts.{is_track_phase, is_exit_phase}
+use Rattle.tsb_objects.specs.tsb_plan.Plan.{Plan}
+use Rattle.tsb_objects.specs.tsb_plan.Parts.{is_track_phase, is_exit_phase}
 use Rattle.tsb_preempt.specs.Service.{Service, service_as_read, all_green, track_timer, stage_after, with_stage, moved}
 use Rattle.tsb_preempt.specs.Preempts.{Preempts, Given, is_preempt, as_read, has_input, delay_timer, still_spent, requests, requesting, beginning, if_may_begin, going_on, service_by, new_service, dwell_ends_of, dwell_ends, new_spent, wanted_by, is_outside, next}
 use Rattle.tsb_preempt.specs.Cells.{preempts_in}

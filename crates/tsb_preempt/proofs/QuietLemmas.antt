@@ -7,7 +7,7 @@ use Rattle.tsb_types.specs.declared.row.Row.{Row}
 use Rattle.tsb_types.specs.Flow.{interval_of}
 use Rattle.tsb_types.specs.Lists.{run_from, first, is}
 use Rattle.tsb_types.specs.Sets.{names, has_number, list_in, set_of_list}
-use Rattle.tsb_plan.specs.Plan.{Plan}
+use Rattle.tsb_objects.specs.tsb_plan.Plan.{Plan}
 use Rattle.tsb_preempt.specs.declared.orders.PreemptOrders.{PreemptOrders}
 use Rattle.tsb_preempt.specs.declared.serving.Serving.{Serving}
 use Rattle.tsb_preempt.specs.Service.{Service, ends_dwell}

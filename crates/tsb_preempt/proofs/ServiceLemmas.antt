@@ -4,8 +4,8 @@ use Rattle.tsb_cells.specs.Timer.{timer_at, has_reached}
 use Rattle.tsb_types.specs.declared.stage.Stage.{Stage}
 use Rattle.tsb_types.specs.declared.stage.Stage.TheVariants.{Track, Dwell, Exit}
 use Rattle.tsb_types.specs.Lists.{run_from, first}
-use Rattle.tsb_plan.specs.Plan.{Plan}
-use Rattle.tsb_plan.specs.Parts.{preempt_delay}
+use Rattle.tsb_objects.specs.tsb_plan.Plan.{Plan}
+use Rattle.tsb_objects.specs.tsb_plan.Parts.{preempt_delay}
 use Rattle.tsb_preempt.specs.declared.serving.Serving.{Serving}
 use Rattle.tsb_preempt.specs.Cells.{stage_in, stage_cell, service_in}
 use Rattle.tsb_preempt.specs.Service.{has_dwell}

@@ -6,7 +6,7 @@ use Rattle.tsb_types.specs.declared.number_set.NumberSet.{NumberSet}
 use Rattle.tsb_types.specs.declared.row.Row.{Row}
 use Rattle.tsb_types.specs.Flow.{target_of}
 use Rattle.tsb_types.specs.Sets.{has, has_number}
-use Rattle.tsb_plan.specs.Plan.{Plan}
+use Rattle.tsb_objects.specs.tsb_plan.Plan.{Plan}
 use Rattle.tsb_preempt.specs.declared.orders.PreemptOrders.{PreemptOrders}
 use Rattle.tsb_preempt.specs.declared.serving.Serving.{Serving}
 use Rattle.tsb_preempt.specs.Service.{Service, ends_dwell, moved}

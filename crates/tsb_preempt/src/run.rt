@@ -1,7 +1,7 @@
 //! What a tick makes of the preempts and asks of the phases, in the order in which it is found: inputs, delays, the
 //! request, the service that begins or moves on, and what is spent.
 ghost use Rattle.std.specs.Prelude.{◌≡◌, ℕ, ◌+◌, ◌<◌, ◌≤◌, ◌^◌, ◌||◌, ◌&&◌, is_some, is_none, Bool, true, false, None, slice_index};
-ghost use Rattle.tsb_plan.specs.PlanOf.{plan_of};
+ghost use Rattle.tsb_objects.specs.tsb_plan.PlanOf.{plan_of};
 ghost use Rattle.tsb_types.specs.Flow.{target_of};
 ghost use Rattle.tsb_types.specs.Lists.{first, run_from, is};
 ghost use Rattle.tsb_types.specs.Sets.{has, has_number, names, list_in};

@@ -4,8 +4,8 @@ ghost use Rattle.std.specs.Prelude.{◌≡◌, ℕ, ◌+◌, ◌<◌, ◌≤◌,
 ghost use Rattle.tsb_cells.specs.Timer.{timer_at, has_reached};
 ghost use Rattle.tsb_types.specs.Flow.{interval_of};
 ghost use Rattle.tsb_types.specs.Sets.{has_number};
-ghost use Rattle.tsb_plan.specs.Parts.{track_green};
-ghost use Rattle.tsb_plan.specs.PlanOf.{plan_of};
+ghost use Rattle.tsb_objects.specs.tsb_plan.Parts.{track_green};
+ghost use Rattle.tsb_objects.specs.tsb_plan.PlanOf.{plan_of};
 ghost use Rattle.tsb_preempt.specs.Service.{track_timer};
 ghost use Rattle.tsb_preempt.specs.Preempts.{may_begin};
 ghost use Rattle.tsb_preempt.specs.Done.{DelaysRest, ChangesNothing};

@@ -2,7 +2,7 @@
 -- concurrent with all that the other does.
 use Rattle.std.proofs.Common.{◌≡◌, ℕ, true, Some, None, refl, inl, inr, ◌∙◌, arith}
 use Rattle.std.proofs.lemmas.Bool.{eqb-true, cases_Bool}
-use Rattle.tsb_plan.specs.Plan.{Plan, ring_of, is_concurrent}
+use Rattle.tsb_objects.specs.tsb_plan.Plan.{Plan, ring_of, is_concurrent}
 use Rattle.tsb_ring.specs.Rings.{Ring, Ring1, Ring2, State, Given, in_ring, own_ring}
 use Rattle.tsb_ring.specs.Wants.{pick}
 use Rattle.tsb_ring.specs.Laws.{Serves, IsListed, IsSymmetric, IsGiven, IsSound}

@@ -3,7 +3,7 @@
 use Rattle.std.proofs.Common.{◌≡◌, ℕ, Bool, true, false, not, ◌&&◌, ◌||◌, Option, Some, None, is_some, refl, inl, inr, ◌⊎◌, ◌∙◌}
 use Rattle.std.proofs.lemmas.Bool.{and_parts, or_cases}
 use Rattle.tsb_types.specs.Lists.{first, among, or_else}
-use Rattle.tsb_plan.specs.Plan.{Plan, phases, is_concurrent, is_enabled, has_dual_entry}
+use Rattle.tsb_objects.specs.tsb_plan.Plan.{Plan, phases, is_concurrent, is_enabled, has_dual_entry}
 use Rattle.tsb_ring.specs.declared.want.Want.{Want}
 use Rattle.tsb_ring.specs.declared.want.Want.TheVariants.{Go, Cross, Rest, Stop}
 use Rattle.tsb_ring.specs.Rings.{Ring, Ring1, Ring2, State, Given, in_ring, serving}

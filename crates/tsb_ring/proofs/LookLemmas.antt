@@ -10,7 +10,7 @@ use Rattle.tsb_types.specs.Intervals.{is_green, in_service}
 use Rattle.tsb_types.specs.Lists.{first, later, not_later, or_else, or_number}
 use Rattle.tsb_types.specs.Sets.{is_phase}
 use Rattle.tsb_types.proofs.ClipLemmas.{clipped-same, within-same, first-agree, is_phase_from}
-use Rattle.tsb_plan.specs.Plan.{Plan, phases, sides_after}
+use Rattle.tsb_objects.specs.tsb_plan.Plan.{Plan, phases, sides_after}
 use Rattle.tsb_ring.specs.declared.want.Want.{Want}
 use Rattle.tsb_ring.specs.declared.want.Want.TheVariants.{Go, Cross, Rest, Stop}
 use Rattle.tsb_ring.specs.declared.ring_order.RingOrder.TheVariants.{Ring1First}

@@ -3,10 +3,10 @@
 use Rattle.std.proofs.Common.{◌≡◌, ℕ, zero, suc, ◌<◌, ◌≤◌, ◌==◌, Bool, true, false, not, ◌||◌, List, [], ◌∷◌, length, get_or, take, drop, None, refl, ap, ◌∙◌, arith, inl, inr}
 use Rattle.std.proofs.lemmas.Bool.{and_parts, cases_Bool, cases_eq, eq-eqb}
 use Rattle.std.proofs.Math.Bool.{or-true}
-use Rattle.tsb_rules.specs.Rules.{first_broken}
-use Rattle.tsb_rules.specs.SequenceRules.{is_zeros, zeros_last, is_ordered, sequence_is_ordered, is_blank, lists_only, lists_each, lists_once, rises}
-use Rattle.tsb_rules.proofs.ConsistentLemmas.{MeetsRings, meets_rings}
-use Rattle.tsb_plan.specs.Plan.{Plan, sequence}
+use Rattle.tsb_objects.specs.tsb_rules.Rules.{first_broken}
+use Rattle.tsb_objects.specs.tsb_rules.SequenceRules.{is_zeros, zeros_last, is_ordered, sequence_is_ordered, is_blank, lists_only, lists_each, lists_once, rises}
+use Rattle.tsb_objects.proofs.tsb_rules.ConsistentLemmas.{MeetsRings, meets_rings}
+use Rattle.tsb_objects.specs.tsb_plan.Plan.{Plan, sequence}
 use Rattle.tsb_types.specs.Lists.{first}
 
 -- ## Zeros

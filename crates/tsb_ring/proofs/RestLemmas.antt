@@ -3,7 +3,7 @@ use Rattle.std.proofs.Common.{◌≡◌, ◌⊎◌, ℕ, Bool, true, false, not,
 use Rattle.std.proofs.lemmas.Bool.{cases_Bool}
 use Rattle.tsb_types.specs.Intervals.{is_green, in_service}
 use Rattle.tsb_types.specs.Lists.{later, not_later}
-use Rattle.tsb_plan.specs.Plan.{Plan, phases}
+use Rattle.tsb_objects.specs.tsb_plan.Plan.{Plan, phases}
 use Rattle.tsb_ring.specs.declared.want.Want.{Want}
 use Rattle.tsb_ring.specs.declared.want.Want.TheVariants.{Rest}
 use Rattle.tsb_ring.specs.Rings.{Ring, Ring1, Ring2, in_ring, own_ring, State, Given, serving}

@@ -1,9 +1,9 @@
 -- The side of a target's first phase: a plan that breaks no rule has each enabled phase on one.
 use Rattle.std.proofs.Common.{◌≡◌, ℕ, ◌≤◌, Bool, Option, Some, None, IfSome, sym, arith}
 use Rattle.std.proofs.lemmas.Bool.{and_parts}
-use Rattle.tsb_rules.specs.Rules.{first_broken}
-use Rattle.tsb_rules.proofs.ConsistentLemmas.{placed}
-use Rattle.tsb_plan.specs.Plan.{Plan, phases, is_enabled, side_of}
+use Rattle.tsb_objects.specs.tsb_rules.Rules.{first_broken}
+use Rattle.tsb_objects.proofs.tsb_rules.ConsistentLemmas.{placed}
+use Rattle.tsb_objects.specs.tsb_plan.Plan.{Plan, phases, is_enabled, side_of}
 use Rattle.tsb_types.specs.Lists.{first}
 use Rattle.tsb_ring.specs.Wants.{is_targeted}
 use Rattle.tsb_types.proofs.FirstLemmas.{first-within, first-passes}

@@ -6,7 +6,7 @@ use Rattle.tsb_types.specs.declared.interval.Interval.{Interval}
 use Rattle.tsb_types.specs.declared.interval.Interval.TheVariants.{Red, Green, Yellow, RedClear}
 use Rattle.tsb_types.specs.Intervals.{in_service, is_green, is_yellow}
 use Rattle.tsb_types.specs.Lists.{among, is}
-use Rattle.tsb_plan.specs.Plan.{Plan, phases}
+use Rattle.tsb_objects.specs.tsb_plan.Plan.{Plan, phases}
 use Rattle.tsb_ring.specs.Rings.{Ring, Ring1, Ring2, other, State, Given, in_ring, serving}
 use Rattle.tsb_ring.specs.Wants.{pick}
 use Rattle.tsb_ring.specs.Crossings.{committed}

@@ -3,7 +3,7 @@
 use Rattle.std.proofs.Common.{◌≡◌, ℕ, ◌==◌, ◌≤◌, List, [], ◌∷◌, length, Option, Some, None, IfSome, refl, sym, arith, inl, inr, ◌∙◌}
 use Rattle.std.proofs.lemmas.Bool.{cases_Bool, eqb-true}
 use Rattle.tsb_types.specs.Lists.{or_number}
-use Rattle.tsb_plan.specs.Parts.{unless_zero}
+use Rattle.tsb_objects.specs.tsb_plan.Parts.{unless_zero}
 use Rattle.tsb_ring.specs.declared.TheConstants.{CELLS}
 use Rattle.tsb_ring.specs.Cells.{rings_in, rings_cells, IsBy}
 use Rattle.tsb_ring.specs.Laws.{IsUpTo, IsInRange}

@@ -1,6 +1,6 @@
 //! What a ring does in a tick by its want and its commitment: which phase it starts, ends and clears, and what it commits to.
 ghost use Rattle.std.specs.Prelude.{◌≡◌, ◌&&◌, ◌||◌, Some, None, is_some, if◌then◌else◌};
-ghost use Rattle.tsb_plan.specs.Plan.{Plan};
+ghost use Rattle.tsb_objects.specs.tsb_plan.Plan.{Plan};
 ghost use Rattle.tsb_objects.specs.Checked.{checked_plan};
 ghost use Rattle.tsb_types.specs.Intervals.{is_green};
 ghost use Rattle.tsb_types.specs.Flow.{interval_of};

@@ -6,9 +6,9 @@ use Rattle.std.specs.List.{list_any}
 use Rattle.tsb_types.specs.declared.interval.Interval.{Interval}
 use Rattle.tsb_types.specs.Intervals.{in_service}
 use Rattle.tsb_types.specs.Lists.{among}
-use Rattle.tsb_plan.specs.declared.object.Object.TheVariants.{PhaseRing, PhaseConcurrency}
-use Rattle.tsb_plan.specs.Plan.{Plan, phases, is_concurrent}
-use Rattle.tsb_plan.specs.Objects.{is_structural}
+use Rattle.tsb_objects.specs.tsb_plan.declared.object.Object.TheVariants.{PhaseRing, PhaseConcurrency}
+use Rattle.tsb_objects.specs.tsb_plan.Plan.{Plan, phases, is_concurrent}
+use Rattle.tsb_objects.specs.tsb_plan.Objects.{is_structural}
 use Rattle.tsb_ring.specs.Rings.{Ring, Ring1, Ring2, other, State, forgotten, in_ring}
 use Rattle.tsb_ring.specs.Laws.{IsListed, Serves, IsSound}
 use Rattle.tsb_ring.proofs.MoveLemmas.{or_cases}

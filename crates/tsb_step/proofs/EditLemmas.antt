@@ -4,17 +4,17 @@ use Rattle.std.proofs.Common.{◌≡◌, ℕ, ◌==◌, Bool, true, false, not, 
 use Rattle.std.proofs.lemmas.Bool.{cases_Bool, eqb-true, true≢false, and_parts}
 use Rattle.std.proofs.lemmas.Bool.Decides.{nat_tests}
 use Rattle.tsb_types.specs.declared.refusal.Refusal.TheVariants.{NoSuchObject}
-use Rattle.tsb_plan.specs.declared.object.Object.{Object}
-use Rattle.tsb_plan.specs.Objects.{order}
-use Rattle.tsb_plan.specs.Plan.{Plan, is_same, with_value}
-use Rattle.tsb_plan.specs.Versions.{has_object}
-use Rattle.tsb_plan.proofs.TableLemmas.{order-injective}
+use Rattle.tsb_objects.specs.tsb_plan.declared.object.Object.{Object}
+use Rattle.tsb_objects.specs.tsb_plan.Objects.{order}
+use Rattle.tsb_objects.specs.tsb_plan.Plan.{Plan, is_same, with_value}
+use Rattle.tsb_objects.specs.tsb_plan.Versions.{has_object}
+use Rattle.tsb_objects.proofs.tsb_plan.TableLemmas.{order-injective}
 use Rattle.tsb_transact.specs.declared.edit.Edit.{Edit}
 use Rattle.tsb_transact.specs.Desk.{with_edits}
 use Rattle.tsb_transact.specs.Commit.{changes, changes_some}
 use Rattle.tsb_step.specs.Tables.{version_of, has_place, place_refusal}
 use Rattle.tsb_step.specs.Good.{AreFit}
-use Rattle.tsb_plan.proofs.PlanLemmas.{same-parts}
+use Rattle.tsb_objects.proofs.tsb_plan.PlanLemmas.{same-parts}
 
 -- ## Numbers of phases and sides
 

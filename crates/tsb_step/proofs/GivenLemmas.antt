@@ -6,14 +6,14 @@ use Rattle.std.proofs.lemmas.Bool.Decides.{nat_tests}
 use Rattle.tsb_types.specs.declared.row.Row.{Row}
 use Rattle.tsb_types.specs.Lists.{run_from, among}
 use Rattle.tsb_types.proofs.RunLemmas.{among-run}
-use Rattle.tsb_plan.specs.declared.object.Object.TheVariants.{PhaseEnabled, PhaseRing}
-use Rattle.tsb_plan.specs.Parts.{is_used}
-use Rattle.tsb_plan.specs.Plan.{Plan, is_enabled, sequence}
-use Rattle.tsb_plan.specs.Running.{running, sequence_in_effect}
-use Rattle.tsb_rules.specs.Consistent.{IsPhase, IsWhole, ListsRing, ListsRings, AreCompatible}
-use Rattle.tsb_rules.specs.Rules.{first_broken}
-use Rattle.tsb_rules.proofs.ConsistentLemmas.{together, first_lists, whole, used_lists}
-use Rattle.tsb_rules.proofs.RuleLemmas.{Passes, some-run_from}
+use Rattle.tsb_objects.specs.tsb_plan.declared.object.Object.TheVariants.{PhaseEnabled, PhaseRing}
+use Rattle.tsb_objects.specs.tsb_plan.Parts.{is_used}
+use Rattle.tsb_objects.specs.tsb_plan.Plan.{Plan, is_enabled, sequence}
+use Rattle.tsb_objects.specs.tsb_plan.Running.{running, sequence_in_effect}
+use Rattle.tsb_objects.specs.tsb_rules.Consistent.{IsPhase, IsWhole, ListsRing, ListsRings, AreCompatible}
+use Rattle.tsb_objects.specs.tsb_rules.Rules.{first_broken}
+use Rattle.tsb_objects.proofs.tsb_rules.ConsistentLemmas.{together, first_lists, whole, used_lists}
+use Rattle.tsb_objects.proofs.tsb_rules.RuleLemmas.{Passes, some-run_from}
 use Rattle.tsb_ring.specs.Rings.{Ring, Ring1, Ring2, number, in_ring}
 use Rattle.tsb_ring.specs.Laws.{IsListed, IsSymmetric, IsPairwiseConcurrent, IsGiven}
 use Rattle.tsb_coord.specs.Coordinated.{serving_order}

@@ -6,7 +6,7 @@ use Rattle.tsb_types.specs.declared.interval.Interval.{Interval}
 use Rattle.tsb_types.specs.declared.interval.Interval.TheVariants.{Red, Green, Yellow, RedClear}
 use Rattle.tsb_types.specs.declared.row.Row.{Row}
 use Rattle.tsb_types.specs.Intervals.{is_green, is_yellow, is_red_clear}
-use Rattle.tsb_plan.specs.Plan.{Plan}
+use Rattle.tsb_objects.specs.tsb_plan.Plan.{Plan}
 use Rattle.tsb_phase.specs.Phase.{Phase}
 use Rattle.tsb_phase.specs.Next.{new_interval}
 use Rattle.tsb_phase.specs.Ready.{is_over, is_over_in}

@@ -4,15 +4,15 @@ use Rattle.std.proofs.Common.{◌≡◌, ℕ, ◌<◌, ◌==◌, nat_le, true, f
 use Rattle.std.specs.List.{list_all}
 use Rattle.std.proofs.lemmas.Bool.{cases_Bool, eqb-true, true≢false, and_parts}
 use Rattle.std.proofs.lemmas.List.Folds.{list_all_at}
-use Rattle.tsb_plan.specs.declared.object.Object.{Object}
-use Rattle.tsb_plan.specs.declared.object.Object.TheVariants.{PhaseEnabled}
-use Rattle.tsb_plan.specs.declared.plan.Plan as memory
-use Rattle.tsb_plan.specs.Objects.{objects, order, indices, greatest, has_index, value_in}
-use Rattle.tsb_plan.specs.declared.object.ObjectId.{ObjectId}
-use Rattle.tsb_plan.specs.Plan.{Plan}
-use Rattle.tsb_plan.specs.PlanOf.{plan_of, put_refusal}
-use Rattle.tsb_plan.proofs.TableLemmas.{at-order, order-below, length-objects}
-use Rattle.tsb_rules.specs.Rules.{first_broken}
+use Rattle.tsb_objects.specs.tsb_plan.declared.object.Object.{Object}
+use Rattle.tsb_objects.specs.tsb_plan.declared.object.Object.TheVariants.{PhaseEnabled}
+use Rattle.tsb_objects.specs.tsb_plan.declared.plan.Plan as memory
+use Rattle.tsb_objects.specs.tsb_plan.Objects.{objects, order, indices, greatest, has_index, value_in}
+use Rattle.tsb_objects.specs.tsb_plan.declared.object.ObjectId.{ObjectId}
+use Rattle.tsb_objects.specs.tsb_plan.Plan.{Plan}
+use Rattle.tsb_objects.specs.tsb_plan.PlanOf.{plan_of, put_refusal}
+use Rattle.tsb_objects.proofs.tsb_plan.TableLemmas.{at-order, order-below, length-objects}
+use Rattle.tsb_objects.specs.tsb_rules.Rules.{first_broken}
 use Rattle.tsb_step.specs.Tables.{indices_for, greatest_for, place_refusal, is_as_in_table, all_as_in_table}
 use Rattle.tsb_step.specs.Laws.{IsConsistent}
 

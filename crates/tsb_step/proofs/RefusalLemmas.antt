@@ -2,8 +2,8 @@
 use Rattle.std.proofs.Common.{◌≡◌, ◌≢◌, ℕ, Bool, true, false, ◌&&◌, if◌then◌else◌, Option, Some, None, nat_le, nat_lt, ◌==◌, ◌||◌, not, is_some}
 use Rattle.tsb_types.specs.declared.refusal.Refusal.{Refusal}
 use Rattle.tsb_types.specs.declared.refusal.Refusal.TheVariants.{Memory, NoSuchObject, OutOfRange, NotOwner, NotVerified, TooManyEdits, NoSuchPattern, NoSuchPreempt, TickLimit, InService}
-use Rattle.tsb_plan.specs.Plan.{Plan}
-use Rattle.tsb_plan.specs.declared.object.ObjectId.{ObjectId}
+use Rattle.tsb_objects.specs.tsb_plan.Plan.{Plan}
+use Rattle.tsb_objects.specs.tsb_plan.declared.object.ObjectId.{ObjectId}
 use Rattle.tsb_machine.specs.Play.{IsRefusal}
 use Rattle.tsb_coord.specs.Coordinated as coordination
 use Rattle.tsb_preempt.specs.Preempts as preempts
@@ -16,7 +16,7 @@ use Rattle.tsb_step.specs.declared.inputs.Input.TheVariants.{Tick, Pattern, Swit
 use Rattle.tsb_step.specs.State.{State}
 use Rattle.tsb_step.specs.Step.{verdict, is_serving, last_tick}
 use Rattle.tsb_step.specs.Tables.{place_refusal, version_of, has_place, greatest_of}
-use Rattle.tsb_plan.specs.Versions.{has_object}
+use Rattle.tsb_objects.specs.tsb_plan.Versions.{has_object}
 
 -- one of two
 either : (b : Bool) (x y : Option Refusal) → x ≢ Some Memory → y ≢ Some Memory → (if b then x else y) ≢ Some Memory

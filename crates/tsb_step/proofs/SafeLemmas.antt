@@ -10,7 +10,7 @@ use Rattle.tsb_types.specs.declared.lamp.Aspect.TheVariants as aspects
 use Rattle.tsb_types.specs.declared.lamp.PedestrianAspect.TheVariants as pedestrian_aspects
 use Rattle.tsb_types.specs.declared.row.Row.{Row}
 use Rattle.tsb_types.specs.Intervals.{in_service, is_green}
-use Rattle.tsb_plan.specs.Plan.{is_enabled, is_concurrent}
+use Rattle.tsb_objects.specs.tsb_plan.Plan.{is_enabled, is_concurrent}
 use Rattle.tsb_heads.specs.Heads.{Heads, aspect_of, vehicle_head, pedestrian_aspect_of, has_pedestrian_head, pedestrian_head}
 use Rattle.tsb_heads.specs.Displays.{ordered, flashed, flashing}
 use Rattle.tsb_heads.specs.Monitoring.{gives_way, lets_walk, has_right_of_way}

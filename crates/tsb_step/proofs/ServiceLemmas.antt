@@ -6,12 +6,12 @@ use Rattle.tsb_types.specs.declared.interval.Interval.{Interval}
 use Rattle.tsb_types.specs.declared.stage.Stage.{Stage}
 use Rattle.tsb_types.specs.declared.stage.Stage.TheVariants.{Track, Dwell, Exit}
 use Rattle.tsb_types.specs.Lists.{run_from, among}
-use Rattle.tsb_plan.specs.declared.object.Object.TheVariants.{PreemptTrackPhase, PreemptDwellPhase}
-use Rattle.tsb_plan.specs.Plan.{Plan}
-use Rattle.tsb_rules.specs.Consistent.{AreCompatible, IsPreemptSound}
-use Rattle.tsb_rules.specs.Rules.{first_broken}
-use Rattle.tsb_rules.proofs.ConsistentLemmas.{preempt_sound}
-use Rattle.tsb_rules.proofs.RuleLemmas.{Passes, some-run_from}
+use Rattle.tsb_objects.specs.tsb_plan.declared.object.Object.TheVariants.{PreemptTrackPhase, PreemptDwellPhase}
+use Rattle.tsb_objects.specs.tsb_plan.Plan.{Plan}
+use Rattle.tsb_objects.specs.tsb_rules.Consistent.{AreCompatible, IsPreemptSound}
+use Rattle.tsb_objects.specs.tsb_rules.Rules.{first_broken}
+use Rattle.tsb_objects.proofs.tsb_rules.ConsistentLemmas.{preempt_sound}
+use Rattle.tsb_objects.proofs.tsb_rules.RuleLemmas.{Passes, some-run_from}
 use Rattle.tsb_preempt.specs.Preempts.{Preempts, Given, has_input, requests, requesting, if_may_begin, may_begin, beginning, going_on, service_by, new_service, is_preempt}
 use Rattle.tsb_preempt.specs.Service.{Service, has_track, has_dwell, has_exit, stage_phases, begun, ends_track, ends_dwell, ends_exit, stage_after, new_stage, with_stage, moved}
 use Rattle.tsb_ring.proofs.WaitLemmas.{cond_is, first-passes}

@@ -4,10 +4,10 @@ use Rattle.tsb_cells.specs.Diff.{diff, apply_diff}
 use Rattle.tsb_cells.proofs.DiffLemmas.{apply_diff-diff}
 use Rattle.tsb_types.specs.declared.lamp.Lamp.{Lamp}
 use Rattle.tsb_types.specs.declared.row.Row.{Row}
-use Rattle.tsb_plan.specs.Plan.{Plan}
+use Rattle.tsb_objects.specs.tsb_plan.Plan.{Plan}
 use Rattle.tsb_machine.specs.Laws.{GivesBack, CountsTicks}
-use Rattle.tsb_history.specs.declared.kinds.Kind.{Kind}
-use Rattle.tsb_history.specs.declared.kinds.Kind.TheVariants as kinds
+use Rattle.tsb_machine.specs.tsb_history.declared.kinds.Kind.{Kind}
+use Rattle.tsb_machine.specs.tsb_history.declared.kinds.Kind.TheVariants as kinds
 use Rattle.tsb_step.specs.declared.inputs.Input.{Input}
 use Rattle.tsb_step.specs.declared.inputs.Input.TheVariants.{Tick, Fault, Reset}
 use Rattle.tsb_step.specs.State.{State, start, restarted}

@@ -16,8 +16,8 @@
 -- These numbers stand in `src/first_cell.rt`, each as a sum; `proofs/Examples/CellsExamples.antt` has them in digits.
 use Rattle.std.specs.Prelude.{ℕ, ◌+◌, List, ◌++◌, Option, Some, None}
 use Rattle.tsb_cells.specs.Row.{row_at}
-use Rattle.tsb_plan.specs.declared.object.TheConstants.{PLAN_CELLS}
-use Rattle.tsb_plan.specs.PlanOf.{plan_in, plan_cells}
+use Rattle.tsb_objects.specs.tsb_plan.declared.object.TheConstants.{PLAN_CELLS}
+use Rattle.tsb_objects.specs.tsb_plan.PlanOf.{plan_in, plan_cells}
 use Rattle.tsb_detect.specs.declared.TheConstants.{CELLS as DETECTOR_CELLS}
 use Rattle.tsb_detect.specs.Cells.{detectors_cells, detector_in}
 use Rattle.tsb_transact.specs.declared.TheConstants.{CELLS as DESK_CELLS}

@@ -6,8 +6,8 @@ use Rattle.tsb_cells.specs.Timer.{has_reached}
 use Rattle.tsb_types.specs.declared.interval.Interval.TheVariants.{Yellow, RedClear}
 use Rattle.tsb_types.specs.declared.interval.PedestrianInterval.TheVariants.{DontWalk}
 use Rattle.tsb_types.specs.declared.row.Row.{Row}
-use Rattle.tsb_plan.specs.Plan.{is_enabled, yellow_change}
-use Rattle.tsb_plan.specs.Running.{is_coordinated_now}
+use Rattle.tsb_objects.specs.tsb_plan.Plan.{is_enabled, yellow_change}
+use Rattle.tsb_objects.specs.tsb_plan.Running.{is_coordinated_now}
 use Rattle.tsb_phase.specs.ClearanceLaws.{clearance}
 use Rattle.tsb_phase.specs.Laws.{least_green}
 use Rattle.tsb_phase.specs.Pedestrian.{ended_by, pedestrian_now}

@@ -2,7 +2,7 @@
 -- law here is the contract of a function in src/desk_laws.rt, and proved there. Runs are those of Runs, of inputs taken
 -- or not.
 use Rattle.std.specs.Prelude.{◌≡◌, Bool, true, false, if◌then◌else◌, List, [], ◌∷◌}
-use Rattle.tsb_plan.specs.Plan.{Plan}
+use Rattle.tsb_objects.specs.tsb_plan.Plan.{Plan}
 use Rattle.tsb_transact.specs.Desk.{closed}
 use Rattle.tsb_transact.specs.Calls.{committed_plan}
 use Rattle.tsb_step.specs.declared.inputs.Input.{Input}

@@ -1,7 +1,7 @@
 -- What every run keeps: of the plan in effect and the edits at the desk, of the rings and the heads, of a preempt in
 -- service.
 use Rattle.std.specs.Prelude.{◌≡◌, ℕ, ◌≤◌, List, [], ◌∷◌, Some, None, true}
-use Rattle.tsb_plan.specs.Plan.{Plan}
+use Rattle.tsb_objects.specs.tsb_plan.Plan.{Plan}
 use Rattle.tsb_ring.specs.Laws.{IsSound}
 use Rattle.tsb_preempt.specs.Preempts.{is_preempt}
 use Rattle.tsb_preempt.specs.Service.{Service}

@@ -7,13 +7,13 @@ use Rattle.std.specs.Prelude.{◌≡◌, ℕ, Bool, true, false, not, ◌&&◌, 
 use Rattle.tsb_types.specs.declared.interval.PedestrianInterval.TheVariants.{DontWalk}
 use Rattle.tsb_types.specs.declared.row.Row.{Row}
 use Rattle.tsb_types.specs.Intervals.{in_service, is_green}
-use Rattle.tsb_plan.specs.declared.object.Object.{Object}
-use Rattle.tsb_plan.specs.declared.plan.Plan as memory
-use Rattle.tsb_plan.specs.Plan.{Plan, is_concurrent}
-use Rattle.tsb_plan.specs.declared.object.ObjectId.{ObjectId}
-use Rattle.tsb_plan.specs.PlanOf.{plan_of, put_refusal}
-use Rattle.tsb_rules.specs.Consistent.{AreCompatible}
-use Rattle.tsb_rules.specs.Rules.{first_broken}
+use Rattle.tsb_objects.specs.tsb_plan.declared.object.Object.{Object}
+use Rattle.tsb_objects.specs.tsb_plan.declared.plan.Plan as memory
+use Rattle.tsb_objects.specs.tsb_plan.Plan.{Plan, is_concurrent}
+use Rattle.tsb_objects.specs.tsb_plan.declared.object.ObjectId.{ObjectId}
+use Rattle.tsb_objects.specs.tsb_plan.PlanOf.{plan_of, put_refusal}
+use Rattle.tsb_objects.specs.tsb_rules.Consistent.{AreCompatible}
+use Rattle.tsb_objects.specs.tsb_rules.Rules.{first_broken}
 use Rattle.tsb_ring.specs.declared.ring_order.RingOrder.{RingOrder}
 use Rattle.tsb_ring.specs.Laws.{Agree}
 use Rattle.tsb_ring.specs.Moves.{acted, is_started}

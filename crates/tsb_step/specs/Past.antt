@@ -3,10 +3,10 @@
 -- records, stands in tsb_machine.
 use Rattle.std.specs.Prelude.{◌≡◌, ℕ, ◌-◌, List, length}
 use Rattle.tsb_cells.specs.Diff.{diff, apply_diff}
-use Rattle.tsb_history.specs.History.{Change}
-use Rattle.tsb_history.specs.declared.kinds.Kind.{Kind}
-use Rattle.tsb_history.specs.declared.kinds.Kind.TheVariants.{Tick}
-use Rattle.tsb_plan.specs.Plan.{Plan}
+use Rattle.tsb_machine.specs.tsb_history.History.{Change}
+use Rattle.tsb_machine.specs.tsb_history.declared.kinds.Kind.{Kind}
+use Rattle.tsb_machine.specs.tsb_history.declared.kinds.Kind.TheVariants.{Tick}
+use Rattle.tsb_objects.specs.tsb_plan.Plan.{Plan}
 use Rattle.tsb_machine.specs.Machine.{Machine}
 use Rattle.tsb_machine.specs.Past as past
 use Rattle.tsb_machine.specs.Laws.{GivesBack, CountsTicks, TellsKinds}

@@ -2,9 +2,9 @@
 -- up, the newest first; the state is that of a replay of the inputs that remain. What each of these is, of any machine
 -- with records, stands in tsb_machine.
 use Rattle.std.specs.Prelude.{ℕ, List}
-use Rattle.tsb_history.specs.History.{Change}
+use Rattle.tsb_machine.specs.tsb_history.History.{Change}
 use Rattle.tsb_types.specs.declared.watch.Watch.{Watch}
-use Rattle.tsb_plan.specs.Plan.{Plan}
+use Rattle.tsb_objects.specs.tsb_plan.Plan.{Plan}
 use Rattle.tsb_machine.specs.declared.commands.Command.{Command}
 use Rattle.tsb_machine.specs.declared.commands.Answer.{Answer}
 use Rattle.tsb_machine.specs.Machine as machine

@@ -1,6 +1,6 @@
 -- Runs of the controller: inputs are piled up, the newest first.
 use Rattle.std.specs.Prelude.{List}
-use Rattle.tsb_plan.specs.Plan.{Plan}
+use Rattle.tsb_objects.specs.tsb_plan.Plan.{Plan}
 use Rattle.tsb_machine.specs.Machine as machine
 use Rattle.tsb_step.specs.declared.inputs.Input.{Input}
 use Rattle.tsb_step.specs.State.{State, start}

@@ -1,16 +1,16 @@
 -- What each input makes of the controller, and why an input is refused.
 use Rattle.std.specs.Prelude.{ℕ, ◌+◌, nat_lt, Bool, Option, Some, None, is_some, if◌then◌else◌}
-use Rattle.tsb_history.specs.declared.kinds.Kind.{Kind}
-use Rattle.tsb_history.specs.declared.kinds.Kind.TheVariants as kinds
+use Rattle.tsb_machine.specs.tsb_history.declared.kinds.Kind.{Kind}
+use Rattle.tsb_machine.specs.tsb_history.declared.kinds.Kind.TheVariants as kinds
 use Rattle.tsb_types.specs.declared.lamp.Lamp.{Lamp}
 use Rattle.tsb_types.specs.declared.limits.TheConstants.{TICKS}
 use Rattle.tsb_types.specs.declared.refusal.Refusal.{Refusal}
 use Rattle.tsb_types.specs.declared.refusal.Refusal.TheVariants.{TickLimit, TooManyEdits}
 use Rattle.tsb_types.specs.declared.row.Row.{Row}
-use Rattle.tsb_plan.specs.declared.object.ObjectId.{ObjectId}
-use Rattle.tsb_plan.specs.Plan.{Plan}
-use Rattle.tsb_rules.specs.declared.rules.Rule.{Rule}
-use Rattle.tsb_rules.specs.Rules.{first_broken}
+use Rattle.tsb_objects.specs.tsb_plan.declared.object.ObjectId.{ObjectId}
+use Rattle.tsb_objects.specs.tsb_plan.Plan.{Plan}
+use Rattle.tsb_objects.specs.tsb_rules.declared.rules.Rule.{Rule}
+use Rattle.tsb_objects.specs.tsb_rules.Rules.{first_broken}
 use Rattle.tsb_phase.specs.Moves.{unforced}
 use Rattle.tsb_ring.specs.Rings as rings
 use Rattle.tsb_coord.specs.Coordinated as coordination

@@ -4,14 +4,14 @@ use Rattle.std.specs.Prelude.{◌≡◌, ℕ, ◌-◌, ◌*◌, ◌^◌, nat_le,
 use Rattle.std.specs.List.{list_all}
 use Rattle.tsb_types.specs.declared.refusal.Refusal.{Refusal}
 use Rattle.tsb_types.specs.declared.refusal.Refusal.TheVariants.{NoSuchObject, OutOfRange}
-use Rattle.tsb_plan.specs.declared.object.Object.{Object}
-use Rattle.tsb_plan.specs.declared.object.Object.TheVariants.{PhaseSide, PhaseConcurrency, VehicleDetectorCallPhase, PedestrianDetectorCallPhase, OverlapIncludedPhases, SequenceData, PreemptTrackPhase, PreemptDwellPhase, PreemptExitPhase, PhaseDynamicMaxLimit, PhaseDynamicMaxStep, OverlapModifierPhases}
-use Rattle.tsb_plan.specs.declared.object.ObjectId.{ObjectId}
-use Rattle.tsb_plan.specs.declared.version.Version.{Version}
-use Rattle.tsb_plan.specs.declared.version.Version.TheVariants.{One, Two}
-use Rattle.tsb_plan.specs.Objects.{objects, indices, greatest}
-use Rattle.tsb_plan.specs.Plan.{Plan}
-use Rattle.tsb_plan.specs.Versions.{is_by_phase, is_in_rows, has_object, indices_in, greatest_in}
+use Rattle.tsb_objects.specs.tsb_plan.declared.object.Object.{Object}
+use Rattle.tsb_objects.specs.tsb_plan.declared.object.Object.TheVariants.{PhaseSide, PhaseConcurrency, VehicleDetectorCallPhase, PedestrianDetectorCallPhase, OverlapIncludedPhases, SequenceData, PreemptTrackPhase, PreemptDwellPhase, PreemptExitPhase, PhaseDynamicMaxLimit, PhaseDynamicMaxStep, OverlapModifierPhases}
+use Rattle.tsb_objects.specs.tsb_plan.declared.object.ObjectId.{ObjectId}
+use Rattle.tsb_objects.specs.tsb_plan.declared.version.Version.{Version}
+use Rattle.tsb_objects.specs.tsb_plan.declared.version.Version.TheVariants.{One, Two}
+use Rattle.tsb_objects.specs.tsb_plan.Objects.{objects, indices, greatest}
+use Rattle.tsb_objects.specs.tsb_plan.Plan.{Plan}
+use Rattle.tsb_objects.specs.tsb_plan.Versions.{is_by_phase, is_in_rows, has_object, indices_in, greatest_in}
 
 -- the index of the object is a phase
 abbrev pub is_of_phases : Object → Bool

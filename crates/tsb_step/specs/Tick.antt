@@ -13,8 +13,8 @@ use Rattle.tsb_types.specs.declared.row.Row.{Row}
 use Rattle.tsb_types.specs.Clip.{clipped, within}
 use Rattle.tsb_types.specs.Intervals.{is_green}
 use Rattle.tsb_types.specs.Sets.{has_number}
-use Rattle.tsb_plan.specs.Parts.{call_phase}
-use Rattle.tsb_plan.specs.Running.{running}
+use Rattle.tsb_objects.specs.tsb_plan.Parts.{call_phase}
+use Rattle.tsb_objects.specs.tsb_plan.Running.{running}
 use Rattle.tsb_detect.specs.Detector as detector
 use Rattle.tsb_detect.specs.Detector.{Detector}
 use Rattle.tsb_calls.specs.Memories as calls

@@ -11,8 +11,8 @@ use Rattle.tsb_types.specs.declared.interval.Interval.TheVariants.{Red, Green, Y
 use Rattle.tsb_types.specs.declared.lamp.Aspect.{Aspect}
 use Rattle.tsb_types.specs.declared.lamp.Aspect.TheVariants as aspects
 use Rattle.tsb_types.specs.declared.row.Row.{Row}
-use Rattle.tsb_plan.specs.Plan.{Plan, yellow_change, red_clear, red_revert, side_of}
-use Rattle.tsb_plan.specs.Parts.{is_minus_green_yellow}
+use Rattle.tsb_objects.specs.tsb_plan.Plan.{Plan, yellow_change, red_clear, red_revert, side_of}
+use Rattle.tsb_objects.specs.tsb_plan.Parts.{is_minus_green_yellow}
 use Rattle.tsb_phase.specs.Pedestrian.{ended_by, walk_time, clearance_time}
 use Rattle.tsb_phase.specs.Laws.{least_green}
 use Rattle.tsb_phase.specs.Phase.{Phase}

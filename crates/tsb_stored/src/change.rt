@@ -1,8 +1,8 @@
 //! Changes of plans.
 ghost use Rattle.std.specs.Prelude.{◌≡◌, OnErr, OnOk};
-ghost use Rattle.tsb_plan.specs.Plan.{with_value};
-ghost use Rattle.tsb_plan.specs.PlanOf.{plan_of};
-ghost use Rattle.tsb_plan.specs.Versions.{translated};
+ghost use Rattle.tsb_objects.specs.tsb_plan.Plan.{with_value};
+ghost use Rattle.tsb_objects.specs.tsb_plan.PlanOf.{plan_of};
+ghost use Rattle.tsb_objects.specs.tsb_plan.Versions.{translated};
 
 use tsb_objects::{Object, ObjectId, Plan, Refusal, Version};
 

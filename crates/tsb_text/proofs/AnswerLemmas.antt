@@ -2,27 +2,27 @@
 use Rattle.std.proofs.Common.{◌≡◌, ℕ, ◌+◌, List, [], ◌∷◌, ◌++◌, None, refl, sym, ap, ◌∙◌, append_assoc, Ok, Err, subst, suc, OnOk, OnErr, inl, inr, codes}
 use Rattle.std.specs.declared.option.Option.{Option}
 use Rattle.std.specs.declared.result.Result.{Result}
-use Rattle.tsb_plan.specs.Plan.{Plan}
-use Rattle.tsb_types.specs.declared.refusal.Refusal.{Refusal}
-use Rattle.tsb_machine.specs.declared.commands.Command.TheVariants.{Apply}
-use Rattle.tsb_machine.specs.declared.commands.Answer.{Answer}
-use Rattle.tsb_machine.specs.declared.commands.Answer.TheVariants.{Took, Refused}
-use Rattle.tsb_machine.specs.Play as play
-use Rattle.tsb_machine.specs.Play.{IsRefusal}
-use Rattle.tsb_machine.proofs.PlayLemmas as past
-use Rattle.tsb_step.specs.declared.inputs.Input.{Input}
-use Rattle.tsb_step.specs.declared.inputs.Input.TheVariants.{Tick}
-use Rattle.tsb_step.specs.State.{State, start}
-use Rattle.tsb_step.specs.Past.{Whole, controller, record_of, earlier}
-use Rattle.tsb_step.specs.Play.{Cmd, IsRight, remaining_after, Follows}
-use Rattle.tsb_step.specs.Runs.{replay}
-use Rattle.tsb_step.specs.Step.{step, verdict}
-use Rattle.tsb_step.specs.Watches.{watched}
+use Rattle.tsb_objects.specs.tsb_plan.Plan.{Plan}
+use Rattle.tsb_objects.specs.tsb_types.declared.refusal.Refusal.{Refusal}
+use Rattle.tsb_bench.specs.tsb_machine.declared.commands.Command.TheVariants.{Apply}
+use Rattle.tsb_bench.specs.tsb_machine.declared.commands.Answer.{Answer}
+use Rattle.tsb_bench.specs.tsb_machine.declared.commands.Answer.TheVariants.{Took, Refused}
+use Rattle.tsb_bench.specs.tsb_machine.Play as play
+use Rattle.tsb_bench.specs.tsb_machine.Play.{IsRefusal}
+use Rattle.tsb_bench.proofs.tsb_machine.PlayLemmas as past
+use Rattle.tsb_bench.specs.tsb_step.declared.inputs.Input.{Input}
+use Rattle.tsb_bench.specs.tsb_step.declared.inputs.Input.TheVariants.{Tick}
+use Rattle.tsb_bench.specs.tsb_step.State.{State, start}
+use Rattle.tsb_bench.specs.tsb_step.Past.{Whole, controller, record_of, earlier}
+use Rattle.tsb_bench.specs.tsb_step.Play.{Cmd, IsRight, remaining_after, Follows}
+use Rattle.tsb_bench.specs.tsb_step.Runs.{replay}
+use Rattle.tsb_bench.specs.tsb_step.Step.{step, verdict}
+use Rattle.tsb_bench.specs.tsb_step.Watches.{watched}
 use Rattle.tsb_bench.specs.Held.{Held, state_of, whole}
 use Rattle.tsb_command_text.specs.declared.command.Command.TheVariants.{Show, Quit}
 use Rattle.tsb_log_text.specs.declared.log.LogRow.{LogRow}
 use Rattle.tsb_log_text.specs.Logs.{row_at}
-use Rattle.tsb_types.specs.declared.row.Row.{Row}
+use Rattle.tsb_objects.specs.tsb_types.declared.row.Row.{Row}
 use Rattle.std.proofs.lemmas.List.{append-nil}
 use Rattle.tsb_lines.specs.declared.writes.WriteError.{WriteError}
 use Rattle.tsb_text.specs.Answers.{Setup, Asked, Steps, Answers, next_tick, told, refused_line, display_line}

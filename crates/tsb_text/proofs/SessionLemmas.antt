@@ -4,8 +4,8 @@ use Rattle.std.proofs.lemmas.List.{append-nil}
 use Rattle.std.specs.declared.option.Option.{Option}
 use Rattle.std.specs.declared.result.Result.{Result}
 use Rattle.std.specs.Io.KnownBytes.{Consumes, Keeps, IsAtEnd}
-use Rattle.tsb_step.specs.declared.inputs.Input.{Input}
-use Rattle.tsb_step.specs.Past.{Whole}
+use Rattle.tsb_bench.specs.tsb_step.declared.inputs.Input.{Input}
+use Rattle.tsb_bench.specs.tsb_step.Past.{Whole}
 use Rattle.tsb_bench.specs.Held.{Held, whole}
 use Rattle.tsb_lines.proofs.StreamLemmas.{consumes-kept, consumes-more, consumes-nothing}
 use Rattle.tsb_lines.specs.Lines.{HasNoFeed}

@@ -2,17 +2,17 @@
 use Rattle.std.proofs.Common.{◌≡◌, ℕ, ◌+◌, ◌<◌, ◌≤◌, List, [], ◌∷◌, ◌++◌, length, refl, sym, ap, ◌∙◌, arith, rules, subst, zero, suc, true, false, cond, eqb, Bool, length-append, ◌⊎◌, inl, inr, nat_lt, Some, None}
 use Rattle.std.proofs.lemmas.Bool.Decides.{eqb_tells}
 use Rattle.std.specs.declared.option.Option.{Option}
-use Rattle.tsb_plan.specs.Plan.{Plan}
-use Rattle.tsb_types.specs.declared.refusal.Refusal.{Refusal}
-use Rattle.tsb_types.specs.declared.watch.Watch.{Watch}
-use Rattle.tsb_machine.specs.declared.commands.Command.TheVariants as asks
-use Rattle.tsb_machine.specs.declared.commands.Answer.{Answer}
-use Rattle.tsb_machine.specs.declared.commands.Answer.TheVariants.{Took, Refused, Undone, Moved, Nothing, Changed}
-use Rattle.tsb_step.specs.declared.inputs.Input.{Input}
-use Rattle.tsb_step.specs.Play.{Cmd, IsRight, run}
-use Rattle.tsb_step.specs.Runs.{replay}
-use Rattle.tsb_step.specs.Step.{kind_of, verdict}
-use Rattle.tsb_step.specs.Watches.{TellsLastChange}
+use Rattle.tsb_objects.specs.tsb_plan.Plan.{Plan}
+use Rattle.tsb_objects.specs.tsb_types.declared.refusal.Refusal.{Refusal}
+use Rattle.tsb_objects.specs.tsb_types.declared.watch.Watch.{Watch}
+use Rattle.tsb_bench.specs.tsb_machine.declared.commands.Command.TheVariants as asks
+use Rattle.tsb_bench.specs.tsb_machine.declared.commands.Answer.{Answer}
+use Rattle.tsb_bench.specs.tsb_machine.declared.commands.Answer.TheVariants.{Took, Refused, Undone, Moved, Nothing, Changed}
+use Rattle.tsb_bench.specs.tsb_step.declared.inputs.Input.{Input}
+use Rattle.tsb_bench.specs.tsb_step.Play.{Cmd, IsRight, run}
+use Rattle.tsb_bench.specs.tsb_step.Runs.{replay}
+use Rattle.tsb_bench.specs.tsb_step.Step.{kind_of, verdict}
+use Rattle.tsb_bench.specs.tsb_step.Watches.{TellsLastChange}
 use Rattle.tsb_command_text.specs.declared.command.Command.{Command}
 use Rattle.tsb_command_text.specs.declared.command.Command.TheVariants.{Step, Back, Seek, Undo, Show, When, Quit}
 use Rattle.tsb_command_text.specs.declared.command.Reading.{Reading}
@@ -23,7 +23,7 @@ use Rattle.tsb_lines.proofs.KeptLemmas.{feedless-kept, kept-tells}
 use Rattle.tsb_lines.proofs.LineLemmas.{length-return}
 use Rattle.tsb_text.specs.Answers.{Setup, Asked, Steps, Answers, next_tick}
 use Rattle.tsb_text.specs.Text.{GoesOn, Says, IsAnswered, IsText}
-use Rattle.tsb_step.proofs.RefusalLemmas.{refuses}
+use Rattle.tsb_bench.proofs.tsb_step.RefusalLemmas.{refuses}
 use Rattle.tsb_text.proofs.WatchLemmas.{some-change}
 
 -- ## There is an answer to each command: one that does not run out of memory

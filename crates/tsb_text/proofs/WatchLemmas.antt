@@ -1,21 +1,21 @@
 -- Of a run it can always be told when a watched value changed last: watched values are equal or they are not.
 use Rattle.std.proofs.Common.{◌≡◌, ◌≢◌, ◌⊎◌, ℕ, zero, suc, Bool, true, false, List, [], ◌∷◌, Option, Some, None, refl, sym, ap, ap₂, ◌∙◌, inl, inr}
 use Rattle.std.proofs.lemmas.Bool.Decides.{eqb_tells}
-use Rattle.tsb_types.specs.declared.interval.Interval.{Interval}
-use Rattle.tsb_types.specs.declared.interval.Interval.TheVariants as intervals
-use Rattle.tsb_types.specs.declared.interval.PedestrianInterval.{PedestrianInterval}
-use Rattle.tsb_types.specs.declared.interval.PedestrianInterval.TheVariants as parts
-use Rattle.tsb_types.specs.declared.stage.Stage.{Stage}
-use Rattle.tsb_types.specs.declared.stage.Stage.TheVariants as stages
-use Rattle.tsb_types.specs.declared.watch.Watch.{Watch}
-use Rattle.tsb_types.specs.declared.watch.Watch.TheVariants as watches
-use Rattle.tsb_detect.specs.declared.alarm.Alarm.{Alarm}
-use Rattle.tsb_detect.specs.declared.alarm.Alarm.TheVariants as alarms
-use Rattle.tsb_heads.specs.declared.monitor.Trip.{Trip}
-use Rattle.tsb_heads.specs.declared.monitor.Trip.TheVariants.{Conflict, GreenToRed}
-use Rattle.tsb_step.specs.State.{State, Tripped, interval, pedestrian_part}
-use Rattle.tsb_step.specs.Signs.{stage}
-use Rattle.tsb_step.specs.Watches.{Watched, OfInterval, OfPedestrian, OfCall, OfOutput, OfAlarm, OfStage, OfTrip, watched, TellsLastChange}
+use Rattle.tsb_objects.specs.tsb_types.declared.interval.Interval.{Interval}
+use Rattle.tsb_objects.specs.tsb_types.declared.interval.Interval.TheVariants as intervals
+use Rattle.tsb_objects.specs.tsb_types.declared.interval.PedestrianInterval.{PedestrianInterval}
+use Rattle.tsb_objects.specs.tsb_types.declared.interval.PedestrianInterval.TheVariants as parts
+use Rattle.tsb_objects.specs.tsb_types.declared.stage.Stage.{Stage}
+use Rattle.tsb_objects.specs.tsb_types.declared.stage.Stage.TheVariants as stages
+use Rattle.tsb_objects.specs.tsb_types.declared.watch.Watch.{Watch}
+use Rattle.tsb_objects.specs.tsb_types.declared.watch.Watch.TheVariants as watches
+use Rattle.tsb_bench.specs.tsb_detect.declared.alarm.Alarm.{Alarm}
+use Rattle.tsb_bench.specs.tsb_detect.declared.alarm.Alarm.TheVariants as alarms
+use Rattle.tsb_display_text.specs.tsb_heads.declared.monitor.Trip.{Trip}
+use Rattle.tsb_display_text.specs.tsb_heads.declared.monitor.Trip.TheVariants.{Conflict, GreenToRed}
+use Rattle.tsb_bench.specs.tsb_step.State.{State, Tripped, interval, pedestrian_part}
+use Rattle.tsb_bench.specs.tsb_step.Signs.{stage}
+use Rattle.tsb_bench.specs.tsb_step.Watches.{Watched, OfInterval, OfPedestrian, OfCall, OfOutput, OfAlarm, OfStage, OfTrip, watched, TellsLastChange}
 
 -- two values are equal, or they are not
 abbrev Told : {A : Type 0} → A → A → Type 0

@@ -1,22 +1,22 @@
 -- What a session answers to a command, over the inputs that were not undone.
 use Rattle.std.specs.Prelude.{◌≡◌, ◌⊎◌, ℕ, zero, suc, ◌+◌, List, [], ◌∷◌, ◌++◌, Option, Some, None, option_map, codes}
-use Rattle.tsb_history.specs.declared.kinds.Kind.{Kind}
-use Rattle.tsb_history.specs.declared.kinds.Kind.TheVariants as kinds
-use Rattle.tsb_types.specs.declared.refusal.Refusal.{Refusal}
-use Rattle.tsb_types.specs.declared.refusal.Refusal.TheVariants as refusals
-use Rattle.tsb_types.specs.declared.stage.Stage.{Stage}
-use Rattle.tsb_rules.specs.declared.rules.Rule.{Rule}
-use Rattle.tsb_plan.specs.Plan.{Plan}
+use Rattle.tsb_bench.specs.tsb_history.declared.kinds.Kind.{Kind}
+use Rattle.tsb_bench.specs.tsb_history.declared.kinds.Kind.TheVariants as kinds
+use Rattle.tsb_objects.specs.tsb_types.declared.refusal.Refusal.{Refusal}
+use Rattle.tsb_objects.specs.tsb_types.declared.refusal.Refusal.TheVariants as refusals
+use Rattle.tsb_objects.specs.tsb_types.declared.stage.Stage.{Stage}
+use Rattle.tsb_objects.specs.tsb_rules.declared.rules.Rule.{Rule}
+use Rattle.tsb_objects.specs.tsb_plan.Plan.{Plan}
 use Rattle.tsb_plan_text.specs.RuleLines.{rule_line}
-use Rattle.tsb_machine.specs.declared.commands.Command.TheVariants as asks
-use Rattle.tsb_machine.specs.declared.commands.Answer.{Answer}
-use Rattle.tsb_machine.specs.declared.commands.Answer.TheVariants.{Took, Refused, Undone, Moved, Nothing, Changed}
-use Rattle.tsb_step.specs.declared.inputs.Input.{Input}
-use Rattle.tsb_step.specs.declared.inputs.Input.TheVariants as inputs
-use Rattle.tsb_step.specs.Play.{Cmd, IsRight, remaining_after}
-use Rattle.tsb_step.specs.Runs.{replay}
-use Rattle.tsb_step.specs.Signs.{display, local, stage}
-use Rattle.tsb_step.specs.State.{State}
+use Rattle.tsb_bench.specs.tsb_machine.declared.commands.Command.TheVariants as asks
+use Rattle.tsb_bench.specs.tsb_machine.declared.commands.Answer.{Answer}
+use Rattle.tsb_bench.specs.tsb_machine.declared.commands.Answer.TheVariants.{Took, Refused, Undone, Moved, Nothing, Changed}
+use Rattle.tsb_bench.specs.tsb_step.declared.inputs.Input.{Input}
+use Rattle.tsb_bench.specs.tsb_step.declared.inputs.Input.TheVariants as inputs
+use Rattle.tsb_bench.specs.tsb_step.Play.{Cmd, IsRight, remaining_after}
+use Rattle.tsb_bench.specs.tsb_step.Runs.{replay}
+use Rattle.tsb_bench.specs.tsb_step.Signs.{display, local, stage}
+use Rattle.tsb_bench.specs.tsb_step.State.{State}
 use Rattle.tsb_display_text.specs.Line.{line_of, tick_field}
 use Rattle.tsb_command_text.specs.declared.command.Command.{Command}
 use Rattle.tsb_command_text.specs.declared.command.Command.TheVariants.{Step, Back, Seek, Undo, Show, Quit, When, Begin, Set, Verify, Commit, Abort, Pattern, Preempt, Fault, Reset}

@@ -1,7 +1,7 @@
 -- How a session ends: what it has written for the bytes that it has read.
 use Rattle.std.specs.Prelude.{◌≡◌, ◌⊎◌, ◌↔◌, ◌<◌, ◌≤◌, ℕ, List, [], ◌∷◌, ◌++◌, length, take, Option, Result, Ok, Err}
 use Rattle.std.specs.Io.KnownBytes.{Appends, Consumes, IsAtEnd}
-use Rattle.tsb_step.specs.declared.inputs.Input.{Input}
+use Rattle.tsb_bench.specs.tsb_step.declared.inputs.Input.{Input}
 use Rattle.tsb_command_text.specs.declared.command.Command.TheVariants.{Quit}
 use Rattle.tsb_command_text.specs.declared.command.Reading.TheVariants.{Do}
 use Rattle.tsb_command_text.specs.Readings.{reading}

@@ -8,3 +8,11 @@ pub mod Text
 pub mod Ended
 -- what private functions of a session promise each other
 pub mod Talk
+-- the names of crates below, for those above
+pub use Rattle.tsb_lines.specs as tsb_lines
+pub use Rattle.tsb_objects.specs.tsb_plan as tsb_plan
+pub use Rattle.tsb_objects.specs.tsb_rules as tsb_rules
+pub use Rattle.tsb_objects.specs as tsb_objects
+pub use Rattle.tsb_command_text.specs as tsb_command_text
+pub use Rattle.tsb_plan_text.specs as tsb_plan_text
+pub use Rattle.tsb_display_text.specs as tsb_display_text

@@ -1,8 +1,8 @@
 //! Answers to commands.
 
 ghost use Rattle.std.specs.Prelude.{◌≡◌, ◌+◌, [], List, OnErr, OnOk, true};
-ghost use Rattle.tsb_machine.specs.declared.commands.Command.TheVariants.{Apply};
-ghost use Rattle.tsb_step.specs.declared.inputs.Input.{Input as InputValue};
+ghost use Rattle.tsb_bench.specs.tsb_machine.declared.commands.Command.TheVariants.{Apply};
+ghost use Rattle.tsb_bench.specs.tsb_step.declared.inputs.Input.{Input as InputValue};
 ghost use Rattle.tsb_bench.specs.Held.{whole};
 ghost use Rattle.tsb_log_text.specs.declared.log.LogRow.{LogRow};
 ghost use Rattle.tsb_text.specs.Answers.{Setup, Answers, Asked, Steps, when_line};

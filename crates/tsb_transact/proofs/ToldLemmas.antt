@@ -4,12 +4,12 @@ use Rattle.std.proofs.lemmas.Bool.{cases_lt}
 use Rattle.std.proofs.lemmas.Bool.Decides.{eqb_tells, nat_tests}
 use Rattle.std.proofs.lemmas.List.{drop_more, drop_all, same_lists, get_or_default}
 use Rattle.std.proofs.lemmas.List.Elements.{All-get_or}
-use Rattle.tsb_types.specs.Lists.{run_from}
+use Rattle.tsb_objects.specs.tsb_types.Lists.{run_from}
 use Rattle.tsb_plan.specs.Objects.{has_index, greatest}
 use Rattle.tsb_plan.specs.Parts.{unless_zero}
 use Rattle.tsb_plan.specs.PlanOf.{put_refusal}
-use Rattle.tsb_rules.specs.declared.rules.Rule.{Rule}
-use Rattle.tsb_rules.specs.declared.rules.Rule.TheVariants.{K1, K2, K3, K4, K5, K6, K7, K8, K9, K10, K11, K12, K13, K14, K15, K16, K17, K18, K19, K20, K21, K22}
+use Rattle.tsb_objects.specs.tsb_rules.declared.rules.Rule.{Rule}
+use Rattle.tsb_objects.specs.tsb_rules.declared.rules.Rule.TheVariants.{K1, K2, K3, K4, K5, K6, K7, K8, K9, K10, K11, K12, K13, K14, K15, K16, K17, K18, K19, K20, K21, K22}
 use Rattle.tsb_transact.specs.declared.TheConstants.{CELLS, MOST_EDITS}
 use Rattle.tsb_transact.specs.declared.desk_state.DeskState.{DeskState}
 use Rattle.tsb_transact.specs.declared.desk_state.DeskState.TheVariants.{Normal, Transaction, Verify, Done}

@@ -4,10 +4,10 @@
 --
 -- In a plan that breaks no rule no detector or button calls such a phase (K12, K13). The definitions are of every plan.
 use Rattle.std.specs.Prelude.{◌≡◌, ◌∷◌, [], true, false, refl}
-use Rattle.tsb_types.specs.Lists.{run_from, among}
-use Rattle.tsb_plan.specs.declared.object.Object.TheVariants.{PhaseEnabled, PhaseMinRecall, PhasePedRecall, PhaseWalk, VehicleDetectorCallPhase, PedestrianDetectorCallPhase}
-use Rattle.tsb_plan.specs.Plan.{Plan, with_value, with_values}
-use Rattle.tsb_plan.specs.Quad.{quad}
+use Rattle.tsb_objects.specs.tsb_types.Lists.{run_from, among}
+use Rattle.tsb_objects.specs.tsb_plan.declared.object.Object.TheVariants.{PhaseEnabled, PhaseMinRecall, PhasePedRecall, PhaseWalk, VehicleDetectorCallPhase, PedestrianDetectorCallPhase}
+use Rattle.tsb_objects.specs.tsb_plan.Plan.{Plan, with_value, with_values}
+use Rattle.tsb_objects.specs.tsb_plan.Quad.{quad}
 use Rattle.tsb_calls.specs.Memories.{Memories, Given, at_power_up, has_output, has_button, vehicle_memory, pedestrian_memory}
 use Rattle.tsb_calls.specs.Callable.{has_pedestrian_call, is_callable}
 use Rattle.tsb_calls.proofs.Examples.Examples.{resting, rising, callables}

@@ -1,13 +1,13 @@
 -- What the definitions make of memories and counts, by computing, on the built-in plan of eight phases: buttons, actuations,
 -- the end of a preempt's service, and what the rings do.
 use Rattle.std.specs.Prelude.{◌≡◌, ℕ, ◌∷◌, [], Bool, true, false, if◌then◌else◌, List, Option, Some, None, map, refl}
-use Rattle.tsb_types.specs.declared.interval.PedestrianInterval.{PedestrianInterval}
-use Rattle.tsb_types.specs.declared.interval.PedestrianInterval.TheVariants.{DontWalk, Walk, PedestrianClear}
-use Rattle.tsb_types.specs.Lists.{run_from, among}
-use Rattle.tsb_types.specs.Sets.{number_of_bits}
-use Rattle.tsb_plan.specs.declared.object.Object.TheVariants.{PhaseNonLock, VehicleDetectorCallPhase, SplitMode}
-use Rattle.tsb_plan.specs.Plan.{Plan, with_value}
-use Rattle.tsb_plan.specs.Quad.{quad}
+use Rattle.tsb_objects.specs.tsb_types.declared.interval.PedestrianInterval.{PedestrianInterval}
+use Rattle.tsb_objects.specs.tsb_types.declared.interval.PedestrianInterval.TheVariants.{DontWalk, Walk, PedestrianClear}
+use Rattle.tsb_objects.specs.tsb_types.Lists.{run_from, among}
+use Rattle.tsb_objects.specs.tsb_types.Sets.{number_of_bits}
+use Rattle.tsb_objects.specs.tsb_plan.declared.object.Object.TheVariants.{PhaseNonLock, VehicleDetectorCallPhase, SplitMode}
+use Rattle.tsb_objects.specs.tsb_plan.Plan.{Plan, with_value}
+use Rattle.tsb_objects.specs.tsb_plan.Quad.{quad}
 use Rattle.tsb_calls.specs.Memories.{Memories, Given, at_power_up, has_output, actuations, has_button, vehicle_memory, pedestrian_memory, counted}
 use Rattle.tsb_calls.specs.Callable.{has_pedestrian_call}
 use Rattle.tsb_calls.specs.Settled.{Done, next}

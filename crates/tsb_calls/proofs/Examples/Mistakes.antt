@@ -1,13 +1,13 @@
 -- One-line mistakes, each with an example that tells it from the definition. In the built-in plan of eight phases detector d
 -- calls phase d.
 use Rattle.std.specs.Prelude.{◌≡◌, ℕ, ◌+◌, ◌==◌, Bool, true, false, not, ◌&&◌, ◌||◌, if◌then◌else◌, [], ◌∷◌, refl}
-use Rattle.tsb_types.specs.declared.interval.PedestrianInterval.TheVariants.{PedestrianClear}
-use Rattle.tsb_types.specs.Intervals.{is_dont_walk}
-use Rattle.tsb_types.specs.Lists.{run_from, some_passes}
-use Rattle.tsb_plan.specs.declared.object.Object.TheVariants.{PhaseNonLock}
-use Rattle.tsb_plan.specs.Plan.{Plan, phases, is_enabled, is_non_locking, has_soft_recall, ring_of, side_of, is_concurrent, with_value}
-use Rattle.tsb_plan.specs.Quad.{quad}
-use Rattle.tsb_rules.specs.Rules.{serves_pedestrians}
+use Rattle.tsb_objects.specs.tsb_types.declared.interval.PedestrianInterval.TheVariants.{PedestrianClear}
+use Rattle.tsb_objects.specs.tsb_types.Intervals.{is_dont_walk}
+use Rattle.tsb_objects.specs.tsb_types.Lists.{run_from, some_passes}
+use Rattle.tsb_objects.specs.tsb_plan.declared.object.Object.TheVariants.{PhaseNonLock}
+use Rattle.tsb_objects.specs.tsb_plan.Plan.{Plan, phases, is_enabled, is_non_locking, has_soft_recall, ring_of, side_of, is_concurrent, with_value}
+use Rattle.tsb_objects.specs.tsb_plan.Quad.{quad}
+use Rattle.tsb_objects.specs.tsb_rules.Rules.{serves_pedestrians}
 use Rattle.tsb_calls.specs.Memories.{Memories, Given, at_power_up, was_green, has_output, actuations, has_button, locks_call, is_called_back, vehicle_memory, pedestrian_memory, counted, as_set}
 use Rattle.tsb_calls.specs.Callable.{is_called, is_free, is_callable_otherwise, is_callable, has_conflict}
 use Rattle.tsb_calls.specs.Settled.{Done, is_cut_short, vehicle_after}

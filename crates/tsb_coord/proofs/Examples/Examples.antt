@@ -1,13 +1,13 @@
 -- What the definitions give, by computing: on the built-in plan of eight phases, whose patterns 1 and 2 have a cycle of 80
 -- seconds, offsets of 0 and 79, and 2 and 6 coordinated; and on a plan of four sides.
 use Rattle.std.specs.Prelude.{◌≡◌, ℕ, List, [], ◌∷◌, Option, Some, None, filter, map, refl}
-use Rattle.tsb_types.specs.declared.refusal.Refusal.TheVariants.{NoSuchPattern}
-use Rattle.tsb_types.specs.Lists.{run_from}
-use Rattle.tsb_plan.specs.declared.object.Object.TheVariants.{PhaseEnabled, PhaseRing, PhaseSide, PhaseConcurrency, PhaseYellowChange, PhaseRedClear, SequenceData, PatternCycleTime, PatternSplitNumber, PatternSequenceNumber, SplitTime, SplitMode, SplitCoordPhase}
-use Rattle.tsb_plan.specs.Plan.{Plan, empty, with_value, with_values}
-use Rattle.tsb_plan.specs.Quad.{quad, with_rows}
-use Rattle.tsb_rules.specs.PatternRules.{split_sum, side_sum, split_end, coordinated_count}
-use Rattle.tsb_rules.specs.Rules.{first_broken, broken_by_rings, broken_by_phases, broken_by_parts, broken_by_extensions}
+use Rattle.tsb_objects.specs.tsb_types.declared.refusal.Refusal.TheVariants.{NoSuchPattern}
+use Rattle.tsb_objects.specs.tsb_types.Lists.{run_from}
+use Rattle.tsb_objects.specs.tsb_plan.declared.object.Object.TheVariants.{PhaseEnabled, PhaseRing, PhaseSide, PhaseConcurrency, PhaseYellowChange, PhaseRedClear, SequenceData, PatternCycleTime, PatternSplitNumber, PatternSequenceNumber, SplitTime, SplitMode, SplitCoordPhase}
+use Rattle.tsb_objects.specs.tsb_plan.Plan.{Plan, empty, with_value, with_values}
+use Rattle.tsb_objects.specs.tsb_plan.Quad.{quad, with_rows}
+use Rattle.tsb_objects.specs.tsb_rules.PatternRules.{split_sum, side_sum, split_end, coordinated_count}
+use Rattle.tsb_objects.specs.tsb_rules.Rules.{first_broken, broken_by_rings, broken_by_phases, broken_by_parts, broken_by_extensions}
 use Rattle.tsb_coord.specs.Coordinated.{local, residue_of_difference, end_of, instant_from, force_off, asks_force_off, asks_hold, asks_omit, refusal, selects}
 use Rattle.tsb_coord.specs.Cells.{pattern_in, pattern_cells}
 

@@ -2,11 +2,11 @@
 -- phase has cleared. In pattern 1 of the built-in plan of eight phases the local counter is the tick number, within 800;
 -- phases 2 and 6 are coordinated, and their splits end at 400, that of phase 4 at 800.
 use Rattle.std.specs.Prelude.{◌≡◌, ℕ, ◌+◌, ◌-◌, ◌%◌, true, Some, refl}
-use Rattle.tsb_types.specs.Lists.{run_from}
-use Rattle.tsb_plan.specs.Plan.{Plan, yellow_change, red_clear}
-use Rattle.tsb_plan.specs.Parts.{cycle}
-use Rattle.tsb_plan.specs.Quad.{quad}
-use Rattle.tsb_rules.specs.PatternRules.{split_sum, side_sum, split_end}
+use Rattle.tsb_objects.specs.tsb_types.Lists.{run_from}
+use Rattle.tsb_objects.specs.tsb_plan.Plan.{Plan, yellow_change, red_clear}
+use Rattle.tsb_objects.specs.tsb_plan.Parts.{cycle}
+use Rattle.tsb_objects.specs.tsb_plan.Quad.{quad}
+use Rattle.tsb_objects.specs.tsb_rules.PatternRules.{split_sum, side_sum, split_end}
 use Rattle.tsb_coord.specs.Coordinated.{local, residue_of_difference, end_of, force_off, asks_force_off}
 use Rattle.tsb_coord.specs.Laws.{clear_of}
 

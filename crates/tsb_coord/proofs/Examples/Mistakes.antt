@@ -1,14 +1,14 @@
 -- One-line mistakes, each with an example that tells it from the definition.
 use Rattle.std.specs.Prelude.{◌≡◌, ℕ, ◌+◌, ◌-◌, ◌%◌, ◌==◌, Bool, true, false, not, ◌&&◌, if◌then◌else◌, [], ◌∷◌, map, Option, Some, None, sum_by, refl}
-use Rattle.tsb_types.specs.declared.refusal.Refusal.{Refusal}
-use Rattle.tsb_types.specs.declared.refusal.Refusal.TheVariants.{NoSuchPattern}
-use Rattle.tsb_types.specs.Lists.{run_from, up_to}
-use Rattle.tsb_plan.specs.declared.object.Object.TheVariants.{PatternSplitNumber, SplitMode}
-use Rattle.tsb_plan.specs.Plan.{Plan, is_enabled, ring_of, side_of, yellow_change, red_clear, sequence, with_value}
-use Rattle.tsb_plan.specs.Parts.{is_omitted, split_time, cycle, offset}
-use Rattle.tsb_plan.specs.Running.{is_coordinated_now}
-use Rattle.tsb_plan.specs.Quad.{quad}
-use Rattle.tsb_rules.specs.PatternRules.{split_before, split_sum, side_sum, split_end}
+use Rattle.tsb_objects.specs.tsb_types.declared.refusal.Refusal.{Refusal}
+use Rattle.tsb_objects.specs.tsb_types.declared.refusal.Refusal.TheVariants.{NoSuchPattern}
+use Rattle.tsb_objects.specs.tsb_types.Lists.{run_from, up_to}
+use Rattle.tsb_objects.specs.tsb_plan.declared.object.Object.TheVariants.{PatternSplitNumber, SplitMode}
+use Rattle.tsb_objects.specs.tsb_plan.Plan.{Plan, is_enabled, ring_of, side_of, yellow_change, red_clear, sequence, with_value}
+use Rattle.tsb_objects.specs.tsb_plan.Parts.{is_omitted, split_time, cycle, offset}
+use Rattle.tsb_objects.specs.tsb_plan.Running.{is_coordinated_now}
+use Rattle.tsb_objects.specs.tsb_plan.Quad.{quad}
+use Rattle.tsb_objects.specs.tsb_rules.PatternRules.{split_before, split_sum, side_sum, split_end}
 use Rattle.tsb_coord.specs.Coordinated.{counter, end_of, instant_from, residue_of_difference, asks_hold, refusal, is_pattern}
 use Rattle.tsb_coord.proofs.Examples.Examples.{four}
 use Rattle.tsb_coord.proofs.Examples.PatternExamples.{lagging}

@@ -1,13 +1,13 @@
 -- What the definitions give, by computing, where patterns differ: in their sequence, in their split table, and in what
 -- each split mode of a phase does while they run.
 use Rattle.std.specs.Prelude.{◌≡◌, ℕ, Bool, true, false, List, [], ◌∷◌, Option, Some, None, map, refl}
-use Rattle.tsb_types.specs.Lists.{run_from}
-use Rattle.tsb_plan.specs.declared.object.Object.TheVariants.{SequenceData, PatternSequenceNumber, PatternSplitNumber, SplitTime, SplitMode, SplitCoordPhase}
-use Rattle.tsb_plan.specs.Plan.{Plan, with_value, with_values}
-use Rattle.tsb_plan.specs.Running.{is_on_minimum_recall, is_on_maximum_recall, is_on_pedestrian_recall, is_omitted_now}
-use Rattle.tsb_plan.specs.Quad.{quad}
-use Rattle.tsb_rules.specs.PatternRules.{split_sum, side_sum, split_end, coordinated_count}
-use Rattle.tsb_rules.specs.Rules.{first_broken, broken_by_rings, broken_by_phases, broken_by_parts, broken_by_extensions}
+use Rattle.tsb_objects.specs.tsb_types.Lists.{run_from}
+use Rattle.tsb_objects.specs.tsb_plan.declared.object.Object.TheVariants.{SequenceData, PatternSequenceNumber, PatternSplitNumber, SplitTime, SplitMode, SplitCoordPhase}
+use Rattle.tsb_objects.specs.tsb_plan.Plan.{Plan, with_value, with_values}
+use Rattle.tsb_objects.specs.tsb_plan.Running.{is_on_minimum_recall, is_on_maximum_recall, is_on_pedestrian_recall, is_omitted_now}
+use Rattle.tsb_objects.specs.tsb_plan.Quad.{quad}
+use Rattle.tsb_objects.specs.tsb_rules.PatternRules.{split_sum, side_sum, split_end, coordinated_count}
+use Rattle.tsb_objects.specs.tsb_rules.Rules.{first_broken, broken_by_rings, broken_by_phases, broken_by_parts, broken_by_extensions}
 use Rattle.tsb_coord.specs.Coordinated.{force_off, serving_order}
 use Rattle.tsb_coord.proofs.Examples.Examples.{instants, quad_instants}
 

@@ -3,8 +3,8 @@ use Rattle.std.specs.Prelude.{◌≡◌, ℕ, nat_lt, nat_le, Bool, true, false,
 use Rattle.tsb_cells.specs.declared.timer.Timer.{Timer}
 use Rattle.tsb_cells.specs.declared.timer.Timer.TheVariants.{Off, On}
 use Rattle.tsb_cells.specs.Timer.{is_on, has_reached, is_below}
-use Rattle.tsb_plan.specs.Plan.{Plan}
-use Rattle.tsb_plan.specs.Parts.{detector_delay, detector_extend}
+use Rattle.tsb_objects.specs.tsb_plan.Plan.{Plan}
+use Rattle.tsb_objects.specs.tsb_plan.Parts.{detector_delay, detector_extend}
 use Rattle.tsb_detect.specs.declared.alarm.Alarm.TheVariants.{MaxPresence}
 use Rattle.tsb_detect.specs.Detector.{Detector, new_rises, is_minute, counted, exceeds, new_alarm, extending, sound_output, on_time}
 use Rattle.tsb_detect.proofs.Examples.Examples.{plan, on_for, counting}

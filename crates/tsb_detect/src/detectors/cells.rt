@@ -1,6 +1,6 @@
 //! Cells of detectors: lists and timers are read, and written where they change.
 ghost use Rattle.std.specs.Prelude.{◌≡◌, ◌≢◌, ℕ, ◌+◌, ◌*◌, ◌<◌, ◌≤◌, true, slice_index};
-ghost use Rattle.tsb_types.specs.Sets.{has_number};
+ghost use Rattle.tsb_objects.specs.tsb_types.Sets.{has_number};
 ghost use Rattle.tsb_detect.specs.Cells.{row_in};
 ghost use Rattle.tsb_detect.specs.Rows.{list_of_row, cell_of_row, with_list, with_cell};
 

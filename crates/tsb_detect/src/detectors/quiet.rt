@@ -1,8 +1,8 @@
 //! For how many ticks a tick has nothing to look at.
 ghost use Rattle.std.specs.Prelude.{◌≡◌, ℕ, ◌+◌, ◌-◌, ◌%◌, ◌<◌, ◌≤◌, ◌^◌, false};
 ghost use Rattle.tsb_objects.specs.Checked.{checked_plan};
-ghost use Rattle.tsb_plan.specs.PlanOf.{plan_of};
-ghost use Rattle.tsb_types.specs.Sets.{has_number};
+ghost use Rattle.tsb_objects.specs.tsb_plan.PlanOf.{plan_of};
+ghost use Rattle.tsb_objects.specs.tsb_types.Sets.{has_number};
 ghost use Rattle.tsb_detect.specs.Cells.{row_in};
 ghost use Rattle.tsb_detect.specs.Rows.{is_tested};
 

@@ -1,8 +1,8 @@
 //! A tick of detectors that judges none and finds no alarm: lists are worked out as sets.
 ghost use Rattle.std.specs.Prelude.{◌≡◌, ◌≢◌, ℕ, ◌+◌, ◌<◌, ◌≤◌, ◌^◌, true, false, None};
-ghost use Rattle.tsb_plan.specs.PlanOf.{plan_of};
-ghost use Rattle.tsb_plan.specs.Parts.{call_phase};
-ghost use Rattle.tsb_types.specs.Sets.{has_number};
+ghost use Rattle.tsb_objects.specs.tsb_plan.PlanOf.{plan_of};
+ghost use Rattle.tsb_objects.specs.tsb_plan.Parts.{call_phase};
+ghost use Rattle.tsb_objects.specs.tsb_types.Sets.{has_number};
 ghost use Rattle.tsb_detect.specs.Detector.{is_minute, new_alarm};
 ghost use Rattle.tsb_detect.specs.Promises.{green_timer_of};
 ghost use Rattle.tsb_detect.specs.Cells.{row_in, detector_of};

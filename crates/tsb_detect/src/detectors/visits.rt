@@ -1,9 +1,9 @@
 //! A tick of detectors: those that may change are worked out, of all others it is proved that they stay.
 ghost use Rattle.std.specs.Prelude.{◌≡◌, ◌≢◌, ℕ, ◌+◌, ◌<◌, ◌≤◌, ◌^◌, true, false};
 ghost use Rattle.tsb_objects.specs.Checked.{checked_plan};
-ghost use Rattle.tsb_plan.specs.PlanOf.{plan_of};
-ghost use Rattle.tsb_plan.specs.Parts.{call_phase};
-ghost use Rattle.tsb_types.specs.Sets.{has_number};
+ghost use Rattle.tsb_objects.specs.tsb_plan.PlanOf.{plan_of};
+ghost use Rattle.tsb_objects.specs.tsb_plan.Parts.{call_phase};
+ghost use Rattle.tsb_objects.specs.tsb_types.Sets.{has_number};
 ghost use Rattle.tsb_detect.specs.Promises.{green_timer_of};
 ghost use Rattle.tsb_detect.specs.Cells.{row_in};
 ghost use Rattle.tsb_detect.specs.Rows.{IsRead, IsVisit, IsSettled, HasNoAlarm, is_due, is_tested};

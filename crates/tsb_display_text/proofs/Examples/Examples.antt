@@ -4,10 +4,10 @@ use Rattle.tsb_types.specs.declared.interval.Interval.TheVariants as intervals
 use Rattle.tsb_types.specs.declared.interval.PedestrianInterval.{PedestrianInterval}
 use Rattle.tsb_types.specs.declared.interval.PedestrianInterval.TheVariants as pedestrian_intervals
 use Rattle.tsb_types.specs.Lists.{run_from}
-use Rattle.tsb_plan.specs.declared.object.Object.TheVariants.{PhaseEnabled, PhaseWalk}
-use Rattle.tsb_plan.specs.Plan.{Plan, empty, with_value, with_values}
-use Rattle.tsb_plan.specs.Two.{two}
-use Rattle.tsb_plan.specs.Quad.{quad}
+use Rattle.tsb_heads.specs.tsb_plan.declared.object.Object.TheVariants.{PhaseEnabled, PhaseWalk}
+use Rattle.tsb_heads.specs.tsb_plan.Plan.{Plan, empty, with_value, with_values}
+use Rattle.tsb_heads.specs.tsb_plan.Two.{two}
+use Rattle.tsb_heads.specs.tsb_plan.Quad.{quad}
 use Rattle.tsb_heads.specs.Heads.{Shown}
 use Rattle.tsb_heads.specs.Overlaps.{is_kept_green, is_on_yellow, has_green_modifier, has_yellow_modifier, is_on_last_yellow}
 use Rattle.tsb_heads.specs.Displays.{display}

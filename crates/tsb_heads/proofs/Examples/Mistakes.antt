@@ -1,19 +1,19 @@
 -- One-line mistakes, each with an example that tells it from the definition.
 use Rattle.std.specs.Prelude.{◌≡◌, ℕ, nat_lt, Bool, true, false, not, ◌&&◌, ◌||◌, if◌then◌else◌, [], ◌∷◌, reverse, Option, Some, None, is_some, refl}
 use Rattle.std.specs.Option.{option_or}
-use Rattle.tsb_types.specs.declared.interval.Interval.TheVariants as intervals
-use Rattle.tsb_types.specs.declared.lamp.Aspect.{Aspect}
-use Rattle.tsb_types.specs.declared.lamp.Aspect.TheVariants.{Dark, Red, Yellow, Green, FlashingRed}
-use Rattle.tsb_types.specs.declared.lamp.SignalColor.TheVariants as signals
-use Rattle.tsb_types.specs.declared.lamp.PedestrianColor.TheVariants as pedestrians
-use Rattle.tsb_types.specs.declared.lamp.Lamp.TheVariants as lamps
-use Rattle.tsb_types.specs.Intervals.{is_green, is_yellow, is_red_clear}
-use Rattle.tsb_types.specs.Lists.{first, run_from}
-use Rattle.tsb_plan.specs.declared.object.Object.TheVariants.{OverlapType, OverlapModifierPhases}
-use Rattle.tsb_plan.specs.Plan.{Plan, phases, walk, with_values}
-use Rattle.tsb_plan.specs.Parts.{is_included}
-use Rattle.tsb_plan.specs.Quad.{quad}
-use Rattle.tsb_rules.specs.PatternRules.{some_and}
+use Rattle.tsb_objects.specs.tsb_types.declared.interval.Interval.TheVariants as intervals
+use Rattle.tsb_objects.specs.tsb_types.declared.lamp.Aspect.{Aspect}
+use Rattle.tsb_objects.specs.tsb_types.declared.lamp.Aspect.TheVariants.{Dark, Red, Yellow, Green, FlashingRed}
+use Rattle.tsb_objects.specs.tsb_types.declared.lamp.SignalColor.TheVariants as signals
+use Rattle.tsb_objects.specs.tsb_types.declared.lamp.PedestrianColor.TheVariants as pedestrians
+use Rattle.tsb_objects.specs.tsb_types.declared.lamp.Lamp.TheVariants as lamps
+use Rattle.tsb_objects.specs.tsb_types.Intervals.{is_green, is_yellow, is_red_clear}
+use Rattle.tsb_objects.specs.tsb_types.Lists.{first, run_from}
+use Rattle.tsb_objects.specs.tsb_plan.declared.object.Object.TheVariants.{OverlapType, OverlapModifierPhases}
+use Rattle.tsb_objects.specs.tsb_plan.Plan.{Plan, phases, walk, with_values}
+use Rattle.tsb_objects.specs.tsb_plan.Parts.{is_included}
+use Rattle.tsb_objects.specs.tsb_plan.Quad.{quad}
+use Rattle.tsb_objects.specs.tsb_rules.PatternRules.{some_and}
 use Rattle.tsb_heads.specs.declared.monitor.Trip.{Trip}
 use Rattle.tsb_heads.specs.declared.monitor.Trip.TheVariants.{Conflict, GreenToRed}
 use Rattle.tsb_heads.specs.Heads.{Shown, Heads, aspect_of, vehicle_head}

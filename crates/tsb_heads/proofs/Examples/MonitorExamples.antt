@@ -1,12 +1,12 @@
 -- What the definitions give, by computing, of what trips the monitor, on plan `quad`.
 use Rattle.std.specs.Prelude.{◌≡◌, Option, Some, None, refl}
-use Rattle.tsb_types.specs.declared.interval.Interval.TheVariants as intervals
-use Rattle.tsb_types.specs.declared.lamp.SignalColor.TheVariants as signals
-use Rattle.tsb_types.specs.declared.lamp.PedestrianColor.TheVariants as pedestrians
-use Rattle.tsb_types.specs.declared.lamp.Lamp.{Lamp}
-use Rattle.tsb_types.specs.declared.lamp.Lamp.TheVariants as lamps
-use Rattle.tsb_types.specs.Lists.{run_from}
-use Rattle.tsb_plan.specs.Quad.{quad}
+use Rattle.tsb_objects.specs.tsb_types.declared.interval.Interval.TheVariants as intervals
+use Rattle.tsb_objects.specs.tsb_types.declared.lamp.SignalColor.TheVariants as signals
+use Rattle.tsb_objects.specs.tsb_types.declared.lamp.PedestrianColor.TheVariants as pedestrians
+use Rattle.tsb_objects.specs.tsb_types.declared.lamp.Lamp.{Lamp}
+use Rattle.tsb_objects.specs.tsb_types.declared.lamp.Lamp.TheVariants as lamps
+use Rattle.tsb_objects.specs.tsb_types.Lists.{run_from}
+use Rattle.tsb_objects.specs.tsb_plan.Quad.{quad}
 use Rattle.tsb_heads.specs.declared.monitor.Trip.{Trip}
 use Rattle.tsb_heads.specs.declared.monitor.Trip.TheVariants.{Conflict, GreenToRed}
 use Rattle.tsb_heads.specs.Heads.{Shown}

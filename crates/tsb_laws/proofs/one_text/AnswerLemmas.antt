@@ -1,14 +1,14 @@
 -- Two right answers to one command are the same, or one of them is that memory ran out.
 use Rattle.std.proofs.Common.{◌≡◌, ◌⊎◌, ℕ, ◌<◌, ◌≤◌, Bool, true, false, nat_lt, List, [], ◌∷◌, Option, Some, None, refl, sym, ap, ◌∙◌, arith, inl, inr}
 use Rattle.std.proofs.lemmas.Bool.{lt-ltb, le-ltb}
-use Rattle.tsb_types.specs.declared.refusal.Refusal.{Refusal}
-use Rattle.tsb_types.specs.declared.refusal.Refusal.TheVariants.{Memory, NoSuchObject, OutOfRange, Busy, NotOwner, NotOpen, NotVerified, TooManyEdits, NoSuchPattern, NoSuchPreempt, TickLimit, InService}
-use Rattle.tsb_types.specs.declared.watch.Watch.{Watch}
-use Rattle.tsb_machine.specs.declared.commands.Command.TheVariants.{Apply, Undo, Back, Seek, When}
-use Rattle.tsb_machine.specs.declared.commands.Answer.{Answer}
-use Rattle.tsb_machine.specs.declared.commands.Answer.TheVariants.{Took, Refused, Undone, Moved, Nothing, Changed}
-use Rattle.tsb_machine.specs.Play.{IsRefusal}
-use Rattle.tsb_plan.specs.Plan.{Plan}
+use Rattle.tsb_step.specs.tsb_types.declared.refusal.Refusal.{Refusal}
+use Rattle.tsb_step.specs.tsb_types.declared.refusal.Refusal.TheVariants.{Memory, NoSuchObject, OutOfRange, Busy, NotOwner, NotOpen, NotVerified, TooManyEdits, NoSuchPattern, NoSuchPreempt, TickLimit, InService}
+use Rattle.tsb_step.specs.tsb_types.declared.watch.Watch.{Watch}
+use Rattle.tsb_step.specs.tsb_machine.declared.commands.Command.TheVariants.{Apply, Undo, Back, Seek, When}
+use Rattle.tsb_step.specs.tsb_machine.declared.commands.Answer.{Answer}
+use Rattle.tsb_step.specs.tsb_machine.declared.commands.Answer.TheVariants.{Took, Refused, Undone, Moved, Nothing, Changed}
+use Rattle.tsb_step.specs.tsb_machine.Play.{IsRefusal}
+use Rattle.tsb_step.specs.tsb_plan.Plan.{Plan}
 use Rattle.tsb_step.specs.declared.inputs.Input.{Input}
 use Rattle.tsb_step.specs.State.{State}
 use Rattle.tsb_step.specs.Step.{verdict, kind_of}

@@ -1,7 +1,7 @@
 -- Texts that are equal but for memory, put together line by line; and what tells that memory ran out.
 use Rattle.std.proofs.Common.{◌≡◌, ℕ, ◌==◌, ◌||◌, if◌then◌else◌, Bool, true, false, List, [], ◌∷◌, ◌++◌, bytes_eq, refl, sym, ap, ◌∙◌, subst, append_assoc, append-nil, inl, inr}
 use Rattle.std.specs.List.{list_any}
-use Rattle.tsb_lines.specs.Lines.{split, onto_first}
+use Rattle.tsb_text.specs.tsb_lines.Lines.{split, onto_first}
 use Rattle.tsb_text.specs.Ended.{EndsLine}
 use Rattle.tsb_text.specs.Written.{with_feed}
 use Rattle.tsb_laws.specs.OneText.{memory_line, tells_memory, PartsAtMemory, AreEqualButForMemory}

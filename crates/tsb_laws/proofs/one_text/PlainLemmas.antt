@@ -3,27 +3,27 @@ use Rattle.std.proofs.Common.{◌≡◌, ◌≢◌, ℕ, ◌<◌, ◌≤◌, ◌
 use Rattle.std.specs.List.{list_any}
 use Rattle.std.proofs.lemmas.Bool.{true≢false}
 use Rattle.std.proofs.lemmas.Bool.Decides.{nat_tests}
-use Rattle.tsb_history.specs.declared.kinds.Kind.{Kind}
-use Rattle.tsb_history.specs.declared.kinds.Kind.TheVariants as kinds
-use Rattle.tsb_types.specs.declared.lamp.Aspect.{Aspect}
-use Rattle.tsb_types.specs.declared.lamp.Aspect.TheVariants as aspects
-use Rattle.tsb_types.specs.declared.lamp.PedestrianAspect.{PedestrianAspect}
-use Rattle.tsb_types.specs.declared.lamp.PedestrianAspect.TheVariants as pedestrian_aspects
-use Rattle.tsb_types.specs.declared.refusal.Refusal.{Refusal}
-use Rattle.tsb_types.specs.declared.refusal.Refusal.TheVariants.{Memory, NoSuchObject, OutOfRange, Busy, NotOwner, NotOpen, NotVerified, TooManyEdits, NoSuchPattern, NoSuchPreempt, TickLimit, InService}
-use Rattle.tsb_types.specs.Lists.{run_from}
-use Rattle.tsb_rules.specs.declared.rules.Rule.{Rule}
-use Rattle.tsb_rules.specs.declared.rules.Rule.TheVariants.{K1, K2, K3, K4, K5, K6, K7, K8, K9, K10, K11, K12, K13, K14, K15, K16, K17, K18, K19, K20, K21, K22}
+use Rattle.tsb_step.specs.tsb_history.declared.kinds.Kind.{Kind}
+use Rattle.tsb_step.specs.tsb_history.declared.kinds.Kind.TheVariants as kinds
+use Rattle.tsb_step.specs.tsb_types.declared.lamp.Aspect.{Aspect}
+use Rattle.tsb_step.specs.tsb_types.declared.lamp.Aspect.TheVariants as aspects
+use Rattle.tsb_step.specs.tsb_types.declared.lamp.PedestrianAspect.{PedestrianAspect}
+use Rattle.tsb_step.specs.tsb_types.declared.lamp.PedestrianAspect.TheVariants as pedestrian_aspects
+use Rattle.tsb_step.specs.tsb_types.declared.refusal.Refusal.{Refusal}
+use Rattle.tsb_step.specs.tsb_types.declared.refusal.Refusal.TheVariants.{Memory, NoSuchObject, OutOfRange, Busy, NotOwner, NotOpen, NotVerified, TooManyEdits, NoSuchPattern, NoSuchPreempt, TickLimit, InService}
+use Rattle.tsb_step.specs.tsb_types.Lists.{run_from}
+use Rattle.tsb_step.specs.tsb_rules.declared.rules.Rule.{Rule}
+use Rattle.tsb_step.specs.tsb_rules.declared.rules.Rule.TheVariants.{K1, K2, K3, K4, K5, K6, K7, K8, K9, K10, K11, K12, K13, K14, K15, K16, K17, K18, K19, K20, K21, K22}
 use Rattle.tsb_plan_text.specs.RuleLines.{rule_line}
-use Rattle.tsb_heads.specs.Heads.{Heads}
+use Rattle.tsb_step.specs.tsb_heads.Heads.{Heads}
 use Rattle.tsb_step.specs.declared.inputs.Input.{Input}
 use Rattle.tsb_step.specs.declared.inputs.Input.TheVariants as inputs
 use Rattle.tsb_step.specs.Signs.{display, local}
 use Rattle.tsb_step.specs.State.{State}
-use Rattle.tsb_machine.specs.declared.commands.Command.TheVariants.{Apply}
-use Rattle.tsb_lines.specs.Digits.{digit}
-use Rattle.tsb_display_text.specs.Line.{letter, pedestrian_letter, tick_field, local_field, preempt_digit, line_of}
-use Rattle.tsb_lines.specs.Lines.{split}
+use Rattle.tsb_step.specs.tsb_machine.declared.commands.Command.TheVariants.{Apply}
+use Rattle.tsb_text.specs.tsb_lines.Digits.{digit}
+use Rattle.tsb_text.specs.tsb_display_text.Line.{letter, pedestrian_letter, tick_field, local_field, preempt_digit, line_of}
+use Rattle.tsb_text.specs.tsb_lines.Lines.{split}
 use Rattle.tsb_step.proofs.EditLemmas.{or_false}
 use Rattle.tsb_text.specs.Answers.{preempt_in_service, display_line, refused_line, busy_line, undone_line, verified_line, taken_line, when_line}
 use Rattle.tsb_text.specs.Written.{with_feed}

@@ -1,20 +1,20 @@
 -- Two texts that a session may write to the same bytes are equal but for memory.
 use Rattle.std.proofs.Common.{◌≡◌, ◌⊎◌, ℕ, zero, suc, false, List, [], ◌∷◌, ◌++◌, Option, Some, None, Ok, codes, sym, ap, ap₂, ◌∙◌, subst, subst₂, true≢false, append-nil, inl, inr}
 use Rattle.std.specs.Io.KnownBytes.{Consumes}
-use Rattle.tsb_types.specs.declared.refusal.Refusal.{Refusal}
-use Rattle.tsb_types.specs.declared.refusal.Refusal.TheVariants.{Memory}
-use Rattle.tsb_machine.specs.declared.commands.Command.TheVariants as asks
-use Rattle.tsb_machine.specs.declared.commands.Answer.{Answer}
-use Rattle.tsb_machine.specs.declared.commands.Answer.TheVariants.{Took, Refused}
+use Rattle.tsb_step.specs.tsb_types.declared.refusal.Refusal.{Refusal}
+use Rattle.tsb_step.specs.tsb_types.declared.refusal.Refusal.TheVariants.{Memory}
+use Rattle.tsb_step.specs.tsb_machine.declared.commands.Command.TheVariants as asks
+use Rattle.tsb_step.specs.tsb_machine.declared.commands.Answer.{Answer}
+use Rattle.tsb_step.specs.tsb_machine.declared.commands.Answer.TheVariants.{Took, Refused}
 use Rattle.tsb_step.specs.declared.inputs.Input.{Input}
 use Rattle.tsb_step.specs.Play.{Cmd, remaining_after}
 use Rattle.tsb_step.specs.Runs.{replay}
-use Rattle.tsb_command_text.specs.declared.command.Command.{Command}
-use Rattle.tsb_command_text.specs.declared.command.Command.TheVariants.{Step, Show, Quit}
-use Rattle.tsb_command_text.specs.declared.command.Reading.{Reading}
-use Rattle.tsb_command_text.specs.declared.command.Reading.TheVariants.{Skip, Bad, Do}
-use Rattle.tsb_command_text.specs.Readings.{reading}
-use Rattle.tsb_lines.specs.Lines.{lines_of}
+use Rattle.tsb_text.specs.tsb_command_text.declared.command.Command.{Command}
+use Rattle.tsb_text.specs.tsb_command_text.declared.command.Command.TheVariants.{Step, Show, Quit}
+use Rattle.tsb_text.specs.tsb_command_text.declared.command.Reading.{Reading}
+use Rattle.tsb_text.specs.tsb_command_text.declared.command.Reading.TheVariants.{Skip, Bad, Do}
+use Rattle.tsb_text.specs.tsb_command_text.Readings.{reading}
+use Rattle.tsb_text.specs.tsb_lines.Lines.{lines_of}
 use Rattle.tsb_text.specs.Answers.{Setup, Asked, Ticked, Stopped, Steps, Answers, told, next_tick, refused_line, display_line}
 use Rattle.tsb_text.specs.Ended.{EndsLine, EndedSo}
 use Rattle.tsb_text.specs.Text.{GoesOn, Says, IsAnswered, IsText}

@@ -1,22 +1,22 @@
 -- There is a text to all bytes that does not tell that memory ran out.
 use Rattle.std.proofs.Common.{◌≡◌, ◌≢◌, ◌⊎◌, ℕ, zero, suc, nat_lt, Bool, true, false, List, [], ◌∷◌, ◌++◌, codes, Option, Some, None, refl, ap, ◌∙◌, rules, append_assoc, inl, inr}
-use Rattle.tsb_types.specs.declared.refusal.Refusal.{Refusal}
-use Rattle.tsb_types.specs.declared.refusal.Refusal.TheVariants.{Memory}
-use Rattle.tsb_types.specs.declared.watch.Watch.{Watch}
-use Rattle.tsb_machine.specs.declared.commands.Command.TheVariants as asks
-use Rattle.tsb_machine.specs.declared.commands.Answer.{Answer}
-use Rattle.tsb_machine.specs.declared.commands.Answer.TheVariants.{Took, Refused, Undone, Moved, Nothing, Changed}
+use Rattle.tsb_step.specs.tsb_types.declared.refusal.Refusal.{Refusal}
+use Rattle.tsb_step.specs.tsb_types.declared.refusal.Refusal.TheVariants.{Memory}
+use Rattle.tsb_step.specs.tsb_types.declared.watch.Watch.{Watch}
+use Rattle.tsb_step.specs.tsb_machine.declared.commands.Command.TheVariants as asks
+use Rattle.tsb_step.specs.tsb_machine.declared.commands.Answer.{Answer}
+use Rattle.tsb_step.specs.tsb_machine.declared.commands.Answer.TheVariants.{Took, Refused, Undone, Moved, Nothing, Changed}
 use Rattle.tsb_step.specs.declared.inputs.Input.{Input}
 use Rattle.tsb_step.specs.Play.{Cmd, IsRight, run, remaining_after}
 use Rattle.tsb_step.specs.Runs.{replay}
 use Rattle.tsb_step.specs.Step.{kind_of, verdict}
 use Rattle.tsb_step.specs.Watches.{TellsLastChange}
-use Rattle.tsb_command_text.specs.declared.command.Command.{Command}
-use Rattle.tsb_command_text.specs.declared.command.Command.TheVariants.{Step, Back, Seek, Undo, Show, When, Quit}
-use Rattle.tsb_command_text.specs.declared.command.Reading.{Reading}
-use Rattle.tsb_command_text.specs.declared.command.Reading.TheVariants.{Skip, Bad, Do}
-use Rattle.tsb_command_text.specs.Readings.{reading}
-use Rattle.tsb_lines.specs.Lines.{lines_of}
+use Rattle.tsb_text.specs.tsb_command_text.declared.command.Command.{Command}
+use Rattle.tsb_text.specs.tsb_command_text.declared.command.Command.TheVariants.{Step, Back, Seek, Undo, Show, When, Quit}
+use Rattle.tsb_text.specs.tsb_command_text.declared.command.Reading.{Reading}
+use Rattle.tsb_text.specs.tsb_command_text.declared.command.Reading.TheVariants.{Skip, Bad, Do}
+use Rattle.tsb_text.specs.tsb_command_text.Readings.{reading}
+use Rattle.tsb_text.specs.tsb_lines.Lines.{lines_of}
 use Rattle.tsb_text.specs.Answers.{Setup, Asked, Steps, Answers, told, next_tick, refused_line, display_line}
 use Rattle.tsb_text.specs.Text.{GoesOn, Says, IsAnswered}
 use Rattle.tsb_text.specs.Written.{with_feed}

@@ -2,25 +2,25 @@
 use Rattle.std.proofs.Common.{◌≡◌, ℕ, ◌+◌, ◌<◌, ◌≤◌, ◌==◌, nat_le, Bool, true, false, not, ◌&&◌, ◌||◌, if◌then◌else◌, List, [], ◌∷◌, ◌++◌, Option, Some, None, is_some, option_map, refl, sym, ap, subst, inl, inr, ◌⊎◌, arith, ◌∙◌}
 use Rattle.std.proofs.lemmas.Bool.{cases_Bool, and_parts, eqb-true, eq-eqb, leb-true, true≢false, false≢true}
 use Rattle.std.proofs.lemmas.Bool.Decides.{nat_tests}
-use Rattle.tsb_types.specs.declared.interval.Interval.TheVariants.{Green}
-use Rattle.tsb_types.specs.declared.row.Row.{Row}
-use Rattle.tsb_types.specs.Intervals.{is_green, is_yellow, in_service}
-use Rattle.tsb_types.specs.Lists.{first, some_passes, among}
-use Rattle.tsb_plan.specs.Parts.{is_used}
-use Rattle.tsb_plan.specs.Plan.{Plan, phases, is_enabled, ring_of, red_revert, sequence}
-use Rattle.tsb_plan.specs.Running.{running, sequence_in_effect}
-use Rattle.tsb_rules.specs.Consistent.{IsPhase, IsPlaced, IsWhole, ListsRing, ListsRings}
-use Rattle.tsb_rules.specs.Rules.{first_broken}
-use Rattle.tsb_rules.proofs.ConsistentLemmas.{placed, first_lists, whole, used_lists}
-use Rattle.tsb_ring.specs.Rings as rings
-use Rattle.tsb_ring.specs.Rings.{Ring, Ring1, Ring2, number, in_ring, serving}
-use Rattle.tsb_preempt.specs.Preempts.{wanted_by}
-use Rattle.tsb_preempt.specs.Service.{Service, stage_phases}
-use Rattle.tsb_ring.specs.Crossings.{target_side}
-use Rattle.tsb_ring.specs.Next.{starting, new_crossing, next as rings_next}
-use Rattle.tsb_ring.specs.Moves.{is_started}
-use Rattle.tsb_ring.specs.Laws.{IsListed, IsSymmetric, IsGiven}
-use Rattle.tsb_ring.proofs.WaitLemmas.{first-passes}
+use Rattle.tsb_step.specs.tsb_types.declared.interval.Interval.TheVariants.{Green}
+use Rattle.tsb_step.specs.tsb_types.declared.row.Row.{Row}
+use Rattle.tsb_step.specs.tsb_types.Intervals.{is_green, is_yellow, in_service}
+use Rattle.tsb_step.specs.tsb_types.Lists.{first, some_passes, among}
+use Rattle.tsb_step.specs.tsb_plan.Parts.{is_used}
+use Rattle.tsb_step.specs.tsb_plan.Plan.{Plan, phases, is_enabled, ring_of, red_revert, sequence}
+use Rattle.tsb_step.specs.tsb_plan.Running.{running, sequence_in_effect}
+use Rattle.tsb_step.specs.tsb_rules.Consistent.{IsPhase, IsPlaced, IsWhole, ListsRing, ListsRings}
+use Rattle.tsb_step.specs.tsb_rules.Rules.{first_broken}
+use Rattle.tsb_step.proofs.tsb_rules.ConsistentLemmas.{placed, first_lists, whole, used_lists}
+use Rattle.tsb_step.specs.tsb_ring.Rings as rings
+use Rattle.tsb_step.specs.tsb_ring.Rings.{Ring, Ring1, Ring2, number, in_ring, serving}
+use Rattle.tsb_step.specs.tsb_preempt.Preempts.{wanted_by}
+use Rattle.tsb_step.specs.tsb_preempt.Service.{Service, stage_phases}
+use Rattle.tsb_step.specs.tsb_ring.Crossings.{target_side}
+use Rattle.tsb_step.specs.tsb_ring.Next.{starting, new_crossing, next as rings_next}
+use Rattle.tsb_step.specs.tsb_ring.Moves.{is_started}
+use Rattle.tsb_step.specs.tsb_ring.Laws.{IsListed, IsSymmetric, IsGiven}
+use Rattle.tsb_step.proofs.tsb_ring.WaitLemmas.{first-passes}
 use Rattle.tsb_step.specs.declared.inputs.Input.{Input}
 use Rattle.tsb_step.specs.declared.inputs.Input.TheVariants.{Tick}
 use Rattle.tsb_step.specs.State.{State, interval}

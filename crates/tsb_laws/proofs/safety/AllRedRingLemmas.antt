@@ -2,20 +2,20 @@
 -- none, some phase starts, or a crossing begins that commits a ring.
 use Rattle.std.proofs.Common.{◌≡◌, ℕ, ◌==◌, Bool, true, false, not, ◌&&◌, ◌||◌, if◌then◌else◌, List, [], ◌∷◌, Option, Some, None, is_some, is_none, refl, sym, ap, subst, inl, inr, ◌⊎◌, ◌∙◌}
 use Rattle.std.proofs.lemmas.Bool.{cases_Bool, and_parts, or_cases, or_left, or_right, eq-eqb, true≢false, false≢true}
-use Rattle.tsb_types.specs.Intervals.{in_service}
-use Rattle.tsb_types.specs.Lists.{first, some_passes, among, is, after, up_to, later, not_later, or_else, or_number}
-use Rattle.tsb_plan.specs.Plan.{Plan, phases, is_enabled, side_of, sides_after}
-use Rattle.tsb_rules.specs.Rules.{first_broken}
-use Rattle.tsb_ring.specs.declared.want.Want.{Want}
-use Rattle.tsb_ring.specs.declared.want.Want.TheVariants.{Go, Cross, Rest, Stop}
-use Rattle.tsb_ring.specs.Rings.{Ring, Ring1, Ring2, other, State, Given, in_ring, serving}
-use Rattle.tsb_ring.specs.Wants.{go_or, concurrent_with, fits, is_on_side, is_candidate, is_called_elsewhere, want_by_calls, is_targeted, serves_target, targeted_here, is_targeted_elsewhere, want_by_target, want_found, is_idle_or_green, want, picked_before, pick_of_ring_1, want_of, pick}
-use Rattle.tsb_ring.specs.Crossings.{wants_cross, wants_no_phase, ring_joins, begins, is_called_on, side_sought, target_side, is_called_in, called_in_ring_1, called_in_ring_2, entry_by_calls, entry_for, entry, committed}
-use Rattle.tsb_ring.specs.Next.{may_start, completes, starting, new_commitment}
-use Rattle.tsb_ring.specs.Moves.{moves, is_started}
-use Rattle.tsb_ring.specs.Laws.{IsListed, IsPairwiseConcurrent}
-use Rattle.tsb_ring.proofs.WaitLemmas.{first-passes}
-use Rattle.tsb_ring.proofs.WantLemmas.{seen_is}
+use Rattle.tsb_step.specs.tsb_types.Intervals.{in_service}
+use Rattle.tsb_step.specs.tsb_types.Lists.{first, some_passes, among, is, after, up_to, later, not_later, or_else, or_number}
+use Rattle.tsb_step.specs.tsb_plan.Plan.{Plan, phases, is_enabled, side_of, sides_after}
+use Rattle.tsb_step.specs.tsb_rules.Rules.{first_broken}
+use Rattle.tsb_step.specs.tsb_ring.declared.want.Want.{Want}
+use Rattle.tsb_step.specs.tsb_ring.declared.want.Want.TheVariants.{Go, Cross, Rest, Stop}
+use Rattle.tsb_step.specs.tsb_ring.Rings.{Ring, Ring1, Ring2, other, State, Given, in_ring, serving}
+use Rattle.tsb_step.specs.tsb_ring.Wants.{go_or, concurrent_with, fits, is_on_side, is_candidate, is_called_elsewhere, want_by_calls, is_targeted, serves_target, targeted_here, is_targeted_elsewhere, want_by_target, want_found, is_idle_or_green, want, picked_before, pick_of_ring_1, want_of, pick}
+use Rattle.tsb_step.specs.tsb_ring.Crossings.{wants_cross, wants_no_phase, ring_joins, begins, is_called_on, side_sought, target_side, is_called_in, called_in_ring_1, called_in_ring_2, entry_by_calls, entry_for, entry, committed}
+use Rattle.tsb_step.specs.tsb_ring.Next.{may_start, completes, starting, new_commitment}
+use Rattle.tsb_step.specs.tsb_ring.Moves.{moves, is_started}
+use Rattle.tsb_step.specs.tsb_ring.Laws.{IsListed, IsPairwiseConcurrent}
+use Rattle.tsb_step.proofs.tsb_ring.WaitLemmas.{first-passes}
+use Rattle.tsb_step.proofs.tsb_ring.WantLemmas.{seen_is}
 use Rattle.tsb_laws.proofs.safety.ChoiceLemmas.{Chosen, is_called, is_wanted, want_chosen}
 use Rattle.tsb_laws.proofs.safety.SideSoughtLemmas.{Found, none_first, some_found, found_some, goes_to_other}
 use Rattle.tsb_laws.proofs.safety.CrossingRingLemmas.{begins_alone}

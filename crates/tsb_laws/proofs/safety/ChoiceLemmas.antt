@@ -2,14 +2,14 @@
 use Rattle.std.proofs.Common.{◌≡◌, ℕ, Bool, true, false, not, ◌&&◌, Option, Some, None, is_none, refl, sym, inl, inr, ◌∙◌}
 use Rattle.std.proofs.lemmas.Bool.{and_parts}
 use Rattle.std.proofs.lemmas.Option.{cond_some}
-use Rattle.tsb_plan.specs.Plan.{Plan, phases, is_enabled, is_concurrent, has_dual_entry}
-use Rattle.tsb_ring.specs.declared.want.Want.TheVariants.{Go}
-use Rattle.tsb_ring.specs.Rings.{Ring, Ring1, Ring2, State, Given, in_ring, serving}
-use Rattle.tsb_ring.specs.Wants.{concurrent_with, fits, is_on_side, want_by_calls, is_targeted, serves_target, want_by_target, want_found, is_idle_or_green, want, picked_before, want_of, pick}
-use Rattle.tsb_ring.specs.Crossings.{target_side, may_enter, dual, is_called_in, called_in_ring_1, called_in_ring_2, entry_by_calls, entry_for, entry}
-use Rattle.tsb_ring.proofs.MoveLemmas.{and_three}
-use Rattle.tsb_ring.proofs.WaitLemmas.{first-passes, called_candidate, targeted_by, targeted_candidate}
-use Rattle.tsb_ring.proofs.WantLemmas.{and_four, pick_want}
+use Rattle.tsb_step.specs.tsb_plan.Plan.{Plan, phases, is_enabled, is_concurrent, has_dual_entry}
+use Rattle.tsb_step.specs.tsb_ring.declared.want.Want.TheVariants.{Go}
+use Rattle.tsb_step.specs.tsb_ring.Rings.{Ring, Ring1, Ring2, State, Given, in_ring, serving}
+use Rattle.tsb_step.specs.tsb_ring.Wants.{concurrent_with, fits, is_on_side, want_by_calls, is_targeted, serves_target, want_by_target, want_found, is_idle_or_green, want, picked_before, want_of, pick}
+use Rattle.tsb_step.specs.tsb_ring.Crossings.{target_side, may_enter, dual, is_called_in, called_in_ring_1, called_in_ring_2, entry_by_calls, entry_for, entry}
+use Rattle.tsb_step.proofs.tsb_ring.MoveLemmas.{and_three}
+use Rattle.tsb_step.proofs.tsb_ring.WaitLemmas.{first-passes, called_candidate, targeted_by, targeted_candidate}
+use Rattle.tsb_step.proofs.tsb_ring.WantLemmas.{and_four, pick_want}
 use Rattle.tsb_step.proofs.SideLemmas.{else_cases}
 
 -- ## What a ring picks

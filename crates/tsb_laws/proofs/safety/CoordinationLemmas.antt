@@ -1,28 +1,28 @@
 -- Coordinated phases end by their force-off, and what is omitted is not served.
 use Rattle.std.proofs.Common.{◌≡◌, ℕ, ◌+◌, ◌≤◌, arith, Bool, true, false, not, ◌&&◌, ◌||◌, if◌then◌else◌, List, [], ◌∷◌, Option, Some, None, is_some, is_none, option_map, refl, sym, ap, ◌∙◌, inl, inr, ◌⊎◌}
 use Rattle.std.proofs.lemmas.Bool.{cases_Bool, and_parts, or_cases, true≢false, false≢true}
-use Rattle.tsb_types.specs.declared.lamp.Lamp.{Lamp}
-use Rattle.tsb_types.specs.declared.row.Row.{Row}
-use Rattle.tsb_types.specs.Intervals.{is_green, is_dont_walk, in_service}
-use Rattle.tsb_types.specs.Lists.{is}
-use Rattle.tsb_plan.specs.Plan.{Plan}
-use Rattle.tsb_phase.specs.Phase.{Phase, Given, held_of}
-use Rattle.tsb_phase.specs.Green.{initial_has_passed, forced_latch}
-use Rattle.tsb_phase.specs.Pedestrian.{ended_by, pedestrian_now}
-use Rattle.tsb_phase.specs.Next.{is_green_after}
-use Rattle.tsb_phase.specs.Ready.{needs_forced, may_end, green_is_done, is_ready}
-use Rattle.tsb_preempt.specs.Service.{Service}
-use Rattle.tsb_preempt.specs.Preempts as preempts
-use Rattle.tsb_ring.specs.Rings as rings
-use Rattle.tsb_ring.specs.Rings.{Ring, Ring1, Ring2, serving}
-use Rattle.tsb_ring.specs.Wants.{pick}
-use Rattle.tsb_ring.specs.Next.{idle_pick, starting, new_commitment, next as rings_next}
-use Rattle.tsb_ring.specs.Moves as ring_moves
-use Rattle.tsb_ring.specs.Moves.{is_ended, is_started}
-use Rattle.tsb_ring.specs.Laws.{IsListed, IsSymmetric}
-use Rattle.tsb_ring.proofs.ActLemmas.{starts_alone}
-use Rattle.tsb_ring.proofs.MoveLemmas.{is-Some}
-use Rattle.tsb_ring.proofs.SoundLemmas.{Commits, enters, stands, makes, commits, new_commits}
+use Rattle.tsb_step.specs.tsb_types.declared.lamp.Lamp.{Lamp}
+use Rattle.tsb_step.specs.tsb_types.declared.row.Row.{Row}
+use Rattle.tsb_step.specs.tsb_types.Intervals.{is_green, is_dont_walk, in_service}
+use Rattle.tsb_step.specs.tsb_types.Lists.{is}
+use Rattle.tsb_step.specs.tsb_plan.Plan.{Plan}
+use Rattle.tsb_step.specs.tsb_phase.Phase.{Phase, Given, held_of}
+use Rattle.tsb_step.specs.tsb_phase.Green.{initial_has_passed, forced_latch}
+use Rattle.tsb_step.specs.tsb_phase.Pedestrian.{ended_by, pedestrian_now}
+use Rattle.tsb_step.specs.tsb_phase.Next.{is_green_after}
+use Rattle.tsb_step.specs.tsb_phase.Ready.{needs_forced, may_end, green_is_done, is_ready}
+use Rattle.tsb_step.specs.tsb_preempt.Service.{Service}
+use Rattle.tsb_step.specs.tsb_preempt.Preempts as preempts
+use Rattle.tsb_step.specs.tsb_ring.Rings as rings
+use Rattle.tsb_step.specs.tsb_ring.Rings.{Ring, Ring1, Ring2, serving}
+use Rattle.tsb_step.specs.tsb_ring.Wants.{pick}
+use Rattle.tsb_step.specs.tsb_ring.Next.{idle_pick, starting, new_commitment, next as rings_next}
+use Rattle.tsb_step.specs.tsb_ring.Moves as ring_moves
+use Rattle.tsb_step.specs.tsb_ring.Moves.{is_ended, is_started}
+use Rattle.tsb_step.specs.tsb_ring.Laws.{IsListed, IsSymmetric}
+use Rattle.tsb_step.proofs.tsb_ring.ActLemmas.{starts_alone}
+use Rattle.tsb_step.proofs.tsb_ring.MoveLemmas.{is-Some}
+use Rattle.tsb_step.proofs.tsb_ring.SoundLemmas.{Commits, enters, stands, makes, commits, new_commits}
 use Rattle.tsb_step.specs.declared.inputs.Input.{Input}
 use Rattle.tsb_step.specs.declared.inputs.Input.TheVariants as inputs
 use Rattle.tsb_step.specs.declared.inputs.Input.TheVariants.{Tick}

@@ -1,19 +1,19 @@
 -- A crossing that begins is completed in time.
 use Rattle.std.proofs.Common.{suc, ◌≡◌, ℕ, ◌+◌, ◌<◌, ◌≤◌, Bool, true, false, not, ◌||◌, List, [], ◌∷◌, ◌++◌, Some, None, refl, sym, ap, subst, ◌∙◌, inl, inr, ◌⊎◌, arith}
 use Rattle.std.proofs.lemmas.Bool.{cases_Bool, false≢true}
-use Rattle.tsb_types.specs.declared.interval.Interval.{Interval}
-use Rattle.tsb_types.specs.declared.interval.Interval.TheVariants.{Red, Green, Yellow, RedClear}
-use Rattle.tsb_types.specs.declared.row.Row.{Row}
-use Rattle.tsb_types.specs.Intervals.{is_green, is_yellow, is_red_clear, in_service}
-use Rattle.tsb_plan.specs.Plan.{Plan, yellow_change, red_clear, red_revert}
-use Rattle.tsb_phase.specs.Ready.{yellow_is_done}
-use Rattle.tsb_ring.specs.Rings as rings
-use Rattle.tsb_ring.specs.Rings.{Ring, Ring1, Ring2, in_ring}
-use Rattle.tsb_ring.specs.Crossings.{begins, target_side}
-use Rattle.tsb_ring.specs.Next.{completes, starting, new_side, new_crossing, next as rings_next}
-use Rattle.tsb_ring.specs.Moves.{is_ended, is_cleared, is_started}
-use Rattle.tsb_ring.specs.Laws.{IsSymmetric, IsGiven}
-use Rattle.tsb_ring.proofs.SoundLemmas.{after_tick}
+use Rattle.tsb_step.specs.tsb_types.declared.interval.Interval.{Interval}
+use Rattle.tsb_step.specs.tsb_types.declared.interval.Interval.TheVariants.{Red, Green, Yellow, RedClear}
+use Rattle.tsb_step.specs.tsb_types.declared.row.Row.{Row}
+use Rattle.tsb_step.specs.tsb_types.Intervals.{is_green, is_yellow, is_red_clear, in_service}
+use Rattle.tsb_step.specs.tsb_plan.Plan.{Plan, yellow_change, red_clear, red_revert}
+use Rattle.tsb_step.specs.tsb_phase.Ready.{yellow_is_done}
+use Rattle.tsb_step.specs.tsb_ring.Rings as rings
+use Rattle.tsb_step.specs.tsb_ring.Rings.{Ring, Ring1, Ring2, in_ring}
+use Rattle.tsb_step.specs.tsb_ring.Crossings.{begins, target_side}
+use Rattle.tsb_step.specs.tsb_ring.Next.{completes, starting, new_side, new_crossing, next as rings_next}
+use Rattle.tsb_step.specs.tsb_ring.Moves.{is_ended, is_cleared, is_started}
+use Rattle.tsb_step.specs.tsb_ring.Laws.{IsSymmetric, IsGiven}
+use Rattle.tsb_step.proofs.tsb_ring.SoundLemmas.{after_tick}
 use Rattle.tsb_step.specs.declared.inputs.Input.{Input}
 use Rattle.tsb_step.specs.declared.inputs.Input.TheVariants.{Tick}
 use Rattle.tsb_step.specs.State.{State, interval}

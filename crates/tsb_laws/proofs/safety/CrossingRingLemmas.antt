@@ -1,21 +1,21 @@
 -- What one tick makes of the rings as a crossing begins, and while it is under way.
 use Rattle.std.proofs.Common.{◌≡◌, ℕ, Bool, true, false, ◌&&◌, ◌||◌, if◌then◌else◌, Option, Some, None, is_some, refl, sym, ap, inl, inr, ◌∙◌}
 use Rattle.std.proofs.lemmas.Bool.{cases_Bool, and_parts, eq-eqb, true≢false, false≢true}
-use Rattle.tsb_types.specs.Intervals.{in_service, is_green}
-use Rattle.tsb_types.specs.Lists.{is}
-use Rattle.tsb_plan.specs.Plan.{Plan, phases, is_concurrent}
-use Rattle.tsb_ring.specs.declared.want.Want.{Want}
-use Rattle.tsb_ring.specs.declared.want.Want.TheVariants.{Go, Cross, Rest, Stop}
-use Rattle.tsb_ring.specs.Rings.{Ring, Ring1, Ring2, other, State, Given, in_ring, serving}
-use Rattle.tsb_ring.specs.Wants.{want_of, taken, pick}
-use Rattle.tsb_ring.specs.Crossings.{wants_no_phase, begins, committed}
-use Rattle.tsb_ring.specs.Next.{is_none_or_over, makes_way, may_start, completes, starting, ends, new_commitment, new_side, new_crossing}
-use Rattle.tsb_ring.specs.Moves.{if_passes, ring_moves, moves, is_ended, is_started}
-use Rattle.tsb_ring.specs.Laws.{IsSymmetric, IsGiven, IsSound}
-use Rattle.tsb_ring.proofs.MoveLemmas.{begins_joined}
-use Rattle.tsb_ring.proofs.WaitLemmas.{first-passes, is_serving}
-use Rattle.tsb_ring.proofs.WantLemmas.{pick_free}
-use Rattle.tsb_ring.proofs.EntryLemmas.{begins_apart}
+use Rattle.tsb_step.specs.tsb_types.Intervals.{in_service, is_green}
+use Rattle.tsb_step.specs.tsb_types.Lists.{is}
+use Rattle.tsb_step.specs.tsb_plan.Plan.{Plan, phases, is_concurrent}
+use Rattle.tsb_step.specs.tsb_ring.declared.want.Want.{Want}
+use Rattle.tsb_step.specs.tsb_ring.declared.want.Want.TheVariants.{Go, Cross, Rest, Stop}
+use Rattle.tsb_step.specs.tsb_ring.Rings.{Ring, Ring1, Ring2, other, State, Given, in_ring, serving}
+use Rattle.tsb_step.specs.tsb_ring.Wants.{want_of, taken, pick}
+use Rattle.tsb_step.specs.tsb_ring.Crossings.{wants_no_phase, begins, committed}
+use Rattle.tsb_step.specs.tsb_ring.Next.{is_none_or_over, makes_way, may_start, completes, starting, ends, new_commitment, new_side, new_crossing}
+use Rattle.tsb_step.specs.tsb_ring.Moves.{if_passes, ring_moves, moves, is_ended, is_started}
+use Rattle.tsb_step.specs.tsb_ring.Laws.{IsSymmetric, IsGiven, IsSound}
+use Rattle.tsb_step.proofs.tsb_ring.MoveLemmas.{begins_joined}
+use Rattle.tsb_step.proofs.tsb_ring.WaitLemmas.{first-passes, is_serving}
+use Rattle.tsb_step.proofs.tsb_ring.WantLemmas.{pick_free}
+use Rattle.tsb_step.proofs.tsb_ring.EntryLemmas.{begins_apart}
 use Rattle.tsb_laws.proofs.safety.RingLemmas.{ring_joins_not}
 
 -- ## As it begins

@@ -3,21 +3,21 @@
 use Rattle.std.proofs.Common.{◌≡◌, ℕ, ◌+◌, ◌<◌, ◌≤◌, ◌==◌, nat_le, Bool, true, false, not, ◌||◌, List, [], ◌∷◌, ◌++◌, None, refl, ap, ◌∙◌, arith}
 use Rattle.std.proofs.lemmas.Bool.{true≢false}
 use Rattle.std.proofs.lemmas.Bool.Decides.{nat_tests}
-use Rattle.tsb_cells.specs.declared.timer.Timer.{Timer}
-use Rattle.tsb_cells.specs.declared.timer.Timer.TheVariants.{Off, On}
-use Rattle.tsb_cells.specs.Timer.{advanced, has_reached}
-use Rattle.tsb_types.specs.declared.interval.Interval.{Interval}
-use Rattle.tsb_types.specs.declared.interval.Interval.TheVariants.{Red, Green, Yellow, RedClear}
-use Rattle.tsb_types.specs.declared.row.Row.{Row}
-use Rattle.tsb_types.specs.Clip.{clipped}
-use Rattle.tsb_types.specs.Intervals.{is_green, is_yellow, in_service}
-use Rattle.tsb_types.specs.Sets.{is_phase}
-use Rattle.tsb_plan.specs.declared.object.Object.TheVariants.{PhaseRing}
-use Rattle.tsb_plan.specs.Objects.{is_structural}
-use Rattle.tsb_plan.specs.Plan.{Plan, ring_of, red_clear, red_revert}
-use Rattle.tsb_phase.specs.Ready.{yellow_is_done, is_over, red_revert_passed}
-use Rattle.tsb_ring.specs.Laws.{IsListed}
-use Rattle.tsb_rules.specs.Consistent.{IsPhase}
+use Rattle.tsb_step.specs.tsb_cells.declared.timer.Timer.{Timer}
+use Rattle.tsb_step.specs.tsb_cells.declared.timer.Timer.TheVariants.{Off, On}
+use Rattle.tsb_step.specs.tsb_cells.Timer.{advanced, has_reached}
+use Rattle.tsb_step.specs.tsb_types.declared.interval.Interval.{Interval}
+use Rattle.tsb_step.specs.tsb_types.declared.interval.Interval.TheVariants.{Red, Green, Yellow, RedClear}
+use Rattle.tsb_step.specs.tsb_types.declared.row.Row.{Row}
+use Rattle.tsb_step.specs.tsb_types.Clip.{clipped}
+use Rattle.tsb_step.specs.tsb_types.Intervals.{is_green, is_yellow, in_service}
+use Rattle.tsb_step.specs.tsb_types.Sets.{is_phase}
+use Rattle.tsb_step.specs.tsb_plan.declared.object.Object.TheVariants.{PhaseRing}
+use Rattle.tsb_step.specs.tsb_plan.Objects.{is_structural}
+use Rattle.tsb_step.specs.tsb_plan.Plan.{Plan, ring_of, red_clear, red_revert}
+use Rattle.tsb_step.specs.tsb_phase.Ready.{yellow_is_done, is_over, red_revert_passed}
+use Rattle.tsb_step.specs.tsb_ring.Laws.{IsListed}
+use Rattle.tsb_step.specs.tsb_rules.Consistent.{IsPhase}
 use Rattle.tsb_step.specs.declared.inputs.Input.{Input}
 use Rattle.tsb_step.specs.declared.inputs.Input.TheVariants as inputs
 use Rattle.tsb_step.specs.State.{State, interval}

@@ -1,23 +1,23 @@
 -- Only enabled phases are in service or committed to, through inputs of every kind.
 use Rattle.std.proofs.Common.{◌≡◌, ℕ, ◌==◌, Bool, true, false, not, ◌&&◌, List, Some, None, refl, sym, ap, ◌∙◌, inl, inr}
 use Rattle.std.proofs.lemmas.Bool.{and_parts, or_cases}
-use Rattle.tsb_types.specs.declared.interval.Interval.{Interval}
-use Rattle.tsb_types.specs.declared.row.Row.{Row}
-use Rattle.tsb_types.specs.Intervals.{is_green, in_service}
-use Rattle.tsb_plan.specs.declared.object.Object.TheVariants.{PhaseEnabled}
-use Rattle.tsb_plan.specs.Objects.{is_structural}
-use Rattle.tsb_plan.specs.Plan.{Plan, is_enabled}
-use Rattle.tsb_calls.specs.Memories as calls
-use Rattle.tsb_calls.specs.Memories.{Memories, was_green}
-use Rattle.tsb_calls.specs.Callable.{is_called, is_free, is_softly_recalled, is_callable}
-use Rattle.tsb_ring.specs.Rings as rings
-use Rattle.tsb_ring.specs.Rings.{Ring, Ring1, Ring2}
-use Rattle.tsb_ring.specs.Next.{starting, new_commitment, next as rings_after}
-use Rattle.tsb_ring.specs.Moves.{moves as moves_in, interval_after}
-use Rattle.tsb_ring.specs.Laws.{Serves, IsSymmetric, IsGiven, IsSound}
-use Rattle.tsb_ring.proofs.SoundLemmas.{Claim, serves, promises, picks, Starting, starting_is, after_tick, Commits, enters, stands, makes, commits, new_commits}
-use Rattle.tsb_transact.specs.Desk.{with_edits}
-use Rattle.tsb_transact.specs.Commit.{changes_structure}
+use Rattle.tsb_step.specs.tsb_types.declared.interval.Interval.{Interval}
+use Rattle.tsb_step.specs.tsb_types.declared.row.Row.{Row}
+use Rattle.tsb_step.specs.tsb_types.Intervals.{is_green, in_service}
+use Rattle.tsb_step.specs.tsb_plan.declared.object.Object.TheVariants.{PhaseEnabled}
+use Rattle.tsb_step.specs.tsb_plan.Objects.{is_structural}
+use Rattle.tsb_step.specs.tsb_plan.Plan.{Plan, is_enabled}
+use Rattle.tsb_step.specs.tsb_calls.Memories as calls
+use Rattle.tsb_step.specs.tsb_calls.Memories.{Memories, was_green}
+use Rattle.tsb_step.specs.tsb_calls.Callable.{is_called, is_free, is_softly_recalled, is_callable}
+use Rattle.tsb_step.specs.tsb_ring.Rings as rings
+use Rattle.tsb_step.specs.tsb_ring.Rings.{Ring, Ring1, Ring2}
+use Rattle.tsb_step.specs.tsb_ring.Next.{starting, new_commitment, next as rings_after}
+use Rattle.tsb_step.specs.tsb_ring.Moves.{moves as moves_in, interval_after}
+use Rattle.tsb_step.specs.tsb_ring.Laws.{Serves, IsSymmetric, IsGiven, IsSound}
+use Rattle.tsb_step.proofs.tsb_ring.SoundLemmas.{Claim, serves, promises, picks, Starting, starting_is, after_tick, Commits, enters, stands, makes, commits, new_commits}
+use Rattle.tsb_step.specs.tsb_transact.Desk.{with_edits}
+use Rattle.tsb_step.specs.tsb_transact.Commit.{changes_structure}
 use Rattle.tsb_step.specs.declared.inputs.Input.{Input}
 use Rattle.tsb_step.specs.State.{State, interval}
 use Rattle.tsb_step.specs.Tick.{calls_given, set, callable, rings_given, moves, yellow_done, next}

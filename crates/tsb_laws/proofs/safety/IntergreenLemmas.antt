@@ -1,15 +1,15 @@
 -- What lies between the end of a green and the start of a phase that is not concurrent.
 use Rattle.std.proofs.Common.{suc, ◌≡◌, ◌≢◌, ℕ, ◌+◌, ◌≤◌, ◌==◌, Bool, true, false, List, [], ◌∷◌, ◌++◌, None, refl, sym, ap, subst, ◌∙◌, inl, inr, arith}
 use Rattle.std.proofs.lemmas.Bool.{and_parts, eqb-true, true≢false}
-use Rattle.tsb_cells.specs.Timer.{has_reached}
-use Rattle.tsb_types.specs.declared.interval.Interval.{Interval}
-use Rattle.tsb_types.specs.declared.interval.Interval.TheVariants.{Red, Green, Yellow, RedClear}
-use Rattle.tsb_types.specs.declared.row.Row.{Row}
-use Rattle.tsb_types.specs.Intervals.{is_yellow, is_red_clear, in_service}
-use Rattle.tsb_plan.specs.Plan.{Plan, is_concurrent, yellow_change, red_clear}
-use Rattle.tsb_phase.specs.Ready.{yellow_is_done, is_over}
-use Rattle.tsb_ring.specs.Laws.{IsListed}
-use Rattle.tsb_ring.specs.Moves.{is_cleared, is_started}
+use Rattle.tsb_step.specs.tsb_cells.Timer.{has_reached}
+use Rattle.tsb_step.specs.tsb_types.declared.interval.Interval.{Interval}
+use Rattle.tsb_step.specs.tsb_types.declared.interval.Interval.TheVariants.{Red, Green, Yellow, RedClear}
+use Rattle.tsb_step.specs.tsb_types.declared.row.Row.{Row}
+use Rattle.tsb_step.specs.tsb_types.Intervals.{is_yellow, is_red_clear, in_service}
+use Rattle.tsb_step.specs.tsb_plan.Plan.{Plan, is_concurrent, yellow_change, red_clear}
+use Rattle.tsb_step.specs.tsb_phase.Ready.{yellow_is_done, is_over}
+use Rattle.tsb_step.specs.tsb_ring.Laws.{IsListed}
+use Rattle.tsb_step.specs.tsb_ring.Moves.{is_cleared, is_started}
 use Rattle.tsb_step.specs.declared.inputs.Input.{Input}
 use Rattle.tsb_step.specs.declared.inputs.Input.TheVariants.{Tick}
 use Rattle.tsb_step.specs.State.{State, interval}

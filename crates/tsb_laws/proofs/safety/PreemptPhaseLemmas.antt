@@ -6,26 +6,26 @@ use Rattle.std.proofs.Math.Pow.{pow_mono}
 use Rattle.std.proofs.lemmas.Bool.{cases_Bool, leb-true, true≢false, false≢true}
 use Rattle.std.proofs.lemmas.Bool.Decides.{nat_tests}
 use Rattle.std.proofs.lemmas.Nat.{pow_pos}
-use Rattle.tsb_types.specs.Sets.{names}
-use Rattle.tsb_types.specs.declared.refusal.Refusal.TheVariants.{NoSuchObject, OutOfRange}
-use Rattle.tsb_types.specs.declared.row.Row.{Row}
-use Rattle.tsb_types.specs.declared.stage.Stage.{Stage}
-use Rattle.tsb_types.specs.declared.stage.Stage.TheVariants.{Track, Dwell, Exit}
-use Rattle.tsb_types.proofs.BitLemmas.{names-first}
-use Rattle.tsb_types.proofs.SetLemmas.{names-above}
-use Rattle.tsb_plan.specs.declared.object.Object.{Object}
-use Rattle.tsb_plan.specs.declared.object.Object.TheVariants.{PreemptTrackPhase, PreemptDwellPhase, PreemptExitPhase}
-use Rattle.tsb_plan.specs.Plan.{Plan, is_enabled, is_same, with_value}
-use Rattle.tsb_plan.specs.Versions.{has_object}
-use Rattle.tsb_plan.proofs.PlanLemmas.{same-parts}
-use Rattle.tsb_plan.proofs.TableLemmas.{order-injective}
-use Rattle.tsb_rules.specs.Consistent.{IsPhase, AreCompatible}
-use Rattle.tsb_rules.specs.Rules.{first_broken}
-use Rattle.tsb_transact.specs.declared.edit.Edit.{Edit}
-use Rattle.tsb_transact.specs.Desk.{with_edits}
-use Rattle.tsb_preempt.specs.Service.{Service, stage_phases}
-use Rattle.tsb_ring.specs.Laws.{IsListed}
-use Rattle.tsb_ring.specs.Wants.{is_targeted}
+use Rattle.tsb_step.specs.tsb_types.Sets.{names}
+use Rattle.tsb_step.specs.tsb_types.declared.refusal.Refusal.TheVariants.{NoSuchObject, OutOfRange}
+use Rattle.tsb_step.specs.tsb_types.declared.row.Row.{Row}
+use Rattle.tsb_step.specs.tsb_types.declared.stage.Stage.{Stage}
+use Rattle.tsb_step.specs.tsb_types.declared.stage.Stage.TheVariants.{Track, Dwell, Exit}
+use Rattle.tsb_step.proofs.tsb_types.BitLemmas.{names-first}
+use Rattle.tsb_step.proofs.tsb_types.SetLemmas.{names-above}
+use Rattle.tsb_step.specs.tsb_plan.declared.object.Object.{Object}
+use Rattle.tsb_step.specs.tsb_plan.declared.object.Object.TheVariants.{PreemptTrackPhase, PreemptDwellPhase, PreemptExitPhase}
+use Rattle.tsb_step.specs.tsb_plan.Plan.{Plan, is_enabled, is_same, with_value}
+use Rattle.tsb_step.specs.tsb_plan.Versions.{has_object}
+use Rattle.tsb_step.proofs.tsb_plan.PlanLemmas.{same-parts}
+use Rattle.tsb_step.proofs.tsb_plan.TableLemmas.{order-injective}
+use Rattle.tsb_step.specs.tsb_rules.Consistent.{IsPhase, AreCompatible}
+use Rattle.tsb_step.specs.tsb_rules.Rules.{first_broken}
+use Rattle.tsb_step.specs.tsb_transact.declared.edit.Edit.{Edit}
+use Rattle.tsb_step.specs.tsb_transact.Desk.{with_edits}
+use Rattle.tsb_step.specs.tsb_preempt.Service.{Service, stage_phases}
+use Rattle.tsb_step.specs.tsb_ring.Laws.{IsListed}
+use Rattle.tsb_step.specs.tsb_ring.Wants.{is_targeted}
 use Rattle.tsb_step.specs.declared.inputs.Input.{Input}
 use Rattle.tsb_step.specs.declared.inputs.Input.TheVariants as inputs
 use Rattle.tsb_step.specs.State.{State}

@@ -1,24 +1,24 @@
 -- What one tick makes of a ring that is committed: the commitment starts as soon as its ring is over and its red revert has passed.
 use Rattle.std.proofs.Common.{◌≡◌, ℕ, Bool, true, false, ◌&&◌, ◌||◌, Option, Some, None, is_some, is_none, refl, sym, inl, inr, ◌⊎◌, ◌∙◌}
 use Rattle.std.proofs.lemmas.Bool.{and_parts, or_cases, false≢true, false_from_ne_true}
-use Rattle.tsb_types.specs.declared.interval.Interval.{Interval}
-use Rattle.tsb_types.specs.declared.interval.Interval.TheVariants.{Red, Green, Yellow, RedClear}
-use Rattle.tsb_types.specs.Intervals.{in_service, is_green}
-use Rattle.tsb_types.specs.Lists.{is}
-use Rattle.tsb_plan.specs.Plan.{Plan, phases, is_concurrent}
-use Rattle.tsb_ring.specs.declared.want.Want.{Want}
-use Rattle.tsb_ring.specs.Rings.{Ring, Ring1, Ring2, other, State, Given, in_ring, own_ring, serving}
-use Rattle.tsb_ring.specs.Wants.{want_of, pick}
-use Rattle.tsb_ring.specs.Crossings.{joins_in, joins, ring_joins, begins, target_side, committed}
-use Rattle.tsb_ring.specs.Next.{makes_way, completes, starting, leaves, ends, clears, new_commitment, new_crossing}
-use Rattle.tsb_ring.specs.Moves.{ring_moves, moves, is_ended, is_cleared, is_started}
-use Rattle.tsb_ring.specs.Laws.{IsSymmetric, IsGiven, IsSound}
-use Rattle.tsb_ring.proofs.ActLemmas.{stays_committed, begins_not}
-use Rattle.tsb_ring.proofs.MoveLemmas.{is-Some, passed}
-use Rattle.tsb_ring.proofs.WaitLemmas.{first-passes, is_serving}
-use Rattle.tsb_ring.proofs.WantLemmas.{Free, free}
-use Rattle.tsb_ring.proofs.ClaimLemmas.{same_ring, ring_of_is}
-use Rattle.tsb_ring.proofs.SoundLemmas.{Starting, starting_is, Commits, enters, stands, makes, commits, new_commits}
+use Rattle.tsb_step.specs.tsb_types.declared.interval.Interval.{Interval}
+use Rattle.tsb_step.specs.tsb_types.declared.interval.Interval.TheVariants.{Red, Green, Yellow, RedClear}
+use Rattle.tsb_step.specs.tsb_types.Intervals.{in_service, is_green}
+use Rattle.tsb_step.specs.tsb_types.Lists.{is}
+use Rattle.tsb_step.specs.tsb_plan.Plan.{Plan, phases, is_concurrent}
+use Rattle.tsb_step.specs.tsb_ring.declared.want.Want.{Want}
+use Rattle.tsb_step.specs.tsb_ring.Rings.{Ring, Ring1, Ring2, other, State, Given, in_ring, own_ring, serving}
+use Rattle.tsb_step.specs.tsb_ring.Wants.{want_of, pick}
+use Rattle.tsb_step.specs.tsb_ring.Crossings.{joins_in, joins, ring_joins, begins, target_side, committed}
+use Rattle.tsb_step.specs.tsb_ring.Next.{makes_way, completes, starting, leaves, ends, clears, new_commitment, new_crossing}
+use Rattle.tsb_step.specs.tsb_ring.Moves.{ring_moves, moves, is_ended, is_cleared, is_started}
+use Rattle.tsb_step.specs.tsb_ring.Laws.{IsSymmetric, IsGiven, IsSound}
+use Rattle.tsb_step.proofs.tsb_ring.ActLemmas.{stays_committed, begins_not}
+use Rattle.tsb_step.proofs.tsb_ring.MoveLemmas.{is-Some, passed}
+use Rattle.tsb_step.proofs.tsb_ring.WaitLemmas.{first-passes, is_serving}
+use Rattle.tsb_step.proofs.tsb_ring.WantLemmas.{Free, free}
+use Rattle.tsb_step.proofs.tsb_ring.ClaimLemmas.{same_ring, ring_of_is}
+use Rattle.tsb_step.proofs.tsb_ring.SoundLemmas.{Starting, starting_is, Commits, enters, stands, makes, commits, new_commits}
 
 -- ## A green that ends
 

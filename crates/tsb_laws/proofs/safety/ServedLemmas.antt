@@ -1,19 +1,19 @@
 -- A commitment that is made as a green ends starts in time.
 use Rattle.std.proofs.Common.{◌≡◌, ℕ, ◌+◌, ◌<◌, ◌≤◌, ◌==◌, Bool, true, false, not, ◌||◌, max, List, [], ◌∷◌, ◌++◌, Some, None, refl, sym, ap, subst, ◌∙◌, inl, inr, ◌⊎◌, arith}
 use Rattle.std.proofs.lemmas.Bool.{cases_Bool, true≢false}
-use Rattle.tsb_types.specs.declared.interval.Interval.TheVariants.{Green, Yellow, RedClear}
-use Rattle.tsb_types.specs.declared.row.Row.{Row}
-use Rattle.tsb_types.specs.Intervals.{is_green, is_yellow, is_red_clear, in_service}
-use Rattle.tsb_plan.specs.Plan.{Plan, is_enabled, yellow_change, red_clear, red_revert}
-use Rattle.tsb_phase.specs.Ready.{yellow_is_done}
-use Rattle.tsb_ring.specs.Rings as rings
-use Rattle.tsb_ring.specs.Rings.{Ring, in_ring, serving}
-use Rattle.tsb_ring.specs.Wants.{pick}
-use Rattle.tsb_ring.specs.Next.{starting, next as rings_next}
-use Rattle.tsb_ring.specs.Moves.{is_ended, is_cleared, is_started}
-use Rattle.tsb_ring.specs.Laws.{IsSymmetric}
-use Rattle.tsb_ring.proofs.SoundLemmas.{new_commits}
-use Rattle.tsb_ring.proofs.WaitLemmas.{is_serving}
+use Rattle.tsb_step.specs.tsb_types.declared.interval.Interval.TheVariants.{Green, Yellow, RedClear}
+use Rattle.tsb_step.specs.tsb_types.declared.row.Row.{Row}
+use Rattle.tsb_step.specs.tsb_types.Intervals.{is_green, is_yellow, is_red_clear, in_service}
+use Rattle.tsb_step.specs.tsb_plan.Plan.{Plan, is_enabled, yellow_change, red_clear, red_revert}
+use Rattle.tsb_step.specs.tsb_phase.Ready.{yellow_is_done}
+use Rattle.tsb_step.specs.tsb_ring.Rings as rings
+use Rattle.tsb_step.specs.tsb_ring.Rings.{Ring, in_ring, serving}
+use Rattle.tsb_step.specs.tsb_ring.Wants.{pick}
+use Rattle.tsb_step.specs.tsb_ring.Next.{starting, next as rings_next}
+use Rattle.tsb_step.specs.tsb_ring.Moves.{is_ended, is_cleared, is_started}
+use Rattle.tsb_step.specs.tsb_ring.Laws.{IsSymmetric}
+use Rattle.tsb_step.proofs.tsb_ring.SoundLemmas.{new_commits}
+use Rattle.tsb_step.proofs.tsb_ring.WaitLemmas.{is_serving}
 use Rattle.tsb_step.specs.declared.inputs.Input.{Input}
 use Rattle.tsb_step.specs.declared.inputs.Input.TheVariants.{Tick}
 use Rattle.tsb_step.specs.State.{State, interval}

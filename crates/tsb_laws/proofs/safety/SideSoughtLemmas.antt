@@ -3,22 +3,22 @@ use Rattle.std.proofs.Common.{zero, suc, ◌≡◌, ◌≢◌, ℕ, nat_le, ◌+
 use Rattle.std.proofs.lemmas.Bool.{or_right, cases_Bool, cases_eq, and_parts, or_cases, eqb-true, eq-eqb, leb-true, true≢false, false≢true}
 use Rattle.std.proofs.lemmas.Bool.Decides.{nat_tests}
 use Rattle.std.proofs.lemmas.Option.{cond_some}
-use Rattle.tsb_types.specs.Lists.{first, some_passes, among, run_from, later, not_later, or_number}
-use Rattle.tsb_plan.specs.Plan.{Plan, phases, is_enabled, side_of, sides_after}
-use Rattle.tsb_rules.specs.Consistent.{IsPlaced}
-use Rattle.tsb_rules.specs.Rules.{first_broken}
-use Rattle.tsb_rules.proofs.ConsistentLemmas.{placed, together}
-use Rattle.tsb_ring.specs.declared.want.Want.{Want}
-use Rattle.tsb_ring.specs.declared.want.Want.TheVariants.{Go, Cross, Rest, Stop}
-use Rattle.tsb_ring.specs.Rings.{Ring, Ring1, Ring2, State, Given, serving}
-use Rattle.tsb_ring.specs.Wants.{go_or, is_on_side, is_candidate, is_called_elsewhere, want_by_calls, is_targeted, serves_target, targeted_here, is_targeted_elsewhere, want_by_target, want_found, is_idle_or_green, want, picked_before, want_of}
-use Rattle.tsb_ring.specs.Crossings.{wants_cross, ring_joins, begins, is_called_on, side_of_or, side_sought, target_side}
-use Rattle.tsb_ring.specs.Laws.{IsPairwiseConcurrent}
-use Rattle.tsb_ring.proofs.MoveLemmas.{and_three}
-use Rattle.tsb_ring.proofs.WaitLemmas.{cond_is, first-passes}
-use Rattle.tsb_ring.proofs.WantLemmas.{first-among}
-use Rattle.tsb_ring.proofs.EntryLemmas.{cross_is}
-use Rattle.tsb_types.proofs.RunLemmas.{among-run}
+use Rattle.tsb_step.specs.tsb_types.Lists.{first, some_passes, among, run_from, later, not_later, or_number}
+use Rattle.tsb_step.specs.tsb_plan.Plan.{Plan, phases, is_enabled, side_of, sides_after}
+use Rattle.tsb_step.specs.tsb_rules.Consistent.{IsPlaced}
+use Rattle.tsb_step.specs.tsb_rules.Rules.{first_broken}
+use Rattle.tsb_step.proofs.tsb_rules.ConsistentLemmas.{placed, together}
+use Rattle.tsb_step.specs.tsb_ring.declared.want.Want.{Want}
+use Rattle.tsb_step.specs.tsb_ring.declared.want.Want.TheVariants.{Go, Cross, Rest, Stop}
+use Rattle.tsb_step.specs.tsb_ring.Rings.{Ring, Ring1, Ring2, State, Given, serving}
+use Rattle.tsb_step.specs.tsb_ring.Wants.{go_or, is_on_side, is_candidate, is_called_elsewhere, want_by_calls, is_targeted, serves_target, targeted_here, is_targeted_elsewhere, want_by_target, want_found, is_idle_or_green, want, picked_before, want_of}
+use Rattle.tsb_step.specs.tsb_ring.Crossings.{wants_cross, ring_joins, begins, is_called_on, side_of_or, side_sought, target_side}
+use Rattle.tsb_step.specs.tsb_ring.Laws.{IsPairwiseConcurrent}
+use Rattle.tsb_step.proofs.tsb_ring.MoveLemmas.{and_three}
+use Rattle.tsb_step.proofs.tsb_ring.WaitLemmas.{cond_is, first-passes}
+use Rattle.tsb_step.proofs.tsb_ring.WantLemmas.{first-among}
+use Rattle.tsb_step.proofs.tsb_ring.EntryLemmas.{cross_is}
+use Rattle.tsb_step.proofs.tsb_types.RunLemmas.{among-run}
 use Rattle.tsb_step.proofs.GivenLemmas.{listed_is_phase}
 
 -- ## Lists

@@ -2,14 +2,14 @@
 use Rattle.std.proofs.Common.{◌≡◌, ℕ, ◌+◌, Bool, true, false, if◌then◌else◌, List, [], ◌∷◌, ◌++◌, Option, None, is_some, refl, ap}
 use Rattle.std.proofs.lemmas.Bool.{true≢false}
 use Rattle.std.proofs.Math.Bool.{and-false}
-use Rattle.tsb_types.specs.declared.lamp.Lamp.{Lamp}
-use Rattle.tsb_types.specs.declared.row.Row.{Row}
-use Rattle.tsb_plan.specs.Plan.{Plan}
-use Rattle.tsb_phase.specs.Phase.{Phase}
-use Rattle.tsb_ring.specs.Rings as rings
-use Rattle.tsb_ring.specs.Rings.{Ring}
-use Rattle.tsb_transact.specs.Calls as desk
-use Rattle.tsb_transact.specs.Commit as commit
+use Rattle.tsb_step.specs.tsb_types.declared.lamp.Lamp.{Lamp}
+use Rattle.tsb_step.specs.tsb_types.declared.row.Row.{Row}
+use Rattle.tsb_step.specs.tsb_plan.Plan.{Plan}
+use Rattle.tsb_step.specs.tsb_phase.Phase.{Phase}
+use Rattle.tsb_step.specs.tsb_ring.Rings as rings
+use Rattle.tsb_step.specs.tsb_ring.Rings.{Ring}
+use Rattle.tsb_step.specs.tsb_transact.Calls as desk
+use Rattle.tsb_step.specs.tsb_transact.Commit as commit
 use Rattle.tsb_step.specs.declared.inputs.Input.{Input}
 use Rattle.tsb_step.specs.declared.inputs.Input.TheVariants as inputs
 use Rattle.tsb_step.specs.declared.inputs.Input.TheVariants.{Tick}

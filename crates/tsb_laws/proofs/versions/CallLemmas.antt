@@ -2,10 +2,10 @@
 use Rattle.std.proofs.Common.{◌≡◌, ℕ, ◌==◌, Bool, true, false, not, ◌&&◌, Option, is_some, refl, ap, inl, inr}
 use Rattle.std.proofs.Math.Path.{fun_ext}
 use Rattle.std.proofs.lemmas.Bool.{cases_Bool}
-use Rattle.tsb_plan.specs.Plan.{Plan, is_enabled, is_concurrent}
-use Rattle.tsb_calls.specs.Memories.{Memories, Given, has_output, actuations, has_button, vehicle_memory, pedestrian_memory, counted, as_set}
-use Rattle.tsb_calls.specs.Callable.{has_pedestrian_call, is_called, is_callable_otherwise, some_is_callable_otherwise, is_callable, has_conflict}
-use Rattle.tsb_calls.specs.Settled.{Done, next}
+use Rattle.tsb_step.specs.tsb_plan.Plan.{Plan, is_enabled, is_concurrent}
+use Rattle.tsb_step.specs.tsb_calls.Memories.{Memories, Given, has_output, actuations, has_button, vehicle_memory, pedestrian_memory, counted, as_set}
+use Rattle.tsb_step.specs.tsb_calls.Callable.{has_pedestrian_call, is_called, is_callable_otherwise, some_is_callable_otherwise, is_callable, has_conflict}
+use Rattle.tsb_step.specs.tsb_calls.Settled.{Done, next}
 use Rattle.tsb_laws.specs.Widened.{IsNarrow, widened}
 use Rattle.tsb_laws.proofs.versions.ListLemmas.{is_narrow, IsSameOnNarrow}
 use Rattle.tsb_laws.proofs.versions.PlanLemmas.{first-same, beyond-narrow, not-enabled, enabled-narrow}

@@ -2,12 +2,12 @@
 use Rattle.std.proofs.Common.{◌≡◌, ℕ, ◌+◌, ◌-◌, nat_le, true, false, ◌&&◌, ◌++◌, Option, Some, None, refl, ◌∙◌, ap, ap₂, inl, inr, sum_by}
 use Rattle.std.proofs.Math.Path.{fun_ext}
 use Rattle.std.proofs.lemmas.Bool.{cases_Bool}
-use Rattle.tsb_types.specs.Lists.{run_from, up_to}
-use Rattle.tsb_plan.specs.Plan.{Plan, is_enabled, ring_of, side_of, sequence}
-use Rattle.tsb_plan.specs.Parts.{split_of}
-use Rattle.tsb_plan.specs.Running.{running, split_in_effect, sequence_in_effect, mode_in, mode_in_effect, coordinates_in, is_coordinated_now, is_omitted_now, is_on_minimum_recall, is_on_maximum_recall, is_on_pedestrian_recall}
-use Rattle.tsb_rules.specs.PatternRules.{is_on, has_phases, split_on, split_sum, side_sum, split_before, ring_sequence, split_end}
-use Rattle.tsb_coord.specs.Coordinated.{local_in, local, end_in, instant_from, reference, instant_by, force_off, asks_force_off, asks_hold, asks_omit, sequence_now, serving_order}
+use Rattle.tsb_step.specs.tsb_types.Lists.{run_from, up_to}
+use Rattle.tsb_step.specs.tsb_plan.Plan.{Plan, is_enabled, ring_of, side_of, sequence}
+use Rattle.tsb_step.specs.tsb_plan.Parts.{split_of}
+use Rattle.tsb_step.specs.tsb_plan.Running.{running, split_in_effect, sequence_in_effect, mode_in, mode_in_effect, coordinates_in, is_coordinated_now, is_omitted_now, is_on_minimum_recall, is_on_maximum_recall, is_on_pedestrian_recall}
+use Rattle.tsb_step.specs.tsb_rules.PatternRules.{is_on, has_phases, split_on, split_sum, side_sum, split_before, ring_sequence, split_end}
+use Rattle.tsb_step.specs.tsb_coord.Coordinated.{local_in, local, end_in, instant_from, reference, instant_by, force_off, asks_force_off, asks_hold, asks_omit, sequence_now, serving_order}
 use Rattle.tsb_laws.specs.Widened.{IsNarrow, widened}
 use Rattle.tsb_laws.proofs.versions.ListLemmas.{is_narrow, is_beyond, sum-up_to}
 use Rattle.tsb_laws.proofs.versions.PlanLemmas.{first-same, any-same, sum-same, beyond-narrow, not-enabled, enabled-narrow, split_time-same, split_mode-same, is_coordinated-same, not-coordinated, zeros, sequence-same}

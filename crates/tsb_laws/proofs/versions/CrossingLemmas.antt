@@ -3,18 +3,18 @@ use Rattle.std.proofs.Common.{zero, suc, ◌≡◌, ℕ, ◌+◌, ◌-◌, ◌�
 use Rattle.std.proofs.Math.Path.{fun_ext}
 use Rattle.std.proofs.lemmas.Bool.{cases_Bool}
 use Rattle.std.proofs.lemmas.Bool.Decides.{nat_tests}
-use Rattle.tsb_types.specs.Lists.{first, run_from, or_else, or_number}
-use Rattle.tsb_plan.specs.declared.object.Object.TheVariants.{PhaseSide}
-use Rattle.tsb_plan.specs.Plan.{Plan, phases, sides_after}
-use Rattle.tsb_ring.specs.declared.want.Want.{Want}
-use Rattle.tsb_ring.specs.Rings.{Ring, Ring1, Ring2, State, Given, in_ring, serving}
-use Rattle.tsb_ring.specs.Wants.{concurrent_with, is_on_side, is_targeted, want_of}
-use Rattle.tsb_ring.specs.Crossings.{joins, ring_joins, begins, is_called_on, side_of_or, side_sought, target_side, may_enter, dual, is_called_in, called_in_ring_1, called_in_ring_2, entry_by_calls, entry_for, entry, committed}
+use Rattle.tsb_step.specs.tsb_types.Lists.{first, run_from, or_else, or_number}
+use Rattle.tsb_step.specs.tsb_plan.declared.object.Object.TheVariants.{PhaseSide}
+use Rattle.tsb_step.specs.tsb_plan.Plan.{Plan, phases, sides_after}
+use Rattle.tsb_step.specs.tsb_ring.declared.want.Want.{Want}
+use Rattle.tsb_step.specs.tsb_ring.Rings.{Ring, Ring1, Ring2, State, Given, in_ring, serving}
+use Rattle.tsb_step.specs.tsb_ring.Wants.{concurrent_with, is_on_side, is_targeted, want_of}
+use Rattle.tsb_step.specs.tsb_ring.Crossings.{joins, ring_joins, begins, is_called_on, side_of_or, side_sought, target_side, may_enter, dual, is_called_in, called_in_ring_1, called_in_ring_2, entry_by_calls, entry_for, entry, committed}
 use Rattle.tsb_laws.specs.Widened.{IsNarrow, widened}
 use Rattle.tsb_laws.proofs.versions.ListLemmas.{IsSameOnNarrow, IsBeyondNarrow, first-behind}
 use Rattle.tsb_laws.proofs.versions.PlanLemmas.{first-same, beyond-narrow, not-enabled, not-in_ring, in_ring-narrow, zeros}
 use Rattle.tsb_laws.proofs.versions.WantLemmas.{wide_given, serving-same, concurrent_with-same, want_of-same, pick-same}
-use Rattle.tsb_types.proofs.FirstLemmas.{first-none}
+use Rattle.tsb_step.proofs.tsb_types.FirstLemmas.{first-none}
 
 -- ## When a crossing begins
 

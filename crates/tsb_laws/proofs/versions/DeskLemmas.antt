@@ -3,18 +3,18 @@ use Rattle.std.proofs.Common.{suc, ◌≡◌, ℕ, ◌+◌, ◌-◌, ◌*◌, �
 use Rattle.std.proofs.Math.Path.{fun_ext}
 use Rattle.std.proofs.lemmas.Bool.{cases_Bool, and_parts, eqb-true}
 use Rattle.std.proofs.lemmas.Bool.Decides.{nat_tests}
-use Rattle.tsb_plan.specs.declared.object.Object.{Object}
-use Rattle.tsb_plan.specs.declared.object.ObjectId.{ObjectId}
-use Rattle.tsb_plan.specs.declared.version.Version.TheVariants.{One}
-use Rattle.tsb_plan.specs.Objects.{order}
-use Rattle.tsb_plan.specs.Plan.{Plan, is_same, with_value}
-use Rattle.tsb_plan.specs.Versions.{is_in_rows, has_object, has_index_in, indices_in, greatest_in, translated}
-use Rattle.tsb_plan.proofs.TableLemmas.{order-injective}
-use Rattle.tsb_transact.specs.declared.edit.Edit.{Edit}
-use Rattle.tsb_transact.specs.Desk.{is_of, has_edit_of, with_edit, with_edits}
-use Rattle.tsb_transact.specs.Commit.{changes, changes_some}
+use Rattle.tsb_step.specs.tsb_plan.declared.object.Object.{Object}
+use Rattle.tsb_step.specs.tsb_plan.declared.object.ObjectId.{ObjectId}
+use Rattle.tsb_step.specs.tsb_plan.declared.version.Version.TheVariants.{One}
+use Rattle.tsb_step.specs.tsb_plan.Objects.{order}
+use Rattle.tsb_step.specs.tsb_plan.Plan.{Plan, is_same, with_value}
+use Rattle.tsb_step.specs.tsb_plan.Versions.{is_in_rows, has_object, has_index_in, indices_in, greatest_in, translated}
+use Rattle.tsb_step.proofs.tsb_plan.TableLemmas.{order-injective}
+use Rattle.tsb_step.specs.tsb_transact.declared.edit.Edit.{Edit}
+use Rattle.tsb_step.specs.tsb_transact.Desk.{is_of, has_edit_of, with_edit, with_edits}
+use Rattle.tsb_step.specs.tsb_transact.Commit.{changes, changes_some}
 use Rattle.tsb_laws.specs.Widened.{IsNarrow, is_of_version_1, narrowed, widened_value, widened, widened_id, IsOfTable, AreOfTable, widened_edit}
-use Rattle.tsb_objects.proofs.TableLemmas.{same-tests}
+use Rattle.tsb_step.proofs.tsb_objects.TableLemmas.{same-tests}
 
 -- ## Indices
 

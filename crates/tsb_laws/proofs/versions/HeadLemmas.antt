@@ -3,25 +3,25 @@ use Rattle.std.proofs.Common.{◌≡◌, ℕ, ◌≤◌, ◌==◌, nat_lt, Bool,
 use Rattle.std.specs.Option.{option_map}
 use Rattle.std.proofs.Math.Path.{fun_ext}
 use Rattle.std.proofs.lemmas.Bool.Decides.{nat_tests}
-use Rattle.tsb_types.specs.declared.lamp.Aspect.TheVariants.{Dark}
-use Rattle.tsb_types.specs.declared.lamp.PedestrianAspect.TheVariants as pedestrian_aspects
-use Rattle.tsb_types.specs.declared.lamp.Lamp.{Lamp}
-use Rattle.tsb_types.specs.declared.lamp.Lamp.TheVariants as lamps
-use Rattle.tsb_types.specs.Intervals.{is_green, is_yellow}
-use Rattle.tsb_types.specs.Lists.{first}
-use Rattle.tsb_plan.specs.declared.object.Object.TheVariants.{OverlapIncludedPhases, OverlapModifierPhases}
-use Rattle.tsb_plan.specs.Plan.{Plan, phases, ring_of}
-use Rattle.tsb_plan.specs.Parts.{is_included, is_modifier}
-use Rattle.tsb_rules.specs.PatternRules.{some_and}
-use Rattle.tsb_heads.specs.declared.monitor.Trip.TheVariants.{GreenToRed}
-use Rattle.tsb_heads.specs.Heads.{Shown, Heads}
-use Rattle.tsb_heads.specs.Overlaps.{some_of, is_followed, keeps_green, is_kept_green, is_on_yellow, has_green_modifier, has_yellow_modifier, is_on_last_yellow, overlap_head}
-use Rattle.tsb_heads.specs.Displays.{ordered, flashing, display, laid_over, field}
-use Rattle.tsb_heads.specs.Monitoring.{has_right_of_way, are_in_conflict, conflict_of, conflict_by, conflict, goes_red, green_to_red, judge}
+use Rattle.tsb_step.specs.tsb_types.declared.lamp.Aspect.TheVariants.{Dark}
+use Rattle.tsb_step.specs.tsb_types.declared.lamp.PedestrianAspect.TheVariants as pedestrian_aspects
+use Rattle.tsb_step.specs.tsb_types.declared.lamp.Lamp.{Lamp}
+use Rattle.tsb_step.specs.tsb_types.declared.lamp.Lamp.TheVariants as lamps
+use Rattle.tsb_step.specs.tsb_types.Intervals.{is_green, is_yellow}
+use Rattle.tsb_step.specs.tsb_types.Lists.{first}
+use Rattle.tsb_step.specs.tsb_plan.declared.object.Object.TheVariants.{OverlapIncludedPhases, OverlapModifierPhases}
+use Rattle.tsb_step.specs.tsb_plan.Plan.{Plan, phases, ring_of}
+use Rattle.tsb_step.specs.tsb_plan.Parts.{is_included, is_modifier}
+use Rattle.tsb_step.specs.tsb_rules.PatternRules.{some_and}
+use Rattle.tsb_step.specs.tsb_heads.declared.monitor.Trip.TheVariants.{GreenToRed}
+use Rattle.tsb_step.specs.tsb_heads.Heads.{Shown, Heads}
+use Rattle.tsb_step.specs.tsb_heads.Overlaps.{some_of, is_followed, keeps_green, is_kept_green, is_on_yellow, has_green_modifier, has_yellow_modifier, is_on_last_yellow, overlap_head}
+use Rattle.tsb_step.specs.tsb_heads.Displays.{ordered, flashing, display, laid_over, field}
+use Rattle.tsb_step.specs.tsb_heads.Monitoring.{has_right_of_way, are_in_conflict, conflict_of, conflict_by, conflict, goes_red, green_to_red, judge}
 use Rattle.tsb_laws.specs.Widened.{IsNarrow, widened, IsLampWithin}
 use Rattle.tsb_laws.proofs.versions.ListLemmas.{is_beyond, IsBeyondNarrow}
 use Rattle.tsb_laws.proofs.versions.PlanLemmas.{first-same, any-same, beyond-bound, beyond-narrow, not-enabled, names-none}
-use Rattle.tsb_types.proofs.FirstLemmas.{first-none}
+use Rattle.tsb_step.proofs.tsb_types.FirstLemmas.{first-none}
 use Rattle.tsb_laws.proofs.versions.CrossingLemmas.{and-false}
 
 -- ## Overlaps

@@ -3,7 +3,7 @@ use Rattle.std.proofs.Common.{◌≡◌, ℕ, ◌+◌, ◌==◌, nat_le, nat_lt,
 use Rattle.std.specs.List.{list_all, list_any}
 use Rattle.std.proofs.lemmas.Bool.{eqb-true, cases_Bool, and_parts}
 use Rattle.std.proofs.lemmas.List.Sums.{sum_by-cons}
-use Rattle.tsb_types.specs.Lists.{first, run_from, after, up_to, later, not_later}
+use Rattle.tsb_step.specs.tsb_types.Lists.{first, run_from, after, up_to, later, not_later}
 
 -- ## Phases 1 to 8 among phases 1 to 16
 

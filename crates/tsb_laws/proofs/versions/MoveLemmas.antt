@@ -1,11 +1,11 @@
 -- The rings make the same moves on the wide plan.
 use Rattle.std.proofs.Common.{◌≡◌, ℕ, ◌≤◌, Bool, false, ◌&&◌, Option, Some, None, refl, ap₂}
 use Rattle.std.proofs.Math.Path.{fun_ext}
-use Rattle.tsb_types.specs.Intervals.{is_green}
-use Rattle.tsb_plan.specs.Plan.{Plan}
-use Rattle.tsb_ring.specs.Rings.{Ring, Ring1, Ring2, other, State, Given, own_ring, serving}
-use Rattle.tsb_ring.specs.Next.{is_none_or_over, makes_way, may_start, completes, start_now, starting, ends, clears, new_last, new_commitment, new_side, new_crossing, next}
-use Rattle.tsb_ring.specs.Moves.{if_passes, ring_moves, moves}
+use Rattle.tsb_step.specs.tsb_types.Intervals.{is_green}
+use Rattle.tsb_step.specs.tsb_plan.Plan.{Plan}
+use Rattle.tsb_step.specs.tsb_ring.Rings.{Ring, Ring1, Ring2, other, State, Given, own_ring, serving}
+use Rattle.tsb_step.specs.tsb_ring.Next.{is_none_or_over, makes_way, may_start, completes, start_now, starting, ends, clears, new_last, new_commitment, new_side, new_crossing, next}
+use Rattle.tsb_step.specs.tsb_ring.Moves.{if_passes, ring_moves, moves}
 use Rattle.tsb_laws.specs.Widened.{IsNarrow, widened}
 use Rattle.tsb_laws.proofs.versions.ListLemmas.{IsSameOnNarrow, IsBeyondNarrow}
 use Rattle.tsb_laws.proofs.versions.WantLemmas.{wide_given, serving-same, want_of-same, pick-same}

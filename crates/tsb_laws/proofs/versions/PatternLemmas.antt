@@ -4,11 +4,11 @@ use Rattle.std.specs.List.{list_all, list_any}
 use Rattle.std.proofs.Math.Path.{fun_ext}
 use Rattle.std.proofs.lemmas.Bool.Decides.{nat_tests}
 use Rattle.std.proofs.lemmas.List.Sums.{sum_by-cons}
-use Rattle.tsb_types.specs.Lists.{run_from}
-use Rattle.tsb_plan.specs.declared.object.Object.TheVariants.{PhaseSide}
-use Rattle.tsb_plan.specs.Parts.{is_used, split_of, sequence_of, is_coordinated, cycle}
-use Rattle.tsb_plan.specs.Plan.{Plan, phases, is_enabled, ring_of, side_of}
-use Rattle.tsb_rules.specs.PatternRules.{some_and, each_pattern, names_sequence, is_whole, patterns_are_whole, holds_phase, holds_phases, splits_hold_phases, is_on, has_phases, split_on, split_sum, side_sum, rings_agree, rings_agree_on_sides, fills, splits_fill_cycles, ends_with, agrees_with_all, is_coordinated_in, coordinated_count, has_one_in_each_ring, coordinates, has_coordinated, all_coordinate, coordinated_agree, coordinated_phases_agree}
+use Rattle.tsb_step.specs.tsb_types.Lists.{run_from}
+use Rattle.tsb_step.specs.tsb_plan.declared.object.Object.TheVariants.{PhaseSide}
+use Rattle.tsb_step.specs.tsb_plan.Parts.{is_used, split_of, sequence_of, is_coordinated, cycle}
+use Rattle.tsb_step.specs.tsb_plan.Plan.{Plan, phases, is_enabled, ring_of, side_of}
+use Rattle.tsb_step.specs.tsb_rules.PatternRules.{some_and, each_pattern, names_sequence, is_whole, patterns_are_whole, holds_phase, holds_phases, splits_hold_phases, is_on, has_phases, split_on, split_sum, side_sum, rings_agree, rings_agree_on_sides, fills, splits_fill_cycles, ends_with, agrees_with_all, is_coordinated_in, coordinated_count, has_one_in_each_ring, coordinates, has_coordinated, all_coordinate, coordinated_agree, coordinated_phases_agree}
 use Rattle.tsb_laws.specs.Widened.{IsNarrow, widened}
 use Rattle.tsb_laws.proofs.versions.ListLemmas.{is_narrow}
 use Rattle.tsb_laws.proofs.versions.PlanLemmas.{any-same, all-same, sum-same, split_time-same, is_omitted-same, is_coordinated-same, not-coordinated}

@@ -2,22 +2,22 @@
 -- stays as it was at power-up.
 use Rattle.std.proofs.Common.{◌≡◌, ℕ, ◌==◌, Bool, true, false, if◌then◌else◌, Option, Some, None, refl, inl, inr}
 use Rattle.std.proofs.lemmas.Bool.{cases_Bool}
-use Rattle.tsb_cells.specs.declared.timer.Timer.{Timer}
-use Rattle.tsb_cells.specs.declared.timer.Timer.TheVariants.{Off, On}
-use Rattle.tsb_types.specs.declared.interval.PedestrianInterval.{PedestrianInterval}
-use Rattle.tsb_types.specs.declared.interval.PedestrianInterval.TheVariants.{DontWalk, Walk, PedestrianClear}
-use Rattle.tsb_types.specs.declared.interval.Interval.{Interval}
-use Rattle.tsb_types.specs.declared.interval.Interval.TheVariants.{Red, Green, Yellow, RedClear}
-use Rattle.tsb_plan.specs.declared.object.Object.TheVariants.{UnitMax2}
-use Rattle.tsb_plan.specs.Plan.{Plan, maximum}
-use Rattle.tsb_phase.specs.declared.ending.Ending.{Ending}
-use Rattle.tsb_phase.specs.declared.ending.Ending.TheVariants.{MaxOut, GapOut}
-use Rattle.tsb_phase.specs.Phase.{Phase, Given, Moved, GreenHeld, as_read, held_of}
-use Rattle.tsb_phase.specs.DynamicMaximum.{effective_maximum, maximum_in_use, stepped, running_maximum_after}
-use Rattle.tsb_phase.specs.Green.{waits_for, cars_waiting, reduction_timer, gap, initial, gap_has_expired, gapped_latch, is_gapped, is_by_gap}
-use Rattle.tsb_phase.specs.Pedestrian.{ended_by, walk_time, clearance_time, pedestrian_after, pedestrian_now}
-use Rattle.tsb_phase.specs.Ready.{is_gapped_now, has_timed_out, green_is_done, is_ready, is_over_in, is_over, red_revert_passed}
-use Rattle.tsb_phase.specs.Next.{interval_after, held_now, ending_now, next}
+use Rattle.tsb_step.specs.tsb_cells.declared.timer.Timer.{Timer}
+use Rattle.tsb_step.specs.tsb_cells.declared.timer.Timer.TheVariants.{Off, On}
+use Rattle.tsb_step.specs.tsb_types.declared.interval.PedestrianInterval.{PedestrianInterval}
+use Rattle.tsb_step.specs.tsb_types.declared.interval.PedestrianInterval.TheVariants.{DontWalk, Walk, PedestrianClear}
+use Rattle.tsb_step.specs.tsb_types.declared.interval.Interval.{Interval}
+use Rattle.tsb_step.specs.tsb_types.declared.interval.Interval.TheVariants.{Red, Green, Yellow, RedClear}
+use Rattle.tsb_step.specs.tsb_plan.declared.object.Object.TheVariants.{UnitMax2}
+use Rattle.tsb_step.specs.tsb_plan.Plan.{Plan, maximum}
+use Rattle.tsb_step.specs.tsb_phase.declared.ending.Ending.{Ending}
+use Rattle.tsb_step.specs.tsb_phase.declared.ending.Ending.TheVariants.{MaxOut, GapOut}
+use Rattle.tsb_step.specs.tsb_phase.Phase.{Phase, Given, Moved, GreenHeld, as_read, held_of}
+use Rattle.tsb_step.specs.tsb_phase.DynamicMaximum.{effective_maximum, maximum_in_use, stepped, running_maximum_after}
+use Rattle.tsb_step.specs.tsb_phase.Green.{waits_for, cars_waiting, reduction_timer, gap, initial, gap_has_expired, gapped_latch, is_gapped, is_by_gap}
+use Rattle.tsb_step.specs.tsb_phase.Pedestrian.{ended_by, walk_time, clearance_time, pedestrian_after, pedestrian_now}
+use Rattle.tsb_step.specs.tsb_phase.Ready.{is_gapped_now, has_timed_out, green_is_done, is_ready, is_over_in, is_over, red_revert_passed}
+use Rattle.tsb_step.specs.tsb_phase.Next.{interval_after, held_now, ending_now, next}
 use Rattle.tsb_laws.specs.Widened.{IsNarrow, widened}
 use Rattle.tsb_laws.proofs.versions.ListLemmas.{is_narrow, IsSameOnNarrow, IsBeyondNarrow}
 use Rattle.tsb_laws.proofs.versions.PlanLemmas.{sum-same}

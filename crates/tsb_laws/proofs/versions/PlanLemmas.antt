@@ -3,13 +3,13 @@ use Rattle.std.proofs.Common.{◌≡◌, ℕ, ◌+◌, ◌-◌, ◌*◌, ◌/◌
 use Rattle.std.specs.List.{list_all, list_any}
 use Rattle.std.proofs.lemmas.Bool.{cases_Bool}
 use Rattle.std.proofs.lemmas.Bool.Decides.{nat_tests}
-use Rattle.tsb_types.specs.Lists.{first, run_from}
-use Rattle.tsb_types.specs.Sets.{names}
-use Rattle.tsb_types.proofs.SetLemmas.{names-above}
-use Rattle.tsb_plan.specs.declared.object.Object.TheVariants.{PhaseEnabled, PhaseRing, PhaseConcurrency, SplitTime, SplitMode, SplitCoordPhase, SequenceData}
-use Rattle.tsb_plan.specs.Plan.{Plan, phases, is_enabled, is_concurrent, sequence}
-use Rattle.tsb_plan.specs.Parts.{split_index, mode_of, split_time, split_mode, is_omitted, is_coordinated}
-use Rattle.tsb_ring.specs.Rings.{Ring, Ring1, Ring2, in_ring}
+use Rattle.tsb_step.specs.tsb_types.Lists.{first, run_from}
+use Rattle.tsb_step.specs.tsb_types.Sets.{names}
+use Rattle.tsb_step.proofs.tsb_types.SetLemmas.{names-above}
+use Rattle.tsb_step.specs.tsb_plan.declared.object.Object.TheVariants.{PhaseEnabled, PhaseRing, PhaseConcurrency, SplitTime, SplitMode, SplitCoordPhase, SequenceData}
+use Rattle.tsb_step.specs.tsb_plan.Plan.{Plan, phases, is_enabled, is_concurrent, sequence}
+use Rattle.tsb_step.specs.tsb_plan.Parts.{split_index, mode_of, split_time, split_mode, is_omitted, is_coordinated}
+use Rattle.tsb_step.specs.tsb_ring.Rings.{Ring, Ring1, Ring2, in_ring}
 use Rattle.tsb_laws.specs.Widened.{IsNarrow, widened, widened_row}
 use Rattle.tsb_laws.proofs.versions.ListLemmas.{is_narrow, is_beyond, IsSameOnNarrow, IsBeyondNarrow, first-phases, any-phases, all-phases, sum-phases}
 

@@ -1,15 +1,15 @@
 -- Preempts do the same on the wide plan.
 use Rattle.std.proofs.Common.{◌≡◌, ℕ, Bool, true, false, not, ◌||◌, Option, Some, None, refl, ap}
 use Rattle.std.proofs.Math.Path.{fun_ext}
-use Rattle.tsb_types.specs.declared.interval.Interval.{Interval}
-use Rattle.tsb_types.specs.declared.stage.Stage.{Stage}
-use Rattle.tsb_types.specs.declared.stage.Stage.TheVariants.{Track, Dwell, Exit}
-use Rattle.tsb_types.specs.Intervals.{is_green}
-use Rattle.tsb_plan.specs.declared.object.Object.TheVariants.{PreemptTrackPhase, PreemptExitPhase}
-use Rattle.tsb_plan.specs.Plan.{Plan}
-use Rattle.tsb_plan.specs.Parts.{is_track_phase, is_exit_phase}
-use Rattle.tsb_preempt.specs.Service.{Service, stage_phases, all_green, track_timer, stage_after, with_stage, moved}
-use Rattle.tsb_preempt.specs.Preempts.{Preempts, Given, as_read, has_input, requesting, beginning, going_on, service_by, new_service, dwell_ends_of, dwell_ends, new_spent, service_ended, wanted_by, target, must_end, next}
+use Rattle.tsb_step.specs.tsb_types.declared.interval.Interval.{Interval}
+use Rattle.tsb_step.specs.tsb_types.declared.stage.Stage.{Stage}
+use Rattle.tsb_step.specs.tsb_types.declared.stage.Stage.TheVariants.{Track, Dwell, Exit}
+use Rattle.tsb_step.specs.tsb_types.Intervals.{is_green}
+use Rattle.tsb_step.specs.tsb_plan.declared.object.Object.TheVariants.{PreemptTrackPhase, PreemptExitPhase}
+use Rattle.tsb_step.specs.tsb_plan.Plan.{Plan}
+use Rattle.tsb_step.specs.tsb_plan.Parts.{is_track_phase, is_exit_phase}
+use Rattle.tsb_step.specs.tsb_preempt.Service.{Service, stage_phases, all_green, track_timer, stage_after, with_stage, moved}
+use Rattle.tsb_step.specs.tsb_preempt.Preempts.{Preempts, Given, as_read, has_input, requesting, beginning, going_on, service_by, new_service, dwell_ends_of, dwell_ends, new_spent, service_ended, wanted_by, target, must_end, next}
 use Rattle.tsb_laws.specs.Widened.{IsNarrow, widened}
 use Rattle.tsb_laws.proofs.versions.ListLemmas.{is_beyond}
 use Rattle.tsb_laws.proofs.versions.PlanLemmas.{all-same, names-none}

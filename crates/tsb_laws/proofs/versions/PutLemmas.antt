@@ -4,12 +4,12 @@ use Rattle.std.specs.List.{list_all}
 use Rattle.std.proofs.Math.Path.{fun_ext}
 use Rattle.std.proofs.lemmas.Bool.{cases_Bool, and_parts}
 use Rattle.std.proofs.lemmas.Bool.Decides.{nat_tests}
-use Rattle.tsb_plan.specs.declared.object.Object.{Object}
-use Rattle.tsb_plan.specs.declared.version.Version.TheVariants.{One}
-use Rattle.tsb_plan.specs.Plan.{Plan, empty, with_value, with_values}
-use Rattle.tsb_plan.specs.Quad.{quad, quad_rows, quad_values, row, with_rows}
-use Rattle.tsb_plan.specs.Two.{two, two_values}
-use Rattle.tsb_plan.specs.Versions.{is_in_rows, has_index_in, greatest_in}
+use Rattle.tsb_step.specs.tsb_plan.declared.object.Object.{Object}
+use Rattle.tsb_step.specs.tsb_plan.declared.version.Version.TheVariants.{One}
+use Rattle.tsb_step.specs.tsb_plan.Plan.{Plan, empty, with_value, with_values}
+use Rattle.tsb_step.specs.tsb_plan.Quad.{quad, quad_rows, quad_values, row, with_rows}
+use Rattle.tsb_step.specs.tsb_plan.Two.{two, two_values}
+use Rattle.tsb_step.specs.tsb_plan.Versions.{is_in_rows, has_index_in, greatest_in}
 use Rattle.tsb_laws.specs.Widened.{IsNarrow, is_of_version_1, widened_value, widened}
 use Rattle.tsb_laws.specs.BuiltIn.{narrow_empty, AreValues, widened_puts, narrow_two, narrow_quad, narrow_quad_values}
 use Rattle.tsb_laws.specs.Versions.{IsWideOf}

@@ -1,17 +1,17 @@
 -- On a plan of version 1 the rings serve, commit to and start phases 1 to 8 alone, and cross to sides up to 2.
 use Rattle.std.proofs.Common.{zero, suc, ◌≡◌, ℕ, ◌+◌, ◌-◌, ◌≤◌, ◌==◌, Bool, true, false, ◌&&◌, ◌||◌, if◌then◌else◌, List, [], ◌∷◌, ◌++◌, Option, Some, None, is_some, is_none, refl, arith, sym, ◌∙◌, subst, inl, inr}
 use Rattle.std.proofs.lemmas.Bool.{cases_Bool, and_parts, eqb-true}
-use Rattle.tsb_types.specs.Intervals.{is_green, in_service}
-use Rattle.tsb_types.specs.Lists.{first, is, run_from, later, not_later, or_else, or_number}
-use Rattle.tsb_plan.specs.declared.object.Object.TheVariants.{PhaseSide}
-use Rattle.tsb_plan.specs.Plan.{Plan, phases, sides_after}
-use Rattle.tsb_ring.specs.declared.want.Want.{Want}
-use Rattle.tsb_ring.specs.declared.want.Want.TheVariants.{Go, Cross, Rest, Stop}
-use Rattle.tsb_ring.specs.Rings.{Ring, Ring1, Ring2, State, Given, in_ring, serving}
-use Rattle.tsb_ring.specs.Wants.{go_or, concurrent_with, fits, is_on_side, is_candidate, is_called_elsewhere, is_targeted, serves_target, targeted_here, is_targeted_elsewhere, want_found, is_idle_or_green, want, may_take, taken, picked_before, want_of, pick}
-use Rattle.tsb_ring.specs.Crossings.{begins, is_called_on, side_of_or, side_sought, target_side, may_enter, dual, is_called_in, called_in_ring_1, called_in_ring_2, entry_by_calls, entry_for, entry, own_commitment, committed}
-use Rattle.tsb_ring.specs.Next.{may_start, completes, idle_pick, start_now, starting, ends, new_commitment, new_side, new_crossing, next}
-use Rattle.tsb_ring.specs.Moves.{if_passes, ring_moves, moves, is_ended, is_started}
+use Rattle.tsb_step.specs.tsb_types.Intervals.{is_green, in_service}
+use Rattle.tsb_step.specs.tsb_types.Lists.{first, is, run_from, later, not_later, or_else, or_number}
+use Rattle.tsb_step.specs.tsb_plan.declared.object.Object.TheVariants.{PhaseSide}
+use Rattle.tsb_step.specs.tsb_plan.Plan.{Plan, phases, sides_after}
+use Rattle.tsb_step.specs.tsb_ring.declared.want.Want.{Want}
+use Rattle.tsb_step.specs.tsb_ring.declared.want.Want.TheVariants.{Go, Cross, Rest, Stop}
+use Rattle.tsb_step.specs.tsb_ring.Rings.{Ring, Ring1, Ring2, State, Given, in_ring, serving}
+use Rattle.tsb_step.specs.tsb_ring.Wants.{go_or, concurrent_with, fits, is_on_side, is_candidate, is_called_elsewhere, is_targeted, serves_target, targeted_here, is_targeted_elsewhere, want_found, is_idle_or_green, want, may_take, taken, picked_before, want_of, pick}
+use Rattle.tsb_step.specs.tsb_ring.Crossings.{begins, is_called_on, side_of_or, side_sought, target_side, may_enter, dual, is_called_in, called_in_ring_1, called_in_ring_2, entry_by_calls, entry_for, entry, own_commitment, committed}
+use Rattle.tsb_step.specs.tsb_ring.Next.{may_start, completes, idle_pick, start_now, starting, ends, new_commitment, new_side, new_crossing, next}
+use Rattle.tsb_step.specs.tsb_ring.Moves.{if_passes, ring_moves, moves, is_ended, is_started}
 use Rattle.tsb_laws.specs.Widened.{IsNarrow}
 use Rattle.tsb_laws.proofs.versions.ListLemmas.{is_narrow}
 use Rattle.tsb_laws.proofs.versions.PlanLemmas.{in_ring-narrow}

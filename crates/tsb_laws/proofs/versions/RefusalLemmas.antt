@@ -3,18 +3,18 @@ use Rattle.std.proofs.Common.{zero, suc, ◌≡◌, ℕ, ◌+◌, ◌-◌, ◌*�
 use Rattle.std.specs.List.{list_all}
 use Rattle.std.proofs.lemmas.Bool.{cases_Bool, and_parts, eqb-true}
 use Rattle.std.proofs.lemmas.Bool.Decides.{nat_tests}
-use Rattle.tsb_types.specs.Intervals.{in_service}
-use Rattle.tsb_plan.specs.declared.object.Object.{Object}
-use Rattle.tsb_plan.specs.declared.object.Object.TheVariants.{PhaseEnabled}
-use Rattle.tsb_plan.specs.declared.object.ObjectId.{ObjectId}
-use Rattle.tsb_plan.specs.declared.version.Version.TheVariants.{One}
-use Rattle.tsb_plan.specs.Objects.{objects, order}
-use Rattle.tsb_plan.specs.Plan.{Plan}
-use Rattle.tsb_plan.specs.Versions.{is_in_rows, has_object, has_index_in, indices_in, greatest_in, translated}
-use Rattle.tsb_plan.proofs.TableLemmas.{at-order, order-below, length-objects}
-use Rattle.tsb_phase.specs.Phase as phase
-use Rattle.tsb_plan.specs.Objects.{is_structural}
-use Rattle.tsb_transact.specs.Commit as commit
+use Rattle.tsb_step.specs.tsb_types.Intervals.{in_service}
+use Rattle.tsb_step.specs.tsb_plan.declared.object.Object.{Object}
+use Rattle.tsb_step.specs.tsb_plan.declared.object.Object.TheVariants.{PhaseEnabled}
+use Rattle.tsb_step.specs.tsb_plan.declared.object.ObjectId.{ObjectId}
+use Rattle.tsb_step.specs.tsb_plan.declared.version.Version.TheVariants.{One}
+use Rattle.tsb_step.specs.tsb_plan.Objects.{objects, order}
+use Rattle.tsb_step.specs.tsb_plan.Plan.{Plan}
+use Rattle.tsb_step.specs.tsb_plan.Versions.{is_in_rows, has_object, has_index_in, indices_in, greatest_in, translated}
+use Rattle.tsb_step.proofs.tsb_plan.TableLemmas.{at-order, order-below, length-objects}
+use Rattle.tsb_step.specs.tsb_phase.Phase as phase
+use Rattle.tsb_step.specs.tsb_plan.Objects.{is_structural}
+use Rattle.tsb_step.specs.tsb_transact.Commit as commit
 use Rattle.tsb_step.specs.declared.inputs.Input.{Input}
 use Rattle.tsb_step.specs.declared.inputs.Input.TheVariants.{Set, Commit}
 use Rattle.tsb_step.specs.State.{State, interval}
@@ -25,7 +25,7 @@ use Rattle.tsb_laws.specs.Widened.{IsNarrow, widened, widened_id, widened_input,
 use Rattle.tsb_laws.proofs.versions.PlanLemmas.{any-same, beyond-narrow}
 use Rattle.tsb_laws.proofs.versions.TickLemmas.{IsNarrowState}
 use Rattle.tsb_laws.proofs.versions.DeskLemmas.{from-one, has_edit_of-same, length-same, changes_some-same}
-use Rattle.tsb_rules.proofs.RuleLemmas.{under}
+use Rattle.tsb_step.proofs.tsb_rules.RuleLemmas.{under}
 
 -- what holds of the objects of version 1 in both tables
 abbrev stands_in_both : Object → Bool

@@ -3,12 +3,12 @@ use Rattle.std.proofs.Common.{◌≡◌, ℕ, ◌≤◌, ◌==◌, nat_le, Bool,
 use Rattle.std.specs.List.{list_all}
 use Rattle.std.proofs.Math.Path.{fun_ext}
 use Rattle.std.proofs.lemmas.Bool.Decides.{nat_tests}
-use Rattle.tsb_types.specs.Lists.{run_from}
-use Rattle.tsb_types.specs.Sets.{names}
-use Rattle.tsb_types.proofs.SetLemmas.{names-zero}
-use Rattle.tsb_plan.specs.declared.object.Object.TheVariants.{PhaseSide, PhaseConcurrency, OverlapIncludedPhases, OverlapModifierPhases, PreemptTrackPhase, PreemptDwellPhase, PreemptExitPhase}
-use Rattle.tsb_plan.specs.Plan.{Plan, phases, is_enabled, ring_of, side_of, is_concurrent}
-use Rattle.tsb_rules.specs.Rules.{some_enabled, is_placed, are_placed, unused_lists_are_empty, may_be_concurrent, names_across_rings, lists_name_across_rings, is_named_back, concurrency_is_symmetric, yellows_are_long, gaps_can_reduce, reaches_minimum, maximums_reach_minimums, recalled_pedestrians_walk, names_enabled, included_phases_are_enabled, goes_with_all, names_concurrent, has_concurrent_lists, preempts_are_concurrent, modifies_rightly, modifiers_are_right, limits_reach_minimums, broken_by_rings, broken_by_phases, broken_by_parts, broken_by_extensions, first_broken}
+use Rattle.tsb_step.specs.tsb_types.Lists.{run_from}
+use Rattle.tsb_step.specs.tsb_types.Sets.{names}
+use Rattle.tsb_step.proofs.tsb_types.SetLemmas.{names-zero}
+use Rattle.tsb_step.specs.tsb_plan.declared.object.Object.TheVariants.{PhaseSide, PhaseConcurrency, OverlapIncludedPhases, OverlapModifierPhases, PreemptTrackPhase, PreemptDwellPhase, PreemptExitPhase}
+use Rattle.tsb_step.specs.tsb_plan.Plan.{Plan, phases, is_enabled, ring_of, side_of, is_concurrent}
+use Rattle.tsb_step.specs.tsb_rules.Rules.{some_enabled, is_placed, are_placed, unused_lists_are_empty, may_be_concurrent, names_across_rings, lists_name_across_rings, is_named_back, concurrency_is_symmetric, yellows_are_long, gaps_can_reduce, reaches_minimum, maximums_reach_minimums, recalled_pedestrians_walk, names_enabled, included_phases_are_enabled, goes_with_all, names_concurrent, has_concurrent_lists, preempts_are_concurrent, modifies_rightly, modifiers_are_right, limits_reach_minimums, broken_by_rings, broken_by_phases, broken_by_parts, broken_by_extensions, first_broken}
 use Rattle.tsb_laws.specs.Widened.{IsNarrow, widened}
 use Rattle.tsb_laws.proofs.versions.PlanLemmas.{any-same, all-same, beyond-narrow, not-enabled, names-none, not-concurrent}
 use Rattle.tsb_laws.proofs.versions.SequenceLemmas.{each_phase-same, first_sequence-same, other_sequences-same}

@@ -3,11 +3,11 @@ use Rattle.std.proofs.Common.{◌≡◌, ◌≢◌, ◌↔◌, ℕ, ◌<◌, tru
 use Rattle.std.proofs.Math.Path.{fun_ext}
 use Rattle.std.proofs.lemmas.Bool.{cases_Bool}
 use Rattle.std.proofs.lemmas.Bool.Decides.{nat_tests}
-use Rattle.tsb_plan.specs.declared.object.Object.{Object}
-use Rattle.tsb_plan.specs.declared.version.Version.TheVariants.{One}
-use Rattle.tsb_plan.specs.Plan.{Plan, is_enabled}
-use Rattle.tsb_plan.specs.Versions.{is_in_rows, has_index_in, translated}
-use Rattle.tsb_rules.specs.Rules.{first_broken}
+use Rattle.tsb_step.specs.tsb_plan.declared.object.Object.{Object}
+use Rattle.tsb_step.specs.tsb_plan.declared.version.Version.TheVariants.{One}
+use Rattle.tsb_step.specs.tsb_plan.Plan.{Plan, is_enabled}
+use Rattle.tsb_step.specs.tsb_plan.Versions.{is_in_rows, has_index_in, translated}
+use Rattle.tsb_step.specs.tsb_rules.Rules.{first_broken}
 use Rattle.tsb_step.specs.declared.inputs.Input.{Input}
 use Rattle.tsb_step.specs.State.{State}
 use Rattle.tsb_step.specs.Runs.{replay, AreTaken}

@@ -4,9 +4,9 @@ use Rattle.std.specs.List.{list_all, list_any}
 use Rattle.std.proofs.Math.Path.{fun_ext}
 use Rattle.std.proofs.lemmas.Bool.{cases_Bool}
 use Rattle.std.proofs.lemmas.Bool.Decides.{nat_tests}
-use Rattle.tsb_types.specs.Lists.{among}
-use Rattle.tsb_plan.specs.Plan.{Plan, is_enabled, ring_of, side_of, sequence}
-use Rattle.tsb_rules.specs.SequenceRules.{each_phase, lists_only, lists_each, lists_once, rises, is_zeros, zeros_last, is_ordered, sequence_is_ordered, is_blank, first_sequence_is_ordered, other_sequences_are_ordered}
+use Rattle.tsb_step.specs.tsb_types.Lists.{among}
+use Rattle.tsb_step.specs.tsb_plan.Plan.{Plan, is_enabled, ring_of, side_of, sequence}
+use Rattle.tsb_step.specs.tsb_rules.SequenceRules.{each_phase, lists_only, lists_each, lists_once, rises, is_zeros, zeros_last, is_ordered, sequence_is_ordered, is_blank, first_sequence_is_ordered, other_sequences_are_ordered}
 use Rattle.tsb_laws.specs.Widened.{IsNarrow, widened}
 use Rattle.tsb_laws.proofs.versions.ListLemmas.{IsSameOnNarrow, all-behind}
 use Rattle.tsb_laws.proofs.versions.PlanLemmas.{all-same, narrow-bounds, beyond-narrow, not-enabled, zeros, sequence-same}

@@ -1,21 +1,21 @@
 -- Each input makes the same of both benches.
 use Rattle.std.proofs.Common.{◌≡◌, ℕ, ◌+◌, Bool, true, false, if◌then◌else◌, List, Option, is_some, option_map, refl, arith, ◌∙◌, ap, ap₂, inl, inr}
 use Rattle.std.proofs.lemmas.Bool.{cases_Bool}
-use Rattle.tsb_types.specs.declared.lamp.Lamp.{Lamp}
-use Rattle.tsb_types.specs.declared.row.Row.{Row}
-use Rattle.tsb_plan.specs.declared.object.ObjectId.{ObjectId}
-use Rattle.tsb_plan.specs.Plan.{Plan}
-use Rattle.tsb_phase.specs.Moves.{unforced}
-use Rattle.tsb_rules.specs.Rules.{first_broken}
-use Rattle.tsb_plan.specs.Objects.{is_structural}
-use Rattle.tsb_transact.specs.declared.edit.Edit.{Edit}
-use Rattle.tsb_transact.specs.Desk.{Desk, with_edits}
-use Rattle.tsb_transact.specs.Commit as commit
-use Rattle.tsb_transact.specs.Calls as desk
-use Rattle.tsb_ring.specs.Rings as rings
-use Rattle.tsb_heads.specs.declared.monitor.Trip.{Trip}
-use Rattle.tsb_heads.specs.Displays as heads
-use Rattle.tsb_heads.specs.Monitoring as monitor
+use Rattle.tsb_step.specs.tsb_types.declared.lamp.Lamp.{Lamp}
+use Rattle.tsb_step.specs.tsb_types.declared.row.Row.{Row}
+use Rattle.tsb_step.specs.tsb_plan.declared.object.ObjectId.{ObjectId}
+use Rattle.tsb_step.specs.tsb_plan.Plan.{Plan}
+use Rattle.tsb_step.specs.tsb_phase.Moves.{unforced}
+use Rattle.tsb_step.specs.tsb_rules.Rules.{first_broken}
+use Rattle.tsb_step.specs.tsb_plan.Objects.{is_structural}
+use Rattle.tsb_step.specs.tsb_transact.declared.edit.Edit.{Edit}
+use Rattle.tsb_step.specs.tsb_transact.Desk.{Desk, with_edits}
+use Rattle.tsb_step.specs.tsb_transact.Commit as commit
+use Rattle.tsb_step.specs.tsb_transact.Calls as desk
+use Rattle.tsb_step.specs.tsb_ring.Rings as rings
+use Rattle.tsb_step.specs.tsb_heads.declared.monitor.Trip.{Trip}
+use Rattle.tsb_step.specs.tsb_heads.Displays as heads
+use Rattle.tsb_step.specs.tsb_heads.Monitoring as monitor
 use Rattle.tsb_step.specs.declared.inputs.Input.{Input}
 use Rattle.tsb_step.specs.declared.inputs.Input.TheVariants.{Tick, Pattern, Switch, Fault, Reset, Begin, Set, Verify, Commit, Abort}
 use Rattle.tsb_step.specs.State.{State, start, restarted}

@@ -3,22 +3,22 @@ use Rattle.std.proofs.Common.{◌≡◌, ℕ, ◌≤◌, nat_le, nat_lt, Bool, t
 use Rattle.std.proofs.lemmas.Bool.{cases_Bool, leb-true}
 use Rattle.serde_json.specs.Data.{Data, Members, no_members, member}
 use Rattle.serde_json.specs.Find.{as_object}
-use Rattle.tsb_types.specs.Lists.{or_number}
-use Rattle.tsb_plan.specs.declared.object.Object.{Object}
-use Rattle.tsb_plan.specs.declared.version.Version.{Version}
-use Rattle.tsb_plan.specs.declared.version.Version.TheVariants.{One, Two}
-use Rattle.tsb_plan.specs.Names.{object_named}
-use Rattle.tsb_plan.specs.Plan.{Plan, empty, is_same, with_value}
-use Rattle.tsb_plan.specs.Versions.{is_in_rows, has_index_in, indices_in, greatest_in, translated}
-use Rattle.tsb_plan.specs.VersionLaws.{TranslateApart}
-use Rattle.tsb_plan.proofs.TableLemmas.{order-injective}
-use Rattle.tsb_plan.proofs.PlanLemmas.{same-parts}
+use Rattle.tsb_step.specs.tsb_types.Lists.{or_number}
+use Rattle.tsb_step.specs.tsb_plan.declared.object.Object.{Object}
+use Rattle.tsb_step.specs.tsb_plan.declared.version.Version.{Version}
+use Rattle.tsb_step.specs.tsb_plan.declared.version.Version.TheVariants.{One, Two}
+use Rattle.tsb_step.specs.tsb_plan.Names.{object_named}
+use Rattle.tsb_step.specs.tsb_plan.Plan.{Plan, empty, is_same, with_value}
+use Rattle.tsb_step.specs.tsb_plan.Versions.{is_in_rows, has_index_in, indices_in, greatest_in, translated}
+use Rattle.tsb_step.specs.tsb_plan.VersionLaws.{TranslateApart}
+use Rattle.tsb_step.proofs.tsb_plan.TableLemmas.{order-injective}
+use Rattle.tsb_step.proofs.tsb_plan.PlanLemmas.{same-parts}
 use Rattle.tsb_plan_text.specs.PlanErrors.{Error, not_json, not_a_table, no_version, too_large, no_such_object, object_not_a_table, no_such_index, not_a_whole_number, out_of_range}
 use Rattle.tsb_plan_text.specs.PlanText.{limit, data_of, version_in, data_plan, unless_broken, checked, reading, or_fault, then_on, index_named, whole_number, with_entry, with_table, with_member, with_members}
 use Rattle.tsb_plan_text.specs.PlanTextSays.{number_for, SaysThese, Says}
 use Rattle.tsb_plan_text.proofs.SaysLemmas.{says}
-use Rattle.tsb_rules.specs.declared.rules.Rule.{Rule}
-use Rattle.tsb_rules.specs.Rules.{first_broken}
+use Rattle.tsb_step.specs.tsb_rules.declared.rules.Rule.{Rule}
+use Rattle.tsb_step.specs.tsb_rules.Rules.{first_broken}
 use Rattle.tsb_step.specs.declared.inputs.Input.{Input}
 use Rattle.tsb_laws.specs.Widened.{IsNarrow, narrowed, AreWithin}
 use Rattle.tsb_laws.specs.Versions.{SaysTheSame}

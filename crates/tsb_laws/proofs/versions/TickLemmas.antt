@@ -2,27 +2,27 @@
 use Rattle.std.proofs.Common.{◌≡◌, ℕ, ◌+◌, ◌≤◌, Bool, true, false, ◌&&◌, List, ◌++◌, Option, Some, None, option_map, refl, sym, ◌∙◌, ap, ap₂, inl, inr}
 use Rattle.std.proofs.Math.Path.{fun_ext}
 use Rattle.std.proofs.lemmas.Bool.{cases_Bool}
-use Rattle.tsb_cells.specs.declared.timer.Timer.{Timer}
-use Rattle.tsb_types.specs.declared.row.Row.{Row}
-use Rattle.tsb_types.specs.Clip.{clipped, within}
-use Rattle.tsb_types.specs.Sets.{has_number, is_phase}
-use Rattle.tsb_plan.specs.Plan.{Plan}
-use Rattle.tsb_plan.specs.Parts.{call_phase}
-use Rattle.tsb_detect.specs.Detector.{Detector, all_after}
-use Rattle.tsb_preempt.specs.Preempts.{Preempts}
-use Rattle.tsb_calls.specs.Memories.{Memories, has_output}
-use Rattle.tsb_calls.specs.Callable.{has_pedestrian_call, is_callable, has_conflict}
-use Rattle.tsb_phase.specs.Phase as phase
-use Rattle.tsb_phase.specs.Next as phase_next
-use Rattle.tsb_phase.specs.Ready.{is_ready}
-use Rattle.tsb_ring.specs.Rings as rings
-use Rattle.tsb_ring.specs.Rings.{Ring, number}
-use Rattle.tsb_ring.specs.Next as rings_next
-use Rattle.tsb_ring.specs.Moves.{is_ended, is_started}
-use Rattle.tsb_coord.specs.Coordinated.{serving_order}
+use Rattle.tsb_step.specs.tsb_cells.declared.timer.Timer.{Timer}
+use Rattle.tsb_step.specs.tsb_types.declared.row.Row.{Row}
+use Rattle.tsb_step.specs.tsb_types.Clip.{clipped, within}
+use Rattle.tsb_step.specs.tsb_types.Sets.{has_number, is_phase}
+use Rattle.tsb_step.specs.tsb_plan.Plan.{Plan}
+use Rattle.tsb_step.specs.tsb_plan.Parts.{call_phase}
+use Rattle.tsb_step.specs.tsb_detect.Detector.{Detector, all_after}
+use Rattle.tsb_step.specs.tsb_preempt.Preempts.{Preempts}
+use Rattle.tsb_step.specs.tsb_calls.Memories.{Memories, has_output}
+use Rattle.tsb_step.specs.tsb_calls.Callable.{has_pedestrian_call, is_callable, has_conflict}
+use Rattle.tsb_step.specs.tsb_phase.Phase as phase
+use Rattle.tsb_step.specs.tsb_phase.Next as phase_next
+use Rattle.tsb_step.specs.tsb_phase.Ready.{is_ready}
+use Rattle.tsb_step.specs.tsb_ring.Rings as rings
+use Rattle.tsb_step.specs.tsb_ring.Rings.{Ring, number}
+use Rattle.tsb_step.specs.tsb_ring.Next as rings_next
+use Rattle.tsb_step.specs.tsb_ring.Moves.{is_ended, is_started}
+use Rattle.tsb_step.specs.tsb_coord.Coordinated.{serving_order}
 use Rattle.tsb_step.specs.State.{State, interval}
 use Rattle.tsb_step.specs.Tick.{new_service, service, hold, forced, omitted, green_timer, new_detectors, calls_given, set, callable, conflict, pedestrian_call, phases_given, phase_read, ready, over, reverted, gapped, rings_given, moves, moved, done, next, preempts_given, preempts_read}
-use Rattle.tsb_phase.proofs.MoveLemmas.{stays_at_power_up}
+use Rattle.tsb_step.proofs.tsb_phase.MoveLemmas.{stays_at_power_up}
 use Rattle.tsb_laws.specs.Widened.{IsNarrow, widened, widened_state, AreOfTable, IsLampWithin}
 use Rattle.tsb_laws.proofs.versions.ListLemmas.{is_narrow, IsSameOnNarrow, IsBeyondNarrow}
 use Rattle.tsb_laws.proofs.versions.PlanLemmas.{zeros, beyond-narrow}

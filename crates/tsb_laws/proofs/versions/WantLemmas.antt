@@ -1,12 +1,12 @@
 -- What the rings want is the same on the wide plan.
 use Rattle.std.proofs.Common.{◌≡◌, ℕ, Bool, false, not, ◌&&◌, List, ◌++◌, Option, Some, None, is_some, refl, ◌∙◌, ap, ap₂}
 use Rattle.std.proofs.Math.Path.{fun_ext}
-use Rattle.tsb_types.specs.Intervals.{in_service}
-use Rattle.tsb_plan.specs.Plan.{Plan}
-use Rattle.tsb_ring.specs.declared.want.Want.{Want}
-use Rattle.tsb_ring.specs.declared.want.Want.TheVariants.{Go, Cross, Rest, Stop}
-use Rattle.tsb_ring.specs.Rings.{Ring, Ring1, Ring2, other, State, Given, in_ring, serving}
-use Rattle.tsb_ring.specs.Wants.{concurrent_with, fits, is_on_side, is_candidate, is_called_elsewhere, want_within, want_by_calls, is_targeted, serves_target, targeted_here, is_targeted_elsewhere, want_by_target, want_found, is_idle_or_green, want, may_take, taken, pick_of_ring_1, picked_before, want_of, pick}
+use Rattle.tsb_step.specs.tsb_types.Intervals.{in_service}
+use Rattle.tsb_step.specs.tsb_plan.Plan.{Plan}
+use Rattle.tsb_step.specs.tsb_ring.declared.want.Want.{Want}
+use Rattle.tsb_step.specs.tsb_ring.declared.want.Want.TheVariants.{Go, Cross, Rest, Stop}
+use Rattle.tsb_step.specs.tsb_ring.Rings.{Ring, Ring1, Ring2, other, State, Given, in_ring, serving}
+use Rattle.tsb_step.specs.tsb_ring.Wants.{concurrent_with, fits, is_on_side, is_candidate, is_called_elsewhere, want_within, want_by_calls, is_targeted, serves_target, targeted_here, is_targeted_elsewhere, want_by_target, want_found, is_idle_or_green, want, may_take, taken, pick_of_ring_1, picked_before, want_of, pick}
 use Rattle.tsb_laws.specs.Widened.{IsNarrow, widened}
 use Rattle.tsb_laws.proofs.versions.ListLemmas.{IsBeyondNarrow, first-later, first-not_later}
 use Rattle.tsb_laws.proofs.versions.PlanLemmas.{first-same, beyond-narrow, not-enabled, not-in_ring, zeros}

@@ -2,15 +2,15 @@
 use Rattle.std.proofs.Common.{◌≡◌, ℕ, ◌+◌, ◌≤◌, ◌==◌, Bool, true, false, ◌&&◌, if◌then◌else◌, min, refl, arith, ◌∙◌, inl, inr}
 use Rattle.std.proofs.lemmas.Bool.{cases_Bool}
 use Rattle.std.proofs.lemmas.Bool.Decides.{nat_tests}
-use Rattle.tsb_types.specs.Lists.{is}
-use Rattle.tsb_types.specs.Sets.{is_phase}
-use Rattle.tsb_plan.specs.declared.object.Object.TheVariants.{VehicleDetectorCallPhase}
-use Rattle.tsb_plan.specs.Parts.{unless_zero}
-use Rattle.tsb_plan.specs.Plan.{Plan, is_enabled}
-use Rattle.tsb_calls.specs.Memories.{Memories, Given, at_power_up, calls, was_green, actuations, vehicle_memory, pedestrian_memory, counted}
-use Rattle.tsb_calls.specs.Settled.{Done, next}
-use Rattle.tsb_calls.specs.Laws.{AreInRange}
-use Rattle.tsb_calls.proofs.CountLemmas.{count-same, count-none}
+use Rattle.tsb_step.specs.tsb_types.Lists.{is}
+use Rattle.tsb_step.specs.tsb_types.Sets.{is_phase}
+use Rattle.tsb_step.specs.tsb_plan.declared.object.Object.TheVariants.{VehicleDetectorCallPhase}
+use Rattle.tsb_step.specs.tsb_plan.Parts.{unless_zero}
+use Rattle.tsb_step.specs.tsb_plan.Plan.{Plan, is_enabled}
+use Rattle.tsb_step.specs.tsb_calls.Memories.{Memories, Given, at_power_up, calls, was_green, actuations, vehicle_memory, pedestrian_memory, counted}
+use Rattle.tsb_step.specs.tsb_calls.Settled.{Done, next}
+use Rattle.tsb_step.specs.tsb_calls.Laws.{AreInRange}
+use Rattle.tsb_step.proofs.tsb_calls.CountLemmas.{count-same, count-none}
 
 -- no detector calls what is no phase
 not-called : (n p : ℕ) → n ≤ 16 → is_phase p ≡ false → is p (unless_zero n) ≡ false

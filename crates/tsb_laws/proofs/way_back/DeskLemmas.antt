@@ -4,15 +4,15 @@ use Rattle.std.proofs.lemmas.Bool.{cases_Bool, true≢false}
 use Rattle.std.proofs.lemmas.Bool.Decides.{nat_tests}
 use Rattle.std.proofs.lemmas.List.Elements.{All-nil, All-cons}
 use Rattle.std.proofs.lemmas.List.Kept.{AllPairs-cons}
-use Rattle.tsb_plan.specs.declared.object.ObjectId.{ObjectId}
-use Rattle.tsb_plan.specs.Objects.{order}
-use Rattle.tsb_plan.specs.Plan.{is_same}
-use Rattle.tsb_plan.specs.PlanOf.{put_refusal}
-use Rattle.tsb_plan.proofs.PlanLemmas.{same-parts, same-itself}
-use Rattle.tsb_plan.proofs.TableLemmas.{order-injective}
-use Rattle.tsb_transact.specs.declared.edit.Edit.{Edit}
-use Rattle.tsb_transact.specs.Desk.{Desk, IsSoundDesk, is_open, is_of, has_edit_of, with_edit}
-use Rattle.tsb_transact.specs.Calls.{has_no_room, with_set}
+use Rattle.tsb_step.specs.tsb_plan.declared.object.ObjectId.{ObjectId}
+use Rattle.tsb_step.specs.tsb_plan.Objects.{order}
+use Rattle.tsb_step.specs.tsb_plan.Plan.{is_same}
+use Rattle.tsb_step.specs.tsb_plan.PlanOf.{put_refusal}
+use Rattle.tsb_step.proofs.tsb_plan.PlanLemmas.{same-parts, same-itself}
+use Rattle.tsb_step.proofs.tsb_plan.TableLemmas.{order-injective}
+use Rattle.tsb_step.specs.tsb_transact.declared.edit.Edit.{Edit}
+use Rattle.tsb_step.specs.tsb_transact.Desk.{Desk, IsSoundDesk, is_open, is_of, has_edit_of, with_edit}
+use Rattle.tsb_step.specs.tsb_transact.Calls.{has_no_room, with_set}
 
 -- ## Edits with one more
 

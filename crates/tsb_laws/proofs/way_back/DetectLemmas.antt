@@ -1,14 +1,14 @@
 -- Detectors are in range after a tick.
 use Rattle.std.proofs.Common.{◌≡◌, ℕ, ◌+◌, ◌≤◌, Bool, true, false, not, ◌&&◌, ◌||◌, if◌then◌else◌, is_some, refl, sym, arith}
 use Rattle.std.proofs.lemmas.Bool.{true≢false}
-use Rattle.tsb_cells.specs.declared.timer.Timer.{Timer}
-use Rattle.tsb_cells.specs.declared.timer.Timer.TheVariants.{Off, On}
-use Rattle.tsb_cells.specs.Timer.{advanced, started, is_on, IsWithin}
-use Rattle.tsb_cells.proofs.TimerLemmas.{IsWithin-advanced}
-use Rattle.tsb_types.proofs.ClipLemmas.{is_phase_from}
-use Rattle.tsb_plan.specs.Plan.{Plan}
-use Rattle.tsb_detect.specs.Detector.{Detector, at_power_up, as_read, is_minute, differs, new_alarm, sound_output, failed_output, next, all_after}
-use Rattle.tsb_detect.specs.Laws.{IsStateBy, AreStatesBy}
+use Rattle.tsb_step.specs.tsb_cells.declared.timer.Timer.{Timer}
+use Rattle.tsb_step.specs.tsb_cells.declared.timer.Timer.TheVariants.{Off, On}
+use Rattle.tsb_step.specs.tsb_cells.Timer.{advanced, started, is_on, IsWithin}
+use Rattle.tsb_step.proofs.tsb_cells.TimerLemmas.{IsWithin-advanced}
+use Rattle.tsb_step.proofs.tsb_types.ClipLemmas.{is_phase_from}
+use Rattle.tsb_step.specs.tsb_plan.Plan.{Plan}
+use Rattle.tsb_step.specs.tsb_detect.Detector.{Detector, at_power_up, as_read, is_minute, differs, new_alarm, sound_output, failed_output, next, all_after}
+use Rattle.tsb_step.specs.tsb_detect.Laws.{IsStateBy, AreStatesBy}
 
 pub zero-within : (now : ℕ) → IsWithin now (On 0)
 zero-within now = omega arith

@@ -1,29 +1,29 @@
 -- Phases are in range after a tick.
 use Rattle.std.proofs.Common.{◌≡◌, ℕ, ◌+◌, ◌-◌, ◌*◌, ◌≤◌, ◌==◌, Bool, true, false, ◌&&◌, if◌then◌else◌, min, max, Option, Some, None, refl, sym, arith}
 use Rattle.std.proofs.lemmas.Bool.{true≢false}
-use Rattle.tsb_cells.specs.declared.timer.Timer.{Timer}
-use Rattle.tsb_cells.specs.declared.timer.Timer.TheVariants.{Off, On}
-use Rattle.tsb_cells.specs.Timer.{advanced, is_on, IsWithin}
-use Rattle.tsb_cells.proofs.TimerLemmas.{IsWithin-advanced, IsWithin-started}
-use Rattle.tsb_types.specs.declared.interval.Interval.{Interval}
-use Rattle.tsb_types.specs.declared.interval.Interval.TheVariants.{Red, Green, Yellow, RedClear}
-use Rattle.tsb_types.specs.declared.interval.PedestrianInterval.{PedestrianInterval}
-use Rattle.tsb_types.specs.declared.interval.PedestrianInterval.TheVariants.{DontWalk, Walk, PedestrianClear}
-use Rattle.tsb_types.specs.Intervals.{is_green, is_yellow, is_red_clear, is_walk, is_clearance, is_dont_walk, in_service}
-use Rattle.tsb_plan.specs.declared.object.Object.{Object}
-use Rattle.tsb_plan.specs.declared.object.Object.TheVariants.{PhaseMaximum1, PhaseMaximum2, UnitMax2, PhaseDynamicMaxLimit}
-use Rattle.tsb_plan.specs.Objects.{greatest}
-use Rattle.tsb_plan.specs.Plan.{Plan, maximum, dynamic_maximum_limit, dynamic_maximum_step}
-use Rattle.tsb_phase.specs.declared.ending.Ending.{Ending}
-use Rattle.tsb_phase.specs.declared.ending.Ending.TheVariants.{MaxOut, GapOut}
-use Rattle.tsb_phase.specs.Phase.{Phase, Given, Moved, GreenHeld, at_power_up, as_read, held_of, none_held}
-use Rattle.tsb_phase.specs.DynamicMaximum.{is_dynamic, is_same, highest_maximum, effective_maximum, counts_endings, stepped}
-use Rattle.tsb_phase.specs.Green.{begins_reduction, begun, reduction_timer}
-use Rattle.tsb_phase.specs.Pedestrian.{pedestrian_now, pedestrian_timer_in}
-use Rattle.tsb_phase.specs.Ready.{yellow_is_done}
-use Rattle.tsb_phase.specs.Next.{new_interval, timer_in, is_green_after, starts_walk, ending_now, next}
-use Rattle.tsb_phase.specs.Moves.{unforced}
-use Rattle.tsb_phase.specs.Cells.{number_cell}
+use Rattle.tsb_step.specs.tsb_cells.declared.timer.Timer.{Timer}
+use Rattle.tsb_step.specs.tsb_cells.declared.timer.Timer.TheVariants.{Off, On}
+use Rattle.tsb_step.specs.tsb_cells.Timer.{advanced, is_on, IsWithin}
+use Rattle.tsb_step.proofs.tsb_cells.TimerLemmas.{IsWithin-advanced, IsWithin-started}
+use Rattle.tsb_step.specs.tsb_types.declared.interval.Interval.{Interval}
+use Rattle.tsb_step.specs.tsb_types.declared.interval.Interval.TheVariants.{Red, Green, Yellow, RedClear}
+use Rattle.tsb_step.specs.tsb_types.declared.interval.PedestrianInterval.{PedestrianInterval}
+use Rattle.tsb_step.specs.tsb_types.declared.interval.PedestrianInterval.TheVariants.{DontWalk, Walk, PedestrianClear}
+use Rattle.tsb_step.specs.tsb_types.Intervals.{is_green, is_yellow, is_red_clear, is_walk, is_clearance, is_dont_walk, in_service}
+use Rattle.tsb_step.specs.tsb_plan.declared.object.Object.{Object}
+use Rattle.tsb_step.specs.tsb_plan.declared.object.Object.TheVariants.{PhaseMaximum1, PhaseMaximum2, UnitMax2, PhaseDynamicMaxLimit}
+use Rattle.tsb_step.specs.tsb_plan.Objects.{greatest}
+use Rattle.tsb_step.specs.tsb_plan.Plan.{Plan, maximum, dynamic_maximum_limit, dynamic_maximum_step}
+use Rattle.tsb_step.specs.tsb_phase.declared.ending.Ending.{Ending}
+use Rattle.tsb_step.specs.tsb_phase.declared.ending.Ending.TheVariants.{MaxOut, GapOut}
+use Rattle.tsb_step.specs.tsb_phase.Phase.{Phase, Given, Moved, GreenHeld, at_power_up, as_read, held_of, none_held}
+use Rattle.tsb_step.specs.tsb_phase.DynamicMaximum.{is_dynamic, is_same, highest_maximum, effective_maximum, counts_endings, stepped}
+use Rattle.tsb_step.specs.tsb_phase.Green.{begins_reduction, begun, reduction_timer}
+use Rattle.tsb_step.specs.tsb_phase.Pedestrian.{pedestrian_now, pedestrian_timer_in}
+use Rattle.tsb_step.specs.tsb_phase.Ready.{yellow_is_done}
+use Rattle.tsb_step.specs.tsb_phase.Next.{new_interval, timer_in, is_green_after, starts_walk, ending_now, next}
+use Rattle.tsb_step.specs.tsb_phase.Moves.{unforced}
+use Rattle.tsb_step.specs.tsb_phase.Cells.{number_cell}
 use Rattle.tsb_laws.proofs.way_back.DetectLemmas.{zero-within, advanced-on, if-within}
 
 -- the timers of a phase, and its running maximum

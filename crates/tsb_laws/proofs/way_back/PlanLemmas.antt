@@ -5,21 +5,21 @@ use Rattle.std.proofs.Math.Path.{fun_ext}
 use Rattle.std.proofs.lemmas.Bool.{cases_Bool, and_parts, eqb-true, leb-true, cond-true, cond-false}
 use Rattle.std.proofs.lemmas.List.{length-map, get_or-map, get_or-append-add}
 use Rattle.std.proofs.Math.ListN.{get_or-append}
-use Rattle.tsb_types.specs.Lists.{run_from}
-use Rattle.tsb_types.proofs.RunLemmas.{length-run_from, get_or-run_from}
-use Rattle.tsb_plan.specs.declared.object.Object.{Object}
-use Rattle.tsb_plan.specs.declared.object.Object.TheVariants.{PhaseEnabled}
-use Rattle.tsb_plan.specs.Objects.{objects, order, indices, first_cell, has_index, greatest, value_in}
-use Rattle.tsb_plan.specs.Plan.{Plan, is_same, with_value}
-use Rattle.tsb_plan.specs.PlanOf.{plan_in, plan_cells, plan_of}
-use Rattle.tsb_plan.proofs.TableLemmas.{at-order, order-below, length-objects, order-injective}
-use Rattle.tsb_plan.proofs.PlanLemmas.{same-parts}
-use Rattle.tsb_plan.proofs.ToldLemmas.{are_placed, all_placed}
-use Rattle.tsb_transact.specs.declared.edit.Edit.{Edit}
-use Rattle.tsb_transact.specs.Desk.{with_edits}
-use Rattle.tsb_transact.proofs.DeskLemmas.{value-taken}
-use Rattle.tsb_objects.specs.declared.checked.Checked.{Checked}
-use Rattle.tsb_objects.specs.Checked.{checked_plan}
+use Rattle.tsb_step.specs.tsb_types.Lists.{run_from}
+use Rattle.tsb_step.proofs.tsb_types.RunLemmas.{length-run_from, get_or-run_from}
+use Rattle.tsb_step.specs.tsb_plan.declared.object.Object.{Object}
+use Rattle.tsb_step.specs.tsb_plan.declared.object.Object.TheVariants.{PhaseEnabled}
+use Rattle.tsb_step.specs.tsb_plan.Objects.{objects, order, indices, first_cell, has_index, greatest, value_in}
+use Rattle.tsb_step.specs.tsb_plan.Plan.{Plan, is_same, with_value}
+use Rattle.tsb_step.specs.tsb_plan.PlanOf.{plan_in, plan_cells, plan_of}
+use Rattle.tsb_step.proofs.tsb_plan.TableLemmas.{at-order, order-below, length-objects, order-injective}
+use Rattle.tsb_step.proofs.tsb_plan.PlanLemmas.{same-parts}
+use Rattle.tsb_step.proofs.tsb_plan.ToldLemmas.{are_placed, all_placed}
+use Rattle.tsb_step.specs.tsb_transact.declared.edit.Edit.{Edit}
+use Rattle.tsb_step.specs.tsb_transact.Desk.{with_edits}
+use Rattle.tsb_step.proofs.tsb_transact.DeskLemmas.{value-taken}
+use Rattle.tsb_step.specs.tsb_objects.declared.checked.Checked.{Checked}
+use Rattle.tsb_step.specs.tsb_objects.Checked.{checked_plan}
 use Rattle.tsb_step.specs.Good.{AreFit}
 use Rattle.tsb_step.specs.Tables.{has_place, indices_for}
 use Rattle.tsb_step.proofs.PlaceLemmas.{same_indices, memory_is_consistent, same_refusal}

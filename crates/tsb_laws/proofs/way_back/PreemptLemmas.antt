@@ -1,20 +1,20 @@
 -- Preempts are in range after a tick, and after a switch.
 use Rattle.std.proofs.Common.{◌≡◌, ◌≢◌, ℕ, ◌+◌, ◌<◌, ◌≤◌, ◌==◌, Bool, true, false, ◌&&◌, ◌||◌, if◌then◌else◌, Option, Some, None, refl, sym, ap, arith, ◌∙◌, inl, inr}
 use Rattle.std.proofs.lemmas.Bool.{cases_Bool, eqb-true, true≢false}
-use Rattle.tsb_cells.specs.declared.timer.Timer.{Timer}
-use Rattle.tsb_cells.specs.declared.timer.Timer.TheVariants.{Off, On}
-use Rattle.tsb_cells.specs.Timer.{advanced, started, is_on, IsWithin}
-use Rattle.tsb_cells.proofs.TimerLemmas.{IsWithin-advanced, IsWithin-started}
-use Rattle.tsb_types.specs.declared.interval.Interval.{Interval}
-use Rattle.tsb_types.specs.declared.stage.Stage.{Stage}
-use Rattle.tsb_types.specs.declared.stage.Stage.TheVariants.{Track, Dwell, Exit}
-use Rattle.tsb_types.specs.Lists.{first, run_from}
-use Rattle.tsb_types.proofs.FirstLemmas.{first-within}
-use Rattle.tsb_plan.specs.Plan.{Plan}
-use Rattle.tsb_plan.specs.Parts.{is_track_phase}
-use Rattle.tsb_preempt.specs.Service.{Service, service_as_read, all_green, begun, track_timer, while_track, new_stage, with_stage}
-use Rattle.tsb_preempt.specs.Preempts.{Preempts, Given, at_power_up, after_reset, as_read, is_preempt, has_input, delay_timer, requests, requesting, beginning, if_may_begin, may_begin, going_on, service_by, new_service, dwell_ends, switch_refusal, with_switch, next}
-use Rattle.tsb_preempt.specs.Laws.{IsServiceIn, IsServedIn, IsStateBy}
+use Rattle.tsb_step.specs.tsb_cells.declared.timer.Timer.{Timer}
+use Rattle.tsb_step.specs.tsb_cells.declared.timer.Timer.TheVariants.{Off, On}
+use Rattle.tsb_step.specs.tsb_cells.Timer.{advanced, started, is_on, IsWithin}
+use Rattle.tsb_step.proofs.tsb_cells.TimerLemmas.{IsWithin-advanced, IsWithin-started}
+use Rattle.tsb_step.specs.tsb_types.declared.interval.Interval.{Interval}
+use Rattle.tsb_step.specs.tsb_types.declared.stage.Stage.{Stage}
+use Rattle.tsb_step.specs.tsb_types.declared.stage.Stage.TheVariants.{Track, Dwell, Exit}
+use Rattle.tsb_step.specs.tsb_types.Lists.{first, run_from}
+use Rattle.tsb_step.proofs.tsb_types.FirstLemmas.{first-within}
+use Rattle.tsb_step.specs.tsb_plan.Plan.{Plan}
+use Rattle.tsb_step.specs.tsb_plan.Parts.{is_track_phase}
+use Rattle.tsb_step.specs.tsb_preempt.Service.{Service, service_as_read, all_green, begun, track_timer, while_track, new_stage, with_stage}
+use Rattle.tsb_step.specs.tsb_preempt.Preempts.{Preempts, Given, at_power_up, after_reset, as_read, is_preempt, has_input, delay_timer, requests, requesting, beginning, if_may_begin, may_begin, going_on, service_by, new_service, dwell_ends, switch_refusal, with_switch, next}
+use Rattle.tsb_step.specs.tsb_preempt.Laws.{IsServiceIn, IsServedIn, IsStateBy}
 use Rattle.tsb_controller.proofs.InputLemmas.{switched-one}
 use Rattle.tsb_laws.proofs.way_back.DetectLemmas.{advanced-on, if-within}
 

@@ -1,23 +1,23 @@
 -- Rings are in range after a tick, and they start and end phases of the plan alone.
 use Rattle.std.proofs.Common.{◌≡◌, ℕ, ◌+◌, ◌-◌, ◌<◌, ◌≤◌, Bool, true, false, ◌&&◌, ◌⊎◌, if◌then◌else◌, List, [], ◌∷◌, ◌++◌, Option, Some, None, IfSome, is_none, refl, sym, arith, ◌∙◌, inl, inr}
 use Rattle.std.proofs.lemmas.Bool.{or_cases, true≢false}
-use Rattle.tsb_types.specs.Lists.{first, is, run_from, or_else, or_number}
-use Rattle.tsb_types.specs.Sets.{is_phase}
-use Rattle.tsb_types.proofs.ClipLemmas.{is_phase_from}
-use Rattle.tsb_types.proofs.FirstLemmas.{first-within}
-use Rattle.tsb_types.proofs.IntervalLemmas.{serves-green}
-use Rattle.tsb_rules.specs.Consistent.{IsPhase}
-use Rattle.tsb_plan.specs.declared.object.Object.TheVariants.{PhaseSide}
-use Rattle.tsb_plan.specs.Plan.{Plan, phases, sides_after}
-use Rattle.tsb_ring.specs.Rings.{Ring, Ring1, Ring2, State, Given}
-use Rattle.tsb_ring.specs.Wants.{is_targeted}
-use Rattle.tsb_ring.specs.Crossings.{begins, is_called_on, side_of_or, side_sought, target_side}
-use Rattle.tsb_ring.specs.Next.{completes, starting, new_last, new_side, new_crossing, next}
-use Rattle.tsb_ring.specs.Moves.{moves, is_ended, is_started}
-use Rattle.tsb_ring.specs.Laws.{IsListed, IsSymmetric, IsGiven, IsSound, IsUpTo, IsInRange}
-use Rattle.tsb_ring.proofs.MoveLemmas.{is-Some, ends_ready}
-use Rattle.tsb_ring.proofs.StartLemmas.{Starting, starting_is}
-use Rattle.tsb_ring.proofs.SideLemmas as sides
+use Rattle.tsb_step.specs.tsb_types.Lists.{first, is, run_from, or_else, or_number}
+use Rattle.tsb_step.specs.tsb_types.Sets.{is_phase}
+use Rattle.tsb_step.proofs.tsb_types.ClipLemmas.{is_phase_from}
+use Rattle.tsb_step.proofs.tsb_types.FirstLemmas.{first-within}
+use Rattle.tsb_step.proofs.tsb_types.IntervalLemmas.{serves-green}
+use Rattle.tsb_step.specs.tsb_rules.Consistent.{IsPhase}
+use Rattle.tsb_step.specs.tsb_plan.declared.object.Object.TheVariants.{PhaseSide}
+use Rattle.tsb_step.specs.tsb_plan.Plan.{Plan, phases, sides_after}
+use Rattle.tsb_step.specs.tsb_ring.Rings.{Ring, Ring1, Ring2, State, Given}
+use Rattle.tsb_step.specs.tsb_ring.Wants.{is_targeted}
+use Rattle.tsb_step.specs.tsb_ring.Crossings.{begins, is_called_on, side_of_or, side_sought, target_side}
+use Rattle.tsb_step.specs.tsb_ring.Next.{completes, starting, new_last, new_side, new_crossing, next}
+use Rattle.tsb_step.specs.tsb_ring.Moves.{moves, is_ended, is_started}
+use Rattle.tsb_step.specs.tsb_ring.Laws.{IsListed, IsSymmetric, IsGiven, IsSound, IsUpTo, IsInRange}
+use Rattle.tsb_step.proofs.tsb_ring.MoveLemmas.{is-Some, ends_ready}
+use Rattle.tsb_step.proofs.tsb_ring.StartLemmas.{Starting, starting_is}
+use Rattle.tsb_step.proofs.tsb_ring.SideLemmas as sides
 use Rattle.tsb_step.proofs.GivenLemmas.{listed_is_phase}
 use Rattle.tsb_laws.specs.Runs.{IsHeld}
 

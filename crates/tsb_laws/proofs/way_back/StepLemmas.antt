@@ -1,27 +1,27 @@
 -- Every state of a run is one that the cells of the program can hold.
 use Rattle.std.proofs.Common.{◌≡◌, ℕ, ◌+◌, nat_le, Bool, true, false, ◌&&◌, if◌then◌else◌, List, [], ◌∷◌, Option, None, is_some, refl, sym, ap, subst, arith, ◌∙◌}
-use Rattle.tsb_types.specs.declared.lamp.Lamp.{Lamp}
-use Rattle.tsb_types.specs.declared.row.Row.{Row}
-use Rattle.tsb_types.specs.Sets.{is_phase, has_number}
-use Rattle.tsb_plan.specs.declared.object.Object.TheVariants.{PhaseEnabled, VehicleDetectorCallPhase}
-use Rattle.tsb_plan.specs.declared.object.ObjectId.{ObjectId}
-use Rattle.tsb_plan.specs.Plan.{Plan, is_enabled}
-use Rattle.tsb_plan.specs.Parts.{call_phase}
-use Rattle.tsb_detect.specs.Laws as detect
-use Rattle.tsb_calls.specs.Laws as calls
-use Rattle.tsb_phase.specs.Phase as phase
-use Rattle.tsb_phase.specs.Moves.{unforced}
-use Rattle.tsb_ring.specs.Laws as rings
-use Rattle.tsb_ring.specs.Laws.{IsListed}
-use Rattle.tsb_ring.specs.Rings as ring
-use Rattle.tsb_ring.specs.Rings.{Ring}
-use Rattle.tsb_preempt.specs.Laws as preempts
-use Rattle.tsb_preempt.specs.Preempts.{is_preempt}
-use Rattle.tsb_heads.specs.Monitoring.{judge}
-use Rattle.tsb_transact.specs.Desk.{Desk, closed}
-use Rattle.tsb_transact.specs.Calls.{stranger_refusal, has_no_room}
-use Rattle.tsb_transact.specs.Laws as desk
-use Rattle.tsb_transact.proofs.DeskLemmas.{sound-closed, sound-begun, sound-checked, both-none, not-refused, owner-owns}
+use Rattle.tsb_step.specs.tsb_types.declared.lamp.Lamp.{Lamp}
+use Rattle.tsb_step.specs.tsb_types.declared.row.Row.{Row}
+use Rattle.tsb_step.specs.tsb_types.Sets.{is_phase, has_number}
+use Rattle.tsb_step.specs.tsb_plan.declared.object.Object.TheVariants.{PhaseEnabled, VehicleDetectorCallPhase}
+use Rattle.tsb_step.specs.tsb_plan.declared.object.ObjectId.{ObjectId}
+use Rattle.tsb_step.specs.tsb_plan.Plan.{Plan, is_enabled}
+use Rattle.tsb_step.specs.tsb_plan.Parts.{call_phase}
+use Rattle.tsb_step.specs.tsb_detect.Laws as detect
+use Rattle.tsb_step.specs.tsb_calls.Laws as calls
+use Rattle.tsb_step.specs.tsb_phase.Phase as phase
+use Rattle.tsb_step.specs.tsb_phase.Moves.{unforced}
+use Rattle.tsb_step.specs.tsb_ring.Laws as rings
+use Rattle.tsb_step.specs.tsb_ring.Laws.{IsListed}
+use Rattle.tsb_step.specs.tsb_ring.Rings as ring
+use Rattle.tsb_step.specs.tsb_ring.Rings.{Ring}
+use Rattle.tsb_step.specs.tsb_preempt.Laws as preempts
+use Rattle.tsb_step.specs.tsb_preempt.Preempts.{is_preempt}
+use Rattle.tsb_step.specs.tsb_heads.Monitoring.{judge}
+use Rattle.tsb_step.specs.tsb_transact.Desk.{Desk, closed}
+use Rattle.tsb_step.specs.tsb_transact.Calls.{stranger_refusal, has_no_room}
+use Rattle.tsb_step.specs.tsb_transact.Laws as desk
+use Rattle.tsb_step.proofs.tsb_transact.DeskLemmas.{sound-closed, sound-begun, sound-checked, both-none, not-refused, owner-owns}
 use Rattle.tsb_step.specs.declared.inputs.Input.{Input}
 use Rattle.tsb_step.specs.declared.inputs.Input.TheVariants as inputs
 use Rattle.tsb_step.specs.Cells.{clock_at, clock}
@@ -38,7 +38,7 @@ use Rattle.tsb_step.proofs.EditLemmas.{same_phase_count, same_side_count}
 use Rattle.tsb_step.proofs.GivenLemmas.{symmetric, given}
 use Rattle.tsb_step.proofs.GoodLemmas.{good_next, good_step, good_run}
 use Rattle.tsb_step.proofs.PlaceLemmas.{same_refusal}
-use Rattle.tsb_phase.proofs.MoveLemmas.{stays_at_power_up}
+use Rattle.tsb_step.proofs.tsb_phase.MoveLemmas.{stays_at_power_up}
 use Rattle.tsb_laws.specs.Runs.{IsHeld, IsTyped, AreTyped}
 use Rattle.tsb_laws.proofs.way_back.PlanLemmas.{bounded-with}
 use Rattle.tsb_laws.proofs.way_back.DeskLemmas.{sound-set}

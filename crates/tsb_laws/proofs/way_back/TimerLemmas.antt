@@ -5,38 +5,38 @@ use Rattle.std.proofs.lemmas.Bool.Decides.{nat_tests}
 use Rattle.std.proofs.lemmas.List.{get_or-append-add}
 use Rattle.std.proofs.lemmas.Option.{slice_get-get_or}
 use Rattle.std.proofs.Math.ListN.{get_or-append}
-use Rattle.tsb_cells.specs.declared.timer.Timer.{Timer}
-use Rattle.tsb_cells.specs.Timer.{advanced, IsWithin, timer_cell, timer_at}
-use Rattle.tsb_cells.specs.Diff.{diff}
-use Rattle.tsb_cells.specs.DiffLaws.{IsChange}
-use Rattle.tsb_cells.proofs.ChangeLemmas.{tells_each_change}
-use Rattle.tsb_cells.proofs.TimerLemmas.{timer_at-timer_cell, timer_cell-timer_at, timer_cell-le, timer_cell-advanced, timer_at-next, IsWithin-timer_at}
-use Rattle.tsb_types.specs.declared.row.Row.{Row}
-use Rattle.tsb_plan.specs.declared.object.TheConstants.{PLAN_CELLS}
-use Rattle.tsb_plan.specs.Plan.{Plan}
-use Rattle.tsb_detect.specs.declared.TheConstants.{CELLS as DETECTOR_CELLS}
-use Rattle.tsb_detect.specs.Detector.{Detector}
-use Rattle.tsb_detect.specs.Cells as detect
-use Rattle.tsb_detect.specs.Cells.{detector_in}
-use Rattle.tsb_detect.proofs.StateLemmas as detect_states
-use Rattle.tsb_detect.proofs.ReadLemmas.{detector_in-row}
-use Rattle.tsb_calls.specs.declared.TheConstants.{CELLS as CALL_CELLS}
-use Rattle.tsb_phase.specs.declared.TheConstants.{CELLS as PHASE_CELLS}
-use Rattle.tsb_phase.specs.Phase.{Phase}
-use Rattle.tsb_phase.specs.Cells as phases
-use Rattle.tsb_phase.specs.Cells.{phase_in}
-use Rattle.tsb_phase.proofs.StateLemmas as phase_states
-use Rattle.tsb_phase.proofs.ReadLemmas.{phase_in-row}
-use Rattle.tsb_ring.specs.declared.TheConstants.{CELLS as RING_CELLS}
-use Rattle.tsb_coord.specs.declared.TheConstants.{CELLS as PATTERN_CELLS}
-use Rattle.tsb_preempt.specs.declared.TheConstants.{CELLS as PREEMPT_CELLS}
-use Rattle.tsb_preempt.specs.Preempts.{Preempts, is_preempt}
-use Rattle.tsb_preempt.specs.Cells as preempts
-use Rattle.tsb_preempt.specs.Cells.{service_in, preempts_in}
-use Rattle.tsb_preempt.proofs.ResetLemmas.{is_preempt-from}
-use Rattle.tsb_preempt.proofs.StateLemmas as preempt_states
-use Rattle.tsb_heads.specs.Monitoring.{judge}
-use Rattle.tsb_transact.specs.declared.TheConstants.{CELLS as DESK_CELLS}
+use Rattle.tsb_step.specs.tsb_cells.declared.timer.Timer.{Timer}
+use Rattle.tsb_step.specs.tsb_cells.Timer.{advanced, IsWithin, timer_cell, timer_at}
+use Rattle.tsb_step.specs.tsb_cells.Diff.{diff}
+use Rattle.tsb_step.specs.tsb_cells.DiffLaws.{IsChange}
+use Rattle.tsb_step.proofs.tsb_cells.ChangeLemmas.{tells_each_change}
+use Rattle.tsb_step.proofs.tsb_cells.TimerLemmas.{timer_at-timer_cell, timer_cell-timer_at, timer_cell-le, timer_cell-advanced, timer_at-next, IsWithin-timer_at}
+use Rattle.tsb_step.specs.tsb_types.declared.row.Row.{Row}
+use Rattle.tsb_step.specs.tsb_plan.declared.object.TheConstants.{PLAN_CELLS}
+use Rattle.tsb_step.specs.tsb_plan.Plan.{Plan}
+use Rattle.tsb_step.specs.tsb_detect.declared.TheConstants.{CELLS as DETECTOR_CELLS}
+use Rattle.tsb_step.specs.tsb_detect.Detector.{Detector}
+use Rattle.tsb_step.specs.tsb_detect.Cells as detect
+use Rattle.tsb_step.specs.tsb_detect.Cells.{detector_in}
+use Rattle.tsb_step.proofs.tsb_detect.StateLemmas as detect_states
+use Rattle.tsb_step.proofs.tsb_detect.ReadLemmas.{detector_in-row}
+use Rattle.tsb_step.specs.tsb_calls.declared.TheConstants.{CELLS as CALL_CELLS}
+use Rattle.tsb_step.specs.tsb_phase.declared.TheConstants.{CELLS as PHASE_CELLS}
+use Rattle.tsb_step.specs.tsb_phase.Phase.{Phase}
+use Rattle.tsb_step.specs.tsb_phase.Cells as phases
+use Rattle.tsb_step.specs.tsb_phase.Cells.{phase_in}
+use Rattle.tsb_step.proofs.tsb_phase.StateLemmas as phase_states
+use Rattle.tsb_step.proofs.tsb_phase.ReadLemmas.{phase_in-row}
+use Rattle.tsb_step.specs.tsb_ring.declared.TheConstants.{CELLS as RING_CELLS}
+use Rattle.tsb_step.specs.tsb_coord.declared.TheConstants.{CELLS as PATTERN_CELLS}
+use Rattle.tsb_step.specs.tsb_preempt.declared.TheConstants.{CELLS as PREEMPT_CELLS}
+use Rattle.tsb_step.specs.tsb_preempt.Preempts.{Preempts, is_preempt}
+use Rattle.tsb_step.specs.tsb_preempt.Cells as preempts
+use Rattle.tsb_step.specs.tsb_preempt.Cells.{service_in, preempts_in}
+use Rattle.tsb_step.proofs.tsb_preempt.ResetLemmas.{is_preempt-from}
+use Rattle.tsb_step.proofs.tsb_preempt.StateLemmas as preempt_states
+use Rattle.tsb_step.specs.tsb_heads.Monitoring.{judge}
+use Rattle.tsb_step.specs.tsb_transact.declared.TheConstants.{CELLS as DESK_CELLS}
 use Rattle.tsb_controller.specs.Whole.{All, AreFull, whole}
 use Rattle.tsb_step.specs.declared.first_cell.TheConstants.{DETECTORS, PHASES, PREEMPTS, ALL_CELLS}
 use Rattle.tsb_step.specs.declared.inputs.Input.{Input}

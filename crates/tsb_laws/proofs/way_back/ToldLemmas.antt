@@ -1,30 +1,30 @@
 -- What the cells of the states of a run tell, and what the records of a run give back.
 use Rattle.std.proofs.Common.{◌≡◌, ℕ, ◌≤◌, false, List, [], ◌∷◌, length, drop, Option, sym, ap, ap₂, subst, ◌∙◌}
-use Rattle.tsb_types.specs.declared.interval.PedestrianInterval.TheVariants.{DontWalk}
-use Rattle.tsb_types.specs.Intervals.{is_green}
-use Rattle.tsb_plan.specs.Plan.{Plan}
-use Rattle.tsb_plan.specs.PlanOf.{plan_cells}
-use Rattle.tsb_plan.proofs.ToldLemmas.{length-plan_cells}
-use Rattle.tsb_detect.specs.Cells.{detectors_cells, detector_in}
-use Rattle.tsb_detect.proofs.StateLemmas as detect
-use Rattle.tsb_calls.specs.Cells.{memories_cells}
-use Rattle.tsb_calls.proofs.StateLemmas as calls
-use Rattle.tsb_phase.specs.Cells.{phases_cells, phase_in}
-use Rattle.tsb_phase.specs.Phase.{Phase}
-use Rattle.tsb_phase.specs.Laws.{IsInRange, AreInRange}
-use Rattle.tsb_phase.proofs.StateLemmas as phases
-use Rattle.tsb_ring.specs.Cells.{rings_cells}
-use Rattle.tsb_ring.proofs.ToldLemmas as rings
-use Rattle.tsb_coord.specs.Cells.{pattern_cells}
-use Rattle.tsb_coord.specs.Laws.{IsSelectable}
-use Rattle.tsb_coord.proofs.CellLemmas as coord
-use Rattle.tsb_preempt.specs.Cells.{preempts_cells, preempts_in}
-use Rattle.tsb_preempt.proofs.StateLemmas as preempts
-use Rattle.tsb_transact.specs.Cells.{desk_cells}
-use Rattle.tsb_transact.proofs.ToldLemmas as desk
-use Rattle.tsb_machine.specs.Laws.{GiveBack}
-use Rattle.tsb_machine.specs.Past.{after}
-use Rattle.tsb_machine.proofs.PastLemmas as past
+use Rattle.tsb_step.specs.tsb_types.declared.interval.PedestrianInterval.TheVariants.{DontWalk}
+use Rattle.tsb_step.specs.tsb_types.Intervals.{is_green}
+use Rattle.tsb_step.specs.tsb_plan.Plan.{Plan}
+use Rattle.tsb_step.specs.tsb_plan.PlanOf.{plan_cells}
+use Rattle.tsb_step.proofs.tsb_plan.ToldLemmas.{length-plan_cells}
+use Rattle.tsb_step.specs.tsb_detect.Cells.{detectors_cells, detector_in}
+use Rattle.tsb_step.proofs.tsb_detect.StateLemmas as detect
+use Rattle.tsb_step.specs.tsb_calls.Cells.{memories_cells}
+use Rattle.tsb_step.proofs.tsb_calls.StateLemmas as calls
+use Rattle.tsb_step.specs.tsb_phase.Cells.{phases_cells, phase_in}
+use Rattle.tsb_step.specs.tsb_phase.Phase.{Phase}
+use Rattle.tsb_step.specs.tsb_phase.Laws.{IsInRange, AreInRange}
+use Rattle.tsb_step.proofs.tsb_phase.StateLemmas as phases
+use Rattle.tsb_step.specs.tsb_ring.Cells.{rings_cells}
+use Rattle.tsb_step.proofs.tsb_ring.ToldLemmas as rings
+use Rattle.tsb_step.specs.tsb_coord.Cells.{pattern_cells}
+use Rattle.tsb_step.specs.tsb_coord.Laws.{IsSelectable}
+use Rattle.tsb_step.proofs.tsb_coord.CellLemmas as coord
+use Rattle.tsb_step.specs.tsb_preempt.Cells.{preempts_cells, preempts_in}
+use Rattle.tsb_step.proofs.tsb_preempt.StateLemmas as preempts
+use Rattle.tsb_step.specs.tsb_transact.Cells.{desk_cells}
+use Rattle.tsb_step.proofs.tsb_transact.ToldLemmas as desk
+use Rattle.tsb_step.specs.tsb_machine.Laws.{GiveBack}
+use Rattle.tsb_step.specs.tsb_machine.Past.{after}
+use Rattle.tsb_step.proofs.tsb_machine.PastLemmas as past
 use Rattle.tsb_controller.specs.Rows.{AreBy}
 use Rattle.tsb_controller.specs.Whole.{All, AreFull, AreAllBy, whole, all_in}
 use Rattle.tsb_controller.proofs.WholeLemmas.{full, whole-full, whole-read, regrouped}

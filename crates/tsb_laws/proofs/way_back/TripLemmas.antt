@@ -1,13 +1,13 @@
 -- What the monitor finds names phases of the plan.
 use Rattle.std.proofs.Common.{◌≡◌, ℕ, ◌+◌, ◌<◌, ◌≤◌, Bool, true, false, Option, Some, None, is_some, option_map, refl, arith}
 use Rattle.std.specs.Option.{option_or}
-use Rattle.tsb_types.specs.Lists.{first}
-use Rattle.tsb_types.proofs.FirstLemmas.{first-within}
-use Rattle.tsb_plan.specs.Plan.{Plan, phases}
-use Rattle.tsb_heads.specs.declared.monitor.Trip.{Trip}
-use Rattle.tsb_heads.specs.declared.monitor.Trip.TheVariants.{Conflict, GreenToRed}
-use Rattle.tsb_heads.specs.Heads.{Heads}
-use Rattle.tsb_heads.specs.Monitoring.{are_in_conflict, conflict_of, conflict_by, conflict, goes_red, green_to_red, judge}
+use Rattle.tsb_step.specs.tsb_types.Lists.{first}
+use Rattle.tsb_step.proofs.tsb_types.FirstLemmas.{first-within}
+use Rattle.tsb_step.specs.tsb_plan.Plan.{Plan, phases}
+use Rattle.tsb_step.specs.tsb_heads.declared.monitor.Trip.{Trip}
+use Rattle.tsb_step.specs.tsb_heads.declared.monitor.Trip.TheVariants.{Conflict, GreenToRed}
+use Rattle.tsb_step.specs.tsb_heads.Heads.{Heads}
+use Rattle.tsb_step.specs.tsb_heads.Monitoring.{are_in_conflict, conflict_of, conflict_by, conflict, goes_red, green_to_red, judge}
 use Rattle.tsb_step.specs.Cells.{clock_at}
 use Rattle.tsb_step.specs.MonitorLaws.{IsUpTo, IsCause, IsTrip}
 use Rattle.tsb_step.specs.State.{Tripped}

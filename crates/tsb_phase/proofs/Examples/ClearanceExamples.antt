@@ -4,11 +4,11 @@
 use Rattle.std.specs.Prelude.{◌≡◌, ℕ, ◌==◌, true, false, Some, refl, [], ◌∷◌}
 use Rattle.tsb_cells.specs.declared.timer.Timer.{Timer}
 use Rattle.tsb_cells.specs.declared.timer.Timer.TheVariants.{Off, On}
-use Rattle.tsb_types.specs.declared.interval.Interval.TheVariants.{Green, Yellow, RedClear}
-use Rattle.tsb_types.specs.Lists.{run_from}
-use Rattle.tsb_plan.specs.declared.object.Object.TheVariants.{PhaseRedClear, PhaseRedRevert, PhaseMinimumGreen, PhasePassage, PhaseSimGapDisable, PhaseVariableInitial}
-use Rattle.tsb_plan.specs.Plan.{Plan, with_value, with_values}
-use Rattle.tsb_plan.specs.Quad.{quad}
+use Rattle.tsb_objects.specs.tsb_types.declared.interval.Interval.TheVariants.{Green, Yellow, RedClear}
+use Rattle.tsb_objects.specs.tsb_types.Lists.{run_from}
+use Rattle.tsb_objects.specs.tsb_plan.declared.object.Object.TheVariants.{PhaseRedClear, PhaseRedRevert, PhaseMinimumGreen, PhasePassage, PhaseSimGapDisable, PhaseVariableInitial}
+use Rattle.tsb_objects.specs.tsb_plan.Plan.{Plan, with_value, with_values}
+use Rattle.tsb_objects.specs.tsb_plan.Quad.{quad}
 use Rattle.tsb_phase.specs.Phase.{Phase, Given, Moved, at_power_up, none_held, none_moved}
 use Rattle.tsb_phase.specs.Green.{cars_waiting, reduction_timer, gap, initial, forced_latch}
 use Rattle.tsb_phase.specs.DynamicMaximum.{maximum_in_use}

@@ -3,10 +3,10 @@
 use Rattle.std.specs.Prelude.{◌≡◌, ℕ, ◌==◌, true, false, refl}
 use Rattle.tsb_cells.specs.declared.timer.Timer.{Timer}
 use Rattle.tsb_cells.specs.declared.timer.Timer.TheVariants.{Off, On}
-use Rattle.tsb_types.specs.declared.interval.Interval.TheVariants.{Green}
-use Rattle.tsb_types.specs.Lists.{run_from}
-use Rattle.tsb_plan.specs.declared.object.Object.TheVariants.{PhaseMaxRecall, PhaseSimGapDisable, UnitMax2}
-use Rattle.tsb_plan.specs.Plan.{Plan, with_value}
+use Rattle.tsb_objects.specs.tsb_types.declared.interval.Interval.TheVariants.{Green}
+use Rattle.tsb_objects.specs.tsb_types.Lists.{run_from}
+use Rattle.tsb_objects.specs.tsb_plan.declared.object.Object.TheVariants.{PhaseMaxRecall, PhaseSimGapDisable, UnitMax2}
+use Rattle.tsb_objects.specs.tsb_plan.Plan.{Plan, with_value}
 use Rattle.tsb_phase.specs.Phase.{Phase, Given, at_power_up}
 use Rattle.tsb_phase.specs.Green.{cars_waiting, reduction_timer, gap, initial, gapped_latch, is_gapped}
 use Rattle.tsb_phase.specs.DynamicMaximum.{maximum_in_use}

@@ -6,11 +6,11 @@ use Rattle.std.specs.Prelude.{◌≡◌, ℕ, ◌+◌, ◌-◌, ◌*◌, ◌/◌
 use Rattle.tsb_cells.specs.declared.timer.Timer.{Timer}
 use Rattle.tsb_cells.specs.declared.timer.Timer.TheVariants.{Off, On}
 use Rattle.tsb_cells.specs.Timer.{advanced, has_reached}
-use Rattle.tsb_types.specs.declared.interval.Interval.TheVariants.{Yellow, RedClear}
-use Rattle.tsb_types.specs.Intervals.{is_yellow}
-use Rattle.tsb_plan.specs.declared.object.Object.TheVariants.{PhaseMinimumGap}
-use Rattle.tsb_plan.specs.Quad.{quad}
-use Rattle.tsb_plan.specs.Plan.{Plan, with_value, yellow_change, has_variable_initial, minimum_green, maximum_initial, added_initial, passage, minimum_gap, time_to_reduce}
+use Rattle.tsb_objects.specs.tsb_types.declared.interval.Interval.TheVariants.{Yellow, RedClear}
+use Rattle.tsb_objects.specs.tsb_types.Intervals.{is_yellow}
+use Rattle.tsb_objects.specs.tsb_plan.declared.object.Object.TheVariants.{PhaseMinimumGap}
+use Rattle.tsb_objects.specs.tsb_plan.Quad.{quad}
+use Rattle.tsb_objects.specs.tsb_plan.Plan.{Plan, with_value, yellow_change, has_variable_initial, minimum_green, maximum_initial, added_initial, passage, minimum_gap, time_to_reduce}
 use Rattle.tsb_phase.specs.Green.{gap}
 use Rattle.tsb_phase.specs.Phase.{Phase, Given, Moved, none_moved, at_power_up, as_read}
 use Rattle.tsb_phase.specs.Ready.{yellow_is_done, is_over}

@@ -3,11 +3,11 @@
 -- falls.
 use Rattle.std.specs.Prelude.{◌≡◌, ℕ, ◌==◌, true, false, [], ◌∷◌, Option, Some, None, refl}
 use Rattle.tsb_cells.specs.declared.timer.Timer.TheVariants.{On}
-use Rattle.tsb_types.specs.declared.interval.Interval.TheVariants.{Green, Yellow}
-use Rattle.tsb_types.specs.Lists.{run_from}
-use Rattle.tsb_plan.specs.declared.object.Object.TheVariants.{PhaseMaxRecall, PhaseMinRecall, PhaseDynamicMaxLimit, PhaseDynamicMaxStep}
-use Rattle.tsb_plan.specs.Plan.{Plan, with_value, with_values}
-use Rattle.tsb_plan.specs.Two.{two}
+use Rattle.tsb_objects.specs.tsb_types.declared.interval.Interval.TheVariants.{Green, Yellow}
+use Rattle.tsb_objects.specs.tsb_types.Lists.{run_from}
+use Rattle.tsb_objects.specs.tsb_plan.declared.object.Object.TheVariants.{PhaseMaxRecall, PhaseMinRecall, PhaseDynamicMaxLimit, PhaseDynamicMaxStep}
+use Rattle.tsb_objects.specs.tsb_plan.Plan.{Plan, with_value, with_values}
+use Rattle.tsb_objects.specs.tsb_plan.Two.{two}
 use Rattle.tsb_phase.specs.declared.ending.Ending.{Ending}
 use Rattle.tsb_phase.specs.declared.ending.Ending.TheVariants.{MaxOut, GapOut}
 use Rattle.tsb_phase.specs.Phase.{Phase, Given, Moved, at_power_up, as_read, none_moved, held_of}

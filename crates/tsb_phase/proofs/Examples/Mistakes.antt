@@ -3,14 +3,14 @@ use Rattle.std.specs.Prelude.{◌≡◌, ℕ, ◌==◌, Bool, true, false, ◌&&
 use Rattle.tsb_cells.specs.declared.timer.Timer.{Timer}
 use Rattle.tsb_cells.specs.declared.timer.Timer.TheVariants.{Off, On}
 use Rattle.tsb_cells.specs.Timer.{started, has_reached}
-use Rattle.tsb_types.specs.declared.interval.PedestrianInterval.{PedestrianInterval}
-use Rattle.tsb_types.specs.declared.interval.PedestrianInterval.TheVariants.{DontWalk, Walk}
-use Rattle.tsb_types.specs.Lists.{run_from}
-use Rattle.tsb_plan.specs.declared.object.Object.TheVariants.{PhaseMinimumGreen, PhasePassage, PhaseMaxRecall, PhaseSimGapDisable, PhaseRedRevert, PreemptMinimumGreen}
-use Rattle.tsb_plan.specs.Parts.{preempt_minimum_green}
-use Rattle.tsb_plan.specs.Plan.{Plan, phases, with_value, minimum_green, maximum, with_values}
-use Rattle.tsb_plan.specs.Quad.{quad}
-use Rattle.tsb_plan.specs.Two.{two}
+use Rattle.tsb_objects.specs.tsb_types.declared.interval.PedestrianInterval.{PedestrianInterval}
+use Rattle.tsb_objects.specs.tsb_types.declared.interval.PedestrianInterval.TheVariants.{DontWalk, Walk}
+use Rattle.tsb_objects.specs.tsb_types.Lists.{run_from}
+use Rattle.tsb_objects.specs.tsb_plan.declared.object.Object.TheVariants.{PhaseMinimumGreen, PhasePassage, PhaseMaxRecall, PhaseSimGapDisable, PhaseRedRevert, PreemptMinimumGreen}
+use Rattle.tsb_objects.specs.tsb_plan.Parts.{preempt_minimum_green}
+use Rattle.tsb_objects.specs.tsb_plan.Plan.{Plan, phases, with_value, minimum_green, maximum, with_values}
+use Rattle.tsb_objects.specs.tsb_plan.Quad.{quad}
+use Rattle.tsb_objects.specs.tsb_plan.Two.{two}
 use Rattle.tsb_phase.specs.declared.ending.Ending.{Ending}
 use Rattle.tsb_phase.specs.declared.ending.Ending.TheVariants.{MaxOut}
 use Rattle.tsb_phase.specs.Phase.{Phase, Given, GreenHeld, none_held, held_of}

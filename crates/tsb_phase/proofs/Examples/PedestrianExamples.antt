@@ -4,12 +4,12 @@
 use Rattle.std.specs.Prelude.{◌≡◌, ℕ, ◌==◌, true, false, Some, refl}
 use Rattle.tsb_cells.specs.declared.timer.Timer.{Timer}
 use Rattle.tsb_cells.specs.declared.timer.Timer.TheVariants.{Off, On}
-use Rattle.tsb_types.specs.declared.interval.Interval.TheVariants.{Green, Yellow}
-use Rattle.tsb_types.specs.declared.interval.PedestrianInterval.{PedestrianInterval}
-use Rattle.tsb_types.specs.declared.interval.PedestrianInterval.TheVariants.{DontWalk, Walk, PedestrianClear}
-use Rattle.tsb_plan.specs.declared.object.Object.TheVariants.{PhasePedestrianClear, PhaseRestInWalk, PreemptEnterPedClear}
-use Rattle.tsb_plan.specs.Plan.{Plan, with_value}
-use Rattle.tsb_plan.specs.Quad.{quad}
+use Rattle.tsb_objects.specs.tsb_types.declared.interval.Interval.TheVariants.{Green, Yellow}
+use Rattle.tsb_objects.specs.tsb_types.declared.interval.PedestrianInterval.{PedestrianInterval}
+use Rattle.tsb_objects.specs.tsb_types.declared.interval.PedestrianInterval.TheVariants.{DontWalk, Walk, PedestrianClear}
+use Rattle.tsb_objects.specs.tsb_plan.declared.object.Object.TheVariants.{PhasePedestrianClear, PhaseRestInWalk, PreemptEnterPedClear}
+use Rattle.tsb_objects.specs.tsb_plan.Plan.{Plan, with_value}
+use Rattle.tsb_objects.specs.tsb_plan.Quad.{quad}
 use Rattle.tsb_phase.specs.Phase.{Phase, Given, Moved, at_power_up, none_moved}
 use Rattle.tsb_phase.specs.Green.{reduction_timer, gap, initial}
 use Rattle.tsb_phase.specs.DynamicMaximum.{maximum_in_use}

@@ -7,9 +7,9 @@ use Rattle.tsb_types.specs.declared.interval.Interval.{Interval}
 use Rattle.tsb_types.specs.declared.interval.Interval.TheVariants.{Green, RedClear}
 use Rattle.tsb_types.specs.declared.stage.Stage.TheVariants.{Track, Dwell, Exit}
 use Rattle.tsb_types.specs.Lists.{run_from, first}
-use Rattle.tsb_plan.specs.Plan.{Plan}
-use Rattle.tsb_plan.specs.Parts.{preempt_maximum_presence, is_track_phase, is_exit_phase}
-use Rattle.tsb_plan.specs.Quad.{quad}
+use Rattle.tsb_objects.specs.tsb_plan.Plan.{Plan}
+use Rattle.tsb_objects.specs.tsb_plan.Parts.{preempt_maximum_presence, is_track_phase, is_exit_phase}
+use Rattle.tsb_objects.specs.tsb_plan.Quad.{quad}
 use Rattle.tsb_preempt.specs.Service.{Service, has_dwell, all_green, track_timer, ends_exit, exceeds_presence}
 use Rattle.tsb_preempt.specs.Preempts.{Preempts, Given, at_power_up, as_read, has_input, delay_timer, still_spent, requests, requesting, beginning, new_service, dwell_ends_of, dwell_ends, new_spent, service_ended}
 use Rattle.tsb_preempt.proofs.Examples.Examples.{plan, both, with_row, without_row, serving, switched}

@@ -7,9 +7,9 @@ use Rattle.tsb_types.specs.declared.refusal.Refusal.TheVariants.{NoSuchPreempt}
 use Rattle.tsb_types.specs.declared.stage.Stage.TheVariants.{Track, Dwell, Exit}
 use Rattle.tsb_types.specs.Lists.{run_from}
 use Rattle.tsb_types.specs.Sets.{number_of_bits}
-use Rattle.tsb_plan.specs.declared.object.Object.TheVariants.{PreemptDelay}
-use Rattle.tsb_plan.specs.Plan.{Plan, with_values}
-use Rattle.tsb_plan.specs.Quad.{quad}
+use Rattle.tsb_objects.specs.tsb_plan.declared.object.Object.TheVariants.{PreemptDelay}
+use Rattle.tsb_objects.specs.tsb_plan.Plan.{Plan, with_values}
+use Rattle.tsb_objects.specs.tsb_plan.Quad.{quad}
 use Rattle.tsb_preempt.specs.Service.{Service}
 use Rattle.tsb_preempt.specs.Preempts.{Preempts, at_power_up, after_reset, requesting, beginning, new_service, next, switch_refusal, with_switch}
 use Rattle.tsb_preempt.specs.Cells.{preempts_in, service_in, preempts_cells}

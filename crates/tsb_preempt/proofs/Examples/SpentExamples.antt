@@ -5,9 +5,9 @@ use Rattle.tsb_cells.specs.declared.timer.Timer.TheVariants.{Off, On}
 use Rattle.tsb_types.specs.declared.interval.Interval.TheVariants.{Green, RedClear}
 use Rattle.tsb_types.specs.declared.stage.Stage.TheVariants.{Dwell, Exit}
 use Rattle.tsb_types.specs.Lists.{run_from}
-use Rattle.tsb_plan.specs.declared.object.Object.TheVariants.{PreemptMaximumPresence, PreemptMinimumDuration}
-use Rattle.tsb_plan.specs.Plan.{Plan, with_values}
-use Rattle.tsb_plan.specs.Quad.{quad}
+use Rattle.tsb_objects.specs.tsb_plan.declared.object.Object.TheVariants.{PreemptMaximumPresence, PreemptMinimumDuration}
+use Rattle.tsb_objects.specs.tsb_plan.Plan.{Plan, with_values}
+use Rattle.tsb_objects.specs.tsb_plan.Quad.{quad}
 use Rattle.tsb_preempt.specs.Service.{all_green}
 use Rattle.tsb_preempt.specs.Preempts.{Preempts, Given, at_power_up, requesting, beginning, new_service, dwell_ends, next, with_switch}
 use Rattle.tsb_preempt.proofs.Examples.Examples.{plan, both, alone, without_row, with_row, serving, service, switched}

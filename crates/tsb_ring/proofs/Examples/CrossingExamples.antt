@@ -1,7 +1,7 @@
 -- What the definitions give in crossings of the barrier, by computing.
 use Rattle.std.specs.Prelude.{◌≡◌, true, false, [], ◌∷◌, Some, None, refl}
 use Rattle.tsb_types.specs.declared.interval.Interval.TheVariants.{Red, Green, Yellow, RedClear}
-use Rattle.tsb_plan.specs.Quad.{quad}
+use Rattle.tsb_objects.specs.tsb_plan.Quad.{quad}
 use Rattle.tsb_ring.specs.Rings.{Ring2, power_up, Given}
 use Rattle.tsb_ring.specs.Next.{next}
 use Rattle.tsb_ring.specs.Moves.{moves, interval_after}

@@ -1,6 +1,6 @@
 -- What the definitions give on one side, by computing: starts, commitments, and which phase comes next.
 use Rattle.std.specs.Prelude.{◌≡◌, false, [], ◌∷◌, Some, None, refl}
-use Rattle.tsb_plan.specs.Quad.{quad}
+use Rattle.tsb_objects.specs.tsb_plan.Quad.{quad}
 use Rattle.tsb_ring.specs.Rings.{power_up}
 use Rattle.tsb_ring.specs.Moves.{moves}
 use Rattle.tsb_ring.proofs.Examples.Scenes.{opened, those, both, showing, calm, still, moving, resting, greens, parted}

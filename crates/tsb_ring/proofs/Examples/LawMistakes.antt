@@ -1,8 +1,8 @@
 -- What mistakes in the rings' definitions do to their laws: for each mistake a law that it makes false, by computing.
 use Rattle.std.specs.Prelude.{◌≡◌, ℕ, true, false, Option, Some, None, refl}
 use Rattle.tsb_types.specs.Intervals.{in_service}
-use Rattle.tsb_plan.specs.Plan.{Plan, is_concurrent}
-use Rattle.tsb_plan.specs.Quad.{quad}
+use Rattle.tsb_objects.specs.tsb_plan.Plan.{Plan, is_concurrent}
+use Rattle.tsb_objects.specs.tsb_plan.Quad.{quad}
 use Rattle.tsb_ring.specs.declared.ring_order.RingOrder.{RingOrder}
 use Rattle.tsb_ring.specs.declared.ring_order.RingOrder.TheVariants.{Ring1First, Ring2First}
 use Rattle.tsb_ring.specs.Rings.{Ring, Ring1, Ring2, State, power_up, Given, serving}

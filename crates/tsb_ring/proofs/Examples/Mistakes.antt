@@ -1,8 +1,8 @@
 -- One-line mistakes, each with an example that tells it from the definition.
 use Rattle.std.specs.Prelude.{◌≡◌, ℕ, Bool, true, false, not, ◌&&◌, ◌||◌, if◌then◌else◌, List, [], ◌∷◌, Option, Some, None, is_some, is_none, refl}
 use Rattle.tsb_types.specs.Lists.{first, some_passes, later, not_later, or_else}
-use Rattle.tsb_plan.specs.Plan.{Plan, phases}
-use Rattle.tsb_plan.specs.Quad.{quad}
+use Rattle.tsb_objects.specs.tsb_plan.Plan.{Plan, phases}
+use Rattle.tsb_objects.specs.tsb_plan.Quad.{quad}
 use Rattle.tsb_ring.specs.declared.want.Want.{Want}
 use Rattle.tsb_ring.specs.declared.want.Want.TheVariants.{Go, Cross, Rest, Stop}
 use Rattle.tsb_ring.specs.Rings.{Ring, Ring1, Ring2, other, State, power_up, Given, serving}

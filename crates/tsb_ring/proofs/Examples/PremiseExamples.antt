@@ -1,9 +1,9 @@
 -- Why the safety of the rings has its premises: what happens without each, by computing.
 use Rattle.std.specs.Prelude.{◌≡◌, ℕ, true, false, [], ◌∷◌, Some, None, refl}
 use Rattle.tsb_types.specs.declared.flow.Moves.{Moves}
-use Rattle.tsb_plan.specs.declared.object.Object.TheVariants.{PhaseConcurrency}
-use Rattle.tsb_plan.specs.Plan.{Plan, with_values}
-use Rattle.tsb_plan.specs.Quad.{quad}
+use Rattle.tsb_objects.specs.tsb_plan.declared.object.Object.TheVariants.{PhaseConcurrency}
+use Rattle.tsb_objects.specs.tsb_plan.Plan.{Plan, with_values}
+use Rattle.tsb_objects.specs.tsb_plan.Quad.{quad}
 use Rattle.tsb_ring.specs.Rings.{State, power_up}
 use Rattle.tsb_ring.specs.Moves.{moves}
 use Rattle.tsb_ring.proofs.Examples.Scenes.{opened, those, both, calm, still, moving, parted, parted_3_7}

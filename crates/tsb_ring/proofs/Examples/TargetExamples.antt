@@ -1,9 +1,9 @@
 -- What the definitions give under a preempt, in a crossing that only one ring has a phase for, and with four sides, by
 -- computing. A preempt's target is the list of phases that it wants served.
 use Rattle.std.specs.Prelude.{◌≡◌, ℕ, false, List, [], ◌∷◌, Some, None, refl}
-use Rattle.tsb_plan.specs.declared.object.Object.TheVariants.{PhaseEnabled, PhaseRing, PhaseSide, SequenceData}
-use Rattle.tsb_plan.specs.Plan.{Plan, empty, with_values, sequence}
-use Rattle.tsb_plan.specs.Quad.{quad}
+use Rattle.tsb_objects.specs.tsb_plan.declared.object.Object.TheVariants.{PhaseEnabled, PhaseRing, PhaseSide, SequenceData}
+use Rattle.tsb_objects.specs.tsb_plan.Plan.{Plan, empty, with_values, sequence}
+use Rattle.tsb_objects.specs.tsb_plan.Quad.{quad}
 use Rattle.tsb_ring.specs.declared.want.Want.TheVariants.{Go, Cross, Rest, Stop}
 use Rattle.tsb_ring.specs.Rings.{Ring1, Ring2, number, State, power_up, Given}
 use Rattle.tsb_ring.specs.Wants.{want_of}

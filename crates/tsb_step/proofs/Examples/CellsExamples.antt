@@ -9,9 +9,9 @@ use Rattle.tsb_types.specs.declared.lamp.PedestrianColor.TheVariants as pedestri
 use Rattle.tsb_types.specs.declared.stage.Stage.TheVariants.{Exit}
 use Rattle.tsb_types.specs.Lists.{run_from}
 use Rattle.tsb_types.specs.Sets.{number_of_bits}
-use Rattle.tsb_plan.specs.declared.object.Object.TheVariants.{PhaseWalk, SequenceData}
-use Rattle.tsb_plan.specs.Objects.{objects, first_cell}
-use Rattle.tsb_plan.specs.Quad.{quad}
+use Rattle.tsb_objects.specs.tsb_plan.declared.object.Object.TheVariants.{PhaseWalk, SequenceData}
+use Rattle.tsb_objects.specs.tsb_plan.Objects.{objects, first_cell}
+use Rattle.tsb_objects.specs.tsb_plan.Quad.{quad}
 use Rattle.tsb_detect.specs.declared.alarm.Alarm.TheVariants.{Erratic}
 use Rattle.tsb_detect.specs.Detector as detector
 use Rattle.tsb_detect.specs.Cells as detectors

@@ -1,9 +1,9 @@
 -- One-line mistakes that break the laws of the desk, each with runs in which it shows, over the built-in plan of eight
 -- phases.
 use Rattle.std.specs.Prelude.{◌≡◌, true, false, List, [], ◌∷◌, ◌++◌, refl}
-use Rattle.tsb_plan.specs.declared.object.Object.TheVariants.{PhaseRing, PhaseMaximum1}
-use Rattle.tsb_plan.specs.Plan.{Plan, with_value}
-use Rattle.tsb_plan.specs.Quad.{quad}
+use Rattle.tsb_objects.specs.tsb_plan.declared.object.Object.TheVariants.{PhaseRing, PhaseMaximum1}
+use Rattle.tsb_objects.specs.tsb_plan.Plan.{Plan, with_value}
+use Rattle.tsb_objects.specs.tsb_plan.Quad.{quad}
 use Rattle.tsb_transact.specs.declared.edit.Edit.{Edit}
 use Rattle.tsb_transact.specs.Desk.{with_edit, with_edits}
 use Rattle.tsb_transact.specs.Commit.{forgets_last_phases}

@@ -9,8 +9,8 @@ use Rattle.tsb_types.specs.declared.lamp.Aspect.{Aspect}
 use Rattle.tsb_types.specs.declared.lamp.Aspect.TheVariants as aspects
 use Rattle.tsb_types.specs.Intervals.{in_service, is_green, is_yellow, is_clearance}
 use Rattle.tsb_types.specs.Sets.{all_off}
-use Rattle.tsb_plan.specs.Plan.{Plan, yellow_change}
-use Rattle.tsb_plan.specs.Two.{two}
+use Rattle.tsb_objects.specs.tsb_plan.Plan.{Plan, yellow_change}
+use Rattle.tsb_objects.specs.tsb_plan.Two.{two}
 use Rattle.tsb_phase.specs.Pedestrian.{clearance_time}
 use Rattle.tsb_phase.specs.Phase.{Phase}
 use Rattle.tsb_heads.specs.Heads.{Shown}

@@ -8,12 +8,12 @@ use Rattle.tsb_types.specs.declared.lamp.SignalColor.TheVariants as signals
 use Rattle.tsb_types.specs.declared.refusal.Refusal.TheVariants.{NotVerified, InService}
 use Rattle.tsb_types.specs.declared.stage.Stage.TheVariants.{Dwell}
 use Rattle.tsb_cells.specs.declared.timer.Timer.TheVariants.{Off, On}
-use Rattle.tsb_plan.specs.declared.object.Object.{Object}
-use Rattle.tsb_plan.specs.declared.object.Object.TheVariants.{PhaseConcurrency, PhaseMinRecall, PreemptDwellPhase}
-use Rattle.tsb_plan.specs.Plan.{Plan, is_concurrent, with_values}
-use Rattle.tsb_plan.specs.Quad.{quad}
-use Rattle.tsb_rules.specs.declared.rules.Rule.TheVariants.{K5, K15}
-use Rattle.tsb_rules.specs.Rules.{first_broken}
+use Rattle.tsb_objects.specs.tsb_plan.declared.object.Object.{Object}
+use Rattle.tsb_objects.specs.tsb_plan.declared.object.Object.TheVariants.{PhaseConcurrency, PhaseMinRecall, PreemptDwellPhase}
+use Rattle.tsb_objects.specs.tsb_plan.Plan.{Plan, is_concurrent, with_values}
+use Rattle.tsb_objects.specs.tsb_plan.Quad.{quad}
+use Rattle.tsb_objects.specs.tsb_rules.declared.rules.Rule.TheVariants.{K5, K15}
+use Rattle.tsb_objects.specs.tsb_rules.Rules.{first_broken}
 use Rattle.tsb_heads.specs.declared.monitor.Trip.TheVariants.{Conflict}
 use Rattle.tsb_heads.specs.Displays.{ordered}
 use Rattle.tsb_preempt.specs.Preempts as preempts

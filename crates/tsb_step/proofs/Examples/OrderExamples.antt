@@ -6,9 +6,9 @@ use Rattle.tsb_types.specs.declared.interval.PedestrianInterval.TheVariants.{Don
 use Rattle.tsb_types.specs.declared.stage.Stage.TheVariants.{Dwell}
 use Rattle.tsb_types.specs.Lists.{run_from}
 use Rattle.tsb_types.specs.Sets.{all_off}
-use Rattle.tsb_plan.specs.declared.object.Object.TheVariants.{PhaseMinRecall, PatternCycleTime, PatternSequenceNumber, SplitMode, SequenceData}
-use Rattle.tsb_plan.specs.Plan.{Plan, with_value, with_values}
-use Rattle.tsb_plan.specs.Quad.{quad}
+use Rattle.tsb_objects.specs.tsb_plan.declared.object.Object.TheVariants.{PhaseMinRecall, PatternCycleTime, PatternSequenceNumber, SplitMode, SequenceData}
+use Rattle.tsb_objects.specs.tsb_plan.Plan.{Plan, with_value, with_values}
+use Rattle.tsb_objects.specs.tsb_plan.Quad.{quad}
 use Rattle.tsb_ring.specs.Rings.{Ring1, Ring2}
 use Rattle.tsb_step.specs.State.{State, interval, pedestrian_part}
 use Rattle.tsb_step.proofs.Examples.Scenes.{opened, after, preempt, green, these, all_red, called, red, resting, entering, dwelling, coordinated}

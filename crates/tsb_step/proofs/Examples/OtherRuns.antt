@@ -1,17 +1,17 @@
 -- Runs from power-up that meet all premises of the other laws of runs, computed: two phases with right of way, a
 -- preempt in service, a plan that is committed, answers that are right. And mistakes in the cells of the monitor.
 use Rattle.std.specs.Prelude.{◌≡◌, ℕ, true, List, [], ◌∷◌, Some, None, refl}
-use Rattle.tsb_history.specs.declared.kinds.Kind.TheVariants as kinds
+use Rattle.tsb_machine.specs.tsb_history.declared.kinds.Kind.TheVariants as kinds
 use Rattle.tsb_types.specs.declared.interval.Interval.TheVariants.{Green}
 use Rattle.tsb_types.specs.declared.stage.Stage.TheVariants.{Dwell}
 use Rattle.tsb_types.specs.Sets.{all_off}
-use Rattle.tsb_plan.specs.declared.object.Object.{Object}
-use Rattle.tsb_plan.specs.declared.object.Object.TheVariants.{PhaseRing, PhaseSide, PhaseConcurrency, PhaseMaximum1, SequenceData, PreemptDwellPhase}
-use Rattle.tsb_plan.specs.declared.object.ObjectId.{ObjectId}
-use Rattle.tsb_plan.specs.Plan.{Plan, with_values, is_concurrent}
-use Rattle.tsb_plan.specs.Two.{two}
-use Rattle.tsb_rules.specs.Rules.{first_broken}
-use Rattle.tsb_rules.proofs.TwoLemmas.{two-meets}
+use Rattle.tsb_objects.specs.tsb_plan.declared.object.Object.{Object}
+use Rattle.tsb_objects.specs.tsb_plan.declared.object.Object.TheVariants.{PhaseRing, PhaseSide, PhaseConcurrency, PhaseMaximum1, SequenceData, PreemptDwellPhase}
+use Rattle.tsb_objects.specs.tsb_plan.declared.object.ObjectId.{ObjectId}
+use Rattle.tsb_objects.specs.tsb_plan.Plan.{Plan, with_values, is_concurrent}
+use Rattle.tsb_objects.specs.tsb_plan.Two.{two}
+use Rattle.tsb_objects.specs.tsb_rules.Rules.{first_broken}
+use Rattle.tsb_objects.proofs.tsb_rules.TwoLemmas.{two-meets}
 use Rattle.tsb_heads.specs.declared.monitor.Trip.TheVariants.{Conflict}
 use Rattle.tsb_heads.specs.Monitoring.{has_right_of_way}
 use Rattle.tsb_machine.specs.declared.commands.Command.TheVariants.{Apply, Undo}

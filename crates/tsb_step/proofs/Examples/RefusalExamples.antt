@@ -4,7 +4,7 @@ use Rattle.tsb_types.specs.declared.refusal.Refusal.{Refusal}
 use Rattle.tsb_types.specs.declared.refusal.Refusal.TheVariants.{NoSuchObject, OutOfRange, Busy, NotOwner, NotOpen, NotVerified, TooManyEdits, NoSuchPattern, NoSuchPreempt, TickLimit, InService}
 use Rattle.tsb_types.specs.Lists.{run_from}
 use Rattle.tsb_types.specs.Sets.{all_off}
-use Rattle.tsb_plan.specs.declared.object.Object.TheVariants.{PhaseMaximum1, SplitTime, PreemptDwellPhase}
+use Rattle.tsb_objects.specs.tsb_plan.declared.object.Object.TheVariants.{PhaseMaximum1, SplitTime, PreemptDwellPhase}
 use Rattle.tsb_ring.specs.Rings.{Ring}
 use Rattle.tsb_ring.proofs.Examples.Scenes.{both}
 use Rattle.tsb_transact.specs.declared.desk_state.DeskState.TheVariants.{Transaction, Done}

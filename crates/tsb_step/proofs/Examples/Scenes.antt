@@ -10,9 +10,9 @@ use Rattle.tsb_types.specs.declared.row.Row.{Row}
 use Rattle.tsb_types.specs.declared.stage.Stage.TheVariants.{Dwell}
 use Rattle.tsb_types.specs.Lists.{among, run_from}
 use Rattle.tsb_types.specs.Sets.{all_off, set_of_list}
-use Rattle.tsb_plan.specs.Quad.{quad}
-use Rattle.tsb_rules.specs.PatternRules.{coordinated_count, side_sum, split_end, split_sum}
-use Rattle.tsb_rules.specs.Rules.{broken_by_extensions, broken_by_parts, broken_by_phases, broken_by_rings, first_broken}
+use Rattle.tsb_objects.specs.tsb_plan.Quad.{quad}
+use Rattle.tsb_objects.specs.tsb_rules.PatternRules.{coordinated_count, side_sum, split_end, split_sum}
+use Rattle.tsb_objects.specs.tsb_rules.Rules.{broken_by_extensions, broken_by_parts, broken_by_phases, broken_by_rings, first_broken}
 use Rattle.tsb_detect.specs.Detector as detector
 use Rattle.tsb_calls.specs.Callable.{has_conflict, is_callable}
 use Rattle.tsb_calls.specs.Memories as calls

@@ -3,12 +3,12 @@ use Rattle.std.specs.Prelude.{◌≡◌, ℕ, ◌==◌, true, false, List, [], �
 use Rattle.tsb_cells.specs.declared.timer.Timer.TheVariants.{On}
 use Rattle.tsb_types.specs.Lists.{run_from}
 use Rattle.tsb_types.specs.Sets.{all_off}
-use Rattle.tsb_plan.specs.declared.object.Object.{Object}
-use Rattle.tsb_plan.specs.declared.object.Object.TheVariants.{PhaseConcurrency, PhaseMaximum1}
-use Rattle.tsb_plan.specs.declared.object.ObjectId.{ObjectId}
-use Rattle.tsb_plan.specs.Plan.{with_value}
-use Rattle.tsb_plan.specs.Quad.{quad}
-use Rattle.tsb_rules.specs.declared.rules.Rule.TheVariants.{K5}
+use Rattle.tsb_objects.specs.tsb_plan.declared.object.Object.{Object}
+use Rattle.tsb_objects.specs.tsb_plan.declared.object.Object.TheVariants.{PhaseConcurrency, PhaseMaximum1}
+use Rattle.tsb_objects.specs.tsb_plan.declared.object.ObjectId.{ObjectId}
+use Rattle.tsb_objects.specs.tsb_plan.Plan.{with_value}
+use Rattle.tsb_objects.specs.tsb_plan.Quad.{quad}
+use Rattle.tsb_objects.specs.tsb_rules.declared.rules.Rule.TheVariants.{K5}
 use Rattle.tsb_preempt.specs.Preempts as preempts
 use Rattle.tsb_ring.specs.Rings.{Ring1, Ring2}
 use Rattle.tsb_transact.specs.Desk.{closed}
@@ -18,7 +18,7 @@ use Rattle.tsb_transact.specs.declared.edit.Edit.{Edit}
 use Rattle.tsb_step.specs.declared.inputs.Input.TheVariants.{Tick, Pattern, Switch, Fault, Reset, Begin, Set, Verify, Commit, Abort}
 use Rattle.tsb_step.specs.State.{State, start}
 use Rattle.tsb_step.specs.Step.{step, kind_of}
-use Rattle.tsb_history.specs.declared.kinds.Kind.TheVariants as kinds
+use Rattle.tsb_machine.specs.tsb_history.declared.kinds.Kind.TheVariants as kinds
 use Rattle.tsb_step.proofs.Examples.Scenes.{opened, green, these, all_red, red, resting, dwelling, coordinated}
 use Rattle.tsb_step.proofs.Examples.SignsExamples.{tripped, green_lamp}
 

@@ -4,9 +4,9 @@ use Rattle.tsb_cells.specs.declared.timer.Timer.TheVariants.{Off, On}
 use Rattle.tsb_types.specs.declared.interval.Interval.TheVariants.{Red, Green, Yellow}
 use Rattle.tsb_types.specs.declared.interval.PedestrianInterval.TheVariants.{Walk}
 use Rattle.tsb_types.specs.Sets.{all_off}
-use Rattle.tsb_plan.specs.declared.object.Object.TheVariants.{VehicleDetectorCallPhase, PhaseTimeBeforeReduction, PhaseCarsBeforeReduction, VehicleDetectorFailTime}
-use Rattle.tsb_plan.specs.Plan.{with_values}
-use Rattle.tsb_plan.specs.Quad.{quad}
+use Rattle.tsb_objects.specs.tsb_plan.declared.object.Object.TheVariants.{VehicleDetectorCallPhase, PhaseTimeBeforeReduction, PhaseCarsBeforeReduction, VehicleDetectorFailTime}
+use Rattle.tsb_objects.specs.tsb_plan.Plan.{with_values}
+use Rattle.tsb_objects.specs.tsb_plan.Quad.{quad}
 use Rattle.tsb_detect.specs.Detector as detector
 use Rattle.tsb_detect.specs.declared.alarm.Alarm.TheVariants.{Erratic}
 use Rattle.tsb_phase.specs.Phase as phase

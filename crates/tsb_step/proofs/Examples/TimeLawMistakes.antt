@@ -14,9 +14,9 @@ use Rattle.tsb_types.specs.Intervals.{is_green}
 use Rattle.tsb_cells.specs.declared.timer.Timer.{Timer}
 use Rattle.tsb_cells.specs.declared.timer.Timer.TheVariants.{On}
 use Rattle.tsb_cells.specs.Timer.{has_reached}
-use Rattle.tsb_plan.specs.declared.object.Object.TheVariants.{PhaseMinimumGreen}
-use Rattle.tsb_plan.specs.Plan.{Plan, red_revert, side_of}
-use Rattle.tsb_plan.specs.Quad.{quad}
+use Rattle.tsb_objects.specs.tsb_plan.declared.object.Object.TheVariants.{PhaseMinimumGreen}
+use Rattle.tsb_objects.specs.tsb_plan.Plan.{Plan, red_revert, side_of}
+use Rattle.tsb_objects.specs.tsb_plan.Quad.{quad}
 use Rattle.tsb_phase.specs.Phase as phase
 use Rattle.tsb_phase.specs.Phase.{Phase, Given, Moved, none_moved}
 use Rattle.tsb_phase.specs.Moves.{unforced}

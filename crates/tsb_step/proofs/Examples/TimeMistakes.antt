@@ -9,8 +9,8 @@ use Rattle.tsb_types.specs.Intervals.{is_green, is_dont_walk}
 use Rattle.tsb_cells.specs.declared.timer.Timer.{Timer}
 use Rattle.tsb_cells.specs.declared.timer.Timer.TheVariants.{Off, On}
 use Rattle.tsb_cells.specs.Timer.{advanced, timer_cell}
-use Rattle.tsb_plan.specs.Plan.{Plan}
-use Rattle.tsb_plan.specs.Quad.{quad}
+use Rattle.tsb_objects.specs.tsb_plan.Plan.{Plan}
+use Rattle.tsb_objects.specs.tsb_plan.Quad.{quad}
 use Rattle.tsb_phase.specs.Phase as phase
 use Rattle.tsb_phase.specs.Phase.{Phase, Given, Moved, none_moved}
 use Rattle.tsb_phase.specs.Next.{new_interval, pedestrian_at_start, new_pedestrian}

@@ -15,15 +15,15 @@ use Rattle.tsb_types.specs.declared.limits.TheConstants.{TICKS}
 use Rattle.tsb_types.specs.declared.row.Row.{Row}
 use Rattle.tsb_types.specs.Intervals.{is_green, is_yellow, is_red_clear, is_walk, is_clearance}
 use Rattle.tsb_types.specs.Sets.{all_off}
-use Rattle.tsb_plan.specs.declared.object.Object.{Object}
-use Rattle.tsb_plan.specs.declared.object.Object.TheVariants.{PhaseMinRecall, PhaseMaxRecall, PhasePedRecall, PhaseWalk, PhasePedestrianClear, PhaseMinimumGreen, OverlapIncludedPhases, PatternCycleTime, PatternSplitNumber, PatternSequenceNumber, SplitTime, SplitCoordPhase, UnitRedRevert}
-use Rattle.tsb_plan.specs.Objects.{has_index}
-use Rattle.tsb_plan.specs.Parts.{is_minus_green_yellow}
-use Rattle.tsb_plan.specs.Plan.{Plan, empty, is_same, with_value, with_values, red_revert}
-use Rattle.tsb_plan.specs.Two.{two, two_values}
-use Rattle.tsb_plan.proofs.TableLemmas.{order-injective}
-use Rattle.tsb_plan.proofs.PlanLemmas.{same-parts}
-use Rattle.tsb_rules.specs.Rules.{first_broken}
+use Rattle.tsb_objects.specs.tsb_plan.declared.object.Object.{Object}
+use Rattle.tsb_objects.specs.tsb_plan.declared.object.Object.TheVariants.{PhaseMinRecall, PhaseMaxRecall, PhasePedRecall, PhaseWalk, PhasePedestrianClear, PhaseMinimumGreen, OverlapIncludedPhases, PatternCycleTime, PatternSplitNumber, PatternSequenceNumber, SplitTime, SplitCoordPhase, UnitRedRevert}
+use Rattle.tsb_objects.specs.tsb_plan.Objects.{has_index}
+use Rattle.tsb_objects.specs.tsb_plan.Parts.{is_minus_green_yellow}
+use Rattle.tsb_objects.specs.tsb_plan.Plan.{Plan, empty, is_same, with_value, with_values, red_revert}
+use Rattle.tsb_objects.specs.tsb_plan.Two.{two, two_values}
+use Rattle.tsb_objects.proofs.tsb_plan.TableLemmas.{order-injective}
+use Rattle.tsb_objects.proofs.tsb_plan.PlanLemmas.{same-parts}
+use Rattle.tsb_objects.specs.tsb_rules.Rules.{first_broken}
 use Rattle.tsb_ring.specs.Moves.{is_cleared, is_started}
 use Rattle.tsb_ring.specs.Rings.{Ring1}
 use Rattle.tsb_heads.specs.Monitoring.{conflict}

@@ -1,6 +1,6 @@
 -- What the table of cells gives, by computing: places of objects, and desks that are written and read again.
 use Rattle.std.specs.Prelude.{◌≡◌, [], ◌∷◌, length, take, drop, refl}
-use Rattle.tsb_types.specs.Lists.{run_from}
+use Rattle.tsb_objects.specs.tsb_types.Lists.{run_from}
 use Rattle.tsb_plan.specs.declared.object.Object.TheVariants.{PhaseEnabled, PhaseNonLock, UnitMax2, SplitTime, OverlapModifierPhases}
 use Rattle.tsb_plan.specs.declared.object.TheConstants.{PLAN_CELLS}
 use Rattle.tsb_plan.specs.Objects.{objects, first_cell}

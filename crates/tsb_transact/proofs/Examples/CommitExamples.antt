@@ -1,12 +1,12 @@
 -- What the definitions give, by computing: commits while the rings or a preempt serve, and a conversation over the
 -- built-in plan of two phases.
 use Rattle.std.specs.Prelude.{◌≡◌, ℕ, true, false, List, [], ◌∷◌, ◌==◌, if◌then◌else◌, Option, Some, None, refl}
-use Rattle.tsb_types.specs.Lists.{run_from}
-use Rattle.tsb_types.specs.declared.interval.Interval.{Interval}
-use Rattle.tsb_types.specs.declared.interval.Interval.TheVariants.{Red, RedClear}
-use Rattle.tsb_types.specs.declared.refusal.Refusal.TheVariants.{NotVerified, InService}
-use Rattle.tsb_rules.specs.declared.rules.Rule.TheVariants.{K8}
-use Rattle.tsb_rules.specs.Rules.{first_broken, broken_by_rings, broken_by_phases, broken_by_parts, broken_by_extensions}
+use Rattle.tsb_objects.specs.tsb_types.Lists.{run_from}
+use Rattle.tsb_objects.specs.tsb_types.declared.interval.Interval.{Interval}
+use Rattle.tsb_objects.specs.tsb_types.declared.interval.Interval.TheVariants.{Red, RedClear}
+use Rattle.tsb_objects.specs.tsb_types.declared.refusal.Refusal.TheVariants.{NotVerified, InService}
+use Rattle.tsb_objects.specs.tsb_rules.declared.rules.Rule.TheVariants.{K8}
+use Rattle.tsb_objects.specs.tsb_rules.Rules.{first_broken, broken_by_rings, broken_by_phases, broken_by_parts, broken_by_extensions}
 use Rattle.tsb_plan.specs.declared.object.Object.TheVariants.{PhaseSide, PhaseConcurrency, PhaseMaximum1, PhaseYellowChange, PreemptDelay, PreemptTrackPhase, PreemptDwellPhase, PreemptExitPhase}
 use Rattle.tsb_plan.specs.Quad.{quad}
 use Rattle.tsb_plan.specs.Two.{two}

@@ -1,12 +1,12 @@
 -- One-line mistakes, each with an example that tells it from the definition.
 use Rattle.std.specs.Prelude.{◌≡◌, ℕ, ◌==◌, nat_le, Bool, true, false, not, ◌||◌, if◌then◌else◌, List, [], ◌∷◌, ◌++◌, length, Option, Some, None, refl}
 use Rattle.std.specs.List.{list_any, filter}
-use Rattle.tsb_types.specs.Lists.{run_from}
-use Rattle.tsb_types.specs.declared.interval.Interval.{Interval}
-use Rattle.tsb_types.specs.Intervals.{in_service}
-use Rattle.tsb_types.specs.declared.refusal.Refusal.{Refusal}
-use Rattle.tsb_types.specs.declared.refusal.Refusal.TheVariants.{Busy, NoSuchObject, OutOfRange, NotOwner, NotOpen, TooManyEdits, InService}
-use Rattle.tsb_rules.specs.declared.rules.Rule.TheVariants.{K5}
+use Rattle.tsb_objects.specs.tsb_types.Lists.{run_from}
+use Rattle.tsb_objects.specs.tsb_types.declared.interval.Interval.{Interval}
+use Rattle.tsb_objects.specs.tsb_types.Intervals.{in_service}
+use Rattle.tsb_objects.specs.tsb_types.declared.refusal.Refusal.{Refusal}
+use Rattle.tsb_objects.specs.tsb_types.declared.refusal.Refusal.TheVariants.{Busy, NoSuchObject, OutOfRange, NotOwner, NotOpen, TooManyEdits, InService}
+use Rattle.tsb_objects.specs.tsb_rules.declared.rules.Rule.TheVariants.{K5}
 use Rattle.tsb_plan.specs.declared.object.Object.TheVariants.{PhaseConcurrency, PhaseWalk, PhaseMaximum1, SplitTime, PreemptDwellPhase}
 use Rattle.tsb_plan.specs.declared.object.ObjectId.{ObjectId}
 use Rattle.tsb_plan.specs.Objects.{is_structural, has_index, greatest}

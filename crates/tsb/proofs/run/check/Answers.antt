@@ -1,5 +1,5 @@
 use Rattle.std.proofs.Common.{inl, refl, codes}
-use Rattle.tsb_objects.specs.Checked.{checked_plan}
+use Rattle.tsb_text.specs.tsb_objects.Checked.{checked_plan}
 use Rattle.tsb.proofs.run.check.Goals as goal
 
 pub returns-in-Ok : goal.returns-in-Ok

@@ -1,5 +1,5 @@
 use Rattle.std.proofs.Common.{inr, refl}
-use Rattle.tsb_objects.specs.Checked.{checked_plan}
+use Rattle.tsb_text.specs.tsb_objects.Checked.{checked_plan}
 use Rattle.tsb.proofs.ReadLemmas.{stops-log}
 use Rattle.tsb.proofs.run.run.Goals as goal
 

@@ -4,7 +4,7 @@ use Rattle.tsb_objects.specs.Checked.{checked_plan}
 use Rattle.tsb_plan.specs.declared.object.TheConstants.{PLAN_CELLS}
 use Rattle.tsb_plan.specs.Objects.{AreInRange}
 use Rattle.tsb_plan.specs.PlanOf.{plan_of, plan_in}
-use Rattle.tsb_rules.specs.Rules.{first_broken}
+use Rattle.tsb_step.specs.tsb_rules.Rules.{first_broken}
 use Rattle.tsb_bench.proofs.ValueLemmas.{values-of}
 use Rattle.tsb_bench.proofs.cabinet.put_back_plan.Goals as goal
 

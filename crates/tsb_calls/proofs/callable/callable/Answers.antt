@@ -1,6 +1,6 @@
 use Rattle.std.proofs.Common.{◌≡◌, ◌&&◌, ◌||◌, not, Bool, true, false, refl, sym, ◌∙◌, ap}
-use Rattle.tsb_types.specs.Lists.{some_passes, run_from}
-use Rattle.tsb_types.specs.Sets.{has}
+use Rattle.tsb_objects.specs.tsb_types.Lists.{some_passes, run_from}
+use Rattle.tsb_objects.specs.tsb_types.Sets.{has}
 use Rattle.tsb_calls.proofs.PassLemmas.{passes-not}
 use Rattle.tsb_calls.proofs.callable.callable.Goals as goal
 

@@ -1,9 +1,9 @@
 use Rattle.std.proofs.Common.{◌≡◌, ℕ, ◌≤◌, ◌==◌, ◌&&◌, ◌||◌, not, Bool, ◌∙◌, ap, ap₂, arith}
-use Rattle.tsb_plan.specs.Plan.{Plan, has_soft_recall, is_concurrent}
-use Rattle.tsb_plan.specs.PlanOf.{plan_of}
+use Rattle.tsb_objects.specs.tsb_plan.Plan.{Plan, has_soft_recall, is_concurrent}
+use Rattle.tsb_objects.specs.tsb_plan.PlanOf.{plan_of}
 use Rattle.tsb_objects.specs.Checked.{checked_plan}
 use Rattle.tsb_objects.proofs.PassLemmas.{pass-same}
-use Rattle.tsb_types.specs.Sets.{has}
+use Rattle.tsb_objects.specs.tsb_types.Sets.{has}
 use Rattle.tsb_calls.specs.Memories.{Given}
 use Rattle.tsb_calls.specs.Callable.{has_pedestrian_call, is_called, is_callable_otherwise, some_is_callable_otherwise, is_callable, has_conflict}
 use Rattle.tsb_calls.specs.Promises.{given_of}

@@ -1,7 +1,7 @@
 use Rattle.std.proofs.Common.{◌≡◌, true}
 use Rattle.tsb_objects.specs.Checked.{checked_plan}
 use Rattle.tsb_phase.specs.Layer.{cells_of}
-use Rattle.tsb_types.specs.Lists.{is}
+use Rattle.tsb_step.specs.tsb_types.Lists.{is}
 use Rattle.tsb_ring.specs.Moves.{is_cleared}
 use Rattle.tsb_controller.proofs.CarryLemmas.{still-clearing, other-clearing, carried}
 use Rattle.tsb_controller.proofs.carry.carry_out.Goals as goal

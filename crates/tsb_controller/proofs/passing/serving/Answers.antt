@@ -1,6 +1,6 @@
 use Rattle.std.proofs.Common.{Bool, not, ◌&&◌, ◌∙◌, ap}
-use Rattle.tsb_types.specs.Sets.{has}
-use Rattle.tsb_types.proofs.SetLemmas.{names-all}
+use Rattle.tsb_step.specs.tsb_types.Sets.{has}
+use Rattle.tsb_step.proofs.tsb_types.SetLemmas.{names-all}
 use Rattle.tsb_controller.proofs.passing.serving.Goals as goal
 
 pub returns-clause-must_end : goal.returns-clause-must_end

@@ -1,9 +1,9 @@
 use Rattle.std.proofs.Common.{◌∙◌, ap, is_some}
-use Rattle.tsb_types.specs.Flow.{interval_of}
-use Rattle.tsb_types.specs.Intervals.{in_service}
-use Rattle.tsb_types.specs.Lists.{run_from}
-use Rattle.tsb_types.specs.Sets.{has}
-use Rattle.tsb_types.proofs.FirstLemmas.{first-any, first-same}
+use Rattle.tsb_step.specs.tsb_types.Flow.{interval_of}
+use Rattle.tsb_step.specs.tsb_types.Intervals.{in_service}
+use Rattle.tsb_step.specs.tsb_types.Lists.{run_from}
+use Rattle.tsb_step.specs.tsb_types.Sets.{has}
+use Rattle.tsb_step.proofs.tsb_types.FirstLemmas.{first-any, first-same}
 use Rattle.tsb_ring.proofs.BoolLemmas.{served}
 use Rattle.tsb_controller.proofs.readers.has_service.Goals as goal
 

@@ -1,6 +1,6 @@
 use Rattle.std.proofs.Common.{◌≡◌, ℕ, ◌+◌, ◌%◌, ◌<◌, ◌≤◌, ◌⊎◌, false, Some}
 use Rattle.tsb_objects.specs.Checked.{checked_plan}
-use Rattle.tsb_plan.specs.Parts.{cycle}
+use Rattle.tsb_objects.specs.tsb_plan.Parts.{cycle}
 use Rattle.tsb_coord.specs.Coordinated.{force_off, agree}
 use Rattle.tsb_coord.specs.Due.{IsMet}
 use Rattle.tsb_coord.proofs.waiting.ticks_to_next.Given as goal

@@ -1,5 +1,5 @@
 use Rattle.std.proofs.Common.{subst, sym}
-use Rattle.tsb_heads.specs.Promises.{IsApart}
+use Rattle.tsb_display_text.specs.tsb_heads.Promises.{IsApart}
 use Rattle.tsb_types.specs.Sets.{has_number}
 use Rattle.tsb_field_display.specs.declared.shown.VehicleHeads.{VehicleHeads}
 use Rattle.tsb_field_display.specs.declared.shown.PedestrianHeads.{PedestrianHeads}

@@ -1,5 +1,5 @@
 use Rattle.std.proofs.Common.{ℕ, ◌&&◌, not, Bool, sym, ◌∙◌, ap}
-use Rattle.tsb_types.specs.Sets.{has}
+use Rattle.tsb_objects.specs.tsb_types.Sets.{has}
 use Rattle.tsb_heads.proofs.ApartLemmas.{red-yellow, red-green, yellow-green}
 use Rattle.tsb_heads.proofs.phase_heads.vehicles_of.Goals as goal
 

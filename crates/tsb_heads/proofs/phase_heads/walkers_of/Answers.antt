@@ -1,5 +1,5 @@
 use Rattle.std.proofs.Common.{ℕ, ◌&&◌, not, Bool, sym, ◌∙◌, ap}
-use Rattle.tsb_types.specs.Sets.{has}
+use Rattle.tsb_objects.specs.tsb_types.Sets.{has}
 use Rattle.tsb_heads.proofs.ApartLemmas.{yellow-green, wait-clear, wait-walk}
 use Rattle.tsb_heads.proofs.phase_heads.walkers_of.Goals as goal
 

@@ -1,7 +1,7 @@
 use Rattle.std.proofs.Common.{◌∙◌, ap, is_some}
-use Rattle.tsb_types.specs.Lists.{run_from}
-use Rattle.tsb_types.specs.Sets.{has}
-use Rattle.tsb_types.proofs.FirstLemmas.{first-any, first-same}
+use Rattle.tsb_objects.specs.tsb_types.Lists.{run_from}
+use Rattle.tsb_objects.specs.tsb_types.Sets.{has}
+use Rattle.tsb_objects.proofs.tsb_types.FirstLemmas.{first-any, first-same}
 use Rattle.tsb_heads.proofs.sets.has_some.Goals as goal
 
 pub returns : goal.returns

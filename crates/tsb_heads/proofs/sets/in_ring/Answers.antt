@@ -1,6 +1,6 @@
 use Rattle.std.proofs.Common.{ℕ, ◌==◌, ◌&&◌, Bool, ◌∙◌, ap}
-use Rattle.tsb_types.specs.Sets.{has}
-use Rattle.tsb_plan.specs.Plan.{ring_of}
+use Rattle.tsb_objects.specs.tsb_types.Sets.{has}
+use Rattle.tsb_objects.specs.tsb_plan.Plan.{ring_of}
 use Rattle.tsb_objects.specs.Checked.{checked_plan}
 use Rattle.tsb_heads.proofs.sets.in_ring.Goals as goal
 

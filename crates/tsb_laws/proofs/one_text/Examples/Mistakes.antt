@@ -1,11 +1,11 @@
 -- What the laws refuse: for each a mistake in the definitions, and by computing what comes of it. Beside each stands
 -- what the definitions as they are make of the same.
 use Rattle.std.proofs.Common.{◌≡◌, ℕ, suc, ◌<◌, ◌≤◌, false, List, [], ◌∷◌, codes, bytes_eq, refl, arith}
-use Rattle.tsb_history.specs.declared.kinds.Kind.TheVariants as kinds
-use Rattle.tsb_plan.specs.Two.{two}
-use Rattle.tsb_machine.specs.declared.commands.Command.TheVariants.{Undo, Back}
-use Rattle.tsb_machine.specs.declared.commands.Answer.{Answer}
-use Rattle.tsb_machine.specs.declared.commands.Answer.TheVariants.{Took, Undone, Moved, Nothing}
+use Rattle.tsb_step.specs.tsb_history.declared.kinds.Kind.TheVariants as kinds
+use Rattle.tsb_step.specs.tsb_plan.Two.{two}
+use Rattle.tsb_step.specs.tsb_machine.declared.commands.Command.TheVariants.{Undo, Back}
+use Rattle.tsb_step.specs.tsb_machine.declared.commands.Answer.{Answer}
+use Rattle.tsb_step.specs.tsb_machine.declared.commands.Answer.TheVariants.{Took, Undone, Moved, Nothing}
 use Rattle.tsb_step.specs.declared.inputs.Input.{Input}
 use Rattle.tsb_step.specs.declared.inputs.Input.TheVariants as inputs
 use Rattle.tsb_step.specs.Play.{IsRight}

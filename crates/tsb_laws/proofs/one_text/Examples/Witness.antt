@@ -2,15 +2,15 @@
 -- opened and taken back, and more ticks back than there are; and the same session where there is no memory for the
 -- tick.
 use Rattle.std.proofs.Common.{◌≡◌, ℕ, ◌<◌, true, false, List, [], ◌∷◌, Some, Result, Ok, Err, length, codes, refl, arith, inl, inr}
-use Rattle.tsb_history.specs.declared.kinds.Kind.TheVariants as kinds
-use Rattle.tsb_types.specs.declared.refusal.Refusal.TheVariants.{Memory}
-use Rattle.tsb_plan.specs.Two.{two}
-use Rattle.tsb_machine.specs.declared.commands.Answer.TheVariants.{Took, Undone, Nothing}
+use Rattle.tsb_step.specs.tsb_history.declared.kinds.Kind.TheVariants as kinds
+use Rattle.tsb_step.specs.tsb_types.declared.refusal.Refusal.TheVariants.{Memory}
+use Rattle.tsb_step.specs.tsb_plan.Two.{two}
+use Rattle.tsb_step.specs.tsb_machine.declared.commands.Answer.TheVariants.{Took, Undone, Nothing}
 use Rattle.tsb_step.specs.declared.inputs.Input.{Input}
 use Rattle.tsb_step.specs.declared.inputs.Input.TheVariants as inputs
 use Rattle.tsb_step.proofs.Examples.Scenes as scenes
-use Rattle.tsb_command_text.specs.Commands.{command_of_one, command_of_two}
-use Rattle.tsb_display_text.specs.Line.{line_of}
+use Rattle.tsb_text.specs.tsb_command_text.Commands.{command_of_one, command_of_two}
+use Rattle.tsb_text.specs.tsb_display_text.Line.{line_of}
 use Rattle.tsb_text.specs.declared.error.SessionError.{SessionError}
 use Rattle.tsb_text.specs.declared.error.SessionError.TheVariants.{TooLarge, Read}
 use Rattle.tsb_text.specs.Answers.{Setup, next_tick}

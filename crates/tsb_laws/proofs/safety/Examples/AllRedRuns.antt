@@ -1,19 +1,19 @@
 -- A run from power-up that meets all premises of the law of all red, and a mistake that the law refuses.
 use Rattle.std.proofs.Common.{◌≡◌, ℕ, ◌+◌, ◌≤◌, Bool, true, false, ◌&&◌, List, [], ◌∷◌, ◌++◌, Option, Some, None, refl, sym, ap, ap₂, inl, inr, arith, ◌∙◌}
 use Rattle.std.proofs.lemmas.Bool.{cases_Bool, true≢false}
-use Rattle.tsb_types.specs.Intervals.{in_service}
-use Rattle.tsb_types.specs.Lists.{some_passes}
-use Rattle.tsb_types.specs.declared.interval.Interval.{Interval}
-use Rattle.tsb_types.specs.declared.interval.Interval.TheVariants.{Red, Green, Yellow, RedClear}
-use Rattle.tsb_plan.specs.declared.object.Object.{Object}
-use Rattle.tsb_plan.specs.declared.object.Object.TheVariants.{PhaseRedRevert, UnitRedRevert}
-use Rattle.tsb_plan.specs.Objects.{greatest}
-use Rattle.tsb_plan.specs.Plan.{Plan, phases, red_revert}
-use Rattle.tsb_ring.specs.declared.want.Want.{Want}
-use Rattle.tsb_ring.specs.declared.want.Want.TheVariants.{Go, Cross, Rest, Stop}
-use Rattle.tsb_ring.specs.Rings.{Ring1, serving}
-use Rattle.tsb_ring.specs.Wants.{want_of}
-use Rattle.tsb_ring.specs.Crossings.{wants_cross, joins_in}
+use Rattle.tsb_step.specs.tsb_types.Intervals.{in_service}
+use Rattle.tsb_step.specs.tsb_types.Lists.{some_passes}
+use Rattle.tsb_step.specs.tsb_types.declared.interval.Interval.{Interval}
+use Rattle.tsb_step.specs.tsb_types.declared.interval.Interval.TheVariants.{Red, Green, Yellow, RedClear}
+use Rattle.tsb_step.specs.tsb_plan.declared.object.Object.{Object}
+use Rattle.tsb_step.specs.tsb_plan.declared.object.Object.TheVariants.{PhaseRedRevert, UnitRedRevert}
+use Rattle.tsb_step.specs.tsb_plan.Objects.{greatest}
+use Rattle.tsb_step.specs.tsb_plan.Plan.{Plan, phases, red_revert}
+use Rattle.tsb_step.specs.tsb_ring.declared.want.Want.{Want}
+use Rattle.tsb_step.specs.tsb_ring.declared.want.Want.TheVariants.{Go, Cross, Rest, Stop}
+use Rattle.tsb_step.specs.tsb_ring.Rings.{Ring1, serving}
+use Rattle.tsb_step.specs.tsb_ring.Wants.{want_of}
+use Rattle.tsb_step.specs.tsb_ring.Crossings.{wants_cross, joins_in}
 use Rattle.tsb_step.specs.declared.inputs.Input.{Input}
 use Rattle.tsb_step.specs.declared.inputs.Input.TheVariants.{Tick}
 use Rattle.tsb_step.specs.State.{State, start, interval}

@@ -1,16 +1,16 @@
 -- Runs from power-up that meet all premises of a law at once, computed as far as the tick in which the green ends: from there on
 -- 40 ticks more, of which the laws themselves tell what starts in them. Of intergreens and of commitments.
 use Rattle.std.proofs.Common.{◌≡◌, ◌≢◌, ℕ, ◌+◌, ◌<◌, ◌≤◌, true, false, max, List, [], ◌∷◌, ◌++◌, Some, None, refl, sym, ap, subst, inl, inr, arith, ◌∙◌}
-use Rattle.tsb_types.specs.Sets.{all_off}
-use Rattle.tsb_types.specs.declared.interval.Interval.TheVariants.{Green, Yellow}
-use Rattle.tsb_types.specs.declared.row.Row.{Row}
-use Rattle.tsb_plan.specs.declared.object.Object.{Object}
-use Rattle.tsb_plan.specs.declared.object.Object.TheVariants.{PhaseMinRecall, PhasePedRecall, PhaseMinimumGreen, PhasePassage, PhaseMinimumGap}
-use Rattle.tsb_plan.specs.Objects.{greatest}
-use Rattle.tsb_plan.specs.Plan.{Plan, is_concurrent, yellow_change, red_clear, red_revert, with_values}
-use Rattle.tsb_plan.specs.Quad.{quad}
-use Rattle.tsb_rules.specs.Rules.{first_broken}
-use Rattle.tsb_ring.specs.Rings.{Ring, Ring1, in_ring}
+use Rattle.tsb_step.specs.tsb_types.Sets.{all_off}
+use Rattle.tsb_step.specs.tsb_types.declared.interval.Interval.TheVariants.{Green, Yellow}
+use Rattle.tsb_step.specs.tsb_types.declared.row.Row.{Row}
+use Rattle.tsb_step.specs.tsb_plan.declared.object.Object.{Object}
+use Rattle.tsb_step.specs.tsb_plan.declared.object.Object.TheVariants.{PhaseMinRecall, PhasePedRecall, PhaseMinimumGreen, PhasePassage, PhaseMinimumGap}
+use Rattle.tsb_step.specs.tsb_plan.Objects.{greatest}
+use Rattle.tsb_step.specs.tsb_plan.Plan.{Plan, is_concurrent, yellow_change, red_clear, red_revert, with_values}
+use Rattle.tsb_step.specs.tsb_plan.Quad.{quad}
+use Rattle.tsb_step.specs.tsb_rules.Rules.{first_broken}
+use Rattle.tsb_step.specs.tsb_ring.Rings.{Ring, Ring1, in_ring}
 use Rattle.tsb_step.specs.declared.inputs.Input.{Input}
 use Rattle.tsb_step.specs.declared.inputs.Input.TheVariants.{Tick}
 use Rattle.tsb_step.specs.State.{interval}

@@ -1,20 +1,20 @@
 -- Runs from power-up that meet all premises of a law at once: of coordinated greens, of omitted phases, of greens that clear in
 -- time, and of trips.
 use Rattle.std.proofs.Common.{◌≡◌, ◌≢◌, ℕ, ◌+◌, ◌≤◌, true, false, List, [], ◌∷◌, ◌++◌, Some, None, is_some, refl, sym, ap, arith, ◌∙◌}
-use Rattle.tsb_types.specs.Sets.{all_off}
-use Rattle.tsb_types.specs.declared.interval.Interval.TheVariants.{Green, Yellow, Red}
-use Rattle.tsb_types.specs.declared.lamp.Lamp.TheVariants as lamps
-use Rattle.tsb_types.specs.declared.lamp.SignalColor.TheVariants as signals
-use Rattle.tsb_types.specs.declared.row.Row.{Row}
-use Rattle.tsb_plan.specs.declared.object.Object.{Object}
-use Rattle.tsb_plan.specs.declared.object.Object.TheVariants.{PhaseMinRecall, PhaseMinimumGreen, PhaseYellowChange, PatternOffsetTime, SplitMode}
-use Rattle.tsb_plan.specs.Objects.{greatest}
-use Rattle.tsb_plan.specs.Plan.{Plan, is_enabled, with_values}
-use Rattle.tsb_plan.specs.Quad.{quad}
-use Rattle.tsb_rules.specs.Rules.{first_broken}
-use Rattle.tsb_phase.specs.ClearanceLaws.{clearance}
-use Rattle.tsb_ring.specs.Rings.{Ring1}
-use Rattle.tsb_ring.specs.Moves.{is_ended}
+use Rattle.tsb_step.specs.tsb_types.Sets.{all_off}
+use Rattle.tsb_step.specs.tsb_types.declared.interval.Interval.TheVariants.{Green, Yellow, Red}
+use Rattle.tsb_step.specs.tsb_types.declared.lamp.Lamp.TheVariants as lamps
+use Rattle.tsb_step.specs.tsb_types.declared.lamp.SignalColor.TheVariants as signals
+use Rattle.tsb_step.specs.tsb_types.declared.row.Row.{Row}
+use Rattle.tsb_step.specs.tsb_plan.declared.object.Object.{Object}
+use Rattle.tsb_step.specs.tsb_plan.declared.object.Object.TheVariants.{PhaseMinRecall, PhaseMinimumGreen, PhaseYellowChange, PatternOffsetTime, SplitMode}
+use Rattle.tsb_step.specs.tsb_plan.Objects.{greatest}
+use Rattle.tsb_step.specs.tsb_plan.Plan.{Plan, is_enabled, with_values}
+use Rattle.tsb_step.specs.tsb_plan.Quad.{quad}
+use Rattle.tsb_step.specs.tsb_rules.Rules.{first_broken}
+use Rattle.tsb_step.specs.tsb_phase.ClearanceLaws.{clearance}
+use Rattle.tsb_step.specs.tsb_ring.Rings.{Ring1}
+use Rattle.tsb_step.specs.tsb_ring.Moves.{is_ended}
 use Rattle.tsb_step.specs.declared.inputs.Input.{Input}
 use Rattle.tsb_step.specs.declared.inputs.Input.TheVariants.{Tick, Pattern, Fault, Reset}
 use Rattle.tsb_step.specs.State.{State, interval}

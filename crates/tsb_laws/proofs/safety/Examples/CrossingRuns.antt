@@ -1,15 +1,15 @@
 -- A run from power-up that meets all premises of the laws of crossings and of enabled phases, as far as the crossing is completed.
 use Rattle.std.proofs.Common.{suc, ◌≡◌, ◌≢◌, ℕ, ◌+◌, ◌<◌, ◌≤◌, true, false, max, List, [], ◌∷◌, ◌++◌, Some, None, refl, sym, ap, subst, inl, inr, arith, ◌∙◌}
-use Rattle.tsb_types.specs.Sets.{all_off}
-use Rattle.tsb_types.specs.declared.row.Row.{Row}
-use Rattle.tsb_types.specs.Intervals.{in_service}
-use Rattle.tsb_plan.specs.declared.object.Object.{Object}
-use Rattle.tsb_plan.specs.declared.object.Object.TheVariants.{PhaseYellowChange, PhaseRedClear, PhaseRedRevert, UnitRedRevert, PhasePedRecall, PreemptMinimumGreen, PreemptMinimumWalk, PreemptEnterPedClear}
-use Rattle.tsb_plan.specs.Objects.{greatest}
-use Rattle.tsb_plan.specs.Plan.{Plan, yellow_change, red_clear, red_revert, with_values}
-use Rattle.tsb_plan.specs.Quad.{quad}
-use Rattle.tsb_rules.specs.Rules.{first_broken}
-use Rattle.tsb_ring.specs.Rings.{Ring, Ring1}
+use Rattle.tsb_step.specs.tsb_types.Sets.{all_off}
+use Rattle.tsb_step.specs.tsb_types.declared.row.Row.{Row}
+use Rattle.tsb_step.specs.tsb_types.Intervals.{in_service}
+use Rattle.tsb_step.specs.tsb_plan.declared.object.Object.{Object}
+use Rattle.tsb_step.specs.tsb_plan.declared.object.Object.TheVariants.{PhaseYellowChange, PhaseRedClear, PhaseRedRevert, UnitRedRevert, PhasePedRecall, PreemptMinimumGreen, PreemptMinimumWalk, PreemptEnterPedClear}
+use Rattle.tsb_step.specs.tsb_plan.Objects.{greatest}
+use Rattle.tsb_step.specs.tsb_plan.Plan.{Plan, yellow_change, red_clear, red_revert, with_values}
+use Rattle.tsb_step.specs.tsb_plan.Quad.{quad}
+use Rattle.tsb_step.specs.tsb_rules.Rules.{first_broken}
+use Rattle.tsb_step.specs.tsb_ring.Rings.{Ring, Ring1}
 use Rattle.tsb_step.specs.declared.inputs.Input.{Input}
 use Rattle.tsb_step.specs.declared.inputs.Input.TheVariants.{Tick, Switch}
 use Rattle.tsb_step.specs.State.{start, interval}

@@ -3,13 +3,13 @@
 use Rattle.std.proofs.Common.{◌≡◌, ℕ, ◌+◌, ◌≤◌, nat_le, Bool, true, false, ◌&&◌, if◌then◌else◌, List, [], ◌∷◌, None, refl, sym, ap, ap₂, subst, arith, ◌∙◌}
 use Rattle.std.specs.List.{list_all}
 use Rattle.std.proofs.lemmas.Bool.{and_parts, leb-true, true≢false}
-use Rattle.tsb_plan.specs.declared.object.Object.{Object}
-use Rattle.tsb_plan.specs.Objects.{has_index}
-use Rattle.tsb_plan.specs.Plan.{Plan, empty, is_same, with_value, with_values}
-use Rattle.tsb_plan.specs.Quad.{row, with_rows, quad_rows, quad_values, quad}
-use Rattle.tsb_plan.proofs.TableLemmas.{order-injective}
-use Rattle.tsb_plan.proofs.PlanLemmas.{same-parts}
-use Rattle.tsb_rules.specs.Rules.{first_broken}
+use Rattle.tsb_step.specs.tsb_plan.declared.object.Object.{Object}
+use Rattle.tsb_step.specs.tsb_plan.Objects.{has_index}
+use Rattle.tsb_step.specs.tsb_plan.Plan.{Plan, empty, is_same, with_value, with_values}
+use Rattle.tsb_step.specs.tsb_plan.Quad.{row, with_rows, quad_rows, quad_values, quad}
+use Rattle.tsb_step.proofs.tsb_plan.TableLemmas.{order-injective}
+use Rattle.tsb_step.proofs.tsb_plan.PlanLemmas.{same-parts}
+use Rattle.tsb_step.specs.tsb_rules.Rules.{first_broken}
 use Rattle.tsb_step.specs.Laws.{IsConsistent}
 use Rattle.tsb_step.specs.Tables.{has_place, indices_for}
 use Rattle.tsb_step.proofs.PlaceLemmas.{same_indices}

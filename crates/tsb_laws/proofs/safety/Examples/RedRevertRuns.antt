@@ -1,18 +1,18 @@
 -- A run from power-up that meets all premises of the laws of overlaps and of red revert: preempt 2 wants 6 alone, so that the green
 -- of 2 ends with no commitment; preempt 1 wants 2 again, which waits for its red revert.
 use Rattle.std.proofs.Common.{◌≡◌, ◌≢◌, ℕ, ◌+◌, ◌≤◌, true, false, List, [], ◌∷◌, ◌++◌, None, refl, sym, arith, ◌∙◌}
-use Rattle.tsb_cells.specs.declared.timer.Timer.TheVariants.{On}
-use Rattle.tsb_types.specs.Sets.{all_off}
-use Rattle.tsb_types.specs.declared.lamp.Aspect.TheVariants as aspects
-use Rattle.tsb_types.specs.declared.row.Row.{Row}
-use Rattle.tsb_plan.specs.declared.object.Object.{Object}
-use Rattle.tsb_plan.specs.declared.object.Object.TheVariants.{PhaseRedClear, PreemptMinimumGreen, PreemptDwellPhase}
-use Rattle.tsb_plan.specs.Objects.{greatest}
-use Rattle.tsb_plan.specs.Parts.{is_minus_green_yellow}
-use Rattle.tsb_plan.specs.Plan.{Plan, with_values}
-use Rattle.tsb_plan.specs.Quad.{quad}
-use Rattle.tsb_rules.specs.Rules.{first_broken}
-use Rattle.tsb_ring.specs.Moves.{is_started}
+use Rattle.tsb_step.specs.tsb_cells.declared.timer.Timer.TheVariants.{On}
+use Rattle.tsb_step.specs.tsb_types.Sets.{all_off}
+use Rattle.tsb_step.specs.tsb_types.declared.lamp.Aspect.TheVariants as aspects
+use Rattle.tsb_step.specs.tsb_types.declared.row.Row.{Row}
+use Rattle.tsb_step.specs.tsb_plan.declared.object.Object.{Object}
+use Rattle.tsb_step.specs.tsb_plan.declared.object.Object.TheVariants.{PhaseRedClear, PreemptMinimumGreen, PreemptDwellPhase}
+use Rattle.tsb_step.specs.tsb_plan.Objects.{greatest}
+use Rattle.tsb_step.specs.tsb_plan.Parts.{is_minus_green_yellow}
+use Rattle.tsb_step.specs.tsb_plan.Plan.{Plan, with_values}
+use Rattle.tsb_step.specs.tsb_plan.Quad.{quad}
+use Rattle.tsb_step.specs.tsb_rules.Rules.{first_broken}
+use Rattle.tsb_step.specs.tsb_ring.Moves.{is_started}
 use Rattle.tsb_step.specs.declared.inputs.Input.{Input}
 use Rattle.tsb_step.specs.declared.inputs.Input.TheVariants.{Tick, Switch}
 use Rattle.tsb_step.specs.Tick.{moves}

@@ -1,27 +1,27 @@
 -- What the laws of times of tsb_step refuse besides what stands there: for each a mistake in the definitions, and by computing
 -- what comes of it. Beside each stands what the definitions as they are make of the same state.
 use Rattle.std.specs.Prelude.{◌≡◌, ℕ, nat_le, ◌==◌, Bool, true, false, not, ◌&&◌, ◌||◌, [], ◌∷◌, Option, Some, None, is_some, is_none, if◌then◌else◌, refl}
-use Rattle.tsb_types.specs.Sets.{all_off}
-use Rattle.tsb_types.specs.declared.interval.Interval.{Interval}
-use Rattle.tsb_types.specs.declared.interval.Interval.TheVariants.{Green, Red, Yellow, RedClear}
-use Rattle.tsb_types.specs.declared.interval.PedestrianInterval.{PedestrianInterval}
-use Rattle.tsb_types.specs.declared.interval.PedestrianInterval.TheVariants.{DontWalk, Walk, PedestrianClear}
-use Rattle.tsb_types.specs.declared.lamp.Aspect.{Aspect}
-use Rattle.tsb_types.specs.declared.lamp.Aspect.TheVariants as aspects
-use Rattle.tsb_types.specs.Intervals.{is_green, is_yellow}
-use Rattle.tsb_cells.specs.declared.timer.Timer.{Timer}
-use Rattle.tsb_cells.specs.declared.timer.Timer.TheVariants.{Off, On}
-use Rattle.tsb_cells.specs.Timer.{has_reached}
-use Rattle.tsb_plan.specs.Plan.{Plan, yellow_change}
-use Rattle.tsb_plan.specs.Quad.{quad}
-use Rattle.tsb_phase.specs.Phase as phase
-use Rattle.tsb_phase.specs.Phase.{Phase, Moved}
-use Rattle.tsb_phase.specs.Pedestrian.{clearance_time}
-use Rattle.tsb_ring.specs.Rings as rings
-use Rattle.tsb_ring.specs.Rings.{Ring, Ring1, own_ring}
-use Rattle.tsb_ring.specs.Crossings.{committed}
-use Rattle.tsb_ring.specs.Next.{starting}
-use Rattle.tsb_ring.specs.Moves.{is_cleared}
+use Rattle.tsb_step.specs.tsb_types.Sets.{all_off}
+use Rattle.tsb_step.specs.tsb_types.declared.interval.Interval.{Interval}
+use Rattle.tsb_step.specs.tsb_types.declared.interval.Interval.TheVariants.{Green, Red, Yellow, RedClear}
+use Rattle.tsb_step.specs.tsb_types.declared.interval.PedestrianInterval.{PedestrianInterval}
+use Rattle.tsb_step.specs.tsb_types.declared.interval.PedestrianInterval.TheVariants.{DontWalk, Walk, PedestrianClear}
+use Rattle.tsb_step.specs.tsb_types.declared.lamp.Aspect.{Aspect}
+use Rattle.tsb_step.specs.tsb_types.declared.lamp.Aspect.TheVariants as aspects
+use Rattle.tsb_step.specs.tsb_types.Intervals.{is_green, is_yellow}
+use Rattle.tsb_step.specs.tsb_cells.declared.timer.Timer.{Timer}
+use Rattle.tsb_step.specs.tsb_cells.declared.timer.Timer.TheVariants.{Off, On}
+use Rattle.tsb_step.specs.tsb_cells.Timer.{has_reached}
+use Rattle.tsb_step.specs.tsb_plan.Plan.{Plan, yellow_change}
+use Rattle.tsb_step.specs.tsb_plan.Quad.{quad}
+use Rattle.tsb_step.specs.tsb_phase.Phase as phase
+use Rattle.tsb_step.specs.tsb_phase.Phase.{Phase, Moved}
+use Rattle.tsb_step.specs.tsb_phase.Pedestrian.{clearance_time}
+use Rattle.tsb_step.specs.tsb_ring.Rings as rings
+use Rattle.tsb_step.specs.tsb_ring.Rings.{Ring, Ring1, own_ring}
+use Rattle.tsb_step.specs.tsb_ring.Crossings.{committed}
+use Rattle.tsb_step.specs.tsb_ring.Next.{starting}
+use Rattle.tsb_step.specs.tsb_ring.Moves.{is_cleared}
 use Rattle.tsb_step.specs.declared.inputs.Input.TheVariants.{Tick, Pattern}
 use Rattle.tsb_step.specs.State.{State, interval, pedestrian_part}
 use Rattle.tsb_step.specs.Tick.{service, phase_read, over, rings_given, moves, moved}

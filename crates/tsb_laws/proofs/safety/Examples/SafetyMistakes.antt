@@ -1,24 +1,24 @@
 -- What the laws of safety refuse: for each law a mistake in the definitions, and by computing what comes of it. Beside each
 -- stands what the definitions as they are make of the same state.
 use Rattle.std.specs.Prelude.{◌≡◌, ℕ, Bool, true, false, ◌&&◌, [], ◌∷◌, Option, Some, None, refl}
-use Rattle.tsb_types.specs.Sets.{all_off}
-use Rattle.tsb_types.specs.declared.interval.Interval.TheVariants.{Green, Red, Yellow, RedClear}
-use Rattle.tsb_types.specs.declared.interval.PedestrianInterval.TheVariants.{Walk}
-use Rattle.tsb_types.specs.declared.refusal.Refusal.TheVariants.{InService}
-use Rattle.tsb_types.specs.Intervals.{is_green}
-use Rattle.tsb_cells.specs.declared.timer.Timer.TheVariants.{On}
-use Rattle.tsb_plan.specs.declared.object.Object.TheVariants.{PhaseEnabled, SplitMode}
-use Rattle.tsb_plan.specs.Plan.{Plan, is_enabled, is_concurrent, with_values}
-use Rattle.tsb_plan.specs.Quad.{quad}
-use Rattle.tsb_calls.specs.Callable.{is_called}
-use Rattle.tsb_phase.specs.Phase as phase
-use Rattle.tsb_phase.specs.Phase.{Phase}
-use Rattle.tsb_phase.specs.Ready.{yellow_is_done, has_timed_out}
-use Rattle.tsb_ring.specs.Rings as rings
-use Rattle.tsb_ring.specs.Rings.{Ring, Ring1, Ring2, other, serving}
-use Rattle.tsb_ring.specs.Next.{is_none_or_over, may_start, starting}
-use Rattle.tsb_ring.proofs.Examples.Scenes.{both}
-use Rattle.tsb_transact.specs.declared.desk_state.DeskState.TheVariants.{Done}
+use Rattle.tsb_step.specs.tsb_types.Sets.{all_off}
+use Rattle.tsb_step.specs.tsb_types.declared.interval.Interval.TheVariants.{Green, Red, Yellow, RedClear}
+use Rattle.tsb_step.specs.tsb_types.declared.interval.PedestrianInterval.TheVariants.{Walk}
+use Rattle.tsb_step.specs.tsb_types.declared.refusal.Refusal.TheVariants.{InService}
+use Rattle.tsb_step.specs.tsb_types.Intervals.{is_green}
+use Rattle.tsb_step.specs.tsb_cells.declared.timer.Timer.TheVariants.{On}
+use Rattle.tsb_step.specs.tsb_plan.declared.object.Object.TheVariants.{PhaseEnabled, SplitMode}
+use Rattle.tsb_step.specs.tsb_plan.Plan.{Plan, is_enabled, is_concurrent, with_values}
+use Rattle.tsb_step.specs.tsb_plan.Quad.{quad}
+use Rattle.tsb_step.specs.tsb_calls.Callable.{is_called}
+use Rattle.tsb_step.specs.tsb_phase.Phase as phase
+use Rattle.tsb_step.specs.tsb_phase.Phase.{Phase}
+use Rattle.tsb_step.specs.tsb_phase.Ready.{yellow_is_done, has_timed_out}
+use Rattle.tsb_step.specs.tsb_ring.Rings as rings
+use Rattle.tsb_step.specs.tsb_ring.Rings.{Ring, Ring1, Ring2, other, serving}
+use Rattle.tsb_step.specs.tsb_ring.Next.{is_none_or_over, may_start, starting}
+use Rattle.tsb_step.proofs.tsb_ring.Examples.Scenes.{both}
+use Rattle.tsb_step.specs.tsb_transact.declared.desk_state.DeskState.TheVariants.{Done}
 use Rattle.tsb_step.specs.declared.inputs.Input.TheVariants.{Tick, Commit}
 use Rattle.tsb_step.specs.State.{State, interval, pedestrian_part}
 use Rattle.tsb_step.specs.Tick.{phase_read, phases_given, calls_given, set, callable, omitted, ready, rings_given}

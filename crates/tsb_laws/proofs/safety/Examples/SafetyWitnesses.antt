@@ -1,10 +1,10 @@
 -- A crossing from power-up, computed from its beginning to its end. Runs that meet all premises of a law at once stand in the
 -- modules of runs.
 use Rattle.std.specs.Prelude.{◌≡◌, true, [], ◌∷◌, Some, None, refl}
-use Rattle.tsb_types.specs.Sets.{all_off}
-use Rattle.tsb_types.specs.declared.interval.Interval.TheVariants.{Green}
-use Rattle.tsb_plan.specs.Quad.{quad}
-use Rattle.tsb_ring.specs.Rings.{Ring1}
+use Rattle.tsb_step.specs.tsb_types.Sets.{all_off}
+use Rattle.tsb_step.specs.tsb_types.declared.interval.Interval.TheVariants.{Green}
+use Rattle.tsb_step.specs.tsb_plan.Quad.{quad}
+use Rattle.tsb_step.specs.tsb_ring.Rings.{Ring1}
 use Rattle.tsb_step.specs.declared.inputs.Input.TheVariants.{Tick, Switch}
 use Rattle.tsb_step.specs.State.{interval}
 use Rattle.tsb_step.specs.Runs.{replay}

@@ -1,37 +1,37 @@
 -- What both benches show, by computing, on the built-in plans, each given with 8 phases and 2 sides and with 16 and 4.
 use Rattle.std.specs.Prelude.{◌≡◌, ℕ, ◌==◌, true, ◌||◌, if◌then◌else◌, List, [], ◌∷◌, map, Option, Some, None, refl}
-use Rattle.tsb_types.specs.Sets.{all_off}
-use Rattle.tsb_types.specs.Lists.{run_from}
-use Rattle.tsb_types.specs.declared.interval.Interval.TheVariants as intervals
-use Rattle.tsb_types.specs.declared.lamp.Aspect.{Aspect}
-use Rattle.tsb_types.specs.declared.lamp.Aspect.TheVariants.{Dark, Red, Yellow, Green, FlashingRed}
-use Rattle.tsb_types.specs.declared.lamp.Lamp.TheVariants as lamps
-use Rattle.tsb_types.specs.declared.lamp.SignalColor.TheVariants as signals
-use Rattle.tsb_cells.specs.declared.timer.Timer.TheVariants.{On}
-use Rattle.tsb_plan.specs.Plan.{Plan}
-use Rattle.tsb_plan.specs.Quad.{quad}
-use Rattle.tsb_plan.specs.Two.{two}
-use Rattle.tsb_rules.specs.PatternRules.{split_sum, side_sum, split_end, coordinated_count}
-use Rattle.tsb_rules.specs.Rules.{first_broken, broken_by_rings, broken_by_phases, broken_by_parts, broken_by_extensions}
-use Rattle.tsb_heads.specs.Overlaps.{is_kept_green, is_on_yellow}
-use Rattle.tsb_heads.specs.Monitoring.{conflict_of, conflict, green_to_red}
-use Rattle.tsb_calls.specs.Memories.{has_output, actuations, has_button, vehicle_memory, pedestrian_memory, counted}
-use Rattle.tsb_calls.specs.Memories as calls
-use Rattle.tsb_calls.specs.Callable.{is_callable, has_conflict}
-use Rattle.tsb_phase.specs.Phase as phase
-use Rattle.tsb_phase.specs.Ready.{is_ready, is_over, red_revert_passed}
-use Rattle.tsb_phase.specs.Pedestrian.{pedestrian_now}
-use Rattle.tsb_phase.specs.DynamicMaximum.{maximum_in_use}
-use Rattle.tsb_phase.specs.Green.{reduction_timer, gap, initial, cars_waiting}
-use Rattle.tsb_ring.specs.Rings.{Ring, Ring1, Ring2, serving}
-use Rattle.tsb_ring.specs.Wants.{fits, want, pick_of_ring_1, want_of, pick}
-use Rattle.tsb_ring.specs.Crossings.{begins, target_side, entry, committed}
-use Rattle.tsb_ring.specs.Next.{completes, starting, ends, clears, new_last, new_commitment, new_side, new_crossing}
-use Rattle.tsb_ring.specs.Next as rings_next
-use Rattle.tsb_ring.specs.Moves as ring_moves
-use Rattle.tsb_coord.specs.Coordinated.{force_off}
-use Rattle.tsb_preempt.specs.Preempts as preempts
-use Rattle.tsb_preempt.specs.Service.{all_green}
+use Rattle.tsb_step.specs.tsb_types.Sets.{all_off}
+use Rattle.tsb_step.specs.tsb_types.Lists.{run_from}
+use Rattle.tsb_step.specs.tsb_types.declared.interval.Interval.TheVariants as intervals
+use Rattle.tsb_step.specs.tsb_types.declared.lamp.Aspect.{Aspect}
+use Rattle.tsb_step.specs.tsb_types.declared.lamp.Aspect.TheVariants.{Dark, Red, Yellow, Green, FlashingRed}
+use Rattle.tsb_step.specs.tsb_types.declared.lamp.Lamp.TheVariants as lamps
+use Rattle.tsb_step.specs.tsb_types.declared.lamp.SignalColor.TheVariants as signals
+use Rattle.tsb_step.specs.tsb_cells.declared.timer.Timer.TheVariants.{On}
+use Rattle.tsb_step.specs.tsb_plan.Plan.{Plan}
+use Rattle.tsb_step.specs.tsb_plan.Quad.{quad}
+use Rattle.tsb_step.specs.tsb_plan.Two.{two}
+use Rattle.tsb_step.specs.tsb_rules.PatternRules.{split_sum, side_sum, split_end, coordinated_count}
+use Rattle.tsb_step.specs.tsb_rules.Rules.{first_broken, broken_by_rings, broken_by_phases, broken_by_parts, broken_by_extensions}
+use Rattle.tsb_step.specs.tsb_heads.Overlaps.{is_kept_green, is_on_yellow}
+use Rattle.tsb_step.specs.tsb_heads.Monitoring.{conflict_of, conflict, green_to_red}
+use Rattle.tsb_step.specs.tsb_calls.Memories.{has_output, actuations, has_button, vehicle_memory, pedestrian_memory, counted}
+use Rattle.tsb_step.specs.tsb_calls.Memories as calls
+use Rattle.tsb_step.specs.tsb_calls.Callable.{is_callable, has_conflict}
+use Rattle.tsb_step.specs.tsb_phase.Phase as phase
+use Rattle.tsb_step.specs.tsb_phase.Ready.{is_ready, is_over, red_revert_passed}
+use Rattle.tsb_step.specs.tsb_phase.Pedestrian.{pedestrian_now}
+use Rattle.tsb_step.specs.tsb_phase.DynamicMaximum.{maximum_in_use}
+use Rattle.tsb_step.specs.tsb_phase.Green.{reduction_timer, gap, initial, cars_waiting}
+use Rattle.tsb_step.specs.tsb_ring.Rings.{Ring, Ring1, Ring2, serving}
+use Rattle.tsb_step.specs.tsb_ring.Wants.{fits, want, pick_of_ring_1, want_of, pick}
+use Rattle.tsb_step.specs.tsb_ring.Crossings.{begins, target_side, entry, committed}
+use Rattle.tsb_step.specs.tsb_ring.Next.{completes, starting, ends, clears, new_last, new_commitment, new_side, new_crossing}
+use Rattle.tsb_step.specs.tsb_ring.Next as rings_next
+use Rattle.tsb_step.specs.tsb_ring.Moves as ring_moves
+use Rattle.tsb_step.specs.tsb_coord.Coordinated.{force_off}
+use Rattle.tsb_step.specs.tsb_preempt.Preempts as preempts
+use Rattle.tsb_step.specs.tsb_preempt.Service.{all_green}
 use Rattle.tsb_step.specs.declared.inputs.Input.{Input}
 use Rattle.tsb_step.specs.declared.inputs.Input.TheVariants.{Tick, Switch, Fault}
 use Rattle.tsb_step.specs.State.{State, start}

@@ -1,17 +1,17 @@
 -- Mistakes, and by computing what comes of each: an index that is not translated, and inputs beyond version 1's ranges.
 use Rattle.std.specs.Prelude.{◌≡◌, ℕ, true, false, List, [], ◌∷◌, Some, None, refl}
-use Rattle.tsb_types.specs.Sets.{all_off}
-use Rattle.tsb_types.specs.declared.lamp.Lamp.TheVariants as lamps
-use Rattle.tsb_types.specs.declared.lamp.SignalColor.TheVariants as signals
-use Rattle.tsb_types.specs.declared.refusal.Refusal.TheVariants.{NoSuchObject}
-use Rattle.tsb_plan.specs.declared.object.Object.{Object}
-use Rattle.tsb_plan.specs.declared.object.Object.TheVariants.{PhaseMinRecall, PatternSplitNumber, SplitTime, SplitCoordPhase}
-use Rattle.tsb_plan.specs.Plan.{Plan, with_values}
-use Rattle.tsb_plan.specs.Quad.{quad}
-use Rattle.tsb_rules.specs.declared.rules.Rule.TheVariants.{K18}
-use Rattle.tsb_rules.specs.Rules.{first_broken}
-use Rattle.tsb_heads.specs.declared.monitor.Trip.TheVariants.{Conflict}
-use Rattle.tsb_coord.specs.Coordinated.{force_off, asks_hold}
+use Rattle.tsb_step.specs.tsb_types.Sets.{all_off}
+use Rattle.tsb_step.specs.tsb_types.declared.lamp.Lamp.TheVariants as lamps
+use Rattle.tsb_step.specs.tsb_types.declared.lamp.SignalColor.TheVariants as signals
+use Rattle.tsb_step.specs.tsb_types.declared.refusal.Refusal.TheVariants.{NoSuchObject}
+use Rattle.tsb_step.specs.tsb_plan.declared.object.Object.{Object}
+use Rattle.tsb_step.specs.tsb_plan.declared.object.Object.TheVariants.{PhaseMinRecall, PatternSplitNumber, SplitTime, SplitCoordPhase}
+use Rattle.tsb_step.specs.tsb_plan.Plan.{Plan, with_values}
+use Rattle.tsb_step.specs.tsb_plan.Quad.{quad}
+use Rattle.tsb_step.specs.tsb_rules.declared.rules.Rule.TheVariants.{K18}
+use Rattle.tsb_step.specs.tsb_rules.Rules.{first_broken}
+use Rattle.tsb_step.specs.tsb_heads.declared.monitor.Trip.TheVariants.{Conflict}
+use Rattle.tsb_step.specs.tsb_coord.Coordinated.{force_off, asks_hold}
 use Rattle.tsb_step.specs.declared.inputs.Input.{Input}
 use Rattle.tsb_step.specs.declared.inputs.Input.TheVariants.{Tick, Fault, Begin, Set}
 use Rattle.tsb_step.specs.Step.{verdict}

@@ -7,15 +7,15 @@ use Rattle.std.specs.Str.{is_utf8, chars}
 use lib.Utf8.{encode}
 use Rattle.serde_json.specs.Data.{Data, Members, no_members, member, object, number, unsigned}
 use Rattle.serde_json.proofs.OnLiterals.{serde_json_on_literals}
-use Rattle.tsb_plan.specs.declared.object.Object.TheVariants.{PhaseEnabled, PhaseRing, PhaseSide, PhaseConcurrency, PhaseYellowChange, SequenceData}
-use Rattle.tsb_plan.specs.declared.version.Version.TheVariants.{One}
-use Rattle.tsb_plan.specs.Names.{object_named}
-use Rattle.tsb_plan.specs.Objects.{objects}
-use Rattle.tsb_plan.specs.Plan.{Plan, empty, with_values}
-use Rattle.tsb_plan.specs.Versions.{greatest_in, translated}
+use Rattle.tsb_step.specs.tsb_plan.declared.object.Object.TheVariants.{PhaseEnabled, PhaseRing, PhaseSide, PhaseConcurrency, PhaseYellowChange, SequenceData}
+use Rattle.tsb_step.specs.tsb_plan.declared.version.Version.TheVariants.{One}
+use Rattle.tsb_step.specs.tsb_plan.Names.{object_named}
+use Rattle.tsb_step.specs.tsb_plan.Objects.{objects}
+use Rattle.tsb_step.specs.tsb_plan.Plan.{Plan, empty, with_values}
+use Rattle.tsb_step.specs.tsb_plan.Versions.{greatest_in, translated}
 use Rattle.tsb_plan_text.specs.PlanErrors.{no_such_index, out_of_range, broken}
 use Rattle.tsb_plan_text.specs.PlanText.{data_of, index_named, with_entry, with_member, data_plan, checked, reading}
-use Rattle.tsb_rules.specs.declared.rules.Rule.TheVariants.{K6}
+use Rattle.tsb_step.specs.tsb_rules.declared.rules.Rule.TheVariants.{K6}
 use Rattle.tsb_laws.specs.Texts.{IsOfVersion1, named_plan}
 use Rattle.tsb_laws.proofs.versions.Examples.Examples.{opened}
 

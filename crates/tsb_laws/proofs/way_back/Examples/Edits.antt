@@ -1,13 +1,13 @@
 -- A run that meets the premises of the law of verified edits, and a mistake that it refuses.
 use Rattle.std.specs.Prelude.{◌≡◌, List, [], ◌∷◌, Some, refl}
-use Rattle.tsb_plan.specs.declared.object.Object.TheVariants.{PhaseYellowChange}
-use Rattle.tsb_plan.specs.declared.object.ObjectId.{ObjectId}
-use Rattle.tsb_plan.specs.Two.{two}
-use Rattle.tsb_rules.specs.declared.rules.Rule.TheVariants.{K8}
-use Rattle.tsb_rules.specs.Rules.{first_broken}
-use Rattle.tsb_transact.specs.declared.desk_state.DeskState.TheVariants.{Transaction, Done}
-use Rattle.tsb_transact.specs.Desk.{Desk, with_edits}
-use Rattle.tsb_transact.specs.Calls.{with_set}
+use Rattle.tsb_step.specs.tsb_plan.declared.object.Object.TheVariants.{PhaseYellowChange}
+use Rattle.tsb_step.specs.tsb_plan.declared.object.ObjectId.{ObjectId}
+use Rattle.tsb_step.specs.tsb_plan.Two.{two}
+use Rattle.tsb_step.specs.tsb_rules.declared.rules.Rule.TheVariants.{K8}
+use Rattle.tsb_step.specs.tsb_rules.Rules.{first_broken}
+use Rattle.tsb_step.specs.tsb_transact.declared.desk_state.DeskState.TheVariants.{Transaction, Done}
+use Rattle.tsb_step.specs.tsb_transact.Desk.{Desk, with_edits}
+use Rattle.tsb_step.specs.tsb_transact.Calls.{with_set}
 use Rattle.tsb_step.specs.declared.inputs.Input.{Input}
 use Rattle.tsb_step.specs.declared.inputs.Input.TheVariants.{Begin, Set, Verify}
 use Rattle.tsb_step.specs.Laws.{IsConsistent}

@@ -1,15 +1,15 @@
 -- What the laws refuse: for each a mistake in the definitions, and by computing what comes of it. Beside each stands what
 -- the definitions as they are make of the same.
 use Rattle.std.specs.Prelude.{◌≡◌, ℕ, ◌+◌, ◌-◌, List, [], ◌∷◌, Some, None, refl}
-use Rattle.tsb_cells.specs.declared.timer.Timer.{Timer}
-use Rattle.tsb_cells.specs.declared.timer.Timer.TheVariants.{Off, On}
-use Rattle.tsb_cells.specs.Timer.{advanced, timer_cell, timer_at}
-use Rattle.tsb_cells.specs.Diff.{diff, apply_diff}
-use Rattle.tsb_heads.specs.declared.monitor.Trip.TheVariants.{Conflict}
-use Rattle.tsb_history.specs.declared.kinds.Kind.{Kind}
-use Rattle.tsb_history.specs.declared.kinds.Kind.TheVariants as kinds
-use Rattle.tsb_ring.specs.Rings.{State, Ring1, Ring2, power_up}
-use Rattle.tsb_types.specs.Lists.{or_number}
+use Rattle.tsb_step.specs.tsb_cells.declared.timer.Timer.{Timer}
+use Rattle.tsb_step.specs.tsb_cells.declared.timer.Timer.TheVariants.{Off, On}
+use Rattle.tsb_step.specs.tsb_cells.Timer.{advanced, timer_cell, timer_at}
+use Rattle.tsb_step.specs.tsb_cells.Diff.{diff, apply_diff}
+use Rattle.tsb_step.specs.tsb_heads.declared.monitor.Trip.TheVariants.{Conflict}
+use Rattle.tsb_step.specs.tsb_history.declared.kinds.Kind.{Kind}
+use Rattle.tsb_step.specs.tsb_history.declared.kinds.Kind.TheVariants as kinds
+use Rattle.tsb_step.specs.tsb_ring.Rings.{State, Ring1, Ring2, power_up}
+use Rattle.tsb_step.specs.tsb_types.Lists.{or_number}
 use Rattle.tsb_step.specs.Cells.{clock_at}
 use Rattle.tsb_step.specs.Past.{ticks_of}
 

@@ -3,16 +3,16 @@
 use Rattle.std.proofs.Common.{◌≡◌, ℕ, ◌≤◌, nat_le, Bool, true, false, ◌&&◌, if◌then◌else◌, List, [], ◌∷◌, Some, is_some, refl, sym, ap, ap₂, subst, arith, ◌∙◌}
 use Rattle.std.specs.List.{list_all}
 use Rattle.std.proofs.lemmas.Bool.{and_parts, leb-true, true≢false}
-use Rattle.tsb_cells.specs.declared.timer.Timer.TheVariants.{Off, On}
-use Rattle.tsb_types.specs.declared.lamp.Lamp.TheVariants as lamps
-use Rattle.tsb_types.specs.declared.lamp.SignalColor.TheVariants as signals
-use Rattle.tsb_types.specs.Sets.{all_off}
-use Rattle.tsb_plan.specs.declared.object.Object.{Object}
-use Rattle.tsb_plan.specs.Objects.{has_index, greatest}
-use Rattle.tsb_plan.specs.Plan.{Plan, empty, is_same, with_value, with_values}
-use Rattle.tsb_plan.specs.Two.{two, two_values, fits}
-use Rattle.tsb_plan.proofs.TableLemmas.{order-injective}
-use Rattle.tsb_plan.proofs.PlanLemmas.{same-parts}
+use Rattle.tsb_step.specs.tsb_cells.declared.timer.Timer.TheVariants.{Off, On}
+use Rattle.tsb_step.specs.tsb_types.declared.lamp.Lamp.TheVariants as lamps
+use Rattle.tsb_step.specs.tsb_types.declared.lamp.SignalColor.TheVariants as signals
+use Rattle.tsb_step.specs.tsb_types.Sets.{all_off}
+use Rattle.tsb_step.specs.tsb_plan.declared.object.Object.{Object}
+use Rattle.tsb_step.specs.tsb_plan.Objects.{has_index, greatest}
+use Rattle.tsb_step.specs.tsb_plan.Plan.{Plan, empty, is_same, with_value, with_values}
+use Rattle.tsb_step.specs.tsb_plan.Two.{two, two_values, fits}
+use Rattle.tsb_step.proofs.tsb_plan.TableLemmas.{order-injective}
+use Rattle.tsb_step.proofs.tsb_plan.PlanLemmas.{same-parts}
 use Rattle.tsb_step.specs.declared.inputs.Input.{Input}
 use Rattle.tsb_step.specs.declared.inputs.Input.TheVariants.{Tick, Fault, Begin}
 use Rattle.tsb_step.specs.Runs.{replay}

@@ -1,5 +1,5 @@
 use Rattle.tsb_cells.specs.Timer.{timer_at}
-use Rattle.tsb_plan.specs.PlanOf.{plan_of}
+use Rattle.tsb_objects.specs.tsb_plan.PlanOf.{plan_of}
 use Rattle.tsb_phase.specs.Promises.{given_of}
 use Rattle.tsb_phase.specs.Cells.{phase_of}
 use Rattle.tsb_phase.proofs.DueLemmas.{part-clear, not-at-limit}

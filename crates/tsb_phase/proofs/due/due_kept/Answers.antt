@@ -1,7 +1,7 @@
 use Rattle.std.proofs.Common.{Option, ℕ, ◌∙◌, ap, arith}
 use Rattle.tsb_cells.specs.Timer.{timer_at}
-use Rattle.tsb_plan.specs.Plan.{Plan}
-use Rattle.tsb_plan.specs.PlanOf.{plan_of}
+use Rattle.tsb_objects.specs.tsb_plan.Plan.{Plan}
+use Rattle.tsb_objects.specs.tsb_plan.PlanOf.{plan_of}
 use Rattle.tsb_phase.specs.declared.phase_row.PhaseRow.{PhaseRow}
 use Rattle.tsb_phase.specs.DynamicMaximum.{maximum_in_use}
 use Rattle.tsb_phase.specs.Green.{initial}

@@ -1,6 +1,6 @@
 use Rattle.std.proofs.Common.{sym, ◌∙◌}
 use Rattle.tsb_cells.specs.Timer.{timer_at}
-use Rattle.tsb_plan.specs.PlanOf.{plan_of}
+use Rattle.tsb_objects.specs.tsb_plan.PlanOf.{plan_of}
 use Rattle.tsb_phase.specs.Promises.{given_of}
 use Rattle.tsb_phase.specs.Cells.{phase_of}
 use Rattle.tsb_phase.proofs.DueLemmas.{part-rests, part-walk, not-at-limit}

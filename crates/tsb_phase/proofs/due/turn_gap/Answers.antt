@@ -1,6 +1,6 @@
 use Rattle.std.proofs.Common.{◌-◌, sym, ◌∙◌, arith}
-use Rattle.tsb_plan.specs.Plan.{Plan}
-use Rattle.tsb_plan.specs.PlanOf.{plan_of}
+use Rattle.tsb_objects.specs.tsb_plan.Plan.{Plan}
+use Rattle.tsb_objects.specs.tsb_plan.PlanOf.{plan_of}
 use Rattle.tsb_phase.specs.declared.phase_row.PhaseRow.{PhaseRow}
 use Rattle.tsb_phase.proofs.DueLemmas.{expired-found, expired-stays, on-unexpired}
 use Rattle.tsb_phase.proofs.due.turn_gap.Goals as goal

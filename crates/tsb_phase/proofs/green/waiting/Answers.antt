@@ -1,6 +1,6 @@
 use Rattle.std.proofs.Common.{◌≡◌, ℕ, Bool, false, not, ◌&&◌, sym, ◌∙◌, ap, subst}
-use Rattle.tsb_plan.specs.PlanOf.{plan_of}
-use Rattle.tsb_types.specs.Sets.{has}
+use Rattle.tsb_objects.specs.tsb_plan.PlanOf.{plan_of}
+use Rattle.tsb_objects.specs.tsb_types.Sets.{has}
 use Rattle.tsb_phase.specs.Promises.{given_of}
 use Rattle.tsb_phase.proofs.CarLemmas.{waits-told}
 use Rattle.tsb_phase.proofs.green.waiting.Goals as goal

@@ -2,8 +2,8 @@ use Rattle.std.proofs.Common.{◌≡◌, ℕ, ◌+◌, ◌-◌, ◌*◌, ◌<◌
 use Rattle.std.proofs.lemmas.Bool.Decides.{leb_tells}
 use Rattle.std.specs.Int.{div_ceil}
 use Rattle.tsb_cells.specs.declared.timer.Timer.TheVariants.{On}
-use Rattle.tsb_plan.specs.Plan.{Plan, passage, minimum_gap, time_to_reduce}
-use Rattle.tsb_plan.specs.PlanOf.{plan_of}
+use Rattle.tsb_objects.specs.tsb_plan.Plan.{Plan, passage, minimum_gap, time_to_reduce}
+use Rattle.tsb_objects.specs.tsb_plan.PlanOf.{plan_of}
 use Rattle.tsb_phase.specs.Green.{gap}
 use Rattle.tsb_phase.proofs.BoundLemmas.{under_least, under_slope}
 use Rattle.tsb_phase.proofs.times.ticks_to_gap.Goals as goal

@@ -1,6 +1,6 @@
 use Rattle.std.proofs.Common.{◌∙◌, refl}
 use Rattle.tsb_objects.specs.Checked.{checked_plan}
-use Rattle.tsb_plan.specs.PlanOf.{plan_of}
+use Rattle.tsb_objects.specs.tsb_plan.PlanOf.{plan_of}
 use Rattle.tsb_types.specs.Lists.{run_from}
 use Rattle.tsb_ring.specs.Rings.{serving}
 use Rattle.tsb_ring.proofs.serving.serving.Goals as goal

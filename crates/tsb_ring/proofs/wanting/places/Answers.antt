@@ -1,7 +1,7 @@
 use Rattle.std.proofs.Common.{◌∙◌, ap}
 use Rattle.tsb_objects.specs.Checked.{checked_plan}
-use Rattle.tsb_rules.specs.SequenceRules.{zeros_last}
-use Rattle.tsb_plan.specs.Plan.{Plan, sequence}
+use Rattle.tsb_objects.specs.tsb_rules.SequenceRules.{zeros_last}
+use Rattle.tsb_objects.specs.tsb_plan.Plan.{Plan, sequence}
 use Rattle.tsb_ring.proofs.PlaceLemmas.{sequence-zeros}
 use Rattle.tsb_ring.proofs.wanting.places.Goals as goal
 

@@ -1,5 +1,5 @@
 use Rattle.std.proofs.Common.{◌-◌, List}
-use Rattle.tsb_step.specs.declared.inputs.Input.{Input}
+use Rattle.tsb_bench.specs.tsb_step.declared.inputs.Input.{Input}
 use Rattle.tsb_bench.specs.Held.{whole}
 use Rattle.tsb_text.specs.Answers.{Setup}
 use Rattle.tsb_text.specs.Talk.{Stands}

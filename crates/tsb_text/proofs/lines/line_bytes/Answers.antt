@@ -1,7 +1,7 @@
 use Rattle.std.proofs.Common.{◌≡◌, ℕ, ◌∙◌, ap, option_map}
-use Rattle.tsb_types.specs.declared.stage.Stage.{Stage}
-use Rattle.tsb_heads.specs.Reading.{heads_of}
-use Rattle.tsb_step.specs.Signs.{display}
+use Rattle.tsb_objects.specs.tsb_types.declared.stage.Stage.{Stage}
+use Rattle.tsb_display_text.specs.tsb_heads.Reading.{heads_of}
+use Rattle.tsb_bench.specs.tsb_step.Signs.{display}
 use Rattle.tsb_display_text.specs.Line.{line_of}
 use Rattle.tsb_display_text.proofs.LineLemmas.{line-same}
 use Rattle.tsb_bench.specs.Held.{state_of}

@@ -1,8 +1,8 @@
 use Rattle.std.proofs.Common.{refl}
 use Rattle.tsb_objects.specs.Checked.{checked_plan}
-use Rattle.tsb_machine.proofs.PlayLemmas.{follows-start}
-use Rattle.tsb_step.specs.Past.{controller}
-use Rattle.tsb_step.specs.State.{start}
+use Rattle.tsb_bench.proofs.tsb_machine.PlayLemmas.{follows-start}
+use Rattle.tsb_bench.specs.tsb_step.Past.{controller}
+use Rattle.tsb_bench.specs.tsb_step.State.{start}
 use Rattle.tsb_bench.specs.Held.{whole}
 use Rattle.tsb_text.proofs.talk.session.Goals as goal
 

@@ -1,7 +1,7 @@
 use Rattle.std.proofs.Common.{◌≡◌, ◌+◌, ◌-◌, ◌&&◌, map, slice_index}
 use Rattle.std.specs.List.{list_any}
 use Rattle.tsb_cells.specs.Bank.{cells_of}
-use Rattle.tsb_types.specs.Lists.{run_from}
+use Rattle.tsb_objects.specs.tsb_types.Lists.{run_from}
 use Rattle.tsb_transact.specs.Matters.{is_about}
 use Rattle.tsb_plan.specs.PlanOf.{plan_of}
 use Rattle.tsb_transact.specs.Cells.{edit_in}

@@ -1,8 +1,8 @@
 use Rattle.std.proofs.Common.{◌≡◌, ℕ, ◌+◌, ◌≤◌, true, if◌then◌else◌, slice_index, count_by, refl, sym, ◌∙◌, ap, inl, inr, subst}
 use Rattle.std.proofs.lemmas.Bool.Decides.{eqb_tells}
 use Rattle.tsb_objects.specs.Checked.{checked_plan}
-use Rattle.tsb_types.specs.Lists.{run_from}
-use Rattle.tsb_types.specs.Sets.{has, has_number}
+use Rattle.tsb_objects.specs.tsb_types.Lists.{run_from}
+use Rattle.tsb_objects.specs.tsb_types.Sets.{has, has_number}
 use Rattle.tsb_calls.specs.Memories.{calls}
 use Rattle.tsb_calls.specs.Layer.{cells_of, counted_to}
 use Rattle.tsb_calls.proofs.CountLemmas.{taken, count-taken, count-all, count-begun, counted-twice, counted-none, counted-small}

@@ -1,7 +1,7 @@
 use Rattle.std.proofs.Common.{◌≡◌, ℕ, ◌+◌, ◌≤◌, true, slice_index, count_by}
 use Rattle.tsb_objects.specs.Checked.{checked_plan}
-use Rattle.tsb_types.specs.Lists.{run_from}
-use Rattle.tsb_types.specs.Sets.{has, has_number, size_of_numbers}
+use Rattle.tsb_objects.specs.tsb_types.Lists.{run_from}
+use Rattle.tsb_objects.specs.tsb_types.Sets.{has, has_number, size_of_numbers}
 use Rattle.tsb_calls.specs.Memories.{calls}
 use Rattle.tsb_calls.specs.Layer.{cells_of, kept_of, is_open, AreSmall, KeepsLists, counted_to}
 use Rattle.tsb_calls.proofs.CountLemmas.{taken}

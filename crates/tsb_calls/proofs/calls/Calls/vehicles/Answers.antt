@@ -1,6 +1,6 @@
 use Rattle.std.proofs.Common.{◌≡◌, ℕ, ◌+◌, ◌-◌, ◌≤◌, List, drop, get_or, slice_index, refl, ap, sym, ◌∙◌, subst, arith, get_or-take}
 use Rattle.std.proofs.lemmas.List.{get_or-drop}
-use Rattle.tsb_types.proofs.ClipLemmas.{is_phase_from}
+use Rattle.tsb_objects.proofs.tsb_types.ClipLemmas.{is_phase_from}
 use Rattle.tsb_calls.specs.Cells.{memories_in}
 use Rattle.tsb_calls.specs.Layer.{cells_of}
 use Rattle.tsb_calls.proofs.calls.Calls.vehicles.Goals as goal

@@ -1,5 +1,5 @@
 use Rattle.std.proofs.Common.{ℕ, Option, is_some, ap, ◌∙◌}
-use Rattle.tsb_types.specs.declared.stage.Stage.{Stage}
+use Rattle.tsb_step.specs.tsb_types.declared.stage.Stage.{Stage}
 use Rattle.tsb_preempt.specs.Cells.{preempts_in}
 use Rattle.tsb_preempt.specs.Layer.{cells_of}
 use Rattle.tsb_step.specs.Cells.{clock_at}

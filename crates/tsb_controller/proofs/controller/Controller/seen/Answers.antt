@@ -1,7 +1,7 @@
 use Rattle.std.proofs.Common.{ℕ, option_map, ap, ◌∙◌}
-use Rattle.tsb_types.specs.declared.stage.Stage.{Stage}
+use Rattle.tsb_step.specs.tsb_types.declared.stage.Stage.{Stage}
 use Rattle.tsb_objects.specs.Checked.{checked_plan}
-use Rattle.tsb_plan.specs.Plan.{Plan}
+use Rattle.tsb_step.specs.tsb_plan.Plan.{Plan}
 use Rattle.tsb_preempt.specs.Cells.{preempts_in}
 use Rattle.tsb_preempt.specs.Layer.{cells_of}
 use Rattle.tsb_controller.specs.Passing.{wanted_in}

@@ -1,6 +1,6 @@
 use Rattle.std.proofs.Common.{ap, subst, ◌∙◌}
 use Rattle.tsb_objects.specs.Checked.{checked_plan}
-use Rattle.tsb_types.specs.Flow.{answered}
+use Rattle.tsb_step.specs.tsb_types.Flow.{answered}
 use Rattle.tsb_preempt.specs.Layer.{cells_of}
 use Rattle.tsb_preempt.specs.Promises.{IsSet}
 use Rattle.tsb_step.specs.Cells.{clock_at}

@@ -1,5 +1,5 @@
 use Rattle.tsb_cells.specs.Bank as bank
-use Rattle.tsb_types.specs.Sets.{has_number}
+use Rattle.tsb_objects.specs.tsb_types.Sets.{has_number}
 use Rattle.tsb_detect.specs.Layer.{cells_of}
 use Rattle.tsb_detect.proofs.RowLemmas.{row-list}
 use Rattle.tsb_detect.proofs.detectors.Detectors.put_set.Goals as goal

@@ -1,9 +1,9 @@
 use Rattle.std.proofs.Common.{◌≡◌, ◌&&◌, not, Bool, sym, ◌∙◌, ap, subst}
 use Rattle.std.proofs.lemmas.Bool.{or_parts}
-use Rattle.tsb_plan.specs.Plan.{Plan}
-use Rattle.tsb_plan.specs.PlanOf.{plan_of}
-use Rattle.tsb_plan.specs.Parts.{call_phase}
-use Rattle.tsb_types.specs.Sets.{has_number}
+use Rattle.tsb_objects.specs.tsb_plan.Plan.{Plan}
+use Rattle.tsb_objects.specs.tsb_plan.PlanOf.{plan_of}
+use Rattle.tsb_objects.specs.tsb_plan.Parts.{call_phase}
+use Rattle.tsb_objects.specs.tsb_types.Sets.{has_number}
 use Rattle.tsb_detect.specs.declared.detector_row.DetectorRow.{DetectorRow}
 use Rattle.tsb_detect.specs.Promises.{green_timer_of}
 use Rattle.tsb_detect.specs.Cells.{row_in}

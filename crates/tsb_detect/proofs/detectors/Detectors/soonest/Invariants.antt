@@ -1,6 +1,6 @@
 use Rattle.std.proofs.Common.{◌≡◌, ℕ, ◌+◌, ◌-◌, ◌%◌, ◌<◌, ◌≤◌, false}
 use Rattle.tsb_objects.specs.Checked.{checked_plan}
-use Rattle.tsb_types.specs.Sets.{has_number, size_of_numbers}
+use Rattle.tsb_objects.specs.tsb_types.Sets.{has_number, size_of_numbers}
 use Rattle.tsb_detect.specs.Cells.{row_in}
 use Rattle.tsb_detect.specs.Rows.{is_tested}
 use Rattle.tsb_detect.specs.Layer.{cells_of}

@@ -2,8 +2,8 @@ use Rattle.std.proofs.Common.{◌≡◌, ℕ, Bool, true, refl, sym, ◌∙◌, 
 use Rattle.std.proofs.lemmas.Bool.Decides.{eqb_tells}
 use Rattle.std.proofs.lemmas.Bool.{both_ways}
 use Rattle.tsb_objects.specs.Checked.{checked_plan}
-use Rattle.tsb_plan.specs.Plan.{Plan}
-use Rattle.tsb_types.specs.Sets.{has_number}
+use Rattle.tsb_objects.specs.tsb_plan.Plan.{Plan}
+use Rattle.tsb_objects.specs.tsb_types.Sets.{has_number}
 use Rattle.tsb_detect.specs.Cells.{row_in}
 use Rattle.tsb_detect.specs.Rows.{is_tested}
 use Rattle.tsb_detect.specs.Layer.{cells_of}

@@ -2,10 +2,10 @@ use Rattle.std.proofs.Common.{◌≡◌, ℕ, Bool, true, None, sym, ◌∙◌, 
 use Rattle.std.proofs.lemmas.Bool.Decides.{eqb_tells}
 use Rattle.std.proofs.lemmas.Bool.{both_ways}
 use Rattle.tsb_cells.specs.declared.timer.Timer.{Timer}
-use Rattle.tsb_plan.specs.Plan.{Plan}
-use Rattle.tsb_plan.specs.PlanOf.{plan_of}
-use Rattle.tsb_plan.specs.Parts.{call_phase}
-use Rattle.tsb_types.specs.Sets.{has_number}
+use Rattle.tsb_objects.specs.tsb_plan.Plan.{Plan}
+use Rattle.tsb_objects.specs.tsb_plan.PlanOf.{plan_of}
+use Rattle.tsb_objects.specs.tsb_plan.Parts.{call_phase}
+use Rattle.tsb_objects.specs.tsb_types.Sets.{has_number}
 use Rattle.tsb_detect.specs.declared.detector_row.DetectorRow.{DetectorRow}
 use Rattle.tsb_detect.specs.Detector.{new_alarm}
 use Rattle.tsb_detect.specs.Promises.{green_timer_of}

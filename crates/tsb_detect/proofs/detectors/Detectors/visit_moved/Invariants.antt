@@ -1,7 +1,7 @@
 use Rattle.std.proofs.Common.{◌≡◌, ℕ, ◌≤◌, true, false}
-use Rattle.tsb_plan.specs.PlanOf.{plan_of}
-use Rattle.tsb_plan.specs.Parts.{call_phase}
-use Rattle.tsb_types.specs.Sets.{has_number, size_of_numbers}
+use Rattle.tsb_objects.specs.tsb_plan.PlanOf.{plan_of}
+use Rattle.tsb_objects.specs.tsb_plan.Parts.{call_phase}
+use Rattle.tsb_objects.specs.tsb_types.Sets.{has_number, size_of_numbers}
 use Rattle.tsb_detect.specs.Promises.{green_timer_of}
 use Rattle.tsb_detect.specs.Cells.{row_in}
 use Rattle.tsb_detect.specs.Rows.{row_with, IsVisit, HasNoAlarm}

@@ -1,5 +1,5 @@
 use Rattle.std.proofs.Common.{ℕ, ◌<◌, ◌≤◌}
-use Rattle.tsb_plan.specs.PlanOf.{plan_of}
+use Rattle.tsb_objects.specs.tsb_plan.PlanOf.{plan_of}
 use Rattle.tsb_phase.specs.Due.{StaysReverted}
 use Rattle.tsb_phase.specs.Layer.{cells_of}
 use Rattle.tsb_phase.proofs.phases.Phases.due_to_revert.Given as goal

@@ -1,5 +1,5 @@
 use Rattle.std.proofs.Common.{◌∙◌, ap}
-use Rattle.tsb_plan.specs.Plan.{Plan}
+use Rattle.tsb_objects.specs.tsb_plan.Plan.{Plan}
 use Rattle.tsb_objects.specs.Checked.{checked_plan}
 use Rattle.tsb_phase.specs.Green.{initial}
 use Rattle.tsb_phase.proofs.phases.Phases.initial.Goals as goal

@@ -1,6 +1,6 @@
 use Rattle.std.proofs.Common.{◌≡◌, ℕ, ◌<◌, ◌≤◌, false}
-use Rattle.tsb_plan.specs.PlanOf.{plan_of}
-use Rattle.tsb_types.specs.Sets.{has, size}
+use Rattle.tsb_objects.specs.tsb_plan.PlanOf.{plan_of}
+use Rattle.tsb_objects.specs.tsb_types.Sets.{has, size}
 use Rattle.tsb_phase.specs.Promises.{given_of}
 use Rattle.tsb_phase.specs.Cells.{row_in}
 use Rattle.tsb_phase.specs.Due.{IsStill}

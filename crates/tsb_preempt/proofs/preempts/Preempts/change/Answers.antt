@@ -1,6 +1,6 @@
 use Rattle.std.proofs.Common.{Bool, ◌&&◌, ◌∙◌, ap}
 use Rattle.tsb_types.specs.Sets.{has_number}
-use Rattle.tsb_plan.specs.PlanOf.{plan_of}
+use Rattle.tsb_objects.specs.tsb_plan.PlanOf.{plan_of}
 use Rattle.tsb_preempt.specs.Layer.{cells_of}
 use Rattle.tsb_preempt.proofs.ServiceLemmas.{service-stored}
 use Rattle.tsb_preempt.proofs.DoneLemmas.{done}

@@ -1,5 +1,5 @@
 use Rattle.std.proofs.Common.{◌<◌, subst, arith}
-use Rattle.tsb_plan.specs.Plan.{Plan}
+use Rattle.tsb_objects.specs.tsb_plan.Plan.{Plan}
 use Rattle.tsb_preempt.specs.Layer.{cells_of}
 use Rattle.tsb_preempt.specs.Due.{AreQuietUntil, OrdersStandUntil}
 use Rattle.tsb_preempt.proofs.preempts.Preempts.due.Goals as goal

@@ -1,5 +1,5 @@
 use Rattle.std.proofs.Common.{◌≡◌, ◌<◌, true, arith, rules}
-use Rattle.tsb_plan.specs.PlanOf.{plan_of}
+use Rattle.tsb_objects.specs.tsb_plan.PlanOf.{plan_of}
 use Rattle.tsb_preempt.specs.Layer.{cells_of}
 use Rattle.tsb_preempt.proofs.QuietLemmas.{IsQuiet, quiet, standing}
 use Rattle.tsb_preempt.proofs.preempts.Preempts.due_of.Goals as goal

@@ -1,6 +1,6 @@
 use Rattle.std.proofs.Common.{Bool, not, ◌&&◌, ◌∙◌, ap}
 use Rattle.tsb_types.specs.Sets.{names, has_number, list_in}
-use Rattle.tsb_plan.specs.PlanOf.{plan_of}
+use Rattle.tsb_objects.specs.tsb_plan.PlanOf.{plan_of}
 use Rattle.tsb_preempt.specs.Layer.{cells_of}
 use Rattle.tsb_preempt.proofs.ServiceLemmas.{waits}
 use Rattle.tsb_preempt.proofs.preempts.Preempts.is_still.Goals as goal

@@ -1,6 +1,6 @@
 use Rattle.std.proofs.Common.{◌≡◌, ◌+◌, false, ◌&&◌, slice_index, sym, ◌∙◌}
 use Rattle.tsb_types.specs.Sets.{has_number}
-use Rattle.tsb_plan.specs.PlanOf.{plan_of}
+use Rattle.tsb_objects.specs.tsb_plan.PlanOf.{plan_of}
 use Rattle.tsb_preempt.specs.Preempts.{may_begin}
 use Rattle.tsb_preempt.specs.Rows.{serving_of, requests_by}
 use Rattle.tsb_preempt.specs.Layer.{cells_of}

@@ -1,5 +1,5 @@
 use Rattle.std.proofs.Common.{◌<◌, arith}
-use Rattle.tsb_plan.specs.PlanOf.{plan_of}
+use Rattle.tsb_objects.specs.tsb_plan.PlanOf.{plan_of}
 use Rattle.tsb_preempt.specs.Layer.{cells_of}
 use Rattle.tsb_preempt.specs.Due.{IsWaiting}
 use Rattle.tsb_preempt.proofs.ServiceLemmas.{four}

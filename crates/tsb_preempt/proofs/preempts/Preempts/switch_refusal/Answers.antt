@@ -1,5 +1,5 @@
 use Rattle.std.proofs.Common.{◌∙◌, ap}
-use Rattle.tsb_plan.specs.Plan.{Plan}
+use Rattle.tsb_objects.specs.tsb_plan.Plan.{Plan}
 use Rattle.tsb_preempt.specs.Preempts as words
 use Rattle.tsb_preempt.proofs.preempts.Preempts.switch_refusal.Goals as goal
 

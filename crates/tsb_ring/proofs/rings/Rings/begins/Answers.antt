@@ -1,6 +1,6 @@
 use Rattle.std.proofs.Common.{◌∙◌}
 use Rattle.tsb_objects.specs.Checked.{checked_plan}
-use Rattle.tsb_plan.specs.Plan.{Plan}
+use Rattle.tsb_objects.specs.tsb_plan.Plan.{Plan}
 use Rattle.tsb_ring.specs.Layer.{state_of}
 use Rattle.tsb_ring.specs.Promises.{given_of}
 use Rattle.tsb_ring.specs.Rings.{State, Given}
