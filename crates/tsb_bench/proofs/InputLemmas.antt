@@ -100,7 +100,7 @@ tick-tripped now old row by tripped = record {
   entries_are = sym (nothing-differs old);
 }
 
--- a tick that is taken is none behind the last
+-- a tick that is taken is none after the last
 pub below-limit : (now : ℕ) (a : All) (row : Row) → verdict (all_in now a) (inputs.Tick row) ≡ None → now + 1 ≤ last_tick
 unfolding verdict
 below-limit now a row allowed = grind (arith, nat_tests)

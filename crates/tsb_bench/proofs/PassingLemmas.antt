@@ -54,7 +54,7 @@ may-later now n c later may = record { within = may.within; quiet = λ t from to
 pub may_none : (now : ℕ) (c : Cabinet) → c.passing.last ≡ 0 → MayPass now c
 may_none now c none = record { within = omega (arith, none); quiet = λ t from to. absurd (omega (arith, none)) }
 
--- ## Behind a tick that changed nothing
+-- ## After a tick that changed nothing
 
 -- where nothing differs, nothing differs in the layers
 layers-none : (old new : All) → all_changes old new ≡ [] → changes old.layers new.layers ≡ []

@@ -112,8 +112,8 @@ impl Cabinet {
         }
     }
 
-    /// Takes an input at tick number `tick`, and gives the tick number after it. The cells that change go to `out`. Behind
-    /// a tick that changes nothing some may be passed over, behind all else none.
+    /// Takes an input at tick number `tick`, and gives the tick number after it. The cells that change go to `out`. After
+    /// a tick that changes nothing some may be passed over, after all else none.
     #[tactic(auto, using(crate::proofs::PassingLemmas::may_none))]
     pub(crate) fn step(&mut self, tick: u32, input: &Input, out: &mut Changes) -> u32
         requires shut { IsShut self.old }

@@ -20,7 +20,7 @@ use tsb_objects::Row;
 use tsb_types::Lamp;
 
 impl Cabinet {
-    /// The tick behind tick number `tick`, with the inputs of `row` on. That of a controller that has tripped changes
+    /// The tick after tick number `tick`, with the inputs of `row` on. That of a controller that has tripped changes
     /// no cell.
     pub(crate) fn tick(&mut self, tick: u32, row: &Row, out: &mut Changes)
         requires shut { IsShut self.old }

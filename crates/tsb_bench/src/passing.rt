@@ -35,7 +35,7 @@ impl Passing {
         }
     }
 
-    /// Whether the tick behind tick number `tick` may be passed over, with these inputs on.
+    /// Whether the tick after tick number `tick` may be passed over, with these inputs on.
     fn covers(&self, tick: u32, row: &Row) -> bool
         ensures ahead { result ≡ true → tick < self.now.last }
         ensures same { result ≡ true → row.now ≡ self.now.row }
@@ -57,7 +57,7 @@ impl Cabinet {
         }
     }
 
-    /// The tick behind tick number `tick`, which is worked out. Where it changes nothing, those behind it with the same
+    /// The tick after tick number `tick`, which is worked out. Where it changes nothing, those after it with the same
     /// inputs may be passed over, up to the one that is due.
     pub(crate) fn work_tick(&mut self, tick: u32, row: &Row, out: &mut Changes)
         requires shut { IsShut self.old }

@@ -46,7 +46,7 @@ pub fn plays_keep_the_laws(plan: Checked, commands: &[Cmd], answers: &[Answer], 
     ensures clear { ClearsGreens (state_of bench.now) }
     // A preempt in service has phases for its stage, enabled and pairwise concurrent.
     ensures preempts { ServesPreempt (state_of bench.now) }
-    // The monitor trips only behind a fault that lit a lamp.
+    // The monitor trips only after a fault that lit a lamp.
     ensures trips { TripsByFaults (checked_plan plan) (remaining (checked_plan plan) commands.now answers.now) }
     // A walk, a pedestrian clearance, a green, a yellow or a red clearance that the next tick ends has held for its time.
     ensures held { EndsWhatHasHeld (checked_plan plan) (remaining (checked_plan plan) commands.now answers.now) }

@@ -124,14 +124,14 @@ part-own n (e ∷ es) h =
     let same : e.0 - 0 ≡ e.0 = omega arith in
     part-taken 0 n e es (omega arith) (omega arith) ∙ ap (λ (m : ℕ). (m, e.1) ∷ part 0 n es) same ∙ ap (λ (fs : List (ℕ × ℕ)). e ∷ fs) rest
 
--- none of them is of a part behind it
+-- none of them is of a part after it
 pub part-before : (offset n : ℕ) (es : List (ℕ × ℕ)) → AreWithin offset es → part offset n es ≡ []
 part-before offset n [] h = refl
 part-before offset n (e ∷ es) h =
     part-below offset n e es (All-head (λ (f : ℕ × ℕ). f.0 < offset) e es h)
     ∙ part-before offset n es (All-tail (λ (f : ℕ × ℕ). f.0 < offset) e es h)
 
--- entries behind a row are not of its part
+-- entries after a row are not of its part
 pub part-behind : (n offset : ℕ) (es : List (ℕ × ℕ)) → n ≤ offset → part 0 n (shifted offset es) ≡ []
 part-behind n offset [] h = refl
 part-behind n offset (e ∷ es) h =
@@ -157,7 +157,7 @@ part-diff_first xs ys vs ws l =
     ∙ append-nil (part 0 (length xs) (diff xs vs))
     ∙ part-own (length xs) (diff xs vs) (AreWithin-diff (length xs) xs vs (omega arith))
 
--- each part behind the first row is a part of the difference of the rows behind it
+-- each part after the first row is a part of the difference of the rows after it
 pub part-diff_behind : (xs ys vs ws : List ℕ) (k n : ℕ) → length xs ≡ length vs →
     part (length xs + k) n (diff (xs ++ ys) (vs ++ ws)) ≡ part k n (diff ys ws)
 part-diff_behind xs ys vs ws k n l =

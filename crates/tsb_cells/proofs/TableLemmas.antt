@@ -39,18 +39,18 @@ pub list-told : (row : List ℕ) (k : ℕ) (test : ℕ → Bool) → slice_index
     ((p : ℕ) → 1 ≤ p → p ≤ 16 → test p ≡ names (list_in row k) p) → list_of 16 test ≡ slice_index row k
 list-told row k test small same = list-told_within 16 row k test (omega arith) small small same
 
--- the first cells of a row, and the column behind them
+-- the first cells of a row, and the column after them
 pub more : (row : List ℕ) (o : ℕ) (f : ℕ → ℕ) (xs : List ℕ) → xs ≡ take o row → map f (run_from 1 16) ≡ row_at 16 row o →
     xs ++ map f (run_from 1 16) ≡ take (o + 16) row
 more row o f xs one two = ap₂ (λ (us vs : List ℕ). us ++ vs) one two ∙ sym (take-add o 16 row)
 
 -- ## What a table says
 
--- a cell of the first ones is read as it was, whatever stands behind
+-- a cell of the first ones is read as it was, whatever stands after
 pub front-read : (xs ys : List ℕ) (k : ℕ) → k < length xs → slice_index (xs ++ ys) k ≡ slice_index xs k
 front-read xs ys k below = get_or-append xs ys 0 k below
 
--- a column behind the first o cells
+-- a column after the first o cells
 pub column-read : (o : ℕ) (xs : List ℕ) (f : ℕ → ℕ) (p : ℕ) → length xs ≡ o → 1 ≤ o → 1 ≤ p → p ≤ 16 →
     slice_index (xs ++ map f (run_from 1 16)) (o - 1 + p) ≡ f p
 column-read o xs f p full begun from to =

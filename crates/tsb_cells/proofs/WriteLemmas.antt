@@ -17,7 +17,7 @@ bit-put old new k j p on here same =
       | inr other ↦ rw other.0 (bit-kept old new k j p (λ e. other.1 (sym e)) same)
     ]
 
--- each column of a number where that of kind k is written; the first column stands behind the cell o
+-- each column of a number where that of kind k is written; the first column stands after the cell o
 pub cell-put : (o : ℕ) (old new : List ℕ) (k j p value : ℕ) → slice_index new (o + 16 * k + p) ≡ value → Elsewhere (o + 16 * k + p) old new →
     slice_index new (o + 16 * j + p) ≡ (if k == j then value else slice_index old (o + 16 * j + p))
 cell-put o old new k j p value here same =

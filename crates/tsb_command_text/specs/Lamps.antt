@@ -25,7 +25,7 @@ detector_of w = from_one_to 16 (number_of w)
 abbrev pub station_of : List ℕ → Option ℕ
 station_of w = from_one_to 4 (number_of w)
 
--- the number behind the letter of a head: it has no leading zero
+-- the number after the letter of a head: it has no leading zero
 abbrev pub head_number : List ℕ → Option ℕ
 head_number [] = None
 head_number (d ∷ ds) = if d == 48 then None else number_of (d ∷ ds)

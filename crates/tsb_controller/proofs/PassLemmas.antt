@@ -1,4 +1,4 @@
--- Behind a tick that changed no cell each tick with the same inputs finds what that one found, up to the one that is due:
+-- After a tick that changed no cell each tick with the same inputs finds what that one found, up to the one that is due:
 -- so it changes no cell.
 use Rattle.std.proofs.Common.{◌≡◌, ℕ, ◌+◌, ◌-◌, ◌<◌, ◌≤◌, Bool, true, false, ◌&&◌, if◌then◌else◌, List, Option, Some, None, is_some, is_none, refl, sym, ap, ap₂, ◌∙◌, inl, inr, arith, slice_index}
 use Rattle.std.proofs.Math.Path.{fun_ext}
@@ -77,7 +77,7 @@ use Rattle.tsb_controller.proofs.LaterLemmas.{part-at, output-at, actuated-at, o
 
 -- ## Two ticks
 --
--- Tick `now` has left the rows as they were; tick t comes behind it and before the ones that are due.
+-- Tick `now` has left the rows as they were; tick t comes after it and before the ones that are due.
 
 module _ (now t : ℕ) (plan : Plan) (desk : Desk) (lamp : Option Lamp) (row : Row) (r : Rows) (due soon : ℕ) (one : 1 ≤ now) (behind : now < t) (before : t < due) (sooner : t < soon)
     (placed : IsPlaced plan) (by : AreBy (now - 1) r) (still : IsTicked now row plan r r) (a : ArePhasesStill now row plan r due) (o : AreOthersStill now row plan r soon) where
@@ -422,7 +422,7 @@ module _ (now t : ℕ) (plan : Plan) (desk : Desk) (lamp : Option Lamp) (row : R
     trip = None;
   }
 
--- Each tick behind one that left the rows as they were leaves them so, before the phases and the others are due.
+-- Each tick after one that left the rows as they were leaves them so, before the phases and the others are due.
 pub passes : (now : ℕ) (plan : Plan) (row : Row) (r : Rows) (due soon t : ℕ) → 1 ≤ now → IsPlaced plan → AreBy (now - 1) r → IsTicked now row plan r r →
     ArePhasesStill now row plan r due → AreOthersStill now row plan r soon → now < t → t < due → t < soon → IsTicked t row plan r r
 passes now plan row r due soon t one placed by still a o behind before sooner desk lamp =

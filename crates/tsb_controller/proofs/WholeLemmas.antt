@@ -189,7 +189,7 @@ last : (before xs : List ℕ) (at w : ℕ) → length before ≡ at → length x
 last before xs at w start long = same_lists _ _ (search (arith, places)) (λ i d b. grind (arith, places))
 
 module _ (a : All) (long : AreFull a) where
-  -- the rows before each, and behind it
+  -- the rows before each, and after it
   abbrev b2 : List ℕ
   b2 = a.plan ++ a.desk
 

@@ -1,4 +1,4 @@
--- Ticks that may be passed over: what a tick finds that leaves the rows as they were, and that ticks behind it with the
+-- Ticks that may be passed over: what a tick finds that leaves the rows as they were, and that ticks after it with the
 -- same inputs find and leave the same.
 use Rattle.std.specs.Prelude.{◌≡◌, ℕ, ◌<◌, Bool, List, [], Option, Some, None, option_map}
 use Rattle.tsb_step.specs.tsb_types.declared.flow.Called.{Called}
@@ -24,7 +24,7 @@ use Rattle.tsb_controller.specs.Promises.{IsTicked, IsWatchedTick}
 use Rattle.tsb_controller.specs.Records.{changes}
 use Rattle.tsb_controller.specs.Rows.{Rows, AreBy}
 
--- `due(now, row, plan)`, clause `quiet`: each tick behind `now` and before the one that is due, with these inputs, makes
+-- `due(now, row, plan)`, clause `quiet`: each tick after `now` and before the one that is due, with these inputs, makes
 -- of the rows what they are
 abbrev pub AreQuietUntil : ℕ → Row → Plan → Rows → ℕ → Type 0
 AreQuietUntil now row plan rows due = (t : ℕ) → now < t → t < due → IsTicked t row plan rows rows

@@ -104,7 +104,7 @@ impl Controller {
     }
 
     /// The tick up to which detectors and preempts stay as tick `now` left them, and coordination asks the same, at
-    /// most the one behind the last tick that there is.
+    /// most the one after the last tick that there is.
     fn others_due(&self, now: u32, row: &Row, plan: &Checked) -> u32
         requires in_time { now ≤ last_tick }
         requires by { AreBy now (rows_of self.now) }
@@ -120,9 +120,9 @@ impl Controller {
         detectors.min(preempts).min(coordination.min(TICKS + 1))
     }
 
-    /// The first tick behind `now` that may change something, where tick `now`, with the inputs of `row` on, changed no
+    /// The first tick after `now` that may change something, where tick `now`, with the inputs of `row` on, changed no
     /// cell: each tick before it with the same inputs changes none either, and may be passed over. It is the next tick
-    /// where something waits to be looked at, and at most the one behind the last tick that there is.
+    /// where something waits to be looked at, and at most the one after the last tick that there is.
     pub fn due(&self, now: u32, row: &Row, plan: &Checked) -> u32
         requires closed { IsClosed self.now }
         requires begun { 1 ≤ now }

@@ -1,4 +1,4 @@
--- The local counter a yellow change and a red clearance behind a force-off instant.
+-- The local counter a yellow change and a red clearance after a force-off instant.
 use Rattle.std.proofs.Common.{zero, suc, ◌≡◌, ℕ, ◌+◌, ◌-◌, ◌*◌, ◌/◌, ◌%◌, ◌<◌, ◌≤◌, nat_le, Bool, true, false, ◌&&◌, if◌then◌else◌, Option, Some, None, refl, arith, sym, ap, ◌∙◌}
 use Rattle.std.proofs.Math.Nat.{div-add-mod', mod-lt, mod-add-mod, add-mul-mod_self_right, mul-mod_left}
 use Rattle.std.proofs.lemmas.Bool.{and_parts, leb-true}
@@ -21,7 +21,7 @@ same_residue : (m a b i j : ℕ) → a + i * m ≡ b + j * m → a % m ≡ b % m
 same_residue m a b i j e =
     sym (add-mul-mod_self_right a i m) ∙ (ap (λ x. x % m) e ∙ add-mul-mod_self_right b j m)
 
--- k behind the residue of a - (b + k) stands that of a - b
+-- k after the residue of a - (b + k) stands that of a - b
 difference_moves_on : (m a b k : ℕ) → 0 < m → (residue_of_difference m a (b + k) + k) % m ≡ residue_of_difference m a b
 difference_moves_on m a b k some =
     mod-add-mod (a + (m - (b + k) % m)) m k ∙

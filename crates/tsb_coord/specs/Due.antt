@@ -18,7 +18,7 @@ abbrev pub ForcesOff : Plan → Option ℕ → ℕ → Type 0
 ForcesOff plan selected t = (p : ℕ) × (asks_force_off plan t selected p ≡ true)
 
 -- clause `exact`: while a pattern runs, a phase is forced off in that tick, or it is the next and a phase is forced off
--- now; in free operation it is behind the last tick that there is
+-- now; in free operation it is after the last tick that there is
 pub record IsExact (now : ℕ) (plan : Plan) (row : List ℕ) (result : ℕ) : Type 0 where
   pub runs : (n : ℕ) → running plan (pattern_in row) ≡ Some n →
       ForcesOff plan (pattern_in row) result ⊎ ((result ≡ now + 1) × ForcesOff plan (pattern_in row) now)

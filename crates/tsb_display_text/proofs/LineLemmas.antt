@@ -64,7 +64,7 @@ ascii-local : (local : Option ℕ) → IsAscii (local_field local)
 ascii-local None = ascii-map (λ k. 45) (1 ∷ 2 ∷ 3 ∷ 4 ∷ []) (λ k. omega arith)
 ascii-local (Some n) = ascii-digits n (1000 ∷ 100 ∷ 10 ∷ 1 ∷ [])
 
--- behind a space
+-- after a space
 ascii-spaced : (bs : List ℕ) → IsAscii bs → IsAscii (32 ∷ bs)
 ascii-spaced bs t = ascii-cons 32 bs (omega arith) t
 

@@ -31,7 +31,7 @@ plain-take zero (x ∷ xs) p = tt
 plain-take (suc k) [] p = tt
 plain-take (suc k) (x ∷ xs) p = (p.0, p.1, plain-take k xs p.2)
 
--- behind the beginning of a field, up to a comma
+-- after the beginning of a field, up to a comma
 inside : (xs rest : List ℕ) → has_byte 44 xs ≡ false → fields_from Plain (xs ++ 44 ∷ rest) ≡ with_field xs (fields_of rest)
 inside [] rest p = refl
 inside (x ∷ xs) rest p = elim (eqb_tells x 44) [
@@ -50,7 +50,7 @@ field-first (x ∷ xs) rest p q = elim (eqb_tells x 44) [
   ]
 ]
 
--- behind a quote, up to the next one
+-- after a quote, up to the next one
 quoted : (xs rest : List ℕ) → has_byte 34 xs ≡ false → fields_from Quoted (xs ++ 34 ∷ 44 ∷ rest) ≡ with_field xs (fields_of rest)
 quoted [] rest p = refl
 quoted (x ∷ xs) rest p = elim (eqb_tells x 34) [

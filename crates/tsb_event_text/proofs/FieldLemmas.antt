@@ -91,22 +91,22 @@ pub quoted-other : (xs : List ℕ) (n : ℕ) → n < length xs → Without 34 xs
     → fields_from Quoted xs ≡ None
 quoted-other xs n lt f e some other = quoted-first xs n None lt f e (closed-other (drop (suc n) xs) some other)
 
--- what stands behind place n, as a slice
+-- what stands after place n, as a slice
 pub behind : (xs : List ℕ) (n : ℕ) → n < length xs → take (length xs - (n + 1)) (drop (n + 1) xs) ≡ drop (suc n) xs
 behind xs n lt = rw (add-one n) (take_all (length xs - suc n) (drop (suc n) xs) (let l : length (drop (suc n) xs) ≡ length xs - suc n = length-drop (suc n) xs in omega (arith, l)))
 
--- what stands behind the first byte, as a slice
+-- what stands after the first byte, as a slice
 pub tail : (xs : List ℕ) → take (length xs - 1) (drop 1 xs) ≡ drop 1 xs
 tail xs = take_all (length xs - 1) (drop 1 xs) (let l : length (drop 1 xs) ≡ length xs - 1 = length-drop 1 xs in omega (arith, l))
 
 -- ## One field after another
 
--- a line that has fields has them behind a comma as well
+-- a line that has fields has them after a comma as well
 pub behind-comma : (field : List ℕ) (more : Option (List (List ℕ))) (now : List (List ℕ)) → with_field field more ≡ Some now → (later : List (List ℕ)) × (more ≡ Some later) × (now ≡ field ∷ later)
 behind-comma field None now e = absurd (cc)
 behind-comma field (Some later) now e = (later, refl, cc)
 
--- where fields are there, they are there behind each comma
+-- where fields are there, they are there after each comma
 pub there-more : (line : List ℕ) (field : List ℕ) (more : Option (List (List ℕ))) → fields_of line ≡ with_field field more → are_there more ≡ are_there (fields_of line)
 there-more line field None e = ap are_there (sym e)
 there-more line field (Some later) e = ap are_there (sym e)

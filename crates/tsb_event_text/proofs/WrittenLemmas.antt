@@ -112,7 +112,7 @@ told head ds days second nano count nanos read is few low high zeros same =
 
 -- ## The date
 
--- a date on or behind 0000-01-01 is of a year that is not negative
+-- a date on or after 0000-01-01 is of a year that is not negative
 pub year-is : (d : Date) (days : ℕ) → 3652059 ≤ days → epoch_day d +ℤ pos 4371587 ≡ pos days → pos 0 ≤ℤ d.year
 year-is d days le e = by_lt_z d.year (pos 0)
     (λ lt.

@@ -8,9 +8,9 @@ pub data Place : Type 0 where
   Start : Place
   -- in a field that no quote began
   Plain : Place
-  -- behind the quote that began a field
+  -- after the quote that began a field
   Quoted : Place
-  -- behind the quote that ended it
+  -- after the quote that ended it
   Closed : Place
 
 -- b before the first of these fields, where there are fields

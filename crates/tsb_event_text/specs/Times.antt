@@ -39,7 +39,7 @@ nano_of (b ∷ digits) =
     if b == 46 && nat_le 1 (length digits) && nat_le (length digits) 9
     then number_of (digits ++ drop (length digits) (codes "000000000")) else None
 
--- the moment so many nanoseconds behind a second of a day
+-- the moment so many nanoseconds after a second of a day
 abbrev pub moment_at : Option ℕ → Option ℕ → Option ℕ → Option Moment
 moment_at (Some day) (Some second) (Some nano) = Some (record { nanos = (day * 86400 + second) * 1000000000 + nano })
 moment_at day second nano = None

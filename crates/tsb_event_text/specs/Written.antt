@@ -18,7 +18,7 @@ nine_digits nano =
     digit nano 100000000 ∷ digit nano 10000000 ∷ digit nano 1000000 ∷ digit nano 100000 ∷ digit nano 10000 ∷ digit nano 1000
     ∷ digit nano 100 ∷ digit nano 10 ∷ digit nano 1 ∷ []
 
--- so many of nine digits tell them all: behind them stand zeros alone. The last of them is no zero, unless it is the
+-- so many of nine digits tell them all: after them stand zeros alone. The last of them is no zero, unless it is the
 -- first.
 pub record IsEnough (digits : List ℕ) (count : ℕ) : Type 0 where
   pub some : 1 ≤ count

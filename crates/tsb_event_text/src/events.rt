@@ -38,7 +38,7 @@ pub fn event_line(
     Ok(line)
 }
 
-/// Puts the line of an event, as `event_line` gives it, behind a text. At an error a part of it may stand there.
+/// Puts the line of an event, as `event_line` gives it, after a text. At an error a part of it may stand there.
 pub fn append_event(
     text: &mut Vec<u8>,
     device: &[u8],
@@ -57,7 +57,7 @@ pub fn append_event(
     Ok(())
 }
 
-/// Puts a device behind a line, in double quotes where it would not be read again without.
+/// Puts a device after a line, in double quotes where it would not be read again without.
 fn append_device(line: &mut Vec<u8>, device: &[u8]) -> Result<(), AllocError>
     ensures { OnOk result (line.new.items ≡ line.old.items ++ device_field device.now) }
 {
@@ -70,7 +70,7 @@ fn append_device(line: &mut Vec<u8>, device: &[u8]) -> Result<(), AllocError>
     Ok(())
 }
 
-/// Puts a comma and a number behind a line.
+/// Puts a comma and a number after a line.
 fn append_number(line: &mut Vec<u8>, number: u32) -> Result<(), AllocError>
     ensures { OnOk result (line.new.items ≡ line.old.items ++ 44 ∷ decimal number) }
 {

@@ -9,7 +9,7 @@ use tsb_lines::number;
 /// A moment on a clock without a zone, whose days all have 24 hours.
 #[derive(Clone, Copy, PartialEq, Eq)]
 pub struct Moment {
-    /// How many nanoseconds it lies behind the first moment of -9999-01-01, the first day that the calendar has.
+    /// How many nanoseconds it lies after the first moment of -9999-01-01, the first day that the calendar has.
     pub nanos: u128,
 }
 

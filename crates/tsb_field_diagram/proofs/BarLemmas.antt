@@ -16,7 +16,7 @@ take-step xs i d within = rw add-one (take-suc xs i d within)
 pub all-behind : {A : Type 0} (xs : List A) (i : ℕ) → take (length xs - i) (drop i xs) ≡ drop i xs
 all-behind xs i = let e : length (drop i xs) ≡ length xs - i = length-drop i xs in take_all (length xs - i) (drop i xs) (omega (arith, e))
 
--- the first, and what is behind it
+-- the first, and what is after it
 pub first-behind : {A : Type 0} (xs : List A) (x d : A) → 0 < length xs → x ≡ get_or xs 0 d → xs ≡ x ∷ take (length xs - 1) (drop 1 xs)
 first-behind xs x d some is = rw (all-behind xs 1, is) (drop-step xs 0 d some)
 

@@ -18,7 +18,7 @@ count-end {A = A} all none k end le text whole held =
     let zero-left : end - k ≡ 0 = omega (arith, le) in
     sym (append-nil text) ∙ ap (λ (ts : List A). text ++ ts) (sym (none k)) ∙ ap (λ (n : ℕ). text ++ all k n) (sym zero-left) ∙ held
 
--- a part, and those behind it
+-- a part, and those after it
 pub then : (old more new one rest : List ℕ) → more ≡ old ++ one → new ≡ more ++ rest → new ≡ old ++ (one ++ rest)
 then old more new one rest first others = others ∙ ap (λ (ts : List ℕ). ts ++ rest) first ∙ append_assoc old one rest
 

@@ -190,7 +190,7 @@ stretches-as : (begin other end : ℕ) (f g : ℕ → Mark) (bars : List Bar) �
 stretches-as begin other end f g bars is same held =
     record { fill = rw is held.fill; differ = held.differ; tell = tell-as f g begin end bars held.fill same held.tell }
 
--- where the next item begins behind the first tick of the line
+-- where the next item begins after the first tick of the line
 from-here : {A : Type 0} (tick : A → ℕ) (shown : A → Mark) (first end : ℕ) (x : A) (xs : List A) → Rises tick (x ∷ xs) → first < end → tick x < end →
     IsBefore tick first xs →
     AreStretches (max first (tick x)) end (λ t. shown (in_force tick x xs t)) (bars_of tick shown first end (before_tick tick end (x ∷ xs)))

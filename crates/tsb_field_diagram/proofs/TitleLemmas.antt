@@ -24,7 +24,7 @@ at-other xs i d within other =
     ap (λ (n : ℕ). drop n xs) two ∙ drop-step xs (i + 2) d (omega (arith, within)) in
     rw (drop-step xs i d (omega (arith, within)), drop-step xs (i + 1) d (omega (arith, within)), third, other) refl
 
--- the byte is written, and those behind it are left
+-- the byte is written, and those after it are left
 pub turn-byte : (xs : List ℕ) (i d : ℕ) → escaped (drop i xs) ≡ escaped_byte (get_or xs i d) ++ escaped (drop (i + 1) xs) →
     (text new all : List ℕ) → new ≡ text ++ escaped_byte (get_or xs i d) → text ++ escaped (drop i xs) ≡ all →
     new ++ escaped (drop (i + 1) xs) ≡ all

@@ -7,7 +7,7 @@ use Rattle.tsb_field_diagram.specs.Text.{attribute_text}
 
 -- ## What is in force in a line
 
--- of items, each in force from its tick until the next: that in force at a tick, or else the first, and all behind it
+-- of items, each in force from its tick until the next: that in force at a tick, or else the first, and all after it
 unfoldable pub from_tick : {A : Type 0} → (A → ℕ) → ℕ → List A → List A
 from_tick tick first [] = []
 from_tick tick first (x ∷ []) = x ∷ []

@@ -55,7 +55,7 @@ HaveStretches {A} tick shown =
     AreStretches (max first (tick x)) end (λ t. shown (in_force tick x xs t))
     (bars_of tick shown first end (in_line tick first end (x ∷ xs)))
 
--- where all items come behind the line, it has no bars
+-- where all items come after the line, it has no bars
 abbrev pub HaveNone : {A : Type 0} → (A → ℕ) → (A → Mark) → Type 0
 HaveNone {A} tick shown =
     (first end : ℕ) (x : A) (xs : List A) → Rises tick (x ∷ xs) → first < end → end ≤ tick x →

@@ -15,7 +15,7 @@ use Rattle.tsb_field_diagram.specs.Bars.{bars_of, bars_text, from_tick, before_t
 abbrev pub first_tick : ℕ → ℕ → ℕ
 first_tick seconds k = k * (10 * seconds) + 1
 
--- the tick behind its last one: the last line ends with the last tick
+-- the tick after its last one: the last line ends with the last tick
 abbrev pub end_tick : ℕ → ℕ → ℕ → ℕ
 end_tick seconds last k = min (first_tick seconds k + 10 * seconds) (last + 1)
 

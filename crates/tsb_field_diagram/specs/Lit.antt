@@ -30,7 +30,7 @@ band kind number = record { kind = kind; number = number }
 unfoldable pub band_if : List Shown → List LogRow → Kind → ℕ → List Band
 band_if changes rows kind number = if is_ever changes rows (band kind number) then band kind number ∷ [] else []
 
--- those of a kind, of so many numbers behind this one
+-- those of a kind, of so many numbers after this one
 unfoldable pub bands_on : List Shown → List LogRow → Kind → ℕ → ℕ → List Band
 bands_on changes rows kind before zero = []
 bands_on changes rows kind before (suc count) =

@@ -5,11 +5,11 @@ use Rattle.std.specs.Prelude.{ℕ, ◌+◌, ◌/◌, ◌%◌, ◌==◌, nat_lt, 
 abbrev pub number_text : ℕ → List ℕ
 number_text n = decimal n
 
--- a number behind a name
+-- a number after a name
 abbrev pub named_text : List ℕ → ℕ → List ℕ
 named_text name n = name ++ number_text n
 
--- a number in double quotes, behind a name that ends with the first of them
+-- a number in double quotes, after a name that ends with the first of them
 abbrev pub attribute_text : List ℕ → ℕ → List ℕ
 attribute_text name n = name ++ (number_text n ++ 34 ∷ [])
 

@@ -12,7 +12,7 @@ const LEFT: u128 = 140;
 /// How wide the bars of a line are.
 const WIDTH: u128 = 1000;
 
-/// Puts the axis of a line of so many seconds behind a text.
+/// Puts the axis of a line of so many seconds after a text.
 pub(crate) fn append_axis(
     text: &mut Vec<u8>,
     bands: usize,
@@ -28,7 +28,7 @@ pub(crate) fn append_axis(
     append_marks(text, bands, seconds, begin, end, step_of(seconds))
 }
 
-/// Puts the marks from one second to before another behind a text.
+/// Puts the marks from one second to before another after a text.
 fn append_marks(
     text: &mut Vec<u8>,
     bands: usize,
@@ -68,7 +68,7 @@ fn second_of(index: u64, step: u32) -> u128
     u128::from(index) * u128::from(step)
 }
 
-/// Puts the mark of a second behind a text.
+/// Puts the mark of a second after a text.
 fn append_mark(
     text: &mut Vec<u8>,
     bands: usize,
@@ -94,7 +94,7 @@ fn place_of(seconds: u32, begin: u64, second: u128) -> u128
     LEFT + second.saturating_sub(u128::from(begin)) * WIDTH / u128::from(seconds)
 }
 
-/// Puts the line of a mark behind a text.
+/// Puts the line of a mark after a text.
 fn append_grid(text: &mut Vec<u8>, bands: usize, x: u128) -> Result<(), AllocError>
     ensures { OnOk result (text.new.items ≡ text.old.items ++ grid_text bands x) }
 {
@@ -104,7 +104,7 @@ fn append_grid(text: &mut Vec<u8>, bands: usize, x: u128) -> Result<(), AllocErr
     append(text, b"/>")
 }
 
-/// Puts what is told below a mark behind a text.
+/// Puts what is told below a mark after a text.
 fn append_second(text: &mut Vec<u8>, bands: usize, x: u128, second: u128) -> Result<(), AllocError>
     ensures { OnOk result (text.new.items ≡ text.old.items ++ second_text bands x second) }
 {
@@ -115,7 +115,7 @@ fn append_second(text: &mut Vec<u8>, bands: usize, x: u128, second: u128) -> Res
     append(text, b"</text>\n")
 }
 
-/// Puts the clock of a minute behind a text, or else the second of its minute.
+/// Puts the clock of a minute after a text, or else the second of its minute.
 fn append_mark_name(text: &mut Vec<u8>, second: u128) -> Result<(), AllocError>
     ensures { OnOk result (text.new.items ≡ text.old.items ++ mark_name second) }
 {

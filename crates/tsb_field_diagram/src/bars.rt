@@ -56,7 +56,7 @@ impl InForce for LogRow {
     }
 }
 
-/// What is in force at a tick, or else the first, and all behind it.
+/// What is in force at a tick, or else the first, and all after it.
 pub(crate) fn from_tick<T: InForce>(items: &[T], first: u64) -> &[T]
     ensures { result.now ≡ from_tick T.tick_of first items.now }
 {
@@ -79,7 +79,7 @@ pub(crate) fn before_tick<T: InForce>(items: &[T], end: u64) -> &[T]
     items
 }
 
-/// Puts the bars of a band behind a text, of what is in force in a line.
+/// Puts the bars of a band after a text, of what is in force in a line.
 pub(crate) fn append_bars<T: InForce>(
     text: &mut Vec<u8>,
     place: usize,
@@ -133,7 +133,7 @@ fn number_of(mark: Mark) -> u8
     }
 }
 
-/// Puts a bar behind a text: nothing where the band is dark.
+/// Puts a bar after a text: nothing where the band is dark.
 fn append_bar(
     text: &mut Vec<u8>,
     place: usize,

@@ -58,7 +58,7 @@ fn line_seconds(asked: u32) -> u32
     u32::min(u32::max(asked, 1), DAY)
 }
 
-/// Puts the diagram of these bands behind a text.
+/// Puts the diagram of these bands after a text.
 fn append_picture(
     text: &mut Vec<u8>,
     title: &[u8],
@@ -88,7 +88,7 @@ fn page_height(bands: usize, seconds: u32, last: u32) -> u128
     line_top(bands, line_count(seconds, last))
 }
 
-/// Puts all before the lines behind a text.
+/// Puts all before the lines after a text.
 fn append_page_head(
     text: &mut Vec<u8>,
     title: &[u8],
@@ -104,7 +104,7 @@ fn append_page_head(
     Ok(())
 }
 
-/// Puts the head of the picture behind a text.
+/// Puts the head of the picture after a text.
 fn append_opening(text: &mut Vec<u8>, height: u128) -> Result<(), AllocError>
     ensures { OnOk result (text.new.items ≡ text.old.items ++ opening_text height) }
 {
@@ -118,7 +118,7 @@ fn append_opening(text: &mut Vec<u8>, height: u128) -> Result<(), AllocError>
     Ok(())
 }
 
-/// Puts the title behind a text.
+/// Puts the title after a text.
 fn append_titles(text: &mut Vec<u8>, title: &[u8]) -> Result<(), AllocError>
     ensures { OnOk result (text.new.items ≡ text.old.items ++ titles_text title.now) }
 {
@@ -133,7 +133,7 @@ fn append_titles(text: &mut Vec<u8>, title: &[u8]) -> Result<(), AllocError>
     Ok(())
 }
 
-/// Puts the classes and patterns of shapes behind a text.
+/// Puts the classes and patterns of shapes after a text.
 fn append_classes(text: &mut Vec<u8>, seconds: u32) -> Result<(), AllocError>
     ensures { OnOk result (text.new.items ≡ text.old.items ++ classes_text seconds) }
 {
@@ -144,7 +144,7 @@ fn append_classes(text: &mut Vec<u8>, seconds: u32) -> Result<(), AllocError>
     Ok(())
 }
 
-/// Puts the pattern of what flashes behind a text.
+/// Puts the pattern of what flashes after a text.
 fn append_flash(text: &mut Vec<u8>, seconds: u32) -> Result<(), AllocError>
     ensures { OnOk result (text.new.items ≡ text.old.items ++ flash_text seconds) }
 {
@@ -160,7 +160,7 @@ fn append_flash(text: &mut Vec<u8>, seconds: u32) -> Result<(), AllocError>
     Ok(())
 }
 
-/// Puts the pattern of yellow behind a text.
+/// Puts the pattern of yellow after a text.
 fn append_yellow(text: &mut Vec<u8>, seconds: u32) -> Result<(), AllocError>
     ensures { OnOk result (text.new.items ≡ text.old.items ++ yellow_text seconds) }
 {
@@ -176,7 +176,7 @@ fn append_yellow(text: &mut Vec<u8>, seconds: u32) -> Result<(), AllocError>
     Ok(())
 }
 
-/// Puts the pattern of clearance behind a text.
+/// Puts the pattern of clearance after a text.
 fn append_clearance(text: &mut Vec<u8>, seconds: u32) -> Result<(), AllocError>
     ensures { OnOk result (text.new.items ≡ text.old.items ++ clearance_text seconds) }
 {
@@ -192,7 +192,7 @@ fn append_clearance(text: &mut Vec<u8>, seconds: u32) -> Result<(), AllocError>
     Ok(())
 }
 
-/// Puts the legend behind a text.
+/// Puts the legend after a text.
 fn append_legend(text: &mut Vec<u8>, seconds: u32) -> Result<(), AllocError>
     ensures { OnOk result (text.new.items ≡ text.old.items ++ legend_text seconds) }
 {

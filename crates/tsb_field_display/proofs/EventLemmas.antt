@@ -10,7 +10,7 @@ use Rattle.tsb_field_display.specs.declared.shown.Signals.{Signals}
 use Rattle.tsb_field_display.specs.Events.{event, told, numbers_with, begins, either, events_of, preempt_events, flash_events, is_in_flash, is_green, is_yellow, is_walk, is_clearance, is_overlap_green, is_overlap_yellow}
 use Rattle.tsb_field_display.proofs.NumberLemmas.{filter-none}
 
--- events added behind those that were added
+-- events added after those that were added
 pub more : (old a b e f : List DisplayEvent) → e ≡ old ++ a → f ≡ e ++ b → f ≡ old ++ (a ++ b)
 more old a b e f one other = other ∙ ap (λ (es : List DisplayEvent). es ++ b) one ∙ append_assoc old a b
 

@@ -57,7 +57,7 @@ byte-feed s b e = rw e refl
 byte-other : (s : Stand) (b : ℕ) → (b == 10) ≡ false → with_byte s b ≡ with_held s b
 byte-other s b e = rw e refl
 
--- behind some lines and the bytes of a line, what is known when the last line has ended
+-- after some lines and the bytes of a line, what is known when the last line has ended
 lines-on : (bytes line : List ℕ) (shown : List Shown) → HasNoFeed line → (with_line (with_bytes (stand shown line) bytes)).shown ≡ shown ++ shown_lines (line ++ bytes)
 lines-on [] line shown f =
     ap (λ (o : Option Shown). with_shown shown o) (held-shows line) ∙ shown-last shown (shown_in line)

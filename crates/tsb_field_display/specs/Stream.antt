@@ -34,7 +34,7 @@ pub record ReplayRead (result : Result Replay ReplayError) (input left : Option 
 
 -- ## Byte after byte
 
--- what is known behind some bytes: what the display lines that have ended show, and the bytes of the line that has not,
+-- what is known after some bytes: what the display lines that have ended show, and the bytes of the line that has not,
 -- of a long one the first
 pub record Stand : Type 0 where
   pub shown : List Shown

@@ -11,14 +11,14 @@ use std::io::Read;
 use tsb_display_text::WIDTH;
 use tsb_lines::KeptLine;
 
-/// How many bytes of a line are kept: those of a display line, the carriage return behind them, and one more, by which
+/// How many bytes of a line are kept: those of a display line, the carriage return after them, and one more, by which
 /// a longer line is known.
 const KEPT: usize = WIDTH + 2;
 
 /// How many bytes one read asks for.
 const CHUNK: usize = 4096;
 
-/// What is known behind some bytes: the replay of the lines that have ended, and the bytes of the line that has not,
+/// What is known after some bytes: the replay of the lines that have ended, and the bytes of the line that has not,
 /// of a long one the first.
 #[derive(Drop)]
 struct Stream {
@@ -101,11 +101,11 @@ impl Stream {
 }
 
 /// Reads what a session answers, up to its end, and keeps what remains of its display lines. Other lines are skipped,
-/// however long. What stands behind the last line feed is a line too, and one carriage return at the end of a line is
+/// however long. What stands after the last line feed is a line too, and one carriage return at the end of a line is
 /// no part of it.
 ///
 /// `Read` comes where a read fails or is interrupted, or after 2^64 - 1 reads, and `Memory` where there is none to keep
-/// a change. Nothing is read behind either, and what was read until then is lost.
+/// a change. Nothing is read after either, and what was read until then is lost.
 #[tactic(auto, using(crate::proofs::StreamLemmas::going_start))]
 pub fn read_replay<R: Read>(alloc: Global, reader: &mut R) -> Result<Replay, ReplayError>
     ensures { ReplayRead result (R.remaining reader.old) (R.remaining reader.new) }

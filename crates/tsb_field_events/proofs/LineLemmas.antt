@@ -7,7 +7,7 @@ use Rattle.tsb_field_display.specs.declared.events.DisplayEvent.{DisplayEvent}
 use Rattle.tsb_field_events.specs.Ticks.{moment_of_tick}
 use Rattle.tsb_field_events.specs.Texts.{AreLines, IsLine, Tells}
 
--- a time is that of a tick, and what stands behind a text, with lines of the rest of the events behind it, are lines of all
+-- a time is that of a tick, and what stands after a text, with lines of the rest of the events after it, are lines of all
 pub record Stand (from : Moment) (device : List ℕ) (tick : ℕ) (time old new : List ℕ) (rest all : List DisplayEvent) : Type 0 where
   pub tells : Tells (moment_of_tick from tick) time
   pub done : List ℕ
@@ -39,7 +39,7 @@ one-more from device tick then time later old mid new event held rest all stand 
           (stand.lines (line ++ more) (subst (λ (es : List DisplayEvent). AreLines from device es (line ++ more)) (sym first) (line, more, refl, told, are)));
     }
 
--- behind the last line
+-- after the last line
 pub all-told : (from : Moment) (device : List ℕ) (tick : ℕ) (time old new : List ℕ) (rest all : List DisplayEvent) →
     Stand from device tick time old new rest all → rest ≡ [] →
     (lines : List ℕ) × (new ≡ old ++ lines) × AreLines from device all lines

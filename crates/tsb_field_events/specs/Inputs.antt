@@ -25,7 +25,7 @@ preempt_input_events before tick now =
     told tick 102 (begins (has_number before.preempts) (has_number now.preempts))
     ++ told tick 104 (ends (has_number before.preempts) (has_number now.preempts))
 
--- the events of a row behind another: by their codes, and those of one code by their parameters
+-- the events of a row after another: by their codes, and those of one code by their parameters
 unfoldable pub events_of_row : Row → LogRow → List DisplayEvent
 events_of_row before now =
     vehicle_input_events before now.tick now.row ++ pedestrian_input_events before now.tick now.row

@@ -4,7 +4,7 @@ use Rattle.tsb_event_text.specs.declared.times.Moment.{Moment}
 use Rattle.tsb_event_text.specs.Written.{IsWritten}
 use Rattle.tsb_field_events.specs.declared.times.TheConstants.{LAST_TICK}
 
--- how many tenths of a second a tick lies behind tick 1; tick 0 is told as tick 1, and one past the last as the last
+-- how many tenths of a second a tick lies after tick 1; tick 0 is told as tick 1, and one past the last as the last
 abbrev pub tenths_of : ℕ → ℕ
 tenths_of tick = min tick LAST_TICK - 1
 

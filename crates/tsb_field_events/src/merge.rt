@@ -29,7 +29,7 @@ pub fn session_events(
     Ok(events)
 }
 
-/// Puts the events of display lines behind others. Before the first line nothing is lit.
+/// Puts the events of display lines after others. Before the first line nothing is lit.
 fn append_changes(events: &mut Vec<DisplayEvent>, changes: &[Shown]) -> Result<(), AllocError>
     ensures { OnOk result (events.new.items ≡ events.old.items ++ events_of_lines changes.now) }
 {
@@ -41,7 +41,7 @@ fn append_changes(events: &mut Vec<DisplayEvent>, changes: &[Shown]) -> Result<(
     Ok(())
 }
 
-/// Puts two lists of events behind others as one: an event of the second stands before one of the first where it comes
+/// Puts two lists of events after others as one: an event of the second stands before one of the first where it comes
 /// before it.
 fn append_merged(
     events: &mut Vec<DisplayEvent>,

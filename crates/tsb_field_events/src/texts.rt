@@ -64,7 +64,7 @@ fn log_text(
     Ok(text)
 }
 
-/// Puts the lines of events behind a text.
+/// Puts the lines of events after a text.
 fn append_lines(
     text: &mut Vec<u8>,
     from: Moment,

@@ -23,7 +23,7 @@ same-is a b e =
     let n : a.preempts.word ≡ b.preempts.word = same-word a.preempts.word b.preempts.word preempts in
     ap (λ (w : ℕ). made w a.pedestrians.word a.preempts.word) v ∙ ap (λ (w : ℕ). made b.vehicles.word w a.preempts.word) p ∙ ap (λ (w : ℕ). made b.vehicles.word b.pedestrians.word w) n
 
--- what holds of the rows behind a change, where it is one and where it is none
+-- what holds of the rows after a change, where it is one and where it is none
 by-change : (P : List LogRow → Type 0) (tick : ℕ) (before now : Row) (rest : List LogRow) → (now ≡ before → P rest) → P (record { tick = tick; row = now } ∷ rest) → P (change tick before now ++ rest)
 by-change P tick before now rest same other = at (same_row now before) refl
   where
@@ -33,7 +33,7 @@ by-change P tick before now rest same other = at (same_row now before) refl
 
 -- ## The row in force
 
--- behind the tick of a change
+-- after the tick of a change
 change-force : (tick : ℕ) (before now : Row) (rest : List LogRow) (u : ℕ) → tick ≤ u → row_from before (change tick before now ++ rest) u ≡ row_from now rest u
 change-force tick before now rest u le =
     by-change (λ rows. row_from before rows u ≡ row_from now rest u) tick before now rest (λ same. ap (λ (r : Row). row_from r rest u) (sym same)) (rw (le-leb tick u le) refl)

@@ -70,7 +70,7 @@ leads-push from tick es e (w ∷ ws) lt =
     ap (λ (l : Lead). l ∷ map (lead_of from tick (es ++ e ∷ [])) ws) (lead-push from tick es e w lt)
     ∙ ap (λ (ls : List Lead). lead_taken e (leb e.nanos (begin_of from tick)) (leb (begin_of from tick) e.nanos) (lead_of from tick es w) ∷ ls) (leads-push from tick es e ws lt)
 
--- an event behind a tick changes nothing of it
+-- an event after a tick changes nothing of it
 untouched-wire : (from tick : ℕ) (es : List InputEvent) (e : InputEvent) (wire : Wire) → begin_of from (tick + 1) ≤ e.nanos → begin_of from tick < e.nanos → is_on_in from wire tick (es ++ e ∷ []) ≡ is_on_in from wire tick es
 untouched-wire from tick es e wire le lt =
     let early : leb e.nanos (begin_of from tick) ≡ false = elim (leb_tells e.nanos (begin_of from tick)) [ inl z ↦ absurd (let no : e.nanos ≤ begin_of from tick = z.1 in omega (arith, no, lt)) | inr z ↦ z.0 ] in
@@ -154,7 +154,7 @@ row-leads from tick es wires = lists-row (lead_on (map (lead_of from tick es) wi
 
 -- ## Inputs that a bench has
 
--- a wire that is on, and those behind it
+-- a wire that is on, and those after it
 pub step-on : (h x r k : Bool) → ((h || x && k) || r && k) ≡ (h || ((x && true) || r) && k)
 step-on true x r k = refl
 step-on false true r true = refl
@@ -167,7 +167,7 @@ pub step-off : (h x r k : Bool) → (h || r && k) ≡ (h || ((x && false) || r) 
 step-off h true r k = refl
 step-off h false r k = refl
 
--- the wire at a place, and those behind it
+-- the wire at a place, and those after it
 lead-more : (ls : List Lead) (i : ℕ) (d : Lead) (kind : Kind) (number : ℕ) → i < length ls
     → lead_on (drop i ls) kind number ≡ ((leads_to (get_or ls i d).wire kind number && ((get_or ls i d).begun || (get_or ls i d).raised)) || lead_on (drop (i + 1) ls) kind number)
 lead-more ls i d kind number lt = rw (add-one i) (ap (λ (v : List Lead). lead_on v kind number) (drop-cons ls i d lt))

@@ -4,7 +4,7 @@ use Rattle.tsb_field_log.specs.declared.inputs.Kind.{Kind}
 use Rattle.tsb_field_log.specs.declared.inputs.Wire.{Wire}
 use Rattle.tsb_field_log.specs.Mapping.{is_wired, own_wire, own_wires}
 
--- the wire of the next channel, and those behind it
+-- the wire of the next channel, and those after it
 own-more : (mapped : List Wire) (kind : Kind) (k most : ℕ) → k < most → own_wires mapped kind (k + 1) (most - k) ≡ own_wire mapped kind (k + 1) ++ own_wires mapped kind (k + 1 + 1) (most - (k + 1))
 unfolding own_wires
 own-more mapped kind k most lt =
@@ -19,7 +19,7 @@ own-all mapped kind k most all whole le is =
     let none : most - k ≡ 0 = omega (arith, le) in
     sym (append-nil all) ∙ ap (λ (n : ℕ). all ++ own_wires mapped kind (k + 1) n) (sym none) ∙ is
 
--- behind the wire of a channel that is not mapped
+-- after the wire of a channel that is not mapped
 pub own-pushed : (mapped : List Wire) (kind : Kind) (k most : ℕ) (all whole : List Wire) → k < most → is_wired mapped kind (k + 1) ≡ false → all ++ own_wires mapped kind (k + 1) (most - k) ≡ whole
     → (all ++ record { kind = kind; channel = k + 1; input = k + 1 } ∷ []) ++ own_wires mapped kind (k + 1 + 1) (most - (k + 1)) ≡ whole
 own-pushed mapped kind k most all whole lt free is =
@@ -28,7 +28,7 @@ own-pushed mapped kind k most all whole lt free is =
     ∙ ap (λ (ws : List Wire). all ++ (ws ++ own_wires mapped kind (k + 1 + 1) (most - (k + 1)))) (sym one)
     ∙ ap (λ (ws : List Wire). all ++ ws) (sym (own-more mapped kind k most lt)) ∙ is
 
--- behind a channel that is mapped
+-- after a channel that is mapped
 pub own-passed : (mapped : List Wire) (kind : Kind) (k most : ℕ) (all whole : List Wire) → k < most → is_wired mapped kind (k + 1) ≡ true → all ++ own_wires mapped kind (k + 1) (most - k) ≡ whole
     → all ++ own_wires mapped kind (k + 1 + 1) (most - (k + 1)) ≡ whole
 own-passed mapped kind k most all whole lt taken is =

@@ -19,7 +19,7 @@ last-push-behind : (from tick : ℕ) (es : List InputEvent) (e : InputEvent) →
 last-push-behind from tick [] e = refl
 last-push-behind from tick (x ∷ es) e = last-push-behind from (tick_at from x.nanos) es e
 
--- the last tick behind one more event is that of this event
+-- the last tick after one more event is that of this event
 pub last-push : (from : ℕ) (es : List InputEvent) (e : InputEvent) → last_tick from (es ++ e ∷ []) ≡ tick_at from e.nanos
 last-push from es e = last-push-behind from 0 es e
 
@@ -34,7 +34,7 @@ pub order-push : (from tick : ℕ) (es : List InputEvent) (e : InputEvent) → A
 order-push from tick [] e ordered later most = (later, most)
 order-push from tick (x ∷ es) e ordered later most = (ordered.0, order-push from (tick_at from x.nanos) es e ordered.1 later most)
 
--- ## Rows of some ticks, and of those behind them
+-- ## Rows of some ticks, and of those after them
 
 pub from-one : (tick : ℕ) → 1 ≤ unwritten tick
 from-one zero = omega arith

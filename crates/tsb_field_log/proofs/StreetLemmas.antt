@@ -38,7 +38,7 @@ no-change inputs row tick (suc count) same =
     let here : inputs tick ≡ row = same tick (omega arith) in
     rw here (rw (same-self row) (no-change inputs row (suc tick) count (λ t le. same t (omega (arith, le)))))
 
--- where no event fell into a tick or behind it, all ticks from it on have its row
+-- where no event fell into a tick or after it, all ticks from it on have its row
 still : (from tick t : ℕ) (es : List InputEvent) (wires : List Wire) → tick ≤ t → AreBefore (begin_of from tick) es → row_in from wires es t ≡ row_in from wires es tick
 still from tick t es wires le before =
     let later : AreBefore (begin_of from t) es = before-later (begin_of from tick) (begin_of from t) es (begins-later from tick t le) before in
@@ -46,7 +46,7 @@ still from tick t es wires le before =
     ∙ ap row_of_leads (leads-opened from tick t es wires later ∙ sym (leads-opened from tick tick es wires before))
     ∙ row-leads from tick es wires
 
--- the rows of a tick alone, or of those behind it too, into which no event fell
+-- the rows of a tick alone, or of those after it too, into which no event fell
 pub settled : (from tick to : ℕ) (es : List InputEvent) (wires : List Wire) (before : Row) → tick < to → (to ≡ tick + 1) ⊎ AreBefore (begin_of from tick) es
     → changes (row_in from wires es) before tick (to - tick) ≡ change tick before (row_in from wires es tick)
 unfolding changes
@@ -60,7 +60,7 @@ settled from tick to es wires before lt (inr ended) =
     (no-change (row_in from wires es) (row_in from wires es tick) (suc tick) (to - tick - 1) (λ t le. still from tick t es wires (omega (arith, le)) ended))
     ∙ append-nil (change tick before (row_in from wires es tick))
 
--- first the rows of one tick, and then those behind it
+-- first the rows of one tick, and then those after it
 two-parts : (inputs : ℕ → Row) (before : Row) (tick to : ℕ) → tick < to
     → changes inputs before tick (tick + 1 - tick) ++ changes inputs (inputs tick) (tick + 1) (to - (tick + 1)) ≡ changes inputs before tick (to - tick)
 unfolding changes

@@ -146,7 +146,7 @@ text-length (r ∷ rs) =
     let rest : length (log_text rs) ≡ 39 * length rs = text-length rs in
     omega (arith, all, line, rest)
 
--- the text of rows one behind the other
+-- the text of rows one after the other
 pub text-append : (rs ss : List LogRow) → log_text (rs ++ ss) ≡ log_text rs ++ log_text ss
 unfolding log_text
 text-append [] ss = refl

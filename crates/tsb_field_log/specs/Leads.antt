@@ -24,7 +24,7 @@ lead_of from tick events wire = record {
   raised = switched_on wire (begin_of from tick) (begin_of from (tick + 1)) events;
 }
 
--- of one more event, which is not behind the tick: early where it is not behind the tick's first moment, late where it is
+-- of one more event, which is not after the tick: early where it is not after the tick's first moment, late where it is
 -- not before it
 abbrev pub lead_taken : InputEvent → Bool → Bool → Lead → Lead
 lead_taken event early late lead = record {

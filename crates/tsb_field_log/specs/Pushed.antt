@@ -18,7 +18,7 @@ last_tick_behind from tick (e ∷ es) = last_tick_behind from (tick_at from e.na
 abbrev pub last_tick : ℕ → List InputEvent → ℕ
 last_tick from events = last_tick_behind from 0 events
 
--- these events come in the order of their ticks, behind one of this tick, and none is past the last tick of a bench
+-- these events come in the order of their ticks, after one of this tick, and none is past the last tick of a bench
 abbrev pub AreInOrderBehind : ℕ → ℕ → List InputEvent → Type 0
 AreInOrderBehind from tick [] = tick ≤ TICKS
 AreInOrderBehind from tick (e ∷ es) = (tick ≤ tick_at from e.nanos) × AreInOrderBehind from (tick_at from e.nanos) es
@@ -31,7 +31,7 @@ AreInOrder from events = AreInOrderBehind from 0 events
 abbrev pub rows_before : ℕ → List Wire → List InputEvent → List LogRow
 rows_before from wires events = changes (row_in from wires events) all_off 1 (unwritten (last_tick from events) - 1)
 
--- what a street gives behind the first events, for more of them one after another, and as it is finished
+-- what a street gives after the first events, for more of them one after another, and as it is finished
 abbrev pub rows_given : ℕ → List Wire → List InputEvent → List InputEvent → List LogRow
 rows_given from wires events [] = rows_until from wires events (last_tick from events) (TICKS + 1)
 rows_given from wires events (e ∷ more) =

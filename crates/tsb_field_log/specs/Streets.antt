@@ -39,6 +39,6 @@ abbrev pub rows_until : ℕ → List Wire → List InputEvent → ℕ → ℕ �
 rows_until from wires events tick to =
     changes (row_in from wires events) (row_before (row_in from wires events) (unwritten tick)) (unwritten tick) (to - unwritten tick)
 
--- rows one behind the other
+-- rows one after the other
 abbrev pub rows_in : Rows → List LogRow
 rows_in rows = option_to_list rows.first ++ option_to_list rows.second

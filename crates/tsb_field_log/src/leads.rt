@@ -33,7 +33,7 @@ impl Lead {
         }
     }
 
-    /// Behind one more event, which is not behind the tick: `early` where it is not behind the tick's first moment, `late`
+    /// After one more event, which is not after the tick: `early` where it is not after the tick's first moment, `late`
     /// where it is not before it.
     fn taken(self, event: InputEvent, early: bool, late: bool) -> Lead
         ensures { result ≡ lead_taken event early late self }
@@ -76,7 +76,7 @@ fn is_of(wire: Wire, event: InputEvent) -> bool
     wire.kind == event.kind && wire.channel == event.channel
 }
 
-/// Takes one more event, which is not behind the tick: `early` where it is not behind the tick's first moment, `late`
+/// Takes one more event, which is not after the tick: `early` where it is not after the tick's first moment, `late`
 /// where it is not before it.
 pub(crate) fn take_event(leads: &mut [Lead], event: InputEvent, early: bool, late: bool)
     ensures { leads.new ≡ map (lead_taken event early late) leads.old }

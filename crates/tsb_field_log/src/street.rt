@@ -20,7 +20,7 @@ use tsb_types::limits::TICKS;
 /// The nanoseconds of a tick.
 const TENTH: u128 = 100_000_000;
 
-/// Rows of a log that have become known, one behind the other: of the ticks between two events two at most differ from
+/// Rows of a log that have become known, one after the other: of the ticks between two events two at most differ from
 /// the row before.
 #[derive(Clone, Copy, PartialEq, Eq)]
 pub struct Rows {
@@ -117,7 +117,7 @@ impl Street {
         Rows { first, second }
     }
 
-    /// Where this tick is before `to`, gives its row and goes to `next`: the tick behind it, or any later one where no event
+    /// Where this tick is before `to`, gives its row and goes to `next`: the tick after it, or any later one where no event
     /// fell into this tick.
     fn settle_until(&mut self, to: u32, next: u32) -> Option<LogRow>
         requires next { self.old.tick < to → self.old.tick < next }
@@ -139,7 +139,7 @@ impl Street {
         change
     }
 
-    /// Takes an event of this tick: `early` where it is not behind the tick's first moment, `late` where it is not before it.
+    /// Takes an event of this tick: `early` where it is not after the tick's first moment, `late` where it is not before it.
     fn take(&mut self, event: InputEvent, early: bool, late: bool)
         ensures leads { self.new.leads.items ≡ map (lead_taken event early late) self.old.leads.items }
         ensures rest { (self.new.from ≡ self.old.from) × (self.new.tick ≡ self.old.tick) × (self.new.before ≡ self.old.before) }
@@ -169,7 +169,7 @@ fn change(tick: u32, before: Row, now: Row) -> Option<LogRow>
     }
 }
 
-/// The tick that a moment lies in, or 0 before tick 1, and whether the moment is not behind the first one of that tick.
+/// The tick that a moment lies in, or 0 before tick 1, and whether the moment is not after the first one of that tick.
 /// `None` past tick 6,000,000.
 fn place(from: u128, nanos: u128) -> Option<(u32, bool)>
     ensures past { IsNone result ↔ (TICKS < tick_at from nanos) }

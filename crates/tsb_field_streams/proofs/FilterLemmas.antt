@@ -84,7 +84,7 @@ pub event-taken : (g : Given) (s : Stand) (e : InputEvent) (street : Street) →
 event-taken g s e street t few =
     rw (le-ltb TICKS (tick_at g.from e.nanos) (within g.from g.wires s.events e street t), le-ltb MOST_ROWS (length (rows_before g.from g.wires (s.events ++ e ∷ []))) few) refl
 
--- how many rows are known behind it
+-- how many rows are known after it
 pub known-then : (g : Given) (s : Stand) (e : InputEvent) (f : Filter) (rows : Rows) (known : ℕ) → StandsAt g s f
     → rows_before g.from g.wires (s.events ++ e ∷ []) ≡ rows_before g.from g.wires s.events ++ rows_in rows
     → known ≡ f.rows + length (rows_in rows) → length (rows_before g.from g.wires (s.events ++ e ∷ [])) ≡ known

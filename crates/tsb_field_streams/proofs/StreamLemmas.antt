@@ -77,7 +77,7 @@ known-grows : (g : Given) (s t : Stand) (rows : Rows) → rows_before g.from g.w
     → known_log g t ≡ known_log g s ++ log_text (rows_in rows)
 known-grows g s t rows grown = ap log_text grown ∙ text-append (rows_before g.from g.wires s.events) (rows_in rows)
 
--- of a text behind one that was written the first bytes have gone, and it begins a log
+-- of a text after one that was written the first bytes have gone, and it begins a log
 front-of : (g : Given) (bytes : List ℕ) (t : Stand) (before text tail : List ℕ) (a b c : Option (List ℕ)) → filtered g bytes ≡ Ok t → Appends a b before → AppendsFront b c text
     → whole_log g t ≡ (before ++ text) ++ tail → WroteFront g bytes a c
 front-of g bytes t before text tail a b c comes grown front is = record {

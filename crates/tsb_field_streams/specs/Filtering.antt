@@ -24,7 +24,7 @@ pub record Given : Type 0 where
   pub device : Option (List ℕ)
   pub wires : List Wire
 
--- what is known behind some lines: where the columns stand, the moment of the last row that counted, how many rows were
+-- what is known after some lines: where the columns stand, the moment of the last row that counted, how many rows were
 -- of other devices and how many events had no wire, and the events of inputs
 pub record Stand : Type 0 where
   pub columns : Option Columns

@@ -4,7 +4,7 @@ use Rattle.tsb_lines.specs.Lines.{HasNoFeed, lines_of}
 use Rattle.tsb_field_streams.specs.declared.error.FilterError.{FilterError}
 use Rattle.tsb_field_streams.specs.Filtering.{Given, Stand, one_more, start, with_line}
 
--- what more lines come to, of which the first has this number; behind a fault no line is heeded
+-- what more lines come to, of which the first has this number; after a fault no line is heeded
 abbrev pub lines_behind : Given → ℕ → Result Stand FilterError → List (List ℕ) → Result Stand FilterError
 lines_behind g number (Err e) lines = Err e
 lines_behind g number (Ok s) [] = Ok s
@@ -14,7 +14,7 @@ lines_behind g number (Ok s) (line ∷ lines) = lines_behind g (one_more number)
 abbrev pub filtered : Given → List ℕ → Result Stand FilterError
 filtered g text = lines_behind g 1 (Ok start) (lines_of text)
 
--- of these bytes the whole lines have come to this, and those behind the last line feed begin the line with this number
+-- of these bytes the whole lines have come to this, and those after the last line feed begin the line with this number
 pub record HasRead (g : Given) (bytes : List ℕ) (number : ℕ) (s : Stand) (held : List ℕ) : Type 0 where
   pub front : List ℕ
   pub whole : bytes ≡ front ++ held

@@ -28,7 +28,7 @@ pub struct LeftOut {
     pub without_input: u32,
 }
 
-/// What is known behind some lines of events.
+/// What is known after some lines of events.
 #[derive(Drop)]
 pub struct Filter<'a> {
     /// The device whose rows count, byte for byte, or all where it is `None`.
@@ -80,7 +80,7 @@ impl<'a> Filter<'a> {
     /// The first line may begin with a byte order mark. A line that is blank or begins with `#` is skipped; the first that
     /// is not names the columns, or is a row with its columns in the usual places. Of rows of other devices nothing is
     /// asked but that they are rows; of the others each is no earlier than the one before. The errors are `Malformed`,
-    /// `TimeOrder`, `PastEnd` and `LogTooLarge`; no line is taken behind one.
+    /// `TimeOrder`, `PastEnd` and `LogTooLarge`; no line is taken after one.
     #[tactic(auto, unfolding(crate::specs::Filtering::with_line))]
     pub fn take_line(&mut self, number: u32, line: &[u8]) -> Result<Rows, FilterError>
         ensures takes { (g : Given) (s : Stand) → StandsAt g s self.old → Takes g s (with_line g number s line.now) result self.new }

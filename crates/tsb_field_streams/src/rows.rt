@@ -52,7 +52,7 @@ fn rows_text(rows: Rows) -> ArrayVec<u8, ROWS>
     text
 }
 
-/// Puts the line of a row behind a text, where there is one.
+/// Puts the line of a row after a text, where there is one.
 #[tactic(auto, using(crate::proofs::RowLemmas::some_row))]
 fn append(text: &mut ArrayVec<u8, ROWS>, row: Option<LogRow>)
     requires { array_vec_len text.old + 39 ≤ 78 }

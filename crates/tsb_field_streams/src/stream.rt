@@ -16,13 +16,13 @@ use tsb_lines::KeptLine;
 /// The most events of a stream, in bytes: 1 GiB.
 pub const EVENTS: usize = 1_073_741_824;
 
-/// How many bytes of a line are kept: one more than its greatest length, and the carriage return behind it.
+/// How many bytes of a line are kept: one more than its greatest length, and the carriage return after it.
 const KEPT: usize = LINE + 2;
 
 /// How many bytes one read asks for.
 const CHUNK: usize = 4096;
 
-/// A stream between two bytes: what is known behind its whole lines, and the first bytes of the line that is not whole.
+/// A stream between two bytes: what is known after its whole lines, and the first bytes of the line that is not whole.
 #[derive(Drop)]
 struct Stream<'a> {
     filter: Filter<'a>,
@@ -67,7 +67,7 @@ impl Stream<'_> {
         Ok(())
     }
 
-    /// Takes what stands behind the last line feed as the last line, and writes the rest of the log.
+    /// Takes what stands after the last line feed as the last line, and writes the rest of the log.
     fn finish<W: Write>(&mut self, writer: &mut W) -> Result<LeftOut, FilterError>
         ensures finished { (g : Given) (bytes : List ℕ) (begun : Option (List ℕ)) → Follows g bytes self.old begun (W.contents writer.old)
             → Finished result g bytes begun (W.contents writer.new) }

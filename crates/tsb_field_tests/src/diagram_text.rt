@@ -34,7 +34,7 @@ const EMPTY: &[u8] =
 </svg>
 ";
 
-/// Two lines of ten seconds, behind the legend.
+/// Two lines of ten seconds, after the legend.
 const TWO_LINES: &[u8] = b"<svg width=\"1160\" height=\"180\" y=\"64\">
 <text class=\"b\" x=\"4\" y=\"12\">0:00:00</text>
 <text class=\"l\" x=\"132\" y=\"12\">preempt 2</text>
@@ -109,7 +109,7 @@ const TWO_LINES: &[u8] = b"<svg width=\"1160\" height=\"180\" y=\"64\">
 </svg>
 ";
 
-/// A line in which nothing is lit, behind the legend.
+/// A line in which nothing is lit, after the legend.
 const DARK_LINE: &[u8] = b"<svg width=\"1160\" height=\"36\" y=\"64\">
 <text class=\"b\" x=\"4\" y=\"12\">0:00:00</text>
 <line class=\"a\" x1=\"140\" x2=\"140\" y2=\"4\"/><text class=\"k\" x=\"140\" y=\"16\">0:00:00</text>
@@ -153,7 +153,7 @@ fn row(tick: u32, vehicles: u16, pedestrians: u16, preempts: u16) -> LogRow {
     }
 }
 
-/// What comes behind so many lines of a text.
+/// What comes after so many lines of a text.
 fn behind_lines(text: &[u8], count: u32) -> &[u8] {
     let mut lines: u32 = 0;
     for (index, byte) in text.iter().enumerate() {
@@ -167,7 +167,7 @@ fn behind_lines(text: &[u8], count: u32) -> &[u8] {
     &[]
 }
 
-/// What comes behind the legend of a diagram with the title "Main": the legend ends with the eleventh line.
+/// What comes after the legend of a diagram with the title "Main": the legend ends with the eleventh line.
 fn lines_of(
     alloc: Global,
     seconds: u32,

@@ -33,7 +33,7 @@ enum Odd {
     IsIdle,
 }
 
-/// Gives its bytes in pieces. One of its reads may be odd, behind so many others; those behind it go on.
+/// Gives its bytes in pieces. One of its reads may be odd, after so many others; those after it go on.
 #[derive(Drop)]
 struct Pieces<'a> {
     left: &'a [u8],
@@ -186,7 +186,7 @@ fn pieces_are_read_as_the_whole(rt: HostRuntime) -> Result<(), ReplayError> {
     Ok(())
 }
 
-/// A reader fails at each of its reads, and nothing is read behind it.
+/// A reader fails at each of its reads, and nothing is read after it.
 #[test]
 fn a_read_that_fails_ends_the_reading(rt: HostRuntime) {
     for kind in [

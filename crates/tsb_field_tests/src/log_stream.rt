@@ -6,7 +6,7 @@ use tsb_event_text::{Moment, read_moment};
 use tsb_field_log::{Kind, Wire};
 use tsb_field_streams::{FilterError, LeftOut, log};
 
-/// Gives a text in pieces of so many bytes, and may fail behind its last.
+/// Gives a text in pieces of so many bytes, and may fail after its last.
 #[derive(Drop)]
 struct Pieces {
     left: &'static [u8],
@@ -152,7 +152,7 @@ fn lines_end_as_lines_do(rt: HostRuntime) {
     // A return at the end of a last line without a line feed is a byte of the line.
     let text = b"7,2026-11-22 07:00:00,82,1\r".as_slice();
     assert!(rt; ends(rt.alloc(), whole(text), b"", FilterError::Malformed(1)));
-    // Behind the first line a mark is a part of the device's name.
+    // After the first line a mark is a part of the device's name.
     let text = b"\n\xef\xbb\xbf7,2026-11-22 07:00:00,82,1\n".as_slice();
     assert!(rt; gives(rt.alloc(), whole(text), log));
 }

@@ -1,4 +1,4 @@
--- What was written is read again: the spelling of a record behind other bytes, and so the records
+-- What was written is read again: the spelling of a record after other bytes, and so the records
 -- and the bytes of a history after a push and after a pop.
 use Rattle.std.proofs.Common.{◌≡◌, ℕ, zero, suc, ◌+◌, ◌-◌, ◌*◌, ◌≤◌, List, [], ◌∷◌, ◌++◌, length, get_or, take, refl, sym, ap, subst, arith, ◌∙◌, append_assoc, length-append, get_or-append-add, get_or-take, length-take-le, add_assoc, take_at, All}
 use Rattle.std.proofs.Math.ListN.{get_or-append}
@@ -11,7 +11,7 @@ use Rattle.tsb_history.specs.History.{Change, older, size_of, FitsEntry, FitsRec
 use Rattle.tsb_history.specs.Bytes.{entries_at, count_at, start_at, change_at, changes_at, IsRecordAt, IsLaid, two_at, four_at, kind_of, code_of, entry_bytes, entries_bytes, record_bytes, IsKept, bytes_of}
 use Rattle.tsb_history.proofs.PlaceLemmas.{length-entries_at, changes_same, laid_same, Agree}
 
--- a list of bytes behind another is read in the same way
+-- a list of bytes after another is read in the same way
 two_behind : (xs ys : List ℕ) (i : ℕ) → two_at (xs ++ ys) (length xs + i) ≡ two_at ys i
 two_behind xs ys i =
     let next : length xs + i + 1 ≡ length xs + (i + 1) = omega arith in
@@ -61,7 +61,7 @@ kind-code : (k : Kind) → kind_of (code_of k) ≡ k
 kind-code Tick = refl
 kind-code k = refl
 
--- a record behind other bytes is read whole
+-- a record after other bytes is read whole
 pub record IsRead (bs : List ℕ) (r : Change) : Type 0 where
   pub change : change_at (bs ++ record_bytes r) (length (bs ++ record_bytes r)) ≡ r
   pub start : start_at (bs ++ record_bytes r) (length (bs ++ record_bytes r)) ≡ length bs
@@ -99,7 +99,7 @@ record-read bs r fits =
       whole = record { whole = bound };
     }
 
--- m records, the newest r behind those before
+-- m records, the newest r after those before
 pub record IsGrown (m n : ℕ) (bs cs : List ℕ) (r : Change) : Type 0 where
   pub laid : IsLaid m cs (length cs)
   pub records : changes_at m cs (length cs) ≡ r ∷ changes_at n bs (length bs)

@@ -1,5 +1,5 @@
 -- How records are spelled in bytes, and how they are read again.
--- Spelling goes by lists, one piece behind the other. Reading goes by places in the whole list of
+-- Spelling goes by lists, one piece after the other. Reading goes by places in the whole list of
 -- bytes, from the end of a record to its start, so that nothing is cut or copied.
 use Rattle.std.specs.Prelude.{◌≡◌, ℕ, zero, suc, ◌+◌, ◌-◌, ◌*◌, ◌≤◌, ◌==◌, List, [], ◌∷◌, ◌++◌, length, All, slice_index, if◌then◌else◌}
 use Rattle.std.specs.Int.{w16, w32, to_le_bytes}

@@ -29,7 +29,7 @@ EnabledAreServed = OfEveryRun ServesEnabled
 
 -- ## Commitments
 
--- the tick `row` after the inputs `is` ends the green of p, of ring r; behind it r is committed to c, and no crossing
+-- the tick `row` after the inputs `is` ends the green of p, of ring r; after it r is committed to c, and no crossing
 -- is under way
 pub record CommitsTo (plan : Plan) (is : List Input) (row : Row) (p : ℕ) (r : Ring) (c : ℕ) : Type 0 where
   pub ended : EndsGreen plan is row p

@@ -30,7 +30,7 @@ pub record TakesAtMost (plan : Plan) (base : List Input) (n : ℕ) (later : List
   pub revert : (r : Ring) (c : ℕ) → (replay plan base).rings.commitment r ≡ Some c → largest (λ x. red_revert x c) plan base later ≤ n
 
 -- The crossing has been completed at one of these later inputs, `limit` ticks after those of `base` at the latest: in
--- the tick `next` after the inputs `older` of them. Behind it no crossing is under way, side d is served, and each phase
+-- the tick `next` after the inputs `older` of them. After it no crossing is under way, side d is served, and each phase
 -- that the crossing committed a ring to is Green.
 pub record IsCompleted (plan : Plan) (base : List Input) (d limit : ℕ) (later : List Input) : Type 0 where
   pub older : List Input

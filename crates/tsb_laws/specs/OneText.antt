@@ -22,7 +22,7 @@ memory_line = refused_line Memory
 abbrev pub tells_memory : List ℕ → Bool
 tells_memory text = list_any (bytes_eq memory_line) (split text)
 
--- behind lines that both texts begin with, the first tells that memory ran out
+-- after lines that both texts begin with, the first tells that memory ran out
 pub record PartsAtMemory (text other : List ℕ) : Type 0 where
   pub front : List ℕ
   pub behind : List ℕ

@@ -11,7 +11,7 @@ digit-read n d ds lt =
     let same : n * 10 + (48 + d - 48) ≡ n * 10 + d = omega arith in
     rw (low, high, same) refl
 
--- a digit behind those of the number above it
+-- a digit after those of the number above it
 pub digit-next : (t n m unit : ℕ) (ds : List ℕ) → n * 10 + t / unit % 10 ≡ m → number_from n ((48 + t / unit % 10) ∷ ds) ≡ number_from m ds
 digit-next t n m unit ds e = digit-read n (t / unit % 10) ds (omega arith) ∙ ap (λ (k : ℕ). number_from k ds) e
 

@@ -28,7 +28,7 @@ IsWord (b ∷ c ∷ bs) = (b ≢ 32) × IsWord (c ∷ bs)
 abbrev pub IgnoreSpaces : Type 0
 IgnoreSpaces = (rest : List ℕ) → words_of (32 ∷ rest) ≡ words_of rest
 
--- a word that begins a line, with a space behind it, is the first of its words
+-- a word that begins a line, with a space after it, is the first of its words
 abbrev pub EndAtSpaces : Type 0
 EndAtSpaces = (word rest : List ℕ) → IsWord word → words_of (word ++ 32 ∷ rest) ≡ word ∷ words_of rest
 

@@ -6,7 +6,7 @@ abbrev pub onto_first : ℕ → List (List ℕ) → List (List ℕ)
 onto_first b [] = (b ∷ []) ∷ []
 onto_first b (l ∷ ls) = (b ∷ l) ∷ ls
 
--- what stands before, between and behind the line feeds: one more than there are of them
+-- what stands before, between and after the line feeds: one more than there are of them
 abbrev pub split : List ℕ → List (List ℕ)
 split [] = [] ∷ []
 split (b ∷ bs) = if b == 10 then [] ∷ split bs else onto_first b (split bs)
@@ -28,7 +28,7 @@ ended [] = []
 ended (l ∷ []) = l ∷ []
 ended (l ∷ m ∷ ms) = without_return l ∷ ended (m ∷ ms)
 
--- the lines of a text: a line feed ends a line, and a carriage return before it is part of that end. What stands behind
+-- the lines of a text: a line feed ends a line, and a carriage return before it is part of that end. What stands after
 -- the last line feed is the last line, as it is.
 abbrev pub lines_of : List ℕ → List (List ℕ)
 lines_of text = ended (split text)

@@ -11,7 +11,7 @@ abbrev pub words_of : List ℕ → List (List ℕ)
 words_of [] = []
 words_of (b ∷ bs) = if b == 32 then words_of bs else onto_word b bs (words_of bs)
 
--- n with these digits behind it
+-- n with these digits after it
 abbrev pub number_from : ℕ → List ℕ → Option ℕ
 number_from n [] = Some n
 number_from n (b ∷ bs) = if nat_le 48 b && nat_le b 57 then number_from (n * 10 + (b - 48)) bs else None

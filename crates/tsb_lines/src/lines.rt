@@ -4,7 +4,7 @@ ghost use Rattle.tsb_lines.specs.Lines.{is_blank, is_comment, is_skipped, lines_
 
 use memchr::memchr;
 
-/// The first line of a text, without its end, and what stands behind its line feed, or `None` where the
+/// The first line of a text, without its end, and what stands after its line feed, or `None` where the
 /// text has no further line. A line feed ends a line, with one carriage return before it, if there is one;
 /// the last line, which no line feed ends, keeps a carriage return.
 pub fn next_line(text: &[u8]) -> (&[u8], Option<&[u8]>)

@@ -13,12 +13,12 @@ abbrev pub with_rows : List LogRow → Result (List LogRow) LogError → Result 
 with_rows rows (Ok more) = Ok (rows ++ more)
 with_rows rows (Err e) = Err e
 
--- line n is this row, or none, and stands behind a row of tick last: its tick has to be a later one
+-- line n is this row, or none, and stands after a row of tick last: its tick has to be a later one
 abbrev pub row_then : ℕ → ℕ → Option LogRow → (ℕ → Result (List LogRow) LogError) → Result (List LogRow) LogError
 row_then n last None rest = Err (Malformed n)
 row_then n last (Some r) rest = if nat_lt last r.tick then with_rows (r ∷ []) (rest r.tick) else Err (TickOrder n)
 
--- the rows of these lines, the first of which is line n and stands behind a row of tick last, or the first fault
+-- the rows of these lines, the first of which is line n and stands after a row of tick last, or the first fault
 unfoldable pub rows_from : ℕ → ℕ → List (List ℕ) → Result (List LogRow) LogError
 rows_from n last [] = Ok []
 rows_from n last (line ∷ lines) =

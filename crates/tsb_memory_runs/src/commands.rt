@@ -38,7 +38,7 @@ fn way_back() -> [Cmd; 4] {
     ]
 }
 
-/// Puts so many ticks behind the commands.
+/// Puts so many ticks after the commands.
 fn put_ticks(commands: &mut Vec<Cmd>, ticks: usize) -> Result<(), AllocError> {
     for _ in 0..ticks {
         commands.push(Cmd::Apply(Input::Tick(Row::all_off())))?;

@@ -13,7 +13,7 @@ use Rattle.tsb_types.specs.Sets.{names}
 use Rattle.tsb_types.proofs.SetLemmas.{names-zero, names-above}
 use Rattle.tsb_rules.proofs.ConsistentLemmas.{together}
 
--- behind the last index an object has no value but 0
+-- after the last index an object has no value but 0
 pub none-behind : (cells : List ℕ) (o : Object) (n wanted : ℕ) → 1 ≤ wanted → indices o < n → (value_in cells o n == wanted) ≡ false
 none-behind cells o n wanted some behind =
     let outside : has_index o n ≡ false = grind (arith, nat_tests, behind) in

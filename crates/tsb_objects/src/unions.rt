@@ -56,7 +56,7 @@ pub(crate) fn of_eight(unions: &[u16; 256], numbers: NumberSet) -> PhaseSet
 }
 
 /// For each set of numbers from 1 to 8, as a list, the phases in the set of one of them, as a list: number 1 stands for
-/// the set behind the first `before`.
+/// the set after the first `before`.
 pub(crate) fn unions_of_eight(sets: &[u16; 16], before: usize) -> [u16; 256]
     requires { before ≤ 8 }
     ensures full { length result ≡ 256 }

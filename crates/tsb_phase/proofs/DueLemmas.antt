@@ -112,7 +112,7 @@ expired-found plan p r now limit x b e f h =
 pub expired-stays : (plan : Plan) (p : ℕ) (r : PhaseRow) (now t : ℕ) → now ≤ t → has_expired plan p r now ≡ true → has_expired plan p r t ≡ true
 expired-stays plan p r now t after h = reached-on now t r.passage _ _ after (runs-on now t r.reduction after plan p) h
 
--- so many ticks behind tick `now` the passage timer has not reached the gap that is reduced
+-- so many ticks after tick `now` the passage timer has not reached the gap that is reduced
 pub on-unexpired : (plan : Plan) (p : ℕ) (r : PhaseRow) (now t : ℕ) → 1 ≤ r.passage → 1 ≤ r.reduction → r.passage ≤ now + 1 → r.reduction ≤ now + 1 → now ≤ t →
     now + 1 - r.passage + (t - now) < gap plan p (On (now + 1 - r.reduction + (t - now))) → has_expired plan p r t ≡ false
 on-unexpired plan p r now t runs reduces begun reduced after h =

@@ -157,7 +157,7 @@ long-column : (f : ℕ → ℕ) → length (column f) ≡ 16
 unfolding column run_from
 long-column f = refl
 
--- the column behind the first n cells has in cell k what it has of phase p
+-- the column after the first n cells has in cell k what it has of phase p
 at-column : (xs : List ℕ) (f : ℕ → ℕ) (n k p : ℕ) → length xs ≡ n → k + 1 ≡ n + p → 1 ≤ p → p ≤ 16 → get_or (xs ++ column f) k 0 ≡ f p
 unfolding column
 at-column xs f n k p long place from to =

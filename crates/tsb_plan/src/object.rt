@@ -159,7 +159,7 @@ pub(crate) struct ObjectRow {
 /// its first cell, its number of indices and greatest value in a plan, those in version 1 of plan texts,
 /// and whether it is structural.
 ///
-/// The order is that of the objects' cells in a plan. An object's first cell is behind the cells of the one
+/// The order is that of the objects' cells in a plan. An object's first cell is after the cells of the one
 /// before it.
 macro_rules! table {
     ($column:ident) => {

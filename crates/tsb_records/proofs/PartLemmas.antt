@@ -6,7 +6,7 @@ use Rattle.std.proofs.lemmas.List.{drop_all}
 use Rattle.tsb_cells.specs.Diff.{AreWithin, apply_diff, part}
 use Rattle.tsb_cells.proofs.PartLemmas.{AreWithin-part}
 
--- an entry and those behind it
+-- an entry and those after it
 pub entry-first : (i : ℕ) (es : List (ℕ × ℕ)) (e : ℕ × ℕ) → slice_get es i ≡ Some e → drop i es ≡ e ∷ drop (i + 1) es
 entry-first i es e found =
     let here : i < length es = slice_get_within es i e found in

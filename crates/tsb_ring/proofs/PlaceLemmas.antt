@@ -1,4 +1,4 @@
--- The places of a sequence: in a plan that breaks no rule there are only zeros behind a zero, so that who looks for a
+-- The places of a sequence: in a plan that breaks no rule there are only zeros after a zero, so that who looks for a
 -- phase stops there.
 use Rattle.std.proofs.Common.{◌≡◌, ℕ, zero, suc, ◌<◌, ◌≤◌, ◌==◌, Bool, true, false, not, ◌||◌, List, [], ◌∷◌, length, get_or, take, drop, None, refl, ap, ◌∙◌, arith, inl, inr}
 use Rattle.std.proofs.lemmas.Bool.{and_parts, cases_Bool, cases_eq, eq-eqb}

@@ -47,7 +47,7 @@ impl Asked<'_> {
 #[error("usage: tsb_speed PLAN LOG TICKS ticks|undo|when|lines|all|log [times]")]
 pub struct BadWords;
 
-/// What the words ask for, behind the program's name.
+/// What the words ask for, after the program's name.
 pub fn read_words(words: &[String]) -> Result<Asked<'_>, BadWords> {
     let (words, is_timed) = match words {
         [words @ .., last] if words.len() == 4 && last.as_str() == "times" => (words, true),

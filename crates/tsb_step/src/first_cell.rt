@@ -4,7 +4,7 @@
 use crate::MONITOR_CELLS;
 use tsb_objects::PLAN_CELLS;
 
-/// The desk's, behind the plan's.
+/// The desk's, after the plan's.
 pub const DESK: u16 = PLAN_CELLS as u16;
 
 /// The detectors'.

@@ -29,7 +29,7 @@ pub fn run<W: Write>(alloc: Global, text: &[u8], output: &mut W) -> Result<()> {
     Ok(())
 }
 
-/// The first case of a text and what stands behind it, or `None` where there is no further case. Blank lines and lines
+/// The first case of a text and what stands after it, or `None` where there is no further case. Blank lines and lines
 /// that begin with `#` are skipped before a case.
 pub fn next_case(text: &[u8]) -> Result<Option<(Case, &[u8])>, CaseError>
     ensures { IfOk result (λ found. MatchOption found (headed (lines_of text.now) ≡ [])
@@ -49,7 +49,7 @@ pub fn next_case(text: &[u8]) -> Result<Option<(Case, &[u8])>, CaseError>
     }
 }
 
-/// The case with this head, and what stands behind its pieces. A head is the kind, the name, the length of each piece,
+/// The case with this head, and what stands after its pieces. A head is the kind, the name, the length of each piece,
 /// and the words that are left.
 fn read_case<'a>(head: &'a [u8], text: &'a [u8]) -> Option<(Case<'a>, &'a [u8])>
     ensures { IfSome result
@@ -61,7 +61,7 @@ fn read_case<'a>(head: &'a [u8], text: &'a [u8]) -> Option<(Case<'a>, &'a [u8])>
     Some((Case { name, given, left }, rest))
 }
 
-/// What is run, told by the kind and these words, the words that are left, and what stands behind the pieces.
+/// What is run, told by the kind and these words, the words that are left, and what stands after the pieces.
 fn read_given<'a>(
     kind: &[u8],
     words: &'a [u8],
@@ -89,7 +89,7 @@ fn read_given<'a>(
     None
 }
 
-/// Three pieces in turn, by the next of these words, the words that are left, and the text behind the pieces.
+/// Three pieces in turn, by the next of these words, the words that are left, and the text after the pieces.
 fn read_three<'a>(
     words: &'a [u8],
     text: &'a [u8],
@@ -103,7 +103,7 @@ fn read_three<'a>(
     Some(((plan, log, commands), left, rest))
 }
 
-/// The piece whose length is the first of these words, the words behind it, and the text behind the piece.
+/// The piece whose length is the first of these words, the words after it, and the text after the piece.
 fn read_piece<'a>(words: &'a [u8], text: &'a [u8]) -> Option<(&'a [u8], &'a [u8], &'a [u8])>
     ensures { MatchOption result ((piece left rest : List ℕ) → IsNext words.now text.now piece left rest → ⊥)
         (λ found. IsNext words.now text.now found.0.now found.1.now found.2.now) }

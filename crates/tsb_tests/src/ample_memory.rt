@@ -172,7 +172,7 @@ fn many_rows(alloc: Global) -> Result<Vec<u8>, AllocError> {
     Ok(text)
 }
 
-/// A log of many rows is read whole, and a fault in a line behind them is told.
+/// A log of many rows is read whole, and a fault in a line after them is told.
 #[test]
 fn many_rows_are_read(rt: HostRuntime) -> Result<(), Fail> {
     let mut text = many_rows(rt.alloc())?;

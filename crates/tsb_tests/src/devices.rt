@@ -1,4 +1,4 @@
-//! Sessions whose reader or writer fails once, at each of its calls in turn, and would go on behind that.
+//! Sessions whose reader or writer fails once, at each of its calls in turn, and would go on after that.
 
 use std::alloc::Global;
 use std::io::{self, ErrorKind, Read, Write};
@@ -40,7 +40,7 @@ const FAILURES: [Odd; 4] = [
     Odd::Fails(ErrorKind::OutOfMemory),
 ];
 
-/// How many calls there are before the odd one, or that it is behind.
+/// How many calls there are before the odd one, or that it is after.
 #[derive(Clone, Copy)]
 struct Count {
     left: Option<usize>,
@@ -179,7 +179,7 @@ fn whole_lines(count: usize) -> &'static [u8] {
     &INPUT[..end.min(INPUT.len())]
 }
 
-/// A reader fails at each of its reads. All lines that were read until then are answered, and nothing is read behind it.
+/// A reader fails at each of its reads. All lines that were read until then are answered, and nothing is read after it.
 #[test]
 fn a_read_that_fails_ends_a_session(rt: HostRuntime) {
     for piece in [1, 7, 4096] {

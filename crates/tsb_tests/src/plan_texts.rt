@@ -184,7 +184,7 @@ fn a_text_of_the_limit_is_judged(rt: HostRuntime) {
     }
 }
 
-/// What reading a text answers that is `start`, so many times `piece`, then `end`, and then what stands behind the first
+/// What reading a text answers that is `start`, so many times `piece`, then `end`, and then what stands after the first
 /// brace of the built-in plan of two phases.
 fn answer_repeated(
     alloc: Global,

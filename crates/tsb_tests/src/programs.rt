@@ -68,7 +68,7 @@ fn whole(left: &'static [u8], piece: usize) -> Shelf {
     Shelf::Opens(Pieces { left, piece, end })
 }
 
-/// Files that fail behind the last byte of this text.
+/// Files that fail after the last byte of this text.
 fn torn(left: &'static [u8], kind: ErrorKind) -> Shelf {
     let end = Some(kind);
     let piece = 7;
@@ -89,7 +89,7 @@ fn fails(alloc: Global, files: &Shelf, fault: FileError) -> bool {
     is_unread && matches!(log_of(alloc, files, "file"), Err(ReadError::Failed(it)) if it == fault)
 }
 
-/// What a file has is read to its end or to so many bytes, whatever its pieces; what is behind them is left alone.
+/// What a file has is read to its end or to so many bytes, whatever its pieces; what is after them is left alone.
 #[test]
 fn a_file_is_read_to_so_many_bytes(rt: HostRuntime) {
     for most in 0..ROW.len() + 2 {
@@ -108,7 +108,7 @@ fn a_file_is_read_to_so_many_bytes(rt: HostRuntime) {
     }
 }
 
-/// A file fails where it is opened, or behind each of its bytes. Of memory that is told as such.
+/// A file fails where it is opened, or after each of its bytes. Of memory that is told as such.
 #[test]
 fn a_file_that_fails_gives_its_fault(rt: HostRuntime) {
     for (kind, fault) in [

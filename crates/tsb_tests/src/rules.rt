@@ -39,7 +39,7 @@ fn rules_are_judged_in_order(rt: HostRuntime) {
         ),
         (Rule::K2, &[(Object::PhaseRing, 2, 0)]),
         (Rule::K2, &[(Object::PhaseSide, 4, 0)]),
-        // Sequence 1 leaves a phase out, has it twice, before one of a lower side, or behind a zero.
+        // Sequence 1 leaves a phase out, has it twice, before one of a lower side, or after a zero.
         (Rule::K6, &[(Object::SequenceData, 2, 0)]),
         (Rule::K6, &[(Object::SequenceData, 3, 4)]),
         (

@@ -197,7 +197,7 @@ fn a_reader_that_never_ends_is_too_large(rt: HostRuntime) {
     assert!(rt; out.is_empty());
 }
 
-/// What stands behind `quit` is not answered.
+/// What stands after `quit` is not answered.
 #[test]
 fn quit_ends_a_session(rt: HostRuntime) {
     assert!(rt;
@@ -212,7 +212,7 @@ fn quit_ends_a_session(rt: HostRuntime) {
     assert!(rt; answers(&rt, b"show it\r\nquit\r\nshow\r\n", b"bad command\n"));
 }
 
-/// What stands behind `quit` is not read.
+/// What stands after `quit` is not read.
 #[test]
 fn quit_reads_no_further(rt: HostRuntime) {
     let mut out = Vec::new(rt.alloc());
@@ -324,7 +324,7 @@ never\nnothing\ntick 0000001\n"
     assert!(rt; answers_on_quad(&rt, log, commands, answers));
 }
 
-/// `step`, so many spaces, and `1`, with this behind it.
+/// `step`, so many spaces, and `1`, with this after it.
 fn answers_spaced(rt: &HostRuntime, spaces: usize, end: &[u8], text: &[u8]) -> bool {
     let mut line = [b' '; 300];
     line[..4].copy_from_slice(b"step");

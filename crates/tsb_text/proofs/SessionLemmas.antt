@@ -122,7 +122,7 @@ ended-read given log bench held budget i l l2 o n waits g none k =
       answered = λ x. subst (λ (v : List ℕ). AnswersWhole given v g.wrote.said.gone) (sym all) (whole-answered given g.inputs g.read held waits g.wrote.text g.wrote.said.gone g.wrote.said.kept none (holds-clean g.read held g.holds) g.wrote.so);
     }
 
--- a byte stands behind those that may be read
+-- a byte stands after those that may be read
 pub ended-large : (given : Setup) (log : List LogRow) (bench : Whole) (held : List ℕ) (budget : ℕ) (i l l2 o n : Option (List ℕ)) (waits : List ℕ) (count most : ℕ) (piece : List ℕ) → Going given log bench held budget i l o n waits → waits ≡ [] → Consumes l l2 piece
     → budget < count → count ≡ length piece → count ≤ most → (budget < most → most ≤ 1) → Ended (Err TooLarge) given i l2 o n
 unfolding EndedText
@@ -242,7 +242,7 @@ going-more given log bench bench2 held held2 budget i l l2 o n n2 n3 waits waits
       fits = let f : length g.read + budget ≡ 16777216 = g.fits in let all : length (g.read ++ piece) ≡ length g.read + length piece = length-append g.read piece in omega (arith, f, all, long, fits);
     }
 
--- a fault in writing what waited behind a piece
+-- a fault in writing what waited after a piece
 pub ended-send : (given : Setup) (log : List LogRow) (bench bench2 : Whole) (held held2 : List ℕ) (budget : ℕ) (i l l2 o n n2 n3 : Option (List ℕ)) (waits waits2 waits3 : List ℕ) (f : Flow) (count : ℕ) (piece : List ℕ)
     → Going given log bench held budget i l o n waits → Consumes l l2 piece → count ≡ length piece → count ≤ budget → f ≡ On
     → ((given : Setup) (inputs : List Input) → Stands given log bench inputs → Went (Ok f) given inputs (held ++ piece) log bench2 held2 n n2 waits waits2)

@@ -82,7 +82,7 @@ obeyed-do_fault given log is bench r c a b p q fault e done = record {
 
 -- ## A byte
 
--- a line with its line feed, and what stands behind
+-- a line with its line feed, and what stands after
 whole-line : (h more : List ℕ) → HasNoFeed h → lines_of ((h ++ 10 ∷ []) ++ more) ≡ without_return h ∷ lines_of more
 whole-line h more f = ap lines_of (append_assoc h (10 ∷ []) more) ∙ lines-joined h more f
 
@@ -174,7 +174,7 @@ talking-more given log is h bytes i x old new held next f a b c p q w lt e on t 
     let all : Went (Ok On) given is ((h ++ take i bytes) ++ x ∷ []) log new next a c p w = joined (Ok On) given log is (h ++ take i bytes) t.now held (x ∷ []) new next a b c p q w t.wrote step in
     record { now = all.0; stands = all.1; wrote = subst (λ (v : List ℕ). Wrote a c p w (Carries given is v all.0 next)) (front-more h bytes i x lt e) all.2 }
 
--- more bytes behind a line that ended it, or behind a fault
+-- more bytes after a line that ended it, or after a fault
 whole-more : (given : Setup) (is : List Input) (bytes more : List ℕ) (a b : Option (List ℕ)) (p q : List ℕ) → Wrote a b p q (IsWhole given is bytes) → Wrote a b p q (IsWhole given is (bytes ++ more))
 whole-more given is bytes more a b p q w =
     record { text = w.text; said = w.said; so = record { all = λ rest. subst (λ (v : List ℕ). IsText given is v w.text) (sym (append_assoc bytes more rest)) (w.so.all (more ++ rest)) } }

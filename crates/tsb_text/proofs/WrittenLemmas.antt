@@ -19,7 +19,7 @@ said-more a b c w v u t x s r = record {
   kept = sym (append_assoc w t x) ∙ ap (λ (l : List ℕ). l ++ x) s.kept ∙ append_assoc s.gone v x ∙ ap (λ (l : List ℕ). s.gone ++ l) r.kept ∙ sym (append_assoc s.gone r.gone u);
 }
 
--- n more of the bytes behind g have gone
+-- n more of the bytes after g have gone
 pub said-gone : (a b c : Option (List ℕ)) (w items : List ℕ) (g n : ℕ) (xs : List ℕ) → xs ≡ items → Said a b w (drop g items) [] → Appends b c (take n (take (length xs - g) (drop g xs))) → Said a c w (drop (g + n) items) []
 said-gone a b c w items g n xs same s k =
     let all : take (length items - g) (drop g items) ≡ drop g items = take_all (length items - g) (drop g items) (let e : length (drop g items) ≡ length items - g = length-drop g items in omega (arith, e)) in
@@ -36,7 +36,7 @@ drop-behind zero items x h = refl
 drop-behind (suc g) [] x h = absurd (omega (arith, h))
 drop-behind (suc g) (i ∷ items) x h = drop-behind g items x (omega (arith, h))
 
--- a text behind those that wait
+-- a text after those that wait
 pub said-behind : (a b : Option (List ℕ)) (w v items new x : List ℕ) (g : ℕ) → Said a b w v [] → drop g items ≡ v → g ≤ length items → new ≡ items ++ x → Said a b w (drop g new) x
 said-behind a b w v items new x g s is h grown =
     let there : drop g new ≡ v ++ x = ap (drop g) grown ∙ drop-behind g items x h ∙ ap (λ (l : List ℕ). l ++ x) is in

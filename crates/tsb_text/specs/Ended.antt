@@ -15,15 +15,15 @@ use Rattle.tsb_text.specs.Text.{IsText}
 pub record Carries (given : Setup) (inputs : List Input) (bytes : List ℕ) (left : List Input) (held said : List ℕ) : Type 0 where
   pub on : (more text : List ℕ) → IsText given left (held ++ more) text → IsText given inputs (bytes ++ more) (said ++ text)
 
--- this is the text, whatever comes behind these bytes
+-- this is the text, whatever comes after these bytes
 pub record IsWhole (given : Setup) (inputs : List Input) (bytes said : List ℕ) : Type 0 where
   pub all : (more : List ℕ) → IsText given inputs (bytes ++ more) said
 
--- this begins a text, whatever comes behind these bytes
+-- this begins a text, whatever comes after these bytes
 pub record IsBegun (given : Setup) (inputs : List Input) (bytes said : List ℕ) : Type 0 where
   pub rest : (more : List ℕ) → (rest : List ℕ) × IsText given inputs (bytes ++ more) (said ++ rest)
 
--- nothing stands behind the last line feed
+-- nothing stands after the last line feed
 abbrev pub EndsLine : List ℕ → Type 0
 EndsLine bytes = (bytes ≡ []) ⊎ ((front : List ℕ) × (bytes ≡ front ++ 10 ∷ []))
 
@@ -38,7 +38,7 @@ pub record Quits (bytes : List ℕ) : Type 0 where
   pub reads : reading (without_return line) ≡ Do Quit
 
 -- how a session ended, after these bytes were read: it wrote a text of theirs, at the end of the input or where a line
--- was `quit`, and then whatever comes behind; or after a fault a prefix of one, whatever comes behind them or at the
+-- was `quit`, and then whatever comes after; or after a fault a prefix of one, whatever comes after them or at the
 -- end of the input. With no memory to begin with it has read nothing and written nothing.
 abbrev pub EndedSo : Result (Unit {0}) SessionError → Setup → Option (List ℕ) → List ℕ → List ℕ → Type 0
 EndedSo (Ok u) given left read written = (IsAtEnd left × IsText given [] read written) ⊎ (Quits read × IsWhole given [] read written)
@@ -46,8 +46,8 @@ EndedSo (Err Memory) given left read written = (read ≡ []) × (written ≡ [])
 EndedSo (Err e) given left read written =
     (IsAtEnd left × (rest : List ℕ) × IsText given [] read (written ++ rest)) ⊎ IsBegun given [] read written
 
--- all whole lines of these bytes were answered: whatever comes behind, a text is what was written, and then what may be
--- said for an unfinished line and the bytes behind
+-- all whole lines of these bytes were answered: whatever comes after, a text is what was written, and then what may be
+-- said for an unfinished line and the bytes after
 pub record AnswersWhole (given : Setup) (bytes written : List ℕ) : Type 0 where
   pub left : List Input
   pub held : List ℕ

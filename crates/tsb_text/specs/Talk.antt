@@ -48,16 +48,16 @@ abbrev pub flow_after : Command → Flow
 flow_after Quit = Over
 flow_after c = On
 
--- this answers the line, and then what answers the lines behind it
+-- this answers the line, and then what answers the lines after it
 abbrev pub AnswersLine : Setup → List Input → Reading → List Input → List ℕ → Type 0
 AnswersLine given inputs reading left said = (lines : List (List ℕ)) (rest : List ℕ) → IsAnswered given left lines rest
     → Says given reading inputs (said ++ rest) (λ new text. IsAnswered given new lines text)
 
--- this answers the line and all lines behind it
+-- this answers the line and all lines after it
 abbrev pub AnswersAll : Setup → List Input → Reading → List ℕ → Type 0
 AnswersAll given inputs reading said = (lines : List (List ℕ)) → Says given reading inputs said (λ new text. IsAnswered given new lines text)
 
--- this begins what answers the line and those behind it
+-- this begins what answers the line and those after it
 abbrev pub BeginsLine : Setup → List Input → Reading → List ℕ → Type 0
 BeginsLine given inputs reading said =
     (lines : List (List ℕ)) → (rest : List ℕ) × Says given reading inputs (said ++ rest) (λ new text. IsAnswered given new lines text)

@@ -15,7 +15,7 @@ abbrev pub GoesOn : Command → (List ℕ → Type 0) → List ℕ → Type 0
 GoesOn Quit Rest text = text ≡ []
 GoesOn c Rest text = Rest text
 
--- what is answered to a line, where Rest says what may be to the lines behind it
+-- what is answered to a line, where Rest says what may be to the lines after it
 abbrev pub Says : Setup → Reading → List Input → List ℕ → (List Input → List ℕ → Type 0) → Type 0
 Says given Skip inputs text Rest = Rest inputs text
 Says given Bad inputs text Rest = (rest : List ℕ) × (text ≡ with_feed (codes "bad command") ++ rest) × Rest inputs rest

@@ -6,7 +6,7 @@ use Rattle.std.specs.Io.KnownBytes.{Appends}
 abbrev pub with_feed : List ℕ → List ℕ
 with_feed line = line ++ 10 ∷ []
 
--- a text was said: of what waited before, and the text behind it, a prefix has gone to the writer, and the rest waits
+-- a text was said: of what waited before, and the text after it, a prefix has gone to the writer, and the rest waits
 pub record Said (old new : Option (List ℕ)) (waited waits text : List ℕ) : Type 0 where
   pub gone : List ℕ
   pub grown : Appends old new gone

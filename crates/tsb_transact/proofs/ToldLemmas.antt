@@ -30,7 +30,7 @@ drop-two row n within =
     drop_more row n 0 (omega (arith, within))
     ∙ ap (λ (l : List ℕ). slice_index row n ∷ l) (drop_more row (n + 1) 0 within ∙ ap (λ (k : ℕ). slice_index row (n + 1) ∷ drop k row) e)
 
--- edit k and those behind it
+-- edit k and those after it
 two-on : (row : List ℕ) (k m : ℕ) → length row ≡ CELLS → k + suc m ≡ 65 →
     drop (2 * k + 2) row ≡ slice_index row (2 * k + 2) ∷ slice_index row (2 * k + 3) ∷ drop (2 * (k + 1) + 2) row
 two-on row k m full last =

@@ -83,7 +83,7 @@ fn rewrite_edit(
     edits[i] = value;
 }
 
-/// Puts an edit of a new place behind the others.
+/// Puts an edit of a new place after the others.
 fn add_edit(bank: &mut Bank<CELLS>, edits: &mut IndexMap<u32, u32>, place: u32, value: u32)
     requires opened { is_open bank.old ≡ true }
     requires by { IsBy (cells_of bank.old) }

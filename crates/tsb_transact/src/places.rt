@@ -16,7 +16,7 @@ pub fn place(id: ObjectId) -> u32
     id.object.first_cell() as u32 + id.index
 }
 
-/// The object and index that have a place among the values of these objects, from 1. A place behind all of them has none: it
+/// The object and index that have a place among the values of these objects, from 1. A place after all of them has none: it
 /// gives the index 0, which no object has.
 fn id_among(all: &[Object], place: u32) -> ObjectId
     ensures { result ≡ id_among all.now place }

@@ -1,4 +1,4 @@
--- What `check` and `run` make of the words behind them.
+-- What `check` and `run` make of the words after them.
 use Rattle.std.proofs.Common.{◌≡◌, ◌∙◌, ℕ, Bool, true, false, List, [], ◌∷◌, Option, Some, None, option_map, if◌then◌else◌, refl, sym, ap, subst, inl, inr, codes, bytes_eq}
 use Rattle.std.proofs.lemmas.Slice.Eq.{bytes_eq-Decides}
 use Rattle.clap.specs.Walk.{Row, Text, Walk, has_long, has_short, used, value}
@@ -77,7 +77,7 @@ log_id = codes "LOG"
 
 -- ## `check`
 
--- before the plan's name, and behind it
+-- before the plan's name, and after it
 abbrev check_none : Bool → Walk
 check_none is_trailing = standing [] None 1 is_trailing
 
@@ -154,7 +154,7 @@ check-words (word ∷ rest) = check-none-dash word rest (bytes_eq word (codes "-
 abbrev plan_rows : Text → List Row
 plan_rows plan = used (with_index 1 (filled (file_rule plan_id))) (plan ∷ []) []
 
--- before the plan's name, behind it, and behind the log's
+-- before the plan's name, after it, and after the log's
 abbrev run_none : Bool → Walk
 run_none is_trailing = standing [] None 1 is_trailing
 

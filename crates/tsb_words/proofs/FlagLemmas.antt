@@ -31,7 +31,7 @@ or-nothing (k ∷ ks) = refl
 
 -- ## Which words are flags
 
--- what the word begins with is a name behind two hyphens, or a character behind one
+-- what the word begins with is a name after two hyphens, or a character after one
 abbrev pub IsFlag : Text → Type 0
 IsFlag word = ((found : Text × Option Text) × (long_of word ≡ Some found))
     ⊎ ((long_of word ≡ None) × (y : ℕ) × (ys : Text) × (short_of word ≡ Some (y ∷ ys)) × (has_some (chars (y ∷ ys)) ≡ true))

@@ -54,7 +54,7 @@ fault_of_word s h word is_dash = if is_dash then [] else flag_word_fault s.rules
 abbrev pub met_of_word : Shape → Held → ℕ → Text → Bool → Held × Step
 met_of_word s h position word is_dash = if is_dash then (h, trailing position) else long_or_other s.rules idle word (long_of word) h
 
--- `--`: what stands behind it is no flag
+-- `--`: what stands after it is no flag
 pub level-dash : (s : Shape) (rows : List Row) (p : Option (Text × List Text)) (position : ℕ) (rest : List Text)
     → Level s (standing rows p position false) (codes "--" ∷ rest) ≡ Level s (standing rows p position true) rest
 unfolding clap_on_literals

@@ -4,7 +4,7 @@ pub mod WordLemmas
 pub mod FlagLemmas
 -- one level of a parse, a word at a time
 pub mod LevelLemmas
--- the two subcommands of `tsb`, whatever words stand behind their names
+-- the two subcommands of `tsb`, whatever words stand after their names
 pub mod FileLemmas
 -- all words of `tsb`
 pub mod ProgramLemmas

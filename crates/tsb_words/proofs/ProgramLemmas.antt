@@ -30,9 +30,9 @@ top-alone = record {
   short = λ x. one-found (has_short help x) help;
 }
 
--- ## Behind a subcommand's name
+-- ## After a subcommand's name
 
--- the walk has met a subcommand, and these words behind it
+-- the walk has met a subcommand, and these words after it
 abbrev stopped_at : Text → List Text → Walk
 stopped_at name words = record (standing [] None 1 false) { stopped = Some (name, words) }
 
@@ -61,7 +61,7 @@ by-fails fault w f = fails-first fault (or_else (entered_fault P w.stopped)
     (or_else (defaults_fault (settled top.rules w.held).rows top.rules)
     (check_fault top (finished top.rules w.held) (is_some (entered P w.stopped)))))) f
 
--- what these words behind the program's name fail by, and the subcommand that they name
+-- what these words after the program's name fail by, and the subcommand that they name
 abbrev faults : List Text → Kinds
 faults words = built_fault P nothing_held words
 

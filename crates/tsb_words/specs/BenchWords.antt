@@ -16,12 +16,12 @@ abbrev pub has_some : List ℕ → Bool
 has_some [] = false
 has_some (x ∷ xs) = true
 
--- behind a first hyphen stands a character: the word is a flag, of which the program has none
+-- after a first hyphen stands a character: the word is a flag, of which the program has none
 abbrev pub is_flag : List ℕ → Bool
 is_flag [] = false
 is_flag (x ∷ rest) = x == 45 && has_some (chars rest)
 
--- the files that words name. The first word `--` is passed over; behind it each word is a file, also one like a flag.
+-- the files that words name. The first word `--` is passed over; after it each word is a file, also one like a flag.
 abbrev pub files : List (List ℕ) → Option (List (List ℕ))
 files [] = Some []
 files (word ∷ rest) =
@@ -43,7 +43,7 @@ abbrev pub built_in_of : List (List ℕ) → Option Wish
 built_in_of [] = Some built_in
 built_in_of (word ∷ rest) = None
 
--- what the words behind the program's name ask for, if they are words of the program
+-- what the words after the program's name ask for, if they are words of the program
 abbrev pub wish_of : List (List ℕ) → Option Wish
 wish_of [] = Some built_in
 wish_of (word ∷ rest) =

@@ -62,7 +62,7 @@ program = record {
 abbrev pub has_globals : Command → Bool
 has_globals command = (out-Command command).has_globals
 
--- the command with these options behind its own
+-- the command with these options after its own
 abbrev pub with_rules : List Rule → App → App
 with_rules rules app = record app { top = record app.top { rules = app.top.rules ++ rules } }
 

@@ -12,7 +12,7 @@ use Rattle.tsb_words.specs.Words.{IsRefused, SpelledBy}
 abbrev pub onto_front : ℕ → List ℕ × List ℕ → List ℕ × List ℕ
 onto_front b parts = (b ∷ parts.0, parts.1)
 
--- what stands before the first `=` of a word, and what behind it
+-- what stands before the first `=` of a word, and what after it
 abbrev pub parts_of : List ℕ → Option (List ℕ × List ℕ)
 parts_of [] = None
 parts_of (b ∷ bs) = if b == 61 then Some ([], bs) else option_map (onto_front b) (parts_of bs)
@@ -54,7 +54,7 @@ abbrev pub joined : Option (List Wire) → Option (List Wire) → Option (List W
 joined (Some first) (Some second) = Some (first ++ second)
 joined first second = None
 
--- wires are added behind those before
+-- wires are added after those before
 abbrev pub Adds : {T : Type 0} → Option (List Wire) → List Wire → List Wire → Result T WordsError → Type 0
 Adds wires before after (Ok done) = joined (Some before) wires ≡ Some after
 Adds wires before after (Err error) = IsRefused wires error

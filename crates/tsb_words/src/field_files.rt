@@ -61,7 +61,7 @@ pub enum Asked<'a> {
 /// `log` has `--from TIME`, and may have `--device ID` and any number of `--vehicle CHANNEL=DETECTOR`,
 /// `--pedestrian CHANNEL=DETECTOR` and `--preempt CHANNEL=INPUT`; `events` has `--from TIME` and `--device ID`, and may
 /// have `--log LOG`; `diagram` may have `--log LOG`, `--title TEXT` and `--seconds-per-line N`. Options come in any
-/// order, and `--NAME=VALUE` is `--NAME VALUE`. A value that begins with a hyphen stands behind `=`. All else is `Bad`,
+/// order, and `--NAME=VALUE` is `--NAME VALUE`. A value that begins with a hyphen stands after `=`. All else is `Bad`,
 /// a request for help among it, and a device of `events` with a double quote, an end of a line or over 900 bytes.
 /// `Memory` may come in place of every answer.
 pub fn read_words<'a, S: AsStr>(alloc: Global, words: &'a [S]) -> Result<Asked<'a>, WordsError>

@@ -88,7 +88,7 @@ short_instants : instants short 1
 unfolding quad run_from split_sum side_sum split_end force_off
 short_instants = refl
 
--- ## Four sides: phases 2, 4, 10 and 12 of ring 1, a side each, and 14 of ring 2 beside 12. Splits end behind the sums of
+-- ## Four sides: phases 2, 4, 10 and 12 of ring 1, a side each, and 14 of ring 2 beside 12. Splits end after the sums of
 -- all lower sides, also in a ring that has no phases there
 
 unfoldable pub four : Plan

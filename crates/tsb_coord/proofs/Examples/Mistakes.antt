@@ -48,7 +48,7 @@ counts_not : end_of_served three_is_omitted 1 1 4 ≡ 650
 unfolding quad run_from split_sum side_sum
 counts_not = refl
 
--- ## A split ends behind the sums of its own ring's lower sides
+-- ## A split ends after the sums of its own ring's lower sides
 
 abbrev pub end_in_ring : Plan → ℕ → ℕ → ℕ
 end_in_ring plan table p =

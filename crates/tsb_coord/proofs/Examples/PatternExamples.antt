@@ -29,7 +29,7 @@ orders_of_ring_1 : serving_order lagging (Some 1) 1 ∷ serving_order lagging No
 unfolding lagging quad run_from
 orders_of_ring_1 = refl
 
--- phase 1 ends its split behind phase 2's
+-- phase 1 ends its split after phase 2's
 lagging_instants : instants lagging 1
     ≡ Some 110 ∷ Some 760 ∷ Some 260 ∷ Some 510 ∷ Some 110 ∷ Some 760 ∷ Some 260 ∷ Some 510 ∷ None ∷ []
 unfolding lagging quad run_from split_sum side_sum split_end force_off

@@ -60,6 +60,6 @@ late fill = absurd (omega (arith, fill.0))
 abbrev ended_early : List Bar → List Bar
 ended_early bars = map (λ b. bar b.begin (b.end - 1) b.mark) bars
 
--- there is a gap behind the first bar
+-- there is a gap after the first bar
 gap : Fill 5 (ended_early (bar 5 11 Red ∷ bar 11 41 Green ∷ bar 41 51 Yellow ∷ [])) 51 → ⊥
 gap fill = absurd (omega (arith, fill.1.1.0))

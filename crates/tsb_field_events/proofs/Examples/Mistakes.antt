@@ -23,7 +23,7 @@ inputs = event 1 82 4 ∷ event 3 82 5 ∷ []
 as_defined : merged head inputs ≡ event 1 82 4 ∷ event 2 1 4 ∷ event 3 82 5 ∷ []
 as_defined = refl
 
--- ## The events of inputs behind all others
+-- ## The events of inputs after all others
 
 behind : head ++ inputs ≡ event 2 1 4 ∷ event 1 82 4 ∷ event 3 82 5 ∷ []
 behind = refl
@@ -58,7 +58,7 @@ other_event : (device time : List ℕ) (moment : Moment) → can_be_written devi
     → code_of (row_of usual_columns None (event_row_text device time 5 82)) ≡ 5
 other_event device time moment can told = ap code_of (read-again device time moment 5 82 None can told.plain told.read (omega arith) (omega arith))
 
--- ## Tick 1 begins a tenth of a second behind `from`
+-- ## Tick 1 begins a tenth of a second after `from`
 
 abbrev moment_of_tick_late : Moment → ℕ → Moment
 moment_of_tick_late from tick = record { nanos = from.nanos + tick * 100000000 }

@@ -22,7 +22,7 @@ both = wire ∷ other ∷ []
 in_order : AreInOrder start two
 in_order = (omega arith, (omega arith, (omega arith, (omega arith, omega arith))))
 
--- so do those behind the first
+-- so do those after the first
 more_in_order : AreInOrderBehind start (last_tick start (take 1 two)) (goes true 1110000000 ∷ other_goes false 1310000000 ∷ [])
 more_in_order = (omega arith, (omega arith, omega arith))
 

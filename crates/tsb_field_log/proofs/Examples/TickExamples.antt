@@ -22,7 +22,7 @@ wire = record { kind = Vehicle; channel = 21; input = 3 }
 abbrev pub other : Wire
 other = record { kind = Vehicle; channel = 3; input = 3 }
 
--- channel 21 goes on or off, so many nanoseconds behind the start
+-- channel 21 goes on or off, so many nanoseconds after the start
 abbrev pub goes : Bool → ℕ → InputEvent
 goes on nanos = record { nanos = nanos; kind = Vehicle; channel = 21; on = on }
 

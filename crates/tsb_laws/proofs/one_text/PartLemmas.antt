@@ -27,7 +27,7 @@ parts-here text other only = record {
   shared = refl;
 }
 
--- with more behind both
+-- with more after both
 pub parts-before : (text other rest more : List ℕ) → PartsAtMemory text other → PartsAtMemory (text ++ rest) (other ++ more)
 parts-before text other rest more p = record {
   front = p.front;
@@ -58,7 +58,7 @@ equal-behind lines text other ended (inr (inr p)) = inr (inr (parts-behind lines
 
 -- ## What tells that memory ran out
 
--- a line behind the first passes the test
+-- a line after the first passes the test
 PassesBehind : (List ℕ → Bool) → List (List ℕ) → Type 0
 PassesBehind test [] = ⊥
 PassesBehind test (l ∷ ls) = list_any test ls ≡ true

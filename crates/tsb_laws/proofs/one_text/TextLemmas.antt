@@ -150,7 +150,7 @@ answered-alike given is c text other left others x y = asked-alike given is _ te
 
 -- ## Lines
 
--- behind two answers to a command
+-- after two answers to a command
 texts-behind : (Rest : List Input → List ℕ → Type 0) (text other rest more : List ℕ) (left others : List Input) →
     ((new : List Input) (v w : List ℕ) → Rest new v → Rest new w → AreEqualButForMemory v w) → Rest left rest → Rest others more →
     AreAnswersAlike text other left others → AreEqualButForMemory (text ++ rest) (other ++ more)

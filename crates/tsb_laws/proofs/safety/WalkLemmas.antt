@@ -98,7 +98,7 @@ module _ (plan : Plan) (base : List Input) (p : ℕ) (ok : IsConsistent plan) wh
       (since_gone (λ s. not (is_dont_walk (pedestrian_part s p))) plan base later i c) (omega (arith, clock, due_w, due_c, t))
   still i later none same (done x) = done (one_more i later x)
 
-  -- a tick behind which the phase is in DontWalk: its green goes on, or ends
+  -- a tick after which the phase is in DontWalk: its green goes on, or ends
   part_ended : (row : Row) (later : List Input) → interval (replay plan (later ++ base)) p ≡ Green →
       has_held_since (λ s. is_walk (pedestrian_part s p)) plan base (Tick row ∷ later) ≡ false →
       has_held_since (λ s. not (is_dont_walk (pedestrian_part s p))) plan base (Tick row ∷ later) ≡ false →

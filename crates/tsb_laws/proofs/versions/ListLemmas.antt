@@ -1,4 +1,4 @@
--- Phases 1 to 8 among phases 1 to 16, and lists with zeros behind them.
+-- Phases 1 to 8 among phases 1 to 16, and lists with zeros after them.
 use Rattle.std.proofs.Common.{◌≡◌, ℕ, ◌+◌, ◌==◌, nat_le, nat_lt, Bool, true, false, ◌&&◌, List, [], ◌∷◌, ◌++◌, Option, Some, None, refl, arith, sym, ◌∙◌, ap, inl, inr, sum_by}
 use Rattle.std.specs.List.{list_all, list_any}
 use Rattle.std.proofs.lemmas.Bool.{eqb-true, cases_Bool, and_parts}
@@ -113,7 +113,7 @@ sum-phases same test within beyond =
       beyond 16 refl,
     ) (omega arith)
 
--- ## Zeros behind a list
+-- ## Zeros after a list
 
 -- nothing but zeros
 abbrev pub all_zero : List ℕ → Bool

@@ -86,7 +86,7 @@ row-place v row p from to =
     let index : 8 * ((16 * row + p - 1) / 16) + (16 * row + p - 1) % 16 + 1 ≡ 8 * row + p = omega arith in
     rw (at, index) refl
 
--- the places behind them
+-- the places after them
 row-behind : (v : ℕ → ℕ) (row p : ℕ) → 9 ≤ p → p ≤ 16 → widened_row v (16 * row + p) ≡ 0
 row-behind v row p from to =
     let at : nat_le 1 (16 * row + p) && nat_lt ((16 * row + p - 1) % 16) 8 ≡ false = grind (arith, nat_tests) in
@@ -158,6 +158,6 @@ places v s r =
       place-behind v s r 16 (omega arith) (omega arith),
     )
 
--- a sequence of the wide plan is that of the narrow one with zeros behind it
+-- a sequence of the wide plan is that of the narrow one with zeros after it
 pub sequence-same : (plan : Plan) (s r : ℕ) → IsNarrow plan → sequence (widened plan) s r ≡ sequence plan s r ++ zeros
 sequence-same plan s r narrow = rw narrow.phase_count (places (plan.value SequenceData) s r)

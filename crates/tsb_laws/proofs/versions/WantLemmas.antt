@@ -11,7 +11,7 @@ use Rattle.tsb_laws.specs.Widened.{IsNarrow, widened}
 use Rattle.tsb_laws.proofs.versions.ListLemmas.{IsBeyondNarrow, first-later, first-not_later}
 use Rattle.tsb_laws.proofs.versions.PlanLemmas.{first-same, beyond-narrow, not-enabled, not-in_ring, zeros}
 
--- what the rings of the wide plan are given: sequences have zeros behind them, and other phases may be omitted, beyond the
+-- what the rings of the wide plan are given: sequences have zeros after them, and other phases may be omitted, beyond the
 -- eighth
 abbrev pub wide_given : (ℕ → Bool) → Given → Given
 wide_given omitted given = record given { sequence = λ r. given.sequence r ++ zeros; omitted = omitted }

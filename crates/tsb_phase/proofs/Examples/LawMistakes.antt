@@ -18,7 +18,7 @@ use Rattle.tsb_phase.specs.Next.{next}
 use Rattle.tsb_phase.specs.ClearanceLaws.{after_ticks}
 use Rattle.tsb_phase.proofs.Examples.Examples.{plan, at_once, nothing}
 
--- ## The reduction goes on behind the time to reduce
+-- ## The reduction goes on after the time to reduce
 
 abbrev pub gap_without_end : Plan → ℕ → Timer → ℕ
 gap_without_end plan p Off = passage plan p

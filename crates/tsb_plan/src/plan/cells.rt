@@ -1,4 +1,4 @@
-//! The cells of a plan: each object's values, index by index, one object behind the other.
+//! The cells of a plan: each object's values, index by index, one object after the other.
 ghost use Rattle.std.specs.Prelude.{◌≡◌, ◌<◌, slice_index};
 ghost use Rattle.tsb_plan.specs.declared.object.TheConstants.{PLAN_CELLS};
 ghost use Rattle.tsb_plan.specs.Objects.{AreInRange};

@@ -30,7 +30,7 @@ impl Plan {
         self.value(Object::VehicleDetectorDelay, u32::from(detector.number()))
     }
 
-    /// How long the detector stays on behind its vehicle (`vehicleDetectorExtend`), in tenths of a second.
+    /// How long the detector stays on after its vehicle (`vehicleDetectorExtend`), in tenths of a second.
     pub fn detector_extend(&self, detector: Detector) -> u32
         ensures { result ≡ detector_extend (plan_of self.now) detector }
     {

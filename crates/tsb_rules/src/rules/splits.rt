@@ -123,7 +123,7 @@ fn splits_up_to(plan: &Plan, split: Split, side: u32, phase: Phase, places: &[u1
 }
 
 /// When in the cycle the split of a phase ends, in tenths of a second from the start of side 1 (profile):
-/// the splits of its ring on its side, from the sequence's first phase to the phase itself, behind the sums
+/// the splits of its ring on its side, from the sequence's first phase to the phase itself, after the sums
 /// of all lower sides. Omitted phases count.
 #[tactic(auto, unfolding(tsb_plan::specs::PlanOf::plan_of, crate::specs::PatternRules::split_end))]
 pub fn split_end(plan: &Plan, sequence: Sequence, split: Split, phase: Phase) -> u32

@@ -5,7 +5,7 @@ use Rattle.clap.proofs.OnLiterals.{clap_on_literals}
 use Rattle.tsb_words.specs.FieldProgram.{wish_of}
 use Rattle.tsb_words.specs.FieldWords.{diagram}
 
--- these words behind the program's name
+-- these words after the program's name
 abbrev given : List Text → List Text
 given words = codes "tsb_field" ∷ words
 
@@ -24,7 +24,7 @@ no-device : wish_of (given (codes "events" ∷ codes "--from=2026-11-22T07:00:00
 unfolding clap_on_literals
 no-device = refl
 
--- a value that begins with a hyphen stands behind `=`
+-- a value that begins with a hyphen stands after `=`
 with-hyphen : wish_of (given (codes "diagram" ∷ codes "--title=-A" ∷ [])) ≡ Some (diagram None (Some (codes "-A")) None)
 unfolding clap_on_literals
 with-hyphen = refl

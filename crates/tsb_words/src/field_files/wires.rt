@@ -21,7 +21,7 @@ pub(crate) fn add_option(
     }
 }
 
-/// Adds the wires of a kind that words spell, each behind those before. At an error some of them may have been added.
+/// Adds the wires of a kind that words spell, each after those before. At an error some of them may have been added.
 fn add_wires(wires: &mut Vec<Wire>, kind: Kind, words: &[&str]) -> Result<(), WordsError>
     ensures { Adds (wires_of kind (map (λ word. word.now) words.now)) wires.old.items wires.new.items result }
 {
@@ -57,7 +57,7 @@ fn wire_between(kind: Kind, channel: &[u8], input: &[u8]) -> Option<Wire>
     })
 }
 
-/// What stands before the first `=` of a word, and what behind it.
+/// What stands before the first `=` of a word, and what after it.
 fn parts(word: &[u8]) -> Option<(&[u8], &[u8])>
     ensures { option_map (λ parts. (parts.0.now, parts.1.now)) result ≡ parts_of word.now }
 {

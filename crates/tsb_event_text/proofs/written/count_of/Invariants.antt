@@ -1,7 +1,7 @@
 use Rattle.std.proofs.Common.{◌≡◌, ◌≤◌, ◌<◌, ℕ, get_or}
 use Rattle.tsb_event_text.proofs.written.count_of.Given as goal
 
--- behind those that are left stand zeros alone
+-- after those that are left stand zeros alone
 abbrev pub invariant-loop-count : goal.invariant-loop-count
 invariant-loop-count l =
     (1 ≤ l.count) × (l.count ≤ 9) × ((k : ℕ) → l.count ≤ k → k < 9 → get_or l.digits k 0 ≡ 48)

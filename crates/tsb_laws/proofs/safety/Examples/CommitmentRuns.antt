@@ -24,7 +24,7 @@ use Rattle.tsb_laws.proofs.safety.ServedLemmas.{are_served}
 use Rattle.tsb_laws.proofs.safety.Examples.PlanFits.{Fits, values_fit, quad_fits, consistent}
 use Rattle.tsb_laws.proofs.safety.Examples.TickRuns.{ticks, now_then, plan_then, largest_then, all_taken, none_trips, AreTicks, older_ticks}
 
--- ## A run that is known as far as its newest input, and ticks behind it
+-- ## A run that is known as far as its newest input, and ticks after it
 
 -- the plan breaks no rule, each input was taken, no lamp was lit, and there is room for ticks
 pub record IsKnown (plan : Plan) (base : List Input) : Type 0 where
@@ -34,7 +34,7 @@ pub record IsKnown (plan : Plan) (base : List Input) : Type 0 where
   pub unlit : is_unlit plan base ≡ true
   pub early : (replay plan base).now ≤ 100
 
--- c starts in the tick behind so many
+-- c starts in the tick after so many
 pub record Starts (plan : Plan) (base : List Input) (row : Row) (c n : ℕ) : Type 0 where
   pub count : ℕ
   pub fewer : count + 1 ≤ n

@@ -4,7 +4,7 @@ use Rattle.tsb_lines.specs.Lines.{lines_of, without_return}
 use Rattle.tsb_lines.proofs.LineLemmas.{lines-last, lines-first}
 use Rattle.tsb_lines.proofs.lines.next_line.Goals as goal
 
--- behind the line feed at n, as a slice
+-- after the line feed at n, as a slice
 behind : (xs : List ℕ) (n : ℕ) → n < length xs → take (length xs - (n + 1)) (drop (n + 1) xs) ≡ drop (suc n) xs
 behind xs n lt = rw (add-one n) (take_all (length xs - suc n) (drop (suc n) xs) (let l : length (drop (suc n) xs) ≡ length xs - suc n = length-drop (suc n) xs in omega (arith, l)))
 
