@@ -1,6 +1,6 @@
-//! What the layers of the controller tell one another within one tick: what phases show, what is asked of
-//! the rings, which phases are called and timed out, and what the rings do about it. `docs/CONTRACTS.md`
-//! says who finds each value, and who reads it.
+//! What the layers of the controller give one another within one tick: what phases show, what is asked of the rings,
+//! which phases are called and timed out, and what the rings do about it. `docs/CONTRACTS.md` says who finds each
+//! value, and who reads it.
 
 use crate::numbers::{Phase, Side};
 use crate::phase_set::PhaseSet;
@@ -51,7 +51,7 @@ pub struct Called {
     pub conflict: PhaseSet,
     /// Phases with a pedestrian call.
     pub pedestrian: PhaseSet,
-    /// Phases that a vehicle detector calls whose output is on.
+    /// Phases called by a vehicle detector whose output is on.
     pub output: PhaseSet,
 }
 

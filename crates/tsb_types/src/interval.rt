@@ -1,6 +1,6 @@
 //! The interval of a phase.
 
-/// The interval of a phase's vehicle head. A phase is in service in each but `Red`.
+/// The interval of a phase's vehicle head. A phase is in service in all of them but `Red`.
 #[derive(Clone, Copy, PartialEq, Eq)]
 pub enum Interval {
     /// Not in service: the head is red.

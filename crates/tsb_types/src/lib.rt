@@ -1,6 +1,5 @@
-//! The plain types that every layer names: numbers of phases, detectors, patterns and so on, each within its
-//! range, sets of phases, a tick's inputs, intervals, lamps, refusals, and what layers tell one another
-//! within a tick.
+//! The plain types that every layer names: numbers of phases, detectors, patterns and so on, each within its range,
+//! sets of phases, a tick's inputs, intervals, lamps, refusals, and what layers give one another within a tick.
 //!
 //! What is marked "profile" is this project's own choice. Nothing here takes memory.
 #![tactic(auto)]

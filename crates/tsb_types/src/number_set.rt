@@ -11,7 +11,7 @@ pub struct NumberSet {
 }
 
 impl NumberSet {
-    /// The set of no number.
+    /// The empty set.
     pub fn empty() -> NumberSet
         ensures none { (n : ℕ) → has_number result n ≡ false }
         ensures same { result ≡ set_of_list 0 }
@@ -70,7 +70,7 @@ impl NumberSet {
         }
     }
 
-    /// The numbers of this set that the other has not.
+    /// The numbers of this set that the other does not have.
     pub fn difference(self, other: NumberSet) -> NumberSet
         ensures { (n : ℕ) → has_number result n ≡ (has_number self n && not (has_number other n)) }
     {
@@ -79,7 +79,7 @@ impl NumberSet {
         }
     }
 
-    /// The set with the number, 1 to 16, where `on`, and else without it. The others stay.
+    /// The set with the number, 1 to 16, if `on`, and otherwise without it. The others stay.
     pub fn with(self, number: u8, on: bool) -> NumberSet
         requires from_one { 1 ≤ number }
         requires within { number ≤ 16 }
@@ -100,8 +100,8 @@ impl NumberSet {
         }
     }
 
-    /// The set with the number, 1 to 16, where `on`, of a set that has it not. The others stay. It only ever adds, so
-    /// that a loop over all numbers has no chain from one to the next.
+    /// The set with the number, 1 to 16, if `on`, for a set that does not have it yet. The others stay. It only ever
+    /// adds, so that a loop over all numbers has no chain from one to the next.
     #[inline(always)]
     pub fn joined(self, number: u8, on: bool) -> NumberSet
         requires from_one { 1 ≤ number }
@@ -128,7 +128,7 @@ impl NumberSet {
         }
     }
 
-    /// Takes the detector of the least number out.
+    /// Takes the detector of the least number out of the set and gives it, or `None` where there is none.
     #[inline(always)]
     pub fn pop_detector(&mut self) -> Option<Detector>
         ensures none { result ≡ None → (d : ℕ) → has_number self.old d ≡ false }

@@ -4,8 +4,8 @@ ghost use Rattle.tsb_types.specs.Lists.{run_from};
 
 use std::marker::Model;
 
-/// A number of a thing of one kind: 1 to `MOST`. `KIND` tells the kinds apart, so that no number of a phase is taken for
-/// one of a detector.
+/// The number of a thing of one kind: 1 to `MOST`. `KIND` tells the kinds apart, so that a phase's number is never
+/// taken for a detector's.
 #[derive(Clone, Copy, Debug, PartialEq, Eq)]
 pub struct Number<const KIND: u8, const MOST: u8> {
     number: u8,
@@ -84,7 +84,8 @@ impl<const KIND: u8, const MOST: u8> Number<KIND, MOST> {
         self.number
     }
 
-    /// Tells a proof its range. A contract sees the plain number, so a caller knows no more of it than a clause says.
+    /// Gives a proof its range. A contract sees the plain number, so a caller knows no more about it than a clause
+    /// says.
     #[inline(always)]
     pub fn known(self)
         ensures from { 1 ≤ self.entry }

@@ -15,7 +15,7 @@ pub struct PhaseSet {
 }
 
 impl PhaseSet {
-    /// The set of no phase.
+    /// The empty set.
     pub fn empty() -> PhaseSet
         ensures { (p : ℕ) → has result p ≡ false }
     {
@@ -74,7 +74,7 @@ impl PhaseSet {
         }
     }
 
-    /// The phases of this set that the other has not.
+    /// The phases of this set that the other does not have.
     pub fn difference(self, other: PhaseSet) -> PhaseSet
         ensures { (p : ℕ) → has result p ≡ (has self p && not (has other p)) }
     {
@@ -83,7 +83,7 @@ impl PhaseSet {
         }
     }
 
-    /// The set with the phase where `on`, and else without it. The others stay.
+    /// The set with the phase if `on`, and otherwise without it. The others stay.
     pub fn with(self, phase: Phase, on: bool) -> PhaseSet
         ensures set { has result phase ≡ on }
         ensures others { (p : ℕ) → p ≢ phase → has result p ≡ has self p }
@@ -94,8 +94,8 @@ impl PhaseSet {
         }
     }
 
-    /// The set with the phase where `on`, of a set that has it not. The others stay. It only ever adds, so that a loop
-    /// over all phases has no chain from one to the next.
+    /// The set with the phase if `on`, for a set that does not have it yet. The others stay. It only ever adds, so that
+    /// a loop over all phases has no chain from one to the next.
     #[inline(always)]
     pub fn joined(self, phase: Phase, on: bool) -> PhaseSet
         requires { has self phase ≡ false }

@@ -20,13 +20,13 @@ pub enum Refusal {
     NotOpen,
     /// E7: a commit of edits that did not pass the check.
     NotVerified,
-    /// E8: an edit of a further object, where a transaction has 64.
+    /// E8: an edit of one more object, where a transaction has 64 already.
     TooManyEdits,
     /// E9: no pattern has this number, or its cycle is 0.
     NoSuchPattern,
     /// E10: no preempt has this number, or it has no dwell phases.
     NoSuchPreempt,
-    /// E11: the bench is at tick 6,000,000, and counts no further one.
+    /// E11: the bench is at tick 6,000,000, and counts no further.
     TickLimit,
     /// E12: a commit would change what is in service now.
     InService,

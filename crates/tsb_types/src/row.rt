@@ -4,7 +4,7 @@ ghost use Rattle.tsb_types.specs.Sets.{all_off, has_number};
 
 use crate::number_set::NumberSet;
 
-/// The inputs that are on in a tick, by number. Numbers above those that there are have no effect.
+/// The inputs that are on in a tick, by number. Numbers above those that exist have no effect.
 #[derive(Clone, Copy, PartialEq, Eq)]
 pub struct Row {
     /// Vehicle detectors, 1 to 16.

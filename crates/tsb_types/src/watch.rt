@@ -2,7 +2,7 @@
 
 use crate::numbers::{Detector, Phase};
 
-/// A value of the controller that can be watched: `when` tells the last tick at which it changed.
+/// A value of the controller that can be watched: `when` gives the last tick at which it changed.
 #[derive(Clone, Copy, PartialEq, Eq)]
 pub enum Watch {
     /// The interval of a phase.
