@@ -1,4 +1,4 @@
-//! A row of cells that knows between which cells it was written.
+//! A row of cells that knows which part of it was written.
 ghost use Rattle.std.specs.Prelude.{◌≡◌, ◌≢◌, ℕ, ◌+◌, ◌^◌, ◌<◌, ◌≤◌, ◌++◌, true, false, length, slice_index, slice_set, replicate, take, drop};
 ghost use Rattle.arrayvec.specs.ArrayVec.{array_vec_len};
 ghost use Rattle.tsb_cells.specs.Diff.{diff, shifted};

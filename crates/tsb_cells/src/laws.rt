@@ -10,7 +10,7 @@ pub fn difference_is_what_changed()
     ensures ascends { Ascends }
 {}
 
-/// A difference that is put back gives what was.
+/// A difference that is put back gives the row before the change.
 pub fn difference_is_taken_back()
     ensures { GivesBack }
 {}
@@ -35,8 +35,8 @@ pub fn parts_are_own_differences()
     ensures { HasOwnParts }
 {}
 
-/// The cell of a timer is read as the timer that began at its tick, and a timer is what its cell is read as. It is so
-/// from the tick at which it began on.
+/// A timer's cell reads as the timer that began at its tick, and a timer is what its cell reads as. This holds from the
+/// tick at which it began.
 pub fn cells_tell_timers()
     ensures cells { TellTheirCells }
     ensures timers { AreReadAsTheyWere }

@@ -4,7 +4,7 @@ ghost use Rattle.tsb_cells.specs.Row.{row_at};
 
 use crate::bank::Bank;
 
-/// A value that `W` cells keep. What the cells say of its timers depends on the tick at which they are read.
+/// A value kept in `W` cells. What the cells say of its timers depends on the tick at which they are read.
 pub trait Layout<const W: usize>: Copy {
     /// The cells of a value, at a tick.
     ghost cells: { ℕ → Self → List ℕ };

@@ -28,7 +28,7 @@ pub fn phases<const N: usize>(bank: &Bank<N>, k: usize) -> PhaseSet
     PhaseSet::from_list((bank.get(k) % LISTS) as u16)
 }
 
-/// Makes the list of the cell `k` that of a set. The bank has to be open.
+/// Puts the list of a set into the cell `k`. The bank has to be open.
 #[inline(always)]
 pub fn put_list<const N: usize>(bank: &mut Bank<N>, k: usize, set: NumberSet)
     requires in_range { k < N }
@@ -42,7 +42,7 @@ pub fn put_list<const N: usize>(bank: &mut Bank<N>, k: usize, set: NumberSet)
     bank.put(k, u32::from(set.list()));
 }
 
-/// Makes the list of the cell `k` that of a set of phases. The bank has to be open.
+/// Puts the list of a set of phases into the cell `k`. The bank has to be open.
 #[inline(always)]
 pub fn put_phases<const N: usize>(bank: &mut Bank<N>, k: usize, set: PhaseSet)
     requires in_range { k < N }

@@ -28,7 +28,7 @@ pub trait Reversible<const N: usize> {
         ensures kept { kept self.new ≡ cells self.old }
         ensures opened { is_open self.new ≡ true };
 
-    /// Ends a change, and gives each cell that differs from what it held at `open`, with that.
+    /// Ends a change, and gives each cell that differs from what it held at `open`, with what it held.
     fn close(&mut self) -> Diff<N>
         requires { is_open self.old ≡ true }
         ensures changes { result.items ≡ diff (kept self.old) (cells self.old) }
@@ -47,7 +47,7 @@ pub trait Reversible<const N: usize> {
     /// Each cell has a number of 16 bits.
     ghost indexed: { (s : Self) → N ≤ 65536 };
 
-    /// A state has `N` cells, and kept as many.
+    /// A state has `N` cells, and keeps as many.
     ghost length_cells: { (s : Self) → length (cells s) ≡ N };
 
     ghost length_kept: { (s : Self) → length (kept s) ≡ N };
