@@ -33,7 +33,7 @@ impl Model for History {
 }
 
 impl History {
-    /// A history of no records, with room for none. It takes no memory.
+    /// A history with no records, and with room for none. It takes no memory.
     pub fn new(alloc: Global) -> Self
         ensures records { result.records ≡ [] }
         ensures room { result.room ≡ 0 }
@@ -83,8 +83,8 @@ impl History {
         Some(change)
     }
 
-    /// Takes the newest record away and tells its kind, or `None` where there is no record. It
-    /// takes no memory, and gives none back: there is more room, by the bytes of the record.
+    /// Takes the newest record away and gives its kind, or `None` where there is no record. It takes no memory, and
+    /// gives none back: there is more room, by the bytes of the record.
     pub fn pop(&mut self) -> Option<Kind>
         ensures kind { result ≡ newest_kind self.old.records }
         ensures rest { self.new.records ≡ older self.old.records }
