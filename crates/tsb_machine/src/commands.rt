@@ -29,7 +29,7 @@ pub enum Answer {
     Undone(Kind),
     /// The bench went back, or was there already.
     Moved,
-    /// There is nothing to take back, or not so much. Nothing changed.
+    /// There is nothing to take back, or not that much. Nothing changed.
     Nothing,
     /// The watched value changed at this tick number last, or never.
     Changed(Option<u32>),

@@ -2,7 +2,7 @@
 ghost use Rattle.tsb_machine.specs.Machine.{Machine};
 ghost use Rattle.tsb_machine.specs.Laws.{BenchesAnswer, EarlierAreReplays, LastIsGreatest, PastsAreTheRun, SeeksAreLeast, SeeksAreReplays, SessionsAreReplays, UndoGivesBack};
 
-/// Undo takes back what was done. To take back the input that was just applied gives state and history as they were, of
+/// Undo takes back what was done. Taking back the input that was just applied gives state and history as they were, in
 /// every machine of states and inputs.
 ///
 /// Needs: a record that, taken back, gives the state before it.
@@ -19,7 +19,8 @@ pub fn earlier_are_replays<S, I, C>()
     ensures earlier { (m : Machine S I C) (start : S) → EarlierAreReplays m start }
 {}
 
-/// Seek is undo repeated, as few times as make the tick number. What it reaches is a replay without these inputs.
+/// Seek is undo repeated, as few times as it takes to reach the tick number. What it reaches is a replay without these
+/// inputs.
 ///
 /// Needs: as `earlier_are_replays`, and a tick number that begins at 0 and goes on by one at most.
 pub fn seeks_are_undo_repeated<S, I, C>()
@@ -28,14 +29,14 @@ pub fn seeks_are_undo_repeated<S, I, C>()
 {}
 
 /// `when` gives the last change of a value. It is the greatest of the tick numbers not taken back at which the value
-/// became another one.
+/// changed.
 ///
 /// Needs: as `seeks_are_undo_repeated`.
 pub fn last_is_greatest<S, I, C, V>()
     ensures { (m : Machine S I C) (start : S) (value : S → V) → LastIsGreatest m start value }
 {}
 
-/// A session is a replay of what remains. A bench that does at each command what it says answers right, and is in the
+/// A session is a replay of what remains. A bench that does what it says at each command answers right, and is in the
 /// state of a replay of the inputs that were not undone, each of which was taken.
 ///
 /// Needs: a record of its input's kind.
