@@ -1,5 +1,5 @@
-//! What a record says of one row of cells, whose cells stand from an offset on among all cells that records name: whether
-//! it has an entry of them, its entries of them, and the way back of a row by them. Nothing here takes memory.
+//! What a record says of one row of cells, which are those from an offset on among all cells that records name: whether
+//! it has an entry of the row, which entries it has, and how they take the row back. Nothing here takes memory.
 #![tactic(auto)]
 
 pub mod parts;

@@ -1,4 +1,4 @@
-//! The entries of one row of cells in a record: told, collected, put back.
+//! The entries of one row of cells in a record: found, collected, put back.
 ghost use Rattle.std.specs.Prelude.{◌≡◌, ◌≢◌, ℕ, ◌+◌, ◌≤◌, ◌&&◌, ◌∷◌, nat_le, nat_lt, true, false, [], List, length};
 ghost use Rattle.tsb_cells.specs.Diff.{apply_diff, part};
 
@@ -48,8 +48,8 @@ pub fn part_of<const N: usize>(change: &Record<'_>, offset: u16) -> Diff<N>
     entries
 }
 
-/// Puts back what one entry of a record says, where it is of a row whose `N` cells stand from `offset` on. The row has to be
-/// closed, and to take any values.
+/// Puts back what one entry of a record says, if it is of a row whose `N` cells are those from `offset` on. The row has
+/// to be closed, and to take any values.
 #[inline(always)]
 pub fn undo_entry<const N: usize, R: Reversible<N>>(row: &mut R, cell: u16, old: u32, offset: u16)
     requires indexed { N ≤ 65536 }
@@ -64,8 +64,8 @@ pub fn undo_entry<const N: usize, R: Reversible<N>>(row: &mut R, cell: u16, old:
     }
 }
 
-/// Puts back what the record says of a row whose `N` cells stand from `offset` on. The row has to be closed, and to take
-/// any values. It builds no list of the entries.
+/// Puts back what the record says of a row whose `N` cells are those from `offset` on. The row has to be closed, and to
+/// take any values. It builds no list of the entries.
 pub fn undo_part<const N: usize, R: Reversible<N>>(row: &mut R, change: &Record<'_>, offset: u16)
     requires indexed { N ≤ 65536 }
     requires fits { offset + N ≤ 65536 }
