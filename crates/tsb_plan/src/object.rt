@@ -4,11 +4,10 @@ ghost use Rattle.tsb_plan.specs.Objects.{indices, greatest, first_cell, is_struc
 
 /// An object of a plan: one of NTCIP 1202 section 2, by its name there, or one of the profile's own.
 ///
-/// A variant's comment has the object's name, what its index counts, what its values are and in what
-/// unit, and their range. Each object's least value is 0, which stands where a plan gives none. "Yes or
-/// no" is 1 or 0. A list of phases is the sum of `2^(phase - 1)` over its phases (profile). The options
-/// that NTCIP 1202 has as the bits of one object are objects of their own here (profile), and the ranges
-/// of detector, pattern and preempt objects are the profile's.
+/// A variant's comment has the object's name, what its index counts, what its values are and in what unit, and their
+/// range. Each object's least value is 0, which it has where a plan gives none. "Yes or no" is 1 or 0. A list of phases
+/// is the sum of `2^(phase - 1)` over its phases (profile). The options that NTCIP 1202 has as the bits of one object
+/// are objects of their own here (profile), and the ranges of detector, pattern and preempt objects are the profile's.
 #[derive(Clone, Copy, Debug, PartialEq, Eq)]
 pub enum Object {
     /// `phaseEnabled`: phase, yes or no; 0 to 1.
@@ -137,7 +136,7 @@ pub enum Object {
     OverlapModifierPhases,
 }
 
-/// What there is to know of an object. Its least value is 0, which stands where a plan gives none.
+/// What there is to know of an object. Its least value is 0, which it has where a plan gives none.
 #[derive(Clone, Copy)]
 pub(crate) struct ObjectRow {
     /// Its name, as NTCIP 1202 and plan texts have it.
@@ -281,7 +280,7 @@ macro_rules! range {
     };
 }
 
-/// Whether version 1 has an object, which it has not where the range there is `absent`.
+/// Whether version 1 has an object: it does not where the range there is `absent`.
 macro_rules! is_in_version_1 {
     (absent) => {
         false
@@ -321,7 +320,7 @@ impl Object {
     /// How many objects there are.
     pub const COUNT: usize = table!(count);
 
-    /// All objects, in the order in which their cells stand in a plan.
+    /// All objects, in the order of their cells in a plan.
     pub const ALL: [Object; Object::COUNT] = table!(objects);
 
     /// How many indices the object has: they are 1 to this number.
@@ -375,8 +374,8 @@ pub fn range_of(object: Object) -> Range
     }
 }
 
-/// Whether a commit that changes the object is refused while a phase is in service (profile): the object
-/// says which phases there are, where they stand, and which belong together.
+/// Whether a commit that changes the object is refused while a phase is in service (profile): the object says which
+/// phases there are, where they are placed, and which belong together.
 pub fn is_structural(object: Object) -> bool
     ensures { result ≡ is_structural object }
 {

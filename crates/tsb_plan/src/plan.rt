@@ -20,8 +20,8 @@ use tsb_types::{Phase, Refusal};
 
 /// A timing plan: the value of each object at each of its indices.
 ///
-/// Each value is in its object's range, whatever is done to the plan. That a plan meets the rules is not
-/// promised: `check` tells, and a `Checked` keeps it.
+/// Each value is in its object's range, whatever is done to the plan. It is not promised that a plan meets the rules:
+/// `check` says whether it does, and the plan of a `Checked` always does.
 #[derive(Clone, Copy, PartialEq, Eq)]
 pub struct Plan {
     values: [u16; PLAN_CELLS],
@@ -58,8 +58,8 @@ impl Plan {
         Plan { values }
     }
 
-    /// The value of an object at an index, in the object's unit. An index that the object has not is
-    /// refused as `NoSuchObject`.
+    /// The value of an object at an index, in the object's unit. An index that the object does not have is refused as
+    /// `NoSuchObject`.
     pub fn get(&self, id: ObjectId) -> Result<u32, Refusal>
         ensures { result ≡ got (plan_of self.now) id }
     {
@@ -71,8 +71,8 @@ impl Plan {
 
     /// Sets the value of an object at an index, in the object's unit. Every other value stays.
     ///
-    /// An index that the object has not is refused as `NoSuchObject`, and otherwise a value that it does
-    /// not take as `OutOfRange`. The plan is then as it was.
+    /// An index that the object does not have is refused as `NoSuchObject`, and otherwise a value that it does not take
+    /// as `OutOfRange`. The plan is then as it was.
     pub fn put(&mut self, id: ObjectId, value: u32) -> Result<(), Refusal>
         ensures put { put_refusal id value ≡ None →
             (result ≡ Ok tt) × (plan_of self.new ≡ with_value (plan_of self.old) id.object id.index value) }

@@ -26,10 +26,10 @@ impl Version {
         }
     }
 
-    /// The index at which a plan has what this version has at the index, which must be one that the
-    /// version gives the object: 1 to `object.range_in(version)`'s `indices`. Only `splitTime`,
-    /// `splitMode`, `splitCoordPhase` and `sequenceData` of version 1 stand at another, since a table has
-    /// 16 phases in a plan in place of 8, and a ring 16 places.
+    /// The index at which a plan has what this version has at the index, which must be one that the version gives the
+    /// object: 1 to `object.range_in(version)`'s `indices`. Only `splitTime`, `splitMode`, `splitCoordPhase` and
+    /// `sequenceData` of version 1 are at another, since a table has 16 phases in a plan in place of 8, and a ring 16
+    /// places.
     pub fn translated(self, object: Object, index: u32) -> u32
         requires { has_index_in self object index ≡ true }
         ensures { result ≡ translated self object index }

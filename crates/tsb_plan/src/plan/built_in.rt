@@ -32,7 +32,7 @@ const TWO: [(Object, u32, u16); 20] = [
     (Object::SequenceData, 2, 4),
 ];
 
-/// Of the built-in plan of eight phases, what it gives of phases, detectors, splits and places 1 to 8.
+/// What the built-in plan of eight phases gives for phases, detectors, splits and places 1 to 8.
 const QUAD_ROWS: [(Object, [u16; 8]); 20] = [
     (Object::PhaseEnabled, [1, 1, 1, 1, 1, 1, 1, 1]),
     (Object::PhaseRing, [1, 1, 1, 1, 2, 2, 2, 2]),
@@ -59,8 +59,8 @@ const QUAD_ROWS: [(Object, [u16; 8]); 20] = [
     (Object::SequenceData, [1, 2, 3, 4, 0, 0, 0, 0]),
 ];
 
-/// Of the built-in plan of eight phases, the places of ring 2, the overlap, the patterns and the
-/// preempts: an object, an index and a value each.
+/// The places of ring 2, the overlap, the patterns and the preempts of the built-in plan of eight phases: an object, an
+/// index and a value each.
 const QUAD_VALUES: [(Object, u32, u16); 22] = [
     (Object::SequenceData, 17, 5),
     (Object::SequenceData, 18, 6),

@@ -21,8 +21,8 @@ impl Plan {
         )
     }
 
-    /// The phases that take the green from a minusGreenYellow overlap while they are Green, and the yellow while they are
-    /// in yellow change (`overlapModifierPhases`).
+    /// The phases that take the green from a minusGreenYellow overlap while they are Green, and the yellow while they
+    /// are in yellow change (`overlapModifierPhases`).
     pub fn modifier_phases(&self, overlap: Overlap) -> PhaseSet
         ensures { (q : ℕ) → has result q ≡ is_modifier (plan_of self.now) overlap q }
     {

@@ -37,7 +37,7 @@ fn split_index(split: Split, phase: Phase) -> u32
     16 * (u32::from(split.number()) - 1) + u32::from(phase.number())
 }
 
-/// How many places of `sequenceData` stand before those of a sequence for a ring.
+/// How many places of `sequenceData` come before those of a sequence for a ring.
 fn places_before(sequence: Sequence, ring: Ring) -> u32
     ensures same { result ≡ 32 * (sequence - 1) + 16 * (ring - 1) }
     ensures within { result ≤ 112 }

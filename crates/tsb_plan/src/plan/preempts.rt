@@ -20,15 +20,15 @@ impl Plan {
         10 * self.value(Object::PreemptDelay, u32::from(preempt.number()))
     }
 
-    /// How long the preempt has been in service at least when its dwell ends (`preemptMinimumDuration`), in tenths of a
-    /// second.
+    /// The least time that the preempt has been in service when its dwell ends (`preemptMinimumDuration`), in tenths of
+    /// a second.
     pub fn minimum_duration(&self, preempt: Preempt) -> u32
         ensures { result ≡ minimum_duration (plan_of self.now) preempt }
     {
         10 * self.value(Object::PreemptMinimumDuration, u32::from(preempt.number()))
     }
 
-    /// How long the preempt has been in service when its dwell ends whatever its input, 0 for any time
+    /// The time in service at which the preempt's dwell ends whatever its input, 0 for no limit
     /// (`preemptMaximumPresence`), in tenths of a second.
     pub fn preempt_maximum_presence(&self, preempt: Preempt) -> u32
         ensures { result ≡ preempt_maximum_presence (plan_of self.now) preempt }
