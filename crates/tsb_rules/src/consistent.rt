@@ -2,8 +2,8 @@
 //! `Checked::plan` says that a checked plan is such a plan.
 ghost use Rattle.tsb_rules.specs.Consistent.{OfConsistentPlans, PhasesArePlaced, ConcurrentGoTogether, FirstSequenceListsRings, SequencesInUseListRings, PreemptsAreSound, PatternsAreWhole, CoordinatedPhasesAgree};
 
-/// Concurrent phases are of the two rings and of one side. Each enabled phase is of ring 1 or 2 and on one of the
-/// sides. Two concurrent phases are enabled, of the two rings and of one side, and each names the other.
+/// Concurrent phases are in different rings and on one side. Each enabled phase is in ring 1 or 2 and on one of the
+/// sides. Two concurrent phases are enabled, in different rings and on one side, and each names the other.
 ///
 /// Needs: a plan that breaks no rule.
 pub fn concurrency_is_sound()
@@ -20,8 +20,8 @@ pub fn sequences_list_rings()
     ensures used { OfConsistentPlans SequencesInUseListRings }
 {}
 
-/// Each list of a preempt is of enabled, pairwise concurrent phases. A preempt with an empty dwell list has empty track
-/// and exit lists.
+/// Each list of a preempt names only enabled, pairwise concurrent phases. A preempt with an empty dwell list has empty
+/// track and exit lists.
 ///
 /// Needs: a plan that breaks no rule.
 pub fn preempts_are_sound()

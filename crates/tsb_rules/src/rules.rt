@@ -16,7 +16,7 @@ mod splits;
 pub use splits::split_end;
 use tsb_plan::Plan;
 
-/// A rule that a plan must meet, or that it uses what the bench can't run yet.
+/// A rule that a plan must meet.
 ///
 /// "Phase" without more is an enabled phase, and a used pattern is one whose cycle is not 0.
 #[derive(Clone, Copy, Debug, PartialEq, Eq)]
@@ -134,7 +134,7 @@ fn check_extensions(plan: &Plan) -> Result<(), Rule>
     require(phases::limits_reach_minimums(plan), Rule::K22)
 }
 
-/// That rule, unless its test is passed.
+/// An `Err` with that rule, unless its test is passed.
 fn require(is_met: bool, rule: Rule) -> Result<(), Rule>
     ensures { result ≡ (if is_met then Ok tt else Err rule) }
 {
