@@ -21,8 +21,8 @@ use tsb_rules::{Rule, check};
 
 /// A plan that may be run, with tables of what it says of all phases and detectors at once, also while a pattern runs.
 ///
-/// Its plan meets the rules and stays as it is: a `Checked` is made by `Checked::new` and `Checked::known`
-/// alone, so who is handed one has nothing to check.
+/// Its plan meets the rules and stays as it is: only `Checked::new` and `Checked::known` make a `Checked`, so whoever
+/// is handed one has nothing to check.
 #[derive(Clone, Copy, PartialEq, Eq)]
 pub struct Checked {
     plan: Plan,
@@ -41,7 +41,7 @@ impl Checked {
     ghost use Rattle.std.specs.Prelude.{Some, Ok, Err, MatchResult};
     ghost use Rattle.tsb_objects.specs.Checked.{checked_plan};
 
-    /// The plan, if it meets the rules. An `Err` is the first rule that it breaks, as `check` tells it.
+    /// The plan, if it meets the rules. An `Err` is the first rule that it breaks, as `check` gives it.
     #[tactic(auto, unfolding(tsb_plan::specs::PlanOf::plan_of, crate::specs::Checked::checked_plan))]
     pub fn new(plan: Plan) -> Result<Checked, Rule>
         ensures { MatchResult result
@@ -52,7 +52,7 @@ impl Checked {
         Ok(Checked::known(plan))
     }
 
-    /// The plan, of which it is known that it meets the rules, as that of an earlier `Checked`.
+    /// The plan, which is known to meet the rules, as the plan of an earlier `Checked` is.
     #[tactic(auto, unfolding(tsb_plan::specs::PlanOf::plan_of, crate::specs::Checked::checked_plan))]
     pub fn known(plan: Plan) -> Checked
         requires { first_broken (plan_of plan) ≡ None }

@@ -1,5 +1,5 @@
-//! Plans that were checked, with tables of what they say; with them the rules, the objects of plans and the
-//! plain types that layers name, re-exported.
+//! Plans that were checked, with tables of what they say. The rules, the objects of plans and the plain types that
+//! layers name are re-exported with them.
 //!
 //! Names and units of objects are those of NTCIP 1202. What is marked "profile" is this project's own
 //! choice. Nothing here takes memory.

@@ -12,7 +12,7 @@ use crate::instants::instant;
 use tsb_plan::Plan;
 use tsb_types::{Pattern, Phase, PhaseSet};
 
-/// The word that stands for no instant: no local counter is so much.
+/// The word that stands for no instant: no local counter is so large.
 pub(crate) const NEVER: u16 = 65535;
 
 /// What a table of the pattern that runs asks of a phase.
@@ -25,8 +25,8 @@ enum Asked {
     PedestrianRecall,
 }
 
-/// What a plan says of all its phases while a pattern runs. Of an array of 17 words word 0 is of free
-/// operation and word `n` of pattern `n`, each a list of phases, as `phaseConcurrency` has it.
+/// What a plan says of all its phases while a pattern runs. In an array of 17 words, word 0 is for free operation and
+/// word `n` for pattern `n`. Each is a list of phases, as `phaseConcurrency` has it.
 #[derive(Clone, Copy, PartialEq, Eq)]
 pub struct PatternTables {
     /// The coordinated phases (`splitCoordPhase`).
@@ -39,7 +39,7 @@ pub struct PatternTables {
     pub(crate) maximum_recall: [u16; 17],
     /// The phases with pedestrian recall in effect.
     pub(crate) pedestrian_recall: [u16; 17],
-    /// The force-off instants of the phases, 16 of each pattern, or `NEVER`.
+    /// The force-off instants of the phases, 16 for each pattern, or `NEVER`.
     pub(crate) instants: [u16; 256],
 }
 
@@ -59,7 +59,7 @@ impl PatternTables {
     }
 }
 
-/// The pattern that runs, of which word `k` is; none for word 0.
+/// The running pattern that word `k` is for; none for word 0.
 fn runs_at(k: usize) -> Option<Pattern>
     requires { k < 17 }
     ensures { result ≡ unless_zero k }
@@ -67,7 +67,7 @@ fn runs_at(k: usize) -> Option<Pattern>
     Pattern::new(k as u32)
 }
 
-/// Whether that is so of a phase while the pattern of word `k` runs.
+/// Whether what is asked is so of a phase while the pattern of word `k` runs.
 fn is_so(plan: &Plan, k: usize, asked: Asked, phase: Phase) -> bool
     requires { k < 17 }
     ensures { result ≡ is_so asked (plan_of plan.now) (unless_zero k) phase }
@@ -81,7 +81,7 @@ fn is_so(plan: &Plan, k: usize, asked: Asked, phase: Phase) -> bool
     }
 }
 
-/// The phases of which that is so while the pattern of word `k` runs.
+/// The phases of which it is so while the pattern of word `k` runs.
 fn phases_so(plan: &Plan, k: usize, asked: Asked) -> PhaseSet
     requires { k < 17 }
     ensures { (p : ℕ) → 1 ≤ p → p ≤ 16 → has result p ≡ is_so asked (plan_of plan.now) (unless_zero k) p }
@@ -94,7 +94,7 @@ fn phases_so(plan: &Plan, k: usize, asked: Asked) -> PhaseSet
     set
 }
 
-/// The phases of which that is so, in free operation and in each pattern.
+/// The phases of which it is so, in free operation and in each pattern.
 fn in_effect(plan: &Plan, asked: Asked) -> [u16; 17]
     ensures full { length result ≡ 17 }
     ensures told { AreInEffect (plan_of plan.now) asked result }
@@ -106,7 +106,7 @@ fn in_effect(plan: &Plan, asked: Asked) -> [u16; 17]
     words
 }
 
-/// The force-off instant of a phase in a pattern, as a word; of a pattern that is not used it has no meaning.
+/// The force-off instant of a phase in a pattern, as a word. It has no meaning for a pattern that is not used.
 fn instant_word(plan: &Plan, n: Pattern, p: Phase) -> u16
     ensures { is_used (plan_of plan.now) n ≡ true → instant_in result ≡ force_off (plan_of plan.now) (Some n) p }
 {
@@ -133,7 +133,7 @@ fn instants(plan: &Plan) -> [u16; 256]
     words
 }
 
-/// The instant of a phase in a pattern, among the words of all.
+/// The instant of a phase in a pattern, from the words of all.
 #[inline(always)]
 pub(crate) fn instant_at(words: &[u16; 256], n: Pattern, p: Phase) -> Option<u32>
     ensures { result ≡ instant_in (slice_index words.now (16 * (n - 1) + (p - 1))) }
@@ -146,7 +146,7 @@ pub(crate) fn instant_at(words: &[u16; 256], n: Pattern, p: Phase) -> Option<u32
     }
 }
 
-/// The set with the phase where `on`, of a set that has it not: it only adds.
+/// The set with the phase if `on`, for a set that does not have it yet: it only adds.
 #[inline(always)]
 fn joined(set: PhaseSet, p: Phase, on: bool) -> PhaseSet
     requires { has set p ≡ false }
@@ -156,7 +156,7 @@ fn joined(set: PhaseSet, p: Phase, on: bool) -> PhaseSet
     if on { set.with(p, true) } else { set }
 }
 
-/// The phases whose instant in a pattern, among the words of all, is that local counter.
+/// The phases whose instant in a pattern, from the words of all, is that local counter.
 #[inline(always)]
 pub(crate) fn forced_in(words: &[u16; 256], n: Pattern, local: u32) -> PhaseSet
     ensures { (p : ℕ) → 1 ≤ p → p ≤ 16 →

@@ -24,9 +24,9 @@ pub struct PhaseTables {
     pub(crate) dual_entry: PhaseSet,
     /// The phases with a walk (`phaseWalk`).
     pub(crate) with_walk: PhaseSet,
-    /// Of each ring, its phases (`phaseRing`).
+    /// The phases of each ring (`phaseRing`).
     pub(crate) rings: [u16; 2],
-    /// Of each side, its phases (`phaseSide`).
+    /// The phases of each side (`phaseSide`).
     pub(crate) sides: [u16; 4],
 }
 
@@ -60,7 +60,7 @@ fn numbers_at(plan: &Plan, object: Object, wanted: u32) -> NumberSet
     set
 }
 
-/// The phases of which an object says yes.
+/// The phases for which an object says yes.
 fn phases_with(plan: &Plan, flag: Object) -> PhaseSet
     requires { indices flag ≡ 16 }
     ensures { (p : ℕ) → has result p ≡ ((plan_of plan.now).value flag p == 1) }

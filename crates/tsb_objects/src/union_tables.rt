@@ -19,9 +19,9 @@ use tsb_types::{Detector, PedestrianDetector, Phase, PhaseSet};
 pub struct UnionTables {
     /// The phases that vehicle detectors call (`vehicleDetectorCallPhase`).
     pub(crate) called: Unions,
-    /// For each set of pedestrian detectors the phases whose walk one of them calls (`pedestrianDetectorCallPhase`).
+    /// For each set of pedestrian detectors, the phases whose walk one of them calls (`pedestrianDetectorCallPhase`).
     pub(crate) walks_called: [u16; 256],
-    /// The phases other than a phase that are not concurrent with it (`phaseConcurrency`).
+    /// The other phases that are not concurrent with a phase (`phaseConcurrency`).
     pub(crate) conflicts: Unions,
 }
 
@@ -39,7 +39,7 @@ impl UnionTables {
     }
 }
 
-/// The phase, if there is one, alone.
+/// The set of this phase alone, if there is one.
 fn alone(p: Option<Phase>) -> PhaseSet
     ensures { (q : ℕ) → has result q ≡ is q p }
 {
@@ -49,7 +49,7 @@ fn alone(p: Option<Phase>) -> PhaseSet
     }
 }
 
-/// Of each vehicle detector the phase that it calls, as a list.
+/// The phase that each vehicle detector calls, as a list.
 fn called(plan: &Plan) -> [u16; 16]
     ensures full { length result ≡ 16 }
     ensures told { (k p : ℕ) → k < 16 → names (slice_index result k) p ≡ is p (call_phase (plan_of plan.now) (k + 1)) }
@@ -62,7 +62,7 @@ fn called(plan: &Plan) -> [u16; 16]
     sets
 }
 
-/// Of each pedestrian detector, 1 to 8, the phase whose walk it calls, as a list.
+/// The phase whose walk each pedestrian detector, 1 to 8, calls, as a list.
 fn walks_called(plan: &Plan) -> [u16; 16]
     ensures full { length result ≡ 16 }
     ensures told { (k p : ℕ) → k < 8 → names (slice_index result k) p ≡ is p (pedestrian_call_phase (plan_of plan.now) (k + 1)) }
@@ -83,8 +83,8 @@ fn unions_of_walks(plan: &Plan) -> [u16; 256]
     unions_of_eight(&walks_called(plan), 0)
 }
 
-/// The phases other than a phase that are not concurrent with it: by rule K5 those that it does not name, as they do not
-/// name it.
+/// The other phases that are not concurrent with a phase: by rule K5 those that it does not name, as they do not name
+/// it.
 fn conflicts_of(plan: &Plan, q: Phase) -> PhaseSet
     requires { first_broken (plan_of plan.now) ≡ None }
     ensures { (p : ℕ) → 1 ≤ p → p ≤ 16 → has result p ≡ (not (q == p) && not (is_concurrent (plan_of plan.now) p q)) }
@@ -94,7 +94,7 @@ fn conflicts_of(plan: &Plan, q: Phase) -> PhaseSet
     others.difference(plan.concurrency(q))
 }
 
-/// Of each phase those other than it that are not concurrent with it, as a list.
+/// For each phase, the other phases that are not concurrent with it, as a list.
 fn conflicts(plan: &Plan) -> [u16; 16]
     requires { first_broken (plan_of plan.now) ≡ None }
     ensures full { length result ≡ 16 }

@@ -10,8 +10,8 @@ use tsb_types::{NumberSet, PhaseSet};
 /// How many sets there are of 8 numbers.
 const SETS: u16 = 256;
 
-/// Of 16 sets of phases, with the numbers 1 to 16, the union of any of them. Each array has a word for each set of 8
-/// numbers, as a list, which is the list of the phases in the set of one of these.
+/// The union of any of 16 sets of phases, which have the numbers 1 to 16. Each array has a word for each set of 8
+/// numbers, as a list: the list of the phases in the set of one of these numbers.
 #[derive(Clone, Copy, PartialEq, Eq)]
 pub struct Unions {
     /// The unions of sets 1 to 8.

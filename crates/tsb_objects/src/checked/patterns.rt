@@ -13,7 +13,7 @@ use crate::checked::Checked;
 use crate::pattern_tables::{forced_in, instant_at};
 use tsb_types::{Pattern, Phase, PhaseSet, Sequence};
 
-/// Which word of a table is of the pattern that runs.
+/// Which word of a table is for the pattern that runs.
 #[inline(always)]
 fn word_of(runs: Option<Pattern>) -> usize
     ensures runs { unless_zero result ≡ runs }
@@ -75,8 +75,8 @@ impl Checked {
         PhaseSet::from_list(self.pattern_tables.pedestrian_recall[word_of(runs)])
     }
 
-    /// The force-off instant of a phase in a pattern that is used, on the local counter; none of a phase that is
-    /// not in use.
+    /// The force-off instant of a phase in a pattern that is used, on the local counter; none for a phase that is not
+    /// in use.
     #[inline(always)]
     pub fn force_off(&self, n: Pattern, p: Phase) -> Option<u32>
         requires used { is_used (checked_plan self.now) n ≡ true }
