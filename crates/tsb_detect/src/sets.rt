@@ -12,7 +12,7 @@ pub(crate) fn has(set: NumberSet, d: Detector) -> bool
     set.contains(d.number())
 }
 
-/// The set with the detector where `on`, and else without it.
+/// The set with the detector if `on`, and otherwise without it.
 #[inline(always)]
 pub(crate) fn with(set: NumberSet, d: Detector, on: bool) -> NumberSet
     ensures set { has_number result d ≡ on }
@@ -21,7 +21,7 @@ pub(crate) fn with(set: NumberSet, d: Detector, on: bool) -> NumberSet
     set.with(d.number(), on)
 }
 
-/// The set with the detector where `on`, of a set that has it not.
+/// The set with the detector if `on`, for a set that does not have it yet.
 #[inline(always)]
 pub(crate) fn joined(set: NumberSet, d: Detector, on: bool) -> NumberSet
     requires { has_number set d ≡ false }
@@ -31,7 +31,7 @@ pub(crate) fn joined(set: NumberSet, d: Detector, on: bool) -> NumberSet
     set.joined(d.number(), on)
 }
 
-/// The numbers that one of two sets has and the other has not.
+/// The numbers that one of two sets has and the other does not.
 #[inline(always)]
 pub(crate) fn differing(a: NumberSet, b: NumberSet) -> NumberSet
     ensures { (d : ℕ) → has_number result d ≡ false → has_number b d ≡ has_number a d }

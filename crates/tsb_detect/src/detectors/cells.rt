@@ -30,7 +30,7 @@ pub(super) const CHANGES: usize = 1;
 
 pub(super) const EXTENDS: usize = 2;
 
-/// As many detectors have a cell of each kind.
+/// How many detectors have a cell of each kind.
 const DETECTORS: usize = 16;
 
 /// The last list; the cells of detector 1 on come after it.
@@ -97,7 +97,7 @@ impl Detectors {
         }
     }
 
-    /// Makes list `k` that of a set.
+    /// Replaces list `k` with that of a set.
     #[inline(always)]
     pub(super) fn put_set(&mut self, k: usize, set: NumberSet)
         requires in_range { k < 6 }

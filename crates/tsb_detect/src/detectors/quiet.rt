@@ -11,8 +11,8 @@ use crate::diagnostics::{MINUTE, steady_limit, timed};
 use crate::sets::has;
 use tsb_objects::{Checked, Detector, NumberSet, Plan};
 
-/// How many ticks after `now` a detector is looked at for its time, where that is within a minute: its input has been on
-/// or off for long enough then, or has not been on for the delay.
+/// How many ticks after `now` a detector is looked at for its time, where that is within a minute: by then its input
+/// has been on or off for long enough, or it has not been on for the delay.
 #[inline(always)]
 fn wait(now: u32, plan: &Plan, d: Detector, input: bool, change: u32) -> u32
     requires fits { now + 600 < 2 ^ 32 }
@@ -37,7 +37,7 @@ fn wait(now: u32, plan: &Plan, d: Detector, input: bool, change: u32) -> u32
 impl Detectors {
     ghost use Rattle.tsb_detect.specs.Layer.{cells_of};
 
-    /// How many ticks after `now` the first detector is looked at for its time, or all as the minute is whole.
+    /// How many ticks after `now` the first detector is looked at for its time, or all of them as a minute is whole.
     pub(super) fn soonest(&self, now: u32, inputs: NumberSet, plan: &Checked) -> u32
         requires fits { now + 600 < 2 ^ 32 }
         requires range { (d : ℕ) → 1 ≤ d → d ≤ 16 → (row_in (cells_of self.now) d).change ≤ now + 1 }

@@ -1,4 +1,4 @@
-//! A tick of detectors: those that may change are worked out, of all others it is proved that they stay.
+//! A tick of detectors: those that may change are worked out, and all others are proved to stay as they are.
 ghost use Rattle.std.specs.Prelude.{◌≡◌, ◌≢◌, ℕ, ◌+◌, ◌<◌, ◌≤◌, ◌^◌, true, false};
 ghost use Rattle.tsb_objects.specs.Checked.{checked_plan};
 ghost use Rattle.tsb_objects.specs.tsb_plan.PlanOf.{plan_of};
@@ -20,7 +20,7 @@ use tsb_objects::{Checked, Detector, NumberSet, Plan};
 impl Detectors {
     ghost use Rattle.tsb_detect.specs.Layer.{cells_of, kept_of, is_open, KeepsLists};
 
-    /// The detectors that the lists do not show to be as their inputs.
+    /// The detectors that the lists do not show to be settled at their inputs.
     #[inline(always)]
     #[tactic(auto, unfolding(crate::specs::Cells::row_in))]
     pub(super) fn unsettled(&self, inputs: NumberSet) -> NumberSet
@@ -58,7 +58,7 @@ impl Detectors {
         self.cell(CHANGES, d)
     }
 
-    /// The detectors that a tick that is no whole minute looks at for their time.
+    /// The detectors that a tick looks at for their time, where it is not a whole minute.
     #[inline(always)]
     fn tested(&self, now: u32, inputs: NumberSet, plan: &Checked) -> NumberSet
         requires fits { now + 1 < 2 ^ 32 }
@@ -91,7 +91,7 @@ impl Detectors {
         }
     }
 
-    /// What a tick makes of a detector.
+    /// Works out one detector.
     #[inline(always)]
     fn visit(&mut self, now: u32, inputs: NumberSet, greens: &Greens, plan: &Plan, d: Detector)
         requires fits { now + 1 < 2 ^ 32 }
