@@ -1,7 +1,7 @@
 //! Edits put into the cells and into the map that finds them, and taken out again when the transaction is closed.
 //!
-//! The map has the place of each edit as its key and the value beside it, in the order of the edits. It is made with room
-//! for 64, so that no insertion takes memory.
+//! The map has the place of each edit as its key and the value beside it, in the order of the edits. It is made with
+//! room for 64, so that no insertion takes memory.
 ghost use Rattle.std.specs.Prelude.{◌≡◌, ℕ, ◌+◌, ◌<◌, ◌≤◌, true, false, is_some, None, Some, [], slice_index, nat_eq};
 ghost use Rattle.indexmap.specs.IndexMap.{index_map_len, spare, get, insert_entry, index_of_by, IsUnique};
 ghost use Rattle.tsb_cells.specs.Bank.{cells_of, kept_of, is_open};
@@ -35,7 +35,7 @@ pub fn empty_map(alloc: Global) -> Result<IndexMap<u32, u32>, Refusal>
     }
 }
 
-/// Makes the map that of the cells' edits. Its room for 64 is kept, so no memory is taken.
+/// Makes the map hold the cells' edits. Its room for 64 is kept, so no memory is taken.
 pub fn refill(edits: &mut IndexMap<u32, u32>, bank: &Bank<CELLS>)
     requires row { IsRow (cells_of bank.now) }
     requires room { MOST_EDITS ≤ index_map_len edits.old + spare edits.old }
@@ -109,7 +109,8 @@ fn add_edit(bank: &mut Bank<CELLS>, edits: &mut IndexMap<u32, u32>, place: u32, 
     insert(edits, place, value);
 }
 
-/// Puts an edit into the cells and the map: that of a new place goes last, one that is there keeps its own.
+/// Puts an edit into the cells and the map: one of a new place goes last, and one that is there already keeps its
+/// place.
 fn put_edit(bank: &mut Bank<CELLS>, edits: &mut IndexMap<u32, u32>, place: u32, value: u32)
     requires opened { is_open bank.old ≡ true }
     requires by { IsBy (cells_of bank.old) }
@@ -133,7 +134,7 @@ fn put_edit(bank: &mut Bank<CELLS>, edits: &mut IndexMap<u32, u32>, place: u32, 
     }
 }
 
-/// Puts an edit into the open transaction. What a check found of the edits before it is forgotten.
+/// Puts an edit into the open transaction. What a check found of the earlier edits is forgotten.
 pub fn edit_transaction(
     bank: &mut Bank<CELLS>,
     edits: &mut IndexMap<u32, u32>,

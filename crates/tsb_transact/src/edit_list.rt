@@ -75,10 +75,10 @@ fn is_preempt_list(object: Object) -> bool
     )
 }
 
-/// What the change of an object is about, by which it is told what a commit has to wait for.
+/// What a change of an object is about, which says what a commit has to wait for.
 #[derive(Clone, Copy)]
 pub enum Matter {
-    /// Which phases there are, where they stand, or which belong together.
+    /// Which phases there are, where they are placed, or which belong together.
     Structure,
     /// The lists of phases of preempts.
     PreemptLists,

@@ -6,7 +6,7 @@ pub fn rows_are_told()
     ensures { RowsAreTold }
 {}
 
-/// The encoding of a state in range is read as it, and is a row that the layer can have.
+/// The encoding of a state in range reads back as that state, and is a row that the layer can have.
 pub fn states_are_read()
     ensures { StatesAreRead }
 {}

@@ -1,4 +1,4 @@
-//! Places of objects: the object at each index has one of 1 to `PLAN_CELLS` among all values of a plan.
+//! Places of objects: each object at each index has one, 1 to `PLAN_CELLS`, among all values of a plan.
 ghost use Rattle.std.specs.Prelude.{◌≡◌, ◌≤◌, true};
 ghost use Rattle.tsb_plan.specs.Objects.{has_index};
 ghost use Rattle.tsb_plan.specs.declared.object.TheConstants.{PLAN_CELLS};
@@ -16,7 +16,7 @@ pub fn place(id: ObjectId) -> u32
     id.object.first_cell() as u32 + id.index
 }
 
-/// The object and index that have a place among the values of these objects, from 1. A place after all of them has none: it
+/// The object and index at a place among the values of these objects, from 1. A place after all of them has none: it
 /// gives the index 0, which no object has.
 fn id_among(all: &[Object], place: u32) -> ObjectId
     ensures { result ≡ id_among all.now place }
@@ -37,7 +37,7 @@ fn id_among(all: &[Object], place: u32) -> ObjectId
     }
 }
 
-/// The object and index that have a place among all of a plan, 1 to `PLAN_CELLS`.
+/// The object and index at a place among all of a plan, 1 to `PLAN_CELLS`.
 #[tactic(auto, unfolding(tsb_plan::specs::Objects::objects))]
 pub fn id_at(place: u32) -> ObjectId
     ensures { result ≡ id_at place }
