@@ -16,7 +16,7 @@ pub(crate) fn with_pedestrians(plan: &Checked) -> PhaseSet
     plan.enabled().intersection(plan.with_walk())
 }
 
-/// The phases on minimum or maximum recall, of their own or by the pattern that runs.
+/// The phases on minimum or maximum recall, their own or by the pattern that runs.
 #[inline(always)]
 pub(crate) fn with_recall(plan: &Checked, observed: &Observed) -> PhaseSet
     ensures { (p : ℕ) → 1 ≤ p → p ≤ 16 → has result p
