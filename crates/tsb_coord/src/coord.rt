@@ -62,8 +62,8 @@ impl Coord {
         Coord { bank: Bank::new() }
     }
 
-    /// Coordination as at power-up: no pattern is selected. The tick is that of every layer's `reset`; coordination has no
-    /// timer.
+    /// Coordination as at power-up: no pattern is selected. The tick is that of every layer's `reset`; coordination has
+    /// no timer.
     pub fn reset(&mut self, _now: u32)
         requires opened { is_open self.old ≡ true }
         ensures each { IsAtPowerUp (cells_of self.new) }
@@ -74,8 +74,8 @@ impl Coord {
         self.bank.put(0, 0);
     }
 
-    /// Why a pattern cannot be selected, if it cannot: `NoSuchPattern` (E9), where the number is neither 0, which is free
-    /// operation, nor that of a pattern with a cycle.
+    /// Why a pattern cannot be selected, if it cannot: `NoSuchPattern` (E9), where the number is neither 0, which is
+    /// free operation, nor that of a pattern with a cycle.
     pub fn refusal(n: u32, plan: &Checked) -> Option<Refusal>
         ensures { result ≡ refusal (checked_plan plan.now) n }
     {
@@ -160,7 +160,7 @@ impl Coord {
         }
     }
 
-    /// The first tick after `now` at which `orders` may be others: the next force-off instant of the pattern that runs, or
+    /// The first tick after `now` at which `orders` may differ: the next force-off instant of the pattern that runs, or
     /// the next tick, where `now` is at one. In free operation it is after the last tick that there is.
     pub fn due(&self, now: u32, plan: &Checked) -> u32
         requires by { IsBy (cells_of self.now) }
@@ -179,8 +179,8 @@ impl Coord {
         }
     }
 
-    /// The local counter at tick number `now`, at most the last that there is, in ticks, or `None` in free operation. It
-    /// goes on while the bench is tripped.
+    /// The local counter at tick number `now`, at most the last that there is, in ticks, or `None` in free operation.
+    /// It goes on while the bench is tripped.
     pub fn local(&self, now: u32, plan: &Checked) -> Option<u32>
         requires by { IsBy (cells_of self.now) }
         requires in_time { now ≤ TICKS }

@@ -1,4 +1,4 @@
-//! How long the local counter takes to the next force-off instant.
+//! How long the local counter takes to reach the next force-off instant.
 ghost use Rattle.std.specs.Prelude.{◌≡◌, ◌≤◌, ◌<◌, ◌+◌, ◌%◌, ◌⊎◌, ℕ, true, false, Some, IfSome};
 ghost use Rattle.tsb_objects.specs.tsb_plan.Parts.{cycle, is_used};
 ghost use Rattle.tsb_objects.specs.Checked.{checked_plan};
@@ -8,7 +8,7 @@ ghost use Rattle.tsb_coord.specs.Due.{IsMet};
 use crate::counting::cycle_of;
 use tsb_objects::{Checked, Pattern, Phase};
 
-/// How many ticks the local counter takes to an instant, one at least; a cycle where there is none.
+/// How many ticks the local counter takes to reach an instant, one at least; a cycle where there is none.
 #[inline(always)]
 fn ticks_to(cycle: u32, local: u32, instant: &Option<u32>) -> u32
     requires local { local < cycle }
@@ -33,7 +33,7 @@ fn ticks_to(cycle: u32, local: u32, instant: &Option<u32>) -> u32
     }
 }
 
-/// How many ticks the local counter takes to the next force-off instant of a phase, one at least.
+/// How many ticks the local counter takes to reach the next force-off instant of a phase, one at least.
 pub(crate) fn ticks_to_next(plan: &Checked, n: Pattern, local: u32) -> u32
     requires used { is_used (checked_plan plan.now) n ≡ true }
     requires local { local < cycle (checked_plan plan.now) n }
