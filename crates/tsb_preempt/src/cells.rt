@@ -65,7 +65,7 @@ impl Preempts {
         self.bank.get(DELAYS + usize::from(n))
     }
 
-    /// Whether no input is on, no delay timer runs and none is in service: then a tick changes nothing.
+    /// Whether no input is on, no delay timer runs and no preempt is in service: then a tick changes nothing.
     #[inline(always)]
     pub(crate) fn is_idle(&self, inputs: NumberSet) -> bool
         ensures { result ≡ true → IsIdle inputs (cells_of self.now) }
@@ -78,7 +78,7 @@ impl Preempts {
         cells == 0 && !names_preempt(inputs)
     }
 
-    /// Makes list `k` that of the preempts of a set.
+    /// Replaces list `k` with that of the preempts of a set.
     #[inline(always)]
     pub(crate) fn put_set(&mut self, k: usize, set: NumberSet)
         requires in_range { k < 2 }

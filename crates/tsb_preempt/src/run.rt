@@ -1,4 +1,4 @@
-//! What a tick makes of the preempts and asks of the phases, in the order in which it is found: inputs, delays, the
+//! What a tick does to the preempts and asks of the phases, in the order in which it is found: inputs, delays, the
 //! request, the service that begins or moves on, and what is spent.
 ghost use Rattle.std.specs.Prelude.{◌≡◌, ℕ, ◌+◌, ◌<◌, ◌≤◌, ◌^◌, ◌||◌, ◌&&◌, is_some, is_none, Bool, true, false, None, slice_index};
 ghost use Rattle.tsb_objects.specs.tsb_plan.PlanOf.{plan_of};
@@ -54,7 +54,7 @@ fn outside(target: &Option<PhaseSet>) -> PhaseSet
     }
 }
 
-/// The least of the four preempts that are.
+/// The least of the four preempts for which it is so.
 #[inline(always)]
 #[tactic(auto, unfolding(tsb_types::specs::Lists::run_from))]
 fn least(one: bool, two: bool, three: bool, four: bool) -> Option<Preempt>
@@ -159,7 +159,7 @@ impl Preempts {
         row.preempts.union(list(&self.bank, SWITCHES))
     }
 
-    /// What tick `now` makes of the preempts, and what they ask of the phases. Most ticks change nothing.
+    /// Runs tick `now` of the preempts, and gives what they ask of the phases. Most ticks change nothing.
     #[inline(never)]
     pub(crate) fn run(
         &mut self,

@@ -1,5 +1,5 @@
-//! Whether a tick changes nothing: no delay timer begins or goes off, none is spent or no longer spent, none begins, and
-//! the stage in service stays.
+//! Whether a tick changes nothing: no delay timer begins or goes off, none is spent or no longer spent, none begins,
+//! and the stage in service stays.
 ghost use Rattle.std.specs.Prelude.{◌≡◌, ℕ, ◌+◌, ◌<◌, ◌≤◌, ◌^◌, ◌&&◌, true, false, slice_index};
 ghost use Rattle.tsb_cells.specs.Timer.{timer_at, has_reached};
 ghost use Rattle.tsb_types.specs.Flow.{interval_of};
