@@ -16,7 +16,7 @@ pub struct Field {
     pub(crate) heads: Display,
 }
 
-/// The set with the number where `on`, and else without it.
+/// The set with the number if `on`, and otherwise without it.
 #[inline(always)]
 fn put(set: NumberSet, o: Overlap, on: bool) -> NumberSet
     ensures set { has_number result o ≡ on }
@@ -100,8 +100,8 @@ impl Display {
 }
 
 impl Field {
-    /// The lamps of a display that does not flash, with an injected lamp, if there is one, laid over its head, also over
-    /// one that is dark (profile).
+    /// The lamps of a display that does not flash, with an injected lamp, if there is one, laid over its head, even
+    /// over one that is dark (profile).
     pub fn new(display: Display, lamp: Option<Lamp>) -> Field
         requires steady { Flashes false display }
         requires apart { AreApart display }

@@ -31,7 +31,7 @@ fn no_overlaps() -> Overlaps
     }
 }
 
-/// The set with the number where `on`, of a set that has it not.
+/// The set with the number if `on`, for a set that does not have it yet.
 #[inline(always)]
 fn joined(set: NumberSet, o: Overlap, on: bool) -> NumberSet
     requires { has_number set o ≡ false }
@@ -41,7 +41,7 @@ fn joined(set: NumberSet, o: Overlap, on: bool) -> NumberSet
     if on { set.with(o.number(), true) } else { set }
 }
 
-/// The sets with an overlap more, which is in none of them.
+/// The sets with one more overlap, which is in none of them yet.
 #[inline(always)]
 fn with_overlap(heads: Overlaps, o: Overlap, aspect: Aspect) -> Overlaps
     requires fresh { HasNone heads o }

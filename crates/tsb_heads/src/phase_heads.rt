@@ -41,8 +41,8 @@ pub(crate) fn vehicles_of(on: PhaseSet, intervals: &Intervals) -> Vehicles
     }
 }
 
-/// What the pedestrian heads of these phases show, by their pedestrian parts; those of others are dark, and those of
-/// phases without a walk while their pedestrians wait.
+/// What the pedestrian heads of these phases show, by their pedestrian parts; those of others are dark, and so are
+/// those of phases without a walk while their pedestrians wait.
 #[inline(always)]
 pub(crate) fn walkers_of(on: PhaseSet, with_walk: PhaseSet, pedestrians: &Pedestrians) -> Walkers
     ensures heads { (p : ℕ) → pedestrian_aspect result p
