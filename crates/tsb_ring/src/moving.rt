@@ -1,4 +1,5 @@
-//! What a ring does in a tick by its want and its commitment: which phase it starts, ends and clears, and what it commits to.
+//! What a ring does in a tick by its want and its commitment: which phase it starts, ends and clears, and what it
+//! commits to.
 ghost use Rattle.std.specs.Prelude.{◌≡◌, ◌&&◌, ◌||◌, Some, None, is_some, if◌then◌else◌};
 ghost use Rattle.tsb_objects.specs.tsb_plan.Plan.{Plan};
 ghost use Rattle.tsb_objects.specs.Checked.{checked_plan};
@@ -122,7 +123,7 @@ fn does_end(conditions: &Conditions, p: Phase, found: &Found, outcome: &Outcome)
 }
 
 impl Rings {
-    /// Whether the ring's commitment that was may start, or the ring is idle or over where it has none.
+    /// Whether the commitment that the ring had may start, or, where it had none, whether the ring is idle or over.
     #[inline(always)]
     pub(crate) fn may_start(&self, plan: &Checked, conditions: &Conditions, turn: &Turn) -> bool
         requires by { IsBy (cells_of self.now) }
