@@ -1,4 +1,4 @@
-//! When a test of phase timing next turns, while what a tick tells it stays the same. `u32::MAX` stands for no tick.
+//! When a test of phase timing next changes, while what a tick gives it stays the same. `u32::MAX` stands for no tick.
 ghost use Rattle.std.specs.Prelude.{◌≡◌, ℕ, ◌+◌, ◌-◌, ◌<◌, ◌≤◌, ◌^◌, true, false};
 ghost use Rattle.tsb_cells.specs.Timer.{timer_at, has_reached};
 ghost use Rattle.tsb_objects.specs.tsb_types.declared.interval.Interval.TheVariants.{RedClear};
@@ -81,7 +81,7 @@ fn due_pedestrian(plan: &Plan, conditions: &Conditions, p: Phase, was: &PhaseRow
     }
 }
 
-/// The time that the green lasts at least: the initial time, shorter under a preempt that ends it.
+/// The least time that the green lasts: the initial time, shorter under a preempt that ends it.
 fn least_of(plan: &Plan, conditions: &Conditions, p: Phase) -> u32
     ensures { result ≡ least_of (plan_of plan.now) (given_of conditions.now) p (ended_by (given_of conditions.now) p) }
 {
@@ -124,7 +124,7 @@ fn turn_gap(now: u32, plan: &Plan, p: Phase, was: &PhaseRow) -> u32
     now.saturating_add(ticks)
 }
 
-/// The tick up to which a green is still whose timers and latches tick `now` leaves as they were.
+/// The tick up to which a green is still, where tick `now` leaves its timers and latches as they were.
 #[inline(always)]
 fn due_kept(now: u32, plan: &Plan, conditions: &Conditions, p: Phase, was: &PhaseRow) -> u32
     requires fits { now + 1 < 2 ^ 32 }
@@ -217,7 +217,7 @@ fn due_of(now: u32, plan: &Plan, conditions: &Conditions, p: Phase, was: &PhaseR
 impl Phases {
     ghost use Rattle.tsb_phase.specs.Layer.{cells_of};
 
-    /// The tick up to which what is told of red revert timers stays.
+    /// The tick up to which what is said of red revert timers stays the same.
     fn due_to_revert(&self, now: u32, plan: &Plan) -> u32
         requires fits { now + 1 < 2 ^ 32 }
         ensures { (t p : ℕ) → t < result → 1 ≤ p → p ≤ 16 → StaysReverted (plan_of plan.now) (cells_of self.now) now t p }

@@ -1,4 +1,4 @@
-//! A tick over the cells: each phase in service is visited, and what the tick tells of all phases is put together.
+//! A tick over the cells: each phase in service is visited, and what the tick says of all phases is put together.
 ghost use Rattle.std.specs.Prelude.{◌≡◌, ◌≢◌, ℕ, ◌+◌, ◌<◌, ◌≤◌, ◌^◌, true, false};
 ghost use Rattle.tsb_objects.specs.Checked.{checked_plan};
 ghost use Rattle.tsb_objects.specs.tsb_plan.Plan.{red_revert};
@@ -21,7 +21,7 @@ use tsb_objects::{Checked, Phase, PhaseSet, Timing};
 impl Phases {
     ghost use Rattle.tsb_phase.specs.Layer.{cells_of, kept_of, is_open, KeepsLists};
 
-    /// What a tick makes of a phase in service, and what it tells of it.
+    /// Runs a tick of one phase in service, and adds what the tick says of it to `timing`.
     #[inline(always)]
     fn visit(
         &mut self,
