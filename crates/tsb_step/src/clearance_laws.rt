@@ -2,8 +2,8 @@
 //! nothing.
 ghost use Rattle.tsb_step.specs.ClearanceLaws.{ClearedAreOver, CoordinatedClearAtZero, EndedGreensHaveLasted, GreensClearInTime, StartedHaveReverted};
 
-/// `ended`: A green that ends has lasted its least green and shows DontWalk. So it is also at a crossing, or where a
-/// preempt ends it; from any state, not in runs alone.
+/// `ended`: A green that ends has lasted its least green and shows DontWalk. This holds at a crossing too, or where a
+/// preempt ends it; from any state, not only in runs.
 ///
 /// Not said: anything of walks that ended before.
 /// Mistake: a preempt that ends a green at once, `ready_at_once` (`is_not_ready`, `would_be_ready`).
@@ -14,7 +14,7 @@ ghost use Rattle.tsb_step.specs.ClearanceLaws.{ClearedAreOver, CoordinatedClearA
 /// in its yellow, `clears_early` of tsb_laws (`does_not_clear`, `would_go_red`).
 /// Witness: `clears_2` of TimeRuns.
 ///
-/// `started`: A phase that starts has its red revert timer Off, or has waited for it. So it is from any state.
+/// `started`: A phase that starts has its red revert timer Off, or has waited for it. This holds from any state.
 ///
 /// Not said: that the timer is on after a yellow.
 /// Mistake: a start without a look at red revert, `starting_as_wanted` of tsb_ring (`reverts`, `reverts_not`).
@@ -29,7 +29,7 @@ pub fn moves_have_waited()
 /// yellow change and by red clearance for exactly its red clearance. The phase is over in the tick in which these end
 /// and in none before, whatever detectors and preempts do meanwhile.
 ///
-/// Not said: anything where an input that is no tick comes between, such as a commit of another yellow, or where the
+/// Not said: anything where an input that is not a tick comes between, such as a commit of another yellow, or where the
 /// controller trips.
 /// Mistake: a phase that is over as its yellow ends, `over_after_yellow` (`is_not_over`, `would_be_over`).
 /// Witness: `ends_now` of TimeRuns.
@@ -40,7 +40,7 @@ pub fn greens_clear_in_time()
 /// A coordinated phase that is forced off at its instant has cleared at local zero. Where its green ends at its
 /// force-off instant, it is over in a tick after which the local counter is 0.
 ///
-/// Needs: what `greens_clear_in_time` needs: ticks alone come between, and the controller does not trip.
+/// Needs: what `greens_clear_in_time` needs: only ticks come between, and the controller does not trip.
 /// Not said: that the green ends at the instant. A force-off waits for the initial time, for pedestrians and for a
 /// conflict.
 /// Mistakes: those of the law `forced_phases_end_with_their_splits` of tsb_coord, such as `instant_from_own`.

@@ -13,11 +13,11 @@ pub fn desk_inputs_change_the_desk()
 
 /// Only the plans put into effect matter. Two runs from one plan whose inputs are the same once those of the desk are
 /// left out, and whose commits put the same plans into effect in turn, end in states that are equal but for the desk,
-/// and show the same. So it is by whatever edits, of whichever station, with refused inputs among them.
+/// and show the same. This holds for any edits, of any station, with refused inputs among them.
 ///
 /// Not said: that two different plans act alike.
 /// Mistakes: a set that acts at once, `step_at_once`; an abort that puts its edits into effect, `step_on_abort`
-/// (`gives_up`, `gives_up_not`); a value set again as one edit more, `with_edit_too` (`forgets_not`, `forgets`).
+/// (`gives_up`, `gives_up_not`); a value set again as one more edit, `with_edit_too` (`forgets_not`, `forgets`).
 /// Witness: `straight` and `roundabout`.
 pub fn desks_act_by_plans()
     ensures plans { ActByPlansAlone }

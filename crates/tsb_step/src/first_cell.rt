@@ -1,5 +1,5 @@
-//! The numbers of first cells among all cells of the controller, and how many cells there are. The cells are those of the
-//! plan, of the desk, of the six layers, and of the monitor with the injected lamp.
+//! The numbers of first cells among all cells of the controller, and how many cells there are. The cells are those of
+//! the plan, of the desk, of the six layers, and of the monitor with the injected lamp.
 
 use crate::MONITOR_CELLS;
 use tsb_objects::PLAN_CELLS;

@@ -3,20 +3,20 @@
 use tsb_objects::{ObjectId, Row, Station};
 use tsb_types::Lamp;
 
-/// An input of the controller: from the field a tick, from the operator a pattern, a switch, a fault or a
-/// reset, from the stations the database transactions of NTCIP 1201.
+/// An input of the controller: a tick from the field; a pattern, a switch, a fault or a reset from the operator; the
+/// database transactions of NTCIP 1201 from the stations.
 #[derive(Clone, Copy, PartialEq, Eq)]
 pub enum Input {
     /// A tenth of a second passes, with these inputs of detectors and preempts on. Refused with E11 at tick
     /// 6,000,000.
     Tick(Row),
-    /// Pattern 1 to 16 is selected, or with 0 free operation. Refused with E9 for any other number, and for a
-    /// pattern whose cycle is 0.
+    /// Pattern 1 to 16 is selected, or free operation with 0. Refused with E9 for any other number, and for a pattern
+    /// whose cycle is 0.
     Pattern(u32),
     /// The switch of preempt 1 to 4 is set. Refused with E10 for any other number, and where it would be switched on
     /// with no dwell phases.
     Switch(u32, bool),
-    /// A lamp is lit whatever the controller orders, in place of the one that was; or, with none, that one is taken
+    /// A lamp is lit whatever the controller orders, in place of the one before; or, with none, the one before is taken
     /// out. Never refused but for memory.
     Fault(Option<Lamp>),
     /// A controller that has tripped starts anew, and keeps its plan, desk, switches and tick number. Any other stays

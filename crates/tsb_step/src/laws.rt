@@ -17,8 +17,8 @@ ghost use Rattle.tsb_step.specs.Laws.{DisplaysAreSafe, FaultsAloneTrip, MemoryIs
 /// commit of the structure while the rings cross, `parted_in_crossing`, which E12 refuses (`has_to_wait`,
 /// `serves_3_then`, `serves_8_then`, `apart_3_8_then`).
 ///
-/// `walks`: Pedestrians walk or clear only beside a Green phase. So it is under a preempt too, and while the controller
-/// flashes.
+/// `walks`: Pedestrians walk or clear only beside a Green phase. This holds under a preempt too, and while the
+/// controller flashes.
 ///
 /// Not said: for how long.
 /// Mistake: a pedestrian part that is kept as the green ends, `part_kept` (`walks_no_more`, `would_walk_on`).
@@ -28,7 +28,7 @@ pub fn displays_are_safe()
     ensures walks { WalksAreBesideGreens }
 {}
 
-/// The plan in effect breaks no rule. So it is whatever was committed.
+/// The plan in effect breaks no rule. This holds whatever was committed.
 ///
 /// Not said: that it is a good plan.
 /// Mistake: a commit of edits that were not found right, which E7 refuses, `unverified` (`has_to_be_verified`,
@@ -49,8 +49,8 @@ pub fn starts_wait()
     ensures { StartsWait }
 {}
 
-/// The order in which the two rings act makes no difference. The rings after a tick are what its moves make of them,
-/// whichever ring acts first, from any state.
+/// The order in which the two rings act makes no difference. The rings after a tick are those that have acted on its
+/// moves, whichever ring acts first, from any state.
 ///
 /// Not said: that the rings decide in either order. Ring 1 is asked first.
 /// Mistake: rings that decide as they act, `pick_in_turn` of tsb_ring (`first_takes_1`, `second_takes_none`).

@@ -3,8 +3,8 @@
 ghost use Rattle.tsb_step.specs.MonitorLaws.{MonitorRowsAreTold, MonitorStatesAreRead, MonitorRowsStay};
 
 /// The cells of the monitor and of the injected lamp are read as what they are. A row that the monitor can have is the
-/// encoding of what is read in it, and the encoding of a state in range is read as it; what it can have at a tick it
-/// can have at each later one.
+/// encoding of what is read in it, and the encoding of a state in range reads back as that state; what it can have at a
+/// tick it can have at each later one.
 ///
 /// Mistake: a row without the second phase of a conflict (`has_the_second`, `would_tell_another`).
 /// Witness: `is_told` of OtherRuns.
