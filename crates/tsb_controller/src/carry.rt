@@ -93,7 +93,7 @@ fn start_some(
     }
 }
 
-/// Carries out the moves of tick `now`, after the phases' own tick, which told `timing` by `conditions`: greens end,
+/// Carries out the moves of tick `now`, after the phases' own tick, which gave `timing` from `conditions`: greens end,
 /// phases that are over go Red, and phases start. The rings end and clear different phases.
 pub(crate) fn carry_out(
     phases: &mut Phases,

@@ -76,8 +76,8 @@ impl Controller {
         }
     }
 
-    /// What the tick does by what it has found: the times of phases run, the rings decide, and their moves are carried
-    /// out on phases and rings.
+    /// What the tick does with what it has found: the times of phases run, the rings decide, and their moves are
+    /// carried out on phases and rings.
     fn proceed(&mut self, now: u32, sensed: &Sensed, called: &Called, plan: &Checked) -> Movement
         requires opened { IsOpen self.old }
         requires begun { 1 ≤ now }

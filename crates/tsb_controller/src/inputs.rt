@@ -37,8 +37,8 @@ impl Controller {
         }
     }
 
-    /// Selects a pattern, or free operation by 0, and takes the forced latch of every phase back. `Coord::refusal`
-    /// tells whether it may be selected.
+    /// Selects a pattern, or free operation by 0, and takes the forced latch of every phase back. `Coord::refusal` says
+    /// whether it may be selected.
     pub fn set_pattern(&mut self, n: u32, plan: &Checked)
         requires opened { IsOpen self.old }
         requires allowed { refusal (checked_plan plan.now) n ≡ None }
@@ -52,7 +52,7 @@ impl Controller {
         self.phases.unforce();
     }
 
-    /// Sets the switch of a preempt. `Preempts::switch_refusal` tells whether it may be set.
+    /// Sets the switch of a preempt. `Preempts::switch_refusal` says whether it may be set.
     pub fn switch(&mut self, n: u32, on: bool, plan: &Checked)
         requires opened { IsOpen self.old }
         requires allowed { switch_refusal (checked_plan plan.now) n on ≡ None }

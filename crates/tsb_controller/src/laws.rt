@@ -23,7 +23,8 @@ pub fn records_go_back()
     tsb_transact::laws::rows_are_told();
 }
 
-/// The record of an input gives back the state before it. It has no more entries of any cells than there are of these.
+/// The record of an input gives back the state before it. In any range of cells it has no more entries than there are
+/// cells.
 pub fn records_give_back()
     ensures back { RecordsGiveBack }
     ensures few { RecordsAreFew }
@@ -31,8 +32,8 @@ pub fn records_give_back()
     tsb_transact::laws::rows_are_told();
 }
 
-/// What differs between earlier and later rows, put back into the later ones, gives the earlier ones. It names cells of
-/// the bench alone, and no more of any cells than there are of these.
+/// What differs between earlier and later rows, put back into the later ones, gives the earlier ones. It names only
+/// cells of the bench, and in any range of cells no more than there are.
 pub fn rows_go_back()
     ensures back { RowsGoBack }
     ensures within { EntriesAreWithin }

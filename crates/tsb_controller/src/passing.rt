@@ -85,7 +85,7 @@ impl Controller {
         }
     }
 
-    /// The tick up to which phases stay as tick `now` left them, and tell the same.
+    /// The tick up to which phases stay as tick `now` left them, and report the same.
     #[inline(never)]
     fn phases_due(&self, now: u32, row: &Row, plan: &Checked) -> u32
         requires closed { IsClosed self.now }

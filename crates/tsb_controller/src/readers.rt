@@ -1,4 +1,4 @@
-//! What the controller tells of its state: whether it serves, the preempt in service, the local counter, why a pattern
+//! What the controller says of its state: whether it serves, the preempt in service, the local counter, why a pattern
 //! or a switch would be refused; and layers, lent to those who read what they are in.
 ghost use Rattle.std.specs.Prelude.{◌≡◌, ◌≤◌, ◌||◌, false, is_some};
 ghost use Rattle.std.specs.List.{list_any};
@@ -36,7 +36,7 @@ fn has_service(intervals: &Intervals) -> bool
     served.first().is_some()
 }
 
-/// Whether something is in service, or a commitment of either ring or a crossing stands.
+/// Whether something is in service, or there is a commitment of either ring or a crossing.
 fn serves(
     in_service: bool,
     first: Option<Phase>,
@@ -51,8 +51,8 @@ fn serves(
 impl Controller {
     ghost use Rattle.tsb_controller.specs.Layer.{rows_of, IsClosed};
 
-    /// Whether the rings serve: a phase is in service, or a commitment or a crossing stands. A commit of the structure
-    /// has to wait for them.
+    /// Whether the rings serve: a phase is in service, or there is a commitment or a crossing. A commit of the
+    /// structure has to wait for them.
     pub fn is_serving(&self) -> bool
         requires rings_by { rings.IsBy (rows_of self.now).rings }
         ensures { TellsServing (rows_of self.now) result }
@@ -79,8 +79,8 @@ impl Controller {
         self.preempts.stage()
     }
 
-    /// The local counter at tick number `now`, at most the last that there is, in ticks, or `None` in free operation. It
-    /// goes on while the controller is tripped.
+    /// The local counter at tick number `now`, at most the last that there is, in ticks, or `None` in free operation.
+    /// It goes on while the controller is tripped.
     pub fn local(&self, now: u32, plan: &Checked) -> Option<u32>
         requires pattern_by { coord.IsBy (rows_of self.now).pattern }
         requires in_time { now ≤ last_tick }

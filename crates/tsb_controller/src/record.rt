@@ -1,4 +1,4 @@
-//! The record of what changes in the layers, and the way back by it.
+//! The record of what changes in the layers, and how it is put back.
 ghost use Rattle.std.specs.Prelude.{◌≡◌, ◌+◌, ◌≤◌, ◌++◌, ◌∷◌, []};
 ghost use Rattle.arrayvec.specs.ArrayVec.{array_vec_len};
 ghost use Rattle.tsb_step.specs.declared.first_cell.TheConstants.{LAYER_CELLS};
@@ -47,7 +47,7 @@ impl Controller {
         self.preempts.close_onto(out, PREEMPTS);
     }
 
-    /// Puts back what an entry of a record tells, where it is of a cell of the layers.
+    /// Puts back what an entry of a record says, where it is of a cell of the layers.
     #[inline(always)]
     pub fn undo_entry(&mut self, cell: u16, old: u32)
         requires closed { IsClosed self.old }

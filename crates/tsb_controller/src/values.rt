@@ -32,7 +32,7 @@ pub(crate) struct Sensed {
     pub(crate) coordination: Coordination,
 }
 
-/// What phase timing tells of a tick, and what the rings did.
+/// What phase timing says of a tick, and what the rings did.
 #[derive(Clone, Copy)]
 pub(crate) struct Movement {
     /// Which times of phases have passed.
@@ -71,7 +71,7 @@ impl Sensed {
         }
     }
 
-    /// What phase timing is told, with the vehicles that phases 1 to 16 have counted, in turn.
+    /// What phase timing is given, with the vehicles that phases 1 to 16 have counted, in turn.
     pub(crate) fn conditions<'a>(&self, called: &Called, counts: &'a [u32]) -> Conditions<'a>
         requires full { length counts.now ≡ 16 }
         requires small { AreCounts counts.now }
@@ -99,7 +99,7 @@ impl Sensed {
         }
     }
 
-    /// What the calls are told that the rings did.
+    /// What the rings did, as it is given to the calls.
     pub(crate) fn decided(&self, called: &Called, movement: &Movement) -> Decided
         ensures { AreDecided self.now called.now movement.now result }
     {

@@ -35,7 +35,7 @@ impl Controller {
         )
     }
 
-    /// What the heads show, of a controller that has tripped or has not.
+    /// What the heads show, for a controller that has tripped or has not.
     pub fn display(&self, tripped: bool, plan: &Checked) -> Display
         requires rings_by { rings.IsBy (rows_of self.now).rings }
         ensures { ShowsDisplay (checked_plan plan.now) tripped (rows_of self.now) result }
@@ -51,7 +51,7 @@ impl Controller {
         Field::new(self.heads(false, plan), *lamp)
     }
 
-    /// Tick `now` of a controller that has not tripped, with what the monitor finds, which compares what the lamps
+    /// Tick `now` of a controller that has not tripped, with what the monitor finds when it compares what the lamps
     /// showed before with what they show then: why the controller trips, if it does. While no lamp is lit it finds
     /// nothing, so that the heads need not be compared.
     pub fn watched_tick(
@@ -81,7 +81,7 @@ impl Controller {
         Monitor::judge(&before, &self.field(lamp, plan), plan)
     }
 
-    /// What the monitor finds when a fault lights `lamp` in place of the one that was, or takes that out: why the
+    /// What the monitor finds when a fault lights `lamp` in place of the one before, or takes that one out: why the
     /// controller, which has not tripped, trips, if it does.
     pub fn light(&self, was: &Option<Lamp>, lamp: &Option<Lamp>, plan: &Checked) -> Option<Trip>
         requires rings_by { rings.IsBy (rows_of self.now).rings }
