@@ -137,7 +137,7 @@ impl Bench {
     pub const TICKS: u32 = limits::TICKS;
 
     /// A bench at power-up, which runs this plan: all phases Red, at tick 0. `Memory`, where there is none for the
-    /// desk's edits, is its only refusal. Of the room of its history nothing is said: the first input asks for memory.
+    /// desk's edits, is its only refusal. Nothing is said of the room of its history: the first input asks for memory.
     pub fn power_up(alloc: Global, plan: Checked) -> Result<Bench, Refusal>
         ensures { MatchResult result (λ b. whole b ≡ record { state = start (checked_plan plan); records = [] }) (λ e. e ≡ Memory) }
     {
@@ -155,7 +155,7 @@ impl Bench {
         ensures now { result ≡ self.now.tick }
         ensures limit { result ≤ last_tick }
         ensures ticks { result ≡ ticks self.now.records }
-        // The state and each earlier one are such as runs lead to: the plan breaks no rule, and so on.
+        // The state and each earlier one are ones that runs lead to: the plan breaks no rule, and so on.
         ensures good { (k : ℕ) → IsGood (earlier (whole self.now) k).state }
     {
         self.tick
@@ -209,14 +209,14 @@ impl Bench {
 
     /// Takes an input.
     ///
-    /// What a refusal means stands with each input. `Memory` says that memory ran out, and comes only where there is no
-    /// other refusal and the history had to grow. A refused input leaves the bench as it was. One that is taken leaves
-    /// less room by no more than the bytes of its record.
+    /// The comment on each input says what a refusal of it means. `Memory` says that memory ran out, and comes only
+    /// where there is no other refusal and the history had to grow. A refused input leaves the bench as it was. One
+    /// that is taken leaves less room by no more than the bytes of its record.
     pub fn apply(&mut self, input: Input) -> Result<(), Refusal>
         ensures allowed { OnOk result (verdict (state_of self.old) input ≡ None) }
         ensures state { OnOk result (state_of self.new ≡ step (state_of self.old) input) }
         ensures records { OnOk result (self.new.records ≡ record_of input (state_of self.old) (state_of self.new) ∷ self.old.records) }
-        // To undo it leaves the whole controller as it was.
+        // Undoing it leaves the whole controller as it was.
         ensures back { OnOk result (earlier (whole self.new) 1 ≡ whole self.old) }
         ensures refused { IfErr result (IsRefusal (verdict (state_of self.old) input)) }
         ensures err { OnErr result (self.new ≡ self.old) }
@@ -224,7 +224,7 @@ impl Bench {
         ensures few { OnOk result (length (record_of input (state_of self.old) (state_of self.new)).entries ≤ most_cells (kind_of input)) }
         // Out of memory only where the history had no room for a record of all these cells.
         ensures wanting { result ≡ Err Memory → self.old.room < record_size (most_cells (kind_of input)) }
-        // No more of the room is gone than the bytes of its record.
+        // The room shrinks by no more than the bytes of its record.
         ensures room { OnOk result (self.old.room
             ≤ self.new.room + record_size (length (record_of input (state_of self.old) (state_of self.new)).entries)) }
     {
@@ -252,7 +252,7 @@ impl Bench {
         Ok(())
     }
 
-    /// Takes the newest input back, and tells its kind. The whole controller is then as it was before that input.
+    /// Takes the newest input back, and gives its kind. The whole controller is then as it was before that input.
     ///
     /// `Nothing` says that no input is left, and nothing has changed. It takes no memory; the bytes of the record are room
     /// again.
@@ -274,8 +274,8 @@ impl Bench {
         Ok(kind)
     }
 
-    /// Goes back to a tick number: it takes back the fewest inputs that make the tick number so. Inputs that were
-    /// taken at that tick number stay.
+    /// Goes back to a tick number: it takes back the fewest inputs that lead there. Inputs that were taken at that tick
+    /// number stay.
     ///
     /// `Nothing` says that the tick is still to come, and nothing has changed. It takes no memory.
     pub fn seek(&mut self, tick: u32) -> Result<(), Nothing>
@@ -316,8 +316,8 @@ impl Bench {
         self.seek(self.tick - ticks)
     }
 
-    /// The tick number of the newest change of the watched value, of those not taken back; `None` where it never changed.
-    /// An input that is no tick counts at the tick number in force (profile). It takes no memory.
+    /// The tick number of the newest change of the watched value that was not taken back; `None` where it never
+    /// changed. An input that is no tick counts at the tick number in force (profile). It takes no memory.
     pub fn when(&self, watch: Watch) -> Option<u32>
         ensures { TellsLastChange watch (pasts (state_of self.now) self.now.records) result }
     {
@@ -337,7 +337,7 @@ impl Bench {
     }
 
     /// A bench that is in the same state and has the same history, in memory of its own. `Memory` is its only refusal.
-    /// Of the room of its history nothing is said.
+    /// Nothing is said of the room of its history.
     pub fn clone_in(&self, alloc: Global) -> Result<Bench, Refusal>
         ensures { MatchResult result (λ b. whole b ≡ whole self.now) (λ e. e ≡ Memory) }
     {

@@ -40,7 +40,8 @@ use tsb_step::first_cell::{ALL_CELLS, DESK, DETECTORS, LAYER_CELLS, MONITOR};
 use tsb_step::{Input, MONITOR_CELLS};
 use tsb_transact::Desk;
 
-/// The most cells that an input changes which is no commit: the layers' and the monitor's, or the desk's, which are fewer.
+/// The most cells that an input other than a commit changes: the layers' and the monitor's, or the desk's, which are
+/// fewer.
 pub(crate) const MOST_CELLS: usize = LAYER_CELLS + MONITOR_CELLS;
 
 /// The cells that an input changes, each with its value before.
@@ -113,7 +114,7 @@ impl Cabinet {
     }
 
     /// Takes an input at tick number `tick`, and gives the tick number after it. The cells that change go to `out`. After
-    /// a tick that changes nothing some may be passed over, after all else none.
+    /// a tick that changes nothing some ticks may be passed over; after all else none.
     #[tactic(auto, using(crate::proofs::PassingLemmas::may_none))]
     pub(crate) fn step(&mut self, tick: u32, input: &Input, out: &mut Changes) -> u32
         requires shut { IsShut self.old }
@@ -147,7 +148,7 @@ impl Cabinet {
         tick
     }
 
-    /// Puts back what a record tells.
+    /// Puts back what a record holds.
     #[tactic(auto, using(crate::proofs::PassingLemmas::may_none))]
     pub(crate) fn undo(&mut self, change: &Record<'_>)
         requires shut { IsShut self.old }
@@ -168,7 +169,7 @@ impl Cabinet {
     }
 }
 
-/// Puts back what a record tells of the layers and of the monitor, entry by entry.
+/// Puts back what a record holds of the layers and the monitor, entry by entry.
 fn undo_layers(controller: &mut Controller, monitor: &mut Bank<MONITOR_CELLS>, change: &Record<'_>)
     requires controller { IsClosed controller.old }
     requires monitor { bank.is_open monitor.old ≡ false }
@@ -185,7 +186,7 @@ fn undo_layers(controller: &mut Controller, monitor: &mut Bank<MONITOR_CELLS>, c
     }
 }
 
-/// Puts back what a record tells of plan and desk, which few records do.
+/// Puts back what a record holds of plan and desk, which few records have.
 fn undo_plan_and_desk(plan: &mut Checked, desk: &mut Desk, change: &Record<'_>)
     requires ranged { AreInRange (apply_diff plan.old.plan.values (part 0 PLAN_CELLS change.now.entries)) }
     requires passed { first_broken (plan_in (apply_diff plan.old.plan.values (part 0 PLAN_CELLS change.now.entries))) ≡ None }
@@ -202,7 +203,7 @@ fn undo_plan_and_desk(plan: &mut Checked, desk: &mut Desk, change: &Record<'_>)
     }
 }
 
-/// Puts back what a record tells of the plan.
+/// Puts back what a record holds of the plan.
 fn undo_plan(plan: &mut Checked, change: &Record<'_>)
     requires ranged { AreInRange (apply_diff plan.old.plan.values (part 0 PLAN_CELLS change.now.entries)) }
     requires passed { first_broken (plan_in (apply_diff plan.old.plan.values (part 0 PLAN_CELLS change.now.entries))) ≡ None }
@@ -213,8 +214,8 @@ fn undo_plan(plan: &mut Checked, change: &Record<'_>)
     }
 }
 
-/// Makes the plan that it was, with its tables. It stands by itself as few records have a plan's cells, and its room on
-/// the stack takes long to clear.
+/// Makes the plan as it was, with its tables. It is a function of its own because few records have a plan's cells, and
+/// its room on the stack takes long to clear.
 #[inline(never)]
 fn put_back_plan(plan: &mut Checked, change: &Record<'_>)
     requires ranged { AreInRange (apply_diff plan.old.plan.values (part 0 PLAN_CELLS change.now.entries)) }
@@ -224,7 +225,7 @@ fn put_back_plan(plan: &mut Checked, change: &Record<'_>)
     *plan = Checked::known(put_back(plan.plan(), change));
 }
 
-/// Puts back what a record tells of the desk.
+/// Puts back what a record holds of the desk.
 fn undo_desk(desk: &mut Desk, change: &Record<'_>)
     requires shut { is_open desk.old ≡ false }
     requires few { HasFew change.now.entries }
@@ -237,7 +238,7 @@ fn undo_desk(desk: &mut Desk, change: &Record<'_>)
     }
 }
 
-/// Makes the desk that it was, by itself for the same reason.
+/// Makes the desk as it was, in a function of its own for the same reason.
 #[inline(never)]
 #[tactic(auto, using(crate::proofs::PartLemmas::parts))]
 fn put_back_desk(desk: &mut Desk, change: &Record<'_>)

@@ -82,7 +82,7 @@ impl Cabinet {
         self.desk.close_onto(out, DESK);
     }
 
-    /// Gives the station's transaction up.
+    /// Gives up the station's transaction.
     pub(crate) fn abort(&mut self, tick: u32, station: Station, out: &mut Changes)
         requires shut { IsShut self.old }
         requires by { AreAllBy tick (rows_of self.old) }

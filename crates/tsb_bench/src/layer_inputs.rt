@@ -20,7 +20,7 @@ use tsb_objects::Row;
 use tsb_types::Lamp;
 
 impl Cabinet {
-    /// The tick after tick number `tick`, with the inputs of `row` on. That of a controller that has tripped changes
+    /// The tick after tick number `tick`, with the inputs of `row` on. A tick of a controller that has tripped changes
     /// no cell.
     pub(crate) fn tick(&mut self, tick: u32, row: &Row, out: &mut Changes)
         requires shut { IsShut self.old }
@@ -29,7 +29,7 @@ impl Cabinet {
         requires allowed { verdict (all_in tick (rows_of self.old)) (inputs.Tick row.now) ≡ None }
         requires empty { out.old.items ≡ [] }
         ensures done { IsDone (inputs.Tick row.now) tick (rows_of self.old) (rows_of self.new) out.new.items }
-        // What the monitor watched, where it tripped no controller.
+        // What the monitor watched, where the controller has not tripped.
         ensures watched { trip_in (rows_of self.new).monitor ≡ None → IsWatchedTick (tick + 1) row.now
             (lamp_in (rows_of self.new).monitor) (plan_in (rows_of self.new).plan) (rows_of self.old).layers (rows_of self.new).layers None }
         ensures few { array_vec_len out.new ≤ MOST_CELLS }
@@ -79,7 +79,7 @@ impl Cabinet {
         self.controller.close_onto(out);
     }
 
-    /// Lights a lamp in place of the one that was, or takes that out. The monitor judges it at once.
+    /// Lights a lamp in place of the one before, or takes that one out. The monitor judges it at once.
     pub(crate) fn light(&mut self, tick: u32, lamp: &Option<Lamp>, out: &mut Changes)
         requires shut { IsShut self.old }
         requires by { AreAllBy tick (rows_of self.old) }

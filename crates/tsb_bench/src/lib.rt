@@ -1,8 +1,8 @@
 //! The bench: the whole controller, which can be wound back. It takes inputs, gives a display, and takes the newest
 //! inputs back, with the whole controller as it was.
 //!
-//! [`Bench`] meets the one step of the definitions (`tsb_step`), and the way back of `tsb_machine`: what holds of every run
-//! and of every session by them holds of what [`play`] leaves: [`plays_keep_the_laws`].
+//! [`Bench`] meets the one step of the definitions (`tsb_step`), and the way back of `tsb_machine`. So what these prove
+//! of every run and every session holds of what [`play`] leaves: [`plays_keep_the_laws`].
 #![tactic(auto)]
 
 mod bench;

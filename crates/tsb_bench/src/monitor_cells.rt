@@ -19,7 +19,7 @@ use tsb_step::MONITOR_CELLS;
 use tsb_step::first_cell::MONITOR;
 use tsb_types::{Lamp, Overlap, PedestrianColor, Phase, SignalColor};
 
-/// The cell that tells why the controller has tripped; 0 where it has not.
+/// The cell that says why the controller has tripped; 0 where it has not.
 const CAUSE: usize = 0;
 
 /// The first cell of the lamp: its kind of head, or 0 where no lamp is lit.
@@ -153,7 +153,7 @@ impl MonitorCells {
         }
     }
 
-    /// Takes the lamp in place of the one that was, and trips at tick number `now` if there is a cause. The cells that
+    /// Takes the lamp in place of the one before, and trips at tick number `now` if there is a cause. The cells that
     /// change go to `out`.
     pub(crate) fn set<const M: usize>(
         &mut self,
@@ -192,7 +192,7 @@ impl MonitorCells {
         self.store(&[0; 4], &[0; 3], out);
     }
 
-    /// Puts these cells. Those that change go to `out`.
+    /// Stores these cells. Those that change go to `out`.
     fn store<const M: usize>(
         &mut self,
         trip: &[u32; 4],

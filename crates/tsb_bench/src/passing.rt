@@ -57,8 +57,8 @@ impl Cabinet {
         }
     }
 
-    /// The tick after tick number `tick`, which is worked out. Where it changes nothing, those after it with the same
-    /// inputs may be passed over, up to the one that is due.
+    /// Works out the tick after tick number `tick`. Where it changes nothing, those after it with the same inputs may
+    /// be passed over, up to the one that is due.
     pub(crate) fn work_tick(&mut self, tick: u32, row: &Row, out: &mut Changes)
         requires shut { IsShut self.old }
         requires by { AreAllBy tick (rows_of self.old) }

@@ -56,7 +56,7 @@ pub fn plays_keep_the_laws(plan: Checked, commands: &[Cmd], answers: &[Answer], 
     ensures overlaps { TurnsOverlapsRedFromYellow (checked_plan plan) (remaining (checked_plan plan) commands.now answers.now) }
     // Unless it has tripped, the field, with a lamp that a fault has lit, is in no conflict.
     ensures field { HasSafeField (state_of bench.now) }
-    // Unless it has tripped, a commitment stands over the next input, or its phase turns Green by it.
+    // Unless it has tripped, a commitment lasts through the next input, or its phase turns Green by it.
     ensures commitments { KeepsCommitments (state_of bench.now) }
     // Each phase in service is on the side that is served.
     ensures sides { ServesItsSide (state_of bench.now) }

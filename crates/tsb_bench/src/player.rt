@@ -19,8 +19,9 @@ use tsb_machine::Answer;
 use tsb_objects::{Checked, Refusal};
 use tsb_step::Cmd;
 
-/// Carries out a command, and gives its answer. It does what it says; and so, where the bench has come from power-up by
-/// some inputs, the answer is right, and the bench is then one that has come by the inputs that remain.
+/// Carries out a command, and gives its answer. It does what the answer says. So, where the bench has come from
+/// power-up by some inputs, the answer is right, and the bench is then one that has come from power-up by the inputs
+/// that remain.
 pub fn answer(bench: &mut Bench, command: Cmd) -> Answer
     ensures does { play.Does controller watched (whole bench.old) command result (whole bench.new) }
     ensures right { (plan : Plan) → play.Answers controller (start plan) watched (whole bench.old) command result (whole bench.new) }
@@ -50,13 +51,13 @@ pub fn answer(bench: &mut Bench, command: Cmd) -> Answer
 /// `Refusal::Memory`: there was no memory for the desk or for the answers.
 pub fn play(alloc: Global, plan: Checked, commands: &[Cmd]) -> Result<(Bench, Vec<Answer>), Refusal>
     ensures memory { IfErr result (λ e. e ≡ Memory) }
-    // There are as many answers as commands, and each is right where it stands.
+    // There are as many answers as commands, and each is right in its place.
     ensures answers { IfOk result (λ r. AreRight (checked_plan plan) commands.now r.1.items) }
     // Each of the inputs that were not undone was taken.
     ensures taken { IfOk result (λ r. AreTaken (checked_plan plan) (remaining (checked_plan plan) commands.now r.1.items)) }
     // The state is that of a run from power-up on these inputs, the newest first.
     ensures state { IfOk result (λ r. state_of r.0 ≡ replay (checked_plan plan) (remaining (checked_plan plan) commands.now r.1.items)) }
-    // Told the other way round: the steps of those inputs, the oldest first.
+    // The same the other way round: the steps of those inputs, the oldest first.
     ensures in_order { IfOk result (λ r. state_of r.0
         ≡ fold step (start (checked_plan plan)) (reverse (remaining (checked_plan plan) commands.now r.1.items))) }
     // So is each earlier state, without the newest of those inputs.

@@ -19,7 +19,7 @@ use tsb_records::undo_part;
 use tsb_step::first_cell::{CALLS, DETECTORS, MONITOR, PHASES, PREEMPTS};
 use tsb_types::Watch;
 
-/// The layer that has a watched value, and whose of its values it is.
+/// The layer that has a watched value, and which of the layer's values that is.
 #[derive(Clone, Copy)]
 pub(crate) enum Watched {
     /// The interval of a phase.
@@ -78,7 +78,7 @@ impl Watched {
         }
     }
 
-    /// Puts back what a record tells of the layer.
+    /// Puts back what a record holds of the layer.
     pub(crate) fn undo(&mut self, change: &Record<'_>)
         requires held { (watch : WatchValue) × (a : All) × Holds watch a self.old }
         ensures { (watch : WatchValue) (a : All) → Holds watch a self.old → Holds watch (all_put_back a change.now.entries) self.new }
