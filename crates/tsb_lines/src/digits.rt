@@ -11,7 +11,7 @@ pub fn digit(number: u32, unit: u32) -> u8
     b'0' + (number / unit % 10) as u8
 }
 
-/// The last 7 digits of a number, with zeros before one that has fewer: so a line has the number of a tick.
+/// The last 7 digits of a number, with zeros before one that has fewer: lines write the number of a tick so.
 #[inline(always)]
 pub fn seven_digits(number: u32) -> [u8; 7]
     ensures { result ≡ seven_digits number }

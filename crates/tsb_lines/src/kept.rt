@@ -6,7 +6,7 @@ use crate::lines::without_return;
 use arrayvec::ArrayVec;
 use std::marker::Model;
 
-/// The bytes of a line that no line feed has ended yet: of a long one the first `MOST`. Clauses see them as a list.
+/// The bytes of a line that no line feed has ended yet: the first `MOST` of a long one. Clauses see them as a list.
 #[derive(Drop)]
 pub struct KeptLine<const MOST: usize> {
     bytes: ArrayVec<u8, MOST>,
@@ -33,7 +33,7 @@ impl<const MOST: usize> KeptLine<MOST> {
         }
     }
 
-    /// Takes one byte more, which is no line feed. Where `MOST` are kept the line stays as it is.
+    /// Takes one more byte, which is no line feed. Where `MOST` are kept the line stays as it is.
     #[inline(always)]
     pub fn push(&mut self, byte: u8)
         requires { byte ≢ 10 }

@@ -4,9 +4,9 @@ ghost use Rattle.tsb_lines.specs.Lines.{is_blank, is_comment, is_skipped, lines_
 
 use memchr::memchr;
 
-/// The first line of a text, without its end, and what stands after its line feed, or `None` where the
-/// text has no further line. A line feed ends a line, with one carriage return before it, if there is one;
-/// the last line, which no line feed ends, keeps a carriage return.
+/// The first line of a text, without its end, and what follows its line feed, or `None` where the text has no further
+/// line. A line feed ends a line, with one carriage return before it, if there is one; the last line, which no line
+/// feed ends, keeps a carriage return.
 pub fn next_line(text: &[u8]) -> (&[u8], Option<&[u8]>)
     ensures { MatchOption result.1 (lines_of text.now ≡ result.0.now ∷ [])
         (λ rest. lines_of text.now ≡ result.0.now ∷ lines_of rest.now) }
@@ -17,7 +17,7 @@ pub fn next_line(text: &[u8]) -> (&[u8], Option<&[u8]>)
     }
 }
 
-/// The line without one carriage return at its end.
+/// The line without a carriage return at its end: one at most is taken off.
 pub fn without_return(line: &[u8]) -> &[u8]
     ensures { result.now ≡ without_return line.now }
 {

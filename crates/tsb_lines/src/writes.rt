@@ -9,7 +9,7 @@ use std::io::Write;
 #[derive(Clone, Copy, PartialEq, Eq)]
 pub struct WriteError;
 
-/// Writes a text. At an error the first bytes of it may have gone.
+/// Writes a text. At an error its first bytes may have gone out.
 pub fn write_text<W: Write>(writer: &mut W, text: &[u8]) -> Result<(), WriteError>
     ensures whole { OnOk result (Appends (W.contents writer.old) (W.contents writer.new) text.now) }
     ensures front { AppendsFront (W.contents writer.old) (W.contents writer.new) text.now }
