@@ -3,8 +3,8 @@
 use tsb_plan::ObjectId;
 use tsb_types::{Lamp, Station, Watch};
 
-/// What a session can be told to do. A number that nothing has, as of a pattern or of an index, is refused
-/// when the command is done, and not when it is read.
+/// What a session can be told to do. A number that nothing has, such as that of a pattern or an index, is refused when
+/// the command is done, and not when it is read.
 #[derive(Clone, Copy, PartialEq, Eq)]
 pub enum Command {
     /// `step N`: takes this many ticks, with the rows of the log.
@@ -15,9 +15,9 @@ pub enum Command {
     Seek(u32),
     /// `undo`: takes the newest input back.
     Undo,
-    /// `show`: tells what is shown now.
+    /// `show`: says what is shown now.
     Show,
-    /// `when WATCH`: tells the tick of the last change.
+    /// `when WATCH`: says the tick of the last change.
     When(Watch),
     /// `begin S`: opens the transaction of a station.
     Begin(Station),

@@ -12,7 +12,7 @@ use tsb_lines::{is_skipped, next_word, number};
 use tsb_plan::{Object, ObjectId, Version};
 use tsb_types::Watch;
 
-/// The bytes that a line may have, its end not counted.
+/// The most bytes that a line may have, its end not counted.
 pub const LINE: usize = 200;
 
 /// What a line asks, which is given without its end.
