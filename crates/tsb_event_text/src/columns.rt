@@ -18,7 +18,7 @@ pub enum Column {
     Parameter,
 }
 
-/// In which field each column stands, from 0.
+/// Which field each column is in, counted from 0.
 #[derive(Clone, Copy, PartialEq, Eq)]
 pub struct Columns {
     pub device: usize,
@@ -43,7 +43,7 @@ impl Columns {
 
 /// The columns that a line names, or `None` where it is no header, which names all four. Names are those that exports
 /// use, whatever their case: `SignalID`, `DeviceID` or `LocationIdentifier`; `Timestamp`; `EventCode` or `EventID`;
-/// `EventParam` or `Parameter`. Of two fields that name one column the first counts.
+/// `EventParam` or `Parameter`. Where two fields name one column, the first counts.
 #[tactic(auto, unfolding(crate::specs::Columns::header_of))]
 pub fn header(line: &[u8]) -> Option<Columns>
     ensures { result ≡ header_of line.now }

@@ -8,7 +8,7 @@ use crate::texts::TimeText;
 use itoa::Buffer;
 use std::alloc::{AllocError, Global};
 
-/// How many bytes a device has at most that a line can name: a line of it has at most 1,000, as readers of logs take.
+/// The most bytes of a device that a line can name: its line then has at most 1,000, as many as readers of logs take.
 pub const LONGEST_DEVICE: usize = 900;
 
 /// Whether a line can name a device: it has no double quote and no end of a line, and at most `LONGEST_DEVICE` bytes.
@@ -21,9 +21,9 @@ pub fn can_be_written(device: &[u8]) -> bool
         && device.len() <= LONGEST_DEVICE
 }
 
-/// The line of an event, with its line feed: a device, a time, a code and a parameter. A device with a comma stands in
-/// double quotes, and so does one that begins with `#`, since readers of logs skip a line that does. It is read again
-/// where `can_be_written` holds of the device.
+/// The line of an event, with its line feed: a device, a time, a code and a parameter. A device with a comma is put in
+/// double quotes, and so is one that begins with `#`, since readers of logs skip a line that begins so. The line is
+/// read again where `can_be_written` holds of the device.
 pub fn event_line(
     alloc: Global,
     device: &[u8],
@@ -38,7 +38,7 @@ pub fn event_line(
     Ok(line)
 }
 
-/// Puts the line of an event, as `event_line` gives it, after a text. At an error a part of it may stand there.
+/// Adds the line of an event, as `event_line` gives it, to a text. At an error a part of it may have been added.
 pub fn append_event(
     text: &mut Vec<u8>,
     device: &[u8],
@@ -57,7 +57,7 @@ pub fn append_event(
     Ok(())
 }
 
-/// Puts a device after a line, in double quotes where it would not be read again without.
+/// Adds a device to a line, in double quotes where it would not be read again without them.
 fn append_device(line: &mut Vec<u8>, device: &[u8]) -> Result<(), AllocError>
     ensures { OnOk result (line.new.items ≡ line.old.items ++ device_field device.now) }
 {
@@ -70,7 +70,7 @@ fn append_device(line: &mut Vec<u8>, device: &[u8]) -> Result<(), AllocError>
     Ok(())
 }
 
-/// Puts a comma and a number after a line.
+/// Adds a comma and a number to a line.
 fn append_number(line: &mut Vec<u8>, number: u32) -> Result<(), AllocError>
     ensures { OnOk result (line.new.items ≡ line.old.items ++ 44 ∷ decimal number) }
 {

@@ -5,8 +5,8 @@ ghost use Rattle.tsb_event_text.specs.Fields.{Plain, Quoted};
 
 use memchr::memchr;
 
-/// The first field of a line, and what stands after its comma, if one follows. `None` where a quote is out of place:
-/// one that nothing closes, or that closes a field and has anything but a comma or the end after it.
+/// The first field of a line, and what follows its comma, if there is one. `None` where a quote is out of place: one
+/// that nothing closes, or that closes a field and has anything but a comma or the end after it.
 pub(crate) fn next_field(line: &[u8]) -> Option<(&[u8], Option<&[u8]>)>
     ensures first { MatchOption result (fields_of line.now ≡ None)
         (λ cut. fields_of line.now ≡ led_by cut.0.now (option_map (λ rest. fields_of rest.now) cut.1)) }
@@ -18,7 +18,7 @@ pub(crate) fn next_field(line: &[u8]) -> Option<(&[u8], Option<&[u8]>)>
     quoted_field(&line[1..])
 }
 
-/// The rest of a field that no quote began, and what stands after its comma.
+/// The rest of a field that no quote began, and what follows its comma.
 fn plain_field(line: &[u8]) -> (&[u8], Option<&[u8]>)
     ensures first { fields_from Plain line.now ≡ led_by result.0.now (option_map (λ rest. fields_of rest.now) result.1) }
     ensures less { IfSome result.1 (λ rest. length rest.now < length line.now) }
@@ -29,7 +29,7 @@ fn plain_field(line: &[u8]) -> (&[u8], Option<&[u8]>)
     }
 }
 
-/// The rest of a field that a quote began, and what stands after its comma.
+/// The rest of a field that a quote began, and what follows its comma.
 fn quoted_field(line: &[u8]) -> Option<(&[u8], Option<&[u8]>)>
     ensures first { MatchOption result (fields_from Quoted line.now ≡ None)
         (λ cut. fields_from Quoted line.now ≡ led_by cut.0.now (option_map (λ rest. fields_of rest.now) cut.1)) }

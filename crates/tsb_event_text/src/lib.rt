@@ -1,8 +1,8 @@
 //! Rows of controllers' high-resolution event logs, as exports write them: lines of CSV.
 //!
 //! A line has a device, a time, a code and a parameter, each in a field that a header names, or in this order. Nothing
-//! here takes memory, and nothing reads more than one line. Codes are numbers here: what they say of inputs is told
-//! where events are used.
+//! here takes memory, and nothing reads more than one line. Codes are numbers here: the crates that use events say what
+//! they mean for inputs.
 #![tactic(auto)]
 
 mod columns;

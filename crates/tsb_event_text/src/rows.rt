@@ -21,9 +21,9 @@ pub struct EventRow {
 }
 
 /// The row that a line spells, with its columns in these places, or `None` where it spells none: a quote is out of
-/// place, a column is missing, or its time, code or parameter is none. Codes and parameters are numbers of up to 10
+/// place, a column is missing, or its time, code or parameter is not one. Codes and parameters are numbers of up to 10
 /// digits, of at most 4,294,967,295. `asked` is the device whose events count, byte for byte; where it is `None`, those
-/// of each device do.
+/// of every device do.
 #[tactic(auto, unfolding(crate::specs::Rows::row_of))]
 pub fn event_row(line: &[u8], columns: Columns, asked: Option<&[u8]>) -> Option<EventRow>
     ensures { result ≡ row_of columns (option_map (λ device. device.now) asked.entry) line.now }

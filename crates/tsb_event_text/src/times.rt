@@ -9,7 +9,7 @@ use tsb_lines::number;
 /// A moment on a clock without a zone, whose days all have 24 hours.
 #[derive(Clone, Copy, PartialEq, Eq)]
 pub struct Moment {
-    /// How many nanoseconds it lies after the first moment of -9999-01-01, the first day that the calendar has.
+    /// How many nanoseconds it is after the first moment of -9999-01-01, the first day that the calendar has.
     pub nanos: u128,
 }
 
@@ -17,8 +17,8 @@ pub struct Moment {
 const WHOLE: usize = 19;
 
 /// The moment that a time names, as `2026-11-22 07:00:00.1`: a year in four digits, a month, a day, a space or `T`, an
-/// hour, a minute and a second in two digits, and where a point follows one to nine digits of a second. `None` for any
-/// other text, and for a day that the calendar lacks.
+/// hour, a minute and a second in two digits, and, where a point follows, one to nine digits of a second's fraction.
+/// `None` for any other text, and for a day that the calendar lacks.
 #[tactic(auto, unfolding(crate::specs::Times::moment_of))]
 pub fn read_moment(text: &[u8]) -> Option<Moment>
     ensures { result ≡ moment_of text.now }
@@ -34,7 +34,7 @@ pub fn read_moment(text: &[u8]) -> Option<Moment>
     })
 }
 
-/// Whether the marks between the numbers of a time stand in their places.
+/// Whether the marks between the numbers of a time are in their places.
 fn has_marks(text: &[u8]) -> bool
     requires { 19 ≤ length text.now }
     ensures { result ≡ has_marks text.now }
@@ -80,7 +80,7 @@ fn second(hour: &[u8], minute: &[u8], second: &[u8]) -> Option<u32>
     }
 }
 
-/// The nanoseconds that a point and one to nine digits spell; 0 where nothing stands there.
+/// The nanoseconds that a point and one to nine digits spell; 0 where there is nothing.
 fn nano(text: &[u8]) -> Option<u32>
     ensures { result ≡ nano_of text.now }
 {

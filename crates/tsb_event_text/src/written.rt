@@ -23,7 +23,7 @@ const SECOND: u64 = 1_000_000_000;
 const DAY: u128 = 86_400_000_000_000;
 
 impl TimeText {
-    /// Puts the time after a text. At an error a part of it may stand there.
+    /// Adds the time to a text. At an error a part of it may have been added.
     pub fn append_to(&self, text: &mut Vec<u8>) -> Result<(), AllocError>
         ensures { OnOk result (text.new.items ≡ text.old.items ++ bytes_of self.now) }
     {
@@ -33,7 +33,7 @@ impl TimeText {
     }
 }
 
-/// The time of a moment, with as few digits after its point as tell it, but at least one. `None` where no year of four
+/// The time of a moment, with as few digits after its point as it needs, but at least one. `None` where no year of four
 /// digits has it.
 pub fn time_text(moment: Moment) -> Option<TimeText>
     ensures written { IsSome result ↔ IsWritten moment }
@@ -119,7 +119,7 @@ fn time_head(year: u32, month: u32, day: u32, second: u32) -> [u8; 20]
     ]
 }
 
-/// A part of a second in nine digits.
+/// The fraction of a second in nine digits.
 fn nine_digits(nano: u32) -> [u8; 9]
     ensures { result ≡ nine_digits nano }
 {
