@@ -9,7 +9,7 @@ use std::fmt;
 /// Why a text is no log. Lines count from 1, and those that are skipped count too.
 #[derive(Clone, Copy, Debug, PartialEq, Eq)]
 pub enum LogError {
-    /// Memory ran out. A fault of a line may stand after it.
+    /// Memory ran out. A line of the text may have a fault as well.
     Memory,
     /// The text has over `LIMIT` bytes.
     TooLarge,

@@ -32,7 +32,7 @@ impl Model for Log {
 }
 
 impl Log {
-    /// The log of no row, which takes no memory.
+    /// The log without rows, which takes no memory.
     pub fn empty(alloc: Global) -> Log
         ensures { result ≡ [] }
     {
@@ -58,7 +58,7 @@ impl Log {
 
     /// The row in force at a tick: that of the greatest tick not above it, or all inputs off where the log has
     /// none. `place` says where the last answer was found, so that a caller who goes tick by tick pays for
-    /// no search; any other pays for a binary search. The answer is the same whatever it holds.
+    /// no search; any other pays for a binary search. The answer is the same whatever `place` holds.
     pub fn row(&self, tick: u32, place: &mut usize) -> Row
         ensures { result ≡ row_at self.now tick }
     {

@@ -9,7 +9,7 @@ use crate::row_text::row;
 use std::alloc::Global;
 use tsb_lines::{is_skipped, next_line};
 
-/// The bytes that a log may have: 64 MiB.
+/// The most bytes that a log may have: 64 MiB.
 pub const LIMIT: usize = 67_108_864;
 
 /// The log of a text, or why it is none: `TooLarge` over `LIMIT` bytes, and else the first line with a fault.
@@ -37,7 +37,7 @@ pub fn read_log(alloc: Global, text: &[u8]) -> Result<Log, LogError>
 }
 
 /// Adds the row of a line, unless the line is skipped. `last` is the tick of the row before it, or 0, and the
-/// result that of the last row now.
+/// result is that of the last row now.
 fn step(rows: &mut Vec<LogRow>, last: u32, number: u32, line: &[u8]) -> Result<u32, LogError>
     ensures { Stepped result rows.old.items last number line.now rows.new.items }
 {
