@@ -1,7 +1,7 @@
-//! Logs of inputs made of a controller's event log.
+//! Logs of inputs, made from a controller's event log.
 //!
-//! A wire leads from a channel of the controller to an input of a bench. An input is on in a tick at some moment of
-//! which one of its wires is on, or in which one is switched on, though off again at the same moment: so no pulse is
+//! A wire leads from a channel of the controller to an input of a bench. An input is on in a tick where one of its
+//! wires is on at some moment of the tick, or is switched on in it, though off again at the same moment: so no pulse is
 //! lost. A row is written where inputs differ from the row before.
 #![tactic(auto)]
 

@@ -22,12 +22,12 @@ const PEDESTRIANS: usize = 25;
 /// Where the marks of preempt inputs begin.
 const PREEMPTS: usize = 34;
 
-/// Where the line feed stands.
+/// Where the line feed is.
 const FEED: usize = 38;
 
 /// The line that spells a row, with its line feed: the tick in 7 digits, then a mark for each of 16 vehicle detectors, 8
-/// pedestrian detectors and 4 preempt inputs, `1` where it is on and `0` where it is off, and a space between these. Of a
-/// tick of more digits it has the last 7.
+/// pedestrian detectors and 4 preempt inputs, `1` where it is on and `0` where it is off, and a space between these.
+/// Where the tick has more digits, it has the last 7.
 pub fn row_line(row: LogRow) -> [u8; LINE]
     ensures { result ≡ row_line row ++ 10 ∷ [] }
 {

@@ -7,7 +7,8 @@ use crate::inputs::{Kind, Wire};
 use std::alloc::{AllocError, Global};
 
 /// The wires that are mapped, and then for each kind a wire from channel n to input n, from 1 to the most inputs of the
-/// kind, but where channel n is mapped: that one leads only where it is mapped. The error is that memory ran out.
+/// kind, except where channel n is mapped: that channel leads only where it is mapped. The error is that memory ran
+/// out.
 pub fn wires(alloc: Global, mapped: &[Wire]) -> Result<Vec<Wire>, AllocError>
     ensures { IfOk result (λ all. all.items ≡ wires_of mapped.now) }
 {

@@ -20,7 +20,7 @@ use tsb_types::limits::TICKS;
 /// The nanoseconds of a tick.
 const TENTH: u128 = 100_000_000;
 
-/// Rows of a log that have become known, one after the other: of the ticks between two events two at most differ from
+/// Rows of a log that have become known, one after the other: at most two of the ticks between two events differ from
 /// the row before.
 #[derive(Clone, Copy, PartialEq, Eq)]
 pub struct Rows {
@@ -62,8 +62,8 @@ impl Street {
         })
     }
 
-    /// Takes an event, and gives the rows that have become known. `None` where it lies past tick 6,000,000: the street
-    /// is then as it was. Events come in the order of their ticks.
+    /// Takes an event, and gives the rows that have become known. `None` where it is past tick 6,000,000: the street is
+    /// then as it was. Events come in the order of their ticks.
     pub fn push(&mut self, event: InputEvent) -> Option<Rows>
         ensures past { IsNone result ↔ (TICKS < tick_at self.old.from event.nanos) }
         ensures pushed { (wires : List Wire) (events : List InputEvent) → Follows wires events self.old
@@ -83,7 +83,7 @@ impl Street {
         Some(rows)
     }
 
-    /// The rows that become known as no event comes any more: up to tick 6,000,000.
+    /// The rows that become known once no more events come: up to tick 6,000,000.
     pub fn finish(&mut self) -> Rows
         ensures given { (wires : List Wire) (events : List InputEvent) → Follows wires events self.old → self.old.tick ≤ TICKS
             → rows_in result ≡ rows_until self.old.from wires events self.old.tick (TICKS + 1) }
@@ -169,7 +169,7 @@ fn change(tick: u32, before: Row, now: Row) -> Option<LogRow>
     }
 }
 
-/// The tick that a moment lies in, or 0 before tick 1, and whether the moment is not after the first one of that tick.
+/// The tick that a moment is in, or 0 before tick 1, and whether the moment is not after the first one of that tick.
 /// `None` past tick 6,000,000.
 fn place(from: u128, nanos: u128) -> Option<(u32, bool)>
     ensures past { IsNone result ↔ (TICKS < tick_at from nanos) }
