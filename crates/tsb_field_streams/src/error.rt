@@ -18,9 +18,9 @@ pub enum FilterError {
     TooLarge,
     /// This line, counted from 1, is neither skipped nor a header nor a row of an event, or longer than 1,000 bytes.
     Malformed(u32),
-    /// This line, counted from 1, tells of an earlier moment than a line before it.
+    /// This line, counted from 1, has an earlier moment than a line before it.
     TimeOrder(u32),
-    /// An event of an input lies past tick 6,000,000.
+    /// An event of an input is past tick 6,000,000.
     PastEnd,
     /// The log has more than 64 MiB, which no reader of logs takes.
     LogTooLarge,

@@ -35,7 +35,7 @@ pub struct Filter<'a> {
     device: Option<&'a [u8]>,
     /// The wires that the street was made with.
     wires: &'a [Wire],
-    /// Where the columns stand, known from the first line that is not skipped.
+    /// Where the columns are, known from the first line that is not skipped.
     columns: Option<Columns>,
     /// The moment of the last row that counted, in nanoseconds, and 0 before any.
     last: u128,
@@ -78,9 +78,9 @@ impl<'a> Filter<'a> {
     /// Takes the line with this number, counted from 1, without its end, and gives the rows of the log that it makes known.
     ///
     /// The first line may begin with a byte order mark. A line that is blank or begins with `#` is skipped; the first that
-    /// is not names the columns, or is a row with its columns in the usual places. Of rows of other devices nothing is
-    /// asked but that they are rows; of the others each is no earlier than the one before. The errors are `Malformed`,
-    /// `TimeOrder`, `PastEnd` and `LogTooLarge`; no line is taken after one.
+    /// is not names the columns, or is a row with its columns in the usual places. Rows of other devices have only to
+    /// be rows; each of the rest is no earlier than the one before it. The errors are `Malformed`, `TimeOrder`,
+    /// `PastEnd` and `LogTooLarge`; no line is taken after one.
     #[tactic(auto, unfolding(crate::specs::Filtering::with_line))]
     pub fn take_line(&mut self, number: u32, line: &[u8]) -> Result<Rows, FilterError>
         ensures takes { (g : Given) (s : Stand) → StandsAt g s self.old → Takes g s (with_line g number s line.now) result self.new }
@@ -191,7 +191,7 @@ impl<'a> Filter<'a> {
         Ok(rows)
     }
 
-    /// Whether a log may have these rows more.
+    /// Whether a log may have these rows as well.
     fn has_room(&self, rows: Rows) -> bool
         ensures { result ≡ nat_le (length (rows_in rows)) (MOST_ROWS - self.now.rows) }
     {

@@ -17,7 +17,7 @@ use tsb_log_text::LogRow;
 /// How many bytes the lines of two rows have.
 const ROWS: usize = 78;
 
-/// Writes rows. The error is `Write`: the first bytes of them may have gone.
+/// Writes rows. The error is `Write`: their first bytes may have gone out.
 pub(crate) fn write_rows<W: Write>(writer: &mut W, rows: Rows) -> Result<(), FilterError>
     ensures whole { OnOk result (Appends (W.contents writer.old) (W.contents writer.new) (log_text (rows_in rows))) }
     ensures front { AppendsFront (W.contents writer.old) (W.contents writer.new) (log_text (rows_in rows)) }
@@ -52,7 +52,7 @@ fn rows_text(rows: Rows) -> ArrayVec<u8, ROWS>
     text
 }
 
-/// Puts the line of a row after a text, where there is one.
+/// Adds the line of a row to a text, where there is one.
 #[tactic(auto, using(crate::proofs::RowLemmas::some_row))]
 fn append(text: &mut ArrayVec<u8, ROWS>, row: Option<LogRow>)
     requires { array_vec_len text.old + 39 ≤ 78 }

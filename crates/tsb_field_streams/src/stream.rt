@@ -44,7 +44,7 @@ impl Stream<'_> {
         write_rows(writer, rows)
     }
 
-    /// Takes one byte more.
+    /// Takes one more byte.
     fn feed<W: Write>(&mut self, byte: u8, writer: &mut W) -> Result<(), FilterError>
         ensures went { (g : Given) (bytes : List ℕ) (begun : Option (List ℕ)) → Follows g bytes self.old begun (W.contents writer.old)
             → Went result g (bytes ++ byte ∷ []) self.new begun (W.contents writer.new) }
@@ -67,7 +67,7 @@ impl Stream<'_> {
         Ok(())
     }
 
-    /// Takes what stands after the last line feed as the last line, and writes the rest of the log.
+    /// Takes what follows the last line feed as the last line, and writes the rest of the log.
     fn finish<W: Write>(&mut self, writer: &mut W) -> Result<LeftOut, FilterError>
         ensures finished { (g : Given) (bytes : List ℕ) (begun : Option (List ℕ)) → Follows g bytes self.old begun (W.contents writer.old)
             → Finished result g bytes begun (W.contents writer.new) }
@@ -110,13 +110,13 @@ impl Stream<'_> {
     }
 }
 
-/// Reads a controller's event log and writes the log of inputs that it tells. Tick 1 begins at `from`. Rows of `device`
-/// count, byte for byte, or all where it is `None`. `mapped` are the wires that are asked for; from each channel without
-/// one a wire leads to the input of its own number, where there is one. It gives what was left out.
+/// Reads a controller's event log and writes the log of inputs that it gives. Tick 1 begins at `from`. Rows of `device`
+/// count, byte for byte, or all where it is `None`. `mapped` are the wires that are asked for; from each channel
+/// without one a wire leads to the input of its own number, where there is one. It gives what was left out.
 ///
-/// No more is held than a line of events and the rows of two ticks, so that the caller buffers what is written. A fault
-/// ends it; what was written until then is a prefix of the log of the events read. `Memory` comes before anything is
-/// read or written.
+/// No more is held than a line of events and the rows of two ticks, so the caller has to buffer what is written. A
+/// fault ends it; what was written until then is a prefix of the log of the events read. `Memory` comes before anything
+/// is read or written.
 pub fn log<R: Read, W: Write>(
     alloc: Global,
     from: Moment,
