@@ -9,15 +9,14 @@ use std::error::Error;
 use std::fmt;
 use tsb_objects::{Object, Rule};
 
-/// The first fault of a plan text, of which no plan is made. Each is printed as one line without its end, in which a
-/// name or an index stands as the text decodes it, with any line feed that it has.
+/// The first fault of a plan text, which then gives no plan. Each is printed as one line without its end, in which a
+/// name or an index is as the text decodes it, with any line feed that it has.
 ///
 /// Faults are in the order of the variants, and those of members and of indices in the byte order of their
 /// names: a member is judged whole before the next, and so is an index.
 #[derive(Debug, Drop)]
 pub enum PlanError {
-    /// There is no memory to read the text or to tell its fault. The text may have any fault but `TooLarge`,
-    /// or none.
+    /// There is no memory to read the text or to report its fault. The text may have any fault but `TooLarge`, or none.
     Memory,
     /// The text is longer than `LIMIT`.
     TooLarge,

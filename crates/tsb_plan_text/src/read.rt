@@ -18,21 +18,21 @@ use tsb_plan::version_laws::versions_say_the_same;
 /// The greatest length of a plan text, in bytes.
 pub const LIMIT: usize = 1_048_576;
 
-/// The name of the member that tells the version.
+/// The name of the member that gives the version.
 const VERSION: &str = "version";
 
 /// The plan that the text gives, checked.
 ///
-/// An `Err` is the text's first fault, in the order of `PlanError`, or `Memory`, which may stand for the plan
-/// and for any fault but `TooLarge`. Of members and indices that stand twice in a table the last counts.
+/// An `Err` is the text's first fault, in the order of `PlanError`, or `Memory`, which may come in place of the plan
+/// and of any fault but `TooLarge`. Where a member or an index comes twice in a table, the last counts.
 #[tactic(auto, unfolding(crate::specs::PlanText::reading))]
 pub fn read_plan(alloc: Global, text: &[u8]) -> Result<Checked, PlanError>
-    // The plan or the very fault that the text has, or `Memory`: so of wrong bodies only those are left that give
-    // up out of memory, and none of them on a text that is too large.
+    // The plan or the very fault that the text has, or `Memory`: so the only wrong bodies left are those that give up
+    // with `Memory`, and none of them does so on a text that is too large.
     ensures reads { Gives checked_plan result (reading text.now) }
 
-    // Each number that the text has for an object at an index stands in the plan, at the index's place there, and
-    // 0 stands everywhere else.
+    // Each number that the text has for an object at an index is in the plan, at the index's place there, and
+    // everything else is 0.
     ensures says { IfOk result (λ checked. Says text.now (checked_plan checked)) }
 
     // Whatever memory there is.

@@ -1,10 +1,10 @@
-//! How a rule is told.
+//! How a rule is named.
 ghost use Rattle.std.specs.Prelude.{◌≡◌, ◌≤◌, length};
 ghost use Rattle.tsb_plan_text.specs.RuleLines.{rule_line};
 
 use tsb_objects::Rule;
 
-/// The line that tells a rule, without its end: `rule K1` to `rule K22`.
+/// The line that names a rule, without its end: `rule K1` to `rule K22`.
 pub fn rule_line(rule: Rule) -> &'static str
     ensures line { result.now ≡ rule_line rule }
     ensures short { length result.now ≤ 11 }
