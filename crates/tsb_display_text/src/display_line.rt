@@ -29,7 +29,7 @@ const PEDESTRIANS: usize = 25;
 /// Where the letters of overlaps begin.
 const OVERLAPS: usize = 42;
 
-/// Where the preempt in service stands.
+/// Where the preempt in service is.
 const PREEMPT: usize = 47;
 
 /// Where the local counter begins.
@@ -62,7 +62,7 @@ pub fn line(
 /// - the preempt in service, or 0;
 /// - the local counter, in tenths of a second, in 4 digits, or `----` where no pattern runs.
 ///
-/// A number of more digits shows its last ones; a tick number has at most 7, and a local counter at most 4.
+/// A number of more digits shows only the last ones; a tick number has at most 7, and a local counter at most 4.
 pub fn line_bytes(
     now: u32,
     heads: &Display,

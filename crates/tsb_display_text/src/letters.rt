@@ -1,4 +1,4 @@
-//! The fields of a display line that tell what heads show, found by sets of heads.
+//! The fields of a display line that say what heads show, found by sets of heads.
 ghost use Rattle.std.specs.Prelude.{◌≡◌, ℕ, ◌+◌, ◌<◌, ◌≤◌, get_or, length, if◌then◌else◌};
 ghost use Rattle.tsb_types.specs.Sets.{has, has_number};
 ghost use Rattle.tsb_heads.specs.Reading.{heads_of};
