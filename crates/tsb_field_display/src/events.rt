@@ -11,11 +11,11 @@ use tsb_types::NumberSet;
 
 /// A vehicle head becomes green.
 pub const GREEN_BEGINS: u8 = 1;
-/// A vehicle head is green no more.
+/// A vehicle head is no longer green.
 pub const GREEN_ENDS: u8 = 7;
 /// A vehicle head becomes yellow.
 pub const YELLOW_BEGINS: u8 = 8;
-/// A vehicle head is yellow no more.
+/// A vehicle head is no longer yellow.
 pub const YELLOW_ENDS: u8 = 9;
 /// A pedestrian head becomes walk.
 pub const WALK_BEGINS: u8 = 21;

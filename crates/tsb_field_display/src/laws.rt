@@ -1,9 +1,9 @@
 //! What holds of display lines and their events, each law the contract of a function that does nothing.
 ghost use Rattle.tsb_field_display.specs.Laws.{AreRead, ComeOfChanges, TellTheHeads};
 
-/// What is read of a display line is what it shows. That is its tick, what each head shows, and the preempt.
+/// What is read from a display line is what it shows. That is its tick, what each head shows, and the preempt.
 ///
-/// Not said: the local counter, of which no event tells.
+/// Not said: the local counter, which no event reports.
 pub fn display_lines_are_read()
     ensures { AreRead }
 {}
@@ -16,7 +16,7 @@ pub fn events_come_of_changes()
 /// The events up to each line say what the heads show then. They say which heads are green, yellow, in walk or in
 /// clearance, and whether all flash.
 ///
-/// Not said: red beside dark, of which the enumerations have no event.
+/// Not said: red as against dark, for which the enumerations have no event.
 /// Mistakes: events without the end of yellow (`still_yellow`, `is_red`), or of a clearance (`left_out`, `ends_now`).
 /// Witness: `met` of Examples.
 pub fn events_tell_the_heads()

@@ -1,4 +1,4 @@
-//! What display lines of a session tell.
+//! What display lines of a session say.
 #![tactic(auto)]
 
 pub mod error;

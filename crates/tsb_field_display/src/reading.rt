@@ -75,7 +75,7 @@ fn are_pedestrians(letters: &[u8]) -> bool
     true
 }
 
-/// Whether a byte tells the preempt in service.
+/// Whether a byte gives the preempt in service.
 fn is_preempt(digit: u8) -> bool
     ensures { result ≡ is_preempt digit }
 {

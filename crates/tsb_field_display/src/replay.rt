@@ -6,9 +6,9 @@ ghost use Rattle.tsb_field_display.specs.Remaining.{Keeps, Rises, before_tick, c
 use crate::shown::{Shown, Signals, same};
 use std::alloc::{AllocError, Global};
 
-/// What remains of the lines of a session. A line whose tick is not above the last one takes back what stood from that
-/// tick on, as a session does that goes back, and then stands itself. Only the first line is kept and those that show
-/// something else than the line before, so that it takes memory by what changes and not by ticks.
+/// What remains of the lines of a session. A line whose tick is not above the last one takes back the lines from that
+/// tick on, as a session does that goes back, and is then the last one. Only the first line is kept and those that show
+/// something else than the line before, so memory grows with changes and not with ticks.
 #[derive(Drop)]
 pub struct Replay {
     changes: Vec<Shown>,
@@ -16,7 +16,7 @@ pub struct Replay {
 }
 
 impl Replay {
-    /// That of no line. It takes no memory.
+    /// The replay of no line. It takes no memory.
     pub fn new(alloc: Global) -> Replay
         ensures { Keeps result [] }
     {
@@ -27,7 +27,7 @@ impl Replay {
     }
 
     /// Takes a further line. Where memory runs out, the changes that it takes back are gone, the last tick is as it was, and
-    /// the line does not stand: no further line is taken then.
+    /// the line does not count: no further line is taken then.
     pub fn push(&mut self, shown: Shown) -> Result<(), AllocError>
         ensures ok { (lines : List Shown) → Keeps self.old lines → OnOk result (Keeps self.new (lines ++ shown ∷ [])) }
         ensures err { (lines : List Shown) → Keeps self.old lines →
@@ -58,7 +58,7 @@ impl Replay {
     }
 }
 
-/// How many of the lines are before a tick, found from the end: of lines whose ticks rise.
+/// How many of the lines are before a tick, found from the end. The ticks of the lines rise.
 fn count_before(lines: &[Shown], tick: u32) -> usize
     ensures within { result ≤ length lines.now }
     ensures above { (j : ℕ) → result ≤ j → j < length lines.now → tick ≤ (slice_index_or lines.now j no_line).tick }

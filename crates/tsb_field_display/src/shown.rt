@@ -29,7 +29,7 @@ pub struct PedestrianHeads {
     pub dont_walks: NumberSet,
 }
 
-/// What a display line shows beside its tick and the local counter. Two are equal where they show the same.
+/// What a display line shows besides its tick and the local counter. Two are equal where they show the same.
 #[derive(Clone, Copy, PartialEq, Eq)]
 pub struct Signals {
     /// The vehicle heads of phases 1 to 16.
@@ -52,7 +52,7 @@ pub struct Shown {
 }
 
 impl Signals {
-    /// What stands before the first line: no head is lit, and no preempt is in service.
+    /// What is shown before the first line: no head is lit, and no preempt is in service.
     pub fn nothing_lit() -> Signals
         ensures { result ≡ nothing_lit }
     {

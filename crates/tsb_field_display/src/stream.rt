@@ -1,4 +1,4 @@
-//! Reading what a session answers: of its lines the display lines.
+//! Reading the display lines among what a session answers.
 ghost use Rattle.std.specs.Prelude.{ℕ, Err, List, MatchResult, OnOk, Option};
 ghost use Rattle.std.specs.Io.KnownBytes.{IsAtEnd};
 ghost use Rattle.tsb_field_display.specs.Stream.{GoesOn, Going, ReplayRead, Stand, StandsAt, with_byte, with_bytes, with_line, start};
@@ -19,7 +19,7 @@ const KEPT: usize = WIDTH + 2;
 const CHUNK: usize = 4096;
 
 /// What is known after some bytes: the replay of the lines that have ended, and the bytes of the line that has not,
-/// of a long one the first.
+/// or the first bytes of a long one.
 #[derive(Drop)]
 struct Stream {
     replay: Replay,
@@ -48,7 +48,7 @@ impl Stream {
         Ok(())
     }
 
-    /// Takes one byte more.
+    /// Takes one more byte.
     fn feed(&mut self, byte: u8) -> Result<(), AllocError>
         ensures { (s : Stand) → StandsAt s self.old → OnOk result (StandsAt (with_byte s byte) self.new) }
     {
@@ -69,7 +69,7 @@ impl Stream {
         Ok(())
     }
 
-    /// Takes what one read gives, and tells whether there may be more.
+    /// Takes what one read gives, and says whether there may be more.
     #[tactic(auto, using(crate::proofs::StreamLemmas::going_more))]
     fn take_read<R: Read>(
         &mut self,
@@ -101,8 +101,8 @@ impl Stream {
 }
 
 /// Reads what a session answers, up to its end, and keeps what remains of its display lines. Other lines are skipped,
-/// however long. What stands after the last line feed is a line too, and one carriage return at the end of a line is
-/// no part of it.
+/// however long. What follows the last line feed is a line too, and one carriage return at the end of a line is no part
+/// of it.
 ///
 /// `Read` comes where a read fails or is interrupted, or after 2^64 - 1 reads, and `Memory` where there is none to keep
 /// a change. Nothing is read after either, and what was read until then is lost.
