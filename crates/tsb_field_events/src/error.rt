@@ -5,7 +5,7 @@ use thiserror::Error;
 /// Why there is no text of events.
 #[derive(Clone, Copy, Debug, PartialEq, Eq, Error)]
 pub enum EventsError {
-    /// There was not memory enough for the events and their text. What was made is gone.
+    /// There was not enough memory for the events and their text. What was made is gone.
     #[error("memory")]
     Memory,
     /// A tick has no year of four digits: the first, or tick 9,999,999. Nothing was made.

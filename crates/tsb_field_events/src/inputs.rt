@@ -23,7 +23,7 @@ pub const PREEMPT_ON: u8 = 102;
 /// A preempt input goes off (Indiana enumerations).
 pub const PREEMPT_OFF: u8 = 104;
 
-/// Puts the events of the rows of a log after others. Before the first row all inputs are off.
+/// Adds the events of the rows of a log to others. Before the first row all inputs are off.
 pub(crate) fn append_rows(events: &mut Vec<DisplayEvent>, rows: &[LogRow]) -> Result<(), AllocError>
     ensures { OnOk result (events.new.items ≡ events.old.items ++ events_of_rows rows.now) }
 {
@@ -35,8 +35,7 @@ pub(crate) fn append_rows(events: &mut Vec<DisplayEvent>, rows: &[LogRow]) -> Re
     Ok(())
 }
 
-/// Puts the events of a row that follows another after others: by their codes, and those of one code by their
-/// parameters.
+/// Adds the events of a row that follows another to others: by their codes, and those of one code by their parameters.
 #[tactic(auto, unfolding(crate::specs::Inputs::events_of_row))]
 fn append_row(events: &mut Vec<DisplayEvent>, before: &Row, now: &LogRow) -> Result<(), AllocError>
     ensures { OnOk result (events.new.items ≡ events.old.items ++ events_of_row before.now now.now) }
@@ -47,7 +46,7 @@ fn append_row(events: &mut Vec<DisplayEvent>, before: &Row, now: &LogRow) -> Res
     Ok(())
 }
 
-/// Puts the events of vehicle detectors after others.
+/// Adds the events of vehicle detectors to others.
 fn append_vehicles(
     events: &mut Vec<DisplayEvent>,
     before: &Row,
@@ -62,7 +61,7 @@ fn append_vehicles(
     Ok(())
 }
 
-/// Puts the events of pedestrian detectors after others.
+/// Adds the events of pedestrian detectors to others.
 fn append_pedestrians(
     events: &mut Vec<DisplayEvent>,
     before: &Row,
@@ -77,7 +76,7 @@ fn append_pedestrians(
     Ok(())
 }
 
-/// Puts the events of preempt inputs after others.
+/// Adds the events of preempt inputs to others.
 fn append_preempts(
     events: &mut Vec<DisplayEvent>,
     before: &Row,
@@ -92,7 +91,7 @@ fn append_preempts(
     Ok(())
 }
 
-/// Puts an event for each number of a set after others, the least first.
+/// Adds an event for each number of a set to others, the least first.
 fn tell(
     events: &mut Vec<DisplayEvent>,
     tick: u32,

@@ -1,7 +1,7 @@
 //! The events of a session as the text of a controller's high-resolution event log.
 //!
-//! Display lines tell of heads, of preempts in service and of flash; the rows of a log of inputs tell of detectors and
-//! preempt inputs. The events of both stand in one order, by tick, code and parameter, and each is a line of CSV.
+//! Display lines show heads, preempts in service and flash; the rows of a log of inputs show detectors and preempt
+//! inputs. The events of both come in one order, by tick, code and parameter, and each is a line of CSV.
 #![tactic(auto)]
 
 mod error;

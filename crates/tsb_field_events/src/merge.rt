@@ -29,7 +29,7 @@ pub fn session_events(
     Ok(events)
 }
 
-/// Puts the events of display lines after others. Before the first line nothing is lit.
+/// Adds the events of display lines to others. Before the first line nothing is lit.
 fn append_changes(events: &mut Vec<DisplayEvent>, changes: &[Shown]) -> Result<(), AllocError>
     ensures { OnOk result (events.new.items ≡ events.old.items ++ events_of_lines changes.now) }
 {
@@ -41,8 +41,8 @@ fn append_changes(events: &mut Vec<DisplayEvent>, changes: &[Shown]) -> Result<(
     Ok(())
 }
 
-/// Puts two lists of events after others as one: an event of the second stands before one of the first where it comes
-/// before it.
+/// Adds two lists of events to others as one: an event of the second goes ahead of one of the first that it comes
+/// before.
 fn append_merged(
     events: &mut Vec<DisplayEvent>,
     display: &[DisplayEvent],

@@ -18,15 +18,16 @@ const HEADER: &[u8] = b"SignalID,Timestamp,EventCode,EventParam\n";
 /// The events of a session, as the text of a controller's event log: the header
 /// `SignalID,Timestamp,EventCode,EventParam`, and then a line for each event, ended by a line feed. `from` is the
 /// moment of tick 1; the time of tick t is t - 1 tenths of a second later. Tick 0, which a session that went back to
-/// power-up shows, is told at `from` too, and a tick above 9,999,999, which no display line has, as 9,999,999. `device`
-/// names the controller in each line; the lines are read again where `tsb_event_text::can_be_written` holds of it.
+/// power-up shows, has the time `from` too, and a tick above 9,999,999, which no display line has, that of 9,999,999.
+/// `device` names the controller in each line; the lines are read again where `tsb_event_text::can_be_written` holds of
+/// it.
 ///
 /// The events are those of `changes` (before the first nothing is lit) and those of `rows` of a log of inputs (before
 /// the first all inputs are off): an input that goes on gives 82 (vehicle detector), 90 (pedestrian detector) or 102
 /// (preempt input), one that goes off 81, 89 or 104, with its number as the parameter, at the row's tick. Where the
-/// ticks of changes and those of rows rise they stand by tick, then code, then parameter (Indiana enumerations).
+/// ticks of changes and those of rows rise they come by tick, then code, then parameter (Indiana enumerations).
 ///
-/// `Late` where the time of tick 9,999,999, or `from`, has no year of four digits: it is told before anything else, and
+/// `Late` where the time of tick 9,999,999, or `from`, has no year of four digits: it comes before any other error, and
 /// nothing was made. `Memory` where memory runs out: what was made is gone.
 pub fn events_text(
     alloc: Global,
@@ -64,7 +65,7 @@ fn log_text(
     Ok(text)
 }
 
-/// Puts the lines of events after a text.
+/// Adds the lines of events to a text.
 fn append_lines(
     text: &mut Vec<u8>,
     from: Moment,

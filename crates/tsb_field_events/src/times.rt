@@ -6,7 +6,7 @@ ghost use Rattle.tsb_field_events.specs.Texts.{Tells};
 
 use tsb_event_text::{Moment, TimeText, is_written, time_text};
 
-/// The last tick that a display line tells, and so the last that has a time of its own.
+/// The last tick that a display line can show, and so the last that has a time of its own.
 pub const LAST_TICK: u32 = 9_999_999;
 
 /// The nanoseconds of a tick: a tenth of a second.
