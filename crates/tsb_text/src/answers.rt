@@ -17,8 +17,8 @@ use tsb_bench::{Answer, Bench, Cmd, Input, answer};
 use tsb_command_text::Command;
 use tsb_log_text::Log;
 
-/// Carries out a command, and says its answer. Of `log` it takes the rows of ticks; `place` says where the last one was
-/// found.
+/// Carries out a command, and says its answer. It takes the rows of ticks from `log`; `place` says where the last one
+/// was found.
 pub(crate) fn obey<W: Write>(
     bench: &mut Bench,
     log: &Log,
@@ -83,7 +83,7 @@ fn next_tick(bench: &Bench) -> u32
     bench.now() + 1
 }
 
-/// Applies an input, and says what tells the answer.
+/// Applies an input, and says the line of the answer.
 fn apply<W: Write>(
     bench: &mut Bench,
     input: Input,
@@ -97,7 +97,7 @@ fn apply<W: Write>(
     ask(bench, Cmd::Apply(input), pending, writer)
 }
 
-/// Asks the bench, and says what tells its answer.
+/// Asks the bench, and says the line of its answer.
 fn ask<W: Write>(
     bench: &mut Bench,
     command: Cmd,

@@ -1,6 +1,6 @@
 //! Texts: plans, logs and commands in, display lines and the answers of a session out.
 //!
-//! What a session needs of the crates below is re-exported: plans and their faults, logs, commands, and the bench.
+//! What a session needs from the crates below is re-exported: plans and their faults, logs, commands, and the bench.
 #![tactic(auto)]
 
 mod answers;

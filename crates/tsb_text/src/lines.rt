@@ -31,7 +31,7 @@ pub(crate) fn line_bytes(bench: &Bench) -> LineBytes
     tsb_display_text::line_bytes(bench.now(), &bench.display(), preempt, bench.local())
 }
 
-/// What tells that an input of this kind was taken back.
+/// The line that says that an input of this kind was taken back.
 pub(crate) fn undone_line(kind: Kind) -> &'static [u8]
     ensures line { result.now ≡ undone_line kind }
     ensures short { length result.now ≤ 63 }
@@ -50,7 +50,7 @@ pub(crate) fn undone_line(kind: Kind) -> &'static [u8]
     }
 }
 
-/// What tells that the bench took what it was asked to, and is now so.
+/// The line that says that the bench did this command, and is now as given.
 pub(crate) fn taken_line(command: &Cmd, bench: &Bench) -> &'static [u8]
     ensures line { result.now ≡ taken_line command.now (state_of bench.now) }
     ensures short { length result.now ≤ 63 }
@@ -61,7 +61,7 @@ pub(crate) fn taken_line(command: &Cmd, bench: &Bench) -> &'static [u8]
     }
 }
 
-/// What tells what a check at the desk found.
+/// The line that says what a check at the desk found.
 fn verified_line(found: Option<Rule>) -> &'static [u8]
     ensures line { result.now ≡ verified_line found }
     ensures short { length result.now ≤ 63 }
@@ -72,7 +72,7 @@ fn verified_line(found: Option<Rule>) -> &'static [u8]
     }
 }
 
-/// What tells the tick number of the last change.
+/// The line that gives the tick number of the last change.
 pub(crate) fn tick_line(tick: u32) -> [u8; 12]
     ensures { result ≡ codes "tick " ++ tick_field tick }
 {
@@ -80,7 +80,7 @@ pub(crate) fn tick_line(tick: u32) -> [u8; 12]
     [b't', b'i', b'c', b'k', b' ', a, b, c, d, e, f, g]
 }
 
-/// What tells a refusal.
+/// The line of a refusal.
 pub(crate) fn refused_line(refusal: Refusal) -> &'static [u8]
     ensures line { result.now ≡ refused_line refusal }
     ensures short { length result.now ≤ 63 }
@@ -101,7 +101,7 @@ pub(crate) fn refused_line(refusal: Refusal) -> &'static [u8]
     }
 }
 
-/// What tells that this station has the desk.
+/// The line that says that this station has the desk.
 fn busy_line(station: Station) -> &'static [u8]
     ensures line { result.now ≡ busy_line station }
     ensures short { length result.now ≤ 63 }

@@ -26,7 +26,7 @@ impl Pending {
         }
     }
 
-    /// Says a line, and its line feed. Where there is no room for it, what waits is written first; after a fault in that
+    /// Says a line, and its line feed. Where there is no room for it, what waits is written first; where that fails,
     /// the line was not said.
     pub(crate) fn say<W: Write>(&mut self, writer: &mut W, line: &[u8]) -> Result<(), WriteError>
         requires { length line.now ≤ 63 }

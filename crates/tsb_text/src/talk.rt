@@ -85,7 +85,7 @@ impl Talk {
         }
     }
 
-    /// Takes one byte more.
+    /// Takes one more byte.
     fn feed<W: Write>(&mut self, log: &Log, byte: u8, writer: &mut W) -> Result<Flow, WriteError>
         ensures went { (given : Setup) (inputs : List Input) → Stands given log.now (whole self.old.bench) inputs
             → Went result given inputs (self.old.line ++ byte ∷ []) log.now (whole self.new.bench) self.new.line (W.contents writer.old) (W.contents writer.new) self.old.pending.waits self.new.pending.waits }
@@ -122,7 +122,7 @@ impl Talk {
         Ok(Flow::On)
     }
 
-    /// Answers what stands after the last line feed, at the end of the input, and writes all that waits.
+    /// Answers what follows the last line feed, at the end of the input, and writes all that waits.
     fn finish<W: Write>(&mut self, log: &Log, writer: &mut W) -> Result<(), WriteError>
         ensures finished { (given : Setup) (inputs : List Input) → Stands given log.now (whole self.old.bench) inputs
             → Wrote (W.contents writer.old) (W.contents writer.new) self.old.pending.waits self.new.pending.waits (Finished result given inputs self.old.line self.new.pending.waits) }
@@ -226,7 +226,7 @@ fn as_session(sent: Result<(), WriteError>) -> Result<(), SessionError>
 /// begins at power-up with the plan, and its ticks take the rows of the log.
 ///
 /// What was answered goes out before each read. A fault ends the session; what was written until then is a prefix of
-/// its text. `TooLarge` comes where a byte stands after the first 16 MiB, after the whole lines within them were
+/// its text. `TooLarge` comes where there is a byte after the first 16 MiB, once the whole lines within them were
 /// answered. `Memory` comes where there is none for the bench at power-up: nothing was read then, and nothing written.
 pub fn session<R: Read, W: Write>(
     alloc: Global,

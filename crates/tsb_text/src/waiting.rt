@@ -44,7 +44,7 @@ impl Waiting {
         }
     }
 
-    /// Says a line, and its line feed. Where there is no room for it, what waits is written first; after a fault in that
+    /// Says a line, and its line feed. Where there is no room for it, what waits is written first; where that fails,
     /// the line was not said.
     pub(crate) fn say<W: Write>(
         &mut self,

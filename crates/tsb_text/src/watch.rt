@@ -25,7 +25,7 @@ impl Watch {
         }
     }
 
-    /// One write, of one byte at least.
+    /// One write, of at least one byte.
     pub(crate) fn write<W: Write>(
         &mut self,
         writer: &mut W,
