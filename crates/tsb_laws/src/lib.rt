@@ -3,7 +3,7 @@
 //! `specs/` has the statements, over the definitions of tsb_step, of the layers below it and of tsb_text. `safety` is the
 //! safety case in the words of a signal engineer. `way_back` says what cells and records give of each state, and which
 //! timers a tick writes, of every run that the definitions allow, whether or not there is memory for it; `desk` says
-//! what edits are after every run. `versions` says that the bench of 16 phases shows of a plan of version 1 what the
+//! what edits are after every run. `versions` says that the bench of 16 phases shows for a plan of version 1 what the
 //! bench of 8 shows, and `one_text` that the text of a session is one, but for memory.
 #![tactic(auto)]
 

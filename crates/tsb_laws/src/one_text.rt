@@ -1,14 +1,14 @@
 //! What holds of the texts of sessions, each law the contract of a function that does nothing.
 ghost use Rattle.tsb_laws.specs.OneText.{OneText, SessionsWriteOneText, SomeTextIsUntold, TextsPartAtMemory};
 
-/// Texts of a session are equal but for memory. Two texts that a session may write to the same bytes are equal, or they
-/// are equal up to a line where one of them says `refused E1 Memory`. So they are equal where neither says so, and to
-/// all bytes there is one that does not.
+/// Texts of a session are equal but for memory. Two texts that a session may write for the same bytes are equal, or
+/// they are equal up to a line where one of them says `refused E1 Memory`. So they are equal where neither says so, and
+/// for all bytes there is one that does not.
 ///
 /// Not said: when memory runs out.
 /// Mistakes: an undo that may be answered by `nothing` whatever remains, `IsLoose` (`would_be_right`, `is_not_right`);
-/// a way back of one tick more than there are, `IsFurther` (`would_both_be_right`, `the_other_is_not`); the law with no
-/// word of memory, which `text` and `short` break (`are_two`).
+/// a way back of one tick more than there are, `IsFurther` (`would_both_be_right`, `the_other_is_not`); the law without
+/// its words on memory, which `text` and `short` break (`are_two`).
 /// Witness: `is_text` of Witness, a session with a tick, a transaction and an undo.
 pub fn texts_are_equal_but_for_memory()
     ensures part { TextsPartAtMemory }

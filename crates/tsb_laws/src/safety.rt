@@ -7,7 +7,7 @@ ghost use Rattle.tsb_laws.specs.Coordination.{CoordinatedEndByForceOff, OmittedA
 
 /// `greens`: The intergreen holds. Between the tick that ends a green and the one that starts a phase which is not
 /// concurrent lie at least the yellow change and the red clearance of the first, across inputs of every kind. Each time
-/// is by the plan in effect as what it times ends.
+/// is that of the plan in effect when what it times ends.
 ///
 /// Needs: an untripped stretch.
 /// Mistake: a clearance that is over as its yellow ends, `over_after_yellow` (`clears_on`, `waits_3`, `would_start_3`).

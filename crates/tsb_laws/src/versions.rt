@@ -4,7 +4,8 @@ ghost use Rattle.tsb_laws.specs.Versions.{BreakTheSameRule, CountersAgree, Field
 ghost use Rattle.tsb_laws.specs.Texts.{NamedPlansBreakNoRule, ReadBenchesGoAlike, TextsGiveWidePlans, TextsNameNarrowPlans};
 
 /// A plan of version 1 has its wide plan. There is one plan of 16 phases and 4 sides that says at translated indices
-/// what a plan of version 1 says, and nothing elsewhere. It breaks the same rule first, or none as well.
+/// what a plan of version 1 says, and nothing elsewhere. It breaks the same rule first, or none where that plan breaks
+/// none.
 ///
 /// Mistake: splits that are not translated, `not_translated` (`narrow_forces`, `forces_none`, `is_wrong`).
 pub fn wide_plans_say_the_same()

@@ -2,7 +2,7 @@
 ghost use Rattle.tsb_laws.specs.WayBack.{CellsTellTheState, CheckedPlansAreHeld, EarlierAreShorterRuns, EqualCellsAreEqualStates, PastsAreTheRun, RecordsTakeBack, StatesHaveRows, WaitingTimersAreNotWritten};
 
 /// The cells are the state. The cells of a state of a run, read at its tick number, are that state; equal cells at
-/// equal tick numbers are equal states, whatever runs they come of; and the bench has rows for each (`HasRows`).
+/// equal tick numbers are equal states, whatever runs they come from; and the bench has rows for each (`HasRows`).
 ///
 /// Needs: a plan such as the program holds (`IsHeld`), and inputs whose numbers are of its types (`AreTyped`).
 /// Not said: that a run can be kept in memory.
