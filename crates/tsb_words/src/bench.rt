@@ -23,11 +23,11 @@ pub enum Asked<'a> {
     BuiltIn,
 }
 
-/// What the words ask for, of which the first is the program's name.
+/// What the words ask for, the first of which is the program's name.
 ///
 /// `check PLAN` and `run PLAN LOG` name files, and no word after the name asks for the built-in plan. A word `--` is
-/// passed over once, and what stands after it is no flag: so a file whose name begins with a hyphen is named after it.
-/// All else is `Bad`, a request for help among it. `Memory` may come in place of every answer.
+/// passed over once, and what follows it is no flag: so a file whose name begins with a hyphen is named after it. All
+/// else is `Bad`, and so is a request for help. `Memory` may come in place of every answer.
 pub fn read_words<'a, S: AsStr>(alloc: Global, words: &'a [S]) -> Result<Asked<'a>, WordsError>
     ensures { Spells (map S.text words.now) result }
 {

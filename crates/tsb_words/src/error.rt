@@ -15,7 +15,7 @@ use std::io::{self, ErrorKind as DeviceKind};
 pub enum WordsError {
     /// There was no memory to read them.
     Memory,
-    /// They are not those of the program. So are those that ask for help.
+    /// They are not words of the program, or they ask for help.
     Bad,
 }
 
@@ -38,7 +38,7 @@ impl From<Error> for WordsError {
     }
 }
 
-/// Why the words are not to be had: there is no memory for them, or they are not UTF-8, which is no word of a program.
+/// Why the words can't be had: there is no memory for them, or they are not UTF-8, and so not words of a program.
 impl From<io::Error> for WordsError {
     ghost from_gives = { λ error fault. fault ≡ given_fault (error_kind error) };
 

@@ -49,20 +49,20 @@ pub enum Asked<'a> {
     Diagram {
         /// The file of the log of inputs.
         log: Option<&'a str>,
-        /// What stands over the diagram.
+        /// The title above the diagram.
         title: Option<&'a str>,
         /// How many seconds a line of the diagram shows, 1 to 86,400.
         seconds_per_line: Option<u32>,
     },
 }
 
-/// What the words ask for, of which the first is the program's name.
+/// What the words ask for, the first of which is the program's name.
 ///
 /// `log` has `--from TIME`, and may have `--device ID` and any number of `--vehicle CHANNEL=DETECTOR`,
 /// `--pedestrian CHANNEL=DETECTOR` and `--preempt CHANNEL=INPUT`; `events` has `--from TIME` and `--device ID`, and may
 /// have `--log LOG`; `diagram` may have `--log LOG`, `--title TEXT` and `--seconds-per-line N`. Options come in any
-/// order, and `--NAME=VALUE` is `--NAME VALUE`. A value that begins with a hyphen stands after `=`. All else is `Bad`,
-/// a request for help among it, and a device of `events` with a double quote, an end of a line or over 900 bytes.
+/// order, and `--NAME=VALUE` is `--NAME VALUE`. A value that begins with a hyphen comes after `=`. All else is `Bad`,
+/// and so are a request for help and a device of `events` with a double quote, an end of a line or over 900 bytes.
 /// `Memory` may come in place of every answer.
 pub fn read_words<'a, S: AsStr>(alloc: Global, words: &'a [S]) -> Result<Asked<'a>, WordsError>
     ensures { Spells (map S.text words.now) result }
@@ -130,7 +130,7 @@ fn events_asked<'a>(options: &ArgMatches<'a>) -> Option<Asked<'a>>
     events_with(from, device, log)
 }
 
-/// Events, where it is said from when and of which device, and a line can name that.
+/// Events, where options say from when and of which device, and a line can name that device.
 fn events_with<'a>(
     from: Option<Moment>,
     device: Option<&'a str>,

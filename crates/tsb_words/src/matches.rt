@@ -1,4 +1,4 @@
-//! What `clap` makes of words.
+//! What `clap` reads from words.
 ghost use Rattle.std.specs.Prelude.{◌≡◌, map, true};
 ghost use Rattle.clap.specs.Words.{app_of, is_simple_and_free};
 ghost use Rattle.clap.specs.Simple.{subcommand_rows_of};
@@ -8,7 +8,7 @@ use crate::error::WordsError;
 use clap::{ArgMatches, Command};
 use std::convert::AsStr;
 
-/// The matches of words, of which the first is the program's name, where the command takes them.
+/// The matches of words, the first of which is the program's name, where the command takes them.
 pub(crate) fn matches_of<'a, S: AsStr>(
     command: Command<'a>,
     words: &'a [S],

@@ -1,4 +1,4 @@
-//! What options say, of the matches of a subcommand.
+//! What options say, by the matches of a subcommand.
 ghost use Rattle.std.specs.Prelude.{◌≡◌, option_map};
 ghost use Rattle.clap.specs.Words.{found_of, rows_of};
 ghost use Rattle.tsb_words.specs.FieldProgram.{moment_in, seconds_said};
