@@ -1,4 +1,4 @@
-//! What fails a program, and the line that it tells of it.
+//! What fails a program, and the line that it writes then.
 ghost use Rattle.std.specs.Prelude.{◌≡◌};
 ghost use Rattle.tsb_program.specs.Failures.{Fails, failure_line};
 
@@ -17,7 +17,7 @@ pub enum Failure {
     Write,
 }
 
-/// Tells that a read, a write or memory failed, and gives the status that the program ends with.
+/// Says that a read, a write or memory failed, and gives the status that the program ends with.
 pub fn fail<E: Write>(errors: &mut E, failure: Failure) -> u8
     ensures { Fails failure result (E.contents errors.old) (E.contents errors.new) }
 {

@@ -1,4 +1,4 @@
-//! What the programs share: the files that they read, the lines that they tell, and the statuses that they end with.
+//! What the programs share: the files that they read, the lines that they write, and the statuses that they end with.
 #![tactic(auto)]
 
 mod failure;

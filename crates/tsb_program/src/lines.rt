@@ -19,7 +19,7 @@ pub fn tell<E: Write>(errors: &mut E, status: Status, line: &[u8]) -> u8
     status.number()
 }
 
-/// Writes a line or a whole text, and has the writer pass it on. At an error the first bytes of it may have gone.
+/// Writes a line or a whole text, and has the writer pass it on. At an error its first bytes may have gone out.
 pub fn write_line<W: Write>(writer: &mut W, line: &[u8]) -> Result<(), WriteError>
     ensures whole { OnOk result (Appends (W.contents writer.old) (W.contents writer.new) line.now) }
     ensures front { AppendsFront (W.contents writer.old) (W.contents writer.new) line.now }

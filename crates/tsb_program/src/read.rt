@@ -15,7 +15,7 @@ pub enum ReadError<T> {
     Refused(T),
 }
 
-/// The log in the file at this path. Of one that is too large a byte more than the longest is read.
+/// The log in the file at this path. Where it is too large, one byte more than the longest log has is read.
 pub fn log_of<F: Files>(alloc: Global, files: &F, path: &str) -> Result<Log, ReadError<LogError>>
     ensures { LogRead result (F.bytes files.now path.now) }
 {
@@ -23,7 +23,7 @@ pub fn log_of<F: Files>(alloc: Global, files: &F, path: &str) -> Result<Log, Rea
     log_made(read_log(alloc, &text))
 }
 
-/// What was made of a log's text.
+/// What reading a log's text gave.
 fn log_made(answer: Result<Log, LogError>) -> Result<Log, ReadError<LogError>>
     ensures { result ≡ log_made answer }
 {
