@@ -25,7 +25,7 @@ fn main(rt: HostRuntime) -> ExitCode {
     ExitCode::from(status)
 }
 
-/// The words that the program was given, of which the first is its name.
+/// The words that the program was given, the first of which is its name.
 fn words_given(rt: &HostRuntime) -> Result<Vec<String>, WordsError> {
     Ok(env::args(rt)?.collect(rt.alloc())?)
 }

@@ -22,10 +22,10 @@ use tsb_text::{Checked, Log, PLAN_LIMIT, Plan, PlanError, SessionError, read_pla
 use tsb_words::WordsError;
 use tsb_words::bench::{Asked, read_words};
 
-/// Does what the words ask for, of which the first is the program's name, and gives the status that the program ends
+/// Does what the words ask for, the first of which is the program's name, and gives the status that the program ends
 /// with: 0 where all was done, 1 for a refused plan or log, 2 for bad words, 3 where a read, a write or memory failed.
 ///
-/// What `check` finds of a plan goes to `output`, and so do the answers of a session. The fault that ends `run` goes to
+/// What `check` finds in a plan goes to `output`, and so do the answers of a session. The fault that ends `run` goes to
 /// `errors`, and so do bad words and failures.
 pub fn run_words<S: AsStr, F: Files, R: Read, W: Write, E: Write>(
     alloc: Global,
@@ -46,7 +46,7 @@ pub fn run_words<S: AsStr, F: Files, R: Read, W: Write, E: Write>(
     }
 }
 
-/// Tells why words ask for nothing, and gives the status that the program ends with.
+/// Says why words ask for nothing, and gives the status that the program ends with.
 pub fn tell_words_fault<E: Write>(errors: &mut E, fault: WordsError) -> u8
     ensures { TellsWords fault result (E.contents errors.old) (E.contents errors.new) }
 {
@@ -68,7 +68,7 @@ fn plan_of<F: Files>(alloc: Global, files: &F, path: &str) -> Result<Checked, Re
     plan_made(read_plan(alloc, &text))
 }
 
-/// What was made of a plan's text.
+/// What reading a plan's text gave.
 fn plan_made(answer: Result<Checked, PlanError>) -> Result<Checked, ReadError<PlanError>>
     ensures { result ≡ plan_made answer }
 {
@@ -79,7 +79,7 @@ fn plan_made(answer: Result<Checked, PlanError>) -> Result<Checked, ReadError<Pl
     }
 }
 
-/// Tells why there is no plan or log.
+/// Says why there is no plan or log.
 fn refuse<E: Write, T: Display + Drop>(alloc: Global, errors: &mut E, fault: ReadError<T>) -> u8
     ensures { Refuses T.output fault result (E.contents errors.old) (E.contents errors.new) }
 {
@@ -113,7 +113,7 @@ fn check<F: Files, W: Write, E: Write>(
     }
 }
 
-/// Writes what was found of a plan.
+/// Writes what was found in a plan.
 fn judge<W: Write, E: Write>(output: &mut W, errors: &mut E, status: Status, line: &[u8]) -> u8
     ensures { Judged result (number status) line.now
         (W.contents output.old) (W.contents output.new) (E.contents errors.old) (E.contents errors.new) }
@@ -183,7 +183,7 @@ fn talk<R: Read, W: Write, E: Write>(
     }
 }
 
-/// Tells what ended a session before its commands did.
+/// Says what ended a session before its commands did.
 fn tell_end<E: Write>(errors: &mut E, fault: SessionError) -> u8
     ensures { TellsEnd fault result (E.contents errors.old) (E.contents errors.new) }
 {
