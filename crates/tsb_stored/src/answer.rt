@@ -7,8 +7,9 @@ use std::alloc::Global;
 use std::io::Write;
 use tsb_text::{read_log, read_plan, session};
 
-/// Writes the answer to a case. To a plan text it is its first fault, or `plan ok`; to a log its first fault, or a line
-/// for each tick that is asked for; to a session the first fault of its plan or else of its log, or else its text.
+/// Writes the answer to a case. For a plan text it is its first fault, or `plan ok`; for a log its first fault, or a
+/// line for each tick that is asked for; for a session the first fault of its plan or else of its log, or else its
+/// text.
 pub fn answer<W: Write>(alloc: Global, case: &Case, output: &mut W) -> Result<()> {
     match case.given {
         Run::Plan(text) => judge(alloc, text, output),

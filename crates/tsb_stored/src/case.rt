@@ -3,12 +3,12 @@
 /// What is run, and its name.
 #[derive(Clone, Copy)]
 pub struct Case<'a> {
-    /// The name, which stands before the answer.
+    /// The name, which is written before the answer.
     pub name: &'a [u8],
     /// What is run.
     pub given: Run<'a>,
-    /// The words of its head after the lengths of its pieces: of a log the ticks whose rows are asked for, of a session
-    /// how many lines it writes and their sum, where they stand.
+    /// The words of its head after the lengths of its pieces: for a log the ticks whose rows are asked for, for a
+    /// session how many lines it writes and their sum, where the head has them.
     pub left: &'a [u8],
 }
 

@@ -29,8 +29,8 @@ pub fn run<W: Write>(alloc: Global, text: &[u8], output: &mut W) -> Result<()> {
     Ok(())
 }
 
-/// The first case of a text and what stands after it, or `None` where there is no further case. Blank lines and lines
-/// that begin with `#` are skipped before a case.
+/// The first case of a text and what follows it, or `None` where there is no further case. Blank lines and lines that
+/// begin with `#` are skipped before a case.
 pub fn next_case(text: &[u8]) -> Result<Option<(Case, &[u8])>, CaseError>
     ensures { IfOk result (λ found. MatchOption found (headed (lines_of text.now) ≡ [])
         (λ first. IsFirst first.0.given first.0.name.now first.0.left.now text.now first.1.now)) }
@@ -49,8 +49,8 @@ pub fn next_case(text: &[u8]) -> Result<Option<(Case, &[u8])>, CaseError>
     }
 }
 
-/// The case with this head, and what stands after its pieces. A head is the kind, the name, the length of each piece,
-/// and the words that are left.
+/// The case with this head, and what follows its pieces. A head is the kind, the name, the length of each piece, and
+/// the words that are left.
 fn read_case<'a>(head: &'a [u8], text: &'a [u8]) -> Option<(Case<'a>, &'a [u8])>
     ensures { IfSome result
         (λ found. IsCase found.0.given found.0.name.now found.0.left.now head.now text.now found.1.now) }
@@ -61,7 +61,7 @@ fn read_case<'a>(head: &'a [u8], text: &'a [u8]) -> Option<(Case<'a>, &'a [u8])>
     Some((Case { name, given, left }, rest))
 }
 
-/// What is run, told by the kind and these words, the words that are left, and what stands after the pieces.
+/// What is run, by the kind and these words; the words that are left; and what follows the pieces.
 fn read_given<'a>(
     kind: &[u8],
     words: &'a [u8],
@@ -89,7 +89,7 @@ fn read_given<'a>(
     None
 }
 
-/// Three pieces in turn, by the next of these words, the words that are left, and the text after the pieces.
+/// Three pieces in turn, by the next of these words; the words that are left; and the text after the pieces.
 fn read_three<'a>(
     words: &'a [u8],
     text: &'a [u8],

@@ -19,7 +19,7 @@ impl Digest {
         }
     }
 
-    /// The digest that two words tell, how many lines and their sum.
+    /// The digest that two words give: how many lines, and their sum.
     pub fn read(words: &[u8]) -> Option<Digest> {
         let (lines, words) = next_word(words)?;
         let (sum, words) = next_word(words)?;

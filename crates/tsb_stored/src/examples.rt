@@ -1,4 +1,4 @@
-//! The examples: what each writes, beside what it is to write.
+//! The examples: what each writes, compared with what it is to write.
 
 use crate::answer::answer;
 use crate::case::{Case, Run};

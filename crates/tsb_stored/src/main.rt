@@ -1,6 +1,6 @@
 //! Runs stored cases: sessions of the whole controller, timing plans by the first rule that each breaks, plan texts,
 //! logs, short sessions, and the examples. Sessions of the controller and examples are compared with what they are to
-//! write; of the others the answers are written. Each file says how it reads.
+//! write; for the others the answers are written. Each file says how to read it.
 #![tactic(auto)]
 
 mod answer;

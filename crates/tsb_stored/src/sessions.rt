@@ -19,7 +19,7 @@ struct Tally {
     differ: u32,
 }
 
-/// Runs the sessions of a text in their order. Writes the names of the first that write something else than they are
+/// Runs the sessions of a text in their order. Writes the names of the first that write something other than they are
 /// to, and how many do, or else how many sessions there are.
 pub fn run<W: Write>(alloc: Global, file: &str, text: &[u8], output: &mut W) -> Result<()> {
     let mut tally = Tally {
@@ -40,7 +40,7 @@ pub fn run<W: Write>(alloc: Global, file: &str, text: &[u8], output: &mut W) -> 
     Ok(())
 }
 
-/// Whether a session writes its answers, or as many lines with the sum that its head tells.
+/// Whether a session writes its answers, or lines of the number and the sum that its head gives.
 fn is_as_expected(alloc: Global, case: &Case) -> Result<bool> {
     if let Run::Told(_, _, _, answers) = case.given {
         let mut written = Vec::new(alloc);
@@ -54,7 +54,7 @@ fn is_as_expected(alloc: Global, case: &Case) -> Result<bool> {
 }
 
 impl Tally {
-    /// Counts a session, and names it if it differs and few before it do.
+    /// Counts a session, and names it if it differs and few before it did.
     fn count<W: Write>(
         &mut self,
         file: &str,

@@ -4,8 +4,8 @@ use std::io::{self, Write};
 use tsb_lines::{next_word, number};
 use tsb_text::Log;
 
-/// Writes the rows in force at these ticks, which stand as words of a line: a line for each, with the tick and the
-/// inputs that are on as the numbers 2^(n - 1) of vehicle detectors, pedestrian detectors and preempts added up.
+/// Writes the rows in force at these ticks, which are words of a line: a line for each, with the tick and the inputs
+/// that are on as the numbers 2^(n - 1) of vehicle detectors, pedestrian detectors and preempts added up.
 pub fn write_rows<W: Write>(log: &Log, ticks: &[u8], output: &mut W) -> io::Result<()> {
     let mut place = 0;
     let mut words = ticks;
