@@ -8,7 +8,8 @@ use std::time::Instant;
 use tsb_step::Input;
 use tsb_text::{Bench, Checked, Log, line, session};
 
-/// How many times the last change of each watched value is asked for. Between two times a tick is taken back.
+/// How many times the last change of each watched value is asked for. A tick is taken back between one time and the
+/// next.
 const TIMES: u32 = 10;
 
 /// A random log, and the plan that runs with it.

@@ -1,4 +1,4 @@
-//! Numbers at random that are the same in each run.
+//! Random numbers that are the same in each run.
 ghost use Rattle.std.specs.Prelude.{◌<◌};
 
 /// A source of numbers: xorshift64*.

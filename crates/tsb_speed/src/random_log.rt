@@ -1,4 +1,4 @@
-//! Logs at random.
+//! Random logs.
 ghost use Rattle.std.specs.Prelude.{◌<◌, ◌≤◌};
 ghost use Rattle.tsb_step.specs.Step.{last_tick};
 
@@ -37,7 +37,7 @@ impl Inputs {
         }
     }
 
-    /// Changes the inputs that change at this tick, and tells whether there are any.
+    /// Changes the inputs that change at this tick, and says whether there are any.
     fn change(&mut self, tick: u32) -> bool
         requires { tick ≤ last_tick }
     {
@@ -76,7 +76,7 @@ impl Inputs {
     }
 }
 
-/// Where the digit of an input stands in a row.
+/// Where the digit of an input is in a row.
 fn place_of(k: usize) -> usize
     requires { k < 9 }
     ensures { result < 39 }
