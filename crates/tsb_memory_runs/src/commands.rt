@@ -28,7 +28,7 @@ fn inputs() -> [Input; 13] {
     ]
 }
 
-/// When phase 2 changed last, before 40 ticks are taken back and then, and one input more taken back.
+/// When phase 2 changed last, asked before and after 40 ticks are taken back; then one more input is taken back.
 fn way_back() -> [Cmd; 4] {
     [
         Cmd::When(Watch::Interval(Phase::of(2))),
@@ -38,7 +38,7 @@ fn way_back() -> [Cmd; 4] {
     ]
 }
 
-/// Puts so many ticks after the commands.
+/// Adds so many ticks to the commands.
 fn put_ticks(commands: &mut Vec<Cmd>, ticks: usize) -> Result<(), AllocError> {
     for _ in 0..ticks {
         commands.push(Cmd::Apply(Input::Tick(Row::all_off())))?;
@@ -47,7 +47,7 @@ fn put_ticks(commands: &mut Vec<Cmd>, ticks: usize) -> Result<(), AllocError> {
 }
 
 /// The commands without the one of this number, from 1 on, if there is one: ticks, the way back, and inputs of each kind
-/// thrice.
+/// three times.
 pub fn commands(alloc: Global, left_out: u32) -> Result<Vec<Cmd>, AllocError> {
     let mut commands = Vec::new(alloc);
     put_ticks(&mut commands, 100)?;

@@ -2,7 +2,7 @@
 //! answer to each, then what the copy and the bench show and undo; or what memory ran out for.
 //!
 //! Its input is the number of a command that is left out, or nothing. tools/refused_calls.py refuses its requests for
-//! memory one after another, and leaves the input out that was refused, to see that the others are answered as there.
+//! memory one after another, and leaves out the input that was refused, to see that the others are answered the same.
 #![tactic(auto)]
 
 mod commands;
