@@ -1,4 +1,5 @@
-//! Long runs with ample memory. A call that may answer `Memory` does so at no length: beyond 65,536 and beyond 1,000,000.
+//! Long runs with ample memory. A call that may answer `Memory` does not do so at any length: beyond 65,536 and beyond
+//! 1,000,000.
 
 use std::alloc::{AllocError, Global};
 use std::test::Fail;
@@ -172,7 +173,7 @@ fn many_rows(alloc: Global) -> Result<Vec<u8>, AllocError> {
     Ok(text)
 }
 
-/// A log of many rows is read whole, and a fault in a line after them is told.
+/// A log of many rows is read whole, and a fault in a line after them is reported.
 #[test]
 fn many_rows_are_read(rt: HostRuntime) -> Result<(), Fail> {
     let mut text = many_rows(rt.alloc())?;

@@ -40,7 +40,7 @@ const FAILURES: [Odd; 4] = [
     Odd::Fails(ErrorKind::OutOfMemory),
 ];
 
-/// How many calls there are before the odd one, or that it is after.
+/// How many calls there are before the odd one, or that it has been.
 #[derive(Clone, Copy)]
 struct Count {
     left: Option<usize>,
@@ -64,7 +64,7 @@ impl Count {
         }
     }
 
-    /// Counts a call, and tells what it does if it is the odd one.
+    /// Counts a call, and says what it does if it is the odd one.
     fn next(&mut self) -> Option<Odd> {
         match self.left {
             None => None,
@@ -158,7 +158,7 @@ fn talk<R: Read, W: Write>(
     Some(session(alloc, plan, &Log::empty(alloc), reader, writer))
 }
 
-/// How many bytes of answers there are to these commands, if they are those that `OUTPUT` begins with.
+/// How many bytes the answers to these commands have, if `OUTPUT` begins with them.
 fn answered(alloc: Global, commands: &[u8]) -> Option<usize> {
     let mut reader = commands;
     let mut writer = Taker::of(usize::MAX);

@@ -57,7 +57,7 @@ fn answer(alloc: Global, text: &str) -> Result<String, AllocError> {
     }
 }
 
-/// What reading a text answers that is `start` with blanks up to the length, printed.
+/// What reading answers for the text `start` with blanks up to the length, printed.
 fn answer_padded(alloc: Global, start: &str, len: usize) -> Result<String, AllocError> {
     let mut text = String::from_str(alloc, start)?;
     for _ in start.len()..len {
@@ -163,7 +163,7 @@ fn a_text_of_the_limit_is_read(rt: HostRuntime) {
     assert!(rt; larger.as_str() == "plan: too large");
 }
 
-/// A text of the limit is told its fault as a short one is.
+/// The fault of a text as long as the limit is reported as that of a short one is.
 #[test]
 fn a_text_of_the_limit_is_judged(rt: HostRuntime) {
     let wanted = [
@@ -184,8 +184,8 @@ fn a_text_of_the_limit_is_judged(rt: HostRuntime) {
     }
 }
 
-/// What reading a text answers that is `start`, so many times `piece`, then `end`, and then what stands after the first
-/// brace of the built-in plan of two phases.
+/// What reading answers for a text of `start`, so many times `piece`, then `end`, and then what follows the first brace
+/// of the built-in plan of two phases.
 fn answer_repeated(
     alloc: Global,
     start: &str,

@@ -10,7 +10,7 @@ use tsb_types::Row;
 
 const ROW: &[u8] = b"0000100 0010010000000000 00000000 0000\n";
 
-/// Its second row is of the tick of the first.
+/// Its second row has the tick of the first.
 const TWICE: &[u8] =
     b"0000100 0010010000000000 00000000 0000\n0000100 0000000000000000 00000000 0000\n";
 
@@ -83,7 +83,7 @@ fn gives(alloc: Global, files: &Shelf, most: usize, wanted: &[u8]) -> bool {
     }
 }
 
-/// Whether neither bytes nor a log come of a file, for this fault.
+/// Whether a file gives neither bytes nor a log, for this fault.
 fn fails(alloc: Global, files: &Shelf, fault: FileError) -> bool {
     let is_unread = matches!(read_file(alloc, files, "file", 1000), Err(it) if it == fault);
     is_unread && matches!(log_of(alloc, files, "file"), Err(ReadError::Failed(it)) if it == fault)
@@ -108,7 +108,7 @@ fn a_file_is_read_to_so_many_bytes(rt: HostRuntime) {
     }
 }
 
-/// A file fails where it is opened, or after each of its bytes. Of memory that is told as such.
+/// A file fails where it is opened, or after each of its bytes. A lack of memory is reported as such.
 #[test]
 fn a_file_that_fails_gives_its_fault(rt: HostRuntime) {
     for (kind, fault) in [
@@ -216,7 +216,7 @@ impl Write for Stuck {
     }
 }
 
-/// Where a line can't be written, its first bytes are, and the status alone tells of it.
+/// Where a line can't be written, its first bytes are, and only the status shows it.
 #[test]
 fn a_writer_that_fails_is_told_of(rt: HostRuntime) {
     for room in 0..=LINE.len() {

@@ -62,7 +62,7 @@ fn rules_are_judged_in_order(rt: HostRuntime) {
         (Rule::K6, &[(Object::SequenceData, 17, 4)]),
         (Rule::K10, &[(Object::PhaseMaximum1, 2, 4)]),
         (Rule::K10, &[(Object::PhaseMaximum2, 4, 4)]),
-        // Of two rules that are broken the first is told.
+        // Where two rules are broken, the first is reported.
         (
             Rule::K1,
             &[

@@ -197,7 +197,7 @@ fn a_reader_that_never_ends_is_too_large(rt: HostRuntime) {
     assert!(rt; out.is_empty());
 }
 
-/// What stands after `quit` is not answered.
+/// What follows `quit` is not answered.
 #[test]
 fn quit_ends_a_session(rt: HostRuntime) {
     assert!(rt;
@@ -212,7 +212,7 @@ fn quit_ends_a_session(rt: HostRuntime) {
     assert!(rt; answers(&rt, b"show it\r\nquit\r\nshow\r\n", b"bad command\n"));
 }
 
-/// What stands after `quit` is not read.
+/// What follows `quit` is not read.
 #[test]
 fn quit_reads_no_further(rt: HostRuntime) {
     let mut out = Vec::new(rt.alloc());
