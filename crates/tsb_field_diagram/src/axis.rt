@@ -12,7 +12,7 @@ const LEFT: u128 = 140;
 /// How wide the bars of a line are.
 const WIDTH: u128 = 1000;
 
-/// Puts the axis of a line of so many seconds after a text.
+/// Adds the axis of a line of so many seconds to a text.
 pub(crate) fn append_axis(
     text: &mut Vec<u8>,
     bands: usize,
@@ -28,7 +28,7 @@ pub(crate) fn append_axis(
     append_marks(text, bands, seconds, begin, end, step_of(seconds))
 }
 
-/// Puts the marks from one second to before another after a text.
+/// Adds to a text the marks from one second to before another.
 fn append_marks(
     text: &mut Vec<u8>,
     bands: usize,
@@ -68,7 +68,7 @@ fn second_of(index: u64, step: u32) -> u128
     u128::from(index) * u128::from(step)
 }
 
-/// Puts the mark of a second after a text.
+/// Adds the mark of a second to a text.
 fn append_mark(
     text: &mut Vec<u8>,
     bands: usize,
@@ -85,7 +85,7 @@ fn append_mark(
     append_second(text, bands, x, second)
 }
 
-/// How far from the left a second stands, in a line of so many seconds from another on.
+/// How far from the left a second is, in a line of so many seconds that begins at another.
 fn place_of(seconds: u32, begin: u64, second: u128) -> u128
     requires some { 1 ≤ seconds }
     requires fits { second < 2 ^ 96 }
@@ -94,7 +94,7 @@ fn place_of(seconds: u32, begin: u64, second: u128) -> u128
     LEFT + second.saturating_sub(u128::from(begin)) * WIDTH / u128::from(seconds)
 }
 
-/// Puts the line of a mark after a text.
+/// Adds the line of a mark to a text.
 fn append_grid(text: &mut Vec<u8>, bands: usize, x: u128) -> Result<(), AllocError>
     ensures { OnOk result (text.new.items ≡ text.old.items ++ grid_text bands x) }
 {
@@ -104,7 +104,7 @@ fn append_grid(text: &mut Vec<u8>, bands: usize, x: u128) -> Result<(), AllocErr
     append(text, b"/>")
 }
 
-/// Puts what is told below a mark after a text.
+/// Adds what is written below a mark to a text.
 fn append_second(text: &mut Vec<u8>, bands: usize, x: u128, second: u128) -> Result<(), AllocError>
     ensures { OnOk result (text.new.items ≡ text.old.items ++ second_text bands x second) }
 {
@@ -115,7 +115,7 @@ fn append_second(text: &mut Vec<u8>, bands: usize, x: u128, second: u128) -> Res
     append(text, b"</text>\n")
 }
 
-/// Puts the clock of a minute after a text, or else the second of its minute.
+/// Adds the clock of a minute to a text, or else the second of its minute.
 fn append_mark_name(text: &mut Vec<u8>, second: u128) -> Result<(), AllocError>
     ensures { OnOk result (text.new.items ≡ text.old.items ++ mark_name second) }
 {
@@ -126,7 +126,7 @@ fn append_mark_name(text: &mut Vec<u8>, second: u128) -> Result<(), AllocError>
     }
 }
 
-/// How many seconds there are from one mark of the axis to the next: a line has 20 of them at most.
+/// How many seconds there are from one mark of the axis to the next: a line has at most 20 of them.
 fn step_of(seconds: u32) -> u32
     ensures same { result ≡ step_of seconds }
     ensures some { 1 ≤ result }

@@ -11,7 +11,7 @@ use tsb_types::NumberSet;
 /// How high a band is.
 pub(crate) const BAND: u128 = 16;
 
-/// What a band tells of.
+/// What a band is about.
 #[derive(Clone, Copy, PartialEq, Eq)]
 pub enum Kind {
     /// A preempt in service.
@@ -35,7 +35,7 @@ pub enum Kind {
 /// A band of a diagram.
 #[derive(Clone, Copy, PartialEq, Eq)]
 pub struct Band {
-    /// What it tells of.
+    /// What it is about.
     pub kind: Kind,
     /// Which one, from 1. That of flash is 1.
     pub number: u8,
@@ -66,7 +66,7 @@ pub enum Mark {
     On,
 }
 
-/// What a band shows of what is shown: nothing where it is the band of an input.
+/// What a band shows of a display line: nothing where it is the band of an input.
 pub(crate) fn mark_in_change(band: Band, shown: &Shown) -> Mark
     ensures { result ≡ mark_in_change band shown.now }
 {
@@ -81,7 +81,7 @@ pub(crate) fn mark_in_change(band: Band, shown: &Shown) -> Mark
     }
 }
 
-/// What a band shows of a row of inputs: nothing where it is the band of no input.
+/// What a band shows of a row of inputs: nothing where it is not the band of an input.
 pub(crate) fn mark_in_row(band: Band, row: &LogRow) -> Mark
     ensures { result ≡ mark_in_row band row.now }
 {
@@ -159,7 +159,7 @@ fn on_mark(on: bool) -> Mark
     if on { Mark::On } else { Mark::Dark }
 }
 
-/// Whether a number is in a set: none is that is not 1 to 16.
+/// Whether a number is in a set: only 1 to 16 can be.
 fn shows(set: NumberSet, number: u8) -> bool
     ensures { result ≡ shows set number }
 {

@@ -79,7 +79,7 @@ pub(crate) fn before_tick<T: InForce>(items: &[T], end: u64) -> &[T]
     items
 }
 
-/// Puts the bars of a band after a text, of what is in force in a line.
+/// Adds the bars of a band to a text, by what is in force in a line.
 pub(crate) fn append_bars<T: InForce>(
     text: &mut Vec<u8>,
     place: usize,
@@ -108,7 +108,7 @@ pub(crate) fn append_bars<T: InForce>(
     Ok(())
 }
 
-/// Whether two marks are one.
+/// Whether two marks are the same.
 pub(crate) fn is_same(one: Mark, other: Mark) -> bool
     ensures { result ≡ is_same one other }
 {
@@ -133,7 +133,7 @@ fn number_of(mark: Mark) -> u8
     }
 }
 
-/// Puts a bar after a text: nothing where the band is dark.
+/// Adds a bar to a text: nothing where the band is dark.
 fn append_bar(
     text: &mut Vec<u8>,
     place: usize,
@@ -170,7 +170,7 @@ fn shape_of(mark: Mark) -> &'static [u8]
     }
 }
 
-/// How far a shape of a mark stands below the top of its band.
+/// How far a shape of a mark is below the top of its band.
 fn inset_of(mark: Mark) -> u128
     ensures { result ≡ inset_of mark }
 {

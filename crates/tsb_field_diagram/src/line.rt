@@ -13,7 +13,7 @@ use tsb_log_text::LogRow;
 /// How far from the top the lines begin.
 pub(crate) const TOP: u128 = 64;
 
-/// Puts the lines of a diagram after a text.
+/// Adds the lines of a diagram to a text.
 pub(crate) fn append_lines(
     text: &mut Vec<u8>,
     bands: &[Band],
@@ -59,7 +59,7 @@ pub(crate) fn line_height(bands: usize) -> u128
     BAND * bands as u128 + 36
 }
 
-/// How far from the top a line stands.
+/// How far from the top a line is.
 pub(crate) fn line_top(bands: usize, line: u32) -> u128
     ensures same { result ≡ line_top bands line }
     ensures fits { result < 2 ^ 102 }
@@ -67,7 +67,7 @@ pub(crate) fn line_top(bands: usize, line: u32) -> u128
     TOP + u128::from(line) * line_height(bands)
 }
 
-/// Puts the clock of a line after a text.
+/// Adds the clock of a line to a text.
 fn append_line_clock(text: &mut Vec<u8>, seconds: u32, line: u32) -> Result<(), AllocError>
     ensures { OnOk result (text.new.items ≡ text.old.items ++ line_clock seconds line) }
 {
@@ -92,7 +92,7 @@ fn end_tick(seconds: u32, last: u32, line: u32) -> u64
     u64::min(first + 10 * u64::from(seconds), u64::from(last) + 1)
 }
 
-/// Puts a line after a text, of what is in force from its first tick on.
+/// Adds a line to a text, by what is in force from its first tick on.
 fn append_line(
     text: &mut Vec<u8>,
     bands: &[Band],
@@ -114,7 +114,7 @@ fn append_line(
     Ok(())
 }
 
-/// Puts the head of a line after a text: where it stands, and its clock.
+/// Adds the head of a line to a text: where the line is, and its clock.
 fn append_head(text: &mut Vec<u8>, bands: usize, seconds: u32, line: u32) -> Result<(), AllocError>
     ensures { OnOk result (text.new.items ≡ text.old.items ++ head_text bands seconds line) }
 {
@@ -126,7 +126,7 @@ fn append_head(text: &mut Vec<u8>, bands: usize, seconds: u32, line: u32) -> Res
     Ok(())
 }
 
-/// Puts the labels of bands after a text.
+/// Adds the labels of bands to a text.
 fn append_labels(text: &mut Vec<u8>, bands: &[Band]) -> Result<(), AllocError>
     ensures { OnOk result (text.new.items ≡ text.old.items ++ labels_text 0 bands.now) }
 {
@@ -136,7 +136,7 @@ fn append_labels(text: &mut Vec<u8>, bands: &[Band]) -> Result<(), AllocError>
     Ok(())
 }
 
-/// Puts the label of a band after a text.
+/// Adds the label of a band to a text.
 fn append_label(text: &mut Vec<u8>, place: usize, band: Band) -> Result<(), AllocError>
     ensures { OnOk result (text.new.items ≡ text.old.items ++ label_text place band) }
 {
@@ -150,7 +150,7 @@ fn append_label(text: &mut Vec<u8>, place: usize, band: Band) -> Result<(), Allo
     append(text, b"</text>\n")
 }
 
-/// Puts what a band is called after a text.
+/// Adds the name of a band to a text.
 fn append_name(text: &mut Vec<u8>, kind: Kind, number: u128) -> Result<(), AllocError>
     ensures { OnOk result (text.new.items ≡ text.old.items ++ name_of kind number) }
 {
@@ -169,7 +169,7 @@ fn append_name(text: &mut Vec<u8>, kind: Kind, number: u128) -> Result<(), Alloc
     }
 }
 
-/// Puts the bars of a line after a text, of what is in force from its first tick on.
+/// Adds the bars of a line to a text, by what is in force from its first tick on.
 fn append_plot(
     text: &mut Vec<u8>,
     bands: &[Band],
@@ -192,7 +192,7 @@ fn append_plot(
     Ok(())
 }
 
-/// Puts the frame of the bars of a line after a text, in which a tick is one unit wide.
+/// Adds the frame of the bars of a line to a text. A tick is one unit wide in it.
 fn append_frame(
     text: &mut Vec<u8>,
     bands: usize,
@@ -214,7 +214,7 @@ fn append_frame(
     Ok(())
 }
 
-/// Puts the bars of bands after a text, of what is in force in a line.
+/// Adds the bars of bands to a text, by what is in force in a line.
 fn append_bands(
     text: &mut Vec<u8>,
     bands: &[Band],

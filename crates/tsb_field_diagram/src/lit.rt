@@ -11,8 +11,8 @@ use tsb_log_text::LogRow;
 /// How many phases there are.
 const PHASES: u8 = 16;
 
-/// The bands of a diagram, from top to bottom: preempts, flash, the heads of phases, of which each has its pedestrian
-/// head below it, overlaps and inputs. It has those alone that ever show something.
+/// The bands of a diagram, from top to bottom: preempts, flash, the heads of phases, each with its pedestrian head
+/// below it, overlaps and inputs. It has only those that ever show something.
 pub(crate) fn bands(
     alloc: Global,
     changes: &[Shown],
@@ -31,7 +31,7 @@ pub(crate) fn bands(
     Ok(bands)
 }
 
-/// Adds the bands of a kind, from number 1 to this.
+/// Adds the bands of a kind, from number 1 to this one.
 fn add_all(
     bands: &mut Vec<Band>,
     kind: Kind,

@@ -22,13 +22,13 @@ const DAY: u32 = 86_400;
 /// picture has no lines. `rows` are those of a log of inputs, whose ticks rise: an input that is on in a row is on
 /// until the next row. There may be none. A tick is a tenth of a second, and tick 1 begins at time 0.
 ///
-/// A line has `seconds_per_line` seconds, 1 to 86,400: 0 is taken as 1, and more as 86,400. In each line stand from
-/// top to bottom, where they are ever lit or on, the preempts in service, flash, the head of each phase with its
-/// pedestrian head below it, the overlaps, vehicle detectors, pedestrian detectors and preempt inputs; below them an
-/// axis of seconds, with the clock at minutes. A bar begins at its tick and is its ticks wide. Where a head is dark
-/// there is no bar.
+/// A line has `seconds_per_line` seconds, 1 to 86,400: 0 is taken as 1, and more as 86,400. Each line has from top to
+/// bottom, where they are ever lit or on, the preempts in service, flash, the head of each phase with its pedestrian
+/// head below it, the overlaps, vehicle detectors, pedestrian detectors and preempt inputs; below them it has an axis
+/// of seconds, with the clock at minutes. A bar begins at its tick and is its ticks wide. Where a head is dark there is
+/// no bar.
 ///
-/// `title` is UTF-8 text: what has a meaning in XML is escaped, and a character that XML forbids becomes `?`, as are
+/// `title` is UTF-8 text: what has a meaning in XML is escaped, and a character that XML forbids becomes `?`, such as
 /// U+FFFE, U+FFFF and each control but the tab and ends of lines. The form of the picture is "profile". The error is
 /// that memory ran out.
 pub fn diagram_text(
@@ -58,7 +58,7 @@ fn line_seconds(asked: u32) -> u32
     u32::min(u32::max(asked, 1), DAY)
 }
 
-/// Puts the diagram of these bands after a text.
+/// Adds the diagram of these bands to a text.
 fn append_picture(
     text: &mut Vec<u8>,
     title: &[u8],
@@ -88,7 +88,7 @@ fn page_height(bands: usize, seconds: u32, last: u32) -> u128
     line_top(bands, line_count(seconds, last))
 }
 
-/// Puts all before the lines after a text.
+/// Adds all that comes before the lines to a text.
 fn append_page_head(
     text: &mut Vec<u8>,
     title: &[u8],
@@ -104,7 +104,7 @@ fn append_page_head(
     Ok(())
 }
 
-/// Puts the head of the picture after a text.
+/// Adds the head of the picture to a text.
 fn append_opening(text: &mut Vec<u8>, height: u128) -> Result<(), AllocError>
     ensures { OnOk result (text.new.items ≡ text.old.items ++ opening_text height) }
 {
@@ -118,7 +118,7 @@ fn append_opening(text: &mut Vec<u8>, height: u128) -> Result<(), AllocError>
     Ok(())
 }
 
-/// Puts the title after a text.
+/// Adds the title to a text.
 fn append_titles(text: &mut Vec<u8>, title: &[u8]) -> Result<(), AllocError>
     ensures { OnOk result (text.new.items ≡ text.old.items ++ titles_text title.now) }
 {
@@ -133,7 +133,7 @@ fn append_titles(text: &mut Vec<u8>, title: &[u8]) -> Result<(), AllocError>
     Ok(())
 }
 
-/// Puts the classes and patterns of shapes after a text.
+/// Adds the classes and patterns of shapes to a text.
 fn append_classes(text: &mut Vec<u8>, seconds: u32) -> Result<(), AllocError>
     ensures { OnOk result (text.new.items ≡ text.old.items ++ classes_text seconds) }
 {
@@ -144,7 +144,7 @@ fn append_classes(text: &mut Vec<u8>, seconds: u32) -> Result<(), AllocError>
     Ok(())
 }
 
-/// Puts the pattern of what flashes after a text.
+/// Adds the pattern of what flashes to a text.
 fn append_flash(text: &mut Vec<u8>, seconds: u32) -> Result<(), AllocError>
     ensures { OnOk result (text.new.items ≡ text.old.items ++ flash_text seconds) }
 {
@@ -160,7 +160,7 @@ fn append_flash(text: &mut Vec<u8>, seconds: u32) -> Result<(), AllocError>
     Ok(())
 }
 
-/// Puts the pattern of yellow after a text.
+/// Adds the pattern of yellow to a text.
 fn append_yellow(text: &mut Vec<u8>, seconds: u32) -> Result<(), AllocError>
     ensures { OnOk result (text.new.items ≡ text.old.items ++ yellow_text seconds) }
 {
@@ -176,7 +176,7 @@ fn append_yellow(text: &mut Vec<u8>, seconds: u32) -> Result<(), AllocError>
     Ok(())
 }
 
-/// Puts the pattern of clearance after a text.
+/// Adds the pattern of clearance to a text.
 fn append_clearance(text: &mut Vec<u8>, seconds: u32) -> Result<(), AllocError>
     ensures { OnOk result (text.new.items ≡ text.old.items ++ clearance_text seconds) }
 {
@@ -192,7 +192,7 @@ fn append_clearance(text: &mut Vec<u8>, seconds: u32) -> Result<(), AllocError>
     Ok(())
 }
 
-/// Puts the legend after a text.
+/// Adds the legend to a text.
 fn append_legend(text: &mut Vec<u8>, seconds: u32) -> Result<(), AllocError>
     ensures { OnOk result (text.new.items ≡ text.old.items ++ legend_text seconds) }
 {

@@ -5,7 +5,7 @@ ghost use Rattle.tsb_field_diagram.specs.Text.{escaped, escaped_byte, is_forbidd
 use crate::write::append;
 use std::alloc::AllocError;
 
-/// Puts a title after a text: what has a meaning in XML is escaped, and a character that XML forbids becomes `?`.
+/// Adds a title to a text: what has a meaning in XML is escaped, and a character that XML forbids becomes `?`.
 pub(crate) fn append_title(text: &mut Vec<u8>, title: &[u8]) -> Result<(), AllocError>
     ensures { OnOk result (text.new.items ≡ text.old.items ++ escaped title.now) }
 {
@@ -29,7 +29,7 @@ fn is_no_character(first: u8, second: u8, third: u8) -> bool
     first == 0xEF && second == 0xBF && (third == 0xBE || third == 0xBF)
 }
 
-/// Puts a byte of a title after a text.
+/// Adds a byte of a title to a text.
 fn append_byte(text: &mut Vec<u8>, byte: u8) -> Result<(), AllocError>
     ensures { OnOk result (text.new.items ≡ text.old.items ++ escaped_byte byte) }
 {
@@ -43,7 +43,7 @@ fn append_byte(text: &mut Vec<u8>, byte: u8) -> Result<(), AllocError>
     }
 }
 
-/// Puts a byte after a text that has no meaning in XML.
+/// Adds a byte that has no meaning in XML to a text.
 fn append_plain(text: &mut Vec<u8>, byte: u8) -> Result<(), AllocError>
     ensures { OnOk result (text.new.items ≡ text.old.items ++ plain_byte byte) }
 {

@@ -1,18 +1,18 @@
-//! Parts of a text, put after it.
+//! Parts that are added to a text.
 ghost use Rattle.std.specs.Prelude.{◌≡◌, ◌++◌, OnOk};
 ghost use Rattle.tsb_field_diagram.specs.Text.{attribute_text, clock_text, named_text, number_text, two_digits};
 
 use itoa::Buffer;
 use std::alloc::AllocError;
 
-/// Puts a part after a text. Where memory runs out, the text is as it was.
+/// Adds a part to a text. Where memory runs out, the text is as it was.
 pub(crate) fn append(text: &mut Vec<u8>, part: &[u8]) -> Result<(), AllocError>
     ensures { OnOk result (text.new.items ≡ text.old.items ++ part.now) }
 {
     text.extend_from_slice(part)
 }
 
-/// Puts a number after a text.
+/// Adds a number to a text.
 pub(crate) fn append_number(text: &mut Vec<u8>, number: u128) -> Result<(), AllocError>
     ensures { OnOk result (text.new.items ≡ text.old.items ++ number_text number) }
 {
@@ -20,7 +20,7 @@ pub(crate) fn append_number(text: &mut Vec<u8>, number: u128) -> Result<(), Allo
     text.extend_from_slice(buffer.format(number).as_bytes())
 }
 
-/// Puts a name and a number after a text.
+/// Adds a name and a number to a text.
 pub(crate) fn append_named(text: &mut Vec<u8>, name: &[u8], number: u128) -> Result<(), AllocError>
     ensures { OnOk result (text.new.items ≡ text.old.items ++ named_text name.now number) }
 {
@@ -28,7 +28,7 @@ pub(crate) fn append_named(text: &mut Vec<u8>, name: &[u8], number: u128) -> Res
     append_number(text, number)
 }
 
-/// Puts a number in double quotes after a text, where `name` ends with the first of them.
+/// Adds a number in double quotes to a text, where `name` ends with the first of them.
 pub(crate) fn append_attribute(
     text: &mut Vec<u8>,
     name: &[u8],
@@ -41,7 +41,7 @@ pub(crate) fn append_attribute(
     append(text, b"\"")
 }
 
-/// Puts the last two digits of a number after a text.
+/// Adds the last two digits of a number to a text.
 fn append_two_digits(text: &mut Vec<u8>, number: u128) -> Result<(), AllocError>
     ensures { OnOk result (text.new.items ≡ text.old.items ++ two_digits number) }
 {
@@ -50,7 +50,7 @@ fn append_two_digits(text: &mut Vec<u8>, number: u128) -> Result<(), AllocError>
     append(text, &[tens, ones])
 }
 
-/// Puts the clock of a second after a text, as `h:mm:ss`.
+/// Adds the clock of a second to a text, as `h:mm:ss`.
 pub(crate) fn append_clock(text: &mut Vec<u8>, second: u128) -> Result<(), AllocError>
     ensures { OnOk result (text.new.items ≡ text.old.items ++ clock_text second) }
 {
