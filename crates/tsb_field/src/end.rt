@@ -1,4 +1,4 @@
-//! How the program ends, and the lines that it tells.
+//! How the program ends, and the lines that it writes then.
 ghost use Rattle.std.specs.Prelude.{◌≡◌, IfOk, string_bytes};
 ghost use Rattle.tsb_field.specs.Lines.{Refuses, TellsFault, TellsLate, TellsLeftOut, TellsWords, left_out_line};
 ghost use Rattle.tsb_field.specs.Ends.{Written};
@@ -17,7 +17,7 @@ const USAGE: &[u8] =
     or tsb_field diagram [--log LOG] [--title TEXT] [--seconds-per-line N]
 ";
 
-/// Tells why words ask for nothing, and gives the status that the program ends with.
+/// Says why words ask for nothing, and gives the status that the program ends with.
 pub(crate) fn tell_words_fault<E: Write>(errors: &mut E, fault: WordsError) -> u8
     ensures { TellsWords fault result (E.contents errors.old) (E.contents errors.new) }
 {
@@ -27,7 +27,7 @@ pub(crate) fn tell_words_fault<E: Write>(errors: &mut E, fault: WordsError) -> u
     }
 }
 
-/// Tells what ended a filter.
+/// Says what ended a filter.
 pub(crate) fn tell_fault<E: Write>(alloc: Global, errors: &mut E, fault: FilterError) -> u8
     ensures { TellsFault fault result (E.contents errors.old) (E.contents errors.new) }
 {
@@ -39,14 +39,14 @@ pub(crate) fn tell_fault<E: Write>(alloc: Global, errors: &mut E, fault: FilterE
     }
 }
 
-/// Tells that a tick has no time, as a fault of the words.
+/// Says that a tick has no time, as a fault of the words.
 pub(crate) fn tell_late<E: Write>(errors: &mut E) -> u8
     ensures { TellsLate result (E.contents errors.old) (E.contents errors.new) }
 {
     tell(errors, Status::BadWords, b"events: past the year 9999\n")
 }
 
-/// Tells why what was read was refused.
+/// Says why what was read was refused.
 pub(crate) fn refuse<E: Write, T: Display + Drop>(alloc: Global, errors: &mut E, fault: T) -> u8
     ensures { Refuses 1 (T.output fault) result (E.contents errors.old) (E.contents errors.new) }
 {
@@ -56,7 +56,7 @@ pub(crate) fn refuse<E: Write, T: Display + Drop>(alloc: Global, errors: &mut E,
     }
 }
 
-/// Tells what a filter left out, where it left something out.
+/// Says what a filter left out, where it left something out.
 pub(crate) fn tell_left_out<E: Write>(alloc: Global, errors: &mut E, left_out: LeftOut) -> u8
     ensures { TellsLeftOut left_out result (E.contents errors.old) (E.contents errors.new) }
 {

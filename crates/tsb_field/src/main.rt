@@ -1,5 +1,5 @@
-//! Field files in, events and pictures out: `tsb_field log` makes a log of `tsb` of a controller's event log, and
-//! `tsb_field events` and `tsb_field diagram` make an event log and a phase diagram of what `tsb` answers.
+//! Field files in, events and pictures out: `tsb_field log` makes a log for `tsb` from a controller's event log, and
+//! `tsb_field events` and `tsb_field diagram` make an event log and a phase diagram from what `tsb` answers.
 #![tactic(auto)]
 
 mod end;
@@ -25,7 +25,7 @@ fn main(rt: HostRuntime) -> ExitCode {
     ExitCode::from(status)
 }
 
-/// The words that the program was given, of which the first is its name.
+/// The words that the program was given, the first of which is its name.
 fn words_given(rt: &HostRuntime) -> Result<Vec<String>, WordsError> {
     Ok(env::args(rt)?.collect(rt.alloc())?)
 }

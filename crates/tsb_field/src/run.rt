@@ -21,13 +21,13 @@ use tsb_log_text::{Log, LogError};
 use tsb_program::{Failure, Files, ReadError, fail, log_of};
 use tsb_words::field_files::{Asked, read_words};
 
-/// What stands over a diagram where words give no title.
+/// The title of a diagram where words give none.
 const TITLE: &[u8] = b"Phase diagram";
 
-/// How many seconds a line of a diagram shows where words say nothing of it.
+/// How many seconds a line of a diagram shows where words don't say.
 const SECONDS: u32 = 300;
 
-/// Does what the words ask for, of which the first is the program's name, and gives the status that the program ends
+/// Does what the words ask for, the first of which is the program's name, and gives the status that the program ends
 /// with: 0 where all was done, 1 for bad input, 2 for bad words, 3 where a read, a write or memory failed.
 ///
 /// The log, the events or the diagram go to `output`, and what was left out, faults, bad words and failures to `errors`.
@@ -68,7 +68,7 @@ pub fn run_words<S: AsStr, F: Files, R: Read, W: Write, E: Write>(
     }
 }
 
-/// Makes a log of a controller's event log.
+/// Makes a log from a controller's event log.
 fn write_log<R: Read, W: Write, E: Write>(
     alloc: Global,
     from: Moment,
@@ -84,7 +84,7 @@ fn write_log<R: Read, W: Write, E: Write>(
     match log(alloc, from, bytes_of(device), mapped, input, output) {
         Ok(left_out) => tell_left_out(alloc, errors, left_out),
         Err(fault) => {
-            // What is known goes out; that the fault is told is more than that this fails.
+            // What is known goes out. If that fails, the fault that is reported matters more.
             let _ = pass_on(output);
             tell_fault(alloc, errors, fault)
         }
@@ -101,7 +101,7 @@ fn bytes_of(name: Option<&str>) -> Option<&[u8]>
     }
 }
 
-/// Makes a controller's event log of what a session answers.
+/// Makes a controller's event log from what a session answers.
 fn write_events<F: Files, R: Read, W: Write, E: Write>(
     alloc: Global,
     from: Moment,
@@ -136,7 +136,7 @@ fn write_events<F: Files, R: Read, W: Write, E: Write>(
     }
 }
 
-/// The title that words give, or what stands there where they give none.
+/// The title that words give, or the usual one where they give none.
 fn title_of(title: Option<&str>) -> &[u8]
     ensures { result.now ≡ title_of (option_map (λ title. title.now) title.entry) }
 {
@@ -146,7 +146,7 @@ fn title_of(title: Option<&str>) -> &[u8]
     }
 }
 
-/// Makes a phase diagram of what a session answers.
+/// Makes a phase diagram from what a session answers.
 fn write_diagram<F: Files, R: Read, W: Write, E: Write>(
     alloc: Global,
     path: Option<&str>,
@@ -181,7 +181,7 @@ fn write_diagram<F: Files, R: Read, W: Write, E: Write>(
     }
 }
 
-/// The log that words name: that of no row where they name none.
+/// The log that words name, or one without rows where they name none.
 fn log_named<F: Files>(
     alloc: Global,
     files: &F,
@@ -195,7 +195,7 @@ fn log_named<F: Files>(
     }
 }
 
-/// Tells why there is no log.
+/// Says why there is no log.
 fn refuse_log<E: Write>(alloc: Global, errors: &mut E, fault: ReadError<LogError>) -> u8
     ensures { TellsNoLog fault result (E.contents errors.old) (E.contents errors.new) }
 {
