@@ -5,7 +5,7 @@ use tsb_event_text::read_moment;
 use tsb_field_log::{Kind, Rows, Street, Wire, row_line, wires};
 use tsb_field_streams::{Filter, FilterError, LeftOut};
 
-/// What a filter makes of lines from 07:00:00 on.
+/// What a filter gives for lines from 07:00:00 on.
 #[derive(Drop)]
 struct Filtered {
     text: Vec<u8>,

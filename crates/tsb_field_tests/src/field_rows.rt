@@ -1,4 +1,4 @@
-//! Logs made of events of inputs: wires, rows and their lines. Expected values are worked by hand from the rules.
+//! Logs made from events of inputs: wires, rows and their lines. Expected values are worked by hand from the rules.
 
 use std::alloc::{AllocError, Global};
 use std::test::Fail;
@@ -122,7 +122,7 @@ fn write(text: &mut Vec<u8>, rows: Rows) -> Result<(), AllocError> {
     Ok(())
 }
 
-/// The log of events, all of which lie within the ticks of a bench.
+/// The log of events, all of which are within the ticks of a bench.
 fn log(alloc: Global, events: &[InputEvent]) -> Result<Vec<u8>, AllocError> {
     let mut text = Vec::new(alloc);
     let mut street = Street::new(alloc, START, &[WIRE])?;

@@ -1,4 +1,4 @@
-//! Tests of the crates of field files. A crate with tests is proved a second time with them, so they stand here.
+//! Tests of the crates of field files. A crate with tests is proved a second time with them, so they are here.
 #![tactic(auto)]
 
 #[cfg(test)]

@@ -1,4 +1,4 @@
-//! Streams of events and the logs that are written of them. Expected values are worked by hand from the rules.
+//! Streams of events and the logs that are written from them. Expected values are worked by hand from the rules.
 
 use std::alloc::Global;
 use std::io::{self, ErrorKind, Read, Write};
@@ -81,7 +81,7 @@ fn whole(text: &'static [u8]) -> Pieces {
     }
 }
 
-/// What is written of a text, and how it ends.
+/// What is written for a text, and how it ends.
 fn written(
     alloc: Global,
     device: Option<&[u8]>,
@@ -103,7 +103,7 @@ fn gives(alloc: Global, reader: Pieces, wanted: &[u8]) -> bool {
     text.as_slice() == wanted && ended == Ok(none)
 }
 
-/// Whether a text ends by this fault, with this much written.
+/// Whether a text ends with this fault, and this much written.
 fn ends(alloc: Global, reader: Pieces, wanted: &[u8], fault: FilterError) -> bool {
     let (text, ended) = written(alloc, None, &[], reader);
     text.as_slice() == wanted && ended == Err(fault)
