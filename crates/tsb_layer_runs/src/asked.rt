@@ -12,7 +12,7 @@ pub struct Asked {
 }
 
 impl Asked {
-    /// What the words ask for: `time ROUNDS TIMES`, after the program's name. One round if they tell no number; `None`
+    /// What the words ask for: `time ROUNDS TIMES`, after the program's name. One round if they give no number; `None`
     /// if there is no word.
     pub fn read(words: &[String]) -> Option<Asked> {
         match words.get(1) {

@@ -12,7 +12,7 @@ use tsb_calls::{Calls, Decided, Observed};
 use tsb_cells::Reversible;
 use tsb_objects::{Called, Checked, PhaseSet, Preempt};
 
-/// What a tick gives: what is observed, the four sets that the calls have to answer, and what the rings then decide of
+/// What a tick gives: what is observed, the four sets that the calls have to answer, and what the rings then decide for
 /// phases and preempts.
 #[derive(Clone, Copy, Drop)]
 pub struct Given {
@@ -98,7 +98,7 @@ impl Ticked for Calling {
         same(*answer == given.told)
     }
 
-    /// A tick that tells nothing is due, so that all that is told is found.
+    /// A tick with an empty answer is due, so that no answer is missed.
     #[inline(always)]
     fn is_due(answer: &Called) -> bool {
         let phases = answer.callable.union(answer.conflict);

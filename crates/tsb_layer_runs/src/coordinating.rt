@@ -20,8 +20,8 @@ pub struct Given {
     pattern: u32,
 }
 
-/// Coordination; of its ticks the last, the pattern that was selected, the tick at which it may ask something else, and
-/// what it asked.
+/// Coordination; the last of its ticks, the pattern that was selected, the tick at which it may ask for something else,
+/// and what it asked for.
 #[derive(Drop)]
 pub struct Coordinating {
     layer: Coord,
@@ -106,8 +106,8 @@ impl Ticked for Coordinating {
         })
     }
 
-    /// One tick, as a bench has it: what coordination asked stands until it is due, or until another pattern is
-    /// selected. It answers whether it asks another force-off, or another pattern runs.
+    /// One tick, as a bench has it: what coordination asked for holds until it is due, or until another pattern is
+    /// selected. It answers whether it asks for another force-off, or another pattern runs.
     #[inline(always)]
     fn tick(&mut self, given: &Given, plan: &Checked, out: &mut Changes) -> Result<bool, Fault> {
         if self.now >= limits::TICKS {

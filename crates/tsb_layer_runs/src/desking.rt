@@ -98,8 +98,8 @@ impl Driven for Desking {
         }
     }
 
-    /// A line `begin`, `set`, `verify`, `commit` or `abort`: the station, of a set the object, the index and the
-    /// value, of a commit whether something is in service and whether a preempt is; the refusal, what the desk then
+    /// A line `begin`, `set`, `verify`, `commit` or `abort`: the station; for a set the object, the index and the
+    /// value; for a commit whether something is in service and whether a preempt is; the refusal, what the desk then
     /// says, and what changes.
     fn take(&mut self, kind: &[u8], numbers: Numbers, _plan: &Checked) -> Result<u32, Fault> {
         let mut numbers = numbers;

@@ -12,7 +12,7 @@ use tsb_objects::{
     Checked, Intervals, Lamp, Overlap, PedestrianColor, Pedestrians, Phase, PhaseSet, SignalColor,
 };
 
-/// What the heads are told: intervals, pedestrian parts and both commitments.
+/// What the heads are given: intervals, pedestrian parts and both commitments.
 #[derive(Clone, Copy, Drop)]
 pub struct Given {
     intervals: Intervals,
@@ -21,7 +21,7 @@ pub struct Given {
     ring_2: Option<Phase>,
 }
 
-/// What the heads were told last by a line, and what the lamps showed at the last tick.
+/// What a line gave the heads last, and what the lamps showed at the last tick.
 #[derive(Drop)]
 pub struct Heading {
     told: Given,
@@ -29,7 +29,7 @@ pub struct Heading {
 }
 
 impl Heading {
-    /// A line `d`: what the heads are told; the sets of heads that show each aspect.
+    /// A line `d`: what the heads are given; the sets of heads that show each aspect.
     fn show(&mut self, numbers: Numbers, plan: &Checked) -> Result<u32, Fault> {
         let mut numbers = numbers;
         self.told = Heading::read(&mut numbers)?;
@@ -47,7 +47,7 @@ impl Heading {
         Ok(1)
     }
 
-    /// A line `j`: a lamp that was injected and one that is, over the display that was told last; the trip.
+    /// A line `j`: a lamp that was injected and one that is, over the display that was given last; the trip.
     fn judge(&self, numbers: Numbers, plan: &Checked) -> Result<u32, Fault> {
         let mut numbers = numbers;
         let before = lamp(&mut numbers)?;

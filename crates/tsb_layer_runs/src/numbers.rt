@@ -136,7 +136,7 @@ impl<'a> Numbers<'a> {
         }
     }
 
-    /// Whether the rest of the line are these changes: how many there are, and of each the cell and what it held.
+    /// Whether the rest of the line is these changes: how many there are, and for each the cell and what it held.
     pub fn tells_changes(&mut self, changes: &[(u16, u32)]) -> Result<(), Fault> {
         self.tells(changes.len().min(65_535) as u32)?;
         for (cell, held) in changes {

@@ -1,4 +1,4 @@
-//! Phase timing alone, with the moves that the rings make of it.
+//! Phase timing alone, with the moves that the rings make by it.
 ghost use Rattle.std.specs.Prelude.{◌≡◌, ◌<◌, ◌+◌, ◌^◌, true, false};
 ghost use Rattle.arrayvec.specs.ArrayVec.{array_vec_len};
 ghost use Rattle.tsb_phase.specs.Cells.{IsBy};
@@ -153,7 +153,7 @@ impl Ticked for Phasing {
         same(*answer == given.told)
     }
 
-    /// A tick that tells nothing is due, so that all that is told is found.
+    /// A tick with an empty answer is due, so that no answer is missed.
     #[inline(always)]
     fn is_due(answer: &Timing) -> bool {
         let ends = answer.ready.union(answer.over);
@@ -179,7 +179,7 @@ impl Ticked for Phasing {
     }
 }
 
-/// What is asked of phases; they read nothing of omitted phases and of a target.
+/// What is asked of phases; they don't read omitted phases or a target.
 fn orders(numbers: &mut Numbers) -> Result<Orders, Fault> {
     Ok(Orders {
         hold: numbers.phases()?,

@@ -14,7 +14,7 @@ pub struct Plans {
 }
 
 impl Plans {
-    /// The plans whose texts stand in lines, one each.
+    /// The plans whose texts are in lines, one in each.
     pub fn read(alloc: Global, text: &[u8]) -> Anyhow<Plans> {
         let mut plans = Vec::new(alloc);
         let mut rest = text;

@@ -66,7 +66,7 @@ impl Ticked for Ringing {
         Ok(moves)
     }
 
-    /// Of each ring the phase that ends, the one that clears, the one that starts and the one that it commits to; the
+    /// For each ring the phase that ends, the one that clears, the one that starts and the one that it commits to; the
     /// side that a crossing goes to, and whether one is completed.
     fn tells(
         &self,

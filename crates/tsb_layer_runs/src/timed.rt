@@ -38,7 +38,7 @@ pub fn run<T: Driven + Ticked>(
     Ok(sum)
 }
 
-/// Runs a layer from power-up over ticks of which each repeats so many times, as a bench that passes over ticks: it
+/// Runs a layer from power-up over ticks of which each repeats so many times, like a bench that passes over ticks: it
 /// asks after a tick that changed nothing how many may be passed over. Gives a sum as `run` does, of the other ticks.
 #[inline(never)]
 pub fn run_passing<T: Driven + Ticked>(
