@@ -48,7 +48,7 @@ pub struct Bench {
     pub(crate) tick: u32,
     pub(crate) cabinet: Cabinet,
     pub(crate) history: History,
-    /// The cells that the newest input changed. It is kept as it takes long to make, and says nothing else.
+    /// The cells that the newest input changed. It is kept because it takes long to make, and says nothing more.
     changes: Changes,
 }
 
@@ -81,7 +81,7 @@ fn kind_of(input: &Input) -> Kind
     }
 }
 
-/// By how much an input of this kind moves the tick number.
+/// How far an input of this kind moves the tick number.
 pub(crate) fn ticks_of(kind: Kind) -> u32
     ensures { result ≡ ticks_of kind }
 {

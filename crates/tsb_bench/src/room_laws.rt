@@ -2,7 +2,7 @@
 ghost use Rattle.tsb_bench.specs.Room.{RoomLasts};
 
 /// Reserved room lasts. Where the history has room for n records of k entries each, none of the next n inputs that can
-/// change k cells each at most is refused as out of memory. It follows from four clauses of `Bench::apply`: `few`,
+/// each change at most k cells is refused as out of memory. It follows from four clauses of `Bench::apply`: `few`,
 /// `wanting`, `room`, `err`.
 pub fn room_lasts()
     ensures { RoomLasts }

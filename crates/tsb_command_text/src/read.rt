@@ -15,7 +15,7 @@ use tsb_types::Watch;
 /// The most bytes that a line may have, its end not counted.
 pub const LINE: usize = 200;
 
-/// What a line asks, which is given without its end.
+/// What a line asks. The line is given without its end.
 pub fn reading_of(line: &[u8]) -> Reading
     ensures { result ≡ reading line.now }
 {
@@ -31,8 +31,8 @@ pub fn reading_of(line: &[u8]) -> Reading
     }
 }
 
-/// The command of a line, which is given without its end. `None` where it is no command: also where the
-/// line is blank, a comment, or of over `LINE` bytes.
+/// The command of a line. The line is given without its end. `None` where it is no command: also where the line is
+/// blank, a comment, or of over `LINE` bytes.
 pub fn read_command(line: &[u8]) -> Option<Command>
     ensures { result ≡ command_of line.now }
 {

@@ -14,7 +14,7 @@ pub enum Column {
     Time,
     /// What happened.
     Code,
-    /// To which channel, phase or the like.
+    /// The channel, phase or the like that it happened to.
     Parameter,
 }
 
@@ -63,7 +63,7 @@ pub fn header(line: &[u8]) -> Option<Columns>
     })
 }
 
-/// The place of the first field that names the column, of a line that has fields.
+/// The place of the first field that names the column, in a line that has fields.
 fn place(line: &[u8], column: Column) -> Option<usize>
     ensures { (fields : List (List ℕ)) → fields_of line.now ≡ Some fields → result ≡ place_from 0 column fields }
 {

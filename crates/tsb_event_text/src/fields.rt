@@ -62,7 +62,7 @@ pub(crate) fn has_fields(line: &[u8]) -> bool
     }
 }
 
-/// The field in this place, from 0, of a line that has fields.
+/// The field in this place, from 0, in a line that has fields.
 pub(crate) fn field_at(line: &[u8], place: usize) -> Option<&[u8]>
     ensures { (fields : List (List ℕ)) → fields_of line.now ≡ Some fields
         → option_map (λ field. field.now) result ≡ slice_get fields place }

@@ -16,7 +16,7 @@ pub struct EventRow {
     pub moment: Moment,
     /// What happened: a number of the Indiana Traffic Signal Hi Resolution Data Logger Enumerations.
     pub code: u32,
-    /// To which channel, phase or the like.
+    /// The channel, phase or the like that it happened to.
     pub parameter: u32,
 }
 

@@ -27,7 +27,7 @@ struct Stream {
 }
 
 impl Stream {
-    /// Before the first byte.
+    /// A stream before its first byte.
     fn new(alloc: Global) -> Stream
         ensures { StandsAt start result }
     {

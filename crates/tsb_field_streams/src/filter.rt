@@ -16,7 +16,7 @@ use tsb_lines::is_skipped;
 /// The greatest length of a line, in bytes.
 pub const LINE: usize = 1000;
 
-/// The most rows of a log: of 39 bytes each, in 64 MiB.
+/// The most rows of a log: as many of 39 bytes as 64 MiB hold.
 pub const MOST_ROWS: u32 = 1_720_740;
 
 /// What a filter left out. A count stays at 4,294,967,295 once it has come to it.
@@ -54,8 +54,8 @@ const NO_ROWS: Rows = Rows {
 impl<'a> Filter<'a> {
     ghost use Rattle.tsb_field_streams.specs.Standing.{StandsAt, Takes, left_out_of};
 
-    /// Before the first line. Rows of `device` count, byte for byte, or all where it is `None`; `wires` are those that the
-    /// street was made with, which has taken no event yet.
+    /// A filter before the first line. Rows of `device` count, byte for byte, or all where it is `None`; `wires` are
+    /// those that the street was made with, which has taken no event yet.
     #[tactic(auto, using(crate::proofs::FilterLemmas::none_known))]
     pub fn new(device: Option<&'a [u8]>, wires: &'a [Wire], street: Street) -> Filter<'a>
         ensures { (g : Given) → g.device ≡ option_map (λ d. d.now) device.entry → g.wires ≡ wires.now → HasTaken g.from g.wires [] street

@@ -6,16 +6,16 @@ ghost use Rattle.tsb_laws.specs.AllRed.{AllRedEnds};
 ghost use Rattle.tsb_laws.specs.Coordination.{CoordinatedEndByForceOff, OmittedAreNotServed};
 
 /// `greens`: The intergreen holds. Between the tick that ends a green and the one that starts a phase which is not
-/// concurrent lie at least the yellow change and the red clearance of the first, across inputs of every kind. Each time
-/// is that of the plan in effect when what it times ends.
+/// concurrent there are at least the yellow change and the red clearance of the first, across inputs of every kind.
+/// Each time is that of the plan in effect when what it times ends.
 ///
 /// Needs: an untripped stretch.
 /// Mistake: a clearance that is over as its yellow ends, `over_after_yellow` (`clears_on`, `waits_3`, `would_start_3`).
 /// Witness: `an_intergreen` of CommitmentRuns.
 ///
 /// `walks`: Pedestrians have cleared before a conflicting green. From the beginning of a walk to the end of its green
-/// lie at least its walk and its pedestrian clearance, and then the intergreen. Under a preempt that ends the phase
-/// these are the smaller times.
+/// there are at least its walk and its pedestrian clearance, and then comes the intergreen. Under a preempt that ends
+/// the phase these are the smaller times.
 ///
 /// Needs: an untripped stretch.
 /// Not said: that the time is enough to cross the road.

@@ -64,8 +64,8 @@ pub trait Ticked: Drop {
         false
     }
 
-    /// How many ticks after the next one change nothing where that does not, and where they are given the same. A layer
-    /// without timers changes nothing then.
+    /// How many ticks after the next one change nothing where that one changes nothing and they are given the same. A
+    /// layer without timers changes nothing then.
     #[inline(always)]
     fn spare(&self, _given: &Self::Given, _plan: &Checked) -> u32 {
         u32::MAX

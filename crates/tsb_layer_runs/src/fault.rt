@@ -9,7 +9,7 @@ pub enum Fault {
     /// It can't be read.
     #[error("malformed")]
     Malformed,
-    /// The layer answers, refuses or changes something else than the line says.
+    /// The layer answers, refuses or changes something other than the line says.
     #[error("differs")]
     Differs,
     /// There is no memory for it.

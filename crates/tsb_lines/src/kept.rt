@@ -24,7 +24,7 @@ impl<const MOST: usize> Model for KeptLine<MOST> {
 }
 
 impl<const MOST: usize> KeptLine<MOST> {
-    /// Before the first byte of a line.
+    /// A line before its first byte.
     pub fn new() -> KeptLine<MOST>
         ensures { result ≡ [] }
     {

@@ -91,7 +91,7 @@ impl Listed {
         Ok(())
     }
 
-    /// The index that this text is.
+    /// The index that this text spells.
     fn index(self, text: &str) -> Option<u32>
         ensures within { IfSome result (λ i. has_index_in self.version self.object i ≡ true) }
         ensures named { result ≡ index_named (indices_in self.version self.object) text.now }

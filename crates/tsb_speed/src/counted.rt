@@ -14,7 +14,7 @@ pub struct Counted {
 }
 
 impl Counted {
-    /// Before anything is written.
+    /// The counts before anything is written.
     pub fn none() -> Counted {
         Counted {
             lines: 0,

@@ -8,7 +8,7 @@
 //! - `all`: these four, one after the other;
 //! - `log`: the log is written.
 //!
-//! What was counted is written, and with a fifth word, `times`, also how long it took. Without a word nothing is done.
+//! What was counted is written, and with a fifth word, `times`, also how long it took. Without words nothing is done.
 #![tactic(auto)]
 
 mod asked;

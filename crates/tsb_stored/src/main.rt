@@ -20,7 +20,7 @@ use anyhow::{Context, Result};
 use std::fs;
 use std::io::{self, BufWriter, Write};
 
-/// Sessions of the whole controller. These files are read in the folder that the program is run in, and so are all
+/// Sessions of the whole controller. These files are read from the folder that the program is run in, and so are all
 /// others.
 const SESSIONS: [&str; 6] = ["aimed", "even", "late", "mangled", "tripped", "worked"];
 

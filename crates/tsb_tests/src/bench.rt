@@ -204,7 +204,7 @@ fn keeps_plans_that_break_a_rule_out(rt: HostRuntime) {
 }
 
 /// With ample memory no tick is refused up to the last one that there is, the bench can be copied there, and all can be
-/// taken back. An unproved run by `rt try`, which watches each access, does not end in its time.
+/// taken back. An unproved run by `rt try`, which watches each access, does not end in time.
 #[test]
 fn runs_to_the_last_tick(rt: HostRuntime) {
     let Ok(plan) = Checked::new(Plan::two()) else {

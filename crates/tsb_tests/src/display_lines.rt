@@ -13,8 +13,8 @@ fn quad(rt: &impl Abort) -> Checked {
     }
 }
 
-/// What the heads show while phases of the list `green` are Green and those of `yellow` are Yellow, with a pedestrian
-/// part of those of `walk` and of `clearance`, and no commitment.
+/// What the heads show while the phases of the list `green` are Green and those of `yellow` are Yellow, pedestrians
+/// walk with those of `walk` and clear with those of `clearance`, and no commitment is made.
 fn shown(
     plan: &Checked,
     green: u16,

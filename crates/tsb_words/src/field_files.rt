@@ -26,7 +26,7 @@ use wires::add_option;
 /// What the words ask for.
 #[derive(Drop)]
 pub enum Asked<'a> {
-    /// A log of inputs, made of the events of a controller's log.
+    /// A log of inputs, made from the events of a controller's log.
     Log {
         /// The moment at which tick 1 begins.
         from: Moment,
@@ -36,7 +36,7 @@ pub enum Asked<'a> {
         /// words.
         wires: Vec<Wire>,
     },
-    /// Events of a controller's log, made of display lines.
+    /// Events of a controller's log, made from display lines.
     Events {
         /// The moment at which tick 1 begins.
         from: Moment,
