@@ -186,7 +186,7 @@ fn undo_layers(controller: &mut Controller, monitor: &mut Bank<MONITOR_CELLS>, c
     }
 }
 
-/// Puts back what a record holds of plan and desk, which few records have.
+/// Puts back what a record holds of plan and desk; few records hold any of it.
 fn undo_plan_and_desk(plan: &mut Checked, desk: &mut Desk, change: &Record<'_>)
     requires ranged { AreInRange (apply_diff plan.old.plan.values (part 0 PLAN_CELLS change.now.entries)) }
     requires passed { first_broken (plan_in (apply_diff plan.old.plan.values (part 0 PLAN_CELLS change.now.entries))) ≡ None }

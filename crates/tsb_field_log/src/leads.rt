@@ -108,7 +108,7 @@ pub(crate) fn row_of(leads: &[Lead]) -> Row
     row
 }
 
-/// The row with the input on that a wire leads to, where a bench has that input.
+/// The row with the input of a wire switched on, where a bench has that input.
 fn with_input(row: Row, wire: Wire) -> Row
     ensures { (kind : Kind) (number : ℕ) → has_input result kind number
         ≡ (has_input row kind number || leads_to wire kind number && is_input kind number) }

@@ -130,7 +130,7 @@ const DARK_LINE: &[u8] = b"<svg width=\"1160\" height=\"36\" y=\"64\">
 </svg>
 ";
 
-/// What remains of those of these lines that are display lines.
+/// The replay of the display lines among these lines.
 fn replay(alloc: Global, lines: &[&[u8]]) -> Result<Replay, AllocError> {
     let mut replay = Replay::new(alloc);
     for line in lines {

@@ -1,5 +1,5 @@
-//! Long runs with ample memory. A call that may answer `Memory` does not do so at any length: beyond 65,536 and beyond
-//! 1,000,000.
+//! Long runs with ample memory. A call that may answer `Memory` does not do so at any length, not beyond 65,536 and not
+//! beyond 1,000,000.
 
 use std::alloc::{AllocError, Global};
 use std::test::Fail;

@@ -163,7 +163,7 @@ fn a_text_of_the_limit_is_read(rt: HostRuntime) {
     assert!(rt; larger.as_str() == "plan: too large");
 }
 
-/// The fault of a text as long as the limit is reported as that of a short one is.
+/// The fault of a text of the greatest length is reported as that of a short one.
 #[test]
 fn a_text_of_the_limit_is_judged(rt: HostRuntime) {
     let wanted = [

@@ -50,7 +50,7 @@ pub(crate) fn undone_line(kind: Kind) -> &'static [u8]
     }
 }
 
-/// The line that says that the bench took this command; `bench` is as it is after it.
+/// The line that says that the bench took this command, which left it as `bench`.
 pub(crate) fn taken_line(command: &Cmd, bench: &Bench) -> &'static [u8]
     ensures line { result.now ≡ taken_line command.now (state_of bench.now) }
     ensures short { length result.now ≤ 63 }
