@@ -298,9 +298,9 @@ impl Bench {
         Ok(())
     }
 
-    /// Goes back by so many ticks, as `seek` does.
+    /// Goes back by this many ticks, as `seek` does.
     ///
-    /// `Nothing` says that so many ticks have not passed, and nothing has changed. It takes no memory.
+    /// `Nothing` says that fewer ticks have passed, and nothing has changed. It takes no memory.
     pub fn back(&mut self, ticks: u32) -> Result<(), Nothing>
         ensures ok { OnOk result (whole self.new ≡ sought (self.old.tick - ticks) (state_of self.old) self.old.records) }
         ensures reached { OnOk result (self.new.tick + ticks ≡ self.old.tick) }
@@ -317,7 +317,7 @@ impl Bench {
     }
 
     /// The tick number of the newest change of the watched value that was not taken back; `None` where it never
-    /// changed. An input that is no tick counts at the tick number in force (profile). It takes no memory.
+    /// changed. An input that is not a tick counts at the tick number in force (profile). It takes no memory.
     pub fn when(&self, watch: Watch) -> Option<u32>
         ensures { TellsLastChange watch (pasts (state_of self.now) self.now.records) result }
     {

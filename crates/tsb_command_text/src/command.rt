@@ -46,7 +46,7 @@ pub enum Command {
 pub enum Reading {
     /// Nothing: the line is blank or a comment.
     Skip,
-    /// The line is no command, or too long.
+    /// The line is not a command, or is too long.
     Bad,
     /// This command.
     Do(Command),

@@ -31,8 +31,8 @@ pub fn reading_of(line: &[u8]) -> Reading
     }
 }
 
-/// The command of a line. The line is given without its end. `None` where it is no command: also where the line is
-/// blank, a comment, or of over `LINE` bytes.
+/// The command of a line. The line is given without its end. `None` where it is not a command: also where the line is
+/// blank, a comment, or longer than `LINE` bytes.
 pub fn read_command(line: &[u8]) -> Option<Command>
     ensures { result ≡ command_of line.now }
 {

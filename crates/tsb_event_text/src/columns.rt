@@ -41,9 +41,9 @@ impl Columns {
     }
 }
 
-/// The columns that a line names, or `None` where it is no header, which names all four. Names are those that exports
-/// use, whatever their case: `SignalID`, `DeviceID` or `LocationIdentifier`; `Timestamp`; `EventCode` or `EventID`;
-/// `EventParam` or `Parameter`. Where two fields name one column, the first counts.
+/// The columns that a line names, or `None` where it is not a header, which names all four. Names are those that
+/// exports use, whatever their case: `SignalID`, `DeviceID` or `LocationIdentifier`; `Timestamp`; `EventCode` or
+/// `EventID`; `EventParam` or `Parameter`. Where two fields name one column, the first counts.
 #[tactic(auto, unfolding(crate::specs::Columns::header_of))]
 pub fn header(line: &[u8]) -> Option<Columns>
     ensures { result ≡ header_of line.now }

@@ -12,7 +12,7 @@ const LEFT: u128 = 140;
 /// How wide the bars of a line are.
 const WIDTH: u128 = 1000;
 
-/// Adds the axis of a line of so many seconds to a text.
+/// Adds the axis of a line of this many seconds to a text.
 pub(crate) fn append_axis(
     text: &mut Vec<u8>,
     bands: usize,
@@ -85,7 +85,7 @@ fn append_mark(
     append_second(text, bands, x, second)
 }
 
-/// How far from the left a second is, in a line of so many seconds that begins at another.
+/// How far from the left a second is, in a line of this many seconds that begins at another.
 fn place_of(seconds: u32, begin: u64, second: u128) -> u128
     requires some { 1 ≤ seconds }
     requires fits { second < 2 ^ 96 }

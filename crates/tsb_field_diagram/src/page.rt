@@ -17,8 +17,8 @@ const DAY: u32 = 86_400;
 
 /// The phase diagram of a session, as a picture in SVG.
 ///
-/// `changes` are the first display line and those that show something else than the line before, whose ticks rise;
-/// what one shows holds up to the next, and what the last one shows up to tick `last`. Where `last` is none or 0, the
+/// `changes` are the first display line and those that show something other than the line before, whose ticks rise;
+/// what one shows holds up to the next, and what the last one shows up to tick `last`. Where `last` is `None` or 0, the
 /// picture has no lines. `rows` are those of a log of inputs, whose ticks rise: an input that is on in a row is on
 /// until the next row. There may be none. A tick is a tenth of a second, and tick 1 begins at time 0.
 ///

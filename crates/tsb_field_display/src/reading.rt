@@ -9,8 +9,8 @@ use tsb_display_text::WIDTH;
 use tsb_lines::number;
 use tsb_types::NumberSet;
 
-/// What a display line shows, or `None` where the line is none: a display line has 53 bytes, with a space between its
-/// fields, and digits and letters in their places. Any other answer of a session is none.
+/// What a display line shows, or `None` where the line is not one: a display line has 53 bytes, with a space between
+/// its fields, and digits and letters in their places. No other answer of a session is one.
 #[tactic(auto, unfolding(crate::specs::Reading::shown_of))]
 pub fn read_line(line: &[u8]) -> Option<Shown>
     ensures shown { result ≡ shown_of line.now }

@@ -8,7 +8,7 @@ use std::alloc::{AllocError, Global};
 
 /// What remains of the lines of a session. A line whose tick is not above the last one takes back the lines from that
 /// tick on, as a session does that goes back, and is then the last one. Only the first line is kept and those that show
-/// something else than the line before, so memory grows with changes and not with ticks.
+/// something other than the line before, so memory grows with changes and not with ticks.
 #[derive(Drop)]
 pub struct Replay {
     changes: Vec<Shown>,
@@ -43,7 +43,7 @@ impl Replay {
         Ok(())
     }
 
-    /// The first line that remains, and those that show something else than the line before. Their ticks rise.
+    /// The first line that remains, and those that show something other than the line before. Their ticks rise.
     pub fn changes(&self) -> &[Shown]
         ensures { result.now ≡ changes_in self.now }
     {

@@ -101,8 +101,8 @@ impl Stream {
 }
 
 /// Reads what a session answers, up to its end, and keeps what remains of its display lines. Other lines are skipped,
-/// however long. What follows the last line feed is a line too, and one carriage return at the end of a line is no part
-/// of it.
+/// however long. What follows the last line feed is a line too, and one carriage return at the end of a line is not
+/// part of it.
 ///
 /// `Read` comes where a read fails or is interrupted, or after 2^64 - 1 reads, and `Memory` where there is none to keep
 /// a change. Nothing is read after either, and what was read until then is lost.

@@ -153,7 +153,7 @@ fn row(tick: u32, vehicles: u16, pedestrians: u16, preempts: u16) -> LogRow {
     }
 }
 
-/// What comes after so many lines of a text.
+/// What comes after this many lines of a text.
 fn behind_lines(text: &[u8], count: u32) -> &[u8] {
     let mut lines: u32 = 0;
     for (index, byte) in text.iter().enumerate() {

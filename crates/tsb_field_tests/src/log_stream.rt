@@ -6,7 +6,7 @@ use tsb_event_text::{Moment, read_moment};
 use tsb_field_log::{Kind, Wire};
 use tsb_field_streams::{FilterError, LeftOut, log};
 
-/// Gives a text in pieces of so many bytes, and may fail after its last.
+/// Gives a text in pieces of this many bytes, and may fail after its last.
 #[derive(Drop)]
 struct Pieces {
     left: &'static [u8],
@@ -29,7 +29,7 @@ impl Read for Pieces {
     }
 }
 
-/// Keeps so many bytes, and then fails.
+/// Keeps this many bytes, and then fails.
 #[derive(Drop)]
 struct Narrow {
     taken: Vec<u8>,
@@ -157,7 +157,7 @@ fn lines_end_as_lines_do(rt: HostRuntime) {
     assert!(rt; gives(rt.alloc(), whole(text), log));
 }
 
-/// A remark of so many bytes, with this end, and then a row.
+/// A remark of this many bytes, with this end, and then a row.
 fn remark(alloc: Global, length: usize, end: &[u8]) -> Vec<u8> {
     let mut text = Vec::new(alloc);
     let _ = text.resize(length, b'#');

@@ -2,8 +2,8 @@
 //! answers, and which of its cells change, with what they held.
 //!
 //! With the words `time ROUNDS` each layer but the desk is timed then, on plan `quad` and a random log of 20,000 ticks:
-//! that many rounds, or one if there is no number. With `time ROUNDS TIMES` each tick repeats so many times, and those
-//! that change nothing are passed over.
+//! that many rounds, or one if there is no number. With `time ROUNDS TIMES` each tick repeats that many times, and
+//! those that change nothing are passed over.
 #![tactic(auto)]
 
 mod asked;
@@ -83,7 +83,7 @@ fn time_all(rt: &HostRuntime, asked: Asked) -> Result<()> {
     time::<Heading>(rt, "heads", plan, asked)
 }
 
-/// Writes how long so many rounds of a layer's stored ticks take.
+/// Writes how long this many rounds of a layer's stored ticks take.
 fn time<T: Driven + Ticked>(
     rt: &HostRuntime,
     name: &str,

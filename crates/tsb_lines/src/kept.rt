@@ -33,7 +33,7 @@ impl<const MOST: usize> KeptLine<MOST> {
         }
     }
 
-    /// Takes one more byte, which is no line feed. Where `MOST` are kept the line stays as it is.
+    /// Takes one more byte, which is not a line feed. Where `MOST` are kept the line stays as it is.
     #[inline(always)]
     pub fn push(&mut self, byte: u8)
         requires { byte ≢ 10 }

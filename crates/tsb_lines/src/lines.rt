@@ -30,7 +30,7 @@ pub fn without_return(line: &[u8]) -> &[u8]
     line
 }
 
-/// Whether readers skip the line: it is empty or of spaces alone, or it begins with `#`. A tab is no space.
+/// Whether readers skip the line: it is empty or of spaces alone, or it begins with `#`. A tab is not a space.
 pub fn is_skipped(line: &[u8]) -> bool
     ensures { result ≡ is_skipped line.now }
 {

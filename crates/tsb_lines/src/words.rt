@@ -3,7 +3,7 @@ ghost use Rattle.std.specs.Prelude.{◌≡◌, ◌∷◌, [], MatchOption};
 ghost use Rattle.tsb_lines.specs.Words.{number_of, words_of};
 
 /// The first word of a line and what follows it, or `None` where the line has no word. Words are the runs of bytes that
-/// are no space.
+/// are not spaces.
 pub fn next_word(line: &[u8]) -> Option<(&[u8], &[u8])>
     ensures { MatchOption result (words_of line.now ≡ [])
         (λ found. words_of line.now ≡ found.0.now ∷ words_of found.1.now) }

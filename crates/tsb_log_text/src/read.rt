@@ -12,8 +12,8 @@ use tsb_lines::{is_skipped, next_line};
 /// The most bytes that a log may have: 64 MiB.
 pub const LIMIT: usize = 67_108_864;
 
-/// The log of a text, or why it is none: `TooLarge` over `LIMIT` bytes, and else the first line with a fault.
-/// A line feed ends a line, with one carriage return before it; the last line needs none. Lines count from
+/// The log of a text, or why it is not one: `TooLarge` over `LIMIT` bytes, and else the first line with a fault. A line
+/// feed ends a line, with one carriage return before it; the last line needs none. Lines count from
 /// 1. `Memory` may come in place of the log or of a line's fault.
 pub fn read_log(alloc: Global, text: &[u8]) -> Result<Log, LogError>
     ensures { Gives result (log_of text.now) }

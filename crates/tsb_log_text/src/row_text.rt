@@ -7,7 +7,7 @@ use tsb_lines::number;
 use tsb_types::limits::TICKS;
 use tsb_types::{NumberSet, Row};
 
-/// The row that a line spells, or `None` where it is no row.
+/// The row that a line spells, or `None` where it is not a row.
 #[tactic(auto, unfolding(crate::specs::Rows::row_of))]
 pub(crate) fn row(line: &[u8]) -> Option<LogRow>
     ensures { result ≡ row_of line.now }

@@ -18,7 +18,7 @@ pub(crate) fn place_near(rows: &[LogRow], tick: u32, hint: usize) -> usize
     search(rows, tick)
 }
 
-/// Whether so many rows are not above the tick, and no more.
+/// Whether this many rows are not above the tick, and no more.
 fn is_place(rows: &[LogRow], tick: u32, place: usize) -> bool
     ensures { result ≡ true → IsPlace rows.now tick place }
 {

@@ -38,7 +38,7 @@ fn way_back() -> [Cmd; 4] {
     ]
 }
 
-/// Adds so many ticks to the commands.
+/// Adds this many ticks to the commands.
 fn put_ticks(commands: &mut Vec<Cmd>, ticks: usize) -> Result<(), AllocError> {
     for _ in 0..ticks {
         commands.push(Cmd::Apply(Input::Tick(Row::all_off())))?;

@@ -1,9 +1,9 @@
-//! What is wrong with a line that is no case.
+//! What is wrong with a line that is not a case.
 
 use thiserror::Error;
 use tsb_objects::Refusal;
 
-/// What is wrong with a line that is no case.
+/// What is wrong with a line that is not a case.
 #[derive(Clone, Copy, Debug, Error, PartialEq, Eq)]
 pub enum CaseError {
     /// It can't be read.

@@ -48,7 +48,7 @@ struct Count {
 }
 
 impl Count {
-    /// So many calls before the odd one.
+    /// This many calls before the odd one.
     fn of(calls: usize, odd: Odd) -> Count {
         Count {
             left: Some(calls),
@@ -114,7 +114,7 @@ struct Taker {
 }
 
 impl Taker {
-    /// One that takes so many bytes at a time.
+    /// One that takes this many bytes at a time.
     fn of(piece: usize) -> Taker {
         Taker {
             taken: 0,

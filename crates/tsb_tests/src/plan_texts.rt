@@ -184,8 +184,8 @@ fn a_text_of_the_limit_is_judged(rt: HostRuntime) {
     }
 }
 
-/// What reading answers for a text of `start`, so many times `piece`, then `end`, and then what follows the first brace
-/// of the built-in plan of two phases.
+/// What reading answers for a text of `start`, `piece` this many times, `end`, and then what follows the first brace of
+/// the built-in plan of two phases.
 fn answer_repeated(
     alloc: Global,
     start: &str,

@@ -23,7 +23,7 @@ const STATUSES: [(Status, u8); 4] = [
     (Status::Failed, 3),
 ];
 
-/// Gives a text in pieces of so many bytes, and then ends or fails.
+/// Gives a text in pieces of this many bytes, and then ends or fails.
 #[derive(Clone, Copy, Drop)]
 struct Pieces {
     left: &'static [u8],
@@ -75,7 +75,7 @@ fn torn(left: &'static [u8], kind: ErrorKind) -> Shelf {
     Shelf::Opens(Pieces { left, piece, end })
 }
 
-/// Whether these are the first bytes of a file, at most so many.
+/// Whether these are the first bytes of a file, at most this many.
 fn gives(alloc: Global, files: &Shelf, most: usize, wanted: &[u8]) -> bool {
     match read_file(alloc, files, "file", most) {
         Ok(read) => read.as_slice() == wanted,
@@ -89,7 +89,7 @@ fn fails(alloc: Global, files: &Shelf, fault: FileError) -> bool {
     is_unread && matches!(log_of(alloc, files, "file"), Err(ReadError::Failed(it)) if it == fault)
 }
 
-/// What a file has is read to its end or to so many bytes, whatever its pieces; what is after them is left alone.
+/// A file is read to its end or to a number of bytes, whatever its pieces; what follows them is left alone.
 #[test]
 fn a_file_is_read_to_so_many_bytes(rt: HostRuntime) {
     for most in 0..ROW.len() + 2 {
@@ -180,7 +180,7 @@ fn a_line_is_passed_on(rt: HostRuntime) {
     }
 }
 
-/// Takes so many bytes, and no more.
+/// Takes this many bytes, and no more.
 #[derive(Drop)]
 struct Narrow {
     taken: Vec<u8>,

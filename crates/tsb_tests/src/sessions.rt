@@ -324,7 +324,7 @@ never\nnothing\ntick 0000001\n"
     assert!(rt; answers_on_quad(&rt, log, commands, answers));
 }
 
-/// `step`, so many spaces, and `1`, with this after it.
+/// `step`, this many spaces, and `1`, with this after it.
 fn answers_spaced(rt: &HostRuntime, spaces: usize, end: &[u8], text: &[u8]) -> bool {
     let mut line = [b' '; 300];
     line[..4].copy_from_slice(b"step");

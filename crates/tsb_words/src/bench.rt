@@ -26,8 +26,8 @@ pub enum Asked<'a> {
 /// What the words ask for, the first of which is the program's name.
 ///
 /// `check PLAN` and `run PLAN LOG` name files, and no word after the name asks for the built-in plan. A word `--` is
-/// passed over once, and what follows it is no flag: so a file whose name begins with a hyphen is named after it. All
-/// else is `Bad`, and so is a request for help. `Memory` may come in place of every answer.
+/// passed over once, and what follows it is not a flag: so a file whose name begins with a hyphen is named after it.
+/// All else is `Bad`, and so is a request for help. `Memory` may come in place of every answer.
 pub fn read_words<'a, S: AsStr>(alloc: Global, words: &'a [S]) -> Result<Asked<'a>, WordsError>
     ensures { Spells (map S.text words.now) result }
 {
