@@ -97,6 +97,13 @@ pub fn ticks<T: Ticked>(layer: &mut T, numbers: Numbers, plan: &Checked) -> Resu
     Ok(times)
 }
 
+/// A layer and the plan that it runs.
+#[derive(Drop)]
+struct Driving<'a, D> {
+    layer: D,
+    plan: &'a Checked,
+}
+
 /// Drives a layer by the lines of a text, and writes how many ticks or calls were as the lines say, or the first line
 /// that does not pass.
 pub fn check<D: Driven, W: Write>(
@@ -106,12 +113,12 @@ pub fn check<D: Driven, W: Write>(
     text: &[u8],
     output: &mut W,
 ) -> io::Result<()> {
-    let mut layer: Option<(D, &Checked)> = None;
+    let mut driving: Option<Driving<D>> = None;
     let mut passed: u64 = 0;
     let mut rest = text;
     for place in 0..text.len() {
         let (line, behind) = next_line(rest);
-        match follow(alloc, plans, &mut layer, line) {
+        match follow(alloc, plans, &mut driving, line) {
             Ok(count) => passed = passed.saturating_add(u64::from(count)),
             Err(fault) => {
                 writeln!(output, "{name}: line {}: {fault}", place + 1)?;
@@ -130,7 +137,7 @@ pub fn check<D: Driven, W: Write>(
 fn follow<'a, D: Driven>(
     alloc: Global,
     plans: &'a Plans,
-    layer: &mut Option<(D, &'a Checked)>,
+    driving: &mut Option<Driving<'a, D>>,
     line: &[u8],
 ) -> Result<u32, Fault> {
     let Some((kind, rest)) = next_word(line) else {
@@ -139,11 +146,12 @@ fn follow<'a, D: Driven>(
     let mut numbers = Numbers::of(rest);
     if kind == b"plan".as_slice() {
         let plan = plans.get(numbers.number()?)?;
-        *layer = Some((D::power_up(alloc, plan)?, plan));
+        let layer = D::power_up(alloc, plan)?;
+        *driving = Some(Driving { layer, plan });
         return Ok(0);
     }
-    match layer {
-        Some((layer, plan)) => layer.take(kind, numbers, *plan),
+    match driving {
+        Some(driving) => driving.layer.take(kind, numbers, driving.plan),
         None => Err(Fault::Malformed),
     }
 }

@@ -33,17 +33,7 @@ impl Heading {
     fn show(&mut self, numbers: Numbers, plan: &Checked) -> Result<u32, Fault> {
         let mut numbers = numbers;
         self.told = Heading::read(&mut numbers)?;
-        let display = display(&self.told, plan);
-        numbers.tells_phases(display.vehicle_reds())?;
-        numbers.tells_phases(display.vehicle_yellows())?;
-        numbers.tells_phases(display.vehicle_greens())?;
-        numbers.tells_phases(display.dont_walks())?;
-        numbers.tells_phases(display.clearances())?;
-        numbers.tells_phases(display.walks())?;
-        numbers.tells(u32::from(display.overlap_reds().list()))?;
-        numbers.tells(u32::from(display.overlap_yellows().list()))?;
-        numbers.tells(u32::from(display.overlap_greens().list()))?;
-        numbers.ends()?;
+        shows(&mut numbers, &display(&self.told, plan))?;
         Ok(1)
     }
 
@@ -140,6 +130,20 @@ fn display(given: &Given, plan: &Checked) -> Display
         false,
         plan,
     )
+}
+
+/// The sets of heads that show each aspect, which the rest of the line says.
+fn shows(numbers: &mut Numbers, display: &Display) -> Result<(), Fault> {
+    numbers.tells_phases(display.vehicle_reds())?;
+    numbers.tells_phases(display.vehicle_yellows())?;
+    numbers.tells_phases(display.vehicle_greens())?;
+    numbers.tells_phases(display.dont_walks())?;
+    numbers.tells_phases(display.clearances())?;
+    numbers.tells_phases(display.walks())?;
+    numbers.tells(u32::from(display.overlap_reds().list()))?;
+    numbers.tells(u32::from(display.overlap_yellows().list()))?;
+    numbers.tells(u32::from(display.overlap_greens().list()))?;
+    numbers.ends()
 }
 
 fn tells_trip(numbers: &mut Numbers, trip: &Trip) -> Result<(), Fault> {
