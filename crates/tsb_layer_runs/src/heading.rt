@@ -32,8 +32,13 @@ impl Heading {
     /// A line `d`: what the heads are given; the sets of heads that show each aspect.
     fn show(&mut self, numbers: Numbers, plan: &Checked) -> Result<u32, Fault> {
         let mut numbers = numbers;
-        self.told = Heading::read(&mut numbers)?;
-        shows(&mut numbers, &display(&self.told, plan))?;
+        let told = Heading::read(&mut numbers)?;
+        // (field by field, as the prover refuses an assignment of the whole)
+        self.told.intervals = told.intervals;
+        self.told.pedestrians = told.pedestrians;
+        self.told.ring_1 = told.ring_1;
+        self.told.ring_2 = told.ring_2;
+        shows(&mut numbers, &display(&told, plan))?;
         Ok(1)
     }
 
