@@ -72,6 +72,7 @@ impl Talk {
                 Ok(Flow::On)
             }
             Reading::Do(command) => {
+                let flow = flow_after(&command);
                 obey(
                     &mut self.bench,
                     log,
@@ -80,7 +81,7 @@ impl Talk {
                     &mut self.pending,
                     writer,
                 )?;
-                Ok(flow_after(command))
+                Ok(flow)
             }
         }
     }
@@ -192,9 +193,9 @@ impl Talk {
 }
 
 /// Whether a session goes on after a command.
-fn flow_after(command: Command) -> Flow
-    ensures flow { result ≡ flow_after command }
-    ensures over { result ≡ Over → command ≡ Quit }
+fn flow_after(command: &Command) -> Flow
+    ensures flow { result ≡ flow_after command.now }
+    ensures over { result ≡ Over → command.now ≡ Quit }
 {
     match command {
         Command::Quit => Flow::Over,
