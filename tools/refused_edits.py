@@ -101,6 +101,9 @@ def function_at(path: Path, text: str, at: int) -> Function | None:
         return None
     module = path.rpartition("/")[2].removesuffix(".rt")
     above = owner(rows, first) if found[1] else "" if module in ("lib", "main") else module
+    # (the prover names the attribute above a function as its place)
+    while first and rows[first - 1].lstrip().startswith("#["):
+        first -= 1
     return Function(path, f"{above}::{found[2]}" if above else found[2], first + 1, last + 1)
 
 
