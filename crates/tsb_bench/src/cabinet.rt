@@ -129,31 +129,10 @@ impl Cabinet {
         ensures shut { IsShut self.new }
         ensures passing { MayPass result self.new }
     {
-        if let Input::Tick(row) = input {
-            self.work_tick(tick, row, out);
-            return tick + 1;
-        }
-        let next = self.change(tick, input, out);
         self.passing = Passing::none();
-        next
-    }
-
-    /// What an input does to the cells, and the tick number after it.
-    fn change(&mut self, tick: u32, input: &Input, out: &mut Changes) -> u32
-        requires shut { IsShut self.old }
-        requires by { AreAllBy tick (rows_of self.old) }
-        requires limit { tick ≤ last_tick }
-        requires good { IsGood (all_in tick (rows_of self.old)) }
-        requires allowed { verdict (all_in tick (rows_of self.old)) input.now ≡ None }
-        requires empty { out.old.items ≡ [] }
-        ensures next { result ≡ next_tick tick input.now }
-        ensures done { IsDone input.now tick (rows_of self.old) (rows_of self.new) out.new.items }
-        ensures few { array_vec_len out.new ≤ most_cells (kind_of input.now) }
-        ensures shut { IsShut self.new }
-    {
         match input {
             Input::Tick(row) => {
-                self.tick(tick, row, out);
+                self.work_tick(tick, row, out);
                 return tick + 1;
             }
             Input::Pattern(n) => self.set_pattern(tick, *n, out),

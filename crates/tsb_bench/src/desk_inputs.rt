@@ -39,6 +39,7 @@ impl Cabinet {
         ensures done { IsDone (inputs.Begin station) tick (rows_of self.old) (rows_of self.new) out.new.items }
         ensures few { array_vec_len out.new ≤ MOST_CELLS }
         ensures shut { IsShut self.new }
+        ensures passing { self.new.passing ≡ self.old.passing }
     {
         self.desk.open();
         let _done = self.desk.begin(station);
@@ -61,6 +62,7 @@ impl Cabinet {
         ensures done { IsDone (inputs.Set station id value) tick (rows_of self.old) (rows_of self.new) out.new.items }
         ensures few { array_vec_len out.new ≤ MOST_CELLS }
         ensures shut { IsShut self.new }
+        ensures passing { self.new.passing ≡ self.old.passing }
     {
         self.desk.open();
         let _done = self.desk.set(station, id, value);
@@ -76,6 +78,7 @@ impl Cabinet {
         ensures done { IsDone (inputs.Verify station) tick (rows_of self.old) (rows_of self.new) out.new.items }
         ensures few { array_vec_len out.new ≤ MOST_CELLS }
         ensures shut { IsShut self.new }
+        ensures passing { self.new.passing ≡ self.old.passing }
     {
         self.desk.open();
         let _done = self.desk.verify(station, &self.plan);
@@ -91,6 +94,7 @@ impl Cabinet {
         ensures done { IsDone (inputs.Abort station) tick (rows_of self.old) (rows_of self.new) out.new.items }
         ensures few { array_vec_len out.new ≤ MOST_CELLS }
         ensures shut { IsShut self.new }
+        ensures passing { self.new.passing ≡ self.old.passing }
     {
         self.desk.open();
         let _done = self.desk.abort(station);
@@ -119,6 +123,7 @@ impl Cabinet {
         ensures done { IsDone (inputs.Commit station) tick (rows_of self.old) (rows_of self.new) out.new.items }
         ensures few { array_vec_len out.new ≤ ALL_CELLS }
         ensures shut { IsShut self.new }
+        ensures passing { self.new.passing ≡ self.old.passing }
     {
         let forgets = self.desk.forgets(&self.plan);
         let serving = self.controller.is_serving();

@@ -58,6 +58,7 @@ impl Cabinet {
         ensures done { IsDone (inputs.Pattern n) tick (rows_of self.old) (rows_of self.new) out.new.items }
         ensures few { array_vec_len out.new ≤ MOST_CELLS }
         ensures shut { IsShut self.new }
+        ensures passing { self.new.passing ≡ self.old.passing }
     {
         self.controller.open();
         self.controller.set_pattern(n, &self.plan);
@@ -73,6 +74,7 @@ impl Cabinet {
         ensures done { IsDone (inputs.Switch n on) tick (rows_of self.old) (rows_of self.new) out.new.items }
         ensures few { array_vec_len out.new ≤ MOST_CELLS }
         ensures shut { IsShut self.new }
+        ensures passing { self.new.passing ≡ self.old.passing }
     {
         self.controller.open();
         self.controller.switch(n, on, &self.plan);
@@ -87,6 +89,7 @@ impl Cabinet {
         ensures done { IsDone (inputs.Fault lamp.now) tick (rows_of self.old) (rows_of self.new) out.new.items }
         ensures few { array_vec_len out.new ≤ MOST_CELLS }
         ensures shut { IsShut self.new }
+        ensures passing { self.new.passing ≡ self.old.passing }
     {
         let found = self.found_with(lamp);
         self.monitor.set(lamp, &found, tick, out);
@@ -116,6 +119,7 @@ impl Cabinet {
         ensures done { IsDone inputs.Reset tick (rows_of self.old) (rows_of self.new) out.new.items }
         ensures few { array_vec_len out.new ≤ MOST_CELLS }
         ensures shut { IsShut self.new }
+        ensures passing { self.new.passing ≡ self.old.passing }
     {
         if !self.monitor.is_tripped() {
             return;
