@@ -5,7 +5,7 @@ use std::alloc::{AllocError, Global};
 use std::test::Fail;
 use tsb_bench::{Answer, Bench, Cmd, Input, Kind, Nothing, play};
 use tsb_history::History;
-use tsb_log_text::{LogError, read_log};
+use tsb_log_text::{Log, LogError, read_log};
 use tsb_objects::{
     Checked, Lamp, NumberSet, Object, ObjectId, Phase, Plan, Row, SignalColor, Station,
 };
@@ -63,6 +63,30 @@ fn rounds(alloc: Global) -> Result<Vec<Cmd>, AllocError> {
     Ok(commands)
 }
 
+/// What a bench answers, and the bench after that.
+fn played(alloc: Global, plan: Plan, commands: &[Cmd]) -> Option<(Bench, Vec<Answer>)> {
+    let plan = Checked::new(plan).ok()?;
+    play(alloc, plan, commands).ok()
+}
+
+fn copied(alloc: Global, bench: &Bench) -> Option<Bench> {
+    bench.clone_in(alloc).ok()
+}
+
+fn undone(bench: &mut Bench) -> Result<Kind, Nothing> {
+    bench.undo()
+}
+
+/// Whether there are so many answers, each of which says that the input was taken.
+fn all_are_taken(answers: &[Answer], count: usize) -> bool {
+    for answer in answers {
+        if *answer != Answer::Took {
+            return false;
+        }
+    }
+    answers.len() == count
+}
+
 /// Whether the bench can be taken back by the rounds, and no further.
 fn is_taken_back(bench: &mut Bench) -> bool {
     let kinds = [
@@ -83,77 +107,108 @@ fn is_taken_back(bench: &mut Bench) -> bool {
         Kind::Tick,
     ];
     for _round in 0..ROUNDS {
-        for kind in kinds {
-            if bench.undo() != Ok(kind) {
+        for kind in &kinds {
+            if undone(bench) != Ok(*kind) {
                 return false;
             }
         }
     }
-    bench.undo() == Err(Nothing)
+    undone(bench) == Err(Nothing)
+}
+
+/// Whether the bench is at this tick, where phase 2 has this maximum, in tenths of a second.
+fn is_at(bench: &Bench, number: u32, maximum: u32) -> bool {
+    bench.now() == number && bench.plan().maximum(Phase::of(2)) == maximum
+}
+
+/// Whether a copy of the bench can be taken back by the rounds.
+fn copy_is_taken_back(alloc: Global, bench: &mut Bench) -> bool {
+    match copied(alloc, bench) {
+        Some(mut copy) => {
+            is_taken_back(bench)
+                && is_taken_back(&mut copy)
+                && is_at(&copy, 0, 200)
+                && *copy.plan() == Plan::quad()
+        }
+        None => false,
+    }
+}
+
+/// Whether each of the commands of the rounds is taken, and taken back by the bench and by a copy of it.
+fn takes_rounds(alloc: Global, commands: &[Cmd]) -> bool {
+    match played(alloc, Plan::quad(), commands) {
+        Some((mut bench, answers)) => {
+            all_are_taken(&answers, 30_000)
+                && is_at(&bench, 4000, 300)
+                && copy_is_taken_back(alloc, &mut bench)
+        }
+        None => false,
+    }
 }
 
 /// Each input of the rounds is taken, and taken back by the bench and by a copy of it.
 #[test]
 fn rounds_are_taken_and_taken_back(rt: HostRuntime) -> Result<(), Fail> {
-    let Ok(plan) = Checked::new(Plan::quad()) else {
-        panic!(rt; "no plan");
-    };
     let commands = rounds(rt.alloc())?;
-    let Ok((mut bench, answers)) = play(rt.alloc(), plan, &commands) else {
-        panic!(rt; "no memory");
-    };
-    assert!(rt; answers.len() == 30_000);
-    for answer in &answers {
-        assert!(rt; *answer == Answer::Took);
-    }
-    assert!(rt; bench.now() == 4000);
-    assert!(rt; bench.plan().maximum(Phase::of(2)) == 300);
-    let Ok(mut copy) = bench.clone_in(rt.alloc()) else {
-        panic!(rt; "no memory");
-    };
-    assert!(rt; is_taken_back(&mut bench));
-    assert!(rt; is_taken_back(&mut copy));
-    assert!(rt; copy.now() == 0);
-    assert!(rt; *copy.plan() == Plan::quad());
+    assert!(rt; takes_rounds(rt.alloc(), &commands));
     Ok(())
+}
+
+/// Many ticks, as commands.
+fn many_ticks(alloc: Global) -> Result<Vec<Cmd>, AllocError> {
+    let mut commands = Vec::new(alloc);
+    for _ in 0..MANY {
+        commands.push(Cmd::Apply(Input::Tick(Row::all_off())))?;
+    }
+    Ok(commands)
+}
+
+/// Whether a copy of the bench is at the last of many ticks, and can be wound back.
+fn copy_is_wound_back(alloc: Global, bench: &Bench) -> bool {
+    match copied(alloc, bench) {
+        Some(mut copy) => copy.now() == MANY && is_wound_back(&mut copy),
+        None => false,
+    }
+}
+
+/// Whether the bench can be wound back to power-up, and no further.
+fn is_wound_back(bench: &mut Bench) -> bool {
+    bench.seek(0) == Ok(()) && undone(bench) == Err(Nothing)
+}
+
+/// Whether each of the commands is taken, and the bench they leave can be copied with its history.
+fn takes_ticks(alloc: Global, commands: &[Cmd]) -> bool {
+    match played(alloc, Plan::two(), commands) {
+        Some((bench, answers)) => {
+            all_are_taken(&answers, commands.len()) && copy_is_wound_back(alloc, &bench)
+        }
+        None => false,
+    }
 }
 
 /// A `play` of many ticks answers each, and the bench it leaves can be copied with its history.
 #[test]
 fn many_commands_are_answered(rt: HostRuntime) -> Result<(), Fail> {
-    let Ok(plan) = Checked::new(Plan::two()) else {
-        panic!(rt; "no plan");
-    };
-    let mut commands = Vec::new(rt.alloc());
-    for _ in 0..MANY {
-        commands.push(Cmd::Apply(Input::Tick(Row::all_off())))?;
-    }
-    let Ok((bench, answers)) = play(rt.alloc(), plan, &commands) else {
-        panic!(rt; "no memory");
-    };
-    assert!(rt; answers.len() == commands.len());
-    for answer in &answers {
-        assert!(rt; *answer == Answer::Took);
-    }
-    let Ok(mut copy) = bench.clone_in(rt.alloc()) else {
-        panic!(rt; "no memory");
-    };
-    assert!(rt; copy.now() == MANY);
-    assert!(rt; copy.seek(0) == Ok(()));
-    assert!(rt; copy.undo() == Err(Nothing));
+    let commands = many_ticks(rt.alloc())?;
+    assert!(rt; takes_ticks(rt.alloc(), &commands));
     Ok(())
 }
 
-#[test]
-fn a_long_history_is_copied(rt: HostRuntime) -> Result<(), Fail> {
-    let mut history = History::new(rt.alloc());
+/// A history of many records of one change each.
+fn long_history(alloc: Global) -> Result<History, AllocError> {
+    let mut history = History::new(alloc);
     for value in 0..MANY {
         history.reserve(1)?;
         history.push(Kind::Tick, &[(5, value)]);
     }
+    Ok(history)
+}
+
+#[test]
+fn a_long_history_is_copied(rt: HostRuntime) -> Result<(), Fail> {
+    let history = long_history(rt.alloc())?;
     let copy = history.clone_in(rt.alloc())?;
-    assert!(rt; copy.len() == 1_100_000);
-    assert!(rt; copy.bytes() == history.bytes());
+    assert!(rt; copy.len() == 1_100_000 && copy.bytes() == history.bytes());
     Ok(())
 }
 
@@ -173,6 +228,21 @@ fn many_rows(alloc: Global) -> Result<Vec<u8>, AllocError> {
     Ok(text)
 }
 
+/// Whether the log has the many rows.
+fn has_many_rows(log: &Log) -> bool {
+    let mut place = 0;
+    for tick in [1, 2, 65_536, 65_537, 1_000_000, 1_000_001, MANY - 1, MANY] {
+        if u32::from(log.row(tick, &mut place).vehicles.list()) != tick % 2 {
+            return false;
+        }
+    }
+    true
+}
+
+fn fault_of(alloc: Global, text: &[u8]) -> Option<LogError> {
+    read_log(alloc, text).err()
+}
+
 /// A log of many rows is read whole, and a fault in a line after them is reported.
 #[test]
 fn many_rows_are_read(rt: HostRuntime) -> Result<(), Fail> {
@@ -180,24 +250,20 @@ fn many_rows_are_read(rt: HostRuntime) -> Result<(), Fail> {
     let Ok(log) = read_log(rt.alloc(), &text) else {
         panic!(rt; "no log");
     };
-    let mut place = 0;
-    for tick in [1, 2, 65_536, 65_537, 1_000_000, 1_000_001, MANY - 1, MANY] {
-        assert!(rt; u32::from(log.row(tick, &mut place).vehicles.list()) == tick % 2);
-    }
+    assert!(rt; has_many_rows(&log));
     let length = text.len();
     text.extend_from_slice(b"0000001 0000000000000000 00000000 0000\n")?;
-    assert!(rt;
-        matches!(
-            read_log(rt.alloc(), &text),
-            Err(LogError::TickOrder(1_100_001))
-        )
-    );
+    let twice = fault_of(rt.alloc(), &text);
     text.truncate(length);
     text.extend_from_slice(b"what\n")?;
+    let other = fault_of(rt.alloc(), &text);
     assert!(rt;
         matches!(
-            read_log(rt.alloc(), &text),
-            Err(LogError::Malformed(1_100_001))
+            (twice, other),
+            (
+                Some(LogError::TickOrder(1_100_001)),
+                Some(LogError::Malformed(1_100_001)),
+            )
         )
     );
     Ok(())

@@ -1,5 +1,6 @@
 //! The bench: every kind of input, taken and taken back, and what a plan of two phases shows meanwhile.
 
+use std::alloc::Global;
 use tsb_bench::{Answer, Bench, Cmd, Input, Kind, Nothing, answer, play};
 use tsb_objects::{
     Aspect, Checked, Object, ObjectId, Phase, Plan, Refusal, Row, Rule, Station, Watch,
@@ -16,12 +17,6 @@ fn yellow(tenths: u32) -> Input {
         index: 2,
     };
     Input::Set(Station::of(1), id, tenths)
-}
-
-/// What the heads of phases 2 and 4 show.
-fn pair(bench: &Bench) -> (Aspect, Aspect) {
-    let display = bench.display();
-    (display.vehicle(Phase::of(2)), display.vehicle(Phase::of(4)))
 }
 
 /// Inputs of every kind, none of them refused where the others came before it.
@@ -42,8 +37,83 @@ fn each_kind() -> [Input; 11] {
     ]
 }
 
+/// A bench at power-up, with the built-in plan of two phases.
+fn powered_up(alloc: Global) -> Option<Bench> {
+    let plan = Checked::new(Plan::two()).ok()?;
+    Bench::power_up(alloc, plan).ok()
+}
+
+fn copied(alloc: Global, bench: &Bench) -> Option<Bench> {
+    bench.clone_in(alloc).ok()
+}
+
+fn taken(bench: &mut Bench, input: Input) -> Result<(), Refusal> {
+    bench.apply(input)
+}
+
+fn undone(bench: &mut Bench) -> Result<Kind, Nothing> {
+    bench.undo()
+}
+
+fn sought(bench: &mut Bench, number: u32) -> Result<(), Nothing> {
+    bench.seek(number)
+}
+
+fn number_of(bench: &Bench) -> u32 {
+    bench.now()
+}
+
+/// The number of the tick, and what the heads of phases 2 and 4 show.
+fn shown(bench: &Bench) -> (u32, Aspect, Aspect) {
+    let display = bench.display();
+    (
+        number_of(bench),
+        display.vehicle(Phase::of(2)),
+        display.vehicle(Phase::of(4)),
+    )
+}
+
+/// Takes ticks up to the one of this number, or to the first that is refused.
+fn run_to(bench: &mut Bench, number: u32) {
+    for _ in number_of(bench)..number {
+        if taken(bench, tick()).is_err() {
+            break;
+        }
+    }
+}
+
+/// Whether all these are taken.
+fn takes(bench: &mut Bench, inputs: &[Input]) -> bool {
+    for input in inputs {
+        if taken(bench, *input) != Ok(()) {
+            return false;
+        }
+    }
+    true
+}
+
+/// Whether all these are taken back in turn.
+fn takes_back(bench: &mut Bench, kinds: &[Kind]) -> bool {
+    for kind in kinds {
+        if undone(bench) != Ok(*kind) {
+            return false;
+        }
+    }
+    true
+}
+
+/// What a bench with the built-in plan of two phases answers, and the bench after that.
+fn played(alloc: Global, commands: &[Cmd]) -> Option<(Bench, Vec<Answer>)> {
+    let plan = Checked::new(Plan::two()).ok()?;
+    play(alloc, plan, commands).ok()
+}
+
 #[test]
 fn plays(rt: HostRuntime) {
+    assert!(rt; plays_all(rt.alloc()));
+}
+
+fn plays_all(alloc: Global) -> bool {
     let commands = [
         Cmd::Undo,
         Cmd::Apply(tick()),
@@ -57,6 +127,13 @@ fn plays(rt: HostRuntime) {
         Cmd::When(Watch::Interval(Phase::of(2))),
         Cmd::Undo,
     ];
+    match played(alloc, &commands) {
+        Some((bench, answers)) => answers_all(&answers) && number_of(&bench) == 0,
+        None => false,
+    }
+}
+
+fn answers_all(answers: &[Answer]) -> bool {
     let wanted = [
         Answer::Nothing,
         Answer::Took,
@@ -70,166 +147,183 @@ fn plays(rt: HostRuntime) {
         Answer::Changed(None),
         Answer::Nothing,
     ];
-    let Ok(plan) = Checked::new(Plan::two()) else {
-        assert!(rt; false);
-        return;
-    };
-    let Ok((bench, answers)) = play(rt.alloc(), plan, &commands) else {
-        assert!(rt; false);
-        return;
-    };
-    assert!(rt; answers.as_slice() == wanted.as_slice());
-    assert!(rt; bench.now() == 0);
+    answers == wanted.as_slice()
 }
 
 /// Phase 2 has 10 seconds of green, phase 4 has 8, each with 3 of yellow and 1 of red clearance.
+const SHOWN: [(u32, Aspect, Aspect); 12] = [
+    (0, Aspect::Red, Aspect::Red),
+    (1, Aspect::Green, Aspect::Red),
+    (100, Aspect::Green, Aspect::Red),
+    (101, Aspect::Yellow, Aspect::Red),
+    (130, Aspect::Yellow, Aspect::Red),
+    (131, Aspect::Red, Aspect::Red),
+    (140, Aspect::Red, Aspect::Red),
+    (141, Aspect::Red, Aspect::Green),
+    (220, Aspect::Red, Aspect::Green),
+    (221, Aspect::Red, Aspect::Yellow),
+    (251, Aspect::Red, Aspect::Red),
+    (261, Aspect::Green, Aspect::Red),
+];
+
+/// Whether the bench shows all that it is to show, each at its tick.
+fn runs(bench: &mut Bench) -> bool {
+    for wanted in &SHOWN {
+        run_to(bench, wanted.0);
+        if shown(bench) != *wanted {
+            return false;
+        }
+    }
+    true
+}
+
+/// Whether the bench shows all of it again on the way back.
+fn winds_back(bench: &mut Bench) -> bool {
+    for wanted in SHOWN.iter().rev() {
+        if sought(bench, wanted.0) != Ok(()) || shown(bench) != *wanted {
+            return false;
+        }
+    }
+    true
+}
+
+/// Whether the bench can be wound back, and a copy of it stays where it is.
+fn winds_back_alone(alloc: Global, bench: &mut Bench) -> bool {
+    match copied(alloc, bench) {
+        Some(copy) => winds_back(bench) && shown(&copy) == (261, Aspect::Green, Aspect::Red),
+        None => false,
+    }
+}
+
+/// Whether the bench shows what it is to show, there and back, and neither goes back from power-up nor forth by a seek.
+fn shows(alloc: Global, bench: &mut Bench) -> bool {
+    undone(bench) == Err(Nothing)
+        && runs(bench)
+        && sought(bench, 262) == Err(Nothing)
+        && winds_back_alone(alloc, bench)
+}
+
 #[test]
 fn shows_and_winds_back(rt: HostRuntime) {
-    let wanted = [
-        (0, Aspect::Red, Aspect::Red),
-        (1, Aspect::Green, Aspect::Red),
-        (100, Aspect::Green, Aspect::Red),
-        (101, Aspect::Yellow, Aspect::Red),
-        (130, Aspect::Yellow, Aspect::Red),
-        (131, Aspect::Red, Aspect::Red),
-        (140, Aspect::Red, Aspect::Red),
-        (141, Aspect::Red, Aspect::Green),
-        (220, Aspect::Red, Aspect::Green),
-        (221, Aspect::Red, Aspect::Yellow),
-        (251, Aspect::Red, Aspect::Red),
-        (261, Aspect::Green, Aspect::Red),
-    ];
-    let Ok(plan) = Checked::new(Plan::two()) else {
-        assert!(rt; false);
-        return;
+    let Some(mut bench) = powered_up(rt.alloc()) else {
+        panic!(rt; "no memory");
     };
-    let Ok(mut bench) = Bench::power_up(rt.alloc(), plan) else {
-        assert!(rt; false);
-        return;
-    };
-    assert!(rt; bench.undo() == Err(Nothing));
-    for (number, first, second) in wanted {
-        for _ in bench.now()..number {
-            assert!(rt; bench.apply(tick()).is_ok());
-        }
-        assert!(rt; pair(&bench) == (first, second), "at tick {number}");
-    }
-    let Ok(copy) = bench.clone_in(rt.alloc()) else {
-        assert!(rt; false);
-        return;
-    };
-    assert!(rt; bench.seek(262) == Err(Nothing));
-    for number in [251, 221, 141, 131, 101, 100, 1, 0] {
-        assert!(rt; bench.seek(number) == Ok(()));
-        assert!(rt; bench.now() == number);
-        for (at, first, second) in wanted {
-            if at == number {
-                assert!(rt; pair(&bench) == (first, second), "back at tick {number}");
-            }
-        }
-    }
-    assert!(rt; copy.now() == 261);
-    assert!(rt; pair(&copy) == (Aspect::Green, Aspect::Red));
+    assert!(rt; shows(rt.alloc(), &mut bench));
+}
+
+fn yellow_of(bench: &Bench) -> u32 {
+    bench.plan().yellow_change(Phase::of(2))
+}
+
+/// Who edits at the desk, and how many edits there are.
+fn desk_of(bench: &Bench) -> (Option<Station>, usize) {
+    (bench.desk().owner(), bench.desk().edits().len())
+}
+
+/// The kinds of the inputs of each kind, from the last one back to the commit.
+const BACK_TO_COMMIT: [Kind; 8] = [
+    Kind::Tick,
+    Kind::Reset,
+    Kind::Fault,
+    Kind::Switch,
+    Kind::Pattern,
+    Kind::Abort,
+    Kind::Begin,
+    Kind::Commit,
+];
+
+/// The kinds of those up to the commit.
+const BACK_TO_BEGIN: [Kind; 4] = [Kind::Commit, Kind::Verify, Kind::Set, Kind::Begin];
+
+/// Whether inputs of each kind are taken and taken back, with the commit taken once more in between.
+fn takes_and_takes_back(bench: &mut Bench) -> bool {
+    takes(bench, &each_kind())
+        && yellow_of(bench) == 35
+        && takes_back(bench, &BACK_TO_COMMIT)
+        && yellow_of(bench) == 30
+        && desk_of(bench) == (Some(Station::of(1)), 1)
+        && answer(bench, Cmd::Apply(Input::Commit(Station::of(1)))) == Answer::Took
+        && yellow_of(bench) == 35
+        && takes_back(bench, &BACK_TO_BEGIN)
+        && desk_of(bench) == (None, 0)
+        && undone(bench) == Err(Nothing)
 }
 
 /// A commit changes the plan, and its undo gives it back with the edits, which may then be committed again.
 #[test]
 fn takes_back_each_kind(rt: HostRuntime) {
-    let Ok(plan) = Checked::new(Plan::two()) else {
-        assert!(rt; false);
-        return;
+    let Some(mut bench) = powered_up(rt.alloc()) else {
+        panic!(rt; "no memory");
     };
-    let Ok(mut bench) = Bench::power_up(rt.alloc(), plan) else {
-        assert!(rt; false);
-        return;
-    };
-    for _round in 0..2 {
-        for input in each_kind() {
-            assert!(rt; bench.apply(input) == Ok(()));
+    assert!(rt; takes_and_takes_back(&mut bench) && takes_and_takes_back(&mut bench));
+}
+
+/// What a station is answered that edits a yellow change, has it verified and commits it, where it breaks a rule.
+const NOT_VERIFIED: [Answer; 4] = [
+    Answer::Took,
+    Answer::Took,
+    Answer::Took,
+    Answer::Refused(Refusal::NotVerified),
+];
+
+/// Whether a plan that breaks a rule is kept out.
+fn keeps_out(alloc: Global) -> bool {
+    let station = Station::of(1);
+    let commands = [
+        Cmd::Apply(Input::Begin(station)),
+        Cmd::Apply(yellow(29)),
+        Cmd::Apply(Input::Verify(station)),
+        Cmd::Apply(Input::Commit(station)),
+    ];
+    match played(alloc, &commands) {
+        Some((bench, answers)) => {
+            answers.as_slice() == NOT_VERIFIED.as_slice() && is_two_against(&bench, Rule::K8)
         }
-        assert!(rt; bench.plan().yellow_change(Phase::of(2)) == 35);
-        let kinds = [
-            Kind::Tick,
-            Kind::Reset,
-            Kind::Fault,
-            Kind::Switch,
-            Kind::Pattern,
-            Kind::Abort,
-            Kind::Begin,
-            Kind::Commit,
-        ];
-        for kind in kinds {
-            assert!(rt; bench.undo() == Ok(kind));
-        }
-        assert!(rt; bench.plan().yellow_change(Phase::of(2)) == 30);
-        assert!(rt; bench.desk().edits().len() == 1);
-        let commit = Input::Commit(Station::of(1));
-        assert!(rt; answer(&mut bench, Cmd::Apply(commit)) == Answer::Took);
-        assert!(rt; bench.plan().yellow_change(Phase::of(2)) == 35);
-        for kind in [Kind::Commit, Kind::Verify, Kind::Set, Kind::Begin] {
-            assert!(rt; bench.undo() == Ok(kind));
-        }
-        assert!(rt; bench.desk().owner() == None);
-        assert!(rt; bench.undo() == Err(Nothing));
+        None => false,
     }
 }
 
 /// Edits that break a rule are not verified, and not committed.
 #[test]
 fn keeps_plans_that_break_a_rule_out(rt: HostRuntime) {
-    let station = Station::of(1);
-    let inputs = [
-        Cmd::Apply(Input::Begin(station)),
-        Cmd::Apply(yellow(29)),
-        Cmd::Apply(Input::Verify(station)),
-        Cmd::Apply(Input::Commit(station)),
-    ];
-    let Ok(plan) = Checked::new(Plan::two()) else {
-        assert!(rt; false);
-        return;
-    };
-    let Ok((bench, answers)) = play(rt.alloc(), plan, &inputs) else {
-        assert!(rt; false);
-        return;
-    };
-    let wanted = [
-        Answer::Took,
-        Answer::Took,
-        Answer::Took,
-        Answer::Refused(Refusal::NotVerified),
-    ];
-    assert!(rt; answers.as_slice() == wanted.as_slice());
-    assert!(rt; bench.desk().rule() == Some(Rule::K8));
-    assert!(rt; *bench.plan() == Plan::two());
+    assert!(rt; keeps_out(rt.alloc()));
+}
+
+/// Whether the edits at the desk break this rule, and the plan in effect is the built-in one.
+fn is_two_against(bench: &Bench, rule: Rule) -> bool {
+    bench.desk().rule() == Some(rule) && *bench.plan() == Plan::two()
+}
+
+/// Whether the bench is at the last tick, and takes no further one.
+fn is_at_the_last_tick(bench: &mut Bench) -> bool {
+    number_of(bench) == Bench::TICKS && taken(bench, tick()) == Err(Refusal::TickLimit)
+}
+
+/// Whether the bench can be taken back to power-up, and no further.
+fn is_taken_back(bench: &mut Bench) -> bool {
+    sought(bench, 0) == Ok(()) && undone(bench) == Err(Nothing)
+}
+
+/// Whether a copy of the bench is at the last tick too, and is taken back.
+fn copy_is_taken_back(alloc: Global, bench: &Bench) -> bool {
+    match copied(alloc, bench) {
+        Some(mut copy) => is_at_the_last_tick(&mut copy) && is_taken_back(&mut copy),
+        None => false,
+    }
+}
+
+/// Whether the bench runs to the last tick and back, and so does a copy of it.
+fn ends(alloc: Global, bench: &mut Bench) -> bool {
+    run_to(bench, Bench::TICKS);
+    is_at_the_last_tick(bench) && copy_is_taken_back(alloc, bench) && is_taken_back(bench)
 }
 
 /// With ample memory no tick is refused up to the last one that there is, the bench can be copied there, and all can be
 /// taken back. An unproved run by `rt try`, which watches each access, does not end in time.
 #[test]
 fn runs_to_the_last_tick(rt: HostRuntime) {
-    let Ok(plan) = Checked::new(Plan::two()) else {
-        assert!(rt; false);
-        return;
+    let Some(mut bench) = powered_up(rt.alloc()) else {
+        panic!(rt; "no memory");
     };
-    let Ok(mut bench) = Bench::power_up(rt.alloc(), plan) else {
-        assert!(rt; false);
-        return;
-    };
-    for _ in 0..Bench::TICKS {
-        if bench.apply(tick()).is_err() {
-            break;
-        }
-    }
-    assert!(rt; bench.now() == Bench::TICKS);
-    assert!(rt; bench.apply(tick()) == Err(Refusal::TickLimit));
-    let Ok(mut copy) = bench.clone_in(rt.alloc()) else {
-        assert!(rt; false);
-        return;
-    };
-    assert!(rt; copy.now() == Bench::TICKS);
-    assert!(rt; copy.apply(tick()) == Err(Refusal::TickLimit));
-    assert!(rt; copy.seek(0) == Ok(()));
-    assert!(rt; copy.undo() == Err(Nothing));
-    assert!(rt; bench.seek(0) == Ok(()));
-    assert!(rt; bench.undo() == Err(Nothing));
+    assert!(rt; ends(rt.alloc(), &mut bench));
 }

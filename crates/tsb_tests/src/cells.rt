@@ -44,6 +44,11 @@ impl Layout<2> for Reading {
     }
 }
 
+/// Whether the bank holds these values.
+fn holds(bank: &Bank<4>, values: [u32; 4]) -> bool {
+    bank.row::<4>(0) == values
+}
+
 #[test]
 #[tactic(auto, using(tsb_cells::proofs::DiffLemmas::lengths))]
 fn changes_are_given_and_taken_back(rt: HostRuntime) {
@@ -58,17 +63,16 @@ fn changes_are_given_and_taken_back(rt: HostRuntime) {
     bank.put(2, 8);
     bank.put(2, 6);
     let changes = bank.close();
-    assert!(rt; changes.as_slice() == [(1, 5), (3, 0)].as_slice());
-    assert!(rt; bank.row::<4>(0) == [0, 7, 6, 9]);
+    let changed = holds(&bank, [0, 7, 6, 9]);
 
     bank.undo(changes.as_slice());
-    assert!(rt; bank.get(1) == 5);
-    assert!(rt; bank.row::<4>(0) == [0, 5, 6, 0]);
+    let undone = holds(&bank, [0, 5, 6, 0]) && bank.get(1) == 5;
 
     bank.open();
     bank.put(0, 1);
     abandon(&mut bank);
-    assert!(rt; bank.row::<4>(0) == [0, 5, 6, 0]);
+    assert!(rt; changed && undone && holds(&bank, [0, 5, 6, 0]));
+    assert!(rt; changes.as_slice() == [(1, 5), (3, 0)].as_slice());
 }
 
 #[test]
@@ -89,14 +93,25 @@ fn values_are_kept_in_cells(rt: HostRuntime) {
     assert!(rt; bank.load::<2, Reading>(120, 4).presence == Timer::Off);
 }
 
+/// Whether a timer that is on tells how long.
+fn tells_how_long(timer: Timer) -> bool {
+    timer == Timer::On(20)
+        && timer.started() == Timer::On(20)
+        && timer.is_on()
+        && timer.has_reached(20)
+        && !timer.has_reached(21)
+        && timer.is_below(21)
+        && !timer.is_below(20)
+}
+
+/// Whether a timer that is off tells nothing.
+fn tells_nothing(timer: Timer) -> bool {
+    !timer.is_on() && !timer.has_reached(0) && !timer.is_below(1)
+}
+
 #[test]
 fn timers_are_read(rt: HostRuntime) {
-    let timer = Timer::On(19).advanced();
-    assert!(rt; timer == Timer::On(20));
-    assert!(rt; timer.started() == Timer::On(20));
-    assert!(rt; timer.is_on() && !Timer::Off.is_on());
-    assert!(rt; timer.has_reached(20) && !timer.has_reached(21) && !Timer::Off.has_reached(0));
-    assert!(rt; timer.is_below(21) && !timer.is_below(20) && !Timer::Off.is_below(1));
+    assert!(rt; tells_how_long(Timer::On(19).advanced()) && tells_nothing(Timer::Off));
 }
 
 #[test]

@@ -4,101 +4,153 @@ use tsb_command_text::{Command, Reading, read_command, reading_of};
 use tsb_plan::{Object, ObjectId};
 use tsb_types::{Detector, Lamp, Overlap, PedestrianColor, Phase, SignalColor, Station, Watch};
 
-#[test]
-fn lines_of_one_and_two_words_are_commands(rt: HostRuntime) {
-    let two = Station::of(2);
-    assert!(rt; read_command(b"step 12".as_slice()) == Some(Command::Step(12)));
-    assert!(rt; read_command(b" back  007 ".as_slice()) == Some(Command::Back(7)));
-    assert!(rt; read_command(b"seek 0".as_slice()) == Some(Command::Seek(0)));
-    assert!(rt; read_command(b"undo".as_slice()) == Some(Command::Undo));
-    assert!(rt; read_command(b"show".as_slice()) == Some(Command::Show));
-    assert!(rt; read_command(b"begin 01".as_slice()) == Some(Command::Begin(Station::of(1))));
-    assert!(rt; read_command(b"verify 2".as_slice()) == Some(Command::Verify(two)));
-    assert!(rt; read_command(b"commit 2".as_slice()) == Some(Command::Commit(two)));
-    assert!(rt; read_command(b"abort 2".as_slice()) == Some(Command::Abort(two)));
-    assert!(rt;
-        read_command(b"pattern 4294967295".as_slice()) == Some(Command::Pattern(4_294_967_295))
-    );
-    assert!(rt; read_command(b"reset".as_slice()) == Some(Command::Reset));
-    assert!(rt; read_command(b"quit".as_slice()) == Some(Command::Quit));
-    assert!(rt; read_command(b"fault none".as_slice()) == Some(Command::Fault(None)));
-    assert!(rt; read_command(b"when stage".as_slice()) == Some(Command::When(Watch::Stage)));
-    assert!(rt; read_command(b"when trip".as_slice()) == Some(Command::When(Watch::Trip)));
+/// Whether the line is this command, or none.
+fn is(line: &[u8], wanted: Option<Command>) -> bool {
+    read_command(line) == wanted
+}
+
+/// Whether the lines that move a bench are commands.
+fn moves_are_commands() -> bool {
+    is(b"step 12", Some(Command::Step(12)))
+        && is(b" back  007 ", Some(Command::Back(7)))
+        && is(b"seek 0", Some(Command::Seek(0)))
+        && is(b"undo", Some(Command::Undo))
+        && is(b"show", Some(Command::Show))
+        && is(b"reset", Some(Command::Reset))
+        && is(b"quit", Some(Command::Quit))
+        && is(b"when stage", Some(Command::When(Watch::Stage)))
+        && is(b"when trip", Some(Command::When(Watch::Trip)))
 }
 
 #[test]
-fn lines_of_more_words_are_commands(rt: HostRuntime) {
-    let six = Phase::of(6);
-    assert!(rt;
-        read_command(b"when interval 6".as_slice()) == Some(Command::When(Watch::Interval(six)))
-    );
-    assert!(rt; read_command(b"when ped 6".as_slice()) == Some(Command::When(Watch::Ped(six))));
-    assert!(rt; read_command(b"when call 6".as_slice()) == Some(Command::When(Watch::Call(six))));
-    assert!(rt;
-        read_command(b"when output 16".as_slice())
-            == Some(Command::When(Watch::Output(Detector::of(16))))
-    );
-    assert!(rt;
-        read_command(b"when alarm 1".as_slice())
-            == Some(Command::When(Watch::Alarm(Detector::of(1))))
-    );
-    assert!(rt; read_command(b"preempt 3 on".as_slice()) == Some(Command::Preempt(3, true)));
-    assert!(rt; read_command(b"preempt 9 off".as_slice()) == Some(Command::Preempt(9, false)));
-    assert!(rt;
-        read_command(b"fault P16 Y".as_slice())
-            == Some(Command::Fault(Some(Lamp::Phase(Phase::of(16), SignalColor::Yellow))))
-    );
-    assert!(rt;
-        read_command(b"fault O4 R".as_slice())
-            == Some(Command::Fault(Some(Lamp::Overlap(Overlap::of(4), SignalColor::Red))))
-    );
-    assert!(rt;
-        read_command(b"fault W6 C".as_slice())
-            == Some(Command::Fault(Some(Lamp::Pedestrian(six, PedestrianColor::Clearance))))
-    );
+fn lines_of_one_and_two_words_are_commands(rt: HostRuntime) {
+    assert!(rt; moves_are_commands() && inputs_are_commands(Station::of(2)));
+}
+
+/// Whether the lines that change what a bench does are commands, among them those of station 2.
+fn inputs_are_commands(two: Station) -> bool {
+    is(b"begin 01", Some(Command::Begin(Station::of(1))))
+        && is(b"verify 2", Some(Command::Verify(two)))
+        && is(b"commit 2", Some(Command::Commit(two)))
+        && is(b"abort 2", Some(Command::Abort(two)))
+        && is(b"pattern 4294967295", Some(Command::Pattern(4_294_967_295)))
+        && is(b"fault none", Some(Command::Fault(None)))
+}
+
+/// Whether lines ask when something was seen last.
+fn watches_are_commands(six: Phase) -> bool {
+    is(
+        b"when interval 6",
+        Some(Command::When(Watch::Interval(six))),
+    ) && is(b"when ped 6", Some(Command::When(Watch::Ped(six))))
+        && is(b"when call 6", Some(Command::When(Watch::Call(six))))
+        && is(
+            b"when output 16",
+            Some(Command::When(Watch::Output(Detector::of(16)))),
+        )
+        && is(
+            b"when alarm 1",
+            Some(Command::When(Watch::Alarm(Detector::of(1)))),
+        )
+}
+
+/// Whether a line is the fault of this lamp.
+fn is_fault(line: &[u8], lamp: Lamp) -> bool {
+    is(line, Some(Command::Fault(Some(lamp))))
+}
+
+/// Whether lines switch preempts, turn lamps on and set values.
+fn switches_are_commands(six: Phase) -> bool {
     let id = ObjectId {
         object: Object::PhaseMaximum1,
         index: 9,
     };
-    assert!(rt;
-        read_command(b"set 1 phaseMaximum1 9 30".as_slice())
-            == Some(Command::Set(Station::of(1), id, 30))
-    );
+    is(b"preempt 3 on", Some(Command::Preempt(3, true)))
+        && is(b"preempt 9 off", Some(Command::Preempt(9, false)))
+        && is_fault(
+            b"fault P16 Y",
+            Lamp::Phase(Phase::of(16), SignalColor::Yellow),
+        )
+        && is_fault(
+            b"fault O4 R",
+            Lamp::Overlap(Overlap::of(4), SignalColor::Red),
+        )
+        && is_fault(
+            b"fault W6 C",
+            Lamp::Pedestrian(six, PedestrianColor::Clearance),
+        )
+        && is(
+            b"set 1 phaseMaximum1 9 30",
+            Some(Command::Set(Station::of(1), id, 30)),
+        )
+}
+
+#[test]
+fn lines_of_more_words_are_commands(rt: HostRuntime) {
+    assert!(rt; watches_are_commands(Phase::of(6)) && switches_are_commands(Phase::of(6)));
+}
+
+/// Lines that are no commands.
+const OTHERS: [&[u8]; 13] = [
+    b"step",
+    b"step 99999999999",
+    b"step x",
+    b"STEP 1",
+    b"step\t1",
+    b"set 1 phaseWalk 2",
+    b"begin 5",
+    b"fault W1 G",
+    b"fault P03 G",
+    b"fault O5 R",
+    b"when ped 17",
+    b"# quit",
+    b"",
+];
+
+/// Whether none of the lines is a command.
+fn are_none(lines: &[&[u8]]) -> bool {
+    for line in lines {
+        if !is(line, None) {
+            return false;
+        }
+    }
+    true
 }
 
 #[test]
 fn other_lines_are_none(rt: HostRuntime) {
-    assert!(rt; read_command(b"step".as_slice()) == None);
-    assert!(rt; read_command(b"step 99999999999".as_slice()) == None);
-    assert!(rt; read_command(b"step x".as_slice()) == None);
-    assert!(rt; read_command(b"STEP 1".as_slice()) == None);
-    assert!(rt; read_command(b"step\t1".as_slice()) == None);
-    assert!(rt; read_command(b"set 1 phaseWalk 2".as_slice()) == None);
-    assert!(rt; read_command(b"begin 5".as_slice()) == None);
-    assert!(rt; read_command(b"fault W1 G".as_slice()) == None);
-    assert!(rt; read_command(b"fault P03 G".as_slice()) == None);
-    assert!(rt; read_command(b"fault O5 R".as_slice()) == None);
-    assert!(rt; read_command(b"when ped 17".as_slice()) == None);
-    assert!(rt; read_command(b"# quit".as_slice()) == None);
-    assert!(rt; read_command(b"".as_slice()) == None);
+    assert!(rt; are_none(&OTHERS));
 }
 
-#[test]
-fn lines_of_over_200_bytes_are_bad(rt: HostRuntime) {
+fn reads(line: &[u8], wanted: Reading) -> bool {
+    reading_of(line) == wanted
+}
+
+/// Whether a line of 200 bytes is read, and one of 201 is bad whatever it says.
+fn lines_end_at_200_bytes() -> bool {
     let mut line = [b' '; 201];
     line[0] = b's';
     line[1] = b't';
     line[2] = b'e';
     line[3] = b'p';
     line[199] = b'1';
-    assert!(rt; reading_of(&line[..200]) == Reading::Do(Command::Step(1)));
+    let is_read = reads(&line[..200], Reading::Do(Command::Step(1)));
     line[199] = b' ';
     line[200] = b'1';
-    assert!(rt; reading_of(&line) == Reading::Bad);
+    let is_bad = reads(&line, Reading::Bad);
     line[0] = b'#';
-    assert!(rt; reading_of(&line[..200]) == Reading::Skip);
-    assert!(rt; reading_of(&line) == Reading::Bad);
-    assert!(rt; reading_of(b"  ".as_slice()) == Reading::Skip);
-    assert!(rt; reading_of(b" # quit".as_slice()) == Reading::Bad);
-    assert!(rt; reading_of(b" quit ".as_slice()) == Reading::Do(Command::Quit));
+    let is_skipped = reads(&line[..200], Reading::Skip);
+    is_read && is_bad && is_skipped && reads(&line, Reading::Bad)
+}
+
+/// Whether spaces about a word are passed over.
+fn spaces_are_passed_over() -> bool {
+    reads(b"  ", Reading::Skip)
+        && reads(b" # quit", Reading::Bad)
+        && reads(b" quit ", Reading::Do(Command::Quit))
+}
+
+#[test]
+fn lines_of_over_200_bytes_are_bad(rt: HostRuntime) {
+    assert!(rt; lines_end_at_200_bytes() && spaces_are_passed_over());
 }

@@ -179,97 +179,165 @@ fn whole_lines(count: usize) -> &'static [u8] {
     &INPUT[..end.min(INPUT.len())]
 }
 
+/// How a session went whose reader or writer is odd at one of its calls.
+#[derive(Clone, Copy, PartialEq, Eq)]
+enum Outcome {
+    Right,
+    /// The session was over before that call, with all answered.
+    Over,
+    Wrong,
+}
+
+/// `Right` or `Over` where all of it holds.
+fn outcome_of(is_over: bool, holds: bool) -> Outcome {
+    match (holds, is_over) {
+        (true, true) => Outcome::Over,
+        (true, false) => Outcome::Right,
+        (false, _) => Outcome::Wrong,
+    }
+}
+
+fn is_done(ended: &Option<Result<(), SessionError>>) -> bool {
+    matches!(ended, Some(Ok(())))
+}
+
+fn is_read_fault(ended: &Option<Result<(), SessionError>>) -> bool {
+    matches!(ended, Some(Err(SessionError::Read)))
+}
+
+fn is_write_fault(ended: &Option<Result<(), SessionError>>) -> bool {
+    matches!(ended, Some(Err(SessionError::Write)))
+}
+
+/// How a session goes whose reader fails after so many reads.
+fn read_fails(alloc: Global, piece: usize, odd: Odd, calls: usize) -> Outcome {
+    let read = calls.saturating_mul(piece).min(INPUT.len());
+    let mut writer = Taker::of(usize::MAX);
+    let mut reader = Pieces {
+        left: INPUT,
+        piece,
+        reads: Count::of(calls, odd),
+    };
+    let ended = talk(alloc, &mut reader, &mut writer);
+    if reader.reads.left.is_some() {
+        return outcome_of(true, is_done(&ended));
+    }
+    let answers = writer.is_prefix && Some(writer.taken) == answered(alloc, whole_lines(read));
+    let is_left = reader.left.len() == INPUT.len() - read;
+    outcome_of(false, answers && is_left && is_read_fault(&ended))
+}
+
+/// Whether sessions go right whose reader fails, at each of its reads.
+fn reads_fail(alloc: Global, piece: usize, odd: Odd) -> bool {
+    for calls in 0..=INPUT.len() {
+        match read_fails(alloc, piece, odd, calls) {
+            Outcome::Right => {}
+            Outcome::Over => break,
+            Outcome::Wrong => return false,
+        }
+    }
+    true
+}
+
 /// A reader fails at each of its reads. All lines that were read until then are answered, and nothing is read after it.
 #[test]
 fn a_read_that_fails_ends_a_session(rt: HostRuntime) {
     for piece in [1, 7, 4096] {
         for odd in FAILURES {
-            for calls in 0..=INPUT.len() {
-                let read = calls.saturating_mul(piece).min(INPUT.len());
-                let mut writer = Taker::of(usize::MAX);
-                let mut reader = Pieces {
-                    left: INPUT,
-                    piece,
-                    reads: Count::of(calls, odd),
-                };
-                let ended = talk(rt.alloc(), &mut reader, &mut writer);
-                if reader.reads.left.is_some() {
-                    assert!(rt; matches!(ended, Some(Ok(()))));
-                    break;
-                }
-                assert!(rt; matches!(ended, Some(Err(SessionError::Read))));
-                assert!(rt; writer.is_prefix);
-                assert!(rt; Some(writer.taken) == answered(rt.alloc(), whole_lines(read)));
-                assert!(rt; reader.left.len() == INPUT.len() - read);
-            }
+            assert!(rt; reads_fail(rt.alloc(), piece, odd));
         }
     }
+}
+
+/// Whether a session ends where its reader gives no byte, after so many reads.
+fn ends_at(alloc: Global, calls: usize) -> bool {
+    let mut writer = Taker::of(usize::MAX);
+    let mut reader = Pieces {
+        left: INPUT,
+        piece: 1,
+        reads: Count::of(calls, Odd::IsIdle),
+    };
+    let ended = talk(alloc, &mut reader, &mut writer);
+    is_done(&ended) && reader.left.len().saturating_add(calls) == INPUT.len()
 }
 
 /// A reader gives no byte, at each of its reads: that is the end of the commands.
 #[test]
 fn a_read_of_nothing_is_the_end(rt: HostRuntime) {
     for calls in 0..=INPUT.len() {
-        let mut writer = Taker::of(usize::MAX);
-        let mut reader = Pieces {
-            left: INPUT,
-            piece: 1,
-            reads: Count::of(calls, Odd::IsIdle),
-        };
-        let ended = talk(rt.alloc(), &mut reader, &mut writer);
-        assert!(rt; matches!(ended, Some(Ok(()))));
-        assert!(rt; reader.left.len() == INPUT.len() - calls);
+        assert!(rt; ends_at(rt.alloc(), calls));
     }
+}
+
+/// How a session goes whose writer is odd after so many writes.
+fn write_fails(alloc: Global, piece: usize, odd: Odd, calls: usize) -> Outcome {
+    let mut writer = Taker::of(piece);
+    writer.writes = Count::of(calls, odd);
+    let mut reader = INPUT;
+    let ended = talk(alloc, &mut reader, &mut writer);
+    if writer.writes.left.is_some() {
+        let is_whole = writer.is_prefix && writer.taken == OUTPUT.len();
+        return outcome_of(true, is_whole && is_done(&ended));
+    }
+    outcome_of(false, writer.is_prefix && is_write_fault(&ended))
+}
+
+/// Whether sessions go right whose writer is odd, at each of its writes.
+fn writes_fail(alloc: Global, piece: usize, odd: Odd) -> bool {
+    for calls in 0..=OUTPUT.len() {
+        match write_fails(alloc, piece, odd, calls) {
+            Outcome::Right => {}
+            Outcome::Over => break,
+            Outcome::Wrong => return false,
+        }
+    }
+    true
 }
 
 /// A writer fails or takes no byte, at each of its writes. What it took is a prefix of the answers.
 #[test]
 fn a_write_that_fails_ends_a_session(rt: HostRuntime) {
     for piece in [1, 7, 4096] {
-        for odd in [
-            FAILURES[0],
-            FAILURES[1],
-            FAILURES[2],
-            FAILURES[3],
-            Odd::IsIdle,
-        ] {
-            for calls in 0..=OUTPUT.len() {
-                let mut writer = Taker::of(piece);
-                writer.writes = Count::of(calls, odd);
-                let mut reader = INPUT;
-                let ended = talk(rt.alloc(), &mut reader, &mut writer);
-                assert!(rt; writer.is_prefix);
-                if writer.writes.left.is_some() {
-                    assert!(rt; matches!(ended, Some(Ok(()))));
-                    assert!(rt; writer.taken == OUTPUT.len());
-                    break;
-                }
-                assert!(rt; matches!(ended, Some(Err(SessionError::Write))));
-            }
+        for odd in FAILURES {
+            assert!(rt; writes_fail(rt.alloc(), piece, odd));
+        }
+        assert!(rt; writes_fail(rt.alloc(), piece, Odd::IsIdle));
+    }
+}
+
+/// How a session goes whose writer fails after so many flushes.
+fn flush_fails(alloc: Global, odd: Odd, calls: usize) -> Outcome {
+    let mut writer = Taker::of(usize::MAX);
+    writer.flushes = Count::of(calls, odd);
+    let mut reader = Pieces {
+        left: INPUT,
+        piece: 1,
+        reads: Count::none(),
+    };
+    let ended = talk(alloc, &mut reader, &mut writer);
+    if writer.flushes.left.is_some() {
+        let is_whole = writer.is_prefix && writer.taken == OUTPUT.len();
+        return outcome_of(true, is_whole && is_done(&ended));
+    }
+    outcome_of(false, writer.is_prefix && is_write_fault(&ended))
+}
+
+/// Whether sessions go right whose writer fails, at each of its flushes.
+fn flushes_fail(alloc: Global, odd: Odd) -> bool {
+    for calls in 0..=2 * INPUT.len() {
+        match flush_fails(alloc, odd, calls) {
+            Outcome::Right => {}
+            Outcome::Over => break,
+            Outcome::Wrong => return false,
         }
     }
+    true
 }
 
 /// A writer does not pass on what it took, at each of its flushes.
 #[test]
 fn a_flush_that_fails_ends_a_session(rt: HostRuntime) {
     for odd in FAILURES {
-        for calls in 0..=2 * INPUT.len() {
-            let mut writer = Taker::of(usize::MAX);
-            writer.flushes = Count::of(calls, odd);
-            let mut reader = Pieces {
-                left: INPUT,
-                piece: 1,
-                reads: Count::none(),
-            };
-            let ended = talk(rt.alloc(), &mut reader, &mut writer);
-            assert!(rt; writer.is_prefix);
-            if writer.flushes.left.is_some() {
-                assert!(rt; matches!(ended, Some(Ok(()))));
-                assert!(rt; writer.taken == OUTPUT.len());
-                break;
-            }
-            assert!(rt; matches!(ended, Some(Err(SessionError::Write))));
-        }
+        assert!(rt; flushes_fail(rt.alloc(), odd));
     }
 }

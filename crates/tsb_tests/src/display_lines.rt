@@ -35,21 +35,49 @@ fn shown(
     Display::new(&intervals, &pedestrians, None, None, tripped, plan)
 }
 
+/// Whether this is the line of a tick at which the heads show this.
+fn tells(
+    tick: u32,
+    display: &Display,
+    preempt: Option<Preempt>,
+    local: Option<u32>,
+    wanted: &str,
+) -> bool {
+    line(tick, display, preempt, local).as_str() == wanted
+}
+
+/// Whether lines tell what the heads of the plan show.
+fn tells_all(plan: &Checked) -> bool {
+    tells(
+        1,
+        &shown(plan, 34, 0, 2, 0, false),
+        None,
+        None,
+        "0000001 RGRRRGRR-------- -W-------------- G--- 0 ----",
+    ) && tells(
+        70,
+        &shown(plan, 34, 0, 0, 2, false),
+        Some(Preempt::of(2)),
+        None,
+        "0000070 RGRRRGRR-------- -C-------------- G--- 2 ----",
+    ) && tells(
+        760,
+        &shown(plan, 0, 34, 0, 0, false),
+        None,
+        Some(760),
+        "0000760 RYRRRYRR-------- -D-------------- Y--- 0 0760",
+    ) && tells(
+        6_000_000,
+        &shown(plan, 0, 0, 0, 0, false),
+        None,
+        Some(0),
+        "6000000 RRRRRRRR-------- -D-------------- R--- 0 0000",
+    )
+}
+
 #[test]
 fn tells_what_heads_show(rt: HostRuntime) {
-    let plan = quad(&rt);
-    let walking = shown(&plan, 34, 0, 2, 0, false);
-    let text = line(1, &walking, None, None);
-    assert!(rt; text.as_str() == "0000001 RGRRRGRR-------- -W-------------- G--- 0 ----");
-    let clearing = shown(&plan, 34, 0, 0, 2, false);
-    let text = line(70, &clearing, Some(Preempt::of(2)), None);
-    assert!(rt; text.as_str() == "0000070 RGRRRGRR-------- -C-------------- G--- 2 ----");
-    let yellow = shown(&plan, 0, 34, 0, 0, false);
-    let text = line(760, &yellow, None, Some(760));
-    assert!(rt; text.as_str() == "0000760 RYRRRYRR-------- -D-------------- Y--- 0 0760");
-    let red = shown(&plan, 0, 0, 0, 0, false);
-    let text = line(6_000_000, &red, None, Some(0));
-    assert!(rt; text.as_str() == "6000000 RRRRRRRR-------- -D-------------- R--- 0 0000");
+    assert!(rt; tells_all(&quad(&rt)));
 }
 
 #[test]

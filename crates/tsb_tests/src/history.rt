@@ -1,31 +1,40 @@
 //! Records of inputs: how they are spelled, and how they are taken back.
 
+use std::alloc::{AllocError, Global};
 use std::test::Fail;
 use tsb_history::{History, Kind};
 
-#[test]
-fn spells_and_takes_back(rt: HostRuntime) -> Result<(), Fail> {
-    let mut history = History::new(rt.alloc());
-    history.reserve(0)?;
-    history.push(Kind::Tick, &[]);
-    history.reserve(0)?;
-    history.push(Kind::Reset, &[]);
-    history.reserve(2)?;
-    history.push(Kind::Tick, &[(5, 1), (300, 65536)]);
-    let spelled = [
-        0x00, 0x00, 0x00, 0x04, 0x00, 0x00, 0x05, 0x00, 0x01, 0x00, 0x00, 0x00, 0x2C, 0x01, 0x00,
-        0x00, 0x01, 0x00, 0x00, 0x02, 0x00,
-    ];
-    assert!(rt; history.bytes() == spelled.as_slice());
+/// Pushes a record, or answers that there is no memory for it.
+fn push(history: &mut History, kind: Kind, entries: &[(u16, u32)]) -> Result<(), AllocError> {
+    if entries.len() < 65_536 {
+        history.reserve(entries.len())?;
+        history.push(kind, entries);
+    }
+    Ok(())
+}
 
-    let wanted = [
-        (Kind::Tick, 2, Some((5, 1)), Some((300, 65536))),
-        (Kind::Reset, 0, None, None),
-        (Kind::Tick, 0, None, None),
-    ];
-    let mut found = Vec::new(rt.alloc());
+/// What the records below spell.
+const SPELLED: [u8; 21] = [
+    0x00, 0x00, 0x00, 0x04, 0x00, 0x00, 0x05, 0x00, 0x01, 0x00, 0x00, 0x00, 0x2C, 0x01, 0x00, 0x00,
+    0x01, 0x00, 0x00, 0x02, 0x00,
+];
+
+/// Three records, of which the first two have no change.
+fn three(alloc: Global) -> Result<History, AllocError> {
+    let mut history = History::new(alloc);
+    push(&mut history, Kind::Tick, &[])?;
+    push(&mut history, Kind::Reset, &[])?;
+    push(&mut history, Kind::Tick, &[(5, 1), (300, 65536)])?;
+    Ok(history)
+}
+
+/// A kind, how many changes there are, and the first two of them.
+type Told = (Kind, usize, Option<(u16, u32)>, Option<(u16, u32)>);
+
+/// What the records tell, the newest first.
+fn told(alloc: Global, history: &History) -> Result<Vec<Told>, AllocError> {
+    let mut found = Vec::new(alloc);
     for record in history.walk_back() {
-        assert!(rt; record.is_empty() == (record.len() == 0));
         found.push((
             record.kind(),
             record.len(),
@@ -33,58 +42,124 @@ fn spells_and_takes_back(rt: HostRuntime) -> Result<(), Fail> {
             record.entry(1),
         ))?;
     }
-    assert!(rt; found.as_slice() == wanted.as_slice());
+    Ok(found)
+}
 
-    let newest = history
-        .last()
-        .map(|record| (record.kind(), record.entry(1), record.entry(2)));
-    assert!(rt; newest == Some((Kind::Tick, Some((300, 65536)), None)));
-    assert!(rt; history.len() == 3);
-    assert!(rt; history.pop() == Some(Kind::Tick));
-    assert!(rt; history.bytes() == &spelled[..6]);
-    assert!(rt; history.pop() == Some(Kind::Reset));
-    assert!(rt; history.pop() == Some(Kind::Tick));
-    assert!(rt; history.pop() == None);
-    assert!(rt; history.is_empty());
+/// Whether those of the records that have no change say so.
+fn tell_whether_they_are_empty(history: &History) -> bool {
+    for record in history.walk_back() {
+        if record.is_empty() != (record.len() == 0) {
+            return false;
+        }
+    }
+    true
+}
+
+/// What the three records tell.
+const TOLD: [Told; 3] = [
+    (Kind::Tick, 2, Some((5, 1)), Some((300, 65536))),
+    (Kind::Reset, 0, None, None),
+    (Kind::Tick, 0, None, None),
+];
+
+/// Whether the records tell this, the newest first.
+fn tell(alloc: Global, history: &History, wanted: &[Told]) -> bool {
+    match told(alloc, history) {
+        Ok(found) => found.as_slice() == wanted,
+        Err(_) => false,
+    }
+}
+
+/// Whether the three records are spelled and tell what they are to.
+fn are_spelled_and_told(alloc: Global, history: &History) -> bool {
+    spells(history, &SPELLED)
+        && tell(alloc, history, &TOLD)
+        && tell_whether_they_are_empty(history)
+        && newest(history) == Some((Kind::Tick, Some((300, 65536)), None))
+}
+
+#[test]
+fn spells_and_walks_back(rt: HostRuntime) -> Result<(), Fail> {
+    let history = three(rt.alloc())?;
+    assert!(rt; are_spelled_and_told(rt.alloc(), &history));
     Ok(())
+}
+
+fn spells(history: &History, bytes: &[u8]) -> bool {
+    history.bytes() == bytes
+}
+
+/// The kind of the newest record, with its second and third change.
+fn newest(history: &History) -> Option<(Kind, Option<(u16, u32)>, Option<(u16, u32)>)> {
+    let record = history.last()?;
+    Some((record.kind(), record.entry(1), record.entry(2)))
+}
+
+fn popped(history: &mut History) -> Option<Kind> {
+    history.pop()
+}
+
+/// Whether the three records are taken back, and nothing is left.
+fn are_taken_back(history: &mut History) -> bool {
+    history.len() == 3
+        && popped(history) == Some(Kind::Tick)
+        && spells(history, &SPELLED[..6])
+        && popped(history) == Some(Kind::Reset)
+        && popped(history) == Some(Kind::Tick)
+        && popped(history) == None
+        && history.is_empty()
+}
+
+#[test]
+fn takes_back(rt: HostRuntime) -> Result<(), Fail> {
+    let mut history = three(rt.alloc())?;
+    assert!(rt; are_taken_back(&mut history));
+    Ok(())
+}
+
+/// Whether a copy of the history has the same records, and so many.
+fn is_copied(alloc: Global, history: &History, count: usize) -> bool {
+    match history.clone_in(alloc) {
+        Ok(copy) => {
+            copy.bytes() == history.bytes() && copy.len() == count && history.len() == count
+        }
+        Err(_) => false,
+    }
 }
 
 #[test]
 fn finds_memory(rt: HostRuntime) -> Result<(), Fail> {
     let mut history = History::new(rt.alloc());
-    assert!(rt; history.reserve(10).is_ok());
-    assert!(rt; history.len() == 0);
-    assert!(rt; history.pop() == None);
-    let empty = history.clone_in(rt.alloc())?;
-    assert!(rt; empty.bytes() == history.bytes());
-    history.reserve(1)?;
-    history.push(Kind::Commit, &[(65535, 4294967295)]);
-    let copy = history.clone_in(rt.alloc())?;
-    assert!(rt; copy.bytes() == history.bytes());
-    assert!(rt; copy.len() == 1);
+    history.reserve(10)?;
+    assert!(rt; popped(&mut history) == None && is_copied(rt.alloc(), &history, 0));
+    push(&mut history, Kind::Commit, &[(65535, 4294967295)])?;
+    assert!(rt; is_copied(rt.alloc(), &history, 1));
     Ok(())
 }
 
+/// Whether a record of this kind spells the code of its kind, and is taken back.
+fn keeps(history: &mut History, kind: Kind, code: u8) -> bool {
+    push(history, kind, &[]).is_ok()
+        && spells(history, &[code, 0, 0])
+        && popped(history) == Some(kind)
+}
+
 #[test]
-fn keeps_each_kind(rt: HostRuntime) -> Result<(), Fail> {
+fn keeps_each_kind(rt: HostRuntime) {
     let kinds = [
-        Kind::Tick,
-        Kind::Pattern,
-        Kind::Switch,
-        Kind::Fault,
-        Kind::Reset,
-        Kind::Begin,
-        Kind::Set,
-        Kind::Verify,
-        Kind::Commit,
-        Kind::Abort,
+        (0, Kind::Tick),
+        (1, Kind::Pattern),
+        (2, Kind::Switch),
+        (3, Kind::Fault),
+        (4, Kind::Reset),
+        (5, Kind::Begin),
+        (6, Kind::Set),
+        (7, Kind::Verify),
+        (8, Kind::Commit),
+        (9, Kind::Abort),
     ];
     let mut history = History::new(rt.alloc());
-    for code in 0..kinds.len() {
-        history.reserve(0)?;
-        history.push(kinds[code], &[]);
-        assert!(rt; history.bytes() == [code as u8, 0, 0].as_slice());
-        assert!(rt; history.pop() == Some(kinds[code]));
+    for (code, kind) in kinds {
+        assert!(rt; keeps(&mut history, kind, code));
     }
-    Ok(())
 }

@@ -2,59 +2,104 @@
 
 use tsb_lines::{KeptLine, is_skipped, laws, next_line, next_word, number, without_return};
 
+/// Whether the text has these lines, one after the other, and no more.
+fn has_lines(text: &[u8], wanted: &[&[u8]]) -> bool {
+    let mut left = Some(text);
+    for line in wanted {
+        let Some(text) = left else {
+            return false;
+        };
+        let (found, rest) = next_line(text);
+        if found != *line {
+            return false;
+        }
+        left = rest;
+    }
+    left.is_none()
+}
+
 #[test]
 fn lines_end_at_line_feeds(rt: HostRuntime) {
-    let text = b"one\r\ntwo\r\r\n\nlast\r".as_slice();
-    let (line, rest) = next_line(text);
-    assert!(rt; line == b"one".as_slice());
-    let (line, rest) = next_line(rest.unwrap_or(b"".as_slice()));
-    assert!(rt; line == b"two\r".as_slice());
-    let (line, rest) = next_line(rest.unwrap_or(b"".as_slice()));
-    assert!(rt; line.is_empty());
-    let (line, rest) = next_line(rest.unwrap_or(b"".as_slice()));
-    assert!(rt; line == b"last\r".as_slice());
-    assert!(rt; rest.is_none());
-    assert!(rt; without_return(line) == b"last".as_slice());
+    let wanted: [&[u8]; 4] = [b"one", b"two\r", b"", b"last\r"];
+    assert!(rt; has_lines(b"one\r\ntwo\r\r\n\nlast\r", &wanted));
+    assert!(rt; without_return(b"last\r") == b"last".as_slice());
     laws::lines_make_up_the_text();
+}
+
+/// Whether the line would be the first of these if it were the last of a text, and is the second where a line feed ends
+/// it.
+fn is_kept(line: &KeptLine<4>, last: &[u8], ended: &[u8]) -> bool {
+    line.last() == last && line.ended() == ended
+}
+
+fn push(line: &mut KeptLine<4>, bytes: &[u8]) {
+    for byte in bytes {
+        if *byte != b'\n' {
+            line.push(*byte);
+        }
+    }
+}
+
+/// Whether an empty line is kept up to its end, and can be cleared.
+fn is_kept_until_it_ends(line: &mut KeptLine<4>) -> bool {
+    let is_empty = is_kept(line, b"", b"");
+    push(line, b"ab\r");
+    let is_short = is_kept(line, b"ab\r", b"ab");
+    push(line, b"\rc");
+    let is_long = is_kept(line, b"ab\r\r", b"ab\r");
+    line.clear();
+    push(line, b"d");
+    is_empty && is_short && is_long && is_kept(line, b"d", b"d")
 }
 
 #[test]
 fn a_line_is_kept_until_it_ends(rt: HostRuntime) {
     let mut line: KeptLine<4> = KeptLine::new();
-    assert!(rt; line.last().is_empty() && line.ended().is_empty());
-    line.push(b'a');
-    line.push(b'b');
-    line.push(b'\r');
-    assert!(rt; line.last() == b"ab\r".as_slice() && line.ended() == b"ab".as_slice());
-    line.push(b'\r');
-    line.push(b'c');
-    assert!(rt; line.last() == b"ab\r\r".as_slice() && line.ended() == b"ab\r".as_slice());
-    line.clear();
-    line.push(b'd');
-    assert!(rt; line.last() == b"d".as_slice() && line.ended() == b"d".as_slice());
+    assert!(rt; is_kept_until_it_ends(&mut line));
+}
+
+fn skips(line: &[u8]) -> bool {
+    is_skipped(line)
 }
 
 #[test]
 fn blanks_and_comments_are_skipped(rt: HostRuntime) {
-    assert!(rt; is_skipped(b"".as_slice()) && is_skipped(b"   ".as_slice()));
-    assert!(rt; is_skipped(b"# step 1".as_slice()));
-    assert!(rt; !is_skipped(b"\t".as_slice()) && !is_skipped(b" # no comment".as_slice()));
+    assert!(rt; skips(b"") && skips(b"   ") && skips(b"# step 1"));
+    assert!(rt; !skips(b"\t") && !skips(b" # no comment"));
+}
+
+/// Whether the line has these words, one after the other, and no more.
+fn has_words(line: &[u8], wanted: &[&[u8]]) -> bool {
+    let mut left = line;
+    for word in wanted {
+        let Some((found, rest)) = next_word(left) else {
+            return false;
+        };
+        if found != *word {
+            return false;
+        }
+        left = rest;
+    }
+    next_word(left).is_none()
+}
+
+fn spells(word: &[u8], value: Option<u32>) -> bool {
+    number(word) == value
+}
+
+/// Whether words that spell no number are told from those that do.
+fn words_are_told_apart() -> bool {
+    spells(b"0012", Some(12))
+        && spells(b"4294967295", Some(4_294_967_295))
+        && spells(b"4294967296", None)
+        && spells(b"00000000001", None)
+        && spells(b"", None)
+        && spells(b"1x", None)
 }
 
 #[test]
 fn words_spell_numbers(rt: HostRuntime) {
-    let (word, rest) = next_word(b"  step   0012 ".as_slice()).unwrap_or((
-        b"".as_slice(),
-        b"".as_slice(),
-    ));
-    assert!(rt; word == b"step".as_slice());
-    let (word, rest) = next_word(rest).unwrap_or((b"".as_slice(), b"".as_slice()));
-    assert!(rt; number(word) == Some(12));
-    assert!(rt; next_word(rest).is_none());
-    assert!(rt; number(b"4294967295".as_slice()) == Some(4_294_967_295));
-    assert!(rt; number(b"4294967296".as_slice()) == None);
-    assert!(rt; number(b"00000000001".as_slice()) == None);
-    assert!(rt; number(b"".as_slice()) == None);
-    assert!(rt; number(b"1x".as_slice()) == None);
+    assert!(rt; has_words(b"  step   0012 ", &[b"step".as_slice(), b"0012"]));
+    assert!(rt; words_are_told_apart());
     laws::words_stand_between_spaces();
 }

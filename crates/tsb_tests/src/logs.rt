@@ -15,23 +15,38 @@ fn only(list: u16) -> Row {
     }
 }
 
+/// Whether the log has this row at this tick. The place is that of the row that was found last.
+fn has_row(log: &Log, tick: u32, row: Row, place: &mut usize) -> bool {
+    log.row(tick, place) == row
+}
+
+/// Whether the log of the text has these rows in force.
+fn has_rows(log: &Log) -> bool {
+    let mut place = 0;
+    for (tick, list) in [
+        (99, 0),
+        (100, 36),
+        (101, 36),
+        (102, 32),
+        (150, 32),
+        (151, 0),
+        (6_000_000, 0),
+    ] {
+        if !has_row(log, tick, only(list), &mut place) {
+            return false;
+        }
+    }
+    has_row(log, 100, only(36), &mut 77) && has_row(log, 99, Row::all_off(), &mut place)
+}
+
 #[test]
 fn rows_are_in_force_until_the_next(rt: HostRuntime) {
     let Ok(log) = read_log(rt.alloc(), TEXT.as_bytes()) else {
         panic!(rt; "no log");
     };
-    let mut place = 0;
-    assert!(rt; log.row(99, &mut place) == Row::all_off());
-    assert!(rt; log.row(100, &mut place) == only(36));
-    assert!(rt; log.row(101, &mut place) == only(36));
-    assert!(rt; log.row(102, &mut place) == only(32));
-    assert!(rt; log.row(150, &mut place) == only(32));
-    assert!(rt; log.row(151, &mut place) == Row::all_off());
-    assert!(rt; log.row(6_000_000, &mut place) == Row::all_off());
-    place = 77;
-    assert!(rt; log.row(100, &mut place) == only(36));
+    assert!(rt; has_rows(&log));
     let empty = Log::empty(rt.alloc());
-    assert!(rt; empty.row(100, &mut place) == Row::all_off());
+    assert!(rt; has_row(&empty, 100, Row::all_off(), &mut 77));
     laws::rows_are_in_force_to_the_next();
 }
 
@@ -41,27 +56,43 @@ fn digits_are_inputs(rt: HostRuntime) {
     let Ok(log) = read_log(rt.alloc(), text) else {
         panic!(rt; "no log");
     };
-    let mut place = 0;
-    let row = log.row(6_000_000, &mut place);
-    assert!(rt; row.vehicles.list() == 0x8001);
-    assert!(rt; row.pedestrians.list() == 0x81);
-    assert!(rt; row.preempts.list() == 9);
+    let row = Row {
+        vehicles: NumberSet::from_list(0x8001),
+        pedestrians: NumberSet::from_list(0x81),
+        preempts: NumberSet::from_list(9),
+    };
+    assert!(rt; has_row(&log, 6_000_000, row, &mut 0));
     laws::digits_tell_their_inputs();
+}
+
+/// Whether these texts have these faults.
+fn have_faults(alloc: Global) -> bool {
+    says(
+        alloc,
+        b"0000100 0010010000000000 00000000 0000\n0000100 0010010000000000 00000000 0000\n",
+        "log line 2: tick order",
+    ) && says(
+        alloc,
+        b"0000000 0010010000000000 00000000 0000\n",
+        "log line 1: malformed",
+    ) && says(
+        alloc,
+        b"0000100 0010010000000000\n",
+        "log line 1: malformed",
+    ) && says(
+        alloc,
+        b"\n# a\n6000001 0010010000000000 00000000 0000\n",
+        "log line 3: malformed",
+    ) && says(
+        alloc,
+        b"0000100 0010010000000000 00000000 0000\r",
+        "log line 1: malformed",
+    )
 }
 
 #[test]
 fn faults_name_their_line(rt: HostRuntime) {
-    let twice =
-        b"0000100 0010010000000000 00000000 0000\n0000100 0010010000000000 00000000 0000\n".as_slice();
-    assert!(rt; says(rt.alloc(), twice, "log line 2: tick order"));
-    let zero = b"0000000 0010010000000000 00000000 0000\n".as_slice();
-    assert!(rt; says(rt.alloc(), zero, "log line 1: malformed"));
-    let cut = b"0000100 0010010000000000\n".as_slice();
-    assert!(rt; says(rt.alloc(), cut, "log line 1: malformed"));
-    let behind = b"\n# a\n6000001 0010010000000000 00000000 0000\n".as_slice();
-    assert!(rt; says(rt.alloc(), behind, "log line 3: malformed"));
-    let end = b"0000100 0010010000000000 00000000 0000\r".as_slice();
-    assert!(rt; says(rt.alloc(), end, "log line 1: malformed"));
+    assert!(rt; have_faults(rt.alloc()));
     laws::logs_are_rows_that_rise();
 }
 

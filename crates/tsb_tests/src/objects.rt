@@ -23,32 +23,48 @@ fn id(object: Object, index: u32) -> ObjectId {
     ObjectId { object, index }
 }
 
+/// Objects, each with how many indices it has and its greatest value.
+const RANGES: [Value; 16] = [
+    (Object::PhaseEnabled, 16, 1),
+    (Object::PhaseSide, 16, 4),
+    (Object::PhaseConcurrency, 16, 65_535),
+    (Object::VehicleDetectorCallPhase, 16, 16),
+    (Object::VehicleDetectorDelay, 16, 2550),
+    (Object::PedestrianDetectorCallPhase, 8, 16),
+    (Object::PatternOffsetTime, 16, 254),
+    (Object::PatternSplitNumber, 16, 8),
+    (Object::PatternSequenceNumber, 16, 4),
+    (Object::SplitMode, 128, 5),
+    (Object::SequenceData, 128, 16),
+    (Object::PreemptDelay, 4, 600),
+    (Object::PreemptMaximumPresence, 4, 65_535),
+    (Object::UnitRedRevert, 1, 255),
+    (Object::PhaseDynamicMaxStep, 16, 255),
+    (Object::OverlapType, 4, 1),
+];
+
+/// Whether the object has so many indices and this greatest value, said in both ways.
+fn has_range(object: Object, indices: u32, greatest: u32) -> bool {
+    let range = range_of(object);
+    range.indices == indices
+        && range.greatest == greatest
+        && object.indices() == indices
+        && object.greatest() == greatest
+}
+
+/// Whether the objects have these ranges.
+fn have_ranges(wanted: &[Value]) -> bool {
+    for (object, indices, greatest) in wanted {
+        if !has_range(*object, *indices, *greatest) {
+            return false;
+        }
+    }
+    true
+}
+
 #[test]
 fn objects_have_their_ranges(rt: HostRuntime) {
-    let wanted = [
-        (Object::PhaseEnabled, 16, 1),
-        (Object::PhaseSide, 16, 4),
-        (Object::PhaseConcurrency, 16, 65_535),
-        (Object::VehicleDetectorCallPhase, 16, 16),
-        (Object::VehicleDetectorDelay, 16, 2550),
-        (Object::PedestrianDetectorCallPhase, 8, 16),
-        (Object::PatternOffsetTime, 16, 254),
-        (Object::PatternSplitNumber, 16, 8),
-        (Object::PatternSequenceNumber, 16, 4),
-        (Object::SplitMode, 128, 5),
-        (Object::SequenceData, 128, 16),
-        (Object::PreemptDelay, 4, 600),
-        (Object::PreemptMaximumPresence, 4, 65_535),
-        (Object::UnitRedRevert, 1, 255),
-        (Object::PhaseDynamicMaxStep, 16, 255),
-        (Object::OverlapType, 4, 1),
-    ];
-    for (object, indices, greatest) in wanted {
-        let range = range_of(object);
-        assert!(rt; (range.indices, range.greatest) == (indices, greatest));
-        assert!(rt; (object.indices(), object.greatest()) == (indices, greatest));
-    }
-    assert!(rt; Object::ALL.len() == 61);
+    assert!(rt; have_ranges(&RANGES) && Object::ALL.len() == 61);
     laws::cells_are_told_apart();
     laws::values_are_told_apart();
 }
@@ -77,37 +93,79 @@ const TWO: [Value; 20] = [
     (Object::SequenceData, 2, 4),
 ];
 
+/// Whether the plan has these values.
+fn has_values(plan: &Plan, values: &[Value]) -> bool {
+    for (object, index, value) in values {
+        if plan.get(id(*object, *index)) != Ok(*value) {
+            return false;
+        }
+    }
+    true
+}
+
+fn got(plan: &Plan, object: Object, index: u32) -> Result<u32, Refusal> {
+    plan.get(id(object, index))
+}
+
+fn put(plan: &mut Plan, object: Object, index: u32, value: u32) -> Result<(), Refusal> {
+    plan.put(id(object, index), value)
+}
+
+/// Whether the plan refuses objects that are not there, and values that are out of range, and stays as it was.
+fn refuses(plan: &mut Plan) -> bool {
+    got(plan, Object::PhaseRing, 0) == Err(Refusal::NoSuchObject)
+        && got(plan, Object::PhaseRing, 17) == Err(Refusal::NoSuchObject)
+        && got(plan, Object::UnitMax2, 2) == Err(Refusal::NoSuchObject)
+        && put(plan, Object::PhaseRing, 17, 3) == Err(Refusal::NoSuchObject)
+        && put(plan, Object::PhaseRing, 16, 3) == Err(Refusal::OutOfRange)
+        && *plan == Plan::two()
+}
+
+/// Whether the plan takes a value, and its other values stay.
+fn takes(plan: &mut Plan) -> bool {
+    put(plan, Object::PhaseRing, 16, 2) == Ok(())
+        && got(plan, Object::PhaseRing, 16) == Ok(2)
+        && got(plan, Object::PhaseRing, 15) == Ok(0)
+        && got(plan, Object::PhaseSide, 1) == Ok(0)
+}
+
 #[test]
 fn plans_keep_values(rt: HostRuntime) {
     let mut plan = Plan::two();
-    for (object, index, value) in TWO {
-        assert!(rt; plan.get(id(object, index)) == Ok(value));
-    }
-    assert!(rt; Some(plan) == changed(Plan::empty(), &TWO));
+    assert!(rt; has_values(&plan, &TWO) && Some(plan) == changed(Plan::empty(), &TWO));
+    assert!(rt; refuses(&mut plan) && takes(&mut plan));
+}
 
-    assert!(rt; plan.get(id(Object::PhaseRing, 0)) == Err(Refusal::NoSuchObject));
-    assert!(rt; plan.get(id(Object::PhaseRing, 17)) == Err(Refusal::NoSuchObject));
-    assert!(rt; plan.get(id(Object::UnitMax2, 2)) == Err(Refusal::NoSuchObject));
-    assert!(rt; plan.put(id(Object::PhaseRing, 17), 3) == Err(Refusal::NoSuchObject));
-    assert!(rt; plan.put(id(Object::PhaseRing, 16), 3) == Err(Refusal::OutOfRange));
-    assert!(rt; plan == Plan::two());
-    assert!(rt; plan.put(id(Object::PhaseRing, 16), 2) == Ok(()));
-    assert!(rt; plan.get(id(Object::PhaseRing, 16)) == Ok(2));
-    assert!(rt; plan.get(id(Object::PhaseRing, 15)) == Ok(0));
-    assert!(rt; plan.get(id(Object::PhaseSide, 1)) == Ok(0));
+/// Whether the built-in plan tells of its phases.
+fn two_tells_of_phases(plan: &Plan) -> bool {
+    let (second, third, fourth) = (Phase::of(2), Phase::of(3), Phase::of(4));
+    plan.is_enabled(second)
+        && !plan.is_enabled(third)
+        && plan.has_maximum_recall(fourth)
+        && !plan.has_maximum_recall(third)
+        && plan.ring(fourth) == 1
+        && plan.side(fourth) == 2
+        && plan.minimum_green(fourth) == 50
+        && plan.maximum(fourth) == 80
+        && plan.yellow_change(fourth) == 30
+        && plan.red_clear(fourth) == 10
+        && &plan.sequence(Sequence::of(1), Ring::of(1))[..3] == [2, 4, 0].as_slice()
+}
+
+/// Whether a plan with the changes below tells of its phases.
+fn changed_tells_of_phases(plan: &Plan) -> bool {
+    let (second, fourth) = (Phase::of(2), Phase::of(4));
+    plan.maximum(second) == 120
+        && plan.time_before_reduction(second) == 70
+        && plan.red_revert(second) == 20
+        && plan.red_revert(fourth) == 21
+        && plan.concurrency(second).list() == 0x8010
+        && plan.sequence(Sequence::of(2), Ring::of(2))[0] == 9
+        && plan.sequence(Sequence::of(4), Ring::of(2))[15] == 16
 }
 
 #[test]
 fn plans_tell_of_phases(rt: HostRuntime) {
-    let (second, fourth) = (Phase::of(2), Phase::of(4));
-    let plan = Plan::two();
-    assert!(rt; plan.is_enabled(second) && !plan.is_enabled(Phase::of(3)));
-    assert!(rt; plan.has_maximum_recall(fourth) && !plan.has_maximum_recall(Phase::of(3)));
-    assert!(rt; (plan.ring(fourth), plan.side(fourth)) == (1, 2));
-    assert!(rt; (plan.minimum_green(fourth), plan.maximum(fourth)) == (50, 80));
-    assert!(rt; (plan.yellow_change(fourth), plan.red_clear(fourth)) == (30, 10));
-    assert!(rt; &plan.sequence(Sequence::of(1), Ring::of(1))[..3] == [2, 4, 0].as_slice());
-
     let changes = [
         (Object::UnitMax2, 1, 1),
         (Object::PhaseMaximum2, 2, 12),
@@ -119,15 +177,9 @@ fn plans_tell_of_phases(rt: HostRuntime) {
         (Object::SequenceData, 49, 9),
         (Object::SequenceData, 128, 16),
     ];
-    match changed(plan, &changes) {
-        Some(plan) => {
-            assert!(rt; plan.maximum(second) == 120);
-            assert!(rt; plan.time_before_reduction(second) == 70);
-            assert!(rt; (plan.red_revert(second), plan.red_revert(fourth)) == (20, 21));
-            assert!(rt; plan.concurrency(second).list() == 0x8010);
-            assert!(rt; plan.sequence(Sequence::of(2), Ring::of(2))[0] == 9);
-            assert!(rt; plan.sequence(Sequence::of(4), Ring::of(2))[15] == 16);
-        }
-        None => assert!(rt; false, "a value was refused"),
-    }
+    let two = Plan::two();
+    let Some(plan) = changed(two, &changes) else {
+        panic!(rt; "a value was refused");
+    };
+    assert!(rt; two_tells_of_phases(&two) && changed_tells_of_phases(&plan));
 }

@@ -57,96 +57,147 @@ fn answer(alloc: Global, text: &str) -> Result<String, AllocError> {
     }
 }
 
-/// What reading answers for the text `start` with blanks up to the length, printed.
-fn answer_padded(alloc: Global, start: &str, len: usize) -> Result<String, AllocError> {
+/// Whether this is what reading the text answers.
+fn is_answered(alloc: Global, text: &str, line: &str) -> bool {
+    match answer(alloc, text) {
+        Ok(given) => given.as_str() == line,
+        Err(_) => false,
+    }
+}
+
+/// Whether these are what reading the texts answers.
+fn are_answered(alloc: Global, wanted: &[(&str, &str)]) -> bool {
+    for (text, line) in wanted {
+        if !is_answered(alloc, text, line) {
+            return false;
+        }
+    }
+    true
+}
+
+/// A text of version 1 with these members.
+fn with_members(alloc: Global, members: &str) -> Result<String, AllocError> {
+    let mut text = String::from_str(alloc, "{\"version\":1,")?;
+    text.push_str(members)?;
+    text.push_str("}")?;
+    Ok(text)
+}
+
+/// Whether these are what reading answers for texts of version 1 with these members.
+fn members_are_answered(alloc: Global, wanted: &[(&str, &str)]) -> bool {
+    for (members, line) in wanted {
+        match with_members(alloc, members) {
+            Ok(text) if is_answered(alloc, text.as_str(), line) => {}
+            _ => return false,
+        }
+    }
+    true
+}
+
+/// The text `start` with blanks up to the length.
+fn padded(alloc: Global, start: &str, len: usize) -> Result<String, AllocError> {
     let mut text = String::from_str(alloc, start)?;
     for _ in start.len()..len {
         text.push(' ')?;
     }
-    answer(alloc, text.as_str())
+    Ok(text)
 }
+
+/// Whether this is what reading answers for the text `start` with blanks up to the length.
+fn padded_is_answered(alloc: Global, start: &str, len: usize, line: &str) -> bool {
+    match padded(alloc, start, len) {
+        Ok(text) => is_answered(alloc, text.as_str(), line),
+        Err(_) => false,
+    }
+}
+
+/// Whether these are what reading answers for the texts with blanks up to the greatest length.
+fn all_padded_are_answered(alloc: Global, wanted: &[(&str, &str)]) -> bool {
+    for (start, line) in wanted {
+        if !padded_is_answered(alloc, start, LIMIT, line) {
+            return false;
+        }
+    }
+    true
+}
+
+/// Texts, each with what reading answers for it.
+const TEXTS: [(&str, &str); 10] = [
+    (r#""#, "plan: not JSON"),
+    (r#"{"version":1"#, "plan: not JSON"),
+    (r#"[]"#, "plan: not a table"),
+    (r#"{}"#, "plan: version"),
+    (r#"{"version":1.0}"#, "plan: version"),
+    (r#"{"version":"1"}"#, "plan: version"),
+    (r#"{"version":1,"version":3}"#, "plan: version"),
+    (r#"{"version":3,"version":1}"#, "plan: rule K1"),
+    (r#"{"version":1}"#, "plan: rule K1"),
+    (SHORT_YELLOW, "plan: rule K8"),
+];
 
 #[test]
 fn faults_are_printed(rt: HostRuntime) {
-    let wanted = [
-        (r#""#, "plan: not JSON"),
-        (r#"{"version":1"#, "plan: not JSON"),
-        (r#"[]"#, "plan: not a table"),
-        (r#"{}"#, "plan: version"),
-        (r#"{"version":1.0}"#, "plan: version"),
-        (r#"{"version":"1"}"#, "plan: version"),
-        (r#"{"version":1,"version":3}"#, "plan: version"),
-        (r#"{"version":3,"version":1}"#, "plan: rule K1"),
-        (r#"{"version":1}"#, "plan: rule K1"),
-        (SHORT_YELLOW, "plan: rule K8"),
-        (QUAD, "read"),
-    ];
-    for (text, line) in &wanted {
-        let given = answer(rt.alloc(), text).expect(&rt, "memory");
-        assert!(rt; given.as_str() == *line);
-    }
+    assert!(rt; are_answered(rt.alloc(), &TEXTS) && is_answered(rt.alloc(), QUAD, "read"));
 }
+
+/// Members of a text, each with what reading answers for it.
+const MEMBERS: [(&str, &str); 15] = [
+    (r#""Walk":{}"#, "plan: Walk: no such object"),
+    (
+        r#""phaseWalk":5,"W\u0041\"":5"#,
+        "plan: WA\": no such object",
+    ),
+    (r#""overlapType":{}"#, "plan: overlapType: no such object"),
+    (r#""phaseWalk":5"#, "plan: phaseWalk: not a table"),
+    (
+        r#""phaseWalk":{"02":1}"#,
+        "plan: phaseWalk.02: no such object",
+    ),
+    (
+        r#""phaseWalk":{"+2":1}"#,
+        "plan: phaseWalk.+2: no such object",
+    ),
+    (
+        r#""phaseWalk":{"9":1}"#,
+        "plan: phaseWalk.9: no such object",
+    ),
+    (
+        r#""phaseWalk":{"2":-1}"#,
+        "plan: phaseWalk.2: not a whole number",
+    ),
+    (
+        r#""phaseWalk":{"2":30.0}"#,
+        "plan: phaseWalk.2: not a whole number",
+    ),
+    (
+        r#""phaseWalk":{"2":4294967296}"#,
+        "plan: phaseWalk.2: not a whole number",
+    ),
+    (
+        r#""phaseWalk":{"2":4294967295}"#,
+        "plan: phaseWalk.2: out of range",
+    ),
+    (
+        r#""phaseWalk":{"2":256}"#,
+        "plan: phaseWalk.2: out of range",
+    ),
+    (
+        r#""phaseWalk":{"2":256,"10":-1}"#,
+        "plan: phaseWalk.10: no such object",
+    ),
+    (
+        r#""phaseWalk":{"2":256},"phaseSide":{"2":3}"#,
+        "plan: phaseSide.2: out of range",
+    ),
+    (
+        r#""phaseWalk":{"2":256},"phaseWalk":{"2":5}"#,
+        "plan: rule K1",
+    ),
+];
 
 #[test]
 fn faults_of_members_are_printed(rt: HostRuntime) {
-    let wanted = [
-        (r#""Walk":{}"#, "plan: Walk: no such object"),
-        (
-            r#""phaseWalk":5,"W\u0041\"":5"#,
-            "plan: WA\": no such object",
-        ),
-        (r#""overlapType":{}"#, "plan: overlapType: no such object"),
-        (r#""phaseWalk":5"#, "plan: phaseWalk: not a table"),
-        (
-            r#""phaseWalk":{"02":1}"#,
-            "plan: phaseWalk.02: no such object",
-        ),
-        (
-            r#""phaseWalk":{"+2":1}"#,
-            "plan: phaseWalk.+2: no such object",
-        ),
-        (
-            r#""phaseWalk":{"9":1}"#,
-            "plan: phaseWalk.9: no such object",
-        ),
-        (
-            r#""phaseWalk":{"2":-1}"#,
-            "plan: phaseWalk.2: not a whole number",
-        ),
-        (
-            r#""phaseWalk":{"2":30.0}"#,
-            "plan: phaseWalk.2: not a whole number",
-        ),
-        (
-            r#""phaseWalk":{"2":4294967296}"#,
-            "plan: phaseWalk.2: not a whole number",
-        ),
-        (
-            r#""phaseWalk":{"2":4294967295}"#,
-            "plan: phaseWalk.2: out of range",
-        ),
-        (
-            r#""phaseWalk":{"2":256}"#,
-            "plan: phaseWalk.2: out of range",
-        ),
-        (
-            r#""phaseWalk":{"2":256,"10":-1}"#,
-            "plan: phaseWalk.10: no such object",
-        ),
-        (
-            r#""phaseWalk":{"2":256},"phaseSide":{"2":3}"#,
-            "plan: phaseSide.2: out of range",
-        ),
-        (
-            r#""phaseWalk":{"2":256},"phaseWalk":{"2":5}"#,
-            "plan: rule K1",
-        ),
-    ];
-    for (members, line) in &wanted {
-        let text = format!(in rt.alloc(); "{{\"version\":1,{members}}}").expect(&rt, "memory");
-        let given = answer(rt.alloc(), text.as_str()).expect(&rt, "memory");
-        assert!(rt; given.as_str() == *line);
-    }
+    assert!(rt; members_are_answered(rt.alloc(), &MEMBERS));
 }
 
 #[test]
@@ -157,10 +208,8 @@ fn plan_two_is_read(rt: HostRuntime) {
 
 #[test]
 fn a_text_of_the_limit_is_read(rt: HostRuntime) {
-    let largest = answer_padded(rt.alloc(), TWO, LIMIT).expect(&rt, "memory");
-    assert!(rt; largest.as_str() == "read");
-    let larger = answer_padded(rt.alloc(), TWO, LIMIT + 1).expect(&rt, "memory");
-    assert!(rt; larger.as_str() == "plan: too large");
+    assert!(rt; padded_is_answered(rt.alloc(), TWO, LIMIT, "read"));
+    assert!(rt; padded_is_answered(rt.alloc(), TWO, LIMIT + 1, "plan: too large"));
 }
 
 /// The fault of a text of the greatest length is reported as that of a short one.
@@ -178,15 +227,12 @@ fn a_text_of_the_limit_is_judged(rt: HostRuntime) {
         ),
         (SHORT_YELLOW, "plan: rule K8"),
     ];
-    for (text, line) in &wanted {
-        let given = answer_padded(rt.alloc(), text, LIMIT).expect(&rt, "memory");
-        assert!(rt; given.as_str() == *line);
-    }
+    assert!(rt; all_padded_are_answered(rt.alloc(), &wanted));
 }
 
-/// What reading answers for a text of `start`, `piece` this many times, `end`, and then what follows the first brace of
-/// the built-in plan of two phases.
-fn answer_repeated(
+/// A text of `start`, `piece` this many times, `end`, and then what follows the first brace of the built-in plan of two
+/// phases.
+fn repeated(
     alloc: Global,
     start: &str,
     piece: &str,
@@ -198,35 +244,68 @@ fn answer_repeated(
         text.push_str(piece)?;
     }
     text.push_str(end)?;
-    text.push_str(TWO.strip_prefix('{').unwrap_or(TWO))?;
-    answer(alloc, text.as_str())
+    text.push_str(behind_brace(TWO))?;
+    Ok(text)
+}
+
+fn behind_brace(text: &str) -> &str {
+    match text.strip_prefix('{') {
+        Some(rest) => rest,
+        None => text,
+    }
+}
+
+/// Whether this is what reading answers for such a text.
+fn repeated_is_answered(
+    alloc: Global,
+    start: &str,
+    piece: &str,
+    times: usize,
+    end: &str,
+    line: &str,
+) -> bool {
+    match repeated(alloc, start, piece, times, end) {
+        Ok(text) => is_answered(alloc, text.as_str(), line),
+        Err(_) => false,
+    }
+}
+
+/// Whether many members are read.
+fn many_objects_are_answered(alloc: Global) -> bool {
+    repeated_is_answered(alloc, "{", r#""version":2,"#, 87_000, "", "read")
+        && repeated_is_answered(
+            alloc,
+            "{",
+            r#""a":[],"#,
+            140_000,
+            "",
+            "plan: a: no such object",
+        )
+}
+
+/// Whether many indices and many numbers are read.
+fn many_values_are_answered(alloc: Global) -> bool {
+    repeated_is_answered(
+        alloc,
+        r#"{"phaseWalk":{"#,
+        r#""2":1,"#,
+        170_000,
+        r#""2":0},"#,
+        "read",
+    ) && repeated_is_answered(
+        alloc,
+        r#"{"phaseWalk":["#,
+        "0,",
+        500_000,
+        "0],",
+        "plan: phaseWalk: not a table",
+    )
 }
 
 /// As many members, as many indices of one object, and as many numbers in a list as fit are read: all are beyond 65,536.
 #[test]
 fn many_members_are_read(rt: HostRuntime) {
-    let wanted = [
-        ("{", r#""version":2,"#, 87_000, "", "read"),
-        ("{", r#""a":[],"#, 140_000, "", "plan: a: no such object"),
-        (
-            r#"{"phaseWalk":{"#,
-            r#""2":1,"#,
-            170_000,
-            r#""2":0},"#,
-            "read",
-        ),
-        (
-            r#"{"phaseWalk":["#,
-            "0,",
-            500_000,
-            "0],",
-            "plan: phaseWalk: not a table",
-        ),
-    ];
-    for (start, piece, times, end, line) in &wanted {
-        let given = answer_repeated(rt.alloc(), start, piece, *times, end).expect(&rt, "memory");
-        assert!(rt; given.as_str() == *line);
-    }
+    assert!(rt; many_objects_are_answered(rt.alloc()) && many_values_are_answered(rt.alloc()));
 }
 
 #[test]

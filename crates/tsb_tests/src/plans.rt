@@ -16,115 +16,188 @@ fn changed_quad(values: &[(Object, u32, u32)]) -> Option<Plan> {
     Some(plan)
 }
 
+/// Values of the built-in plan of eight phases.
+const OF_QUAD: [(Object, u32, u32); 41] = [
+    (Object::PhaseEnabled, 8, 1),
+    (Object::PhaseEnabled, 9, 0),
+    (Object::PhaseRing, 4, 1),
+    (Object::PhaseRing, 5, 2),
+    (Object::PhaseSide, 2, 1),
+    (Object::PhaseSide, 7, 2),
+    (Object::PhaseConcurrency, 1, 48),
+    (Object::PhaseConcurrency, 4, 192),
+    (Object::PhaseConcurrency, 6, 3),
+    (Object::PhaseConcurrency, 8, 12),
+    (Object::PhaseMinimumGreen, 8, 5),
+    (Object::PhaseMaximum1, 1, 20),
+    (Object::PhaseMaximum2, 1, 20),
+    (Object::PhasePassage, 3, 20),
+    (Object::PhaseMinimumGap, 3, 20),
+    (Object::PhaseYellowChange, 5, 30),
+    (Object::PhaseRedClear, 5, 10),
+    (Object::PhaseWalk, 2, 4),
+    (Object::PhasePedestrianClear, 2, 6),
+    (Object::PhaseMinRecall, 6, 1),
+    (Object::PhaseMinRecall, 1, 0),
+    (Object::PhaseDualEntry, 8, 1),
+    (Object::VehicleDetectorCallPhase, 8, 8),
+    (Object::PedestrianDetectorCallPhase, 2, 2),
+    (Object::OverlapIncludedPhases, 1, 3),
+    (Object::UnitRedRevert, 1, 20),
+    (Object::SequenceData, 4, 4),
+    (Object::SequenceData, 17, 5),
+    (Object::SequenceData, 20, 8),
+    (Object::PatternCycleTime, 2, 80),
+    (Object::PatternOffsetTime, 1, 0),
+    (Object::PatternOffsetTime, 2, 79),
+    (Object::PatternSplitNumber, 2, 1),
+    (Object::PatternSequenceNumber, 1, 1),
+    (Object::SplitTime, 2, 25),
+    (Object::SplitTime, 7, 15),
+    (Object::SplitCoordPhase, 6, 1),
+    (Object::PreemptDwellPhase, 1, 132),
+    (Object::PreemptDwellPhase, 2, 72),
+    (Object::PreemptMinimumDuration, 1, 10),
+    (Object::PreemptEnterPedClear, 2, 3),
+];
+
+/// Whether the plan has these values.
+fn has_values(plan: &Plan, values: &[(Object, u32, u32)]) -> bool {
+    for (object, index, value) in values {
+        if plan.get(id(*object, *index)) != Ok(*value) {
+            return false;
+        }
+    }
+    true
+}
+
 #[test]
 fn quad_has_its_values(rt: HostRuntime) {
-    let quad = Plan::quad();
-    let wanted = [
-        (Object::PhaseEnabled, 8, 1),
-        (Object::PhaseEnabled, 9, 0),
-        (Object::PhaseRing, 4, 1),
-        (Object::PhaseRing, 5, 2),
-        (Object::PhaseSide, 2, 1),
-        (Object::PhaseSide, 7, 2),
-        (Object::PhaseConcurrency, 1, 48),
-        (Object::PhaseConcurrency, 4, 192),
-        (Object::PhaseConcurrency, 6, 3),
-        (Object::PhaseConcurrency, 8, 12),
-        (Object::PhaseMinimumGreen, 8, 5),
-        (Object::PhaseMaximum1, 1, 20),
-        (Object::PhaseMaximum2, 1, 20),
-        (Object::PhasePassage, 3, 20),
-        (Object::PhaseMinimumGap, 3, 20),
-        (Object::PhaseYellowChange, 5, 30),
-        (Object::PhaseRedClear, 5, 10),
-        (Object::PhaseWalk, 2, 4),
-        (Object::PhasePedestrianClear, 2, 6),
-        (Object::PhaseMinRecall, 6, 1),
-        (Object::PhaseMinRecall, 1, 0),
-        (Object::PhaseDualEntry, 8, 1),
-        (Object::VehicleDetectorCallPhase, 8, 8),
-        (Object::PedestrianDetectorCallPhase, 2, 2),
-        (Object::OverlapIncludedPhases, 1, 3),
-        (Object::UnitRedRevert, 1, 20),
-        (Object::SequenceData, 4, 4),
-        (Object::SequenceData, 17, 5),
-        (Object::SequenceData, 20, 8),
-        (Object::PatternCycleTime, 2, 80),
-        (Object::PatternOffsetTime, 1, 0),
-        (Object::PatternOffsetTime, 2, 79),
-        (Object::PatternSplitNumber, 2, 1),
-        (Object::PatternSequenceNumber, 1, 1),
-        (Object::SplitTime, 2, 25),
-        (Object::SplitTime, 7, 15),
-        (Object::SplitCoordPhase, 6, 1),
-        (Object::PreemptDwellPhase, 1, 132),
-        (Object::PreemptDwellPhase, 2, 72),
-        (Object::PreemptMinimumDuration, 1, 10),
-        (Object::PreemptEnterPedClear, 2, 3),
-    ];
-    for (object, index, value) in wanted {
-        assert!(rt; quad.get(id(object, index)) == Ok(value));
-    }
+    assert!(rt; has_values(&Plan::quad(), &OF_QUAD));
+}
+
+/// What is changed in the built-in plan, so that it tells of all that phases and detectors have.
+const CHANGES: [(Object, u32, u32); 16] = [
+    (Object::PhasePedRecall, 2, 1),
+    (Object::PhaseSimGapDisable, 2, 1),
+    (Object::PhaseRestInWalk, 2, 1),
+    (Object::PhaseVariableInitial, 2, 1),
+    (Object::PhaseMaximumInitial, 2, 20),
+    (Object::PhaseAddedInitial, 2, 15),
+    (Object::PhaseCarsBeforeReduction, 2, 9),
+    (Object::PhaseTimeToReduce, 2, 7),
+    (Object::PhaseDynamicMaxLimit, 2, 14),
+    (Object::PhaseDynamicMaxStep, 2, 15),
+    (Object::VehicleDetectorDelay, 3, 20),
+    (Object::VehicleDetectorExtend, 3, 50),
+    (Object::VehicleDetectorNoActivity, 3, 1),
+    (Object::VehicleDetectorMaxPresence, 3, 2),
+    (Object::VehicleDetectorErraticCounts, 3, 30),
+    (Object::VehicleDetectorFailTime, 3, 255),
+];
+
+/// Whether the plan tells of phase 2 what it does not tell of phase 3.
+fn tells_phases_apart(plan: &Plan) -> bool {
+    let (second, third) = (Phase::of(2), Phase::of(3));
+    plan.has_minimum_recall(second)
+        && plan.has_pedestrian_recall(second)
+        && plan.disables_simultaneous_gap(second)
+        && plan.rests_in_walk(second)
+        && plan.has_variable_initial(second)
+        && !plan.has_minimum_recall(third)
+        && !plan.has_pedestrian_recall(third)
+        && !plan.disables_simultaneous_gap(third)
+        && !plan.rests_in_walk(third)
+        && !plan.has_variable_initial(third)
+}
+
+/// Whether the plan tells the times of phase 2.
+fn tells_of_times(plan: &Plan) -> bool {
+    let second = Phase::of(2);
+    plan.walk(second) == 40
+        && plan.pedestrian_clear(second) == 60
+        && plan.maximum_initial(second) == 200
+        && plan.added_initial(second) == 15
+        && plan.passage(second) == 20
+        && plan.minimum_gap(second) == 20
+        && plan.cars_before_reduction(second) == 9
+        && plan.time_to_reduce(second) == 70
+        && plan.dynamic_maximum_limit(second) == 140
+        && plan.dynamic_maximum_step(second) == 15
+}
+
+/// Whether the plan tells of detectors.
+fn tells_of_detectors(plan: &Plan) -> bool {
+    let detector = Detector::of(3);
+    plan.call_phase(detector) == Some(Phase::of(3))
+        && plan.call_phase(Detector::of(9)) == None
+        && plan.detector_delay(detector) == 20
+        && plan.detector_extend(detector) == 50
+        && plan.no_activity(detector) == 600
+        && plan.maximum_presence(detector) == 1200
+        && plan.erratic_counts(detector) == 30
+        && plan.fail_time(detector) == 2550
+        && plan.pedestrian_call_phase(PedestrianDetector::of(2)) == Some(Phase::of(2))
+        && plan.pedestrian_call_phase(PedestrianDetector::of(8)) == None
 }
 
 #[test]
 fn plans_tell_of_phases_and_detectors(rt: HostRuntime) {
-    let values = [
-        (Object::PhasePedRecall, 2, 1),
-        (Object::PhaseSimGapDisable, 2, 1),
-        (Object::PhaseRestInWalk, 2, 1),
-        (Object::PhaseVariableInitial, 2, 1),
-        (Object::PhaseMaximumInitial, 2, 20),
-        (Object::PhaseAddedInitial, 2, 15),
-        (Object::PhaseCarsBeforeReduction, 2, 9),
-        (Object::PhaseTimeToReduce, 2, 7),
-        (Object::PhaseDynamicMaxLimit, 2, 14),
-        (Object::PhaseDynamicMaxStep, 2, 15),
-        (Object::VehicleDetectorDelay, 3, 20),
-        (Object::VehicleDetectorExtend, 3, 50),
-        (Object::VehicleDetectorNoActivity, 3, 1),
-        (Object::VehicleDetectorMaxPresence, 3, 2),
-        (Object::VehicleDetectorErraticCounts, 3, 30),
-        (Object::VehicleDetectorFailTime, 3, 255),
-    ];
-    let Some(plan) = changed_quad(&values) else {
-        assert!(rt; false, "a value was refused");
-        return;
+    let Some(plan) = changed_quad(&CHANGES) else {
+        panic!(rt; "a value was refused");
     };
-    let (second, third) = (Phase::of(2), Phase::of(3));
-    assert!(rt; plan.has_minimum_recall(second) && !plan.has_minimum_recall(third));
-    assert!(rt; plan.has_pedestrian_recall(second) && !plan.has_pedestrian_recall(third));
-    assert!(rt; plan.disables_simultaneous_gap(second) && !plan.disables_simultaneous_gap(third));
-    assert!(rt; plan.rests_in_walk(second) && !plan.rests_in_walk(third));
-    assert!(rt; plan.has_variable_initial(second) && !plan.has_variable_initial(third));
-    assert!(rt; (plan.walk(second), plan.pedestrian_clear(second)) == (40, 60));
-    assert!(rt; (plan.maximum_initial(second), plan.added_initial(second)) == (200, 15));
-    assert!(rt; (plan.passage(second), plan.minimum_gap(second)) == (20, 20));
-    assert!(rt;
-        (
-            plan.cars_before_reduction(second),
-            plan.time_to_reduce(second)
-        ) == (9, 70)
-    );
-    assert!(rt;
-        (
-            plan.dynamic_maximum_limit(second),
-            plan.dynamic_maximum_step(second)
-        ) == (140, 15)
-    );
+    assert!(rt; tells_phases_apart(&plan));
+    assert!(rt; tells_of_times(&plan));
+    assert!(rt; tells_of_detectors(&plan));
+}
 
-    let (detector, other) = (Detector::of(3), Detector::of(9));
-    assert!(rt; (plan.call_phase(detector), plan.call_phase(other)) == (Some(third), None));
-    assert!(rt;
-        (
-            plan.detector_delay(detector),
-            plan.detector_extend(detector)
-        ) == (20, 50)
-    );
-    assert!(rt; (plan.no_activity(detector), plan.maximum_presence(detector)) == (600, 1200));
-    assert!(rt; (plan.erratic_counts(detector), plan.fail_time(detector)) == (30, 2550));
-    assert!(rt; plan.pedestrian_call_phase(PedestrianDetector::of(2)) == Some(second));
-    assert!(rt; plan.pedestrian_call_phase(PedestrianDetector::of(8)) == None);
+/// Whether the plan tells of overlaps.
+fn tells_of_overlaps(plan: &Plan) -> bool {
+    let overlap = Overlap::of(1);
+    plan.included_phases(overlap).list() == 3
+        && plan.modifier_phases(overlap).list() == 32
+        && plan.is_minus_green_yellow(overlap)
+        && !plan.is_minus_green_yellow(Overlap::of(2))
+}
+
+/// Whether the plan tells of patterns.
+fn tells_of_patterns(plan: &Plan) -> bool {
+    let (pattern, unused) = (Pattern::of(2), Pattern::of(3));
+    plan.cycle(pattern) == 800
+        && plan.offset(pattern) == 790
+        && plan.is_used(pattern)
+        && !plan.is_used(unused)
+        && plan.split_of(pattern) == Some(Split::of(1))
+        && plan.split_of(unused) == None
+        && plan.sequence_of(pattern) == Some(Sequence::of(1))
+        && plan.sequence_of(unused) == None
+}
+
+/// Whether the plan tells of splits.
+fn tells_of_splits(plan: &Plan) -> bool {
+    let split = Split::of(1);
+    plan.split_time(split, Phase::of(2)) == 250
+        && plan.split_mode(split, Phase::of(4)) == SplitMode::MaximumAndPedestrianRecall
+        && plan.split_mode(Split::of(8), Phase::of(16)) == SplitMode::MaximumRecall
+        && plan.is_omitted(split, Phase::of(3))
+        && !plan.is_omitted(split, Phase::of(4))
+        && plan.is_coordinated(split, Phase::of(6))
+        && !plan.is_coordinated(split, Phase::of(5))
+}
+
+/// Whether the plan tells of preempts.
+fn tells_of_preempts(plan: &Plan) -> bool {
+    let preempt = Preempt::of(1);
+    plan.preempt_delay(preempt) == 6000
+        && plan.minimum_duration(preempt) == 100
+        && plan.preempt_maximum_presence(preempt) == 655_350
+        && plan.preempt_minimum_green(preempt) == 20
+        && plan.preempt_minimum_walk(preempt) == 20
+        && plan.enter_pedestrian_clear(preempt) == 30
+        && plan.track_green(preempt) == 30
+        && plan.track_phases(preempt).list() == 34
+        && plan.dwell_phases(preempt).list() == 132
+        && plan.exit_phases(preempt).list() == 0x8001
 }
 
 #[test]
@@ -142,45 +215,8 @@ fn plans_tell_of_overlaps_patterns_and_preempts(rt: HostRuntime) {
         (Object::PreemptExitPhase, 1, 0x8001),
     ];
     let Some(plan) = changed_quad(&values) else {
-        assert!(rt; false, "a value was refused");
-        return;
+        panic!(rt; "a value was refused");
     };
-    let overlap = Overlap::of(1);
-    assert!(rt; plan.included_phases(overlap).list() == 3);
-    assert!(rt; plan.modifier_phases(overlap).list() == 32);
-    assert!(rt; plan.is_minus_green_yellow(overlap) && !plan.is_minus_green_yellow(Overlap::of(2)));
-
-    let (pattern, unused, split) = (Pattern::of(2), Pattern::of(3), Split::of(1));
-    assert!(rt; (plan.cycle(pattern), plan.offset(pattern)) == (800, 790));
-    assert!(rt; plan.is_used(pattern) && !plan.is_used(unused));
-    assert!(rt; (plan.split_of(pattern), plan.split_of(unused)) == (Some(split), None));
-    assert!(rt;
-        (plan.sequence_of(pattern), plan.sequence_of(unused)) == (Some(Sequence::of(1)), None)
-    );
-    assert!(rt; plan.split_time(split, Phase::of(2)) == 250);
-    assert!(rt; plan.split_mode(split, Phase::of(4)) == SplitMode::MaximumAndPedestrianRecall);
-    assert!(rt; plan.split_mode(Split::of(8), Phase::of(16)) == SplitMode::MaximumRecall);
-    assert!(rt; plan.is_omitted(split, Phase::of(3)) && !plan.is_omitted(split, Phase::of(4)));
-    assert!(rt;
-        plan.is_coordinated(split, Phase::of(6)) && !plan.is_coordinated(split, Phase::of(5))
-    );
-
-    let preempt = Preempt::of(1);
-    assert!(rt; (plan.preempt_delay(preempt), plan.minimum_duration(preempt)) == (6000, 100));
-    assert!(rt; plan.preempt_maximum_presence(preempt) == 655_350);
-    assert!(rt;
-        (
-            plan.preempt_minimum_green(preempt),
-            plan.preempt_minimum_walk(preempt)
-        ) == (20, 20)
-    );
-    assert!(rt;
-        (
-            plan.enter_pedestrian_clear(preempt),
-            plan.track_green(preempt)
-        ) == (30, 30)
-    );
-    assert!(rt; plan.track_phases(preempt).list() == 34);
-    assert!(rt; plan.dwell_phases(preempt).list() == 132);
-    assert!(rt; plan.exit_phases(preempt).list() == 0x8001);
+    assert!(rt; tells_of_overlaps(&plan) && tells_of_patterns(&plan));
+    assert!(rt; tells_of_splits(&plan) && tells_of_preempts(&plan));
 }

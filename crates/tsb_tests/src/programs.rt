@@ -89,23 +89,32 @@ fn fails(alloc: Global, files: &Shelf, fault: FileError) -> bool {
     is_unread && matches!(log_of(alloc, files, "file"), Err(ReadError::Failed(it)) if it == fault)
 }
 
+/// Whether a file is read to so many bytes, whatever its pieces, and what follows them is left alone.
+fn is_read_to(alloc: Global, most: usize) -> bool {
+    let wanted = &ROW[..most.min(ROW.len())];
+    let failing = torn(wanted, ErrorKind::UnexpectedEof);
+    gives(alloc, &whole(ROW, 1), most, wanted)
+        && gives(alloc, &whole(ROW, 7), most, wanted)
+        && gives(alloc, &whole(ROW, 4096), most, wanted)
+        && (most > ROW.len() || gives(alloc, &failing, most, wanted))
+}
+
 /// A file is read to its end or to a number of bytes, whatever its pieces; what follows them is left alone.
 #[test]
 fn a_file_is_read_to_so_many_bytes(rt: HostRuntime) {
     for most in 0..ROW.len() + 2 {
-        let wanted = &ROW[..most.min(ROW.len())];
-        for piece in [1, 7, 4096] {
-            assert!(rt;
-                gives(rt.alloc(), &whole(ROW, piece), most, wanted),
-                "{most}"
-            );
-        }
-        let failing = torn(wanted, ErrorKind::UnexpectedEof);
-        assert!(rt;
-            most > ROW.len() || gives(rt.alloc(), &failing, most, wanted),
-            "{most}"
-        );
+        assert!(rt; is_read_to(rt.alloc(), most), "{most}");
     }
+}
+
+/// Whether a file has this fault where it fails after each of its bytes.
+fn fails_at_each_byte(alloc: Global, kind: ErrorKind, fault: FileError) -> bool {
+    for count in 0..=ROW.len() {
+        if !fails(alloc, &torn(&ROW[..count], kind), fault) {
+            return false;
+        }
+    }
+    true
 }
 
 /// A file fails where it is opened, or after each of its bytes. A lack of memory is reported as such.
@@ -118,24 +127,31 @@ fn a_file_that_fails_gives_its_fault(rt: HostRuntime) {
         (ErrorKind::OutOfMemory, FileError::Memory),
     ] {
         assert!(rt; fails(rt.alloc(), &Shelf::Fails(kind), fault));
-        for count in 0..=ROW.len() {
-            assert!(rt;
-                fails(rt.alloc(), &torn(&ROW[..count], kind), fault),
-                "{count}"
-            );
-        }
+        assert!(rt; fails_at_each_byte(rt.alloc(), kind, fault));
     }
+}
+
+/// Whether a file with a row gives its log.
+fn gives_its_log(alloc: Global) -> bool {
+    match log_of(alloc, &whole(ROW, 7), "log") {
+        Ok(log) => {
+            log.row(99, &mut 0) == Row::all_off() && log.row(100, &mut 0).vehicles.list() == 36
+        }
+        Err(_) => false,
+    }
+}
+
+/// Whether a file whose second row has the tick of the first is refused.
+fn is_refused(alloc: Global) -> bool {
+    matches!(
+        log_of(alloc, &whole(TWICE, 7), "log"),
+        Err(ReadError::Refused(LogError::TickOrder(2)))
+    )
 }
 
 #[test]
 fn a_file_gives_a_log_or_its_fault(rt: HostRuntime) {
-    let Ok(log) = log_of(rt.alloc(), &whole(ROW, 7), "log") else {
-        panic!(rt; "no log");
-    };
-    assert!(rt; log.row(99, &mut 0) == Row::all_off());
-    assert!(rt; log.row(100, &mut 0).vehicles.list() == 36);
-    let twice = log_of(rt.alloc(), &whole(TWICE, 7), "log");
-    assert!(rt; matches!(twice, Err(ReadError::Refused(LogError::TickOrder(2)))));
+    assert!(rt; gives_its_log(rt.alloc()) && is_refused(rt.alloc()));
     let Ok(line) = line_of(rt.alloc(), LogError::TickOrder(2)) else {
         panic!(rt; "no line");
     };
@@ -169,16 +185,24 @@ fn nothing_taken(alloc: Global) -> Buffered {
     }
 }
 
+/// Whether a line is passed on.
+fn is_written(alloc: Global) -> bool {
+    let mut output = nothing_taken(alloc);
+    write_line(&mut output, LINE).is_ok() && output.passed_on.as_slice() == LINE
+}
+
+/// Whether a line is passed on with a status, which has this number.
+fn is_told(alloc: Global, status: Status, number: u8) -> bool {
+    let mut errors = nothing_taken(alloc);
+    tell(&mut errors, status, LINE) == number && errors.passed_on.as_slice() == LINE
+}
+
 /// What a writer did not pass on is not written.
 #[test]
 fn a_line_is_passed_on(rt: HostRuntime) {
-    let mut output = nothing_taken(rt.alloc());
-    assert!(rt; write_line(&mut output, LINE).is_ok());
-    assert!(rt; output.passed_on.as_slice() == LINE);
+    assert!(rt; is_written(rt.alloc()));
     for (status, number) in STATUSES {
-        let mut errors = nothing_taken(rt.alloc());
-        assert!(rt; tell(&mut errors, status, LINE) == number);
-        assert!(rt; errors.passed_on.as_slice() == LINE);
+        assert!(rt; is_told(rt.alloc(), status, number));
     }
 }
 
@@ -218,27 +242,42 @@ impl Write for Stuck {
     }
 }
 
+/// A writer that takes so many bytes.
+fn with_room(alloc: Global, room: usize) -> Narrow {
+    Narrow {
+        taken: Vec::new(alloc),
+        room,
+    }
+}
+
+/// Whether a writer that takes so many bytes of a line has them, and the line is written only if those are all.
+fn is_written_in_part(alloc: Global, room: usize) -> bool {
+    let mut output = with_room(alloc, room);
+    let is_whole = write_line(&mut output, LINE).is_ok();
+    is_whole == (room == LINE.len()) && output.taken.as_slice() == &LINE[..room.min(LINE.len())]
+}
+
+/// Whether a status has its number where its line is not written.
+fn has_number(alloc: Global, status: Status, number: u8) -> bool {
+    let mut errors = with_room(alloc, 3);
+    tell(&mut errors, status, LINE) == number && tell(&mut Stuck, status, LINE) == number
+}
+
+/// Whether each status has its number there.
+fn have_numbers(alloc: Global) -> bool {
+    for (status, number) in &STATUSES {
+        if !has_number(alloc, *status, *number) {
+            return false;
+        }
+    }
+    true
+}
+
 /// Where a line can't be written, its first bytes are, and only the status shows it.
 #[test]
 fn a_writer_that_fails_is_told_of(rt: HostRuntime) {
     for room in 0..=LINE.len() {
-        let mut output = Narrow {
-            taken: Vec::new(rt.alloc()),
-            room,
-        };
-        assert!(rt;
-            write_line(&mut output, LINE).is_ok() == (room == LINE.len()),
-            "{room}"
-        );
-        assert!(rt; output.taken.as_slice() == &LINE[..room], "{room}");
+        assert!(rt; is_written_in_part(rt.alloc(), room), "{room}");
     }
-    assert!(rt; write_line(&mut Stuck, LINE).is_err());
-    for (status, number) in STATUSES {
-        let mut errors = Narrow {
-            taken: Vec::new(rt.alloc()),
-            room: 3,
-        };
-        assert!(rt; tell(&mut errors, status, LINE) == number);
-        assert!(rt; tell(&mut Stuck, status, LINE) == number);
-    }
+    assert!(rt; write_line(&mut Stuck, LINE).is_err() && have_numbers(rt.alloc()));
 }

@@ -29,80 +29,102 @@ fn accepted(plan: Plan) -> Result<(), Rule> {
     Ok(())
 }
 
-#[test]
-fn rules_are_judged_in_order(rt: HostRuntime) {
-    let cases: [(Rule, &[Value]); 17] = [
-        (Rule::K8, &[(Object::PhaseYellowChange, 2, 29)]),
-        (
-            Rule::K1,
-            &[(Object::PhaseEnabled, 2, 0), (Object::PhaseEnabled, 4, 0)],
-        ),
-        (Rule::K2, &[(Object::PhaseRing, 2, 0)]),
-        (Rule::K2, &[(Object::PhaseSide, 4, 0)]),
-        // Sequence 1 leaves a phase out, has it twice, before one of a lower side, or after a zero.
-        (Rule::K6, &[(Object::SequenceData, 2, 0)]),
-        (Rule::K6, &[(Object::SequenceData, 3, 4)]),
-        (
-            Rule::K6,
-            &[(Object::SequenceData, 1, 4), (Object::SequenceData, 2, 2)],
-        ),
-        (
-            Rule::K6,
-            &[(Object::SequenceData, 2, 0), (Object::SequenceData, 3, 4)],
-        ),
-        // It has a phase that is not enabled, or one of the other ring.
-        (
-            Rule::K6,
-            &[
-                (Object::PhaseRing, 5, 1),
-                (Object::PhaseSide, 5, 2),
-                (Object::SequenceData, 3, 5),
-            ],
-        ),
-        (Rule::K6, &[(Object::SequenceData, 17, 4)]),
-        (Rule::K10, &[(Object::PhaseMaximum1, 2, 4)]),
-        (Rule::K10, &[(Object::PhaseMaximum2, 4, 4)]),
-        // Where two rules are broken, the first is reported.
-        (
-            Rule::K1,
-            &[
-                (Object::PhaseEnabled, 2, 0),
-                (Object::PhaseEnabled, 4, 0),
-                (Object::PhaseRing, 2, 0),
-            ],
-        ),
-        (
-            Rule::K2,
-            &[(Object::PhaseRing, 2, 0), (Object::SequenceData, 2, 0)],
-        ),
-        (
-            Rule::K6,
-            &[
-                (Object::PhaseYellowChange, 2, 0),
-                (Object::SequenceData, 2, 0),
-            ],
-        ),
-        (
-            Rule::K8,
-            &[
-                (Object::PhaseYellowChange, 4, 0),
-                (Object::PhaseMaximum1, 2, 0),
-            ],
-        ),
-        (
-            Rule::K10,
-            &[(Object::PhasePassage, 2, 1), (Object::PhaseMaximum1, 2, 4)],
-        ),
-    ];
+/// Whether both answer this for the plan with these values put into it.
+fn is_judged(plan: Plan, values: &[Value], wanted: Result<(), Rule>) -> bool {
+    match changed(plan, values) {
+        Some(plan) => check(&plan) == wanted && accepted(plan) == wanted,
+        None => false,
+    }
+}
+
+/// The same for the built-in plan of two phases.
+fn two_is_judged(values: &[Value], wanted: Result<(), Rule>) -> bool {
+    is_judged(Plan::two(), values, wanted)
+}
+
+/// The same for the built-in plan of eight phases.
+fn quad_is_judged(values: &[Value], wanted: Result<(), Rule>) -> bool {
+    is_judged(Plan::quad(), values, wanted)
+}
+
+/// Changes to the built-in plan of two phases, each with the rule that it breaks.
+const BREAKING: [(Rule, &[Value]); 17] = [
+    (Rule::K8, &[(Object::PhaseYellowChange, 2, 29)]),
+    (
+        Rule::K1,
+        &[(Object::PhaseEnabled, 2, 0), (Object::PhaseEnabled, 4, 0)],
+    ),
+    (Rule::K2, &[(Object::PhaseRing, 2, 0)]),
+    (Rule::K2, &[(Object::PhaseSide, 4, 0)]),
+    // Sequence 1 leaves a phase out, has it twice, before one of a lower side, or after a zero.
+    (Rule::K6, &[(Object::SequenceData, 2, 0)]),
+    (Rule::K6, &[(Object::SequenceData, 3, 4)]),
+    (
+        Rule::K6,
+        &[(Object::SequenceData, 1, 4), (Object::SequenceData, 2, 2)],
+    ),
+    (
+        Rule::K6,
+        &[(Object::SequenceData, 2, 0), (Object::SequenceData, 3, 4)],
+    ),
+    // It has a phase that is not enabled, or one of the other ring.
+    (
+        Rule::K6,
+        &[
+            (Object::PhaseRing, 5, 1),
+            (Object::PhaseSide, 5, 2),
+            (Object::SequenceData, 3, 5),
+        ],
+    ),
+    (Rule::K6, &[(Object::SequenceData, 17, 4)]),
+    (Rule::K10, &[(Object::PhaseMaximum1, 2, 4)]),
+    (Rule::K10, &[(Object::PhaseMaximum2, 4, 4)]),
+    // Where two rules are broken, the first is reported.
+    (
+        Rule::K1,
+        &[
+            (Object::PhaseEnabled, 2, 0),
+            (Object::PhaseEnabled, 4, 0),
+            (Object::PhaseRing, 2, 0),
+        ],
+    ),
+    (
+        Rule::K2,
+        &[(Object::PhaseRing, 2, 0), (Object::SequenceData, 2, 0)],
+    ),
+    (
+        Rule::K6,
+        &[
+            (Object::PhaseYellowChange, 2, 0),
+            (Object::SequenceData, 2, 0),
+        ],
+    ),
+    (
+        Rule::K8,
+        &[
+            (Object::PhaseYellowChange, 4, 0),
+            (Object::PhaseMaximum1, 2, 0),
+        ],
+    ),
+    (
+        Rule::K10,
+        &[(Object::PhasePassage, 2, 1), (Object::PhaseMaximum1, 2, 4)],
+    ),
+];
+
+/// Whether each of the changes to the built-in plan of two phases breaks its rule.
+fn break_two(cases: &[(Rule, &[Value])]) -> bool {
     for (rule, changes) in cases {
-        match changed(Plan::two(), changes) {
-            Some(plan) => {
-                assert!(rt; check(&plan) == Err(rule));
-                assert!(rt; accepted(plan) == Err(rule));
-            }
-            None => assert!(rt; false, "a value was refused"),
+        if !two_is_judged(changes, Err(*rule)) {
+            return false;
         }
     }
+    true
+}
+
+#[test]
+fn rules_are_judged_in_order(rt: HostRuntime) {
+    assert!(rt; break_two(&BREAKING));
 }
 
 #[test]
@@ -122,28 +144,51 @@ fn changes_of_two_meet_the_rules(rt: HostRuntime) {
         &[(Object::OverlapType, 4, 1)],
     ];
     for changes in cases {
-        match changed(Plan::two(), changes) {
-            Some(plan) => {
-                assert!(rt; check(&plan) == Ok(()));
-                assert!(rt; accepted(plan) == Ok(()));
-            }
-            None => assert!(rt; false, "a value was refused"),
-        }
+        assert!(rt; two_is_judged(changes, Ok(())));
     }
+}
+
+/// Whether the built-in plan of two phases is accepted, with its sets.
+fn two_is_accepted() -> bool {
+    match Checked::new(Plan::two()) {
+        Ok(two) => {
+            *two.plan() == Plan::two()
+                && two.enabled().list() == 0x000A
+                && two.on_maximum_recall(None).list() == 0x000A
+        }
+        Err(_) => false,
+    }
+}
+
+/// Puts a phase of ring 1 into the plan, at a place in sequence 1 and on the side of the same number.
+fn put_phase(plan: &mut Plan, phase: u32, side: u32) -> Result<(), Refusal> {
+    for (object, value) in [
+        (Object::PhaseEnabled, 1),
+        (Object::PhaseRing, 1),
+        (Object::PhaseSide, side),
+        (Object::PhaseMinimumGreen, 5),
+        (Object::PhaseMaximum1, 10),
+        (Object::PhaseMaximum2, 10),
+        (Object::PhaseYellowChange, 30),
+        (Object::PhaseRedClear, 10),
+        (Object::PhaseMaxRecall, 1),
+    ] {
+        plan.put(id(object, phase), value)?;
+    }
+    plan.put(id(Object::SequenceData, side), phase)
+}
+
+/// Four phases of ring 1, one on each side.
+fn four_sides() -> Result<Plan, Refusal> {
+    let mut four = Plan::empty();
+    for (phase, side) in [(2, 1), (4, 2), (10, 3), (12, 4)] {
+        put_phase(&mut four, phase, side)?;
+    }
+    Ok(four)
 }
 
 #[test]
 fn plans_are_accepted(rt: HostRuntime) {
-    assert!(rt; check(&Plan::two()) == Ok(()));
-    match Checked::new(Plan::two()) {
-        Ok(two) => {
-            assert!(rt; *two.plan() == Plan::two());
-            assert!(rt; two.enabled().list() == 0x000A);
-            assert!(rt; two.on_maximum_recall(None).list() == 0x000A);
-        }
-        Err(_) => assert!(rt; false, "two was refused"),
-    }
-
     // The least that the rules allow, and a phase of another number and side that is not in use.
     let least = [
         (Object::PhaseMaximum1, 2, 5),
@@ -152,32 +197,8 @@ fn plans_are_accepted(rt: HostRuntime) {
         (Object::PhaseSide, 9, 1),
         (Object::PhaseMaxRecall, 9, 1),
     ];
-    assert!(rt; changed(Plan::two(), &least).map(accepted) == Some(Ok(())));
-
-    // Four phases of ring 1, one on each side.
-    let mut four = Plan::empty();
-    let mut is_put = true;
-    for (place, phase) in [2, 4, 10, 12].iter().enumerate() {
-        let values = [
-            (Object::PhaseEnabled, 1),
-            (Object::PhaseRing, 1),
-            (Object::PhaseSide, place as u32 + 1),
-            (Object::PhaseMinimumGreen, 5),
-            (Object::PhaseMaximum1, 10),
-            (Object::PhaseMaximum2, 10),
-            (Object::PhaseYellowChange, 30),
-            (Object::PhaseRedClear, 10),
-            (Object::PhaseMaxRecall, 1),
-        ];
-        for (object, value) in values {
-            is_put &= four.put(id(object, *phase), value).is_ok();
-        }
-        is_put &= four
-            .put(id(Object::SequenceData, place as u32 + 1), *phase)
-            .is_ok();
-    }
-    assert!(rt; is_put);
-    assert!(rt; accepted(four) == Ok(()));
+    assert!(rt; two_is_accepted() && two_is_judged(&[], Ok(())) && two_is_judged(&least, Ok(())));
+    assert!(rt; four_sides().map(accepted) == Ok(Ok(())));
 }
 
 #[test]
@@ -202,24 +223,20 @@ fn splits_end_in_the_order_of_the_sequence(rt: HostRuntime) {
 
 #[test]
 fn worked_plans_break_their_rules(rt: HostRuntime) {
-    let cases: [(Option<Rule>, &[(Object, u32, u32)]); 4] = [
-        (Some(Rule::K5), &[(Object::PhaseConcurrency, 1, 32)]),
+    let cases: [(Result<(), Rule>, &[Value]); 4] = [
+        (Err(Rule::K5), &[(Object::PhaseConcurrency, 1, 32)]),
         (
-            None,
+            Ok(()),
             &[
                 (Object::PhaseConcurrency, 1, 32),
                 (Object::PhaseConcurrency, 5, 2),
             ],
         ),
-        (Some(Rule::K19), &[(Object::SplitTime, 3, 16)]),
-        (Some(Rule::K8), &[(Object::PhaseYellowChange, 2, 29)]),
+        (Err(Rule::K19), &[(Object::SplitTime, 3, 16)]),
+        (Err(Rule::K8), &[(Object::PhaseYellowChange, 2, 29)]),
     ];
     for (rule, changes) in cases {
-        let Some(plan) = changed(Plan::quad(), changes) else {
-            assert!(rt; false, "a value was refused");
-            return;
-        };
-        assert!(rt; check(&plan).err() == rule);
+        assert!(rt; quad_is_judged(changes, rule));
     }
     consistent::concurrency_is_sound();
     consistent::sequences_list_rings();
@@ -229,60 +246,64 @@ fn worked_plans_break_their_rules(rt: HostRuntime) {
 
 #[test]
 fn quad_meets_the_rules(rt: HostRuntime) {
-    assert!(rt; check(&Plan::quad()) == Ok(()));
-    assert!(rt; accepted(Plan::quad()) == Ok(()));
+    assert!(rt; quad_is_judged(&[], Ok(())));
+}
+
+/// Whether the checked plan has these phases in its rings, on its sides and at its inputs.
+fn has_phases_of_quad(quad: &Checked) -> bool {
+    quad.ring(Ring::of(1)).list() == 0x000F
+        && quad.ring(Ring::of(2)).list() == 0x00F0
+        && quad.side(Side::of(1)).list() == 0x0033
+        && quad.side(Side::of(2)).list() == 0x00CC
+        && quad.side(Side::of(4)).list() == 0
+        && quad.concurrent_to(Phase::of(1)).list() == 0x0030
+        && quad.phases_called_by(NumberSet::from_list(0x0004)).list() == 0x0004
+        && quad.walks_called_by(NumberSet::from_list(0x0002)).list() == 0x0002
+}
+
+/// Whether the checked plan has these phases in use, with what they are set to do.
+fn has_settings_of_quad(quad: &Checked) -> bool {
+    quad.enabled().list() == 0x00FF
+        && quad.non_locking().list() == 0
+        && quad.soft_recall().list() == 0
+        && quad.dual_entry().list() == 0x00AA
+        && quad.with_walk().list() == 0x0002
 }
 
 #[test]
 fn tables_of_quad_are_its_sets(rt: HostRuntime) {
     let Ok(quad) = Checked::new(Plan::quad()) else {
-        assert!(rt; false, "quad was refused");
-        return;
+        panic!(rt; "quad was refused");
     };
-    assert!(rt; quad.enabled().list() == 0x00FF);
-    assert!(rt; quad.non_locking().list() == 0);
-    assert!(rt; quad.soft_recall().list() == 0);
-    assert!(rt; (quad.dual_entry().list(), quad.with_walk().list()) == (0x00AA, 0x0002));
-    assert!(rt; (quad.ring(Ring::of(1)).list(), quad.ring(Ring::of(2)).list()) == (0x000F, 0x00F0));
-    assert!(rt; (quad.side(Side::of(1)).list(), quad.side(Side::of(2)).list()) == (0x0033, 0x00CC));
-    assert!(rt; quad.side(Side::of(4)).list() == 0);
-    assert!(rt; quad.concurrent_to(Phase::of(1)).list() == 0x0030);
-    assert!(rt; quad.phases_called_by(NumberSet::from_list(0x0004)).list() == 0x0004);
-    assert!(rt; quad.walks_called_by(NumberSet::from_list(0x0002)).list() == 0x0002);
+    assert!(rt; has_phases_of_quad(&quad) && has_settings_of_quad(&quad));
+}
+
+/// Whether the checked plan has these phases in free operation and in the pattern.
+fn has_sets_of_quad(quad: &Checked, n: Pattern) -> bool {
+    quad.coordinated(None).list() == 0
+        && quad.coordinated(Some(n)).list() == 0x0022
+        && quad.omitted(Some(n)).list() == 0
+        && quad.on_minimum_recall(Some(n)).list() == 0x0022
+        && quad.on_minimum_recall(None).list() == 0x0022
+        && quad.on_maximum_recall(Some(n)).list() == 0
+        && quad.on_pedestrian_recall(Some(n)).list() == 0
+        && quad.sequence_in_effect(Some(n)) == Sequence::of(1)
+}
+
+/// Whether the pattern forces the phases of the checked plan off at these local times.
+fn has_forces_of_quad(quad: &Checked, n: Pattern) -> bool {
+    quad.plan().is_used(n)
+        && quad.force_off(n, Phase::of(1)) == Some(510)
+        && quad.force_off(n, Phase::of(9)) == None
+        && quad.forced_at(n, 760).list() == 0x0022
+        && quad.forced_at(n, 759).list() == 0
 }
 
 #[test]
 fn tables_of_quad_are_of_its_patterns(rt: HostRuntime) {
     let Ok(quad) = Checked::new(Plan::quad()) else {
-        assert!(rt; false, "quad was refused");
-        return;
+        panic!(rt; "quad was refused");
     };
     let n = Pattern::of(2);
-    assert!(rt;
-        (
-            quad.coordinated(None).list(),
-            quad.coordinated(Some(n)).list()
-        ) == (0, 0x0022)
-    );
-    assert!(rt;
-        (
-            quad.omitted(Some(n)).list(),
-            quad.on_minimum_recall(Some(n)).list()
-        ) == (0, 0x0022)
-    );
-    assert!(rt; quad.on_minimum_recall(None).list() == 0x0022);
-    assert!(rt;
-        (
-            quad.on_maximum_recall(Some(n)).list(),
-            quad.on_pedestrian_recall(Some(n)).list()
-        ) == (0, 0)
-    );
-    assert!(rt; quad.sequence_in_effect(Some(n)) == Sequence::of(1));
-    assert!(rt; quad.plan().is_used(n));
-    if quad.plan().is_used(n) {
-        assert!(rt; quad.force_off(n, Phase::of(1)) == Some(510));
-        assert!(rt; quad.force_off(n, Phase::of(9)) == None);
-        assert!(rt; quad.forced_at(n, 760).list() == 0x0022);
-        assert!(rt; quad.forced_at(n, 759).list() == 0);
-    }
+    assert!(rt; has_sets_of_quad(&quad, n) && has_forces_of_quad(&quad, n));
 }

@@ -1,5 +1,6 @@
 //! Sessions: whole texts of commands and answers, whatever the reader's pieces, each shown before more is read.
 
+use std::alloc::Global;
 use std::cell::Cell;
 use std::io::{self, Read, Write};
 use tsb_text::{
@@ -121,37 +122,59 @@ bad command
 
 /// Runs a session with the built-in plan of two phases and an empty log.
 fn talk<R: Read, W: Write>(
-    rt: &HostRuntime,
+    alloc: Global,
     reader: &mut R,
     writer: &mut W,
 ) -> Option<Result<(), SessionError>> {
     let plan = Checked::new(Plan::two()).ok()?;
-    let log = Log::empty(rt.alloc());
-    Some(session(rt.alloc(), plan, &log, reader, writer))
+    Some(session(alloc, plan, &Log::empty(alloc), reader, writer))
+}
+
+/// Whether the session of a reader and a writer ends with the commands.
+fn ends<R: Read, W: Write>(alloc: Global, reader: &mut R, writer: &mut W) -> bool {
+    matches!(talk(alloc, reader, writer), Some(Ok(())))
 }
 
 /// Whether the answer to these commands is this.
-fn answers(rt: &HostRuntime, commands: &[u8], text: &[u8]) -> bool {
+fn answers(alloc: Global, commands: &[u8], text: &[u8]) -> bool {
     let mut reader = commands;
-    let mut out = Vec::new(rt.alloc());
-    match talk(rt, &mut reader, &mut out) {
-        Some(Ok(())) => out.as_slice() == text,
-        _ => false,
-    }
+    let mut out = Vec::new(alloc);
+    ends(alloc, &mut reader, &mut out) && out.as_slice() == text
+}
+
+/// Whether the answers are the same where the commands come in such pieces.
+fn answers_in_pieces(alloc: Global, piece: usize) -> bool {
+    let mut out = Vec::new(alloc);
+    let mut reader = Pieces {
+        left: INPUT,
+        piece,
+        fails_at: 1000,
+    };
+    ends(alloc, &mut reader, &mut out) && out.as_slice() == OUTPUT
 }
 
 #[test]
 fn answers_whatever_the_pieces(rt: HostRuntime) {
     for piece in 1..40 {
-        let mut out = Vec::new(rt.alloc());
-        let mut reader = Pieces {
-            left: INPUT,
-            piece,
-            fails_at: 1000,
-        };
-        assert!(rt; matches!(talk(&rt, &mut reader, &mut out), Some(Ok(()))));
-        assert!(rt; out.as_slice() == OUTPUT);
+        assert!(rt; answers_in_pieces(rt.alloc(), piece));
     }
+}
+
+/// Whether somebody who types a line 20 times sees an answer of so many bytes each time, before more is typed.
+fn is_shown_before_each_read(alloc: Global, line: &[u8], answer: usize) -> bool {
+    let screen = Screen {
+        given: Cell::new(0),
+        shown: Cell::new(0),
+    };
+    let mut typist = Typist {
+        screen: &screen,
+        line,
+        answer,
+        typed: 0,
+        lines: 20,
+    };
+    let has_ended = ends(alloc, &mut typist, &mut &screen);
+    has_ended && typist.typed == 20 && screen.shown.get() == answer.saturating_mul(20)
 }
 
 /// Each answer is written and flushed before more is read, be it short or longer than what is written at once.
@@ -163,98 +186,90 @@ fn answers_are_shown_before_each_read(rt: HostRuntime) {
         (b"step 200\n", 10_800),
         (b"# none\n", 0),
     ] {
-        let screen = Screen {
-            given: Cell::new(0),
-            shown: Cell::new(0),
-        };
-        let mut typist = Typist {
-            screen: &screen,
-            line,
-            answer,
-            typed: 0,
-            lines: 20,
-        };
-        assert!(rt; matches!(talk(&rt, &mut typist, &mut &screen), Some(Ok(()))));
-        assert!(rt; typist.typed == 20);
-        assert!(rt; screen.shown.get() == 20 * answer);
+        assert!(rt; is_shown_before_each_read(rt.alloc(), line, answer));
     }
+}
+
+/// Whether as many bytes as a session takes are blank lines to it.
+fn takes_as_many_as_there_may_be(alloc: Global) -> bool {
+    let mut out = Vec::new(alloc);
+    ends(alloc, &mut Blanks { left: COMMANDS }, &mut out) && out.is_empty()
+}
+
+/// Whether a session ends at the byte after those.
+fn takes_no_more(alloc: Global) -> bool {
+    let mut out = Vec::new(alloc);
+    let mut more = Blanks { left: usize::MAX };
+    let ended = talk(alloc, &mut more, &mut out);
+    matches!(ended, Some(Err(SessionError::TooLarge)))
+        && more.left == usize::MAX - COMMANDS - 1
+        && out.is_empty()
 }
 
 /// A session takes 16 MiB, and not a byte more.
 #[test]
 fn a_reader_that_never_ends_is_too_large(rt: HostRuntime) {
-    let mut out = Vec::new(rt.alloc());
-    let mut all = Blanks { left: COMMANDS };
-    assert!(rt; matches!(talk(&rt, &mut all, &mut out), Some(Ok(()))));
-    let mut more = Blanks { left: usize::MAX };
-    assert!(rt;
-        matches!(
-            talk(&rt, &mut more, &mut out),
-            Some(Err(SessionError::TooLarge))
-        )
-    );
-    assert!(rt; more.left == usize::MAX - COMMANDS - 1);
-    assert!(rt; out.is_empty());
+    assert!(rt; takes_as_many_as_there_may_be(rt.alloc()) && takes_no_more(rt.alloc()));
 }
 
-/// What follows `quit` is not answered.
-#[test]
-fn quit_ends_a_session(rt: HostRuntime) {
-    assert!(rt;
-        answers(
-            &rt,
-            b"step 1\nundo\nundo\nquit\nstep 1\n",
-            b"0000001 -G-R------------ ---------------- ---- 0 ----\nundone tick\nnothing\n"
-        )
-    );
-    assert!(rt; answers(&rt, b"quit", b""));
-    assert!(rt; answers(&rt, b"", b""));
-    assert!(rt; answers(&rt, b"show it\r\nquit\r\nshow\r\n", b"bad command\n"));
+/// Whether what follows `quit` is not answered.
+fn ends_at_quit(alloc: Global) -> bool {
+    answers(
+        alloc,
+        b"step 1\nundo\nundo\nquit\nstep 1\n",
+        b"0000001 -G-R------------ ---------------- ---- 0 ----\nundone tick\nnothing\n",
+    ) && answers(alloc, b"quit", b"")
+        && answers(alloc, b"", b"")
+        && answers(alloc, b"show it\r\nquit\r\nshow\r\n", b"bad command\n")
 }
 
-/// What follows `quit` is not read.
-#[test]
-fn quit_reads_no_further(rt: HostRuntime) {
-    let mut out = Vec::new(rt.alloc());
+/// Whether what follows `quit` is not read.
+fn leaves_what_follows_quit(alloc: Global) -> bool {
+    let mut out = Vec::new(alloc);
     let mut reader = Pieces {
         left: b"quit\nshow\n",
         piece: 5,
         fails_at: 1,
     };
-    assert!(rt; matches!(talk(&rt, &mut reader, &mut out), Some(Ok(()))));
-    assert!(rt; reader.left.len() == 5);
+    ends(alloc, &mut reader, &mut out) && reader.left.len() == 5
 }
+
+/// What follows `quit` is neither answered nor read.
+#[test]
+fn quit_ends_a_session(rt: HostRuntime) {
+    assert!(rt; ends_at_quit(rt.alloc()) && leaves_what_follows_quit(rt.alloc()));
+}
+
+/// What is shown at power-up.
+const POWER_UP: &[u8] = b"0000000 -R-R------------ ---------------- ---- 0 ----\n";
 
 #[test]
 fn no_step_has_no_line(rt: HostRuntime) {
-    assert!(rt;
-        answers(
-            &rt,
-            b"step 0\nback 0\n",
-            b"0000000 -R-R------------ ---------------- ---- 0 ----\n"
-        )
-    );
+    assert!(rt; answers(rt.alloc(), b"step 0\nback 0\n", POWER_UP));
 }
 
 /// A carriage return belongs to a line's end only where a line feed follows it.
 #[test]
 fn the_last_line_keeps_its_return(rt: HostRuntime) {
-    let shown = b"0000000 -R-R------------ ---------------- ---- 0 ----\n".as_slice();
-    assert!(rt; answers(&rt, b"show\r\n", shown));
-    assert!(rt; answers(&rt, b"show", shown));
-    assert!(rt; answers(&rt, b"show\r", b"bad command\n"));
-    assert!(rt; answers(&rt, b"\r", b"bad command\n"));
-    assert!(rt; answers(&rt, b"\r\n", b""));
+    for (commands, text) in [
+        (b"show\r\n".as_slice(), POWER_UP),
+        (b"show", POWER_UP),
+        (b"show\r", b"bad command\n"),
+        (b"\r", b"bad command\n"),
+        (b"\r\n", b""),
+    ] {
+        assert!(rt; answers(rt.alloc(), commands, text));
+    }
 }
 
 /// Whether the answer to these commands is this, with the built-in plan of eight phases and a log.
-fn answers_on_quad(rt: &HostRuntime, log: &[u8], commands: &[u8], text: &[u8]) -> bool {
-    let (Ok(plan), Ok(log)) = (Checked::new(Plan::quad()), read_log(rt.alloc(), log)) else {
+fn answers_on_quad(alloc: Global, log: &[u8], commands: &[u8], text: &[u8]) -> bool {
+    let (Ok(plan), Ok(log)) = (Checked::new(Plan::quad()), read_log(alloc, log)) else {
         return false;
     };
     let mut reader = commands;
-    let mut out = Vec::new(rt.alloc());
-    match session(rt.alloc(), plan, &log, &mut reader, &mut out) {
+    let mut out = Vec::new(alloc);
+    match session(alloc, plan, &log, &mut reader, &mut out) {
         Ok(()) => out.as_slice() == text,
         Err(_) => false,
     }
@@ -273,7 +288,7 @@ refused E3 OutOfRange\nok\nrefused E7 NotVerified\nrule K8\nok
 ok\nok\nrefused E6 NotOpen\nrefused E6 NotOpen\nok\nok
 undone abort\nundone begin\nundone commit\nundone verify\nundone set\nundone verify\nundone set\nundone begin\nnothing\n"
         .as_slice();
-    assert!(rt; answers_on_quad(&rt, b"", commands, answers));
+    assert!(rt; answers_on_quad(rt.alloc(), b"", commands, answers));
 }
 
 /// The expected answers are those of an independent implementation.
@@ -298,7 +313,7 @@ ok
 0000005 RRRRRRRR-------- -D-------------- R--- 1 ----
 tick 0000004\nundone tick\nundone fault\nundone reset\nundone tick\nundone fault\nnever\n"
         .as_slice();
-    assert!(rt; answers_on_quad(&rt, log, commands, answers));
+    assert!(rt; answers_on_quad(rt.alloc(), log, commands, answers));
 }
 
 /// A row holds from its tick on. The expected answers are those of an independent implementation.
@@ -321,30 +336,44 @@ tick 0000002
 0000001 RGRRRGRR-------- -D-------------- G--- 0 ----
 never\nnothing\ntick 0000001\n"
         .as_slice();
-    assert!(rt; answers_on_quad(&rt, log, commands, answers));
+    assert!(rt; answers_on_quad(rt.alloc(), log, commands, answers));
 }
 
 /// `step`, this many spaces, and `1`, with this after it.
-fn answers_spaced(rt: &HostRuntime, spaces: usize, end: &[u8], text: &[u8]) -> bool {
+fn answers_spaced(alloc: Global, spaces: usize, end: &[u8], text: &[u8]) -> bool {
     let mut line = [b' '; 300];
     line[..4].copy_from_slice(b"step");
     let last = 4 + spaces.min(200);
     line[last] = b'1';
     let whole = last + 1 + end.len().min(2);
     line[last + 1..whole].copy_from_slice(&end[..whole - last - 1]);
-    answers(rt, &line[..whole], text)
+    answers(alloc, &line[..whole], text)
 }
 
 /// A line has at most 200 bytes, without its end.
 #[test]
 fn long_lines_are_bad(rt: HostRuntime) {
     let stepped = b"0000001 -G-R------------ ---------------- ---- 0 ----\n".as_slice();
-    for end in [b"".as_slice(), b"\n", b"\r\n"] {
-        assert!(rt; answers_spaced(&rt, 195, end, stepped));
-        assert!(rt; answers_spaced(&rt, 196, end, b"bad command\n"));
+    let bad = b"bad command\n".as_slice();
+    for (spaces, end, text) in [
+        (195, b"".as_slice(), stepped),
+        (196, b"", bad),
+        (195, b"\n", stepped),
+        (196, b"\n", bad),
+        (195, b"\r\n", stepped),
+        (196, b"\r\n", bad),
+        (195, b"\r", bad),
+        (195, b"\rx", bad),
+    ] {
+        assert!(rt; answers_spaced(rt.alloc(), spaces, end, text));
     }
-    assert!(rt; answers_spaced(&rt, 195, b"\r", b"bad command\n"));
-    assert!(rt; answers_spaced(&rt, 195, b"\rx", b"bad command\n"));
+}
+
+/// Whether this is the answer to a line of so many bytes, blank but for the first.
+fn answers_blank(alloc: Global, first: u8, length: usize, text: &[u8]) -> bool {
+    let mut line = [b' '; 5000];
+    line[0] = first;
+    answers(alloc, &line[..length.min(5000)], text)
 }
 
 /// A long line is bad also where it is blank or a comment.
@@ -357,27 +386,30 @@ fn long_blanks_and_comments_are_bad(rt: HostRuntime) {
         (b'#', 201, b"bad command\n"),
         (b'#', 5000, b"bad command\n"),
     ] {
-        let mut line = [b' '; 5000];
-        line[0] = first;
-        assert!(rt; answers(&rt, &line[..length], wanted));
+        assert!(rt; answers_blank(rt.alloc(), first, length, wanted));
     }
+}
+
+/// The text of the built-in plan of two phases.
+const TWO: &[u8] =
+    br#"{"version":1,"phaseEnabled":{"2":1,"4":1},"phaseRing":{"2":1,"4":1},"phaseSide":{"2":1,"4":2},"phaseMinimumGreen":{"2":5,"4":5},"phaseMaximum1":{"2":10,"4":8},"phaseMaximum2":{"2":10,"4":8},"phaseYellowChange":{"2":30,"4":30},"phaseRedClear":{"2":10,"4":10},"phaseMaxRecall":{"2":1,"4":1},"sequenceData":{"1":2,"2":4}}"#;
+
+/// What a session with the plan and the log of these texts answers, if it reads both and ends with the commands.
+fn answered(alloc: Global, plan: &[u8], log: &[u8], commands: &[u8]) -> Option<Vec<u8>> {
+    let plan = read_plan(alloc, plan).ok()?;
+    let log = read_log(alloc, log).ok()?;
+    let mut reader = commands;
+    let mut out = Vec::new(alloc);
+    session(alloc, plan, &log, &mut reader, &mut out).ok()?;
+    Some(out)
 }
 
 #[test]
 fn a_session_runs_a_plan_and_a_log(rt: HostRuntime) {
-    let text =
-        br#"{"version":1,"phaseEnabled":{"2":1,"4":1},"phaseRing":{"2":1,"4":1},"phaseSide":{"2":1,"4":2},"phaseMinimumGreen":{"2":5,"4":5},"phaseMaximum1":{"2":10,"4":8},"phaseMaximum2":{"2":10,"4":8},"phaseYellowChange":{"2":30,"4":30},"phaseRedClear":{"2":10,"4":10},"phaseMaxRecall":{"2":1,"4":1},"sequenceData":{"1":2,"2":4}}"#;
     let rows = b"0000100 0010010000000000 00000000 0000\n0000102 0000010000000000 00000000 0000\n";
-    let (Ok(plan), Ok(log)) = (
-        read_plan(rt.alloc(), text.as_slice()),
-        read_log(rt.alloc(), rows.as_slice()),
-    ) else {
-        assert!(rt; false);
-        return;
+    let Some(out) = answered(rt.alloc(), TWO, rows, b"step 101\n") else {
+        panic!(rt; "no answer");
     };
-    let mut reader = b"step 101\n".as_slice();
-    let mut out = Vec::new(rt.alloc());
-    assert!(rt; session(rt.alloc(), plan, &log, &mut reader, &mut out).is_ok());
     assert!(rt;
         out.as_slice().ends_with(
             b"0000100 -G-R------------ ---------------- ---- 0 ----
@@ -387,11 +419,22 @@ fn a_session_runs_a_plan_and_a_log(rt: HostRuntime) {
     );
 }
 
+/// Whether the line of a bench at power-up is the one that a session shows.
+fn is_line_of_power_up(alloc: Global) -> bool {
+    let Ok(plan) = Checked::new(Plan::two()) else {
+        return false;
+    };
+    match Bench::power_up(alloc, plan) {
+        Ok(bench) => {
+            line(&bench).as_str() == "0000000 -R-R------------ ---------------- ---- 0 ----"
+        }
+        Err(_) => false,
+    }
+}
+
 #[test]
 fn a_line_is_that_of_the_state(rt: HostRuntime) {
-    let plan = Checked::new(Plan::two()).expect(&rt, "the plan is not consistent");
-    let bench = Bench::power_up(rt.alloc(), plan).expect(&rt, "memory");
-    assert!(rt; line(&bench).as_str() == "0000000 -R-R------------ ---------------- ---- 0 ----");
+    assert!(rt; is_line_of_power_up(rt.alloc()));
 }
 
 #[test]
@@ -402,8 +445,12 @@ fn faults_have_lines(rt: HostRuntime) {
         (SessionError::Write, "write fault"),
         (SessionError::TooLarge, "commands: too large"),
     ] {
-        let mut line = Vec::new(rt.alloc());
-        assert!(rt; write!(line, "{fault}").is_ok());
-        assert!(rt; line.as_slice() == text.as_bytes());
+        assert!(rt; has_line(rt.alloc(), fault, text));
     }
+}
+
+/// Whether this is what the fault prints.
+fn has_line(alloc: Global, fault: SessionError, text: &str) -> bool {
+    let mut line = Vec::new(alloc);
+    write!(line, "{fault}").is_ok() && line.as_slice() == text.as_bytes()
 }

@@ -2,79 +2,121 @@
 
 use tsb_types::*;
 
-#[test]
-fn sets_are_lists(rt: HostRuntime) {
-    let (odd, low) = (NumberSet::from_list(0x5555), NumberSet::from_list(0x000F));
-    assert!(rt; odd.intersection(low).list() == 0x0005);
-    assert!(rt; odd.union(low).list() == 0x555F);
-    assert!(rt; odd.difference(low).list() == 0x5550);
-    assert!(rt; odd.with(16, true).with(1, false).list() == 0xD554);
-    assert!(rt; odd.contains(15) && !odd.contains(16));
-    assert!(rt; odd.difference(low).first() == Some(5));
-    assert!(rt; NumberSet::empty().is_empty() && !odd.is_empty());
-    assert!(rt; Row::all_off().vehicles == NumberSet::empty());
+/// Whether sets of numbers are their lists.
+fn number_sets_are_lists(odd: NumberSet, low: NumberSet) -> bool {
+    odd.intersection(low).list() == 0x0005
+        && odd.union(low).list() == 0x555F
+        && odd.difference(low).list() == 0x5550
+        && odd.with(16, true).with(1, false).list() == 0xD554
+        && odd.contains(15)
+        && !odd.contains(16)
+        && odd.difference(low).first() == Some(5)
+        && !odd.is_empty()
+        && NumberSet::empty().is_empty()
+        && Row::all_off().vehicles == NumberSet::empty()
+}
 
-    let (odd, low) = (PhaseSet::from_list(0x5555), PhaseSet::from_list(0x000F));
-    assert!(rt; odd.intersection(low).list() == 0x0005);
-    assert!(rt; odd.union(low).list() == 0x555F);
-    assert!(rt; odd.difference(low).list() == 0x5550);
-    assert!(rt;
-        odd.with(Phase::of(16), true)
+/// Whether sets of phases are their lists.
+fn phase_sets_are_lists(odd: PhaseSet, low: PhaseSet) -> bool {
+    odd.intersection(low).list() == 0x0005
+        && odd.union(low).list() == 0x555F
+        && odd.difference(low).list() == 0x5550
+        && odd
+            .with(Phase::of(16), true)
             .with(Phase::of(1), false)
             .list()
             == 0xD554
-    );
-    assert!(rt; odd.contains(Phase::of(15)) && !odd.contains(Phase::of(16)));
-    assert!(rt; odd.difference(low).first() == Some(Phase::of(5)));
-    assert!(rt; PhaseSet::empty().is_empty() && !odd.is_empty());
+        && odd.contains(Phase::of(15))
+        && !odd.contains(Phase::of(16))
+        && odd.difference(low).first() == Some(Phase::of(5))
+        && !odd.is_empty()
+        && PhaseSet::empty().is_empty()
+}
 
-    let mut rest = PhaseSet::from_list(0x8000);
+fn popped(set: &mut PhaseSet) -> Option<Phase> {
+    set.pop()
+}
+
+/// Whether the last phase and one that is put to it are taken out of a set, the lower one first.
+fn are_taken_out(mut rest: PhaseSet) -> bool {
     rest.insert(Phase::of(3));
-    assert!(rt; rest.list() == 0x8004);
-    assert!(rt; rest.pop() == Some(Phase::of(3)));
-    assert!(rt; rest.pop() == Some(Phase::of(16)));
-    assert!(rt; rest.pop() == None);
+    rest.list() == 0x8004
+        && popped(&mut rest) == Some(Phase::of(3))
+        && popped(&mut rest) == Some(Phase::of(16))
+        && popped(&mut rest) == None
+}
+
+#[test]
+fn sets_are_lists(rt: HostRuntime) {
+    let (odd, low) = (NumberSet::from_list(0x5555), NumberSet::from_list(0x000F));
+    assert!(rt; number_sets_are_lists(odd, low));
+    let (odd, low) = (PhaseSet::from_list(0x5555), PhaseSet::from_list(0x000F));
+    assert!(rt; phase_sets_are_lists(odd, low) && are_taken_out(PhaseSet::from_list(0x8000)));
     laws::lists_tell_their_phases();
+}
+
+/// The number, if it is one from 1 to `most`.
+fn from_one(number: u8, most: u8) -> Option<u8> {
+    (1 <= number && number <= most).then_some(number)
+}
+
+/// Whether the numbers of what a plan has are those that they are to hold.
+fn numbers_of_plans_are(byte: u8) -> bool {
+    let number = u32::from(byte);
+    let eight = from_one(byte, 8);
+    let four = from_one(byte, 4);
+    Ring::new(number).map(Ring::number) == from_one(byte, 2)
+        && PedestrianDetector::new(number).map(PedestrianDetector::number) == eight
+        && Pattern::new(number).map(Pattern::number) == from_one(byte, 16)
+        && Split::new(number).map(Split::number) == eight
+        && Sequence::new(number).map(Sequence::number) == four
+        && Preempt::new(number).map(Preempt::number) == four
+}
+
+/// Whether the greatest of them is made in both ways.
+fn greatest_of_plans_are() -> bool {
+    Ring::new(2) == Some(Ring::of(2))
+        && PedestrianDetector::new(8) == Some(PedestrianDetector::of(8))
+        && Pattern::new(16) == Some(Pattern::of(16))
+        && Split::new(8) == Some(Split::of(8))
+        && Sequence::new(4) == Some(Sequence::of(4))
+        && Preempt::new(4) == Some(Preempt::of(4))
+        && Phase::all().len() == 16
 }
 
 #[test]
 fn numbers_of_plans_hold_their_range(rt: HostRuntime) {
-    for number in 0..20u32 {
-        let two = (1 <= number && number <= 2).then_some(number as u8);
-        let four = (1 <= number && number <= 4).then_some(number as u8);
-        let eight = (1 <= number && number <= 8).then_some(number as u8);
-        let sixteen = (1 <= number && number <= 16).then_some(number as u8);
-        assert!(rt; Ring::new(number).map(Ring::number) == two);
-        assert!(rt; PedestrianDetector::new(number).map(PedestrianDetector::number) == eight);
-        assert!(rt; Pattern::new(number).map(Pattern::number) == sixteen);
-        assert!(rt; Split::new(number).map(Split::number) == eight);
-        assert!(rt; Sequence::new(number).map(Sequence::number) == four);
-        assert!(rt; Preempt::new(number).map(Preempt::number) == four);
+    for byte in 0..20 {
+        assert!(rt; numbers_of_plans_are(byte));
     }
-    assert!(rt; Ring::new(2) == Some(Ring::of(2)));
-    assert!(rt; PedestrianDetector::new(8) == Some(PedestrianDetector::of(8)));
-    assert!(rt; Pattern::new(16) == Some(Pattern::of(16)));
-    assert!(rt; Split::new(8) == Some(Split::of(8)));
-    assert!(rt; Sequence::new(4) == Some(Sequence::of(4)));
-    assert!(rt; Preempt::new(4) == Some(Preempt::of(4)));
-    let phases = Phase::all();
-    assert!(rt; phases.len() == 16);
+    assert!(rt; greatest_of_plans_are());
+}
+
+/// Whether the numbers of phases and of what is beside them are those that they are to hold.
+fn numbers_are(byte: u8) -> bool {
+    let number = u32::from(byte);
+    let four = from_one(byte, 4);
+    let sixteen = from_one(byte, 16);
+    Phase::new(number).map(Phase::number) == sixteen
+        && Detector::new(number).map(Detector::number) == sixteen
+        && Side::new(number).map(Side::number) == four
+        && Overlap::new(number).map(Overlap::number) == four
+        && Station::new(number).map(Station::number) == four
+}
+
+/// Whether the greatest of them is made in both ways.
+fn greatest_are() -> bool {
+    Phase::new(16) == Some(Phase::of(16))
+        && Detector::new(16) == Some(Detector::of(16))
+        && Side::new(4) == Some(Side::of(4))
+        && Overlap::new(4) == Some(Overlap::of(4))
+        && Station::new(4) == Some(Station::of(4))
 }
 
 #[test]
 fn numbers_hold_their_range(rt: HostRuntime) {
-    for number in 0..20u32 {
-        let small = (1 <= number && number <= 4).then_some(number as u8);
-        let large = (1 <= number && number <= 16).then_some(number as u8);
-        assert!(rt; Phase::new(number).map(Phase::number) == large);
-        assert!(rt; Detector::new(number).map(Detector::number) == large);
-        assert!(rt; Side::new(number).map(Side::number) == small);
-        assert!(rt; Overlap::new(number).map(Overlap::number) == small);
-        assert!(rt; Station::new(number).map(Station::number) == small);
+    for byte in 0..20 {
+        assert!(rt; numbers_are(byte));
     }
-    assert!(rt; Phase::new(16) == Some(Phase::of(16)));
-    assert!(rt; Detector::new(16) == Some(Detector::of(16)));
-    assert!(rt; Side::new(4) == Some(Side::of(4)));
-    assert!(rt; Overlap::new(4) == Some(Overlap::of(4)));
-    assert!(rt; Station::new(4) == Some(Station::of(4)));
+    assert!(rt; greatest_are());
 }

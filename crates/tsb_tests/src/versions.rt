@@ -8,93 +8,163 @@ fn range(version: Version, object: Object) -> Option<(u32, u32)> {
     Some((range.indices, range.greatest))
 }
 
+/// Whether version 1 has so many indices of the object, with this greatest value.
+fn has_range(object: Object, indices: u32, greatest: u32) -> bool {
+    Version::One.has(object) && range(Version::One, object) == Some((indices, greatest))
+}
+
+/// Whether version 2 has the object, with its whole range, and version 1 has not.
+fn is_new(object: Object) -> bool {
+    !Version::One.has(object)
+        && Version::Two.has(object)
+        && object.range_in(Version::One) == None
+        && object.range_in(Version::Two) == Some(range_of(object))
+}
+
+/// What version 1 has less of.
+const SMALLER: [(Object, u32, u32); 19] = [
+    (Object::PhaseEnabled, 8, 1),
+    (Object::PhaseRing, 8, 2),
+    (Object::PhaseSide, 8, 2),
+    (Object::PhaseConcurrency, 8, 255),
+    (Object::PhaseCarsBeforeReduction, 8, 255),
+    (Object::VehicleDetectorCallPhase, 16, 8),
+    (Object::VehicleDetectorDelay, 16, 2550),
+    (Object::PedestrianDetectorCallPhase, 8, 8),
+    (Object::OverlapIncludedPhases, 4, 255),
+    (Object::PatternSequenceNumber, 16, 4),
+    (Object::SplitTime, 64, 255),
+    (Object::SplitMode, 64, 5),
+    (Object::SplitCoordPhase, 64, 1),
+    (Object::SequenceData, 64, 8),
+    (Object::PreemptDelay, 4, 600),
+    (Object::PreemptTrackPhase, 4, 255),
+    (Object::PreemptDwellPhase, 4, 255),
+    (Object::PreemptExitPhase, 4, 255),
+    (Object::UnitRedRevert, 1, 255),
+];
+
+/// What version 1 has none of.
+const NEW: [Object; 4] = [
+    Object::PhaseDynamicMaxLimit,
+    Object::PhaseDynamicMaxStep,
+    Object::OverlapType,
+    Object::OverlapModifierPhases,
+];
+
+/// Whether version 1 has the objects with these indices and greatest values.
+fn have_ranges(wanted: &[(Object, u32, u32)]) -> bool {
+    for (object, indices, greatest) in wanted {
+        if !has_range(*object, *indices, *greatest) {
+            return false;
+        }
+    }
+    true
+}
+
+/// Whether only version 2 has the objects.
+fn are_new(objects: &[Object]) -> bool {
+    for object in objects {
+        if !is_new(*object) {
+            return false;
+        }
+    }
+    true
+}
+
+/// Whether version 2 has all splits and sides.
+fn ranges_of_2_are_whole() -> bool {
+    range(Version::Two, Object::SplitTime) == Some((128, 255))
+        && range(Version::Two, Object::PhaseSide) == Some((16, 4))
+}
+
 #[test]
 fn version_1_is_smaller(rt: HostRuntime) {
-    let wanted = [
-        (Object::PhaseEnabled, 8, 1),
-        (Object::PhaseRing, 8, 2),
-        (Object::PhaseSide, 8, 2),
-        (Object::PhaseConcurrency, 8, 255),
-        (Object::PhaseCarsBeforeReduction, 8, 255),
-        (Object::VehicleDetectorCallPhase, 16, 8),
-        (Object::VehicleDetectorDelay, 16, 2550),
-        (Object::PedestrianDetectorCallPhase, 8, 8),
-        (Object::OverlapIncludedPhases, 4, 255),
-        (Object::PatternSequenceNumber, 16, 4),
-        (Object::SplitTime, 64, 255),
-        (Object::SplitMode, 64, 5),
-        (Object::SplitCoordPhase, 64, 1),
-        (Object::SequenceData, 64, 8),
-        (Object::PreemptDelay, 4, 600),
-        (Object::PreemptTrackPhase, 4, 255),
-        (Object::PreemptDwellPhase, 4, 255),
-        (Object::PreemptExitPhase, 4, 255),
-        (Object::UnitRedRevert, 1, 255),
-    ];
-    for (object, indices, greatest) in wanted {
-        assert!(rt; Version::One.has(object));
-        assert!(rt; range(Version::One, object) == Some((indices, greatest)));
-    }
-    let absent = [
-        Object::PhaseDynamicMaxLimit,
-        Object::PhaseDynamicMaxStep,
-        Object::OverlapType,
-        Object::OverlapModifierPhases,
-    ];
-    for object in absent {
-        assert!(rt; !Version::One.has(object) && Version::Two.has(object));
-        assert!(rt; object.range_in(Version::One) == None);
-        assert!(rt; object.range_in(Version::Two) == Some(range_of(object)));
-    }
-    assert!(rt; range(Version::Two, Object::SplitTime) == Some((128, 255)));
-    assert!(rt; range(Version::Two, Object::PhaseSide) == Some((16, 4)));
+    assert!(rt; have_ranges(&SMALLER) && are_new(&NEW) && ranges_of_2_are_whole());
+}
+
+/// Whether indices of version 1 are translated.
+fn indices_of_1_are_translated() -> bool {
+    // Split table 1's phase 8, table 2's phase 1, and the last of all.
+    let one = Version::One;
+    one.translated(Object::SplitTime, 8) == 8
+        && one.translated(Object::SplitMode, 9) == 17
+        && one.translated(Object::SplitCoordPhase, 64) == 120
+        // Place 3 of ring 1 in sequence 1, place 1 of ring 2, and place 8 of ring 2 in sequence 4.
+        && one.translated(Object::SequenceData, 3) == 3
+        && one.translated(Object::SequenceData, 9) == 17
+        && one.translated(Object::SequenceData, 64) == 120
+        && one.translated(Object::PhaseEnabled, 8) == 8
+        && one.translated(Object::VehicleDetectorDelay, 16) == 16
+}
+
+/// Whether those of version 2 are kept.
+fn indices_of_2_are_kept() -> bool {
+    Version::Two.translated(Object::SplitTime, 17) == 17
+        && Version::Two.translated(Object::SequenceData, 128) == 128
 }
 
 #[test]
 fn indices_are_translated(rt: HostRuntime) {
-    // Split table 1's phase 8, table 2's phase 1, and the last of all.
-    let one = Version::One;
-    assert!(rt; one.translated(Object::SplitTime, 8) == 8);
-    assert!(rt; one.translated(Object::SplitMode, 9) == 17);
-    assert!(rt; one.translated(Object::SplitCoordPhase, 64) == 120);
-    // Place 3 of ring 1 in sequence 1, place 1 of ring 2, and place 8 of ring 2 in sequence 4.
-    assert!(rt; one.translated(Object::SequenceData, 3) == 3);
-    assert!(rt; one.translated(Object::SequenceData, 9) == 17);
-    assert!(rt; one.translated(Object::SequenceData, 64) == 120);
-    assert!(rt; one.translated(Object::PhaseEnabled, 8) == 8);
-    assert!(rt; one.translated(Object::VehicleDetectorDelay, 16) == 16);
-    assert!(rt; Version::Two.translated(Object::SplitTime, 17) == 17);
-    assert!(rt; Version::Two.translated(Object::SequenceData, 128) == 128);
+    assert!(rt; indices_of_1_are_translated() && indices_of_2_are_kept());
     version_laws::versions_say_the_same();
+}
+
+fn is_named(object: Object, name: &str) -> bool {
+    object.name() == name
+}
+
+/// Whether the version has this object, or none, under the name.
+fn finds(version: Version, name: &str, wanted: Option<Object>) -> bool {
+    Object::named(version, name) == wanted
+}
+
+/// Whether objects have their names.
+fn names_are() -> bool {
+    is_named(Object::PhaseEnabled, "phaseEnabled")
+        && is_named(Object::UnitMax2, "unitMax2")
+        && is_named(Object::OverlapModifierPhases, "overlapModifierPhases")
+}
+
+/// Whether objects are found by their names, where the version has them.
+fn names_are_found() -> bool {
+    let (split, last) = (Object::SplitTime, Object::OverlapModifierPhases);
+    finds(Version::One, split.name(), Some(split))
+        && finds(Version::Two, last.name(), Some(last))
+        && finds(Version::One, "overlapType", None)
+        && finds(Version::Two, "overlaptype", None)
+        && finds(Version::Two, "", None)
 }
 
 #[test]
 fn objects_have_names(rt: HostRuntime) {
-    assert!(rt; Object::PhaseEnabled.name() == "phaseEnabled");
-    assert!(rt; Object::UnitMax2.name() == "unitMax2");
-    assert!(rt; Object::OverlapModifierPhases.name() == "overlapModifierPhases");
-    let (split, last) = (Object::SplitTime, Object::OverlapModifierPhases);
-    assert!(rt; Object::named(Version::One, split.name()) == Some(split));
-    assert!(rt; Object::named(Version::Two, last.name()) == Some(last));
-    assert!(rt; Object::named(Version::One, "overlapType") == None);
-    assert!(rt; Object::named(Version::Two, "overlaptype") == None);
-    assert!(rt; Object::named(Version::Two, "") == None);
+    assert!(rt; names_are() && names_are_found());
     version_laws::versions_say_the_same();
+}
+
+/// What a plan's structure is made of.
+const STRUCTURAL: [Object; 7] = [
+    Object::PhaseRing,
+    Object::PhaseSide,
+    Object::PhaseConcurrency,
+    Object::PhaseEnabled,
+    Object::OverlapIncludedPhases,
+    Object::OverlapType,
+    Object::OverlapModifierPhases,
+];
+
+/// Whether all these objects are structural.
+fn are_structural(objects: &[Object]) -> bool {
+    for object in objects {
+        if !is_structural(*object) {
+            return false;
+        }
+    }
+    true
 }
 
 #[test]
 fn structure_is_told(rt: HostRuntime) {
-    let structural = [
-        Object::PhaseRing,
-        Object::PhaseSide,
-        Object::PhaseConcurrency,
-        Object::PhaseEnabled,
-        Object::OverlapIncludedPhases,
-        Object::OverlapType,
-        Object::OverlapModifierPhases,
-    ];
-    for object in structural {
-        assert!(rt; is_structural(object));
-    }
+    assert!(rt; are_structural(&STRUCTURAL));
     assert!(rt; Object::ALL.iter().filter(|o| is_structural(**o)).count() == 7);
 }
