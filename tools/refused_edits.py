@@ -7,6 +7,9 @@ function that it edits, or of one that names the constant that it edits: a goal 
 answer written for it does not fit. A function that is not proved only because of what it calls, or because a proof
 names what the edit took away, shows nothing. Such an edit is tried by itself, and in the end over the whole crate, as
 `rt ci` tries it. The last line is `N passed, M failed`.
+
+Runs of one crate share what they prove. An edit that the whole crate does not refuse so is tried once more from nothing.
+That the crate as it is would be proved over what they share is not tried, as `rt ci` tries it.
 """
 import dataclasses
 import functools
@@ -28,6 +31,7 @@ BAD_ANSWER = re.compile(r"(?:\./)?proofs/(\S+)/[^/\s]+:\d+:\d+: error: ")
 TAKEN_AWAY = re.compile(r"has no field|is not in scope|has no `|was not admitted|is no name")
 HEAD = re.compile(r"([ \t]*)(?:pub(?:\([^)]*\))? )?(?:const )?fn (\w+)")
 CONSTANT = re.compile(r"(?:pub(?:\([^)]*\))? )?const (\w+):")
+MACRO = re.compile(r"macro_rules! (\w+)")
 IMPL = re.compile(r"impl(?:<[^>]*>)? (?:(\S+?)(?:<(.*)>)? for )?&?(\w+)")
 
 # The path of a file in a crate.
@@ -107,13 +111,24 @@ def function_at(path: Path, text: str, at: int) -> Function | None:
     return Function(path, f"{above}::{found[2]}" if above else found[2], first + 1, last + 1)
 
 
+def constant_at(text: str, at: int) -> str | None:
+    """The constant that a place of a file stands in; of a macro, the first constant that is made by it."""
+    for row in reversed(text[:at].split("\n")):
+        constant, macro = CONSTANT.match(row), MACRO.match(row)
+        if constant or HEAD.match(row):
+            return constant[1] if constant else None
+        if macro:
+            made = re.search(rf"^{CONSTANT.pattern}.*\b{macro[1]}!", text[at:], re.M)
+            return made[1] if made else None
+    return None
+
+
 def readers(path: Path, texts: dict[Path, str], at: int) -> list[Function]:
     """The functions that name the constant that a place of a file stands in, if it stands in one."""
-    above = texts[path][:at].split("\n")
-    found = next((it for it in map(CONSTANT.match, reversed(above)) if it), None)
-    if not found or any(HEAD.match(row) for row in above[above.index(found.string):]):
+    name = constant_at(texts[path], at)
+    if not name:
         return []
-    named = re.compile(rf"\b{found[1]}\b")
+    named = re.compile(rf"\b{name}\b")
     places = ((it, text, place.start()) for it, text in texts.items() for place in named.finditer(text))
     return [it for it in (function_at(*place) for place in places) if it]
 
@@ -168,8 +183,9 @@ def applied(folder: str, edits: list[Edit]) -> tuple[dict[Path, str], dict[pathl
     return texts, ends
 
 
-def prove(crate: Any, texts: dict[Path, str], functions: set[str]) -> list[str]:
-    """What the prover says of these functions in a copy of the crate with these files."""
+def prove(crate: Any, texts: dict[Path, str], functions: set[str], kept: str) -> list[str]:
+    """What the prover says of these functions in a copy of the crate with these files. What it proves goes into a folder,
+    and what is there and still fits is not proved again."""
     room_of = tempfile.TemporaryDirectory(prefix="edits-")
     with room_of as room:
         for part in kit.kit().rtlib.PARTS:
@@ -178,7 +194,7 @@ def prove(crate: Any, texts: dict[Path, str], functions: set[str]) -> list[str]:
         for path, text in texts.items():
             pathlib.Path(room, path).write_text(text)
         asked = [word for name in sorted(functions) for word in ("--only", name)]
-        words = [kit.kit().rtlib.RATTLE, "check", *crate.words(["--jobs", "1"], keeps=False), *asked]
+        words = [kit.kit().rtlib.RATTLE, "check", *crate.words(["--jobs", "1"], keeps=False), *asked, "--incremental", kept]
         done = subprocess.run(words, cwd=room, stdin=subprocess.DEVNULL, stdout=subprocess.PIPE,
                               stderr=subprocess.STDOUT, text=True, errors="replace")
     return done.stdout.split("\n")
@@ -198,14 +214,14 @@ def own_goal(lines: list[str], function: Function) -> str | None:
     return None
 
 
-def refused(crate: Any, group: list[Edit]) -> dict[pathlib.Path, str]:
+def refused(crate: Any, group: list[Edit], kept: str) -> dict[pathlib.Path, str]:
     """The edits of a group that are refused, tried together, each with the goal that its own function does not meet."""
     texts, ends = applied(crate.folder, group)
     whole = sources(crate.folder) | texts
     functions = {file: [it for path, at in places if path in whole for it in functions_at(path, whole, at)]
                  for file, places in ends.items()}
     asked = {it.name for found in functions.values() for it in found}
-    lines = prove(crate, texts, asked) if asked else []
+    lines = prove(crate, texts, asked, kept) if asked else []
     goals = {file: next(filter(None, (own_goal(lines, it) for it in found)), None) for file, found in functions.items()}
     return {file: goal for file, goal in goals.items() if goal}
 
@@ -218,25 +234,33 @@ class Verdict:
     line: str
 
 
-def tried_alone(crate: Any, edit: Edit) -> Verdict:
+def tried_alone(crate: Any, edit: Edit, kept: str) -> Verdict:
     """An edit by itself: its own functions, and where that shows nothing the whole crate, as `rt ci` tries it."""
-    goal = refused(crate, [edit]).get(edit.file)
+    goal = refused(crate, [edit], kept).get(edit.file)
     if goal:
         return Verdict(True, f"must-fail {crate.name}/{edit.file.name}: refused, as it must be, alone: {goal[:160]}")
-    is_refused, line = kit.kit().must_fail(crate, str(edit.file), ["--jobs", "1"])
+    is_refused, line = kit.kit().must_fail(crate, str(edit.file), ["--jobs", "1"], kept)
+    if not is_refused:
+        is_refused, line = kit.kit().must_fail(crate, str(edit.file), ["--jobs", "1"])
     return Verdict(is_refused, line)
 
 
-def tried(crate: Any, group: list[Edit]) -> list[Verdict]:
+def tried(crate: Any, group: list[Edit], kept: str) -> list[Verdict]:
     """The edits of a group, those alone that were not refused together."""
-    goals = refused(crate, group) if len(group) > 1 else {}
+    goals = refused(crate, group, kept) if len(group) > 1 else {}
     verdicts = []
     for edit in group:
         goal = goals.get(edit.file)
         line = f"must-fail {crate.name}/{edit.file.name}: refused, as it must be: {(goal or '')[:160]}"
-        verdicts.append(Verdict(True, line) if goal else tried_alone(crate, edit))
+        verdicts.append(Verdict(True, line) if goal else tried_alone(crate, edit, kept))
         print(verdicts[-1].line, flush=True)
     return verdicts
+
+
+def tried_all(crate: Any, edits: list[Edit]) -> list[Verdict]:
+    """The edits of a crate, group after group: what is proved for one group is not proved again for the next."""
+    with tempfile.TemporaryDirectory(prefix="edits-kept-") as kept:
+        return [verdict for group in grouped(edits) for verdict in tried(crate, group, kept)]
 
 
 def unfit(crate: Any) -> tuple[list[Edit], list[Verdict]]:
@@ -263,10 +287,9 @@ def main(names: list[str]) -> int:
         crate = crates[name]
         edits, bad = unfit(crate)
         verdicts += bad
-        for number, group in enumerate(grouped(edits)):
-            # what a task of the kit is: what it waits for, its work in lines, its memory, and its call
-            call = functools.partial(tried, crate, group)
-            tasks[f"{name} {number}", "edits"] = [], crate.count(rb"\n"), kit.kit().need(crate), lambda *_, it=call: it()
+        # what a task of the kit is: what it waits for, its work in lines, its memory, and its call
+        call = functools.partial(tried_all, crate, edits)
+        tasks[name, "edits"] = [], crate.count(rb"\n"), kit.kit().need(crate), lambda *_, it=call: it()
     for found in kit.kit().in_lanes(tasks).values():
         verdicts += found
     failed = [it.line for it in verdicts if not it.is_refused]
