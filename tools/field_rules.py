@@ -245,7 +245,7 @@ def display_events(before, now):
 
     found = begun(1, b"G", 1) + ended(7, b"G", 1) + begun(8, b"Y", 1) + ended(9, b"Y", 1)
     found += begun(21, b"W", 2) + begun(22, b"C", 2) + ended(23, b"WC", 2)
-    found += begun(61, b"G", 3) + begun(63, b"Y", 3) + ended(65, b"GY", 3)
+    found += begun(61, b"G", 3) + begun(63, b"Y", 3) + ended(64, b"GY", 3)
     if now[4] not in (b"0", before[4]):
         found.append((105, int(now[4])))
     was, is_now = b"F" in before[1], b"F" in now[1]

@@ -6,11 +6,12 @@ ghost use Rattle.tsb_objects.specs.tsb_plan.Plan.{has_soft_recall};
 ghost use Rattle.tsb_objects.specs.Checked.{checked_plan};
 ghost use Rattle.tsb_calls.specs.Memories.{Memories, has_output};
 ghost use Rattle.tsb_calls.specs.Callable.{has_pedestrian_call, is_called, is_free, is_callable_otherwise, is_callable, has_conflict};
-ghost use Rattle.tsb_calls.specs.Promises.{given_of, IsCalledAs};
+ghost use Rattle.tsb_calls.specs.Promises.{given_of, AreStanding, IsCalledAs};
 ghost use Rattle.tsb_calls.specs.Layer.{AreMemories};
 
 use crate::observed::Observed;
 use crate::recalls::{with_pedestrians, with_recall};
+use crate::standing::Standing;
 use tsb_objects::{Called, Checked, PhaseSet};
 
 /// Whether a set has a phase.
@@ -66,6 +67,28 @@ fn called(
         .union(walk)
         .union(passing)
         .union(with_recall(plan, observed))
+}
+
+/// The calls that stand, by the memories and the outputs.
+pub(crate) fn find_standing(
+    plan: &Checked,
+    observed: &Observed,
+    vehicle: PhaseSet,
+    pedestrian: PhaseSet,
+    output: PhaseSet,
+) -> Standing
+    requires { (p : ℕ) → 1 ≤ p → p ≤ 16 → has output p ≡ has_output (checked_plan plan.now) (given_of observed.now) p }
+    ensures { (m : Memories) → AreMemories vehicle pedestrian m → (p : ℕ) → 1 ≤ p → p ≤ 16 →
+        AreStanding (checked_plan plan.now) (given_of observed.now) m result p }
+{
+    let passing = plan.non_locking().intersection(output);
+    let asked = vehicle.union(passing).union(with_recall(plan, observed));
+    let waiting = plan.enabled().difference(observed.intervals.green);
+    let walks = with_pedestrian_call(plan, observed, pedestrian);
+    Standing {
+        vehicle: waiting.intersection(asked),
+        pedestrian: walks.difference(observed.pedestrians.walk),
+    }
 }
 
 /// The callable phases, of those that are free and those that are called: where none is both, soft recall counts.

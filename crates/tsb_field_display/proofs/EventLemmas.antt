@@ -4,18 +4,19 @@ use Rattle.std.proofs.lemmas.List.{append-nil}
 use Rattle.std.proofs.lemmas.Bool.{eq-eqb}
 use Rattle.tsb_types.specs.Lists.{run_from, first}
 use Rattle.tsb_types.proofs.FirstLemmas.{first-none, first-run_from}
-use Rattle.tsb_field_display.specs.declared.events.DisplayEvent.{DisplayEvent}
+use Rattle.tsb_types.specs.declared.event.Event.{Event}
 use Rattle.tsb_field_display.specs.declared.shown.Shown.{Shown}
 use Rattle.tsb_field_display.specs.declared.shown.Signals.{Signals}
-use Rattle.tsb_field_display.specs.Events.{event, told, numbers_with, begins, either, events_of, preempt_events, flash_events, is_in_flash, is_green, is_yellow, is_walk, is_clearance, is_overlap_green, is_overlap_yellow}
+use Rattle.tsb_types.specs.Events.{event, told, numbers_with, begins, either}
+use Rattle.tsb_field_display.specs.Events.{events_of, preempt_events, flash_events, is_in_flash, is_green, is_yellow, is_walk, is_clearance, is_overlap_green, is_overlap_yellow}
 use Rattle.tsb_field_display.proofs.NumberLemmas.{filter-none}
 
 -- events added after those that were added
-pub more : (old a b e f : List DisplayEvent) → e ≡ old ++ a → f ≡ e ++ b → f ≡ old ++ (a ++ b)
-more old a b e f one other = other ∙ ap (λ (es : List DisplayEvent). es ++ b) one ∙ append_assoc old a b
+pub more : (old a b e f : List Event) → e ≡ old ++ a → f ≡ e ++ b → f ≡ old ++ (a ++ b)
+more old a b e f one other = other ∙ ap (λ (es : List Event). es ++ b) one ∙ append_assoc old a b
 
 -- told by another test that is the same
-pub told-by : (old e : List DisplayEvent) (tick code : ℕ) (f g : ℕ → Bool) → e ≡ old ++ told tick code f → f ≡ g → e ≡ old ++ told tick code g
+pub told-by : (old e : List Event) (tick code : ℕ) (f g : ℕ → Bool) → e ≡ old ++ told tick code f → f ≡ g → e ≡ old ++ told tick code g
 told-by old e tick code f g is_told same = is_told ∙ ap (λ (test : ℕ → Bool). old ++ told tick code test) same
 
 -- the least of a set, or none, is the first of its numbers
@@ -54,7 +55,7 @@ events-same s tick =
       none-told tick 23 (either (is_walk s) (is_clearance s)),
       none-told tick 61 (is_overlap_green s),
       none-told tick 63 (is_overlap_yellow s),
-      none-told tick 65 (either (is_overlap_green s) (is_overlap_yellow s)),
+      none-told tick 64 (either (is_overlap_green s) (is_overlap_yellow s)),
       none-preempt s.preempt tick,
       none-flash (is_in_flash s) tick,
     ) refl
@@ -65,15 +66,15 @@ no-events before now same = ap (λ (s : Signals). events_of s now) same ∙ even
 -- ## One event after the other
 
 -- the event of the least, and then those of the others
-pub tell-next : (e new : List DisplayEvent) (tick code n : ℕ) (s t : ℕ → Bool) → numbers_with s ≡ n ∷ numbers_with t →
+pub tell-next : (e new : List Event) (tick code n : ℕ) (s t : ℕ → Bool) → numbers_with s ≡ n ∷ numbers_with t →
     new ≡ e ++ event tick code n ∷ [] → new ++ told tick code t ≡ e ++ told tick code s
 tell-next e new tick code n s t least added =
-    ap (λ (es : List DisplayEvent). es ++ told tick code t) added
+    ap (λ (es : List Event). es ++ told tick code t) added
     ∙ append_assoc e (event tick code n ∷ []) (told tick code t)
     ∙ ap (λ (ns : List ℕ). e ++ map (λ m. event tick code m) ns) (sym least)
 
 -- where none is left, all is told
-pub tell-end : (e all : List DisplayEvent) (tick code : ℕ) (s : ℕ → Bool) → ((n : ℕ) → s n ≡ false) → e ++ told tick code s ≡ all → e ≡ all
+pub tell-end : (e all : List Event) (tick code : ℕ) (s : ℕ → Bool) → ((n : ℕ) → s n ≡ false) → e ++ told tick code s ≡ all → e ≡ all
 tell-end e all tick code s none is_told =
     sym (append-nil e)
     ∙ ap (λ (ns : List ℕ). e ++ map (λ m. event tick code m) ns) (sym (filter-none s 1 16 (λ n from below. none n)))

@@ -6,12 +6,13 @@ use Rattle.tsb_types.specs.Sets.{has_number}
 use Rattle.tsb_types.proofs.RunLemmas.{among-run}
 use Rattle.tsb_types.proofs.SetLemmas.{names-zero}
 use Rattle.tsb_types.proofs.FirstLemmas.{first-none}
-use Rattle.tsb_field_display.specs.declared.events.DisplayEvent.{DisplayEvent}
+use Rattle.tsb_types.specs.declared.event.Event.{Event}
 use Rattle.tsb_field_display.specs.declared.shown.Shown.{Shown}
 use Rattle.tsb_field_display.specs.declared.shown.Signals.{Signals}
 use Rattle.tsb_field_display.specs.Shows.{nothing_lit, is_same, AreApart}
 use Rattle.tsb_field_display.specs.Remaining.{changes_after}
-use Rattle.tsb_field_display.specs.Events.{event, told, numbers_with, begins, ends, either, events_of, events_after, events_of_lines, vehicle_events, pedestrian_events, overlap_events, preempt_events, flash_events, is_in_flash, is_green, is_yellow, is_walk, is_clearance, is_overlap_green, is_overlap_yellow}
+use Rattle.tsb_types.specs.Events.{event, told, numbers_with, begins, ends, either}
+use Rattle.tsb_field_display.specs.Events.{events_of, events_after, events_of_lines, vehicle_events, pedestrian_events, overlap_events, preempt_events, flash_events, is_in_flash, is_green, is_yellow, is_walk, is_clearance, is_overlap_green, is_overlap_yellow}
 use Rattle.tsb_field_display.specs.ReadBack.{said_or, lit_after, says_at, says_green, says_yellow, says_walk, says_clearance, says_overlap_green, says_overlap_yellow, says_flash}
 use Rattle.tsb_field_display.specs.Laws.{AreAllApart, ComeOfChanges, TellTheHeads}
 use Rattle.tsb_field_display.proofs.SameLemmas.{same-signals}
@@ -27,8 +28,8 @@ changes-first : (same : Bool) (before : Signals) (line : Shown) (lines : List Sh
 changes-first true before line lines e one other =
     let alike : before ≡ line.signals = same-signals before line.signals e in
     one ∙ ap (λ (s : Signals). events_after s lines) alike
-    ∙ ap (λ (es : List DisplayEvent). es ++ events_after line.signals lines) (sym (no-events before line alike))
-changes-first false before line lines e one other = ap (λ (es : List DisplayEvent). events_of before line ++ es) other
+    ∙ ap (λ (es : List Event). es ++ events_after line.signals lines) (sym (no-events before line alike))
+changes-first false before line lines e one other = ap (λ (es : List Event). events_of before line ++ es) other
 
 changes-after : (before : Signals) (lines : List Shown) → events_after before (changes_after before lines) ≡ events_after before lines
 changes-after before [] = refl
@@ -37,16 +38,16 @@ changes-after before (line ∷ lines) =
 
 pub come-of-changes : ComeOfChanges
 come-of-changes [] = refl
-come-of-changes (line ∷ lines) = ap (λ (es : List DisplayEvent). events_of nothing_lit line ++ es) (changes-after line.signals lines)
+come-of-changes (line ∷ lines) = ap (λ (es : List Event). events_of nothing_lit line ++ es) (changes-after line.signals lines)
 
 -- ## What events say, one after the other
 
-lit-append : (says : DisplayEvent → Option Bool) (lit : Bool) (es fs : List DisplayEvent) → lit_after says lit (es ++ fs) ≡ lit_after says (lit_after says lit es) fs
+lit-append : (says : Event → Option Bool) (lit : Bool) (es fs : List Event) → lit_after says lit (es ++ fs) ≡ lit_after says (lit_after says lit es) fs
 lit-append says lit [] fs = refl
 lit-append says lit (e ∷ es) fs = lit-append says (said_or (says e) lit) es fs
 
 -- events that say nothing
-lit-silent : (says : DisplayEvent → Option Bool) (lit : Bool) (tick code : ℕ) (ns : List ℕ) → ((n : ℕ) → says (event tick code n) ≡ None) →
+lit-silent : (says : Event → Option Bool) (lit : Bool) (tick code : ℕ) (ns : List ℕ) → ((n : ℕ) → says (event tick code n) ≡ None) →
     lit_after says lit (map (λ n. event tick code n) ns) ≡ lit
 lit-silent says lit tick code [] silent = refl
 lit-silent says lit tick code (n ∷ ns) silent =
@@ -106,17 +107,17 @@ lit-told by_code p lit tick code test from within =
 -- ## What the events of a change say
 
 -- events lead from what was lit to what is
-record Leads (says : DisplayEvent → Option Bool) (lit : Bool) (es : List DisplayEvent) (last : Bool) : Type 0 where
+record Leads (says : Event → Option Bool) (lit : Bool) (es : List Event) (last : Bool) : Type 0 where
   is_lit : lit_after says lit es ≡ last
 
-is_lit_of : {says : DisplayEvent → Option Bool} {lit last : Bool} {es : List DisplayEvent} → Leads says lit es last → lit_after says lit es ≡ last
+is_lit_of : {says : Event → Option Bool} {lit last : Bool} {es : List Event} → Leads says lit es last → lit_after says lit es ≡ last
 is_lit_of l = l.is_lit
 
-after : {says : DisplayEvent → Option Bool} {lit next last : Bool} {es fs : List DisplayEvent} → Leads says lit es next → Leads says next fs last → Leads says lit (es ++ fs) last
+after : {says : Event → Option Bool} {lit next last : Bool} {es fs : List Event} → Leads says lit es next → Leads says next fs last → Leads says lit (es ++ fs) last
 after {says} {lit} {next} {last} {es} {fs} one other =
     record { is_lit = lit-append says lit es fs ∙ ap (λ (b : Bool). lit_after says b fs) one.is_lit ∙ other.is_lit }
 
-leads : (says : DisplayEvent → Option Bool) (lit : Bool) (es : List DisplayEvent) (last : Bool) → lit_after says lit es ≡ last → Leads says lit es last
+leads : (says : Event → Option Bool) (lit : Bool) (es : List Event) (last : Bool) → lit_after says lit es ≡ last → Leads says lit es last
 leads says lit es last e = record { is_lit = e }
 
 leads-told : (by_code : ℕ → Option Bool) (p : ℕ) (lit : Bool) (tick code : ℕ) (test : ℕ → Bool) → 1 ≤ p → p ≤ 16 →
@@ -130,16 +131,16 @@ quiet by_code p tick code n e = rw e (both (n == p))
     both true = refl
     both false = refl
 
-preempt-quiet : (says : DisplayEvent → Option Bool) (lit : Bool) (before : Option ℕ) (tick : ℕ) (now : Option ℕ) →
+preempt-quiet : (says : Event → Option Bool) (lit : Bool) (before : Option ℕ) (tick : ℕ) (now : Option ℕ) →
     ((n : ℕ) → says (event tick 105 n) ≡ None) → Leads says lit (preempt_events before tick now) lit
 preempt-quiet says lit before tick None silent = record { is_lit = refl }
 preempt-quiet says lit before tick (Some n) silent = record {
   is_lit =
-      cond_both (is n before) [] (event tick 105 n ∷ []) (λ (es : List DisplayEvent). lit_after says lit es ≡ lit)
+      cond_both (is n before) [] (event tick 105 n ∷ []) (λ (es : List Event). lit_after says lit es ≡ lit)
       (λ _. refl) (λ _. ap (λ (o : Option Bool). said_or o lit) (silent n));
 }
 
-flash-quiet : (says : DisplayEvent → Option Bool) (lit before now : Bool) (tick : ℕ) → ((n : ℕ) → says (event tick 173 n) ≡ None) →
+flash-quiet : (says : Event → Option Bool) (lit before now : Bool) (tick : ℕ) → ((n : ℕ) → says (event tick 173 n) ≡ None) →
     Leads says lit (flash_events before tick now) lit
 flash-quiet says lit true true tick silent = record { is_lit = refl }
 flash-quiet says lit true false tick silent = record { is_lit = ap (λ (o : Option Bool). said_or o lit) (silent 2) }
@@ -159,7 +160,7 @@ by_pedestrians by_code p was now lit =
 
 abbrev by_overlaps : (ℕ → Option Bool) → ℕ → Signals → Signals → Bool → Bool
 by_overlaps by_code p was now lit =
-    effect (by_code 65) (ends (either (is_overlap_green was) (is_overlap_yellow was)) (either (is_overlap_green now) (is_overlap_yellow now)) p)
+    effect (by_code 64) (ends (either (is_overlap_green was) (is_overlap_yellow was)) (either (is_overlap_green now) (is_overlap_yellow now)) p)
     (effect (by_code 63) (begins (is_overlap_yellow was) (is_overlap_yellow now) p)
     (effect (by_code 61) (begins (is_overlap_green was) (is_overlap_green now) p) lit))
 
@@ -183,7 +184,7 @@ lit-overlaps : (by_code : ℕ → Option Bool) (p : ℕ) (was : Signals) (tick :
 lit-overlaps by_code p was tick now lit from within =
     after (after (leads-told by_code p lit tick 61 (begins (is_overlap_green was) (is_overlap_green now)) from within)
     (leads-told by_code p _ tick 63 (begins (is_overlap_yellow was) (is_overlap_yellow now)) from within))
-    (leads-told by_code p _ tick 65 (ends (either (is_overlap_green was) (is_overlap_yellow was)) (either (is_overlap_green now) (is_overlap_yellow now))) from within)
+    (leads-told by_code p _ tick 64 (ends (either (is_overlap_green was) (is_overlap_yellow was)) (either (is_overlap_green now) (is_overlap_yellow now))) from within)
 
 lit-change : (by_code : ℕ → Option Bool) (p : ℕ) (was : Signals) (now : Shown) (lit : Bool) → 1 ≤ p → p ≤ 16 → by_code 105 ≡ None → by_code 173 ≡ None →
     lit_after (says_at by_code p) lit (events_of was now)
@@ -212,7 +213,7 @@ lit-flash was now =
     λ code test other. record { is_lit = lit-silent says_flash (is_in_flash was) now.tick code (numbers_with test) (λ n. rw other refl) } in
     is_lit_of (after (after (after (after (after (after (after (silent 1 _ refl) (silent 7 _ refl)) (silent 8 _ refl)) (silent 9 _ refl))
     (after (after (silent 21 _ refl) (silent 22 _ refl)) (silent 23 _ refl)))
-    (after (after (silent 61 _ refl) (silent 63 _ refl)) (silent 65 _ refl)))
+    (after (after (silent 61 _ refl) (silent 63 _ refl)) (silent 64 _ refl)))
     (preempt-quiet says_flash (is_in_flash was) was.preempt now.tick now.signals.preempt (λ n. refl)))
     (flashes (is_in_flash was) (is_in_flash now.signals) now.tick))
 
@@ -257,11 +258,11 @@ second-colour false false false false a b = refl
 
 -- ## Of lines
 
-abbrev Follows : (DisplayEvent → Option Bool) → (Signals → Bool) → Type 0
+abbrev Follows : (Event → Option Bool) → (Signals → Bool) → Type 0
 Follows says shows = (was : Signals) (now : Shown) → AreApart was → AreApart now.signals →
     lit_after says (shows was) (events_of was now) ≡ shows now.signals
 
-follow : (says : DisplayEvent → Option Bool) (shows : Signals → Bool) → Follows says shows → (was : Signals) (lines : List Shown) (line : Shown) →
+follow : (says : Event → Option Bool) (shows : Signals → Bool) → Follows says shows → (was : Signals) (lines : List Shown) (line : Shown) →
     AreApart was → AreAllApart (lines ++ line ∷ []) → lit_after says (shows was) (events_after was (lines ++ line ∷ [])) ≡ shows line.signals
 follow says shows step was [] line apart all =
     is_lit_of (after (leads says (shows was) (events_of was line) (shows line.signals) (step was line apart all.0))
@@ -275,7 +276,7 @@ none-apart : AreApart nothing_lit
 none-apart = record { pedestrians = λ n e. names-zero n; overlaps = λ n e. names-zero n }
 
 -- where nothing is lit at first
-followed : (says : DisplayEvent → Option Bool) (shows : Signals → Bool) → Follows says shows → shows nothing_lit ≡ false → (lines : List Shown) (line : Shown) →
+followed : (says : Event → Option Bool) (shows : Signals → Bool) → Follows says shows → shows nothing_lit ≡ false → (lines : List Shown) (line : Shown) →
     AreAllApart (lines ++ line ∷ []) → lit_after says false (events_of_lines (lines ++ line ∷ [])) ≡ shows line.signals
 followed says shows step dark lines line all =
     ap (λ (b : Bool). lit_after says b (events_of_lines (lines ++ line ∷ []))) (sym dark) ∙ follow says shows step nothing_lit lines line none-apart all

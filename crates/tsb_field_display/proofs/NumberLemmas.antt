@@ -4,7 +4,7 @@ use Rattle.std.proofs.lemmas.Bool.{cases_eq}
 use Rattle.std.proofs.lemmas.List.Sums.{length-filter, count_by-le-length}
 use Rattle.tsb_types.specs.Lists.{run_from}
 use Rattle.tsb_types.proofs.RunLemmas.{length-run_from}
-use Rattle.tsb_field_display.specs.Events.{numbers_with}
+use Rattle.tsb_types.specs.Events.{numbers_with}
 
 -- two tests that agree on a run pass the same of it
 pub filter-same : (f g : ℕ → Bool) (a n : ℕ) → ((k : ℕ) → a ≤ k → f k ≡ g k) → filter f (run_from a n) ≡ filter g (run_from a n)

@@ -4,32 +4,9 @@ use Rattle.tsb_types.specs.Lists.{run_from, is, some_passes}
 use Rattle.tsb_types.specs.Sets.{has_number}
 use Rattle.tsb_field_display.specs.declared.shown.Signals.{Signals}
 use Rattle.tsb_field_display.specs.declared.shown.Shown.{Shown}
-use Rattle.tsb_field_display.specs.declared.events.DisplayEvent.{DisplayEvent}
+use Rattle.tsb_types.specs.Events.{event, told, begins, ends, either}
+use Rattle.tsb_types.specs.declared.event.Event.{Event}
 use Rattle.tsb_field_display.specs.Shows.{nothing_lit}
-
--- an event
-abbrev pub event : ℕ → ℕ → ℕ → DisplayEvent
-event tick code parameter = record { tick = tick; code = code; parameter = parameter }
-
--- the numbers 1 to 16 that pass a test, the least first
-abbrev pub numbers_with : (ℕ → Bool) → List ℕ
-numbers_with test = filter test (run_from 1 16)
-
--- an event of this code for each number that passes a test
-abbrev pub told : ℕ → ℕ → (ℕ → Bool) → List DisplayEvent
-told tick code test = map (λ n. event tick code n) (numbers_with test)
-
--- what begins: now it is, and it was not
-abbrev pub begins : (ℕ → Bool) → (ℕ → Bool) → ℕ → Bool
-begins was is_now n = is_now n && not (was n)
-
--- what ends: it was, and now it is not
-abbrev pub ends : (ℕ → Bool) → (ℕ → Bool) → ℕ → Bool
-ends was is_now n = begins is_now was n
-
--- it is one or the other
-abbrev pub either : (ℕ → Bool) → (ℕ → Bool) → ℕ → Bool
-either one other n = one n || other n
 
 -- ## What heads show
 
@@ -64,47 +41,47 @@ is_in_flash s = some_passes (has_number s.vehicles.flashing) (run_from 1 16)
 -- ## Events
 
 -- of vehicle heads: 1 green begins, 7 green ends, 8 yellow begins, 9 yellow ends
-abbrev pub vehicle_events : Signals → ℕ → Signals → List DisplayEvent
+abbrev pub vehicle_events : Signals → ℕ → Signals → List Event
 vehicle_events before tick now =
     told tick 1 (begins (is_green before) (is_green now)) ++ told tick 7 (ends (is_green before) (is_green now))
     ++ told tick 8 (begins (is_yellow before) (is_yellow now)) ++ told tick 9 (ends (is_yellow before) (is_yellow now))
 
 -- of pedestrian heads: 21 walk begins, 22 clearance begins, 23 neither is any more
-abbrev pub pedestrian_events : Signals → ℕ → Signals → List DisplayEvent
+abbrev pub pedestrian_events : Signals → ℕ → Signals → List Event
 pedestrian_events before tick now =
     told tick 21 (begins (is_walk before) (is_walk now)) ++ told tick 22 (begins (is_clearance before) (is_clearance now))
     ++ told tick 23 (ends (either (is_walk before) (is_clearance before)) (either (is_walk now) (is_clearance now)))
 
--- of overlaps: 61 green begins, 63 yellow begins, 65 neither is any more
-abbrev pub overlap_events : Signals → ℕ → Signals → List DisplayEvent
+-- of overlaps: 61 green begins, 63 yellow begins, 64 neither is any more
+abbrev pub overlap_events : Signals → ℕ → Signals → List Event
 overlap_events before tick now =
     told tick 61 (begins (is_overlap_green before) (is_overlap_green now))
     ++ told tick 63 (begins (is_overlap_yellow before) (is_overlap_yellow now))
-    ++ told tick 65 (ends (either (is_overlap_green before) (is_overlap_yellow before))
+    ++ told tick 64 (ends (either (is_overlap_green before) (is_overlap_yellow before))
     (either (is_overlap_green now) (is_overlap_yellow now)))
 
 -- 105: this preempt enters service
-abbrev pub preempt_events : Option ℕ → ℕ → Option ℕ → List DisplayEvent
+abbrev pub preempt_events : Option ℕ → ℕ → Option ℕ → List Event
 preempt_events before tick None = []
 preempt_events before tick (Some n) = if is n before then [] else event tick 105 n ∷ []
 
 -- 173: a flash begins, told as 6, or ends, told as 2
-abbrev pub flash_events : Bool → ℕ → Bool → List DisplayEvent
+abbrev pub flash_events : Bool → ℕ → Bool → List Event
 flash_events before tick now =
     if now && not before then event tick 173 6 ∷ [] else (if before && not now then event tick 173 2 ∷ [] else [])
 
 -- the events of a change: by their codes, and those of one code by their parameters
-unfoldable pub events_of : Signals → Shown → List DisplayEvent
+unfoldable pub events_of : Signals → Shown → List Event
 events_of before now =
     vehicle_events before now.tick now.signals ++ pedestrian_events before now.tick now.signals
     ++ overlap_events before now.tick now.signals ++ preempt_events before.preempt now.tick now.signals.preempt
     ++ flash_events (is_in_flash before) now.tick (is_in_flash now.signals)
 
 -- those of lines, one after the other, of which the first comes after this
-abbrev pub events_after : Signals → List Shown → List DisplayEvent
+abbrev pub events_after : Signals → List Shown → List Event
 events_after before [] = []
 events_after before (line ∷ lines) = events_of before line ++ events_after line.signals lines
 
 -- those of lines: before the first, nothing is lit
-abbrev pub events_of_lines : List Shown → List DisplayEvent
+abbrev pub events_of_lines : List Shown → List Event
 events_of_lines lines = events_after nothing_lit lines

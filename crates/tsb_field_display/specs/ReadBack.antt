@@ -1,6 +1,6 @@
 -- What events tell of heads: of each, the last event that says something of it decides.
 use Rattle.std.specs.Prelude.{ℕ, ◌==◌, Bool, true, false, if◌then◌else◌, List, [], ◌∷◌, Option, Some, None}
-use Rattle.tsb_field_display.specs.declared.events.DisplayEvent.{DisplayEvent}
+use Rattle.tsb_types.specs.declared.event.Event.{Event}
 
 -- what is said, or where nothing is, what was
 abbrev pub said_or : Option Bool → Bool → Bool
@@ -8,12 +8,12 @@ said_or None was = was
 said_or (Some b) was = b
 
 -- whether something is lit after events, which say that it is, that it is not, or nothing of it
-abbrev pub lit_after : (DisplayEvent → Option Bool) → Bool → List DisplayEvent → Bool
+abbrev pub lit_after : (Event → Option Bool) → Bool → List Event → Bool
 lit_after says lit [] = lit
 lit_after says lit (e ∷ es) = lit_after says (said_or (says e) lit) es
 
 -- an event with another parameter says nothing of the head of this number
-abbrev pub says_at : (ℕ → Option Bool) → ℕ → DisplayEvent → Option Bool
+abbrev pub says_at : (ℕ → Option Bool) → ℕ → Event → Option Bool
 says_at by_code n e = if e.parameter == n then by_code e.code else None
 
 -- what a code says of the green of a vehicle head
@@ -34,14 +34,14 @@ says_clearance code = if code == 21 then Some false else (if code == 22 then Som
 
 -- of the green of an overlap
 abbrev pub says_overlap_green : ℕ → Option Bool
-says_overlap_green code = if code == 61 then Some true else (if code == 63 then Some false else (if code == 65 then Some false else None))
+says_overlap_green code = if code == 61 then Some true else (if code == 63 then Some false else (if code == 64 then Some false else None))
 
 -- of its yellow
 abbrev pub says_overlap_yellow : ℕ → Option Bool
-says_overlap_yellow code = if code == 61 then Some false else (if code == 63 then Some true else (if code == 65 then Some false else None))
+says_overlap_yellow code = if code == 61 then Some false else (if code == 63 then Some true else (if code == 64 then Some false else None))
 
 -- and of flash: 6 that it is, 2 that it is not
-abbrev pub says_flash : DisplayEvent → Option Bool
+abbrev pub says_flash : Event → Option Bool
 says_flash e = if e.code == 173 then Some (e.parameter == 6) else None
 
 -- which heads show which colour, and whether the vehicle heads are in flash
@@ -55,7 +55,7 @@ pub record Lit : Type 0 where
   pub flash : Bool
 
 -- what events tell: before them nothing is lit
-abbrev pub read_back : List DisplayEvent → Lit
+abbrev pub read_back : List Event → Lit
 read_back events = record {
   green = λ p. lit_after (says_at says_green p) false events;
   yellow = λ p. lit_after (says_at says_yellow p) false events;

@@ -3,57 +3,23 @@ ghost use Rattle.std.specs.Prelude.{◌≡◌, ◌+◌, ◌++◌, ◌≤◌};
 ghost use Rattle.arrayvec.specs.ArrayVec.{array_vec_len};
 ghost use Rattle.tsb_types.specs.Sets.{has_number};
 ghost use Rattle.tsb_types.specs.Lists.{is};
-ghost use Rattle.tsb_field_display.specs.Events.{begins, either, events_of, flash_events, is_in_flash, overlap_events, pedestrian_events, preempt_events, told, vehicle_events};
+ghost use Rattle.tsb_types.specs.Events.{begins, either, told};
+ghost use Rattle.tsb_field_display.specs.Events.{events_of, flash_events, is_in_flash, overlap_events, pedestrian_events, preempt_events, vehicle_events};
 
 use crate::shown::{Shown, Signals, same};
 use arrayvec::ArrayVec;
-use tsb_types::NumberSet;
-
-/// A vehicle head becomes green.
-pub const GREEN_BEGINS: u8 = 1;
-/// A vehicle head is no longer green.
-pub const GREEN_ENDS: u8 = 7;
-/// A vehicle head becomes yellow.
-pub const YELLOW_BEGINS: u8 = 8;
-/// A vehicle head is no longer yellow.
-pub const YELLOW_ENDS: u8 = 9;
-/// A pedestrian head becomes walk.
-pub const WALK_BEGINS: u8 = 21;
-/// A pedestrian head becomes clearance.
-pub const CLEARANCE_BEGINS: u8 = 22;
-/// A pedestrian head was walk or clearance, and is neither.
-pub const CROSSING_ENDS: u8 = 23;
-/// An overlap becomes green.
-pub const OVERLAP_GREEN_BEGINS: u8 = 61;
-/// An overlap becomes yellow.
-pub const OVERLAP_YELLOW_BEGINS: u8 = 63;
-/// An overlap was green or yellow, and is neither.
-pub const OVERLAP_ENDS: u8 = 65;
-/// A preempt enters service.
-pub const PREEMPT_ENTERS: u8 = 105;
-/// The state of flash changes.
-pub const FLASH_CHANGES: u8 = 173;
-/// The parameter of `FLASH_CHANGES` where a flash begins.
-pub const FLASH: u8 = 6;
-/// The parameter of `FLASH_CHANGES` where a flash ends.
-pub const NO_FLASH: u8 = 2;
+use tsb_types::event::{
+    CLEARANCE_BEGINS, DONT_WALK_BEGINS, FLASH, FLASH_CHANGES, GREEN_BEGINS, GREEN_ENDS, NO_FLASH,
+    OVERLAP_GREEN_BEGINS, OVERLAP_RED_BEGINS, OVERLAP_YELLOW_BEGINS, PREEMPT_ENTERS, WALK_BEGINS,
+    YELLOW_BEGINS, YELLOW_ENDS,
+};
+use tsb_types::{Event, NumberSet};
 
 /// The most events of one change.
 pub const EVENTS: usize = 162;
 
 /// The events of one change.
-pub type Events = ArrayVec<DisplayEvent, EVENTS>;
-
-/// An event of a controller.
-#[derive(Clone, Copy, Default, PartialEq, Eq)]
-pub struct DisplayEvent {
-    /// The number of the tick at which it comes.
-    pub tick: u32,
-    /// The code of the event, of those above.
-    pub code: u8,
-    /// The phase, the overlap or the preempt, or what flash became.
-    pub parameter: u8,
-}
+pub type Events = ArrayVec<Event, EVENTS>;
 
 /// The events of a change: from what was shown before to what a line shows. They are ordered by code and then by
 /// parameter. Where the line shows the same there is none, and only what differs is visited.
@@ -82,7 +48,7 @@ fn tell(events: &mut Events, tick: u32, code: u8, numbers: NumberSet)
     let mut rest = numbers;
     while let Some(number) = rest.first() {
         rest = rest.with(number, false);
-        events.push(DisplayEvent {
+        events.push(Event {
             tick,
             code,
             parameter: number,
@@ -148,7 +114,7 @@ fn tell_pedestrians(events: &mut Events, before: &Signals, now: &Shown)
     tell(
         events,
         now.tick,
-        CROSSING_ENDS,
+        DONT_WALK_BEGINS,
         begun(crossing_is, crossing_was),
     );
 }
@@ -175,7 +141,7 @@ fn tell_overlaps(events: &mut Events, before: &Signals, now: &Shown)
         OVERLAP_YELLOW_BEGINS,
         begun(was.yellows, is.yellows),
     );
-    tell(events, now.tick, OVERLAP_ENDS, begun(lit_is, lit_was));
+    tell(events, now.tick, OVERLAP_RED_BEGINS, begun(lit_is, lit_was));
 }
 
 /// Adds the event of a preempt that enters service.
@@ -188,7 +154,7 @@ fn tell_preempt(events: &mut Events, before: &Signals, now: &Shown)
         return;
     };
     if !is_in_service(before.preempt, preempt) {
-        events.push(DisplayEvent {
+        events.push(Event {
             tick: now.tick,
             code: PREEMPT_ENTERS,
             parameter: preempt,
@@ -215,7 +181,7 @@ fn tell_flash(events: &mut Events, before: &Signals, now: &Shown)
     let was = before.is_in_flash();
     let is = now.signals.is_in_flash();
     if is != was {
-        events.push(DisplayEvent {
+        events.push(Event {
             tick: now.tick,
             code: FLASH_CHANGES,
             parameter: if is { FLASH } else { NO_FLASH },

@@ -10,7 +10,7 @@ pub mod shown;
 pub mod stream;
 
 pub use error::ReplayError;
-pub use events::{DisplayEvent, EVENTS, Events, events_between};
+pub use events::{EVENTS, Events, events_between};
 pub use reading::read_line;
 pub use replay::Replay;
 pub use shown::{PedestrianHeads, Shown, Signals, VehicleHeads};

@@ -8,11 +8,12 @@ use Rattle.tsb_types.specs.Sets.{all_off}
 use Rattle.tsb_types.specs.declared.row.Row.{Row}
 use Rattle.tsb_log_text.specs.declared.log.LogRow.{LogRow}
 use Rattle.tsb_log_text.specs.Logs as logs
-use Rattle.tsb_field_display.specs.declared.events.DisplayEvent.{DisplayEvent}
+use Rattle.tsb_types.specs.declared.event.Event.{Event}
 use Rattle.tsb_field_display.specs.declared.shown.Shown.{Shown}
 use Rattle.tsb_field_display.specs.declared.shown.Signals.{Signals}
 use Rattle.tsb_field_display.specs.Shows.{nothing_lit}
-use Rattle.tsb_field_display.specs.Events.{event, told, numbers_with, events_of, events_after, events_of_lines, preempt_events, flash_events, is_in_flash}
+use Rattle.tsb_types.specs.Events.{event, told, numbers_with}
+use Rattle.tsb_field_display.specs.Events.{events_of, events_after, events_of_lines, preempt_events, flash_events, is_in_flash}
 use Rattle.tsb_field_display.specs.Remaining.{Rises}
 use Rattle.tsb_field_events.specs.Inputs.{events_of_row, events_behind, events_of_rows}
 use Rattle.tsb_field_events.specs.Merge.{session_events}
@@ -21,32 +22,32 @@ use Rattle.tsb_field_events.proofs.OrderLemmas.{merged-order, keep-other, keep-i
 
 -- ## What all events are
 
-record Each (P : DisplayEvent → Type 0) (es : List DisplayEvent) : Type 0 where
+record Each (P : Event → Type 0) (es : List Event) : Type 0 where
   all : All P es
 
-join : {P : DisplayEvent → Type 0} {es fs : List DisplayEvent} → Each P es → Each P fs → Each P (es ++ fs)
+join : {P : Event → Type 0} {es fs : List Event} → Each P es → Each P fs → Each P (es ++ fs)
 join {P} {es} {fs} one other = record { all = All-append P es fs one.all other.all }
 
-none : (P : DisplayEvent → Type 0) → Each P []
+none : (P : Event → Type 0) → Each P []
 none P = record { all = All-nil P }
 
-single : (P : DisplayEvent → Type 0) (e : DisplayEvent) → P e → Each P (e ∷ [])
+single : (P : Event → Type 0) (e : Event) → P e → Each P (e ∷ [])
 single P e it = record { all = All-cons P e [] it (All-nil P) }
 
 any-number : (Q : ℕ → Type 0) → ((n : ℕ) → Q n) → (ns : List ℕ) → All Q ns
 any-number Q q [] = All-nil Q
 any-number Q q (n ∷ ns) = All-cons Q n ns (q n) (any-number Q q ns)
 
-each-told : (P : DisplayEvent → Type 0) (tick code : ℕ) (test : ℕ → Bool) → ((n : ℕ) → P (event tick code n)) → Each P (told tick code test)
+each-told : (P : Event → Type 0) (tick code : ℕ) (test : ℕ → Bool) → ((n : ℕ) → P (event tick code n)) → Each P (told tick code test)
 each-told P tick code test it =
     record { all = All-map P (λ n. event tick code n) (numbers_with test) (any-number (λ n. P (event tick code n)) it (numbers_with test)) }
 
-each-preempt : (P : DisplayEvent → Type 0) (before now : Option ℕ) (tick : ℕ) → ((n : ℕ) → P (event tick 105 n)) → Each P (preempt_events before tick now)
+each-preempt : (P : Event → Type 0) (before now : Option ℕ) (tick : ℕ) → ((n : ℕ) → P (event tick 105 n)) → Each P (preempt_events before tick now)
 each-preempt P before None tick it = none P
 each-preempt P before (Some n) tick it =
-    cond_both (is n before) [] (event tick 105 n ∷ []) (λ (es : List DisplayEvent). Each P es) (λ _. none P) (λ _. single P (event tick 105 n) (it n))
+    cond_both (is n before) [] (event tick 105 n ∷ []) (λ (es : List Event). Each P es) (λ _. none P) (λ _. single P (event tick 105 n) (it n))
 
-each-flash : (P : DisplayEvent → Type 0) (before now : Bool) (tick : ℕ) → ((n : ℕ) → P (event tick 173 n)) → Each P (flash_events before tick now)
+each-flash : (P : Event → Type 0) (before now : Bool) (tick : ℕ) → ((n : ℕ) → P (event tick 173 n)) → Each P (flash_events before tick now)
 each-flash P true true tick it = none P
 each-flash P true false tick it = single P (event tick 173 2) (it 2)
 each-flash P false true tick it = single P (event tick 173 6) (it 6)
@@ -55,19 +56,19 @@ each-flash P false false tick it = none P
 each-line : (before : Signals) (now : Shown) → Each (λ e. is_of_input e ≡ false) (events_of before now)
 unfolding events_of
 each-line before now =
-    let P : DisplayEvent → Type 0 = λ e. is_of_input e ≡ false in
+    let P : Event → Type 0 = λ e. is_of_input e ≡ false in
     let t : ℕ = now.tick in
     join (join (join (join
     (join (join (join (each-told P t 1 _ (λ n. refl)) (each-told P t 7 _ (λ n. refl))) (each-told P t 8 _ (λ n. refl))) (each-told P t 9 _ (λ n. refl)))
     (join (join (each-told P t 21 _ (λ n. refl)) (each-told P t 22 _ (λ n. refl))) (each-told P t 23 _ (λ n. refl))))
-    (join (join (each-told P t 61 _ (λ n. refl)) (each-told P t 63 _ (λ n. refl))) (each-told P t 65 _ (λ n. refl))))
+    (join (join (each-told P t 61 _ (λ n. refl)) (each-told P t 63 _ (λ n. refl))) (each-told P t 64 _ (λ n. refl))))
     (each-preempt P before.preempt now.signals.preempt t (λ n. refl)))
     (each-flash P (is_in_flash before) (is_in_flash now.signals) t (λ n. refl))
 
 each-row : (before : Row) (now : LogRow) → Each (λ e. is_of_input e ≡ true) (events_of_row before now)
 unfolding events_of_row
 each-row before now =
-    let P : DisplayEvent → Type 0 = λ e. is_of_input e ≡ true in
+    let P : Event → Type 0 = λ e. is_of_input e ≡ true in
     let t : ℕ = now.tick in
     join (join
     (join (each-told P t 81 _ (λ n. refl)) (each-told P t 82 _ (λ n. refl)))
@@ -82,10 +83,10 @@ each-behind : (before : Row) (rows : List LogRow) → Each (λ e. is_of_input e 
 each-behind before [] = none (λ e. is_of_input e ≡ true)
 each-behind before (row ∷ rows) = join (each-row before row) (each-behind row.row rows)
 
-not-test : (es : List DisplayEvent) → All (λ e. is_of_input e ≡ true) es → All (λ e. not (is_of_input e) ≡ false) es
+not-test : (es : List Event) → All (λ e. is_of_input e ≡ true) es → All (λ e. not (is_of_input e) ≡ false) es
 not-test es all = All-weaker (λ e. is_of_input e ≡ true) (λ e. not (is_of_input e) ≡ false) (λ e one. ap not one) es all
 
-is-test : (es : List DisplayEvent) → All (λ e. is_of_input e ≡ false) es → All (λ e. not (is_of_input e) ≡ true) es
+is-test : (es : List Event) → All (λ e. is_of_input e ≡ false) es → All (λ e. not (is_of_input e) ≡ true) es
 is-test es all = All-weaker (λ e. is_of_input e ≡ false) (λ e. not (is_of_input e) ≡ true) (λ e one. ap not one) es all
 
 pub all-told : AreAllTold
@@ -101,33 +102,33 @@ all-told changes rows =
 
 -- ## Order
 
-record IsIn (at from to : ℕ) (e : DisplayEvent) : Type 0 where
+record IsIn (at from to : ℕ) (e : Event) : Type 0 where
   tick : e.tick ≡ at
   low : from ≤ e.code
   high : e.code ≤ to
 
 -- events of one tick, with codes from low to high, in order
-record IsBlock (at low high : ℕ) (es : List DisplayEvent) : Type 0 where
+record IsBlock (at low high : ℕ) (es : List Event) : Type 0 where
   within : All (IsIn at low high) es
   order : AreInOrder es
 
-order-append : (es fs : List DisplayEvent) → AreInOrder es → AreInOrder fs → All (λ e. All (IsBefore e) fs) es → AreInOrder (es ++ fs)
+order-append : (es fs : List Event) → AreInOrder es → AreInOrder fs → All (λ e. All (IsBefore e) fs) es → AreInOrder (es ++ fs)
 order-append [] fs one other all = other
 order-append (e ∷ es) fs one other all = (
   All-append (IsBefore e) es fs one.0 (All-head (λ x. All (IsBefore x) fs) e es all),
   order-append es fs one.1 other (All-tail (λ x. All (IsBefore x) fs) e es all),
 )
 
-by-code : (at a b c d : ℕ) (e f : DisplayEvent) → b < c → IsIn at a b e → IsIn at c d f → IsBefore e f
+by-code : (at a b c d : ℕ) (e f : Event) → b < c → IsIn at a b e → IsIn at c d f → IsBefore e f
 by-code at a b c d e f gap one other = inr (one.tick ∙ sym other.tick, inl (omega (arith, gap, one.high, other.low)))
 
-widen-high : (at a b d : ℕ) (e : DisplayEvent) → b ≤ d → IsIn at a b e → IsIn at a d e
+widen-high : (at a b d : ℕ) (e : Event) → b ≤ d → IsIn at a b e → IsIn at a d e
 widen-high at a b d e le it = record { tick = it.tick; low = it.low; high = omega (arith, le, it.high) }
 
-widen-low : (at a c d : ℕ) (e : DisplayEvent) → a ≤ c → IsIn at c d e → IsIn at a d e
+widen-low : (at a c d : ℕ) (e : Event) → a ≤ c → IsIn at c d e → IsIn at a d e
 widen-low at a c d e le it = record { tick = it.tick; low = omega (arith, le, it.low); high = it.high }
 
-block-join : {at a b c d : ℕ} {es fs : List DisplayEvent} → a ≤ c → b < c → b ≤ d → IsBlock at a b es → IsBlock at c d fs → IsBlock at a d (es ++ fs)
+block-join : {at a b c d : ℕ} {es fs : List Event} → a ≤ c → b < c → b ≤ d → IsBlock at a b es → IsBlock at c d fs → IsBlock at a d (es ++ fs)
 block-join {at} {a} {b} {c} {d} {es} {fs} low gap high one other = record {
   within = All-append (IsIn at a d) es fs
       (All-weaker (IsIn at a b) (IsIn at a d) (λ e it. widen-high at a b d e high it) es one.within)
@@ -175,7 +176,7 @@ block-told at code test = record {
 block-preempt : (before now : Option ℕ) (at : ℕ) → IsBlock at 105 105 (preempt_events before at now)
 block-preempt before None at = block-none at 105 105
 block-preempt before (Some n) at =
-    cond_both (is n before) [] (event at 105 n ∷ []) (λ (es : List DisplayEvent). IsBlock at 105 105 es) (λ _. block-none at 105 105) (λ _. block-single at 105 n)
+    cond_both (is n before) [] (event at 105 n ∷ []) (λ (es : List Event). IsBlock at 105 105 es) (λ _. block-none at 105 105) (λ _. block-single at 105 n)
 
 block-flash : (before now : Bool) (at : ℕ) → IsBlock at 173 173 (flash_events before at now)
 block-flash true true at = block-none at 173 173
@@ -183,7 +184,7 @@ block-flash true false at = block-single at 173 2
 block-flash false true at = block-single at 173 6
 block-flash false false at = block-none at 173 173
 
-next : {at a b c d : ℕ} {es fs : List DisplayEvent} → leb a c && (ltb b c && leb b d) ≡ true → IsBlock at a b es → IsBlock at c d fs → IsBlock at a d (es ++ fs)
+next : {at a b c d : ℕ} {es fs : List Event} → leb a c && (ltb b c && leb b d) ≡ true → IsBlock at a b es → IsBlock at c d fs → IsBlock at a d (es ++ fs)
 next {at} {a} {b} {c} {d} test one other =
     let parts = and_parts (leb a c) (ltb b c && leb b d) test in
     let more = and_parts (ltb b c) (leb b d) parts.1 in
@@ -196,7 +197,7 @@ block-line before now =
     next refl (next refl (next refl (next refl
     (next refl (next refl (next refl (block-told t 1 _) (block-told t 7 _)) (block-told t 8 _)) (block-told t 9 _))
     (next refl (next refl (block-told t 21 _) (block-told t 22 _)) (block-told t 23 _)))
-    (next refl (next refl (block-told t 61 _) (block-told t 63 _)) (block-told t 65 _)))
+    (next refl (next refl (block-told t 61 _) (block-told t 63 _)) (block-told t 64 _)))
     (block-preempt before.preempt now.signals.preempt t))
     (block-flash (is_in_flash before) (is_in_flash now.signals) t)
 
@@ -209,11 +210,11 @@ block-row before now =
     (next refl (block-told t 89 _) (block-told t 90 _)))
     (next refl (block-told t 102 _) (block-told t 104 _))
 
-later-block : (t at low high : ℕ) (es : List DisplayEvent) → t < at → IsBlock at low high es → All (λ e. t < e.tick) es
+later-block : (t at low high : ℕ) (es : List Event) → t < at → IsBlock at low high es → All (λ e. t < e.tick) es
 later-block t at low high es lt block =
     All-weaker (IsIn at low high) (λ e. t < e.tick) (λ e it. omega (arith, lt, it.tick)) es block.within
 
-block-first : (at low high : ℕ) (es fs : List DisplayEvent) → IsBlock at low high es → AreInOrder fs → All (λ e. at < e.tick) fs → AreInOrder (es ++ fs)
+block-first : (at low high : ℕ) (es fs : List Event) → IsBlock at low high es → AreInOrder fs → All (λ e. at < e.tick) fs → AreInOrder (es ++ fs)
 block-first at low high es fs block order later =
     order-append es fs block.order order
     (All-weaker (IsIn at low high) (λ e. All (IsBefore e) fs)

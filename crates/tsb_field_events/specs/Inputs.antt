@@ -4,38 +4,38 @@ use Rattle.std.specs.Prelude.{ℕ, List, [], ◌∷◌, ◌++◌}
 use Rattle.tsb_types.specs.Sets.{all_off, has_number}
 use Rattle.tsb_types.specs.declared.row.Row.{Row}
 use Rattle.tsb_log_text.specs.declared.log.LogRow.{LogRow}
-use Rattle.tsb_field_display.specs.declared.events.DisplayEvent.{DisplayEvent}
-use Rattle.tsb_field_display.specs.Events.{begins, ends, told}
+use Rattle.tsb_types.specs.declared.event.Event.{Event}
+use Rattle.tsb_types.specs.Events.{begins, ends, told}
 
 -- of vehicle detectors: 81 one goes off, 82 one goes on
-abbrev pub vehicle_input_events : Row → ℕ → Row → List DisplayEvent
+abbrev pub vehicle_input_events : Row → ℕ → Row → List Event
 vehicle_input_events before tick now =
     told tick 81 (ends (has_number before.vehicles) (has_number now.vehicles))
     ++ told tick 82 (begins (has_number before.vehicles) (has_number now.vehicles))
 
 -- of pedestrian detectors: 89 one goes off, 90 one goes on
-abbrev pub pedestrian_input_events : Row → ℕ → Row → List DisplayEvent
+abbrev pub pedestrian_input_events : Row → ℕ → Row → List Event
 pedestrian_input_events before tick now =
     told tick 89 (ends (has_number before.pedestrians) (has_number now.pedestrians))
     ++ told tick 90 (begins (has_number before.pedestrians) (has_number now.pedestrians))
 
 -- of preempt inputs: 102 one goes on, 104 one goes off
-abbrev pub preempt_input_events : Row → ℕ → Row → List DisplayEvent
+abbrev pub preempt_input_events : Row → ℕ → Row → List Event
 preempt_input_events before tick now =
     told tick 102 (begins (has_number before.preempts) (has_number now.preempts))
     ++ told tick 104 (ends (has_number before.preempts) (has_number now.preempts))
 
 -- the events of a row after another: by their codes, and those of one code by their parameters
-unfoldable pub events_of_row : Row → LogRow → List DisplayEvent
+unfoldable pub events_of_row : Row → LogRow → List Event
 events_of_row before now =
     vehicle_input_events before now.tick now.row ++ pedestrian_input_events before now.tick now.row
     ++ preempt_input_events before now.tick now.row
 
 -- those of rows, one after the other, of which the first comes after this
-abbrev pub events_behind : Row → List LogRow → List DisplayEvent
+abbrev pub events_behind : Row → List LogRow → List Event
 events_behind before [] = []
 events_behind before (row ∷ rows) = events_of_row before row ++ events_behind row.row rows
 
 -- those of rows: before the first, all inputs are off
-abbrev pub events_of_rows : List LogRow → List DisplayEvent
+abbrev pub events_of_rows : List LogRow → List Event
 events_of_rows rows = events_behind all_off rows

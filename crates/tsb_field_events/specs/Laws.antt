@@ -8,7 +8,7 @@ use Rattle.tsb_event_text.specs.Events.{IsTaken, can_be_written}
 use Rattle.tsb_event_text.specs.Rows.{is_asked, row_of}
 use Rattle.tsb_log_text.specs.declared.log.LogRow.{LogRow}
 use Rattle.tsb_log_text.specs.Logs as logs
-use Rattle.tsb_field_display.specs.declared.events.DisplayEvent.{DisplayEvent}
+use Rattle.tsb_types.specs.declared.event.Event.{Event}
 use Rattle.tsb_field_display.specs.declared.shown.Shown.{Shown}
 use Rattle.tsb_field_display.specs.Events.{events_of_lines}
 use Rattle.tsb_field_display.specs.Remaining.{Rises}
@@ -20,13 +20,13 @@ use Rattle.tsb_field_events.specs.Texts.{header_text, IsLine}
 -- ## Order
 
 -- one event comes before another: at an earlier tick, or then by its code, or then by its parameter
-abbrev pub IsBefore : DisplayEvent → DisplayEvent → Type 0
+abbrev pub IsBefore : Event → Event → Type 0
 IsBefore one other =
     (one.tick < other.tick)
     ⊎ ((one.tick ≡ other.tick) × ((one.code < other.code) ⊎ ((one.code ≡ other.code) × (one.parameter < other.parameter))))
 
 -- each event comes before all later ones
-abbrev pub AreInOrder : List DisplayEvent → Type 0
+abbrev pub AreInOrder : List Event → Type 0
 AreInOrder [] = Unit {0}
 AreInOrder (event ∷ events) = All (IsBefore event) events × AreInOrder events
 
@@ -42,7 +42,7 @@ StandInOrder = (changes : List Shown) (rows : List LogRow) → Rises changes →
 -- ## Nothing is lost, and nothing is made
 
 -- an event of an input, by its code
-abbrev pub is_of_input : DisplayEvent → Bool
+abbrev pub is_of_input : Event → Bool
 is_of_input event = among event.code (81 ∷ 82 ∷ 89 ∷ 90 ∷ 102 ∷ 104 ∷ [])
 
 -- the events of inputs are those of the rows, one after the other, and the others are those of the display lines
@@ -60,7 +60,7 @@ HeaderIsRead = (row : List ℕ) × (header_text ≡ row ++ 10 ∷ []) × (header
 -- the line of an event, without its feed, is read by the usual columns as that event at the moment of its tick, and
 -- readers of logs take it
 abbrev pub LinesAreRead : Type 0
-LinesAreRead = (from : Moment) (device line : List ℕ) (event : DisplayEvent) (asked : Option (List ℕ)) →
+LinesAreRead = (from : Moment) (device line : List ℕ) (event : Event) (asked : Option (List ℕ)) →
     can_be_written device ≡ true → IsLine from device event line → event.code < 2 ^ 32 → event.parameter < 2 ^ 32 →
     (row : List ℕ) × (line ≡ row ++ 10 ∷ [])
     × (row_of usual_columns asked row ≡ Some (record {

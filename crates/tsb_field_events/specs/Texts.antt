@@ -5,7 +5,7 @@ use Rattle.tsb_event_text.specs.Events.{event_text, IsPlain}
 use Rattle.tsb_event_text.specs.Times.{moment_of}
 use Rattle.tsb_log_text.specs.declared.log.LogRow.{LogRow}
 use Rattle.tsb_field_display.specs.declared.shown.Shown.{Shown}
-use Rattle.tsb_field_display.specs.declared.events.DisplayEvent.{DisplayEvent}
+use Rattle.tsb_types.specs.declared.event.Event.{Event}
 use Rattle.tsb_field_events.specs.declared.error.EventsError.{EventsError}
 use Rattle.tsb_field_events.specs.declared.error.EventsError.TheVariants.{Memory, Late}
 use Rattle.tsb_field_events.specs.Merge.{session_events}
@@ -21,19 +21,19 @@ pub record Tells (moment : Moment) (time : List ℕ) : Type 0 where
   pub plain : IsPlain time
 
 -- this is the line of an event, where tick 1 is at this moment
-pub record IsLine (from : Moment) (device : List ℕ) (event : DisplayEvent) (line : List ℕ) : Type 0 where
+pub record IsLine (from : Moment) (device : List ℕ) (event : Event) (line : List ℕ) : Type 0 where
   pub time : List ℕ
   pub tells : Tells (moment_of_tick from event.tick) time
   pub text : line ≡ event_text device time event.code event.parameter
 
 -- these are the lines of events, one after the other
-abbrev pub AreLines : Moment → List ℕ → List DisplayEvent → List ℕ → Type 0
+abbrev pub AreLines : Moment → List ℕ → List Event → List ℕ → Type 0
 AreLines from device [] lines = lines ≡ []
 AreLines from device (event ∷ events) lines =
     (line rest : List ℕ) × (lines ≡ line ++ rest) × IsLine from device event line × AreLines from device events rest
 
 -- a text has the header and then a line for each event
-pub record IsLog (from : Moment) (device : List ℕ) (events : List DisplayEvent) (text : List ℕ) : Type 0 where
+pub record IsLog (from : Moment) (device : List ℕ) (events : List Event) (text : List ℕ) : Type 0 where
   pub lines : List ℕ
   pub behind : text ≡ header_text ++ lines
   pub told : AreLines from device events lines

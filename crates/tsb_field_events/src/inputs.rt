@@ -2,29 +2,18 @@
 //! and their parameters are the numbers of the inputs.
 ghost use Rattle.std.specs.Prelude.{◌≡◌, ◌++◌, OnOk};
 ghost use Rattle.tsb_types.specs.Sets.{has_number};
-ghost use Rattle.tsb_field_display.specs.Events.{begins, told};
+ghost use Rattle.tsb_types.specs.Events.{begins, told};
 ghost use Rattle.tsb_field_events.specs.Inputs.{events_of_row, events_of_rows, pedestrian_input_events, preempt_input_events, vehicle_input_events};
 
 use std::alloc::AllocError;
-use tsb_field_display::DisplayEvent;
 use tsb_log_text::LogRow;
-use tsb_types::{NumberSet, Row};
-
-/// A vehicle detector goes off (Indiana enumerations).
-pub const VEHICLE_OFF: u8 = 81;
-/// A vehicle detector goes on (Indiana enumerations).
-pub const VEHICLE_ON: u8 = 82;
-/// A pedestrian detector goes off (Indiana enumerations).
-pub const PEDESTRIAN_OFF: u8 = 89;
-/// A pedestrian detector goes on (Indiana enumerations).
-pub const PEDESTRIAN_ON: u8 = 90;
-/// A preempt input goes on (Indiana enumerations).
-pub const PREEMPT_ON: u8 = 102;
-/// A preempt input goes off (Indiana enumerations).
-pub const PREEMPT_OFF: u8 = 104;
+use tsb_types::event::{
+    PEDESTRIAN_OFF, PEDESTRIAN_ON, PREEMPT_OFF, PREEMPT_ON, VEHICLE_OFF, VEHICLE_ON,
+};
+use tsb_types::{Event, NumberSet, Row};
 
 /// Adds the events of the rows of a log to others. Before the first row all inputs are off.
-pub(crate) fn append_rows(events: &mut Vec<DisplayEvent>, rows: &[LogRow]) -> Result<(), AllocError>
+pub(crate) fn append_rows(events: &mut Vec<Event>, rows: &[LogRow]) -> Result<(), AllocError>
     ensures { OnOk result (events.new.items ≡ events.old.items ++ events_of_rows rows.now) }
 {
     let mut before = Row::all_off();
@@ -37,7 +26,7 @@ pub(crate) fn append_rows(events: &mut Vec<DisplayEvent>, rows: &[LogRow]) -> Re
 
 /// Adds the events of a row that follows another to others: by their codes, and those of one code by their parameters.
 #[tactic(auto, unfolding(crate::specs::Inputs::events_of_row))]
-fn append_row(events: &mut Vec<DisplayEvent>, before: &Row, now: &LogRow) -> Result<(), AllocError>
+fn append_row(events: &mut Vec<Event>, before: &Row, now: &LogRow) -> Result<(), AllocError>
     ensures { OnOk result (events.new.items ≡ events.old.items ++ events_of_row before.now now.now) }
 {
     append_vehicles(events, before, now)?;
@@ -47,11 +36,7 @@ fn append_row(events: &mut Vec<DisplayEvent>, before: &Row, now: &LogRow) -> Res
 }
 
 /// Adds the events of vehicle detectors to others.
-fn append_vehicles(
-    events: &mut Vec<DisplayEvent>,
-    before: &Row,
-    now: &LogRow,
-) -> Result<(), AllocError>
+fn append_vehicles(events: &mut Vec<Event>, before: &Row, now: &LogRow) -> Result<(), AllocError>
     ensures { OnOk result (events.new.items ≡ events.old.items ++ vehicle_input_events before.now now.now.tick now.now.row) }
 {
     let was = before.vehicles;
@@ -62,11 +47,7 @@ fn append_vehicles(
 }
 
 /// Adds the events of pedestrian detectors to others.
-fn append_pedestrians(
-    events: &mut Vec<DisplayEvent>,
-    before: &Row,
-    now: &LogRow,
-) -> Result<(), AllocError>
+fn append_pedestrians(events: &mut Vec<Event>, before: &Row, now: &LogRow) -> Result<(), AllocError>
     ensures { OnOk result (events.new.items ≡ events.old.items ++ pedestrian_input_events before.now now.now.tick now.now.row) }
 {
     let was = before.pedestrians;
@@ -77,11 +58,7 @@ fn append_pedestrians(
 }
 
 /// Adds the events of preempt inputs to others.
-fn append_preempts(
-    events: &mut Vec<DisplayEvent>,
-    before: &Row,
-    now: &LogRow,
-) -> Result<(), AllocError>
+fn append_preempts(events: &mut Vec<Event>, before: &Row, now: &LogRow) -> Result<(), AllocError>
     ensures { OnOk result (events.new.items ≡ events.old.items ++ preempt_input_events before.now now.now.tick now.now.row) }
 {
     let was = before.preempts;
@@ -92,18 +69,13 @@ fn append_preempts(
 }
 
 /// Adds an event for each number of a set to others, the least first.
-fn tell(
-    events: &mut Vec<DisplayEvent>,
-    tick: u32,
-    code: u8,
-    numbers: NumberSet,
-) -> Result<(), AllocError>
+fn tell(events: &mut Vec<Event>, tick: u32, code: u8, numbers: NumberSet) -> Result<(), AllocError>
     ensures { OnOk result (events.new.items ≡ events.old.items ++ told tick code (has_number numbers)) }
 {
     let mut rest = numbers;
     while let Some(number) = rest.first() {
         rest = rest.with(number, false);
-        events.push(DisplayEvent {
+        events.push(Event {
             tick,
             code,
             parameter: number,

@@ -6,8 +6,9 @@ ghost use Rattle.tsb_field_events.specs.Merge.{ahead_of, comes_before, merged, n
 
 use crate::inputs::append_rows;
 use std::alloc::{AllocError, Global};
-use tsb_field_display::{DisplayEvent, Shown, Signals, events_between};
+use tsb_field_display::{Shown, Signals, events_between};
 use tsb_log_text::LogRow;
+use tsb_types::Event;
 
 /// The events of a session: those of the changes of its display lines, before the first of which nothing is lit, and
 /// those of the rows of its log of inputs, before the first of which all inputs are off. Where the ticks of either rise
@@ -17,7 +18,7 @@ pub fn session_events(
     alloc: Global,
     changes: &[Shown],
     rows: &[LogRow],
-) -> Result<Vec<DisplayEvent>, AllocError>
+) -> Result<Vec<Event>, AllocError>
     ensures { IfOk result (λ events. events.items ≡ session_events changes.now rows.now) }
 {
     let mut display = Vec::new(alloc);
@@ -30,7 +31,7 @@ pub fn session_events(
 }
 
 /// Adds the events of display lines to others. Before the first line nothing is lit.
-fn append_changes(events: &mut Vec<DisplayEvent>, changes: &[Shown]) -> Result<(), AllocError>
+fn append_changes(events: &mut Vec<Event>, changes: &[Shown]) -> Result<(), AllocError>
     ensures { OnOk result (events.new.items ≡ events.old.items ++ events_of_lines changes.now) }
 {
     let mut before = Signals::nothing_lit();
@@ -44,9 +45,9 @@ fn append_changes(events: &mut Vec<DisplayEvent>, changes: &[Shown]) -> Result<(
 /// Adds two lists of events to others as one: an event of the second goes ahead of one of the first that it comes
 /// before.
 fn append_merged(
-    events: &mut Vec<DisplayEvent>,
-    display: &[DisplayEvent],
-    inputs: &[DisplayEvent],
+    events: &mut Vec<Event>,
+    display: &[Event],
+    inputs: &[Event],
 ) -> Result<(), AllocError>
     ensures { OnOk result (events.new.items ≡ events.old.items ++ merged display.now inputs.now) }
 {
@@ -62,7 +63,7 @@ fn append_merged(
 }
 
 /// How many of the first of these events come before this one.
-fn count_ahead_of(event: &DisplayEvent, events: &[DisplayEvent]) -> usize
+fn count_ahead_of(event: &Event, events: &[Event]) -> usize
     ensures within { result ≤ length events.now }
     ensures ahead { take result events.now ≡ ahead_of event.now events.now }
     ensures rest { drop result events.now ≡ not_ahead_of event.now events.now }
@@ -75,7 +76,7 @@ fn count_ahead_of(event: &DisplayEvent, events: &[DisplayEvent]) -> usize
 }
 
 /// Whether one comes before the other: by tick, then code, then parameter.
-fn comes_before(one: &DisplayEvent, other: &DisplayEvent) -> bool
+fn comes_before(one: &Event, other: &Event) -> bool
     ensures { result ≡ comes_before one.now other.now }
 {
     one.tick < other.tick

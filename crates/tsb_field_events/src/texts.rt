@@ -9,8 +9,9 @@ use crate::merge::session_events;
 use crate::times::{are_written, time_of_tick};
 use std::alloc::{AllocError, Global};
 use tsb_event_text::{Moment, append_event};
-use tsb_field_display::{DisplayEvent, Shown};
+use tsb_field_display::Shown;
 use tsb_log_text::LogRow;
+use tsb_types::Event;
 
 /// The line that names the columns.
 const HEADER: &[u8] = b"SignalID,Timestamp,EventCode,EventParam\n";
@@ -70,7 +71,7 @@ fn append_lines(
     text: &mut Vec<u8>,
     from: Moment,
     device: &[u8],
-    events: &[DisplayEvent],
+    events: &[Event],
 ) -> Result<(), AllocError>
     requires { AreWritten from }
     ensures { OnOk result ((lines : List ℕ) × (text.new.items ≡ text.old.items ++ lines) × AreLines from device.now events.now lines) }

@@ -179,72 +179,79 @@ fn lines_of(
     Vec::from_slice(alloc, behind_lines(text.as_slice(), 11))
 }
 
-#[test]
-fn a_diagram_of_no_line_has_a_title_and_a_legend(rt: HostRuntime) -> Result<(), AllocError> {
-    let title = b"<\"a'b\">\x01\t&";
-    let text = diagram_text(rt.alloc(), title, 60, &[], None, &[])?;
-    assert!(rt; text.as_slice() == EMPTY);
-    let zero = diagram_text(rt.alloc(), title, 60, &[], Some(0), &[])?;
-    assert!(rt; zero.as_slice() == EMPTY);
-    Ok(())
+/// Whether the diagram of no change, up to this tick if there is one, is its title and its legend.
+fn is_empty(alloc: Global, last: Option<u32>) -> bool {
+    match diagram_text(alloc, b"<\"a'b\">\x01\t&", 60, &[], last, &[]) {
+        Ok(text) => text.as_slice() == EMPTY,
+        Err(_) => false,
+    }
 }
 
 #[test]
-fn a_character_that_xml_forbids_is_told_as_one_sign(rt: HostRuntime) -> Result<(), AllocError> {
-    let alloc = rt.alloc();
-    let first = diagram_text(
-        alloc,
-        b"\xEF\xBF\xBEa\xEF\xBF\xBF\xEF\xBF\xBE",
-        60,
-        &[],
-        None,
-        &[],
-    )?;
-    assert!(rt; behind_lines(first.as_slice(), 1).starts_with(b"<title>?a??</title>\n"));
-    let near = diagram_text(
-        alloc,
-        b"\xEF\xBF\xBD\xEF\xBE\xBF\xEF\xBF",
-        60,
-        &[],
-        None,
-        &[],
-    )?;
-    assert!(rt;
-        behind_lines(near.as_slice(), 1).starts_with(
-            b"<title>\xEF\xBF\xBD\xEF\xBE\xBF\xEF\xBF</title>\n"
-        )
-    );
-    Ok(())
+fn a_diagram_of_no_line_has_a_title_and_a_legend(rt: HostRuntime) {
+    assert!(rt; is_empty(rt.alloc(), None) && is_empty(rt.alloc(), Some(0)));
+}
+
+/// Whether this is the second line of a diagram with the title.
+fn has_title(alloc: Global, title: &[u8], line: &[u8]) -> bool {
+    match diagram_text(alloc, title, 60, &[], None, &[]) {
+        Ok(text) => behind_lines(text.as_slice(), 1).starts_with(line),
+        Err(_) => false,
+    }
+}
+
+#[test]
+fn a_character_that_xml_forbids_is_told_as_one_sign(rt: HostRuntime) {
+    let forbidden = b"\xEF\xBF\xBEa\xEF\xBF\xBF\xEF\xBF\xBE".as_slice();
+    assert!(rt; has_title(rt.alloc(), forbidden, b"<title>?a??</title>\n"));
+    let near = b"\xEF\xBF\xBD\xEF\xBE\xBF\xEF\xBF".as_slice();
+    let line = b"<title>\xEF\xBF\xBD\xEF\xBE\xBF\xEF\xBF</title>\n".as_slice();
+    assert!(rt; has_title(rt.alloc(), near, line));
+}
+
+/// Whether these are the lines of a diagram of the changes.
+fn draws(
+    alloc: Global,
+    seconds: u32,
+    replay: &Replay,
+    last: u32,
+    rows: &[LogRow],
+    wanted: &[u8],
+) -> bool {
+    match lines_of(alloc, seconds, replay.changes(), last, rows) {
+        Ok(text) => text.as_slice() == wanted,
+        Err(_) => false,
+    }
 }
 
 #[test]
 fn lines_break_and_bars_are_their_ticks(rt: HostRuntime) -> Result<(), AllocError> {
-    let alloc = rt.alloc();
-    let replay = replay(alloc, &[RED, GREEN, CLEARING, YELLOW, FLASH])?;
+    let replay = replay(rt.alloc(), &[RED, GREEN, CLEARING, YELLOW, FLASH])?;
     let rows = [row(40, 2, 0, 0), row(60, 0, 1, 2), row(105, 0, 0, 0)];
-    let text = lines_of(alloc, 10, replay.changes(), 130, &rows)?;
-    assert!(rt; text.as_slice() == TWO_LINES);
+    assert!(rt; draws(rt.alloc(), 10, &replay, 130, &rows, TWO_LINES));
     Ok(())
 }
 
 #[test]
 fn what_is_dark_has_no_band(rt: HostRuntime) -> Result<(), AllocError> {
-    let alloc = rt.alloc();
-    let replay = replay(alloc, &[DARK])?;
-    let text = lines_of(alloc, 60, replay.changes(), 20, &[])?;
-    assert!(rt; text.as_slice() == DARK_LINE);
+    let replay = replay(rt.alloc(), &[DARK])?;
+    assert!(rt; draws(rt.alloc(), 60, &replay, 20, &[], DARK_LINE));
     Ok(())
+}
+
+/// Whether lines of so many seconds are lines of so many others.
+fn are_alike(alloc: Global, replay: &Replay, seconds: u32, others: u32) -> bool {
+    match lines_of(alloc, seconds, replay.changes(), 25, &[]) {
+        Ok(text) => draws(alloc, others, replay, 25, &[], text.as_slice()),
+        Err(_) => false,
+    }
 }
 
 #[test]
 fn no_seconds_are_one_and_many_are_a_day(rt: HostRuntime) -> Result<(), AllocError> {
-    let alloc = rt.alloc();
-    let replay = replay(alloc, &[RED, GREEN])?;
-    let one = lines_of(alloc, 1, replay.changes(), 25, &[])?;
-    let none = lines_of(alloc, 0, replay.changes(), 25, &[])?;
-    assert!(rt; none.as_slice() == one.as_slice());
-    let day = lines_of(alloc, 86_400, replay.changes(), 25, &[])?;
-    let more = lines_of(alloc, u32::MAX, replay.changes(), 25, &[])?;
-    assert!(rt; more.as_slice() == day.as_slice());
+    let replay = replay(rt.alloc(), &[RED, GREEN])?;
+    assert!(rt;
+        are_alike(rt.alloc(), &replay, 1, 0) && are_alike(rt.alloc(), &replay, 86_400, u32::MAX)
+    );
     Ok(())
 }

@@ -43,117 +43,163 @@ fn told(
     Ok(all)
 }
 
+/// Whether this is shown of the line in which a pedestrian phase clears.
+fn shows_clearing(shown: &Shown) -> bool {
+    let signals = &shown.signals;
+    shown.tick == 45
+        && signals.vehicles.greens == set(2)
+        && signals.vehicles.yellows == set(0)
+        && signals.vehicles.reds == set(8)
+        && signals.vehicles.flashing == set(0)
+        && signals.pedestrians.walks == set(0)
+        && signals.pedestrians.clearances == set(2)
+        && signals.pedestrians.dont_walks == set(0)
+        && signals.overlaps.greens == set(1)
+        && signals.preempt == Some(2)
+}
+
+/// Whether this is shown of the line at the last tick.
+fn shows_last(shown: &Shown) -> bool {
+    let signals = &shown.signals;
+    shown.tick == 6_000_000
+        && signals.vehicles.greens == set(32_768)
+        && signals.pedestrians.walks == set(32_768)
+        && signals.overlaps.yellows == set(8)
+        && signals.preempt == Some(4)
+}
+
 #[test]
 fn lines_show_their_heads(rt: HostRuntime) {
-    let Some(shown) = read_line(CLEARING) else {
-        assert!(rt; false);
-        return;
+    let (Some(clearing), Some(last)) = (read_line(CLEARING), read_line(LAST)) else {
+        panic!(rt; "nothing is shown");
     };
-    assert!(rt; shown.tick == 45);
-    assert!(rt; shown.signals.vehicles.greens == set(2));
-    assert!(rt; shown.signals.vehicles.yellows == set(0));
-    assert!(rt; shown.signals.vehicles.reds == set(8));
-    assert!(rt; shown.signals.vehicles.flashing == set(0));
-    assert!(rt; shown.signals.pedestrians.walks == set(0));
-    assert!(rt; shown.signals.pedestrians.clearances == set(2));
-    assert!(rt; shown.signals.pedestrians.dont_walks == set(0));
-    assert!(rt; shown.signals.overlaps.greens == set(1));
-    assert!(rt; shown.signals.preempt == Some(2));
-    let Some(last) = read_line(LAST) else {
-        assert!(rt; false);
-        return;
-    };
-    assert!(rt; last.tick == 6_000_000);
-    assert!(rt; last.signals.vehicles.greens == set(32_768));
-    assert!(rt; last.signals.pedestrians.walks == set(32_768));
-    assert!(rt; last.signals.overlaps.yellows == set(8));
-    assert!(rt; last.signals.preempt == Some(4));
+    assert!(rt; shows_clearing(&clearing) && shows_last(&last));
+}
+
+/// Answers that are no display lines.
+const OTHERS: [&[u8]; 12] = [
+    b"",
+    b"ok",
+    b"undone tick",
+    b"tick 0000031",
+    b"0000001 -R-R------------ -D-------------- R--- 0 ---- ",
+    b"000000x -R-R------------ -D-------------- R--- 0 ----",
+    b"0000001 -R-W------------ -D-------------- R--- 0 ----",
+    b"0000001 -R-R------------ -G-------------- R--- 0 ----",
+    b"0000001 -R-R------------ -D-------------- D--- 0 ----",
+    b"0000001 -R-R------------ -D-------------- R--- 5 ----",
+    b"0000001 -R-R------------ -D-------------- R--- 0 07--",
+    b"0000001 -R-R-------------D--------------- R--- 0 ----",
+];
+
+/// Whether none of the answers shows anything.
+fn show_nothing(all: &[&[u8]]) -> bool {
+    for line in all {
+        if read_line(line) != None {
+            return false;
+        }
+    }
+    true
 }
 
 #[test]
 fn other_answers_show_nothing(rt: HostRuntime) {
-    assert!(rt; read_line(b"") == None);
-    assert!(rt; read_line(b"ok") == None);
-    assert!(rt; read_line(b"undone tick") == None);
-    assert!(rt; read_line(b"tick 0000031") == None);
-    assert!(rt; read_line(b"0000001 -R-R------------ -D-------------- R--- 0 ---- ") == None);
-    assert!(rt; read_line(b"000000x -R-R------------ -D-------------- R--- 0 ----") == None);
-    assert!(rt; read_line(b"0000001 -R-W------------ -D-------------- R--- 0 ----") == None);
-    assert!(rt; read_line(b"0000001 -R-R------------ -G-------------- R--- 0 ----") == None);
-    assert!(rt; read_line(b"0000001 -R-R------------ -D-------------- D--- 0 ----") == None);
-    assert!(rt; read_line(b"0000001 -R-R------------ -D-------------- R--- 5 ----") == None);
-    assert!(rt; read_line(b"0000001 -R-R------------ -D-------------- R--- 0 07--") == None);
-    assert!(rt; read_line(b"0000001 -R-R-------------D--------------- R--- 0 ----") == None);
+    assert!(rt; show_nothing(&OTHERS));
 }
 
-#[test]
-fn changes_have_their_events(rt: HostRuntime) -> Result<(), AllocError> {
-    let alloc = rt.alloc();
-    assert!(rt; told(alloc, None, RED)?.as_slice() == [].as_slice());
-    assert!(rt;
-        told(alloc, read_line(RED), GREEN)?.as_slice()
-            == [(2, 1, 2), (2, 21, 2), (2, 61, 1)].as_slice()
-    );
-    assert!(rt;
-        told(alloc, read_line(GREEN), CLEARING)?.as_slice()
-            == [(45, 22, 2), (45, 105, 2)].as_slice()
-    );
-    assert!(rt;
-        told(alloc, read_line(CLEARING), YELLOW)?.as_slice()
-            == [(101, 7, 2), (101, 8, 2), (101, 23, 2), (101, 63, 1)].as_slice()
-    );
-    assert!(rt;
-        told(alloc, read_line(YELLOW), FLASH)?.as_slice()
-            == [(102, 9, 2), (102, 65, 1), (102, 173, 6)].as_slice()
-    );
-    assert!(rt; told(alloc, read_line(FLASH), RED)?.as_slice() == [(1, 173, 2)].as_slice());
-    assert!(rt;
-        told(alloc, None, LAST)?.as_slice()
-            == [
+/// Whether these are the ticks, codes and parameters of the events of a change between two lines.
+fn tells(alloc: Global, before: &[u8], line: &[u8], wanted: &[(u32, u8, u8)]) -> bool {
+    match told(alloc, read_line(before), line) {
+        Ok(all) => all.as_slice() == wanted,
+        Err(_) => false,
+    }
+}
+
+/// Whether changes between signals have their events.
+fn tells_of_signals(alloc: Global) -> bool {
+    tells(alloc, b"", RED, &[])
+        && tells(alloc, RED, GREEN, &[(2, 1, 2), (2, 21, 2), (2, 61, 1)])
+        && tells(alloc, GREEN, CLEARING, &[(45, 22, 2), (45, 105, 2)])
+        && tells(
+            alloc,
+            CLEARING,
+            YELLOW,
+            &[(101, 7, 2), (101, 8, 2), (101, 23, 2), (101, 63, 1)],
+        )
+}
+
+/// Whether flash and the numbers at the end of their range have their events.
+fn tells_of_flash_and_last(alloc: Global) -> bool {
+    tells(
+        alloc,
+        YELLOW,
+        FLASH,
+        &[(102, 9, 2), (102, 64, 1), (102, 173, 6)],
+    ) && tells(alloc, FLASH, RED, &[(1, 173, 2)])
+        && tells(
+            alloc,
+            b"",
+            LAST,
+            &[
                 (6_000_000, 1, 16),
                 (6_000_000, 21, 16),
                 (6_000_000, 63, 4),
-                (6_000_000, 105, 4)
-            ]
-            .as_slice()
-    );
-    assert!(rt; told(alloc, read_line(LAST), LAST)?.as_slice() == [].as_slice());
-    Ok(())
+                (6_000_000, 105, 4),
+            ],
+        )
+        && tells(alloc, LAST, LAST, &[])
+}
+
+#[test]
+fn changes_have_their_events(rt: HostRuntime) {
+    assert!(rt; tells_of_signals(rt.alloc()) && tells_of_flash_and_last(rt.alloc()));
 }
 
 fn at(tick: u32, line: &[u8]) -> Shown {
-    match read_line(line) {
-        Some(shown) => Shown {
-            tick,
-            signals: shown.signals,
-        },
-        None => Shown {
-            tick,
-            signals: Signals::nothing_lit(),
+    Shown {
+        tick,
+        signals: match read_line(line) {
+            Some(shown) => shown.signals,
+            None => Signals::nothing_lit(),
         },
     }
+}
+
+/// Pushes these in turn.
+fn push(replay: &mut Replay, all: &[Shown]) -> Result<(), AllocError> {
+    for shown in all {
+        replay.push(*shown)?;
+    }
+    Ok(())
+}
+
+/// Whether the replay has these changes, and this last tick.
+fn has(replay: &Replay, changes: &[Shown], last: Option<u32>) -> bool {
+    replay.changes() == changes && replay.last_tick() == last
+}
+
+/// Whether a replay in which nothing was shown keeps changes, and not what shows the same again.
+fn keeps_changes(replay: &mut Replay) -> Result<bool, AllocError> {
+    let is_empty = has(replay, &[], None);
+    push(replay, &[at(1, RED), at(2, GREEN), at(3, GREEN)])?;
+    push(replay, &[at(4, YELLOW), at(5, YELLOW)])?;
+    let wanted = [at(1, RED), at(2, GREEN), at(4, YELLOW)];
+    Ok(is_empty && has(replay, &wanted, Some(5)))
+}
+
+/// Whether that replay takes changes back where ticks go back.
+fn takes_changes_back(replay: &mut Replay) -> Result<bool, AllocError> {
+    push(replay, &[at(4, GREEN)])?;
+    let is_kept = has(replay, &[at(1, RED), at(2, GREEN)], Some(4));
+    push(replay, &[at(2, RED), at(3, FLASH)])?;
+    let is_changed = has(replay, &[at(1, RED), at(3, FLASH)], Some(3));
+    push(replay, &[at(0, RED)])?;
+    Ok(is_kept && is_changed && has(replay, &[at(0, RED)], Some(0)))
 }
 
 #[test]
 fn a_replay_keeps_the_changes_that_remain(rt: HostRuntime) -> Result<(), AllocError> {
     let mut replay = Replay::new(rt.alloc());
-    assert!(rt; replay.changes() == [].as_slice());
-    assert!(rt; replay.last_tick() == None);
-    replay.push(at(1, RED))?;
-    replay.push(at(2, GREEN))?;
-    replay.push(at(3, GREEN))?;
-    replay.push(at(4, YELLOW))?;
-    replay.push(at(5, YELLOW))?;
-    assert!(rt; replay.changes() == [at(1, RED), at(2, GREEN), at(4, YELLOW)].as_slice());
-    assert!(rt; replay.last_tick() == Some(5));
-    replay.push(at(4, GREEN))?;
-    assert!(rt; replay.changes() == [at(1, RED), at(2, GREEN)].as_slice());
-    assert!(rt; replay.last_tick() == Some(4));
-    replay.push(at(2, RED))?;
-    replay.push(at(3, FLASH))?;
-    assert!(rt; replay.changes() == [at(1, RED), at(3, FLASH)].as_slice());
-    replay.push(at(0, RED))?;
-    assert!(rt; replay.changes() == [at(0, RED)].as_slice());
-    assert!(rt; replay.last_tick() == Some(0));
+    assert!(rt; keeps_changes(&mut replay)? && takes_changes_back(&mut replay)?);
     Ok(())
 }

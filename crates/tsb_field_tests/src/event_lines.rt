@@ -32,101 +32,127 @@ fn line(
     Ok(Vec::new(alloc))
 }
 
+/// Whether this is the time of the moment that the first names.
+fn is_again(alloc: Global, time: &[u8], wanted: &[u8]) -> bool {
+    match again(alloc, time) {
+        Ok(text) => text.as_slice() == wanted,
+        Err(_) => false,
+    }
+}
+
 #[test]
-fn times_have_few_digits(rt: HostRuntime) -> Result<(), AllocError> {
-    let alloc = rt.alloc();
-    assert!(rt;
-        again(alloc, b"2026-11-22T07:00:00")?.as_slice() == b"2026-11-22 07:00:00.0".as_slice()
-    );
-    assert!(rt;
-        again(alloc, b"2026-11-22 07:00:00.100")?.as_slice() == b"2026-11-22 07:00:00.1".as_slice()
-    );
-    assert!(rt;
-        again(alloc, b"2026-11-22 23:59:59.05")?.as_slice() == b"2026-11-22 23:59:59.05".as_slice()
-    );
-    assert!(rt;
-        again(alloc, b"1972-02-29 00:01:09.000000001")?.as_slice()
-            == b"1972-02-29 00:01:09.000000001".as_slice()
-    );
-    assert!(rt;
-        again(alloc, b"0000-01-01 00:00:00")?.as_slice() == b"0000-01-01 00:00:00.0".as_slice()
-    );
-    assert!(rt;
-        again(alloc, b"9999-12-31 23:59:59.999999999")?.as_slice()
-            == b"9999-12-31 23:59:59.999999999".as_slice()
-    );
-    Ok(())
+fn times_have_few_digits(rt: HostRuntime) {
+    for (time, wanted) in [
+        (
+            b"2026-11-22T07:00:00".as_slice(),
+            b"2026-11-22 07:00:00.0".as_slice(),
+        ),
+        (b"2026-11-22 07:00:00.100", b"2026-11-22 07:00:00.1"),
+        (b"2026-11-22 23:59:59.05", b"2026-11-22 23:59:59.05"),
+        (
+            b"1972-02-29 00:01:09.000000001",
+            b"1972-02-29 00:01:09.000000001",
+        ),
+        (b"0000-01-01 00:00:00", b"0000-01-01 00:00:00.0"),
+        (
+            b"9999-12-31 23:59:59.999999999",
+            b"9999-12-31 23:59:59.999999999",
+        ),
+    ] {
+        assert!(rt; is_again(rt.alloc(), time, wanted));
+    }
+}
+
+/// Whether a time is written for the moment.
+fn is_written(nanos: u128) -> bool {
+    time_text(Moment { nanos }).is_some()
 }
 
 #[test]
 fn other_years_have_no_time(rt: HostRuntime) {
-    let Some(first) = read_moment(b"0000-01-01 00:00:00") else {
+    let (Some(first), Some(last)) = (
+        read_moment(b"0000-01-01 00:00:00"),
+        read_moment(b"9999-12-31 23:59:59.999999999"),
+    ) else {
         panic!(rt; "no moment");
     };
-    let Some(last) = read_moment(b"9999-12-31 23:59:59.999999999") else {
-        panic!(rt; "no moment");
-    };
-    let before = Moment {
-        nanos: first.nanos.wrapping_sub(1),
-    };
-    let behind = Moment {
-        nanos: last.nanos.wrapping_add(1),
-    };
-    assert!(rt; time_text(first).is_some() && time_text(before).is_none());
-    assert!(rt; time_text(last).is_some() && time_text(behind).is_none());
+    assert!(rt; is_written(first.nanos) && !is_written(first.nanos.wrapping_sub(1)));
+    assert!(rt; is_written(last.nanos) && !is_written(last.nanos.wrapping_add(1)));
+}
+
+/// A tenth of a second after seven.
+const TIME: &[u8] = b"2026-11-22 07:00:00.1";
+
+/// Whether this is the line of an event of the device at that time.
+fn is_line(alloc: Global, device: &[u8], code: u32, parameter: u32, wanted: &[u8]) -> bool {
+    match line(alloc, device, TIME, code, parameter) {
+        Ok(text) => text.as_slice() == wanted,
+        Err(_) => false,
+    }
 }
 
 #[test]
-fn lines_have_the_usual_columns(rt: HostRuntime) -> Result<(), AllocError> {
-    let alloc = rt.alloc();
-    let time = b"2026-11-22 07:00:00.1".as_slice();
-    assert!(rt;
-        line(alloc, b"1001", time, 82, 3)?.as_slice()
-            == b"1001,2026-11-22 07:00:00.1,82,3\n".as_slice()
-    );
-    assert!(rt;
-        line(alloc, b"Main, 5th", time, 0, 4_294_967_295)?.as_slice()
-            == b"\"Main, 5th\",2026-11-22 07:00:00.1,0,4294967295\n".as_slice()
-    );
-    assert!(rt;
-        line(alloc, b"#7", time, 82, 3)?.as_slice()
-            == b"\"#7\",2026-11-22 07:00:00.1,82,3\n".as_slice()
-    );
-    assert!(rt;
-        line(alloc, b"7#", time, 82, 3)?.as_slice() == b"7#,2026-11-22 07:00:00.1,82,3\n".as_slice()
-    );
-    assert!(rt;
-        line(alloc, b"", time, 1, 2)?.as_slice() == b",2026-11-22 07:00:00.1,1,2\n".as_slice()
-    );
-    Ok(())
+fn lines_have_the_usual_columns(rt: HostRuntime) {
+    for (device, code, parameter, wanted) in [
+        (
+            b"1001".as_slice(),
+            82,
+            3,
+            b"1001,2026-11-22 07:00:00.1,82,3\n".as_slice(),
+        ),
+        (
+            b"Main, 5th",
+            0,
+            4_294_967_295,
+            b"\"Main, 5th\",2026-11-22 07:00:00.1,0,4294967295\n",
+        ),
+        (b"#7", 82, 3, b"\"#7\",2026-11-22 07:00:00.1,82,3\n"),
+        (b"7#", 82, 3, b"7#,2026-11-22 07:00:00.1,82,3\n"),
+        (b"", 1, 2, b",2026-11-22 07:00:00.1,1,2\n"),
+    ] {
+        assert!(rt; is_line(rt.alloc(), device, code, parameter, wanted));
+    }
 }
 
-#[test]
-fn lines_are_read_again(rt: HostRuntime) -> Result<(), AllocError> {
+/// Whether the line of an event of the device is read as that event.
+fn is_read_again(alloc: Global, device: &[u8]) -> Option<bool> {
     let time = b"2026-11-22 07:00:00.125".as_slice();
-    let Some(moment) = read_moment(time) else {
-        panic!(rt; "no moment");
-    };
     let event = EventRow {
         ours: true,
-        moment,
+        moment: read_moment(time)?,
         code: 82,
         parameter: 16,
     };
-    for device in [b"Main, 5th".as_slice(), b"#7".as_slice()] {
-        let written = line(rt.alloc(), device, time, 82, 16)?;
-        let Some(row) = written.as_slice().strip_suffix(b"\n".as_slice()) else {
-            panic!(rt; "no line feed");
-        };
-        assert!(rt; event_row(row, Columns::usual(), Some(device)) == Some(event));
+    let written = line(alloc, device, time, 82, 16).ok()?;
+    let row = written.as_slice().strip_suffix(b"\n".as_slice())?;
+    Some(event_row(row, Columns::usual(), Some(device)) == Some(event))
+}
+
+#[test]
+fn lines_are_read_again(rt: HostRuntime) {
+    for device in [b"Main, 5th".as_slice(), b"#7"] {
+        assert!(rt; is_read_again(rt.alloc(), device) == Some(true));
     }
-    Ok(())
+}
+
+/// Whether devices with commas, blanks and marks can be written.
+fn can_all_be_written() -> bool {
+    can_be_written(b"")
+        && can_be_written(b"Main, 5th")
+        && can_be_written(b"-7 \t")
+        && can_be_written(b"#7")
+        && can_be_written(&[b'7'; 900])
+}
+
+/// Whether those with a quotation mark, a line's end or too many bytes can't.
+fn can_none_be_written() -> bool {
+    !can_be_written(b"a\"b")
+        && !can_be_written(b"a\nb")
+        && !can_be_written(b"a\r")
+        && !can_be_written(&[b'7'; 901])
 }
 
 #[test]
 fn devices_that_a_line_can_name(rt: HostRuntime) {
-    assert!(rt; can_be_written(b"") && can_be_written(b"Main, 5th") && can_be_written(b"-7 \t"));
-    assert!(rt; !can_be_written(b"a\"b") && !can_be_written(b"a\nb") && !can_be_written(b"a\r"));
-    assert!(rt; can_be_written(b"#7"));
-    assert!(rt; can_be_written(&[b'7'; 900]) && !can_be_written(&[b'7'; 901]));
+    assert!(rt; can_all_be_written() && can_none_be_written());
 }

@@ -88,7 +88,6 @@ fn a_car_is_on_from_tick_to_tick(rt: HostRuntime) {
         b"7,2026-11-22 07:00:01,82,2".as_slice(),
         b"7,2026-11-22 07:00:03,81,2",
     ];
-    assert!(rt; gives(rt.alloc(), &rows, log));
     let with_header = [
         b"# a detector on Main".as_slice(),
         b"EventParam,SignalID,EventCode,Timestamp",
@@ -97,13 +96,14 @@ fn a_car_is_on_from_tick_to_tick(rt: HostRuntime) {
         b"2,7,1,2026-11-22T07:00:02",
         b"2,7,81,2026-11-22T07:00:03",
     ];
-    assert!(rt; gives(rt.alloc(), &with_header, log));
     let marked = [
         b"\xef\xbb\xbfDeviceId,Timestamp,EventId,Parameter".as_slice(),
         b"7,2026-11-22 07:00:01,82,2",
         b"7,2026-11-22 07:00:03,81,2",
     ];
-    assert!(rt; gives(rt.alloc(), &marked, log));
+    for lines in [rows.as_slice(), with_header.as_slice(), marked.as_slice()] {
+        assert!(rt; gives(rt.alloc(), lines, log));
+    }
 }
 
 #[test]
@@ -126,6 +126,22 @@ fn what_came_before_says_how_tick_1_begins(rt: HostRuntime) {
     assert!(rt; gives(rt.alloc(), &rows, log));
 }
 
+/// Whether these lines give the log for device 7, with so much left out.
+fn gives_with_left_out(
+    alloc: Global,
+    mapped: &[Wire],
+    lines: &[&[u8]],
+    log: &[u8],
+    left_out: LeftOut,
+) -> bool {
+    match said(alloc, Some(b"7"), mapped, lines) {
+        Ok(said) => {
+            said.text.as_slice() == log && said.fault.is_none() && said.left_out == left_out
+        }
+        Err(_) => false,
+    }
+}
+
 #[test]
 fn what_has_no_input_is_counted(rt: HostRuntime) {
     let mapped = [Wire {
@@ -141,52 +157,60 @@ fn what_has_no_input_is_counted(rt: HostRuntime) {
         b"7,2026-11-22 07:00:00,102,5",
         b"8,2026-11-22 06:00:00,1,2",
     ];
-    match said(rt.alloc(), Some(b"7"), &mapped, &lines) {
-        Ok(said) => {
-            assert!(rt;
-                said.text.as_slice() == b"0000001 0010000000000000 00000000 0000\n".as_slice()
-            );
-            assert!(rt; said.fault == None);
-            assert!(rt;
-                said.left_out
-                    == LeftOut {
-                        of_other_devices: 2,
-                        without_input: 3
-                    }
-            );
-        }
-        Err(_) => assert!(rt; false),
-    }
+    let log = b"0000001 0010000000000000 00000000 0000\n".as_slice();
+    let counted = LeftOut {
+        of_other_devices: 2,
+        without_input: 3,
+    };
+    assert!(rt; gives_with_left_out(rt.alloc(), &mapped, &lines, log, counted));
+}
+
+/// Whether the lines have this fault, or none.
+fn has_fault(alloc: Global, lines: &[&[u8]], wanted: Option<FilterError>) -> bool {
+    fault_of(alloc, lines) == wanted
+}
+
+/// Whether faults of the lines after the first name them.
+fn faults_have_lines(alloc: Global, first: &[u8]) -> bool {
+    has_fault(
+        alloc,
+        &[first, b"7,2026-11-22 07:00:01,82"],
+        Some(FilterError::Malformed(2)),
+    ) && has_fault(
+        alloc,
+        &[b"", first, b"7,2026-11-22 07:00:00.9,1,2"],
+        Some(FilterError::TimeOrder(3)),
+    ) && has_fault(
+        alloc,
+        &[first, b"SignalID,Timestamp,EventCode,EventParam"],
+        Some(FilterError::Malformed(2)),
+    )
+}
+
+/// Whether an event of an input past the last tick is a fault, and no other event is.
+fn inputs_end_with_the_ticks(alloc: Global, first: &[u8]) -> bool {
+    has_fault(
+        alloc,
+        &[first, b"7,2026-11-29 05:40:00,82,2"],
+        Some(FilterError::PastEnd),
+    ) && has_fault(alloc, &[first, b"7,2026-11-29 05:40:00,1,2"], None)
+        && has_fault(alloc, &[], None)
 }
 
 #[test]
 fn faults_name_their_lines(rt: HostRuntime) {
     let first = b"7,2026-11-22 07:00:01,82,2".as_slice();
     assert!(rt;
-        fault_of(rt.alloc(), &[first, b"7,2026-11-22 07:00:01,82"])
-            == Some(FilterError::Malformed(2))
+        faults_have_lines(rt.alloc(), first) && inputs_end_with_the_ticks(rt.alloc(), first)
     );
-    assert!(rt;
-        fault_of(rt.alloc(), &[b"", first, b"7,2026-11-22 07:00:00.9,1,2"])
-            == Some(FilterError::TimeOrder(3))
-    );
-    assert!(rt;
-        fault_of(rt.alloc(), &[first, b"7,2026-11-29 05:40:00,82,2"]) == Some(FilterError::PastEnd)
-    );
-    assert!(rt; fault_of(rt.alloc(), &[first, b"7,2026-11-29 05:40:00,1,2"]) == None);
-    assert!(rt;
-        fault_of(
-            rt.alloc(),
-            &[first, b"SignalID,Timestamp,EventCode,EventParam"]
-        ) == Some(FilterError::Malformed(2))
-    );
-    assert!(rt; fault_of(rt.alloc(), &[]) == None);
 }
 
 #[test]
 fn a_line_has_at_most_1000_bytes(rt: HostRuntime) {
     let mut long = [b' '; 1001];
     long[0] = b'#';
-    assert!(rt; fault_of(rt.alloc(), &[&long[..1000]]) == None);
-    assert!(rt; fault_of(rt.alloc(), &[&long]) == Some(FilterError::Malformed(1)));
+    assert!(rt;
+        has_fault(rt.alloc(), &[&long[..1000]], None)
+            && has_fault(rt.alloc(), &[&long], Some(FilterError::Malformed(1)))
+    );
 }

@@ -37,78 +37,84 @@ fn goes(on: bool, nanos: u128) -> InputEvent {
     }
 }
 
+/// Whether this is the line of the row.
+fn is_line(row: LogRow, wanted: &[u8]) -> bool {
+    row_line(row).as_slice() == wanted
+}
+
+/// Whether rows have their lines.
+fn rows_have_lines() -> bool {
+    is_line(
+        row(1_234_567, 4, 0, 0),
+        b"1234567 0010000000000000 00000000 0000\n",
+    ) && is_line(
+        row(42, 0x8001, 0x80, 9),
+        b"0000042 1000000000000001 00000001 1001\n",
+    ) && is_line(
+        row(6_000_000, 0xffff, 0xff, 0xf),
+        b"6000000 1111111111111111 11111111 1111\n",
+    ) && is_line(row(1, 0, 0, 0), b"0000001 0000000000000000 00000000 0000\n")
+}
+
 #[test]
 fn rows_have_39_bytes(rt: HostRuntime) {
-    assert!(rt;
-        row_line(row(1_234_567, 4, 0, 0)).as_slice()
-            == b"1234567 0010000000000000 00000000 0000\n".as_slice()
-    );
-    assert!(rt;
-        row_line(row(42, 0x8001, 0x80, 9)).as_slice()
-            == b"0000042 1000000000000001 00000001 1001\n".as_slice()
-    );
-    assert!(rt;
-        row_line(row(6_000_000, 0xffff, 0xff, 0xf)).as_slice()
-            == b"6000000 1111111111111111 11111111 1111\n".as_slice()
-    );
-    assert!(rt;
-        row_line(row(1, 0, 0, 0)).as_slice()
-            == b"0000001 0000000000000000 00000000 0000\n".as_slice()
-    );
+    assert!(rt; rows_have_lines());
     laws::rows_add_up();
+}
+
+fn leads(wires: &[Wire], kind: Kind, channel: u32) -> bool {
+    is_wired(wires, kind, channel)
+}
+
+/// Whether of the channels of this kind just those up to `most` lead to an input.
+fn leads_up_to(wires: &[Wire], kind: Kind, most: u8) -> bool {
+    for channel in 1..=most {
+        if !leads(wires, kind, channel as u32) {
+            return false;
+        }
+    }
+    !leads(wires, kind, most as u32 + 1) && !leads(wires, kind, 0)
 }
 
 #[test]
 fn channels_lead_to_their_own_inputs(rt: HostRuntime) -> Result<(), Fail> {
     let all = wires(rt.alloc(), &[])?;
-    assert!(rt; all.len() == 28);
-    for (kind, most) in [
-        (Kind::Vehicle, 16u8),
-        (Kind::Pedestrian, 8),
-        (Kind::Preempt, 4),
-    ] {
-        for input in 1..most + 1 {
-            assert!(rt; is_wired(all.as_slice(), kind, input as u32));
-        }
-        assert!(rt; !is_wired(all.as_slice(), kind, most as u32 + 1));
-        assert!(rt; !is_wired(all.as_slice(), kind, 0));
-    }
+    let all = all.as_slice();
+    assert!(rt;
+        all.len() == 28
+            && leads_up_to(all, Kind::Vehicle, 16)
+            && leads_up_to(all, Kind::Pedestrian, 8)
+            && leads_up_to(all, Kind::Preempt, 4)
+    );
     Ok(())
+}
+
+/// This channel of preempts leads to this input.
+fn preempt_wire(channel: u32, input: u8) -> Wire {
+    Wire {
+        kind: Kind::Preempt,
+        channel,
+        input,
+    }
+}
+
+/// Whether these wires, which begin with those that were mapped, end with those of preempts that were not.
+fn are_mapped_and_own(all: &[Wire], mapped: &[Wire]) -> bool {
+    let preempts = [preempt_wire(1, 1), preempt_wire(3, 3), preempt_wire(4, 4)];
+    all.len() == 30 && all.starts_with(mapped) && &all[27..] == preempts.as_slice()
 }
 
 #[test]
 fn mapped_channels_lead_only_there(rt: HostRuntime) -> Result<(), Fail> {
-    let fourth = Wire {
-        kind: Kind::Preempt,
-        channel: 2,
-        input: 4,
-    };
-    let mapped = [WIRE, fourth, Wire { input: 3, ..fourth }];
+    let mapped = [WIRE, preempt_wire(2, 4), preempt_wire(2, 3)];
     let all = wires(rt.alloc(), mapped.as_slice())?;
-    assert!(rt; all.len() == 30);
-    assert!(rt; &all.as_slice()[..3] == mapped.as_slice());
-    let own = Wire {
-        kind: Kind::Preempt,
-        channel: 1,
-        input: 1,
-    };
-    let preempts = [
-        own,
-        Wire {
-            channel: 3,
-            input: 3,
-            ..own
-        },
-        Wire {
-            channel: 4,
-            input: 4,
-            ..own
-        },
-    ];
-    assert!(rt; &all.as_slice()[27..] == preempts.as_slice());
-    assert!(rt; is_wired(all.as_slice(), Kind::Vehicle, 21));
-    assert!(rt; !is_wired(all.as_slice(), Kind::Pedestrian, 21));
-    assert!(rt; is_wired(all.as_slice(), Kind::Vehicle, 2));
+    let all = all.as_slice();
+    assert!(rt;
+        are_mapped_and_own(all, mapped.as_slice())
+            && leads(all, Kind::Vehicle, 21)
+            && !leads(all, Kind::Pedestrian, 21)
+            && leads(all, Kind::Vehicle, 2)
+    );
     Ok(())
 }
 
@@ -135,47 +141,52 @@ fn log(alloc: Global, events: &[InputEvent]) -> Result<Vec<u8>, AllocError> {
     Ok(text)
 }
 
-#[test]
-fn logs_tell_the_ticks_that_inputs_are_on(rt: HostRuntime) -> Result<(), Fail> {
-    let within = log(
-        rt.alloc(),
+/// Whether the events of the channel, going on or off at these moments, give this log.
+fn gives(alloc: Global, events: &[InputEvent], wanted: &[u8]) -> bool {
+    match log(alloc, events) {
+        Ok(text) => text.as_slice() == wanted,
+        Err(_) => false,
+    }
+}
+
+/// Whether an input that goes on and off is on in each tick that it was on in.
+fn tells_the_ticks(alloc: Global) -> bool {
+    gives(
+        alloc,
         &[goes(true, 1_150_000_000), goes(false, 1_250_000_000)],
-    )?;
-    assert!(rt;
-        within.as_slice()
-            == b"0000002 0010000000000000 00000000 0000\n0000004 0000000000000000 00000000 0000\n".as_slice()
-    );
-    let pulse = log(
-        rt.alloc(),
+        b"0000002 0010000000000000 00000000 0000\n0000004 0000000000000000 00000000 0000\n",
+    ) && gives(
+        alloc,
         &[goes(true, 1_150_000_000), goes(false, 1_150_000_000)],
-    )?;
-    assert!(rt;
-        pulse.as_slice()
-            == b"0000002 0010000000000000 00000000 0000\n0000003 0000000000000000 00000000 0000\n".as_slice()
-    );
-    let before = log(
-        rt.alloc(),
+        b"0000002 0010000000000000 00000000 0000\n0000003 0000000000000000 00000000 0000\n",
+    ) && gives(
+        alloc,
         &[goes(true, 900_000_000), goes(false, 1_050_000_000)],
-    )?;
-    assert!(rt;
-        before.as_slice()
-            == b"0000001 0010000000000000 00000000 0000\n0000002 0000000000000000 00000000 0000\n".as_slice()
-    );
-    let last = log(rt.alloc(), &[goes(true, START + 599_999_900_000_000)])?;
-    assert!(rt; last.as_slice() == b"6000000 0010000000000000 00000000 0000\n".as_slice());
-    Ok(())
+        b"0000001 0010000000000000 00000000 0000\n0000002 0000000000000000 00000000 0000\n",
+    ) && gives(
+        alloc,
+        &[goes(true, START + 599_999_900_000_000)],
+        b"6000000 0010000000000000 00000000 0000\n",
+    )
+}
+
+#[test]
+fn logs_tell_the_ticks_that_inputs_are_on(rt: HostRuntime) {
+    assert!(rt; tells_the_ticks(rt.alloc()));
+}
+
+/// Whether the street refuses an event past the last tick, and has no row of it.
+fn refuses_the_end(street: &mut Street) -> bool {
+    let none = Rows {
+        first: None,
+        second: None,
+    };
+    street.push(goes(true, START + 600_000_000_000_000)) == None && street.finish() == none
 }
 
 #[test]
 fn events_past_the_last_tick_are_refused(rt: HostRuntime) -> Result<(), Fail> {
     let mut street = Street::new(rt.alloc(), START, &[WIRE])?;
-    assert!(rt; street.push(goes(true, START + 600_000_000_000_000)) == None);
-    assert!(rt;
-        street.finish()
-            == Rows {
-                first: None,
-                second: None
-            }
-    );
+    assert!(rt; refuses_the_end(&mut street));
     Ok(())
 }

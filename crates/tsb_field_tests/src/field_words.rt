@@ -6,9 +6,30 @@ use tsb_field_log::{Kind, Wire};
 use tsb_words::WordsError;
 use tsb_words::field_files::{Asked, read_words};
 
-fn is_bad(alloc: Global, words: &[&str]) -> bool {
+fn wire(kind: Kind, channel: u32, input: u8) -> Wire {
+    Wire {
+        kind,
+        channel,
+        input,
+    }
+}
+
+/// Whether the words ask for a log from this time on, of this device and these wires.
+fn ask_for_log(
+    alloc: Global,
+    words: &[&str],
+    time: &[u8],
+    wanted: Option<&str>,
+    mapped: &[Wire],
+) -> bool {
     match read_words(alloc, words) {
-        Err(WordsError::Bad) => true,
+        Ok(
+            Asked::Log {
+                from,
+                device,
+                wires,
+            },
+        ) => { Some(from) == read_moment(time) && device == wanted && wires.as_slice() == mapped }
         _ => false,
     }
 }
@@ -28,52 +49,14 @@ fn log_words_name_wires(rt: HostRuntime) {
         "--vehicle",
         "4294967295=16",
     ];
-    match read_words(rt.alloc(), words.as_slice()) {
-        Ok(
-            Asked::Log {
-                from,
-                device,
-                wires,
-            },
-        ) => {
-            assert!(rt; Some(from) == read_moment(b"2026-11-22 07:00:00.1"));
-            assert!(rt; device == None);
-            assert!(rt; wires.len() == 4);
-            assert!(rt;
-                wires[0]
-                    == Wire {
-                        kind: Kind::Vehicle,
-                        channel: 12,
-                        input: 3
-                    }
-            );
-            assert!(rt;
-                wires[1]
-                    == Wire {
-                        kind: Kind::Vehicle,
-                        channel: 4_294_967_295,
-                        input: 16
-                    }
-            );
-            assert!(rt;
-                wires[2]
-                    == Wire {
-                        kind: Kind::Pedestrian,
-                        channel: 0,
-                        input: 8
-                    }
-            );
-            assert!(rt;
-                wires[3]
-                    == Wire {
-                        kind: Kind::Preempt,
-                        channel: 2,
-                        input: 4
-                    }
-            );
-        }
-        _ => panic!(rt; "no log"),
-    }
+    let wires = [
+        wire(Kind::Vehicle, 12, 3),
+        wire(Kind::Vehicle, 4_294_967_295, 16),
+        wire(Kind::Pedestrian, 0, 8),
+        wire(Kind::Preempt, 2, 4),
+    ];
+    let time = b"2026-11-22 07:00:00.1".as_slice();
+    assert!(rt; ask_for_log(rt.alloc(), &words, time, None, &wires));
 }
 
 #[test]
@@ -84,19 +67,17 @@ fn log_words_name_a_device(rt: HostRuntime) {
         "--device=-7",
         "--from=2026-11-22 07:00:00",
     ];
-    match read_words(rt.alloc(), words.as_slice()) {
-        Ok(
-            Asked::Log {
-                from,
-                device,
-                wires,
-            },
-        ) => {
-            assert!(rt; Some(from) == read_moment(b"2026-11-22T07:00:00"));
-            assert!(rt; device == Some("-7"));
-            assert!(rt; wires.is_empty());
+    let time = b"2026-11-22T07:00:00".as_slice();
+    assert!(rt; ask_for_log(rt.alloc(), &words, time, Some("-7"), &[]));
+}
+
+/// Whether the words ask for the events of this device from this time on, with those of this log.
+fn ask_for_events(alloc: Global, words: &[&str], time: &[u8], name: &str, rows: &str) -> bool {
+    match read_words(alloc, words) {
+        Ok(Asked::Events { from, device, log }) => {
+            Some(from) == read_moment(time) && device == name && log == Some(rows)
         }
-        _ => panic!(rt; "no log"),
+        _ => false,
     }
 }
 
@@ -112,13 +93,27 @@ fn events_words(rt: HostRuntime) {
         "--from",
         "2026-11-22T07:00:00",
     ];
-    match read_words(rt.alloc(), words.as_slice()) {
-        Ok(Asked::Events { from, device, log }) => {
-            assert!(rt; Some(from) == read_moment(b"2026-11-22 07:00:00"));
-            assert!(rt; device == "1001");
-            assert!(rt; log == Some("a.log"));
-        }
-        _ => panic!(rt; "no events"),
+    let time = b"2026-11-22 07:00:00".as_slice();
+    assert!(rt; ask_for_events(rt.alloc(), &words, time, "1001", "a.log"));
+}
+
+/// Whether the words ask for a diagram with this log, title and width.
+fn ask_for_diagram(
+    alloc: Global,
+    words: &[&str],
+    rows: Option<&str>,
+    name: Option<&str>,
+    width: Option<u32>,
+) -> bool {
+    match read_words(alloc, words) {
+        Ok(
+            Asked::Diagram {
+                log,
+                title,
+                seconds_per_line,
+            },
+        ) => log == rows && title == name && seconds_per_line == width,
+        _ => false,
     }
 }
 
@@ -132,106 +127,50 @@ fn diagram_words(rt: HostRuntime) {
         "--seconds-per-line=86400",
         "--log=b.log",
     ];
-    match read_words(rt.alloc(), words.as_slice()) {
-        Ok(
-            Asked::Diagram {
-                log,
-                title,
-                seconds_per_line,
-            },
-        ) => {
-            assert!(rt; log == Some("b.log"));
-            assert!(rt; title == Some("Main and 5th"));
-            assert!(rt; seconds_per_line == Some(86_400));
-        }
-        _ => panic!(rt; "no diagram"),
-    }
+    let title = Some("Main and 5th");
+    assert!(rt; ask_for_diagram(rt.alloc(), &words, Some("b.log"), title, Some(86_400)));
     let alone = ["tsb_field", "diagram"];
-    match read_words(rt.alloc(), alone.as_slice()) {
-        Ok(
-            Asked::Diagram {
-                log,
-                title,
-                seconds_per_line,
-            },
-        ) => assert!(rt; log.is_none() && title.is_none() && seconds_per_line.is_none()),
-        _ => panic!(rt; "no diagram"),
+    assert!(rt; ask_for_diagram(rt.alloc(), &alone, None, None, None));
+}
+
+const FROM: &str = "--from=2026-11-22T07:00:00";
+
+/// Words that ask for nothing.
+const BAD: [&[&str]; 21] = [
+    &["tsb_field"],
+    &["tsb_field", "help"],
+    &["tsb_field", "log"],
+    &["tsb_field", "log", "--help"],
+    &["tsb_field", "log", "--from", "2026-11-22"],
+    &["tsb_field", "log", FROM, FROM],
+    &["tsb_field", "log", FROM, "--log=a"],
+    &["tsb_field", "log", FROM, "--device", "-7"],
+    &["tsb_field", "log", FROM, "more"],
+    &["tsb_field", "log", FROM, "--vehicle=1=17"],
+    &["tsb_field", "log", FROM, "--vehicle=1=0"],
+    &["tsb_field", "log", FROM, "--vehicle=1"],
+    &["tsb_field", "log", FROM, "--vehicle==1"],
+    &["tsb_field", "log", FROM, "--pedestrian=1=9"],
+    &["tsb_field", "log", FROM, "--preempt=1=5"],
+    &["tsb_field", "log", FROM, "--vehicle=4294967296=1"],
+    &["tsb_field", "events", FROM],
+    &["tsb_field", "events", FROM, "--device=a\"b"],
+    &["tsb_field", "events", "--device=1"],
+    &["tsb_field", "diagram", "--seconds-per-line=0"],
+    &["tsb_field", "diagram", "--seconds-per-line=86401"],
+];
+
+/// Whether all these words are bad.
+fn are_bad(alloc: Global, all: &[&[&str]]) -> bool {
+    for words in all {
+        if !matches!(read_words(alloc, words), Err(WordsError::Bad)) {
+            return false;
+        }
     }
+    true
 }
 
 #[test]
 fn other_words_are_bad(rt: HostRuntime) {
-    let alloc = rt.alloc();
-    let time = "--from=2026-11-22T07:00:00";
-    assert!(rt; is_bad(alloc, ["tsb_field"].as_slice()));
-    assert!(rt; is_bad(alloc, ["tsb_field", "help"].as_slice()));
-    assert!(rt; is_bad(alloc, ["tsb_field", "log"].as_slice()));
-    assert!(rt; is_bad(alloc, ["tsb_field", "log", "--help"].as_slice()));
-    assert!(rt;
-        is_bad(
-            alloc,
-            ["tsb_field", "log", "--from", "2026-11-22"].as_slice()
-        )
-    );
-    assert!(rt; is_bad(alloc, ["tsb_field", "log", time, time].as_slice()));
-    assert!(rt; is_bad(alloc, ["tsb_field", "log", time, "--log=a"].as_slice()));
-    assert!(rt;
-        is_bad(
-            alloc,
-            ["tsb_field", "log", time, "--device", "-7"].as_slice()
-        )
-    );
-    assert!(rt; is_bad(alloc, ["tsb_field", "log", time, "more"].as_slice()));
-    assert!(rt;
-        is_bad(
-            alloc,
-            ["tsb_field", "log", time, "--vehicle=1=17"].as_slice()
-        )
-    );
-    assert!(rt;
-        is_bad(
-            alloc,
-            ["tsb_field", "log", time, "--vehicle=1=0"].as_slice()
-        )
-    );
-    assert!(rt; is_bad(alloc, ["tsb_field", "log", time, "--vehicle=1"].as_slice()));
-    assert!(rt; is_bad(alloc, ["tsb_field", "log", time, "--vehicle==1"].as_slice()));
-    assert!(rt;
-        is_bad(
-            alloc,
-            ["tsb_field", "log", time, "--pedestrian=1=9"].as_slice()
-        )
-    );
-    assert!(rt;
-        is_bad(
-            alloc,
-            ["tsb_field", "log", time, "--preempt=1=5"].as_slice()
-        )
-    );
-    assert!(rt;
-        is_bad(
-            alloc,
-            ["tsb_field", "log", time, "--vehicle=4294967296=1"].as_slice()
-        )
-    );
-    assert!(rt; is_bad(alloc, ["tsb_field", "events", time].as_slice()));
-    assert!(rt;
-        is_bad(
-            alloc,
-            ["tsb_field", "events", time, "--device=a\"b"].as_slice()
-        )
-    );
-    assert!(rt; is_bad(alloc, ["tsb_field", "events", "--device=1"].as_slice()));
-    assert!(rt;
-        is_bad(
-            alloc,
-            ["tsb_field", "diagram", "--seconds-per-line=0"].as_slice()
-        )
-    );
-    assert!(rt;
-        is_bad(
-            alloc,
-            ["tsb_field", "diagram", "--seconds-per-line=86401"].as_slice()
-        )
-    );
+    assert!(rt; are_bad(rt.alloc(), &BAD));
 }

@@ -1,4 +1,8 @@
 //! Tests of the crates of field files. A crate with tests is proved a second time with them, so they are here.
+//!
+//! Most of what a test checks stands in functions that have no contract and answer whether all of it holds. A test that
+//! makes many calls itself takes several times as long to prove: it carries on what is known of each of them, and each
+//! assert in it costs about as much as such a function.
 #![tactic(auto)]
 
 #[cfg(test)]

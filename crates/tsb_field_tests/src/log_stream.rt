@@ -123,38 +123,53 @@ const LOG: &[u8] = b"0000011 0100000000000000 00000000 0000
 0000032 0000000000000000 00000000 0000
 ";
 
+/// Whether a text in pieces of this many bytes gives the log of the events.
+fn gives_in_pieces(alloc: Global, most: usize) -> bool {
+    let reader = Pieces {
+        left: EVENTS,
+        most,
+        end: None,
+    };
+    gives(alloc, reader, LOG)
+}
+
 #[test]
 fn pieces_of_any_size_give_one_log(rt: HostRuntime) {
     for most in [1, 2, 3, 7, 39, 4096] {
-        let reader = Pieces {
-            left: EVENTS,
-            most,
-            end: None,
-        };
-        assert!(rt; gives(rt.alloc(), reader, LOG), "{most}");
+        assert!(rt; gives_in_pieces(rt.alloc(), most), "{most}");
     }
+}
+
+/// The log of detector 1 on from tick 1.
+const ON: &[u8] = b"0000001 1000000000000000 00000000 0000\n";
+
+/// Texts that give that log. After the first line a mark is a part of the device's name.
+const OF_ON: [&[u8]; 7] = [
+    b"7,2026-11-22 07:00:00,82,1",
+    b"7,2026-11-22 07:00:00,82,1\n",
+    b"7,2026-11-22 07:00:00,82,1\r\n",
+    b"\xef\xbb\xbf7,2026-11-22 07:00:00,82,1\n",
+    b"\n\n# a remark\n  \n7,2026-11-22T07:00:00,82,1\n\n",
+    b"\xef\xbb\xbf\r\n7,2026-11-22 07:00:00,82,1\n",
+    b"\n\xef\xbb\xbf7,2026-11-22 07:00:00,82,1\n",
+];
+
+/// Whether all the texts give the log.
+fn all_give(alloc: Global, texts: &[&'static [u8]], wanted: &[u8]) -> bool {
+    for text in texts {
+        if !gives(alloc, whole(text), wanted) {
+            return false;
+        }
+    }
+    true
 }
 
 #[test]
 fn lines_end_as_lines_do(rt: HostRuntime) {
-    let log = b"0000001 1000000000000000 00000000 0000\n".as_slice();
-    for text in [
-        b"7,2026-11-22 07:00:00,82,1".as_slice(),
-        b"7,2026-11-22 07:00:00,82,1\n",
-        b"7,2026-11-22 07:00:00,82,1\r\n",
-        b"\xef\xbb\xbf7,2026-11-22 07:00:00,82,1\n",
-        b"\n\n# a remark\n  \n7,2026-11-22T07:00:00,82,1\n\n",
-        b"\xef\xbb\xbf\r\n7,2026-11-22 07:00:00,82,1\n",
-    ] {
-        assert!(rt; gives(rt.alloc(), whole(text), log), "{text:?}");
-    }
-    assert!(rt; gives(rt.alloc(), whole(b""), b""));
+    assert!(rt; all_give(rt.alloc(), &OF_ON, ON) && gives(rt.alloc(), whole(b""), b""));
     // A return at the end of a last line without a line feed is a byte of the line.
     let text = b"7,2026-11-22 07:00:00,82,1\r".as_slice();
     assert!(rt; ends(rt.alloc(), whole(text), b"", FilterError::Malformed(1)));
-    // After the first line a mark is a part of the device's name.
-    let text = b"\n\xef\xbb\xbf7,2026-11-22 07:00:00,82,1\n".as_slice();
-    assert!(rt; gives(rt.alloc(), whole(text), log));
 }
 
 /// A remark of this many bytes, with this end, and then a row.
@@ -166,24 +181,30 @@ fn remark(alloc: Global, length: usize, end: &[u8]) -> Vec<u8> {
     text
 }
 
+/// Whether the row after a remark of this many bytes is read, or the remark is malformed.
+fn remark_is_read(alloc: Global, length: usize, end: &[u8]) -> Option<bool> {
+    let text = remark(alloc, length, end);
+    let mut reader = text.as_slice();
+    let mut out = Vec::new(alloc);
+    match log_of(alloc, &mut reader, &mut out) {
+        Ok(_) if out.as_slice() == ON => Some(true),
+        Err(FilterError::Malformed(1)) if out.is_empty() => Some(false),
+        _ => None,
+    }
+}
+
 #[test]
 fn lines_have_1000_bytes_at_most(rt: HostRuntime) {
-    let log = b"0000001 1000000000000000 00000000 0000\n".as_slice();
-    for end in [b"\n".as_slice(), b"\r\n"] {
-        for length in [999, 1000, 1001, 1002, 5000] {
-            let text = remark(rt.alloc(), length, end);
-            let mut reader = text.as_slice();
-            let mut out = Vec::new(rt.alloc());
-            let ended = log_of(rt.alloc(), &mut reader, &mut out);
-            if length <= 1000 {
-                assert!(rt; ended.is_ok() && out.as_slice() == log, "{length}");
-            } else {
-                assert!(rt;
-                    ended == Err(FilterError::Malformed(1)) && out.is_empty(),
-                    "{length}"
-                );
-            }
-        }
+    for length in [999, 1000, 1001, 1002, 5000] {
+        let wanted = Some(length <= 1000);
+        assert!(rt;
+            remark_is_read(rt.alloc(), length, b"\n") == wanted,
+            "{length}"
+        );
+        assert!(rt;
+            remark_is_read(rt.alloc(), length, b"\r\n") == wanted,
+            "{length}"
+        );
     }
 }
 
@@ -195,46 +216,81 @@ fn log_of<R: Read, W: Write>(
     log(alloc, begin(), None, &[], reader, writer)
 }
 
+/// Whether a text whose first row alone is known ends with this fault.
+fn ends_after_a_row(alloc: Global, text: &'static [u8], fault: FilterError) -> bool {
+    let known = b"0000011 0100000000000000 00000000 0000\n".as_slice();
+    ends(alloc, whole(text), known, fault)
+}
+
+/// Whether what is known before a fault is written.
+fn is_written_before_faults(alloc: Global) -> bool {
+    ends_after_a_row(
+        alloc,
+        b"7,2026-11-22 07:00:01,82,2\n7,2026-11-22 07:00:02,81,2\n7,2026-11-22 07:00:01,82,2\n",
+        FilterError::TimeOrder(3),
+    ) && ends_after_a_row(
+        alloc,
+        b"7,2026-11-22 07:00:01,82,2\n7,2026-11-22 07:00:02,81,2\n7,2026-12-22 07:00:01,82,2\n",
+        FilterError::PastEnd,
+    ) && ends_after_a_row(
+        alloc,
+        b"7,2026-11-22 07:00:01,82,2\n7,2026-11-22 07:00:02,81,2\n7,2026-11-22 07:00:02,81",
+        FilterError::Malformed(3),
+    )
+}
+
 #[test]
 fn what_is_known_before_a_fault_is_written(rt: HostRuntime) {
-    let text =
-        b"7,2026-11-22 07:00:01,82,2\n7,2026-11-22 07:00:02,81,2\n7,2026-11-22 07:00:01,82,2\n".as_slice();
+    assert!(rt; is_written_before_faults(rt.alloc()));
+}
+
+/// Whether what is known before a read fails so is written.
+fn is_written_before_a_failure(alloc: Global, kind: ErrorKind) -> bool {
+    let reader = Pieces {
+        left: b"7,2026-11-22 07:00:01,82,2\n7,2026-11-22 07:00:02,81,2\n7,2026",
+        most: 5,
+        end: Some(kind),
+    };
     let known = b"0000011 0100000000000000 00000000 0000\n".as_slice();
-    assert!(rt; ends(rt.alloc(), whole(text), known, FilterError::TimeOrder(3)));
-    let text =
-        b"7,2026-11-22 07:00:01,82,2\n7,2026-11-22 07:00:02,81,2\n7,2026-12-22 07:00:01,82,2\n".as_slice();
-    assert!(rt; ends(rt.alloc(), whole(text), known, FilterError::PastEnd));
-    let text =
-        b"7,2026-11-22 07:00:01,82,2\n7,2026-11-22 07:00:02,81,2\n7,2026-11-22 07:00:02,81".as_slice();
-    assert!(rt; ends(rt.alloc(), whole(text), known, FilterError::Malformed(3)));
+    ends(alloc, reader, known, FilterError::Read)
 }
 
 #[test]
 fn a_read_that_fails_ends_it(rt: HostRuntime) {
-    for kind in [ErrorKind::UnexpectedEof, ErrorKind::Interrupted] {
-        let reader = Pieces {
-            left: b"7,2026-11-22 07:00:01,82,2\n7,2026-11-22 07:00:02,81,2\n7,2026",
-            most: 5,
-            end: Some(kind),
-        };
-        let known = b"0000011 0100000000000000 00000000 0000\n".as_slice();
-        assert!(rt; ends(rt.alloc(), reader, known, FilterError::Read));
-    }
+    assert!(rt;
+        is_written_before_a_failure(rt.alloc(), ErrorKind::UnexpectedEof)
+            && is_written_before_a_failure(rt.alloc(), ErrorKind::Interrupted)
+    );
+}
+
+/// Whether a writer that fails after so many bytes has those of the log.
+fn leaves_a_prefix(alloc: Global, room: usize) -> bool {
+    let mut writer = Narrow {
+        taken: Vec::new(alloc),
+        room,
+    };
+    let ended = log_of(alloc, &mut whole(EVENTS), &mut writer);
+    ended == Err(FilterError::Write) && writer.taken.as_slice() == &LOG[..room.min(LOG.len())]
 }
 
 #[test]
 fn a_write_that_fails_leaves_a_prefix(rt: HostRuntime) {
     for room in 0..LOG.len() {
-        let mut writer = Narrow {
-            taken: Vec::new(rt.alloc()),
-            room,
-        };
-        let ended = log_of(rt.alloc(), &mut whole(EVENTS), &mut writer);
-        assert!(rt; ended == Err(FilterError::Write), "{room}");
-        assert!(rt; writer.taken.as_slice() == &LOG[..room], "{room}");
+        assert!(rt; leaves_a_prefix(rt.alloc(), room), "{room}");
     }
-    let ended = log_of(rt.alloc(), &mut whole(EVENTS), &mut Stuck);
-    assert!(rt; ended == Err(FilterError::Write));
+    assert!(rt; log_of(rt.alloc(), &mut whole(EVENTS), &mut Stuck) == Err(FilterError::Write));
+}
+
+/// Whether the events of device 7 and this wire give the log, with so much left out.
+fn gives_with_left_out(
+    alloc: Global,
+    wire: Wire,
+    text: &'static [u8],
+    wanted: &[u8],
+    left_out: LeftOut,
+) -> bool {
+    let (out, ended) = written(alloc, Some(b"7"), &[wire], whole(text));
+    out.as_slice() == wanted && ended == Ok(left_out)
 }
 
 #[test]
@@ -246,11 +302,10 @@ fn what_is_left_out_is_counted(rt: HostRuntime) {
         channel: 40,
         input: 5,
     };
-    let (out, ended) = written(rt.alloc(), Some(b"7"), &[wire], whole(text));
-    assert!(rt; out.as_slice() == b"0000001 0000100000000000 00000000 0000\n".as_slice());
+    let log = b"0000001 0000100000000000 00000000 0000\n".as_slice();
     let counted = LeftOut {
         of_other_devices: 1,
         without_input: 1,
     };
-    assert!(rt; ended == Ok(counted));
+    assert!(rt; gives_with_left_out(rt.alloc(), wire, text, log, counted));
 }

@@ -4,6 +4,7 @@
 //! What is marked "profile" is this project's own choice. Nothing here takes memory.
 #![tactic(auto)]
 
+pub mod event;
 pub mod flow;
 pub mod interval;
 pub mod lamp;
@@ -17,6 +18,7 @@ pub mod row;
 pub mod stage;
 pub mod watch;
 
+pub use event::Event;
 pub use flow::{Called, Intervals, Moves, Orders, Pedestrians, RingMoves, Timing};
 pub use interval::{Interval, PedestrianInterval};
 pub use lamp::{Aspect, Lamp, PedestrianAspect, PedestrianColor, SignalColor};

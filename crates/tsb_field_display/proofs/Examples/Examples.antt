@@ -7,7 +7,8 @@ use Rattle.tsb_field_display.specs.declared.shown.Shown.{Shown}
 use Rattle.tsb_field_display.specs.Shows.{is_same, AreApart}
 use Rattle.tsb_field_display.specs.Reading.{is_display, shown_of, signals_of}
 use Rattle.tsb_field_display.specs.Remaining.{remaining, changes_of}
-use Rattle.tsb_field_display.specs.Events.{event, events_of, events_of_lines}
+use Rattle.tsb_types.specs.Events.{event}
+use Rattle.tsb_field_display.specs.Events.{events_of, events_of_lines}
 use Rattle.tsb_field_display.specs.ReadBack.{read_back}
 use Rattle.tsb_field_display.specs.Laws.{AreAllApart}
 use Rattle.tsb_field_display.specs.Stream.{shown_lines}
@@ -110,7 +111,7 @@ answers = refl
 
 whole : events_of_lines (at 1 red ∷ at 2 green ∷ at 3 clearing ∷ at 4 ending ∷ at 5 red ∷ at 6 flash ∷ at 7 red ∷ [])
     ≡ event 2 1 2 ∷ event 2 21 2 ∷ event 2 61 1 ∷ event 3 22 2 ∷ event 3 105 1 ∷ event 4 7 2 ∷ event 4 8 2 ∷ event 4 23 2
-    ∷ event 4 63 1 ∷ event 5 9 2 ∷ event 5 65 1 ∷ event 6 173 6 ∷ event 7 173 2 ∷ []
+    ∷ event 4 63 1 ∷ event 5 9 2 ∷ event 5 64 1 ∷ event 6 173 6 ∷ event 7 173 2 ∷ []
 unfolding opened
 whole = refl
 

@@ -1,6 +1,6 @@
 -- One-line mistakes, each with an example that tells it from the definition.
 use Rattle.std.specs.Prelude.{◌≡◌, ℕ, ◌+◌, ◌==◌, true, false, not, List, [], ◌∷◌, ◌++◌, filter, refl}
-use Rattle.tsb_field_display.specs.declared.events.DisplayEvent.{DisplayEvent}
+use Rattle.tsb_types.specs.declared.event.Event.{Event}
 use Rattle.tsb_field_display.specs.declared.shown.Shown.{Shown}
 use Rattle.tsb_field_display.specs.Events.{events_of_lines, is_yellow, is_clearance}
 use Rattle.tsb_field_display.specs.Remaining.{remaining, before_tick}
@@ -9,7 +9,7 @@ use Rattle.tsb_field_display.proofs.Examples.Examples.{opened, at, red, green, c
 
 -- ## Events without code 9
 
-abbrev pub without : ℕ → List DisplayEvent → List DisplayEvent
+abbrev pub without : ℕ → List Event → List Event
 without code events = filter (λ e. not (e.code == code)) events
 
 abbrev pub lines : List Shown

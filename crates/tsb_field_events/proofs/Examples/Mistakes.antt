@@ -6,18 +6,18 @@ use Rattle.tsb_event_text.specs.Columns.{usual_columns}
 use Rattle.tsb_event_text.specs.Events.{can_be_written, event_row_text}
 use Rattle.tsb_event_text.specs.Rows.{row_of}
 use Rattle.tsb_event_text.proofs.EventLemmas.{read-again}
-use Rattle.tsb_field_display.specs.declared.events.DisplayEvent.{DisplayEvent}
-use Rattle.tsb_field_display.specs.Events.{event}
+use Rattle.tsb_types.specs.declared.event.Event.{Event}
+use Rattle.tsb_types.specs.Events.{event}
 use Rattle.tsb_field_events.specs.Laws.{is_of_input}
 use Rattle.tsb_field_events.specs.Merge.{ahead_of, comes_before, merged}
 use Rattle.tsb_field_events.specs.Texts.{Tells}
 use Rattle.tsb_field_events.specs.Ticks.{moment_of_tick}
 
 -- a head that becomes green at tick 2, and detectors that go on at ticks 1 and 3
-abbrev pub head : List DisplayEvent
+abbrev pub head : List Event
 head = event 2 1 4 ∷ []
 
-abbrev pub inputs : List DisplayEvent
+abbrev pub inputs : List Event
 inputs = event 1 82 4 ∷ event 3 82 5 ∷ []
 
 as_defined : merged head inputs ≡ event 1 82 4 ∷ event 2 1 4 ∷ event 3 82 5 ∷ []
@@ -33,11 +33,11 @@ out_of_order = refl
 
 -- ## The first event that does not come before another is left out
 
-abbrev pub rest_without : DisplayEvent → List DisplayEvent → List DisplayEvent
+abbrev pub rest_without : Event → List Event → List Event
 rest_without e [] = []
 rest_without e (y ∷ ys) = if comes_before y e then rest_without e ys else ys
 
-abbrev pub merged_without : List DisplayEvent → List DisplayEvent → List DisplayEvent
+abbrev pub merged_without : List Event → List Event → List Event
 merged_without [] others = others
 merged_without (e ∷ es) others = ahead_of e others ++ e ∷ merged_without es (rest_without e others)
 

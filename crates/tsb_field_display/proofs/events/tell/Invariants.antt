@@ -1,6 +1,6 @@
 use Rattle.std.proofs.Common.{◌≡◌, ◌+◌, ◌≤◌, ◌++◌, length}
 use Rattle.tsb_types.specs.Sets.{has_number, size_of_numbers}
-use Rattle.tsb_field_display.specs.Events.{told, numbers_with}
+use Rattle.tsb_types.specs.Events.{told, numbers_with}
 use Rattle.arrayvec.specs.ArrayVec.{array_vec_len}
 use Rattle.tsb_field_display.proofs.events.tell.Given as goal
 

@@ -1,6 +1,6 @@
 use Rattle.std.proofs.Common.{◌≡◌, ◌++◌}
 use Rattle.tsb_types.specs.Sets.{has_number, size_of_numbers}
-use Rattle.tsb_field_display.specs.Events.{told}
+use Rattle.tsb_types.specs.Events.{told}
 use Rattle.tsb_field_events.proofs.inputs.tell.Given as goal
 
 -- what is told, with the rest, is all

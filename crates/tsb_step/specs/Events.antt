@@ -1,0 +1,355 @@
+-- What an input tells: its events, by the Indiana Traffic Signal Hi Resolution Data Logger Enumerations, found from the
+-- state before it, from the inputs that were on in the tick before, and from the input itself. The code of an event
+-- says what happened, its parameter to which phase, overlap, detector or preempt.
+--
+-- Where the enumerations are silent the choice is the profile's own: a controller in flash serves no phase and shows no
+-- walk, so that a trip ends all of them; a vehicle call is that of a phase that is not Green.
+use Rattle.std.specs.Prelude.{ℕ, ◌+◌, ◌-◌, ◌==◌, Bool, true, false, not, ◌&&◌, ◌||◌, if◌then◌else◌, List, [], ◌∷◌, ◌++◌, flat_map, nat_eq, Option, Some, None, is_some, is_none}
+use Rattle.std.specs.List.{list_any}
+use Rattle.std.specs.Option.{option_eq}
+use Rattle.tsb_cells.specs.Timer.{is_on}
+use Rattle.tsb_types.specs.Events.{event, told, begins, ends, either}
+use Rattle.tsb_types.specs.Intervals.{in_service, is_green, is_yellow, is_red_clear, is_walk, is_clearance}
+use Rattle.tsb_types.specs.Lists.{or_number, run_from}
+use Rattle.tsb_types.specs.Sets.{has_number}
+use Rattle.tsb_types.specs.declared.event.Event.{Event}
+use Rattle.tsb_types.specs.declared.event.TheConstants.{PHASE_ON, GREEN_BEGINS, CONFLICT_BEGINS, GAP_OUT, MAX_OUT, FORCE_OFF, GREEN_ENDS, YELLOW_BEGINS, YELLOW_ENDS, RED_CLEARANCE_BEGINS, RED_CLEARANCE_ENDS, PHASE_OFF, WALK_BEGINS, CLEARANCE_BEGINS, DONT_WALK_BEGINS, BARRIER_CROSSED, CALL_COMES, CALL_GOES, PEDESTRIAN_CALL_COMES, OVERLAP_GREEN_BEGINS, OVERLAP_YELLOW_BEGINS, OVERLAP_RED_BEGINS, OVERLAP_OFF, VEHICLE_OFF, VEHICLE_ON, ALARM_GOES, ALARM_COMES, PEDESTRIAN_OFF, PEDESTRIAN_ON, PREEMPT_ON, PREEMPT_OFF, PREEMPT_ENTERS, TRACK_BEGINS, DWELL_BEGINS, PRESENCE_EXCEEDED, EXIT_BEGINS, PATTERN_CHANGES, CYCLE_CHANGES, OFFSET_CHANGES, SPLIT_CHANGES, FLASH_CHANGES, FREE, FLASH, NO_FLASH}
+use Rattle.tsb_types.specs.declared.interval.Interval.{Interval}
+use Rattle.tsb_types.specs.declared.interval.Interval.TheVariants.{Red}
+use Rattle.tsb_types.specs.declared.interval.PedestrianInterval.{PedestrianInterval}
+use Rattle.tsb_types.specs.declared.interval.PedestrianInterval.TheVariants.{DontWalk}
+use Rattle.tsb_types.specs.declared.lamp.Aspect.{Aspect}
+use Rattle.tsb_types.specs.declared.lamp.Aspect.TheVariants as aspects
+use Rattle.tsb_types.specs.declared.row.Row.{Row}
+use Rattle.tsb_types.specs.declared.stage.Stage.{Stage}
+use Rattle.tsb_types.specs.declared.stage.Stage.TheVariants.{Track, Dwell, Exit}
+use Rattle.tsb_objects.specs.tsb_plan.declared.object.Object.TheVariants.{PatternCycleTime, PatternOffsetTime, SplitTime}
+use Rattle.tsb_objects.specs.tsb_plan.Parts.{is_included, split_index}
+use Rattle.tsb_objects.specs.tsb_plan.Plan.{phases, is_enabled}
+use Rattle.tsb_objects.specs.tsb_plan.Running.{split_in_effect}
+use Rattle.tsb_calls.specs.Memories as calls
+use Rattle.tsb_calls.specs.Standing as standing
+use Rattle.tsb_phase.specs.declared.cause.Cause.{Cause}
+use Rattle.tsb_phase.specs.declared.cause.Cause.TheVariants.{Gap, Maximum, ForceOff}
+use Rattle.tsb_phase.specs.Causes as causes
+use Rattle.tsb_phase.specs.Pedestrian.{ended_by}
+use Rattle.tsb_preempt.specs.Preempts as preempts
+use Rattle.tsb_preempt.specs.Preempts.{is_dwell, is_exit}
+use Rattle.tsb_step.specs.declared.inputs.Input.{Input}
+use Rattle.tsb_step.specs.declared.inputs.Input.TheVariants.{Tick}
+use Rattle.tsb_step.specs.State.{State, interval, pedestrian_part}
+use Rattle.tsb_step.specs.Signs.{display, stage}
+use Rattle.tsb_step.specs.Step.{step}
+use Rattle.tsb_step.specs.Tick.{runs, phases_given, phase_read, preempts_given, preempts_read}
+
+-- ## What a log sees of a state
+
+-- of phases, overlaps, vehicle detectors and preempts by their numbers
+pub record View : Type 0 where
+  -- phases: Green, in yellow change, in red clearance; Green with a maximum that times; in walk, in clearance
+  pub greens : ℕ → Bool
+  pub yellows : ℕ → Bool
+  pub red_clearances : ℕ → Bool
+  pub conflicts : ℕ → Bool
+  pub walks : ℕ → Bool
+  pub clearances : ℕ → Bool
+  -- phases with a vehicle call that are not Green, with a pedestrian call that are not in Walk
+  pub vehicle_calls : ℕ → Bool
+  pub pedestrian_calls : ℕ → Bool
+  -- overlaps: green, yellow; neither, with no phase in service that they include
+  pub overlap_greens : ℕ → Bool
+  pub overlap_yellows : ℕ → Bool
+  pub overlaps_off : ℕ → Bool
+  -- vehicle detectors with an alarm
+  pub alarms : ℕ → Bool
+  -- the preempt in service and its stage
+  pub stage : Option (ℕ × Stage)
+  -- a crossing is under way; the side that is served
+  pub crosses : Bool
+  pub side : ℕ
+  -- the monitor has tripped the controller
+  pub flashes : Bool
+
+-- the selected pattern; of the one that runs, cycle, offset and the split of each phase, in seconds, 0 in free operation
+pub record Selected : Type 0 where
+  pub pattern : Option ℕ
+  pub cycle : ℕ
+  pub offset : ℕ
+  pub split : ℕ → ℕ
+
+-- the interval of a phase; in flash no phase is in service
+abbrev pub shown_interval : State → ℕ → Interval
+shown_interval s p = if is_some s.trip then Red else interval s p
+
+-- its pedestrian part; in flash none walks
+abbrev pub shown_part : State → ℕ → PedestrianInterval
+shown_part s p = if is_some s.trip then DontWalk else pedestrian_part s p
+
+-- what calls are found from, in a state
+abbrev pub calls_now : State → calls.Given
+calls_now s = record {
+  output = λ d. (s.detectors d).output;
+  actuated = λ d. (s.detectors d).actuated;
+  button = λ d. false;
+  interval = interval s;
+  pedestrian_part = pedestrian_part s;
+  runs = runs s;
+  omitted = λ p. false;
+  service_ended = false;
+}
+
+-- a green head
+abbrev pub is_green_head : Aspect → Bool
+is_green_head aspects.Green = true
+is_green_head a = false
+
+-- a yellow head
+abbrev pub is_yellow_head : Aspect → Bool
+is_yellow_head aspects.Yellow = true
+is_yellow_head a = false
+
+-- some phase that the overlap includes is in service
+abbrev pub includes_service : State → ℕ → Bool
+includes_service s o = list_any (λ p. is_included s.plan o p && in_service (shown_interval s p)) (phases s.plan)
+
+-- its head is neither green nor yellow, and no such phase is in service
+abbrev pub is_off : Aspect → Bool → Bool
+is_off head serves = not (is_green_head head || is_yellow_head head) && not serves
+
+-- a value of the pattern that runs, or of its split table; 0 where there is none
+abbrev pub or_zero : Option ℕ → (ℕ → ℕ) → ℕ
+or_zero None value = 0
+or_zero (Some n) value = value n
+
+-- what a log sees
+unfoldable pub view : State → View
+view s = record {
+  greens = λ p. is_green (shown_interval s p);
+  yellows = λ p. is_yellow (shown_interval s p);
+  red_clearances = λ p. is_red_clear (shown_interval s p);
+  conflicts = λ p. is_green (shown_interval s p) && is_on (s.phases p).conflict;
+  walks = λ p. is_walk (shown_part s p);
+  clearances = λ p. is_clearance (shown_part s p);
+  vehicle_calls = standing.vehicle_call s.plan (calls_now s) s.memories;
+  pedestrian_calls = standing.pedestrian_call s.plan (calls_now s) s.memories;
+  overlap_greens = λ o. is_green_head ((display s).overlap o);
+  overlap_yellows = λ o. is_yellow_head ((display s).overlap o);
+  overlaps_off = λ o. is_off ((display s).overlap o) (includes_service s o);
+  alarms = λ d. is_some (s.detectors d).alarm;
+  stage = stage s;
+  crosses = is_some s.rings.crossing;
+  side = s.rings.side;
+  flashes = is_some s.trip;
+}
+
+-- and of the selected pattern
+unfoldable pub selected : State → Selected
+selected s = record {
+  pattern = s.pattern;
+  cycle = or_zero (runs s) (λ n. s.plan.value PatternCycleTime n);
+  offset = or_zero (runs s) (λ n. s.plan.value PatternOffsetTime n);
+  split = λ p. or_zero (split_in_effect s.plan (runs s)) (λ t. s.plan.value SplitTime (split_index s.plan t p));
+}
+
+-- ## What a tick alone tells
+
+-- which greens a tick ended by gap, by maximum, by force-off; the inputs that were on in the tick before and in this one;
+-- and whether the preempt in service has been served
+pub record Found : Type 0 where
+  pub gap : ℕ → Bool
+  pub maximum : ℕ → Bool
+  pub force_off : ℕ → Bool
+  pub last : Row
+  pub row : Row
+  pub served : Bool
+
+-- a tick with these inputs ended its green, and no preempt asked for it
+abbrev pub ends_freely : State → Row → State → ℕ → Bool
+ends_freely s row after p =
+    is_green (interval s p) && (is_yellow (interval after p) && is_none (ended_by (phases_given s row) p))
+
+-- what ended it
+abbrev pub cause_of : State → Row → State → ℕ → Option Cause
+cause_of s row after p =
+    if ends_freely s row after p then causes.cause s.plan (phases_given s row) p (phase_read s p) else None
+
+-- there is a cause, and it is this
+abbrev pub is_cause : Cause → Option Cause → Bool
+is_cause c None = false
+is_cause Gap (Some Gap) = true
+is_cause Maximum (Some Maximum) = true
+is_cause ForceOff (Some ForceOff) = true
+is_cause c (Some d) = false
+
+-- what a tick finds that leads from a state to this one; `last` is the row of the tick before
+abbrev pub found : Row → State → Row → State → Found
+found last s row after = record {
+  gap = λ p. is_cause Gap (cause_of s row after p);
+  maximum = λ p. is_cause Maximum (cause_of s row after p);
+  force_off = λ p. is_cause ForceOff (cause_of s row after p);
+  last = last;
+  row = row;
+  served = preempts.has_been_served s.plan (preempts_given s row) (preempts_read s);
+}
+
+-- ## Events
+
+-- `was` is what a log saw before an input, and `now` what it sees after it
+
+-- green begins, which has two codes; a conflict begins in a green
+abbrev pub green_events : ℕ → View → View → List Event
+green_events tick was now =
+    told tick PHASE_ON (begins was.greens now.greens) ++ told tick GREEN_BEGINS (begins was.greens now.greens)
+    ++ told tick CONFLICT_BEGINS (begins was.conflicts now.conflicts)
+
+-- how greens ended: by gap, by maximum, by force-off
+abbrev pub ending_events : ℕ → Found → List Event
+ending_events tick f =
+    told tick GAP_OUT f.gap ++ told tick MAX_OUT f.maximum ++ told tick FORCE_OFF f.force_off
+
+-- in one of the three
+abbrev pub some_of_three : (ℕ → Bool) → (ℕ → Bool) → (ℕ → Bool) → ℕ → Bool
+some_of_three one two three = either (either one two) three
+
+-- green ends, yellow and red clearance begin and end, the phase is no longer in service
+abbrev pub clearing_events : ℕ → View → View → List Event
+clearing_events tick was now =
+    told tick GREEN_ENDS (ends was.greens now.greens)
+    ++ told tick YELLOW_BEGINS (begins was.yellows now.yellows) ++ told tick YELLOW_ENDS (ends was.yellows now.yellows)
+    ++ told tick RED_CLEARANCE_BEGINS (begins was.red_clearances now.red_clearances)
+    ++ told tick RED_CLEARANCE_ENDS (ends was.red_clearances now.red_clearances)
+    ++ told tick PHASE_OFF (ends (some_of_three was.greens was.yellows was.red_clearances)
+    (some_of_three now.greens now.yellows now.red_clearances))
+
+-- walk begins, clearance begins, neither is any more
+abbrev pub pedestrian_events : ℕ → View → View → List Event
+pedestrian_events tick was now =
+    told tick WALK_BEGINS (begins was.walks now.walks)
+    ++ told tick CLEARANCE_BEGINS (begins was.clearances now.clearances)
+    ++ told tick DONT_WALK_BEGINS (ends (either was.walks was.clearances) (either now.walks now.clearances))
+
+-- a crossing of the barrier is completed; which side is served from now on
+abbrev pub crossing_events : ℕ → View → View → List Event
+crossing_events tick was now =
+    if was.crosses && not now.crosses then event tick BARRIER_CROSSED now.side ∷ [] else []
+
+-- a vehicle call comes, or goes; a pedestrian call comes
+abbrev pub call_events : ℕ → View → View → List Event
+call_events tick was now =
+    told tick CALL_COMES (begins was.vehicle_calls now.vehicle_calls)
+    ++ told tick CALL_GOES (ends was.vehicle_calls now.vehicle_calls)
+    ++ told tick PEDESTRIAN_CALL_COMES (begins was.pedestrian_calls now.pedestrian_calls)
+
+-- green begins, yellow begins, neither is any more, no included phase is in service either
+abbrev pub overlap_events : ℕ → View → View → List Event
+overlap_events tick was now =
+    told tick OVERLAP_GREEN_BEGINS (begins was.overlap_greens now.overlap_greens)
+    ++ told tick OVERLAP_YELLOW_BEGINS (begins was.overlap_yellows now.overlap_yellows)
+    ++ told tick OVERLAP_RED_BEGINS (ends (either was.overlap_greens was.overlap_yellows)
+    (either now.overlap_greens now.overlap_yellows))
+    ++ told tick OVERLAP_OFF (begins was.overlaps_off now.overlaps_off)
+
+-- vehicle inputs of the row go off, and on
+abbrev pub vehicle_input_events : ℕ → Found → List Event
+vehicle_input_events tick f =
+    told tick VEHICLE_OFF (ends (has_number f.last.vehicles) (has_number f.row.vehicles))
+    ++ told tick VEHICLE_ON (begins (has_number f.last.vehicles) (has_number f.row.vehicles))
+
+-- an alarm goes, or comes
+abbrev pub alarm_events : ℕ → View → View → List Event
+alarm_events tick was now =
+    told tick ALARM_GOES (ends was.alarms now.alarms) ++ told tick ALARM_COMES (begins was.alarms now.alarms)
+
+-- pedestrian inputs of the row go off, and on; preempt inputs go on, and off
+abbrev pub other_input_events : ℕ → Found → List Event
+other_input_events tick f =
+    told tick PEDESTRIAN_OFF (ends (has_number f.last.pedestrians) (has_number f.row.pedestrians))
+    ++ told tick PEDESTRIAN_ON (begins (has_number f.last.pedestrians) (has_number f.row.pedestrians))
+    ++ told tick PREEMPT_ON (begins (has_number f.last.preempts) (has_number f.row.preempts))
+    ++ told tick PREEMPT_OFF (ends (has_number f.last.preempts) (has_number f.row.preempts))
+
+-- a stage, whichever it is
+abbrev pub is_any : Stage → Bool
+is_any k = true
+
+-- the track's, beside the dwell's and the exit's
+abbrev pub is_track : Stage → Bool
+is_track Track = true
+is_track Dwell = false
+is_track Exit = false
+
+-- preempt n is in service, in a stage that passes a test
+abbrev pub serves : (Stage → Bool) → Option (ℕ × Stage) → ℕ → Bool
+serves test None n = false
+serves test (Some (m, k)) n = m == n && test k
+
+-- of such a stage: it is in service now, and was not
+abbrev pub enters : (Stage → Bool) → View → View → ℕ → Bool
+enters test was now = begins (serves test was.stage) (serves test now.stage)
+
+-- a preempt enters service, its track stage begins, its dwell
+abbrev pub preempt_events : ℕ → View → View → List Event
+preempt_events tick was now =
+    told tick PREEMPT_ENTERS (enters is_any was now) ++ told tick TRACK_BEGINS (enters is_track was now)
+    ++ told tick DWELL_BEGINS (enters is_dwell was now)
+
+-- its dwell is over: it is in its exit, or no preempt is in service
+abbrev pub leaves_dwell : View → View → ℕ → Bool
+leaves_dwell was now n = serves is_dwell was.stage n && (serves is_exit now.stage n || is_none now.stage)
+
+-- a dwell ends by the maximum presence, and would not end without it
+abbrev pub presence_events : ℕ → Found → View → View → List Event
+presence_events tick f was now = told tick PRESENCE_EXCEEDED (λ n. leaves_dwell was now n && not f.served)
+
+-- its exit begins
+abbrev pub exit_events : ℕ → View → View → List Event
+exit_events tick was now = told tick EXIT_BEGINS (enters is_exit was now)
+
+-- an event with a value that differs from the one before
+abbrev pub if_differs : ℕ → ℕ → ℕ → ℕ → List Event
+if_differs tick code before value = if before == value then [] else event tick code value ∷ []
+
+-- the splits that differ, of phases 1 to 16
+abbrev pub split_events : ℕ → Selected → Selected → List Event
+split_events tick was now =
+    flat_map (λ p. if_differs tick (SPLIT_CHANGES + p - 1) (was.split p) (now.split p)) (run_from 1 16)
+
+-- the selected pattern, where another is selected, with its cycle, offset and splits as far as these then differ
+abbrev pub pattern_events : ℕ → Selected → Selected → List Event
+pattern_events tick was now =
+    if option_eq nat_eq was.pattern now.pattern then [] else
+    (event tick PATTERN_CHANGES (or_number now.pattern FREE) ∷ [])
+    ++ if_differs tick CYCLE_CHANGES was.cycle now.cycle ++ if_differs tick OFFSET_CHANGES was.offset now.offset
+    ++ split_events tick was now
+
+-- a flash by the monitor begins, or ends
+abbrev pub flash_events : ℕ → View → View → List Event
+flash_events tick was now =
+    if now.flashes && not was.flashes then event tick FLASH_CHANGES FLASH ∷ []
+    else (if was.flashes && not now.flashes then event tick FLASH_CHANGES NO_FLASH ∷ [] else [])
+
+-- those of a tick that found this: by code, and those of one code by their parameters
+abbrev pub tick_events : ℕ → Found → View → View → List Event
+tick_events tick f was now =
+    green_events tick was now ++ ending_events tick f ++ clearing_events tick was now ++ pedestrian_events tick was now
+    ++ crossing_events tick was now ++ call_events tick was now ++ overlap_events tick was now
+    ++ vehicle_input_events tick f ++ alarm_events tick was now ++ other_input_events tick f
+    ++ preempt_events tick was now ++ presence_events tick f was now ++ exit_events tick was now
+    ++ flash_events tick was now
+
+-- and those of any other input
+abbrev pub other_events : ℕ → View → View → Selected → Selected → List Event
+other_events tick was now was_selected now_selected =
+    green_events tick was now ++ clearing_events tick was now ++ pedestrian_events tick was now
+    ++ call_events tick was now ++ overlap_events tick was now ++ alarm_events tick was now
+    ++ preempt_events tick was now ++ exit_events tick was now
+    ++ pattern_events tick was_selected now_selected ++ flash_events tick was now
+
+-- of an input that leads from a state to another
+abbrev pub events_between : Row → State → Input → State → List Event
+events_between last s (Tick row) after = tick_events after.now (found last s row after) (view s) (view after)
+events_between last s i after = other_events after.now (view s) (view after) (selected s) (selected after)
+
+-- the events of an input at a state; `last` is the row of the newest tick before it, with all off before the first
+unfoldable pub events_of : Row → State → Input → List Event
+events_of last s i = events_between last s i (step s i)

@@ -1,0 +1,102 @@
+//! Events of a controller, by the Indiana Traffic Signal Hi Resolution Data Logger Enumerations of 2012.
+
+/// An event of a controller's high-resolution log.
+#[derive(Clone, Copy, Default, PartialEq, Eq)]
+pub struct Event {
+    /// The number of the tick at which it comes, at most 9,999,999; a tick is a tenth of a second.
+    pub tick: u32,
+    /// What happened: one of the codes below.
+    pub code: u8,
+    /// The phase, overlap, detector, preempt or side to which it happened, or the value that came.
+    pub parameter: u8,
+}
+
+/// Phase on: a phase turns Green.
+pub const PHASE_ON: u8 = 0;
+/// Phase begin green: it comes with `PHASE_ON`.
+pub const GREEN_BEGINS: u8 = 1;
+/// Phase check: a conflict begins in a green, and its maximum begins to time.
+pub const CONFLICT_BEGINS: u8 = 2;
+/// Phase gap out: a green ends by its gap.
+pub const GAP_OUT: u8 = 4;
+/// Phase max out: a green ends by its maximum.
+pub const MAX_OUT: u8 = 5;
+/// Phase force off: a green ends by its force-off.
+pub const FORCE_OFF: u8 = 6;
+/// Phase green termination: a green ends, for whatever cause.
+pub const GREEN_ENDS: u8 = 7;
+/// Phase begin yellow clearance.
+pub const YELLOW_BEGINS: u8 = 8;
+/// Phase end yellow clearance.
+pub const YELLOW_ENDS: u8 = 9;
+/// Phase begin red clearance, where the plan gives one.
+pub const RED_CLEARANCE_BEGINS: u8 = 10;
+/// Phase end red clearance.
+pub const RED_CLEARANCE_ENDS: u8 = 11;
+/// Phase inactive: it is no longer in service.
+pub const PHASE_OFF: u8 = 12;
+/// Pedestrian begin walk.
+pub const WALK_BEGINS: u8 = 21;
+/// Pedestrian begin clearance.
+pub const CLEARANCE_BEGINS: u8 = 22;
+/// Pedestrian begin solid don't walk: it was walk or clearance, and is neither.
+pub const DONT_WALK_BEGINS: u8 = 23;
+/// Barrier termination: a crossing is completed. The parameter is the side that is served from now on (profile).
+pub const BARRIER_CROSSED: u8 = 31;
+/// Phase call registered: the vehicle call of a phase that is not Green comes, a recall's as well (profile).
+pub const CALL_COMES: u8 = 43;
+/// Phase call dropped: it is served, or goes.
+pub const CALL_GOES: u8 = 44;
+/// Pedestrian call registered.
+pub const PEDESTRIAN_CALL_COMES: u8 = 45;
+/// Overlap begin green.
+pub const OVERLAP_GREEN_BEGINS: u8 = 61;
+/// Overlap begin yellow.
+pub const OVERLAP_YELLOW_BEGINS: u8 = 63;
+/// Overlap begin red clearance: it was green or yellow, and is neither.
+pub const OVERLAP_RED_BEGINS: u8 = 64;
+/// Overlap off: it is neither green nor yellow, and no phase that it includes is in service (profile).
+pub const OVERLAP_OFF: u8 = 65;
+/// Vehicle detector off, before the plan's delay and extension.
+pub const VEHICLE_OFF: u8 = 81;
+/// Vehicle detector on.
+pub const VEHICLE_ON: u8 = 82;
+/// Vehicle detector restored: its alarm goes.
+pub const ALARM_GOES: u8 = 83;
+/// Vehicle detector fault: an alarm comes, of whatever kind (profile).
+pub const ALARM_COMES: u8 = 84;
+/// Pedestrian detector off.
+pub const PEDESTRIAN_OFF: u8 = 89;
+/// Pedestrian detector on.
+pub const PEDESTRIAN_ON: u8 = 90;
+/// Preempt call input on.
+pub const PREEMPT_ON: u8 = 102;
+/// Preempt call input off.
+pub const PREEMPT_OFF: u8 = 104;
+/// Preempt entry started: a preempt enters service.
+pub const PREEMPT_ENTERS: u8 = 105;
+/// Preemption begin track clearance.
+pub const TRACK_BEGINS: u8 = 106;
+/// Preemption begin dwell service.
+pub const DWELL_BEGINS: u8 = 107;
+/// Preemption max presence exceeded: dwell ends by it, and would not end without it.
+pub const PRESENCE_EXCEEDED: u8 = 110;
+/// Preemption begin exit interval.
+pub const EXIT_BEGINS: u8 = 111;
+/// Coord pattern change: the number of the selected pattern, or `FREE`.
+pub const PATTERN_CHANGES: u8 = 131;
+/// Cycle length change, in seconds; 0 in free operation (profile).
+pub const CYCLE_CHANGES: u8 = 132;
+/// Offset length change, in seconds.
+pub const OFFSET_CHANGES: u8 = 133;
+/// Split change of phase 1, in seconds; those of phases 2 to 16 follow it.
+pub const SPLIT_CHANGES: u8 = 134;
+/// Unit flash status change: `FLASH` or `NO_FLASH`.
+pub const FLASH_CHANGES: u8 = 173;
+
+/// The parameter of `PATTERN_CHANGES` in free operation, as NTCIP 1202's coordPatternStatus has it.
+pub const FREE: u8 = 254;
+/// The parameter of `FLASH_CHANGES` where a flash begins: by the monitor, as in NTCIP 1202's unitFlashStatus.
+pub const FLASH: u8 = 6;
+/// The parameter of `FLASH_CHANGES` where a flash ends.
+pub const NO_FLASH: u8 = 2;
