@@ -1,6 +1,5 @@
 pub mod LetterLemmas
 pub mod SameLemmas
-pub mod NumberLemmas
 pub mod LawLemmas
 pub mod LineLemmas
 pub mod ReplayLemmas

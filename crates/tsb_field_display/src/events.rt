@@ -1,19 +1,17 @@
 //! The events of a change of what is shown.
 ghost use Rattle.std.specs.Prelude.{◌≡◌, ◌+◌, ◌++◌, ◌≤◌};
 ghost use Rattle.arrayvec.specs.ArrayVec.{array_vec_len};
-ghost use Rattle.tsb_types.specs.Sets.{has_number};
 ghost use Rattle.tsb_types.specs.Lists.{is};
-ghost use Rattle.tsb_types.specs.Events.{begins, either, told};
 ghost use Rattle.tsb_field_display.specs.Events.{events_of, flash_events, is_in_flash, overlap_events, pedestrian_events, preempt_events, vehicle_events};
 
 use crate::shown::{Shown, Signals, same};
 use arrayvec::ArrayVec;
+use tsb_types::Event;
 use tsb_types::event::{
     CLEARANCE_BEGINS, DONT_WALK_BEGINS, FLASH, FLASH_CHANGES, GREEN_BEGINS, GREEN_ENDS, NO_FLASH,
     OVERLAP_GREEN_BEGINS, OVERLAP_RED_BEGINS, OVERLAP_YELLOW_BEGINS, PREEMPT_ENTERS, WALK_BEGINS,
-    YELLOW_BEGINS, YELLOW_ENDS,
+    YELLOW_BEGINS, YELLOW_ENDS, begun, joined, tell,
 };
-use tsb_types::{Event, NumberSet};
 
 /// The most events of one change.
 pub const EVENTS: usize = 162;
@@ -37,37 +35,6 @@ pub fn events_between(before: &Signals, now: &Shown) -> Events
     tell_preempt(&mut events, before, now);
     tell_flash(&mut events, before, now);
     events
-}
-
-/// Adds an event for each number of a set, the least first.
-fn tell(events: &mut Events, tick: u32, code: u8, numbers: NumberSet)
-    requires { array_vec_len events.old + 16 ≤ 162 }
-    ensures told { events.new.items ≡ events.old.items ++ told tick code (has_number numbers) }
-    ensures few { array_vec_len events.new ≤ array_vec_len events.old + 16 }
-{
-    let mut rest = numbers;
-    while let Some(number) = rest.first() {
-        rest = rest.with(number, false);
-        events.push(Event {
-            tick,
-            code,
-            parameter: number,
-        });
-    }
-}
-
-/// The numbers that are in a set now and were not.
-fn begun(before: NumberSet, now: NumberSet) -> NumberSet
-    ensures { has_number result ≡ begins (has_number before) (has_number now) }
-{
-    now.difference(before)
-}
-
-/// The numbers of either set.
-fn joined(one: NumberSet, other: NumberSet) -> NumberSet
-    ensures { has_number result ≡ either (has_number one) (has_number other) }
-{
-    one.union(other)
 }
 
 /// Adds the events of vehicle heads.

@@ -2,13 +2,13 @@
 //! and their parameters are the numbers of the inputs.
 ghost use Rattle.std.specs.Prelude.{◌≡◌, ◌++◌, OnOk};
 ghost use Rattle.tsb_types.specs.Sets.{has_number};
-ghost use Rattle.tsb_types.specs.Events.{begins, told};
+ghost use Rattle.tsb_types.specs.Events.{told};
 ghost use Rattle.tsb_field_events.specs.Inputs.{events_of_row, events_of_rows, pedestrian_input_events, preempt_input_events, vehicle_input_events};
 
 use std::alloc::AllocError;
 use tsb_log_text::LogRow;
 use tsb_types::event::{
-    PEDESTRIAN_OFF, PEDESTRIAN_ON, PREEMPT_OFF, PREEMPT_ON, VEHICLE_OFF, VEHICLE_ON,
+    PEDESTRIAN_OFF, PEDESTRIAN_ON, PREEMPT_OFF, PREEMPT_ON, VEHICLE_OFF, VEHICLE_ON, begun,
 };
 use tsb_types::{Event, NumberSet, Row};
 
@@ -82,11 +82,4 @@ fn tell(events: &mut Vec<Event>, tick: u32, code: u8, numbers: NumberSet) -> Res
         })?;
     }
     Ok(())
-}
-
-/// The numbers that are in a set now and were not.
-fn begun(before: NumberSet, now: NumberSet) -> NumberSet
-    ensures { has_number result ≡ begins (has_number before) (has_number now) }
-{
-    now.difference(before)
 }

@@ -5,3 +5,5 @@ pub mod SetLemmas
 pub mod FirstLemmas
 pub mod OptionLemmas
 pub mod IntervalLemmas
+pub mod NumberLemmas
+pub mod EventLemmas

@@ -1,4 +1,11 @@
 //! Events of a controller, by the Indiana Traffic Signal Hi Resolution Data Logger Enumerations of 2012.
+ghost use Rattle.std.specs.Prelude.{◌≡◌, ◌+◌, ◌++◌, ◌≤◌};
+ghost use Rattle.arrayvec.specs.ArrayVec.{array_vec_len};
+ghost use Rattle.tsb_types.specs.Events.{begins, either, told};
+ghost use Rattle.tsb_types.specs.Sets.{has_number};
+
+use crate::number_set::NumberSet;
+use arrayvec::ArrayVec;
 
 /// An event of a controller's high-resolution log.
 #[derive(Clone, Copy, Default, PartialEq, Eq)]
@@ -100,3 +107,39 @@ pub const FREE: u8 = 254;
 pub const FLASH: u8 = 6;
 /// The parameter of `FLASH_CHANGES` where a flash ends.
 pub const NO_FLASH: u8 = 2;
+
+/// Adds an event for each number of a set to others, the least first. There must be room for 16.
+pub fn tell<const N: usize>(
+    events: &mut ArrayVec<Event, N>,
+    tick: u32,
+    code: u8,
+    numbers: NumberSet,
+)
+    requires { array_vec_len events.old + 16 ≤ N }
+    ensures told { events.new.items ≡ events.old.items ++ told tick code (has_number numbers) }
+    ensures few { array_vec_len events.new ≤ array_vec_len events.old + 16 }
+{
+    let mut rest = numbers;
+    while let Some(number) = rest.first() {
+        rest = rest.with(number, false);
+        events.push(Event {
+            tick,
+            code,
+            parameter: number,
+        });
+    }
+}
+
+/// The numbers that are in a set now and were not.
+pub fn begun(before: NumberSet, now: NumberSet) -> NumberSet
+    ensures { has_number result ≡ begins (has_number before) (has_number now) }
+{
+    now.difference(before)
+}
+
+/// The numbers of either set.
+pub fn joined(one: NumberSet, other: NumberSet) -> NumberSet
+    ensures { has_number result ≡ either (has_number one) (has_number other) }
+{
+    one.union(other)
+}

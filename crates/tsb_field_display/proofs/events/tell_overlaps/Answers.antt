@@ -1,6 +1,6 @@
 use Rattle.std.proofs.Common.{◌∙◌}
 use Rattle.tsb_types.specs.Events.{begins}
-use Rattle.tsb_field_display.proofs.EventLemmas.{more, told-by}
+use Rattle.tsb_types.proofs.EventLemmas.{more, told-by}
 use Rattle.tsb_field_display.proofs.events.tell_overlaps.Goals as goal
 
 pub returns-clause-told : goal.returns-clause-told

@@ -1,4 +1,4 @@
-use Rattle.tsb_field_display.proofs.EventLemmas.{more, told-by}
+use Rattle.tsb_types.proofs.EventLemmas.{more, told-by}
 use Rattle.tsb_field_display.proofs.events.tell_vehicles.Goals as goal
 
 pub returns-clause-told : goal.returns-clause-told

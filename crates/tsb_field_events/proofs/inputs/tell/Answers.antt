@@ -1,7 +1,7 @@
 use Rattle.std.proofs.Common.{◌∙◌}
 use Rattle.tsb_types.specs.Sets.{has_number}
-use Rattle.tsb_field_display.proofs.NumberLemmas.{numbers-least}
-use Rattle.tsb_field_display.proofs.EventLemmas.{tell-next, tell-end}
+use Rattle.tsb_types.proofs.NumberLemmas.{numbers-least}
+use Rattle.tsb_types.proofs.EventLemmas.{tell-next, tell-end}
 use Rattle.tsb_field_events.proofs.inputs.tell.Goals as goal
 
 pub loop-number-preserved : goal.loop-number-preserved

@@ -1,5 +1,5 @@
 use Rattle.std.proofs.Math.Path.{fun_ext}
-use Rattle.tsb_field_display.proofs.events.joined.Goals as goal
+use Rattle.tsb_types.proofs.event.joined.Goals as goal
 
 pub returns : goal.returns
 returns c = fun_ext c.union.ensures

@@ -1,14 +1,14 @@
 use Rattle.std.proofs.Common.{◌∙◌, refl, arith, ap, ℕ, List, length}
 use Rattle.tsb_types.specs.Sets.{has_number}
-use Rattle.tsb_field_display.proofs.NumberLemmas.{few-numbers, numbers-least}
-use Rattle.tsb_field_display.proofs.EventLemmas.{tell-next, tell-end}
-use Rattle.tsb_field_display.proofs.events.tell.Goals as goal
+use Rattle.tsb_types.proofs.NumberLemmas.{few-numbers, numbers-least}
+use Rattle.tsb_types.proofs.EventLemmas.{tell-next, tell-end}
+use Rattle.tsb_types.proofs.event.tell.Goals as goal
 
 pub loop-number-init : goal.loop-number-init
-loop-number-init c = record { told = refl; room = omega (arith, few-numbers (has_number c.args.numbers)) }
+loop-number-init g c = record { told = refl; room = omega (arith, few-numbers (has_number c.args.numbers)) }
 
 pub push-requires : goal.push-requires
-push-requires c =
+push-requires g c =
     let found = c.in-Some.ensures in
     let least = numbers-least (has_number c.loop-number.rest) (has_number c.with-rest.result) c.in-Some.number found.from_one found.within
     found.had c.with-rest.ensures.set found.least c.with-rest.ensures.others in
@@ -16,7 +16,7 @@ push-requires c =
     (omega arith, omega (arith, more, c.loop-number.invariant.room, c.requires))
 
 pub loop-number-preserved : goal.loop-number-preserved
-loop-number-preserved c =
+loop-number-preserved g c =
     let found = c.in-Some.ensures in
     let held = c.loop-number.invariant in
     let least = numbers-least (has_number c.loop-number.rest) (has_number c.with-rest.result) c.in-Some.number found.from_one found.within
@@ -28,4 +28,4 @@ loop-number-preserved c =
     }
 
 pub returns-clause-told : goal.returns-clause-told
-returns-clause-told c = tell-end _ _ _ _ _ (c.first.ensures.none c.in_default.is) c.loop-number.invariant.told
+returns-clause-told g c = tell-end _ _ _ _ _ (c.first.ensures.none c.in_default.is) c.loop-number.invariant.told
