@@ -62,8 +62,12 @@ pub record View : Type 0 where
   pub overlaps_off : ℕ → Bool
   -- vehicle detectors with an alarm
   pub alarms : ℕ → Bool
-  -- the preempt in service and its stage
-  pub stage : Option (ℕ × Stage)
+  -- preempts in service; in their track stage, in their dwell, in their exit; whether there is one in service
+  pub preempts : ℕ → Bool
+  pub tracks : ℕ → Bool
+  pub dwells : ℕ → Bool
+  pub exits : ℕ → Bool
+  pub is_preempted : Bool
   -- a crossing is under way; the side that is served
   pub crosses : Bool
   pub side : ℕ
@@ -121,6 +125,17 @@ abbrev pub or_zero : Option ℕ → (ℕ → ℕ) → ℕ
 or_zero None value = 0
 or_zero (Some n) value = value n
 
+-- a track stage, beside the dwell's and the exit's
+abbrev pub is_track : Stage → Bool
+is_track Track = true
+is_track Dwell = false
+is_track Exit = false
+
+-- preempt n is in service, in a stage that passes a test
+abbrev pub serves : (Stage → Bool) → Option (ℕ × Stage) → ℕ → Bool
+serves test None n = false
+serves test (Some (m, k)) n = m == n && test k
+
 -- what a log sees
 unfoldable pub view : State → View
 view s = record {
@@ -136,7 +151,11 @@ view s = record {
   overlap_yellows = λ o. is_yellow_head ((display s).overlap o);
   overlaps_off = λ o. is_off ((display s).overlap o) (includes_service s o);
   alarms = λ d. is_some (s.detectors d).alarm;
-  stage = stage s;
+  preempts = serves (λ k. true) (stage s);
+  tracks = serves is_track (stage s);
+  dwells = serves is_dwell (stage s);
+  exits = serves is_exit (stage s);
+  is_preempted = is_some (stage s);
   crosses = is_some s.rings.crossing;
   side = s.rings.side;
   flashes = is_some s.trip;
@@ -207,9 +226,9 @@ abbrev pub ending_events : ℕ → Found → List Event
 ending_events tick f =
     told tick GAP_OUT f.gap ++ told tick MAX_OUT f.maximum ++ told tick FORCE_OFF f.force_off
 
--- in one of the three
-abbrev pub some_of_three : (ℕ → Bool) → (ℕ → Bool) → (ℕ → Bool) → ℕ → Bool
-some_of_three one two three = either (either one two) three
+-- in service: green, in yellow change or in red clearance
+abbrev pub serving : View → ℕ → Bool
+serving v = either (either v.greens v.yellows) v.red_clearances
 
 -- green ends, yellow and red clearance begin and end, the phase is no longer in service
 abbrev pub clearing_events : ℕ → View → View → List Event
@@ -218,8 +237,7 @@ clearing_events tick was now =
     ++ told tick YELLOW_BEGINS (begins was.yellows now.yellows) ++ told tick YELLOW_ENDS (ends was.yellows now.yellows)
     ++ told tick RED_CLEARANCE_BEGINS (begins was.red_clearances now.red_clearances)
     ++ told tick RED_CLEARANCE_ENDS (ends was.red_clearances now.red_clearances)
-    ++ told tick PHASE_OFF (ends (some_of_three was.greens was.yellows was.red_clearances)
-    (some_of_three now.greens now.yellows now.red_clearances))
+    ++ told tick PHASE_OFF (ends (serving was) (serving now))
 
 -- walk begins, clearance begins, neither is any more
 abbrev pub pedestrian_events : ℕ → View → View → List Event
@@ -268,34 +286,15 @@ other_input_events tick f =
     ++ told tick PREEMPT_ON (begins (has_number f.last.preempts) (has_number f.row.preempts))
     ++ told tick PREEMPT_OFF (ends (has_number f.last.preempts) (has_number f.row.preempts))
 
--- a stage, whichever it is
-abbrev pub is_any : Stage → Bool
-is_any k = true
-
--- the track's, beside the dwell's and the exit's
-abbrev pub is_track : Stage → Bool
-is_track Track = true
-is_track Dwell = false
-is_track Exit = false
-
--- preempt n is in service, in a stage that passes a test
-abbrev pub serves : (Stage → Bool) → Option (ℕ × Stage) → ℕ → Bool
-serves test None n = false
-serves test (Some (m, k)) n = m == n && test k
-
--- of such a stage: it is in service now, and was not
-abbrev pub enters : (Stage → Bool) → View → View → ℕ → Bool
-enters test was now = begins (serves test was.stage) (serves test now.stage)
-
 -- a preempt enters service, its track stage begins, its dwell
 abbrev pub preempt_events : ℕ → View → View → List Event
 preempt_events tick was now =
-    told tick PREEMPT_ENTERS (enters is_any was now) ++ told tick TRACK_BEGINS (enters is_track was now)
-    ++ told tick DWELL_BEGINS (enters is_dwell was now)
+    told tick PREEMPT_ENTERS (begins was.preempts now.preempts) ++ told tick TRACK_BEGINS (begins was.tracks now.tracks)
+    ++ told tick DWELL_BEGINS (begins was.dwells now.dwells)
 
 -- its dwell is over: it is in its exit, or no preempt is in service
 abbrev pub leaves_dwell : View → View → ℕ → Bool
-leaves_dwell was now n = serves is_dwell was.stage n && (serves is_exit now.stage n || is_none now.stage)
+leaves_dwell was now n = was.dwells n && (now.exits n || not now.is_preempted)
 
 -- a dwell ends by the maximum presence, and would not end without it
 abbrev pub presence_events : ℕ → Found → View → View → List Event
@@ -303,7 +302,7 @@ presence_events tick f was now = told tick PRESENCE_EXCEEDED (λ n. leaves_dwell
 
 -- its exit begins
 abbrev pub exit_events : ℕ → View → View → List Event
-exit_events tick was now = told tick EXIT_BEGINS (enters is_exit was now)
+exit_events tick was now = told tick EXIT_BEGINS (begins was.exits now.exits)
 
 -- an event with a value that differs from the one before
 abbrev pub if_differs : ℕ → ℕ → ℕ → ℕ → List Event

@@ -1,0 +1,137 @@
+-- Views that agree on the numbers 1 to 16 tell the same events.
+use Rattle.std.proofs.Common.{◌≡◌, ℕ, ◌+◌, ◌<◌, ◌≤◌, Bool, not, ◌&&◌, ◌||◌, zero, suc, List, [], ◌∷◌, ◌++◌, map, filter, if◌then◌else◌, refl, ap, arith}
+use Rattle.tsb_types.specs.Lists.{run_from}
+use Rattle.tsb_types.specs.Sets.{has_number}
+use Rattle.tsb_types.specs.Events.{event, told, begins, either}
+use Rattle.tsb_types.specs.declared.event.TheConstants as codes
+use Rattle.tsb_step.specs.Events as events
+use Rattle.tsb_step.specs.Events.{View, Found, Selected}
+use Rattle.tsb_events.specs.Agree.{Agree, AgreeInAll, AgreeInFound}
+
+filter-within : (f g : ℕ → Bool) (a n : ℕ) → ((k : ℕ) → a ≤ k → k < a + n → f k ≡ g k) → filter f (run_from a n) ≡ filter g (run_from a n)
+unfolding run_from
+filter-within f g a zero same = refl
+filter-within f g a (suc n) same =
+    rw (same a (omega arith) (omega arith))
+    (ap (λ (ks : List ℕ). if g a then a ∷ ks else ks)
+    (filter-within f g (a + 1) n (λ k from below. same k (omega (arith, from)) (omega (arith, below)))))
+
+told-same : (tick code : ℕ) (f g : ℕ → Bool) → Agree f g → told tick code f ≡ told tick code g
+told-same tick code f g same =
+    ap (λ (ns : List ℕ). map (λ n. event tick code n) ns)
+    (filter-within f g 1 16 (λ k from below. same k from (omega (arith, below))))
+
+agree-either : (f g h k : ℕ → Bool) → Agree f g → Agree h k → Agree (either f h) (either g k)
+agree-either f g h k one other n from to = λ i. one n from to i || other n from to i
+
+agree-begins : (f g h k : ℕ → Bool) → Agree f g → Agree h k → Agree (begins f h) (begins g k)
+agree-begins f g h k was now n from to = λ i. now n from to i && not (was n from to i)
+
+-- what begins, and so what ends, is told the same
+begun-same : (tick code : ℕ) (f g h k : ℕ → Bool) → Agree f g → Agree h k → told tick code (begins f h) ≡ told tick code (begins g k)
+begun-same tick code f g h k was now = told-same tick code (begins f h) (begins g k) (agree-begins f g h k was now)
+
+-- ## Group by group
+
+green-same : (tick : ℕ) (v w x y : View) → AgreeInAll v w → AgreeInAll x y → events.green_events tick v x ≡ events.green_events tick w y
+green-same tick v w x y was now =
+    λ i. begun-same tick codes.PHASE_ON _ _ _ _ was.greens now.greens i ++ begun-same tick codes.GREEN_BEGINS _ _ _ _ was.greens now.greens i
+    ++ begun-same tick codes.CONFLICT_BEGINS _ _ _ _ was.conflicts now.conflicts i
+
+ending-same : (tick : ℕ) (f g : Found) → AgreeInFound f g → events.ending_events tick f ≡ events.ending_events tick g
+ending-same tick f g same =
+    λ i. told-same tick codes.GAP_OUT _ _ same.gap i ++ told-same tick codes.MAX_OUT _ _ same.maximum i
+    ++ told-same tick codes.FORCE_OFF _ _ same.force_off i
+
+serving-agree : (v w : View) → AgreeInAll v w → Agree (events.serving v) (events.serving w)
+serving-agree v w same = agree-either _ _ _ _ (agree-either _ _ _ _ same.greens same.yellows) same.red_clearances
+
+clearing-same : (tick : ℕ) (v w x y : View) → AgreeInAll v w → AgreeInAll x y → events.clearing_events tick v x ≡ events.clearing_events tick w y
+clearing-same tick v w x y was now =
+    λ i. begun-same tick codes.GREEN_ENDS _ _ _ _ now.greens was.greens i
+    ++ begun-same tick codes.YELLOW_BEGINS _ _ _ _ was.yellows now.yellows i
+    ++ begun-same tick codes.YELLOW_ENDS _ _ _ _ now.yellows was.yellows i
+    ++ begun-same tick codes.RED_CLEARANCE_BEGINS _ _ _ _ was.red_clearances now.red_clearances i
+    ++ begun-same tick codes.RED_CLEARANCE_ENDS _ _ _ _ now.red_clearances was.red_clearances i
+    ++ begun-same tick codes.PHASE_OFF _ _ _ _ (serving-agree _ _ now) (serving-agree _ _ was) i
+
+pedestrian-same : (tick : ℕ) (v w x y : View) → AgreeInAll v w → AgreeInAll x y →
+    events.pedestrian_events tick v x ≡ events.pedestrian_events tick w y
+pedestrian-same tick v w x y was now =
+    λ i. begun-same tick codes.WALK_BEGINS _ _ _ _ was.walks now.walks i
+    ++ begun-same tick codes.CLEARANCE_BEGINS _ _ _ _ was.clearances now.clearances i
+    ++ begun-same tick codes.DONT_WALK_BEGINS _ _ _ _ (agree-either _ _ _ _ now.walks now.clearances) (agree-either _ _ _ _ was.walks was.clearances) i
+
+crossing-same : (tick : ℕ) (v w x y : View) → AgreeInAll v w → AgreeInAll x y → events.crossing_events tick v x ≡ events.crossing_events tick w y
+crossing-same tick v w x y was now =
+    λ i. if was.crosses i && not (now.crosses i) then event tick codes.BARRIER_CROSSED (now.side i) ∷ [] else []
+
+call-same : (tick : ℕ) (v w x y : View) → AgreeInAll v w → AgreeInAll x y → events.call_events tick v x ≡ events.call_events tick w y
+call-same tick v w x y was now =
+    λ i. begun-same tick codes.CALL_COMES _ _ _ _ was.vehicle_calls now.vehicle_calls i
+    ++ begun-same tick codes.CALL_GOES _ _ _ _ now.vehicle_calls was.vehicle_calls i
+    ++ begun-same tick codes.PEDESTRIAN_CALL_COMES _ _ _ _ was.pedestrian_calls now.pedestrian_calls i
+
+overlap-same : (tick : ℕ) (v w x y : View) → AgreeInAll v w → AgreeInAll x y → events.overlap_events tick v x ≡ events.overlap_events tick w y
+overlap-same tick v w x y was now =
+    λ i. begun-same tick codes.OVERLAP_GREEN_BEGINS _ _ _ _ was.overlap_greens now.overlap_greens i
+    ++ begun-same tick codes.OVERLAP_YELLOW_BEGINS _ _ _ _ was.overlap_yellows now.overlap_yellows i
+    ++ begun-same tick codes.OVERLAP_RED_BEGINS _ _ _ _ (agree-either _ _ _ _ now.overlap_greens now.overlap_yellows)
+    (agree-either _ _ _ _ was.overlap_greens was.overlap_yellows) i
+    ++ begun-same tick codes.OVERLAP_OFF _ _ _ _ was.overlaps_off now.overlaps_off i
+
+vehicle-input-same : (tick : ℕ) (f g : Found) → AgreeInFound f g → events.vehicle_input_events tick f ≡ events.vehicle_input_events tick g
+vehicle-input-same tick f g same =
+    λ i. told tick codes.VEHICLE_OFF (begins (has_number (same.row i).vehicles) (has_number (same.last i).vehicles))
+    ++ told tick codes.VEHICLE_ON (begins (has_number (same.last i).vehicles) (has_number (same.row i).vehicles))
+
+alarm-same : (tick : ℕ) (v w x y : View) → AgreeInAll v w → AgreeInAll x y → events.alarm_events tick v x ≡ events.alarm_events tick w y
+alarm-same tick v w x y was now =
+    λ i. begun-same tick codes.ALARM_GOES _ _ _ _ now.alarms was.alarms i
+    ++ begun-same tick codes.ALARM_COMES _ _ _ _ was.alarms now.alarms i
+
+other-input-same : (tick : ℕ) (f g : Found) → AgreeInFound f g → events.other_input_events tick f ≡ events.other_input_events tick g
+other-input-same tick f g same =
+    λ i. told tick codes.PEDESTRIAN_OFF (begins (has_number (same.row i).pedestrians) (has_number (same.last i).pedestrians))
+    ++ told tick codes.PEDESTRIAN_ON (begins (has_number (same.last i).pedestrians) (has_number (same.row i).pedestrians))
+    ++ told tick codes.PREEMPT_ON (begins (has_number (same.last i).preempts) (has_number (same.row i).preempts))
+    ++ told tick codes.PREEMPT_OFF (begins (has_number (same.row i).preempts) (has_number (same.last i).preempts))
+
+preempt-same : (tick : ℕ) (v w x y : View) → AgreeInAll v w → AgreeInAll x y → events.preempt_events tick v x ≡ events.preempt_events tick w y
+preempt-same tick v w x y was now =
+    λ i. begun-same tick codes.PREEMPT_ENTERS _ _ _ _ was.preempts now.preempts i
+    ++ begun-same tick codes.TRACK_BEGINS _ _ _ _ was.tracks now.tracks i
+    ++ begun-same tick codes.DWELL_BEGINS _ _ _ _ was.dwells now.dwells i
+
+presence-same : (tick : ℕ) (f g : Found) (v w x y : View) → AgreeInFound f g → AgreeInAll v w → AgreeInAll x y →
+    events.presence_events tick f v x ≡ events.presence_events tick g w y
+presence-same tick f g v w x y same was now =
+    told-same tick codes.PRESENCE_EXCEEDED _ _
+    (λ n from to i. (was.dwells n from to i && (now.exits n from to i || not (now.is_preempted i))) && not (same.served i))
+
+exit-same : (tick : ℕ) (v w x y : View) → AgreeInAll v w → AgreeInAll x y → events.exit_events tick v x ≡ events.exit_events tick w y
+exit-same tick v w x y was now = begun-same tick codes.EXIT_BEGINS _ _ _ _ was.exits now.exits
+
+flash-same : (tick : ℕ) (v w x y : View) → AgreeInAll v w → AgreeInAll x y → events.flash_events tick v x ≡ events.flash_events tick w y
+flash-same tick v w x y was now =
+    λ i. if now.flashes i && not (was.flashes i) then event tick codes.FLASH_CHANGES codes.FLASH ∷ []
+    else (if was.flashes i && not (now.flashes i) then event tick codes.FLASH_CHANGES codes.NO_FLASH ∷ [] else [])
+
+-- ## All groups
+
+pub ticks-same : (tick : ℕ) (f g : Found) (v w x y : View) → AgreeInFound f g → AgreeInAll v w → AgreeInAll x y →
+    events.tick_events tick f v x ≡ events.tick_events tick g w y
+ticks-same tick f g v w x y same was now =
+    λ i. green-same tick v w x y was now i ++ ending-same tick f g same i ++ clearing-same tick v w x y was now i
+    ++ pedestrian-same tick v w x y was now i ++ crossing-same tick v w x y was now i ++ call-same tick v w x y was now i
+    ++ overlap-same tick v w x y was now i ++ vehicle-input-same tick f g same i ++ alarm-same tick v w x y was now i
+    ++ other-input-same tick f g same i ++ preempt-same tick v w x y was now i
+    ++ presence-same tick f g v w x y same was now i ++ exit-same tick v w x y was now i ++ flash-same tick v w x y was now i
+
+pub others-same : (tick : ℕ) (v w x y : View) (s t : Selected) → AgreeInAll v w → AgreeInAll x y →
+    events.other_events tick v x s t ≡ events.other_events tick w y s t
+others-same tick v w x y s t was now =
+    λ i. green-same tick v w x y was now i ++ clearing-same tick v w x y was now i
+    ++ pedestrian-same tick v w x y was now i ++ call-same tick v w x y was now i ++ overlap-same tick v w x y was now i
+    ++ alarm-same tick v w x y was now i ++ preempt-same tick v w x y was now i ++ exit-same tick v w x y was now i
+    ++ events.pattern_events tick s t ++ flash-same tick v w x y was now i

@@ -1,0 +1,219 @@
+-- What the definition gives, by computing: each code of the table in a change of its own.
+use Rattle.std.specs.Prelude.{◌≡◌, ℕ, ◌==◌, Bool, true, false, [], ◌∷◌, Some, None, if◌then◌else◌, refl}
+use Rattle.tsb_types.specs.Events.{event}
+use Rattle.tsb_types.specs.Lists.{run_from}
+use Rattle.tsb_types.specs.Sets.{all_off, set_of_list}
+use Rattle.tsb_types.specs.declared.row.Row.{Row}
+use Rattle.tsb_step.specs.Events as events
+
+-- what a computed line opens
+unfoldable pub opened : Unit {0}
+unfolding run_from
+opened = tt
+
+abbrev none : ℕ → Bool
+none n = false
+
+abbrev only : ℕ → ℕ → Bool
+only m n = m == n
+
+-- inputs by the lists that name them: vehicles, pedestrians, preempts
+abbrev inputs : ℕ → ℕ → ℕ → Row
+inputs v w p = record { vehicles = set_of_list v; pedestrians = set_of_list w; preempts = set_of_list p }
+
+-- nothing is lit, called or in service
+abbrev dark : events.View
+dark = record {
+  greens = none;
+  yellows = none;
+  red_clearances = none;
+  conflicts = none;
+  walks = none;
+  clearances = none;
+  vehicle_calls = none;
+  pedestrian_calls = none;
+  overlap_greens = none;
+  overlap_yellows = none;
+  overlaps_off = none;
+  alarms = none;
+  preempts = none;
+  tracks = none;
+  dwells = none;
+  exits = none;
+  is_preempted = false;
+  crosses = false;
+  side = 1;
+  flashes = false;
+}
+
+-- a tick that finds nothing
+abbrev quiet : events.Found
+quiet = record { gap = none; maximum = none; force_off = none; last = all_off; row = all_off; served = false }
+
+-- free operation, and a pattern of 90 seconds with splits for phases 1 and 16
+abbrev free : events.Selected
+free = record { pattern = None; cycle = 0; offset = 0; split = λ p. 0 }
+
+abbrev pattern_2 : events.Selected
+pattern_2 = record { pattern = Some 2; cycle = 90; offset = 10; split = λ p. if p == 1 then 30 else (if p == 16 then 25 else 0) }
+
+-- nothing differs
+quiet_tick : events.tick_events 9 quiet (record dark { greens = only 2 }) (record dark { greens = only 2 }) ≡ []
+unfolding opened
+quiet_tick = refl
+
+-- phase 2 turns Green
+green_begins : events.tick_events 9 quiet (record dark { yellows = only 6 }) (record dark { greens = only 2; yellows = only 6 }) ≡ event 9 0 2 ∷ event 9 1 2 ∷ []
+unfolding opened
+green_begins = refl
+
+-- its maximum begins to time
+conflict_begins : events.tick_events 9 quiet (record dark { greens = only 2 }) (record dark { greens = only 2; conflicts = only 2 }) ≡ event 9 2 2 ∷ []
+unfolding opened
+conflict_begins = refl
+
+-- it ends by gap, by maximum, by force-off; the cause stands before the end
+gap_out : events.tick_events 9 (record quiet { gap = only 2 }) (record dark { greens = only 2 }) (record dark { yellows = only 2 }) ≡ event 9 4 2 ∷ event 9 7 2 ∷ event 9 8 2 ∷ []
+unfolding opened
+gap_out = refl
+
+max_out : events.tick_events 9 (record quiet { maximum = only 2 }) (record dark { greens = only 2 }) (record dark { yellows = only 2 }) ≡ event 9 5 2 ∷ event 9 7 2 ∷ event 9 8 2 ∷ []
+unfolding opened
+max_out = refl
+
+force_off : events.tick_events 9 (record quiet { force_off = only 2 }) (record dark { greens = only 2 }) (record dark { yellows = only 2 }) ≡ event 9 6 2 ∷ event 9 7 2 ∷ event 9 8 2 ∷ []
+unfolding opened
+force_off = refl
+
+-- a preempt ends it: no cause is told
+preempted : events.tick_events 9 quiet (record dark { greens = only 2 }) (record dark { yellows = only 2 }) ≡ event 9 7 2 ∷ event 9 8 2 ∷ []
+unfolding opened
+preempted = refl
+
+-- yellow, red clearance, and out of service
+red_clearance : events.tick_events 9 quiet (record dark { yellows = only 2 }) (record dark { red_clearances = only 2 }) ≡ event 9 9 2 ∷ event 9 10 2 ∷ []
+unfolding opened
+red_clearance = refl
+
+over : events.tick_events 9 quiet (record dark { red_clearances = only 2 }) dark ≡ event 9 11 2 ∷ event 9 12 2 ∷ []
+unfolding opened
+over = refl
+
+-- where the plan gives no red clearance
+no_red_clearance : events.tick_events 9 quiet (record dark { yellows = only 2 }) dark ≡ event 9 9 2 ∷ event 9 12 2 ∷ []
+unfolding opened
+no_red_clearance = refl
+
+-- walk, clearance, and neither; from walk to neither
+walk : events.tick_events 9 quiet dark (record dark { walks = only 2 }) ≡ event 9 21 2 ∷ []
+unfolding opened
+walk = refl
+
+clearance : events.tick_events 9 quiet (record dark { walks = only 2 }) (record dark { clearances = only 2 }) ≡ event 9 22 2 ∷ []
+unfolding opened
+clearance = refl
+
+dont_walk : events.tick_events 9 quiet (record dark { clearances = only 2 }) dark ≡ event 9 23 2 ∷ []
+unfolding opened
+dont_walk = refl
+
+walk_ends : events.tick_events 9 quiet (record dark { walks = only 2 }) dark ≡ event 9 23 2 ∷ []
+unfolding opened
+walk_ends = refl
+
+-- a crossing is completed, to side 2
+crossing : events.tick_events 9 quiet (record dark { crosses = true }) (record dark { side = 2 }) ≡ event 9 31 2 ∷ []
+unfolding opened
+crossing = refl
+
+-- calls come, and the vehicle call goes
+calls : events.tick_events 9 quiet (record dark { vehicle_calls = only 3 }) (record dark { vehicle_calls = only 4; pedestrian_calls = only 8 }) ≡ event 9 43 4 ∷ event 9 44 3 ∷ event 9 45 8 ∷ []
+unfolding opened
+calls = refl
+
+-- overlap 1: green, yellow, red; off where no phase serves it
+overlap_green : events.tick_events 9 quiet dark (record dark { overlap_greens = only 1 }) ≡ event 9 61 1 ∷ []
+unfolding opened
+overlap_green = refl
+
+overlap_yellow : events.tick_events 9 quiet (record dark { overlap_greens = only 1 }) (record dark { overlap_yellows = only 1 }) ≡ event 9 63 1 ∷ []
+unfolding opened
+overlap_yellow = refl
+
+overlap_red : events.tick_events 9 quiet (record dark { overlap_yellows = only 1 }) dark ≡ event 9 64 1 ∷ []
+unfolding opened
+overlap_red = refl
+
+overlap_off : events.tick_events 9 quiet (record dark { overlap_yellows = only 1 }) (record dark { overlaps_off = only 1 }) ≡ event 9 64 1 ∷ event 9 65 1 ∷ []
+unfolding opened
+overlap_off = refl
+
+-- inputs of the row go off and on
+inputs_change : events.tick_events 9 (record quiet { last = inputs 1 2 1; row = inputs 32768 128 8 }) dark dark ≡ event 9 81 1 ∷ event 9 82 16 ∷ event 9 89 2 ∷ event 9 90 8 ∷ event 9 102 4 ∷ event 9 104 1 ∷ []
+unfolding opened
+inputs_change = refl
+
+-- alarms go and come
+alarms : events.tick_events 9 quiet (record dark { alarms = only 5 }) (record dark { alarms = only 16 }) ≡ event 9 83 5 ∷ event 9 84 16 ∷ []
+unfolding opened
+alarms = refl
+
+-- preempt 1: track, dwell, exit
+track : events.tick_events 9 quiet dark (record dark { preempts = only 1; is_preempted = true; tracks = only 1 }) ≡ event 9 105 1 ∷ event 9 106 1 ∷ []
+unfolding opened
+track = refl
+
+dwell : events.tick_events 9 quiet (record dark { preempts = only 1; is_preempted = true; tracks = only 1 }) (record dark { preempts = only 1; is_preempted = true; dwells = only 1 }) ≡ event 9 107 1 ∷ []
+unfolding opened
+dwell = refl
+
+-- a dwell that ends unserved ends by the maximum presence, with an exit or without
+presence : events.tick_events 9 quiet (record dark { preempts = only 1; is_preempted = true; dwells = only 1 }) (record dark { preempts = only 1; is_preempted = true; exits = only 1 }) ≡ event 9 110 1 ∷ event 9 111 1 ∷ []
+unfolding opened
+presence = refl
+
+presence_alone : events.tick_events 9 quiet (record dark { preempts = only 1; is_preempted = true; dwells = only 1 }) dark ≡ event 9 110 1 ∷ []
+unfolding opened
+presence_alone = refl
+
+served : events.tick_events 9 (record quiet { served = true }) (record dark { preempts = only 1; is_preempted = true; dwells = only 1 }) (record dark { preempts = only 1; is_preempted = true; exits = only 1 }) ≡ event 9 111 1 ∷ []
+unfolding opened
+served = refl
+
+-- another preempt takes its place: it was not the presence
+interrupted : events.tick_events 9 quiet (record dark { preempts = only 1; is_preempted = true; dwells = only 1 }) (record dark { preempts = only 2; is_preempted = true; tracks = only 2 }) ≡ event 9 105 2 ∷ event 9 106 2 ∷ []
+unfolding opened
+interrupted = refl
+
+-- flash by the monitor
+flash : events.tick_events 9 quiet dark (record dark { flashes = true }) ≡ event 9 173 6 ∷ []
+unfolding opened
+flash = refl
+
+-- a reset ends it
+reset : events.other_events 9 (record dark { flashes = true }) dark free free ≡ event 9 173 2 ∷ []
+unfolding opened
+reset = refl
+
+-- a pattern is selected, and free operation again
+pattern : events.other_events 9 dark dark free pattern_2 ≡ event 9 131 2 ∷ event 9 132 90 ∷ event 9 133 10 ∷ event 9 134 30 ∷ event 9 149 25 ∷ []
+unfolding opened
+pattern = refl
+
+free_again : events.other_events 9 dark dark pattern_2 free ≡ event 9 131 254 ∷ event 9 132 0 ∷ event 9 133 0 ∷ event 9 134 0 ∷ event 9 149 0 ∷ []
+unfolding opened
+free_again = refl
+
+-- the same pattern with other values tells nothing
+same_pattern : events.other_events 9 dark dark (record free { pattern = Some 2 }) pattern_2 ≡ []
+unfolding opened
+same_pattern = refl
+
+-- phases 1 to 16 are told, and no number beyond
+sixteen_is_told : events.tick_events 9 quiet dark (record dark { greens = only 16 }) ≡ event 9 0 16 ∷ event 9 1 16 ∷ []
+unfolding opened
+sixteen_is_told = refl
+
+seventeen_is_not : events.tick_events 9 quiet dark (record dark { greens = only 17 }) ≡ []
+unfolding opened
+seventeen_is_not = refl

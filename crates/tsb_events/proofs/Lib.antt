@@ -1,0 +1,3 @@
+pub mod SplitLemmas
+pub mod AgreeLemmas
+pub mod Examples

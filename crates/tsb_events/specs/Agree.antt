@@ -1,0 +1,52 @@
+-- Views that agree on the numbers 1 to 16. Events name no others, so views that agree tell the same events.
+use Rattle.std.specs.Prelude.{◌≡◌, ℕ, ◌≤◌, Bool}
+use Rattle.tsb_step.specs.Events as events
+use Rattle.tsb_step.specs.Events.{View, Found, Selected}
+
+-- two tests agree on the numbers 1 to 16
+abbrev pub Agree : (ℕ → Bool) → (ℕ → Bool) → Type 0
+Agree f g = (n : ℕ) → 1 ≤ n → n ≤ 16 → f n ≡ g n
+
+-- two views agree
+pub record AgreeInAll (v w : View) : Type 0 where
+  pub greens : Agree v.greens w.greens
+  pub yellows : Agree v.yellows w.yellows
+  pub red_clearances : Agree v.red_clearances w.red_clearances
+  pub conflicts : Agree v.conflicts w.conflicts
+  pub walks : Agree v.walks w.walks
+  pub clearances : Agree v.clearances w.clearances
+  pub vehicle_calls : Agree v.vehicle_calls w.vehicle_calls
+  pub pedestrian_calls : Agree v.pedestrian_calls w.pedestrian_calls
+  pub overlap_greens : Agree v.overlap_greens w.overlap_greens
+  pub overlap_yellows : Agree v.overlap_yellows w.overlap_yellows
+  pub overlaps_off : Agree v.overlaps_off w.overlaps_off
+  pub alarms : Agree v.alarms w.alarms
+  pub preempts : Agree v.preempts w.preempts
+  pub tracks : Agree v.tracks w.tracks
+  pub dwells : Agree v.dwells w.dwells
+  pub exits : Agree v.exits w.exits
+  pub is_preempted : v.is_preempted ≡ w.is_preempted
+  pub crosses : v.crosses ≡ w.crosses
+  pub side : v.side ≡ w.side
+  pub flashes : v.flashes ≡ w.flashes
+
+-- what ticks find agrees
+pub record AgreeInFound (f g : Found) : Type 0 where
+  pub gap : Agree f.gap g.gap
+  pub maximum : Agree f.maximum g.maximum
+  pub force_off : Agree f.force_off g.force_off
+  pub last : f.last ≡ g.last
+  pub row : f.row ≡ g.row
+  pub served : f.served ≡ g.served
+
+-- ## Laws
+
+-- ticks that agree tell the same events
+abbrev pub TicksTellByNumbers : Type 0
+TicksTellByNumbers = (tick : ℕ) (f g : Found) (was was_too now now_too : View) → AgreeInFound f g → AgreeInAll was was_too →
+    AgreeInAll now now_too → events.tick_events tick f was now ≡ events.tick_events tick g was_too now_too
+
+-- and so do other inputs
+abbrev pub OthersTellByNumbers : Type 0
+OthersTellByNumbers = (tick : ℕ) (was was_too now now_too : View) (s t : Selected) → AgreeInAll was was_too → AgreeInAll now now_too →
+    events.other_events tick was now s t ≡ events.other_events tick was_too now_too s t

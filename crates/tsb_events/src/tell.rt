@@ -1,0 +1,340 @@
+//! Telling the events of an input, group by group.
+ghost use Rattle.std.specs.Prelude.{◌≡◌, ◌+◌, ◌++◌, ◌≤◌, ◌&&◌, not};
+ghost use Rattle.arrayvec.specs.ArrayVec.{array_vec_len};
+ghost use Rattle.tsb_step.specs.tsb_types.Sets.{has_number};
+ghost use Rattle.tsb_step.specs.tsb_types.Events.{begins, told};
+ghost use Rattle.tsb_step.specs.Events.{alarm_events, call_events, clearing_events, crossing_events, ending_events, exit_events, flash_events, green_events, leaves_dwell, other_events, other_input_events, overlap_events, pedestrian_events, preempt_events, presence_events, serving, tick_events, vehicle_input_events};
+ghost use Rattle.tsb_events.specs.declared.tell.TheConstants.{EVENTS};
+ghost use Rattle.tsb_events.specs.Seen.{found_of, selected_of, view_of};
+
+use crate::pattern::tell_pattern;
+use crate::seen::{Found, Seen, Selected};
+use arrayvec::ArrayVec;
+use tsb_types::event::{
+    ALARM_COMES, ALARM_GOES, BARRIER_CROSSED, CALL_COMES, CALL_GOES, CLEARANCE_BEGINS,
+    CONFLICT_BEGINS, DONT_WALK_BEGINS, DWELL_BEGINS, EXIT_BEGINS, FLASH, FLASH_CHANGES, FORCE_OFF,
+    GAP_OUT, GREEN_BEGINS, GREEN_ENDS, MAX_OUT, NO_FLASH, OVERLAP_GREEN_BEGINS, OVERLAP_OFF,
+    OVERLAP_RED_BEGINS, OVERLAP_YELLOW_BEGINS, PEDESTRIAN_CALL_COMES, PEDESTRIAN_OFF,
+    PEDESTRIAN_ON, PHASE_OFF, PHASE_ON, PREEMPT_ENTERS, PREEMPT_OFF, PREEMPT_ON, PRESENCE_EXCEEDED,
+    RED_CLEARANCE_BEGINS, RED_CLEARANCE_ENDS, TRACK_BEGINS, VEHICLE_OFF, VEHICLE_ON, WALK_BEGINS,
+    YELLOW_BEGINS, YELLOW_ENDS, begun, joined, tell,
+};
+use tsb_types::{Event, NumberSet};
+
+/// The most events of one input: 16 of each of 35 codes, and two more.
+pub const EVENTS: usize = 562;
+
+/// The events of one input.
+pub type Events = ArrayVec<Event, EVENTS>;
+
+/// The events of tick `tick`, from what the log saw before it, what it sees after it, and what the tick found.
+pub fn tick_events(tick: u32, was: &Seen, now: &Seen, found: &Found) -> Events
+    ensures { result.items ≡ tick_events tick (found_of found.now) (view_of was.now) (view_of now.now) }
+{
+    let mut events = Events::new();
+    tell_greens(&mut events, tick, was, now);
+    tell_endings(&mut events, tick, found);
+    tell_clearings(&mut events, tick, was, now);
+    tell_pedestrians(&mut events, tick, was, now);
+    tell_crossing(&mut events, tick, was, now);
+    tell_calls(&mut events, tick, was, now);
+    tell_overlaps(&mut events, tick, was, now);
+    tell_vehicle_inputs(&mut events, tick, found);
+    tell_alarms(&mut events, tick, was, now);
+    tell_other_inputs(&mut events, tick, found);
+    tell_preempts(&mut events, tick, was, now);
+    tell_presence(&mut events, tick, found, was, now);
+    tell_exits(&mut events, tick, was, now);
+    tell_flash(&mut events, tick, was, now);
+    events
+}
+
+/// The events of an input that is no tick, at tick number `tick`, from what the log saw before it and what it sees
+/// after it.
+pub fn other_events(
+    tick: u32,
+    was: &Seen,
+    now: &Seen,
+    was_selected: &Selected,
+    selected: &Selected,
+) -> Events
+    ensures { result.items ≡ other_events tick (view_of was.now) (view_of now.now) (selected_of was_selected.now) (selected_of selected.now) }
+{
+    let mut events = Events::new();
+    tell_greens(&mut events, tick, was, now);
+    tell_clearings(&mut events, tick, was, now);
+    tell_pedestrians(&mut events, tick, was, now);
+    tell_calls(&mut events, tick, was, now);
+    tell_overlaps(&mut events, tick, was, now);
+    tell_alarms(&mut events, tick, was, now);
+    tell_preempts(&mut events, tick, was, now);
+    tell_exits(&mut events, tick, was, now);
+    tell_pattern(&mut events, tick, was_selected, selected);
+    tell_flash(&mut events, tick, was, now);
+    events
+}
+
+/// Adds an event for each number that is in a set now and was not.
+fn tell_begun(events: &mut Events, tick: u32, code: u8, was: NumberSet, now: NumberSet)
+    requires { array_vec_len events.old + 16 ≤ EVENTS }
+    ensures told { events.new.items ≡ events.old.items ++ told tick code (begins (has_number was) (has_number now)) }
+    ensures few { array_vec_len events.new ≤ array_vec_len events.old + 16 }
+{
+    tell(events, tick, code, begun(was, now));
+}
+
+/// Adds the greens that begin, and the conflicts that begin in a green.
+fn tell_greens(events: &mut Events, tick: u32, was: &Seen, now: &Seen)
+    requires { array_vec_len events.old + 48 ≤ EVENTS }
+    ensures told { events.new.items ≡ events.old.items ++ green_events tick (view_of was.now) (view_of now.now) }
+    ensures few { array_vec_len events.new ≤ array_vec_len events.old + 48 }
+{
+    tell_begun(events, tick, PHASE_ON, was.greens, now.greens);
+    tell_begun(events, tick, GREEN_BEGINS, was.greens, now.greens);
+    tell_begun(events, tick, CONFLICT_BEGINS, was.conflicts, now.conflicts);
+}
+
+/// Adds the greens that a tick ended without a preempt, by what ended them.
+fn tell_endings(events: &mut Events, tick: u32, found: &Found)
+    requires { array_vec_len events.old + 48 ≤ EVENTS }
+    ensures told { events.new.items ≡ events.old.items ++ ending_events tick (found_of found.now) }
+    ensures few { array_vec_len events.new ≤ array_vec_len events.old + 48 }
+{
+    tell(events, tick, GAP_OUT, found.gap);
+    tell(events, tick, MAX_OUT, found.maximum);
+    tell(events, tick, FORCE_OFF, found.force_off);
+}
+
+/// The phases in service.
+fn serving(seen: &Seen) -> NumberSet
+    ensures { has_number result ≡ serving (view_of seen.now) }
+{
+    joined(joined(seen.greens, seen.yellows), seen.red_clearances)
+}
+
+/// Adds the greens that end, the yellow changes and red clearances that begin and end, and the phases that are no
+/// longer in service.
+fn tell_clearings(events: &mut Events, tick: u32, was: &Seen, now: &Seen)
+    requires { array_vec_len events.old + 96 ≤ EVENTS }
+    ensures told { events.new.items ≡ events.old.items ++ clearing_events tick (view_of was.now) (view_of now.now) }
+    ensures few { array_vec_len events.new ≤ array_vec_len events.old + 96 }
+{
+    tell_begun(events, tick, GREEN_ENDS, now.greens, was.greens);
+    tell_begun(events, tick, YELLOW_BEGINS, was.yellows, now.yellows);
+    tell_begun(events, tick, YELLOW_ENDS, now.yellows, was.yellows);
+    tell_begun(
+        events,
+        tick,
+        RED_CLEARANCE_BEGINS,
+        was.red_clearances,
+        now.red_clearances,
+    );
+    tell_begun(
+        events,
+        tick,
+        RED_CLEARANCE_ENDS,
+        now.red_clearances,
+        was.red_clearances,
+    );
+    tell_begun(events, tick, PHASE_OFF, serving(now), serving(was));
+}
+
+/// Adds the walks and pedestrian clearances that begin, and the phases that have neither any more.
+fn tell_pedestrians(events: &mut Events, tick: u32, was: &Seen, now: &Seen)
+    requires { array_vec_len events.old + 48 ≤ EVENTS }
+    ensures told { events.new.items ≡ events.old.items ++ pedestrian_events tick (view_of was.now) (view_of now.now) }
+    ensures few { array_vec_len events.new ≤ array_vec_len events.old + 48 }
+{
+    let walking_was = joined(was.walks, was.clearances);
+    let walking = joined(now.walks, now.clearances);
+    tell_begun(events, tick, WALK_BEGINS, was.walks, now.walks);
+    tell_begun(
+        events,
+        tick,
+        CLEARANCE_BEGINS,
+        was.clearances,
+        now.clearances,
+    );
+    tell_begun(events, tick, DONT_WALK_BEGINS, walking, walking_was);
+}
+
+/// Adds a crossing of the barrier that is completed.
+fn tell_crossing(events: &mut Events, tick: u32, was: &Seen, now: &Seen)
+    requires { array_vec_len events.old + 1 ≤ EVENTS }
+    ensures told { events.new.items ≡ events.old.items ++ crossing_events tick (view_of was.now) (view_of now.now) }
+    ensures few { array_vec_len events.new ≤ array_vec_len events.old + 1 }
+{
+    if was.crosses && !now.crosses {
+        events.push(Event {
+            tick,
+            code: BARRIER_CROSSED,
+            parameter: now.side.number(),
+        });
+    }
+}
+
+/// Adds the calls that come, and the vehicle calls that go.
+fn tell_calls(events: &mut Events, tick: u32, was: &Seen, now: &Seen)
+    requires { array_vec_len events.old + 48 ≤ EVENTS }
+    ensures told { events.new.items ≡ events.old.items ++ call_events tick (view_of was.now) (view_of now.now) }
+    ensures few { array_vec_len events.new ≤ array_vec_len events.old + 48 }
+{
+    tell_begun(
+        events,
+        tick,
+        CALL_COMES,
+        was.vehicle_calls,
+        now.vehicle_calls,
+    );
+    tell_begun(
+        events,
+        tick,
+        CALL_GOES,
+        now.vehicle_calls,
+        was.vehicle_calls,
+    );
+    tell_begun(
+        events,
+        tick,
+        PEDESTRIAN_CALL_COMES,
+        was.pedestrian_calls,
+        now.pedestrian_calls,
+    );
+}
+
+/// Adds what overlaps begin to show, and those that go off.
+fn tell_overlaps(events: &mut Events, tick: u32, was: &Seen, now: &Seen)
+    requires { array_vec_len events.old + 64 ≤ EVENTS }
+    ensures told { events.new.items ≡ events.old.items ++ overlap_events tick (view_of was.now) (view_of now.now) }
+    ensures few { array_vec_len events.new ≤ array_vec_len events.old + 64 }
+{
+    let lit_was = joined(was.overlap_greens, was.overlap_yellows);
+    let lit = joined(now.overlap_greens, now.overlap_yellows);
+    tell_begun(
+        events,
+        tick,
+        OVERLAP_GREEN_BEGINS,
+        was.overlap_greens,
+        now.overlap_greens,
+    );
+    tell_begun(
+        events,
+        tick,
+        OVERLAP_YELLOW_BEGINS,
+        was.overlap_yellows,
+        now.overlap_yellows,
+    );
+    tell_begun(events, tick, OVERLAP_RED_BEGINS, lit, lit_was);
+    tell_begun(
+        events,
+        tick,
+        OVERLAP_OFF,
+        was.overlaps_off,
+        now.overlaps_off,
+    );
+}
+
+/// Adds the vehicle inputs that go off and on in a tick.
+fn tell_vehicle_inputs(events: &mut Events, tick: u32, found: &Found)
+    requires { array_vec_len events.old + 32 ≤ EVENTS }
+    ensures told { events.new.items ≡ events.old.items ++ vehicle_input_events tick (found_of found.now) }
+    ensures few { array_vec_len events.new ≤ array_vec_len events.old + 32 }
+{
+    let was = found.last.vehicles;
+    let now = found.row.vehicles;
+    tell_begun(events, tick, VEHICLE_OFF, now, was);
+    tell_begun(events, tick, VEHICLE_ON, was, now);
+}
+
+/// Adds the alarms of vehicle detectors that go and come.
+fn tell_alarms(events: &mut Events, tick: u32, was: &Seen, now: &Seen)
+    requires { array_vec_len events.old + 32 ≤ EVENTS }
+    ensures told { events.new.items ≡ events.old.items ++ alarm_events tick (view_of was.now) (view_of now.now) }
+    ensures few { array_vec_len events.new ≤ array_vec_len events.old + 32 }
+{
+    tell_begun(events, tick, ALARM_GOES, now.alarms, was.alarms);
+    tell_begun(events, tick, ALARM_COMES, was.alarms, now.alarms);
+}
+
+/// Adds the pedestrian and preempt inputs that go off and on in a tick.
+fn tell_other_inputs(events: &mut Events, tick: u32, found: &Found)
+    requires { array_vec_len events.old + 64 ≤ EVENTS }
+    ensures told { events.new.items ≡ events.old.items ++ other_input_events tick (found_of found.now) }
+    ensures few { array_vec_len events.new ≤ array_vec_len events.old + 64 }
+{
+    let was = found.last;
+    let now = found.row;
+    tell_begun(
+        events,
+        tick,
+        PEDESTRIAN_OFF,
+        now.pedestrians,
+        was.pedestrians,
+    );
+    tell_begun(
+        events,
+        tick,
+        PEDESTRIAN_ON,
+        was.pedestrians,
+        now.pedestrians,
+    );
+    tell_begun(events, tick, PREEMPT_ON, was.preempts, now.preempts);
+    tell_begun(events, tick, PREEMPT_OFF, now.preempts, was.preempts);
+}
+
+/// Adds a preempt that enters service, and its track stage and its dwell as they begin.
+fn tell_preempts(events: &mut Events, tick: u32, was: &Seen, now: &Seen)
+    requires { array_vec_len events.old + 48 ≤ EVENTS }
+    ensures told { events.new.items ≡ events.old.items ++ preempt_events tick (view_of was.now) (view_of now.now) }
+    ensures few { array_vec_len events.new ≤ array_vec_len events.old + 48 }
+{
+    tell_begun(events, tick, PREEMPT_ENTERS, was.preempts, now.preempts);
+    tell_begun(events, tick, TRACK_BEGINS, was.tracks, now.tracks);
+    tell_begun(events, tick, DWELL_BEGINS, was.dwells, now.dwells);
+}
+
+/// The preempt whose dwell a tick ended by its maximum presence.
+fn exceeded(found: &Found, was: &Seen, now: &Seen) -> NumberSet
+    ensures { has_number result ≡ (λ n. leaves_dwell (view_of was.now) (view_of now.now) n && not (found_of found.now).served) }
+{
+    if found.served {
+        NumberSet::empty()
+    } else if now.is_preempted {
+        was.dwells.intersection(now.exits)
+    } else {
+        was.dwells
+    }
+}
+
+/// Adds the dwell that a tick ended by its maximum presence.
+fn tell_presence(events: &mut Events, tick: u32, found: &Found, was: &Seen, now: &Seen)
+    requires { array_vec_len events.old + 16 ≤ EVENTS }
+    ensures told { events.new.items ≡ events.old.items ++ presence_events tick (found_of found.now) (view_of was.now) (view_of now.now) }
+    ensures few { array_vec_len events.new ≤ array_vec_len events.old + 16 }
+{
+    tell(events, tick, PRESENCE_EXCEEDED, exceeded(found, was, now));
+}
+
+/// Adds the exit of a preempt as it begins.
+fn tell_exits(events: &mut Events, tick: u32, was: &Seen, now: &Seen)
+    requires { array_vec_len events.old + 16 ≤ EVENTS }
+    ensures told { events.new.items ≡ events.old.items ++ exit_events tick (view_of was.now) (view_of now.now) }
+    ensures few { array_vec_len events.new ≤ array_vec_len events.old + 16 }
+{
+    tell_begun(events, tick, EXIT_BEGINS, was.exits, now.exits);
+}
+
+/// Adds a flash by the monitor that begins or ends.
+fn tell_flash(events: &mut Events, tick: u32, was: &Seen, now: &Seen)
+    requires { array_vec_len events.old + 1 ≤ EVENTS }
+    ensures told { events.new.items ≡ events.old.items ++ flash_events tick (view_of was.now) (view_of now.now) }
+    ensures few { array_vec_len events.new ≤ array_vec_len events.old + 1 }
+{
+    if now.flashes != was.flashes {
+        events.push(Event {
+            tick,
+            code: FLASH_CHANGES,
+            parameter: if now.flashes { FLASH } else { NO_FLASH },
+        });
+    }
+}
