@@ -4,6 +4,7 @@ pub mod GreenExamples
 pub mod MaximumExamples
 pub mod PedestrianExamples
 pub mod ClearanceExamples
+pub mod CauseExamples
 pub mod CellsExamples
 pub mod Mistakes
 pub mod LawMistakes
