@@ -1,11 +1,9 @@
 -- What a plan is once edits are laid over it: its numbers of phases and sides, the values that no edit changes, and the places
 -- where it has none.
-use Rattle.std.proofs.Common.{◌≡◌, ℕ, ◌==◌, Bool, true, false, not, ◌&&◌, ◌||◌, if◌then◌else◌, List, [], ◌∷◌, Some, None, refl, sym, inl, inr, arith, ◌∙◌}
+use Rattle.std.proofs.Common.{◌≡◌, ℕ, ◌==◌, Bool, true, false, not, ◌&&◌, ◌||◌, if◌then◌else◌, List, [], ◌∷◌, Some, None, refl, sym, inl, inr, ◌∙◌}
 use Rattle.std.proofs.lemmas.Bool.{cases_Bool, eqb-true, true≢false, and_parts}
-use Rattle.std.proofs.lemmas.Bool.Decides.{nat_tests}
 use Rattle.tsb_types.specs.declared.refusal.Refusal.TheVariants.{NoSuchObject}
 use Rattle.tsb_objects.specs.tsb_plan.declared.object.Object.{Object}
-use Rattle.tsb_objects.specs.tsb_plan.Objects.{order}
 use Rattle.tsb_objects.specs.tsb_plan.Plan.{Plan, is_same, with_value}
 use Rattle.tsb_objects.specs.tsb_plan.Versions.{has_object}
 use Rattle.tsb_objects.proofs.tsb_plan.TableLemmas.{order-injective}

@@ -1,6 +1,7 @@
 -- Computed examples of the definitions, and mistakes that they refuse.
 pub mod Scenes
 pub mod TickExamples
+pub mod EventExamples
 pub mod OrderExamples
 pub mod SignsExamples
 pub mod StepExamples

@@ -1,10 +1,10 @@
 -- What the rings are given in a tick is what their safety asks for: concurrency goes both ways, sequences have a ring's phases
 -- from among those of the plan, and the target of a preempt is pairwise concurrent.
-use Rattle.std.proofs.Common.{zero, suc, ◌≡◌, ℕ, ◌+◌, ◌≤◌, ◌<◌, ◌==◌, nat_le, Bool, true, false, ◌||◌, if◌then◌else◌, Option, Some, None, refl, sym, inl, inr, arith, ◌∙◌}
-use Rattle.std.proofs.lemmas.Bool.{cases_eq, cases_Bool, eqb-true, eq-eqb, true≢false, and_parts}
+use Rattle.std.proofs.Common.{◌≡◌, ℕ, ◌+◌, ◌≤◌, ◌<◌, ◌==◌, nat_le, Bool, true, false, if◌then◌else◌, Option, Some, None, refl, sym, inl, inr, arith, ◌∙◌}
+use Rattle.std.proofs.lemmas.Bool.{cases_eq, cases_Bool, eqb-true, true≢false, and_parts}
 use Rattle.std.proofs.lemmas.Bool.Decides.{nat_tests}
 use Rattle.tsb_types.specs.declared.row.Row.{Row}
-use Rattle.tsb_types.specs.Lists.{run_from, among}
+use Rattle.tsb_types.specs.Lists.{among}
 use Rattle.tsb_types.proofs.RunLemmas.{among-run}
 use Rattle.tsb_objects.specs.tsb_plan.declared.object.Object.TheVariants.{PhaseEnabled, PhaseRing}
 use Rattle.tsb_objects.specs.tsb_plan.Parts.{is_used}

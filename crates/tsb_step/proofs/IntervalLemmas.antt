@@ -1,5 +1,5 @@
 -- The intervals after a tick are what comes of the rings' moves.
-use Rattle.std.proofs.Common.{◌≡◌, ℕ, Bool, true, false, ◌||◌, refl, sym, ◌∙◌}
+use Rattle.std.proofs.Common.{◌≡◌, ℕ, true, false, ◌||◌, refl, sym, ◌∙◌}
 use Rattle.std.proofs.lemmas.Bool.{false≢true, false_from_ne_true}
 use Rattle.std.proofs.Math.Path.{fun_ext}
 use Rattle.tsb_types.specs.declared.interval.Interval.{Interval}

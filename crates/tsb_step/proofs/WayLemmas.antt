@@ -1,9 +1,7 @@
 -- What the way back rests on: records take their inputs back, and the tick number goes on by one at most.
-use Rattle.std.proofs.Common.{suc, ◌≡◌, ℕ, ◌+◌, ◌-◌, ◌≤◌, Bool, true, false, if◌then◌else◌, Option, is_some, List, length, refl, sym, ap, arith, ◌∙◌}
+use Rattle.std.proofs.Common.{◌≡◌, ℕ, ◌+◌, ◌-◌, ◌≤◌, Bool, true, false, if◌then◌else◌, is_some, length, refl, ap, arith, ◌∙◌}
 use Rattle.tsb_cells.specs.Diff.{diff, apply_diff}
 use Rattle.tsb_cells.proofs.DiffLemmas.{apply_diff-diff}
-use Rattle.tsb_types.specs.declared.lamp.Lamp.{Lamp}
-use Rattle.tsb_types.specs.declared.row.Row.{Row}
 use Rattle.tsb_objects.specs.tsb_plan.Plan.{Plan}
 use Rattle.tsb_machine.specs.Laws.{GivesBack, CountsTicks}
 use Rattle.tsb_machine.specs.tsb_history.declared.kinds.Kind.{Kind}

@@ -14,7 +14,7 @@
 -- | `first_cell.MONITOR` | the monitor's and the injected lamp's |
 --
 -- These numbers stand in `src/first_cell.rt`, each as a sum; `proofs/Examples/CellsExamples.antt` has them in digits.
-use Rattle.std.specs.Prelude.{ℕ, ◌+◌, List, ◌++◌, Option, Some, None}
+use Rattle.std.specs.Prelude.{ℕ, List, ◌++◌, Option, Some, None}
 use Rattle.tsb_cells.specs.Row.{row_at}
 use Rattle.tsb_objects.specs.tsb_plan.declared.object.TheConstants.{PLAN_CELLS}
 use Rattle.tsb_objects.specs.tsb_plan.PlanOf.{plan_in, plan_cells}

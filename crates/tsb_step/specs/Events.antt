@@ -4,7 +4,7 @@
 --
 -- Where the enumerations are silent the choice is the profile's own: a controller in flash serves no phase and shows no
 -- walk, so that a trip ends all of them; a vehicle call is that of a phase that is not Green.
-use Rattle.std.specs.Prelude.{ℕ, ◌+◌, ◌-◌, ◌==◌, Bool, true, false, not, ◌&&◌, ◌||◌, if◌then◌else◌, List, [], ◌∷◌, ◌++◌, flat_map, nat_eq, Option, Some, None, is_some, is_none}
+use Rattle.std.specs.Prelude.{ℕ, ◌+◌, ◌-◌, ◌==◌, Bool, true, false, not, ◌&&◌, ◌||◌, if◌then◌else◌, List, [], ◌∷◌, ◌++◌, flat_map, nat_eq, nat_le, Option, Some, None, is_some, is_none}
 use Rattle.std.specs.List.{list_any}
 use Rattle.std.specs.Option.{option_eq}
 use Rattle.tsb_cells.specs.Timer.{is_on}
@@ -25,7 +25,7 @@ use Rattle.tsb_types.specs.declared.stage.Stage.{Stage}
 use Rattle.tsb_types.specs.declared.stage.Stage.TheVariants.{Track, Dwell, Exit}
 use Rattle.tsb_objects.specs.tsb_plan.declared.object.Object.TheVariants.{PatternCycleTime, PatternOffsetTime, SplitTime}
 use Rattle.tsb_objects.specs.tsb_plan.Parts.{is_included, split_index}
-use Rattle.tsb_objects.specs.tsb_plan.Plan.{phases, is_enabled}
+use Rattle.tsb_objects.specs.tsb_plan.Plan.{phases}
 use Rattle.tsb_objects.specs.tsb_plan.Running.{split_in_effect}
 use Rattle.tsb_calls.specs.Memories as calls
 use Rattle.tsb_calls.specs.Standing as standing
@@ -102,6 +102,10 @@ calls_now s = record {
   service_ended = false;
 }
 
+-- there are overlaps 1 to 4
+abbrev pub is_overlap : ℕ → Bool
+is_overlap o = nat_le 1 o && nat_le o 4
+
 -- a green head
 abbrev pub is_green_head : Aspect → Bool
 is_green_head aspects.Green = true
@@ -147,9 +151,9 @@ view s = record {
   clearances = λ p. is_clearance (shown_part s p);
   vehicle_calls = standing.vehicle_call s.plan (calls_now s) s.memories;
   pedestrian_calls = standing.pedestrian_call s.plan (calls_now s) s.memories;
-  overlap_greens = λ o. is_green_head ((display s).overlap o);
-  overlap_yellows = λ o. is_yellow_head ((display s).overlap o);
-  overlaps_off = λ o. is_off ((display s).overlap o) (includes_service s o);
+  overlap_greens = λ o. is_overlap o && is_green_head ((display s).overlap o);
+  overlap_yellows = λ o. is_overlap o && is_yellow_head ((display s).overlap o);
+  overlaps_off = λ o. is_overlap o && is_off ((display s).overlap o) (includes_service s o);
   alarms = λ d. is_some (s.detectors d).alarm;
   preempts = serves (λ k. true) (stage s);
   tracks = serves is_track (stage s);

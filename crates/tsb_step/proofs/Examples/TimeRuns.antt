@@ -1,7 +1,7 @@
 -- Runs from power-up that meet all premises of a law of times at once, computed. There is one ring with phases 2 and 4,
 -- one on each side, both on minimum recall and with no least green; 2 has a walk of 1 s and a clearance of 1 s in each
 -- green, and overlap 1 goes with it. Phase 2 starts in tick 1, and all inputs are off.
-use Rattle.std.proofs.Common.{zero, suc, ◌≡◌, ℕ, ◌+◌, ◌≤◌, nat_le, nat_lt, Bool, true, false, ◌&&◌, if◌then◌else◌, List, [], ◌∷◌, Some, None, is_some, refl, sym, ap, ap₂, arith, ◌∙◌}
+use Rattle.std.proofs.Common.{zero, suc, ◌≡◌, ℕ, ◌+◌, ◌≤◌, nat_le, nat_lt, Bool, true, false, ◌&&◌, if◌then◌else◌, List, [], ◌∷◌, Some, None, refl, sym, ap, ap₂, arith, ◌∙◌}
 use Rattle.std.specs.List.{list_all}
 use Rattle.std.proofs.lemmas.Bool.{and_parts, true≢false}
 use Rattle.std.proofs.lemmas.Bool.Decides.{nat_tests}
@@ -12,7 +12,6 @@ use Rattle.tsb_types.specs.declared.lamp.Aspect.TheVariants as aspects
 use Rattle.tsb_types.specs.declared.lamp.Lamp.TheVariants as lamps
 use Rattle.tsb_types.specs.declared.lamp.SignalColor.TheVariants as signals
 use Rattle.tsb_types.specs.declared.limits.TheConstants.{TICKS}
-use Rattle.tsb_types.specs.declared.row.Row.{Row}
 use Rattle.tsb_types.specs.Intervals.{is_green, is_yellow, is_red_clear, is_walk, is_clearance}
 use Rattle.tsb_types.specs.Sets.{all_off}
 use Rattle.tsb_objects.specs.tsb_plan.declared.object.Object.{Object}
@@ -30,8 +29,8 @@ use Rattle.tsb_heads.specs.Monitoring.{conflict}
 use Rattle.tsb_step.specs.declared.inputs.Input.{Input}
 use Rattle.tsb_step.specs.declared.inputs.Input.TheVariants.{Tick, Pattern, Fault}
 use Rattle.tsb_step.specs.State.{State, interval, pedestrian_part}
-use Rattle.tsb_step.specs.Tick.{moves, over, next}
-use Rattle.tsb_step.specs.Signs.{display, field, local, watched}
+use Rattle.tsb_step.specs.Tick.{moves, over}
+use Rattle.tsb_step.specs.Signs.{display, field, local}
 use Rattle.tsb_step.specs.Step.{step, verdict}
 use Rattle.tsb_step.specs.Tables.{has_place, indices_for}
 use Rattle.tsb_step.specs.Runs.{replay, AreTaken}

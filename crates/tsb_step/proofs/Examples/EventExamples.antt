@@ -1,0 +1,66 @@
+-- The events of inputs, by computing, worked by hand from the plan of eight phases. Its overlap 1 includes phases 1 and 2.
+use Rattle.std.specs.Prelude.{◌≡◌, true, false, [], ◌∷◌, is_some, refl}
+use Rattle.tsb_types.specs.Events.{event}
+use Rattle.tsb_types.specs.Sets.{all_off}
+use Rattle.tsb_objects.specs.tsb_plan.Quad.{quad}
+use Rattle.tsb_phase.specs.Causes.{cause}
+use Rattle.tsb_step.specs.declared.inputs.Input.TheVariants.{Tick, Pattern}
+use Rattle.tsb_step.specs.Events.{ends_freely, events_of, selected, view}
+use Rattle.tsb_step.specs.State.{start}
+use Rattle.tsb_step.specs.Tick.{phases_given, phase_read}
+use Rattle.tsb_step.proofs.Examples.Scenes as scenes
+use Rattle.tsb_step.proofs.Examples.Scenes.{after, preempt, resting, short, vehicle}
+
+-- what a computed line opens
+unfoldable pub opened : Unit {0}
+unfolding scenes.opened events_of selected view
+opened = scenes.opened
+
+-- from power-up phases 2 and 6 start, as they are recalled, and overlap 1 turns green
+power_up : events_of all_off (start quad) (Tick all_off) ≡
+    event 1 0 2 ∷ event 1 0 6 ∷ event 1 1 2 ∷ event 1 1 6 ∷ event 1 44 2 ∷ event 1 44 6 ∷ event 1 61 1 ∷ []
+unfolding opened
+power_up = refl
+
+-- a vehicle for phase 3 ends the greens of 2 and 6 by their gaps; recalled, these have calls as soon as they are not Green
+arrives : events_of all_off resting (Tick (vehicle 3)) ≡
+    event 61 4 2 ∷ event 61 4 6 ∷ event 61 7 2 ∷ event 61 7 6 ∷ event 61 8 2 ∷ event 61 8 6 ∷ event 61 43 2 ∷ event 61 43 3
+    ∷ event 61 43 6 ∷ event 61 63 1 ∷ event 61 82 3 ∷ []
+unfolding opened
+arrives = refl
+
+-- where their greens are too short to end, a conflict begins
+too_short : events_of all_off short (Tick (vehicle 3)) ≡ event 61 2 2 ∷ event 61 2 6 ∷ event 61 43 3 ∷ event 61 82 3 ∷ []
+unfolding opened
+too_short = refl
+
+-- a tick in which nothing changes tells nothing, and the same row again tells no input
+quiet : events_of all_off resting (Tick all_off) ≡ []
+unfolding opened
+quiet = refl
+
+-- pattern 1 is selected: a cycle of 80 seconds, no offset, and eight splits
+pattern : events_of all_off resting (Pattern 1) ≡
+    event 60 131 1 ∷ event 60 132 80 ∷ event 60 134 15 ∷ event 60 135 25 ∷ event 60 136 15 ∷ event 60 137 25 ∷ event 60 138 15
+    ∷ event 60 139 25 ∷ event 60 140 15 ∷ event 60 141 25 ∷ []
+unfolding opened
+pattern = refl
+
+-- ## Causes
+
+ends_freely_2 : ends_freely resting (vehicle 3) (after resting (vehicle 3)) 2 ≡ true
+unfolding opened
+ends_freely_2 = refl
+
+stays : ends_freely resting all_off (after resting all_off) 2 ≡ false
+unfolding opened
+stays = refl
+
+-- preempt 1 wants 3 and 8: it ends 2, whose gap has expired as well
+is_preempted : ends_freely resting (preempt 1) (after resting (preempt 1)) 2 ≡ false
+unfolding opened
+is_preempted = refl
+
+would_be_told : is_some (cause quad (phases_given resting (preempt 1)) 2 (phase_read resting 2)) ≡ true
+unfolding opened
+would_be_told = refl

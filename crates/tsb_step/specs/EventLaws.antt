@@ -1,0 +1,29 @@
+-- What holds of the events of ticks. Each law here is the contract of a function in src/event_laws.rt, and proved there.
+use Rattle.std.specs.Prelude.{◌≡◌, ℕ, ◌+◌, Bool, true, false, if◌then◌else◌, None}
+use Rattle.tsb_types.specs.declared.row.Row.{Row}
+use Rattle.tsb_step.specs.declared.inputs.Input.TheVariants.{Tick}
+use Rattle.tsb_step.specs.Events.{Found, ends_freely, found}
+use Rattle.tsb_step.specs.State.{State}
+use Rattle.tsb_step.specs.Step.{step}
+
+-- 1 where it holds
+abbrev pub one_if : Bool → ℕ
+one_if b = if b then 1 else 0
+
+-- in how many of the three ways a tick that found this ended the green of phase p
+abbrev pub causes_told : Found → ℕ → ℕ
+causes_told f p = one_if (f.gap p) + one_if (f.maximum p) + one_if (f.force_off p)
+
+-- what a tick finds that is the next input of a state
+abbrev pub found_next : Row → State → Row → Found
+found_next last s row = found last s row (step s (Tick row))
+
+-- a green that a tick ends, and that no preempt asked to end, has exactly one of the three causes
+abbrev pub GreensEndWithOneCause : Type 0
+GreensEndWithOneCause = (last : Row) (s : State) (row : Row) (p : ℕ) → s.trip ≡ None →
+    ends_freely s row (step s (Tick row)) p ≡ true → causes_told (found_next last s row) p ≡ 1
+
+-- any other phase has none
+abbrev pub OthersHaveNoCause : Type 0
+OthersHaveNoCause = (last : Row) (s : State) (row : Row) (p : ℕ) →
+    ends_freely s row (step s (Tick row)) p ≡ false → causes_told (found_next last s row) p ≡ 0

@@ -1,0 +1,17 @@
+//! What events tell, each law the contract of a function that does nothing.
+ghost use Rattle.tsb_step.specs.EventLaws.{GreensEndWithOneCause, OthersHaveNoCause};
+
+/// `one`: A green that a tick ends, and that no preempt asked to end, is told with exactly one cause: gap, maximum or
+/// force-off. This holds from any state that has not tripped, not only in runs.
+///
+/// Mistake: each cause that applies is told on its own, `gap_applies` and `maximum_applies` of tsb_phase.
+/// Witness: `ends_freely_2` of EventExamples.
+///
+/// `none`: No other phase is told with a cause: none that stays Green, and none that a preempt ends.
+///
+/// Mistake: the cause of each green that ends is told, `is_preempted` and `would_be_told` of EventExamples.
+/// Witness: `stays` of EventExamples.
+pub fn greens_end_with_one_cause()
+    ensures one { GreensEndWithOneCause }
+    ensures none { OthersHaveNoCause }
+{}
