@@ -1,12 +1,13 @@
 -- Views that agree on the numbers 1 to 16 tell the same events.
 use Rattle.std.proofs.Common.{◌≡◌, ℕ, ◌+◌, ◌<◌, ◌≤◌, Bool, not, ◌&&◌, ◌||◌, zero, suc, List, [], ◌∷◌, ◌++◌, map, filter, if◌then◌else◌, refl, ap, arith}
+use Rattle.tsb_types.specs.Clip.{Agree}
 use Rattle.tsb_types.specs.Lists.{run_from}
 use Rattle.tsb_types.specs.Sets.{has_number}
 use Rattle.tsb_types.specs.Events.{event, told, begins, either}
 use Rattle.tsb_types.specs.declared.event.TheConstants as codes
 use Rattle.tsb_step.specs.Events as events
 use Rattle.tsb_step.specs.Events.{View, Found, Selected}
-use Rattle.tsb_events.specs.Agree.{Agree, AgreeInAll, AgreeInFound}
+use Rattle.tsb_events.specs.Agree.{AgreeInAll, AgreeInFound}
 
 filter-within : (f g : ℕ → Bool) (a n : ℕ) → ((k : ℕ) → a ≤ k → k < a + n → f k ≡ g k) → filter f (run_from a n) ≡ filter g (run_from a n)
 unfolding run_from

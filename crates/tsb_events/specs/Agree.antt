@@ -1,11 +1,8 @@
 -- Views that agree on the numbers 1 to 16. Events name no others, so views that agree tell the same events.
-use Rattle.std.specs.Prelude.{◌≡◌, ℕ, ◌≤◌, Bool}
+use Rattle.std.specs.Prelude.{◌≡◌, ℕ}
+use Rattle.tsb_step.specs.tsb_types.Clip.{Agree}
 use Rattle.tsb_step.specs.Events as events
 use Rattle.tsb_step.specs.Events.{View, Found, Selected}
-
--- two tests agree on the numbers 1 to 16
-abbrev pub Agree : (ℕ → Bool) → (ℕ → Bool) → Type 0
-Agree f g = (n : ℕ) → 1 ≤ n → n ≤ 16 → f n ≡ g n
 
 -- two views agree
 pub record AgreeInAll (v w : View) : Type 0 where
