@@ -1,5 +1,5 @@
 //! What events tell, each law the contract of a function that does nothing.
-ghost use Rattle.tsb_step.specs.EventLaws.{GreensEndWithOneCause, OthersHaveNoCause};
+ghost use Rattle.tsb_step.specs.EventLaws.{GreensEndWithOneCause, OthersHaveNoCause, QuietTicksTellNothing};
 
 /// `one`: A green that a tick ends, and that no preempt asked to end, is told with exactly one cause: gap, maximum or
 /// force-off. This holds from any state that has not tripped, not only in runs.
@@ -14,4 +14,15 @@ ghost use Rattle.tsb_step.specs.EventLaws.{GreensEndWithOneCause, OthersHaveNoCa
 pub fn greens_end_with_one_cause()
     ensures one { GreensEndWithOneCause }
     ensures none { OthersHaveNoCause }
+{}
+
+/// A tick in which nothing happens but time tells nothing, where its inputs are those of the tick before. So a bench that
+/// passes over such ticks leaves no event out.
+///
+/// Needs: that the row of the tick before is the same; of another one the inputs that change are told.
+/// Not said: which ticks are quiet.
+/// Mistake: all calls that stand are told again in each tick, `stands` of EventExamples.
+/// Witness: `quiet` of EventExamples.
+pub fn quiet_ticks_tell_nothing()
+    ensures { QuietTicksTellNothing }
 {}

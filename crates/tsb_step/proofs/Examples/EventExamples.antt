@@ -1,15 +1,16 @@
 -- The events of inputs, by computing, worked by hand from the plan of eight phases. Its overlap 1 includes phases 1 and 2.
 use Rattle.std.specs.Prelude.{◌≡◌, true, false, [], ◌∷◌, is_some, refl}
+use Rattle.tsb_cells.specs.declared.timer.Timer.TheVariants.{On}
 use Rattle.tsb_types.specs.Events.{event}
 use Rattle.tsb_types.specs.Sets.{all_off}
 use Rattle.tsb_objects.specs.tsb_plan.Quad.{quad}
 use Rattle.tsb_phase.specs.Causes.{cause}
 use Rattle.tsb_step.specs.declared.inputs.Input.TheVariants.{Tick, Pattern}
 use Rattle.tsb_step.specs.Events.{ends_freely, events_of, selected, view}
-use Rattle.tsb_step.specs.State.{start}
+use Rattle.tsb_step.specs.State.{State, start}
 use Rattle.tsb_step.specs.Tick.{phases_given, phase_read}
 use Rattle.tsb_step.proofs.Examples.Scenes as scenes
-use Rattle.tsb_step.proofs.Examples.Scenes.{after, preempt, resting, short, vehicle}
+use Rattle.tsb_step.proofs.Examples.Scenes.{after, all_red, called, green, preempt, resting, short, these, vehicle}
 
 -- what a computed line opens
 unfoldable pub opened : Unit {0}
@@ -38,6 +39,18 @@ too_short = refl
 quiet : events_of all_off resting (Tick all_off) ≡ []
 unfolding opened
 quiet = refl
+
+-- it is a quiet one, in which the call of phase 3 stands
+abbrev standing : State
+standing = record short { memories = called (3 ∷ []); phases = these (2 ∷ 6 ∷ []) (record (green 9) { conflict = On 5 }) all_red }
+
+quiet_too : events_of all_off standing (Tick all_off) ≡ []
+unfolding opened
+quiet_too = refl
+
+stands : (view (after standing all_off)).vehicle_calls 3 ≡ true
+unfolding opened
+stands = refl
 
 -- pattern 1 is selected: a cycle of 80 seconds, no offset, and eight splits
 pattern : events_of all_off resting (Pattern 1) ≡
