@@ -4,15 +4,13 @@ use Rattle.std.proofs.Math.Path.{fun_ext}
 use Rattle.std.proofs.lemmas.List.{get_or_append_left, get_or-append_right}
 use Rattle.std.proofs.lemmas.Bool.{cases_Bool}
 use Rattle.std.proofs.lemmas.Bool.Decides.{nat_tests}
-use Rattle.tsb_cells.specs.declared.timer.Timer.{Timer}
-use Rattle.tsb_cells.specs.declared.timer.Timer.TheVariants.{Off, On}
-use Rattle.tsb_cells.specs.Timer.{timer_cell, is_on}
+use Rattle.tsb_cells.specs.Timer.{timer_cell}
 use Rattle.tsb_cells.proofs.TimerLemmas.{timer_at-timer_cell, timer_cell-le, timer_cell-on, timer_cell-off}
 use Rattle.tsb_objects.specs.tsb_types.declared.interval.Interval.{Interval}
 use Rattle.tsb_objects.specs.tsb_types.declared.interval.Interval.TheVariants.{Red, Green, Yellow, RedClear}
 use Rattle.tsb_objects.specs.tsb_types.declared.interval.PedestrianInterval.{PedestrianInterval}
 use Rattle.tsb_objects.specs.tsb_types.declared.interval.PedestrianInterval.TheVariants.{DontWalk, Walk, PedestrianClear}
-use Rattle.tsb_objects.specs.tsb_types.Intervals.{is_green, is_yellow, is_red_clear, is_walk, is_clearance, is_dont_walk, in_service}
+use Rattle.tsb_objects.specs.tsb_types.Intervals.{is_green, is_yellow, is_red_clear, is_walk, is_clearance, is_dont_walk}
 use Rattle.tsb_objects.specs.tsb_types.Lists.{run_from}
 use Rattle.tsb_objects.specs.tsb_types.Sets.{names, list_of, list_in, is_phase}
 use Rattle.tsb_objects.proofs.tsb_types.RunLemmas.{at-run}

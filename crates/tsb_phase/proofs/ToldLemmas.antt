@@ -1,6 +1,5 @@
 -- A row that the phases can hold at a tick is the table of what it says.
-use Rattle.std.proofs.Common.{◌≡◌, ℕ, ◌+◌, ◌-◌, ◌≤◌, ◌==◌, Bool, true, false, if◌then◌else◌, List, [], ◌∷◌, ◌++◌, length, take, slice_index, refl, sym, ap₂, ◌∙◌, inl, inr, arith, Some, None}
-use Rattle.std.proofs.Math.Seq.{take-add}
+use Rattle.std.proofs.Common.{◌≡◌, ℕ, ◌+◌, ◌-◌, ◌≤◌, ◌==◌, Bool, true, false, if◌then◌else◌, List, [], ◌∷◌, length, take, slice_index, refl, sym, ◌∙◌, inl, inr, arith, Some, None}
 use Rattle.std.proofs.lemmas.Bool.{cases_Bool, eqb-true}
 use Rattle.std.proofs.lemmas.Bool.Decides.{nat_tests}
 use Rattle.tsb_cells.specs.Timer.{timer_cell}
@@ -9,8 +8,7 @@ use Rattle.tsb_cells.proofs.RowLemmas.{take-whole}
 use Rattle.tsb_objects.specs.tsb_types.declared.interval.Interval.TheVariants.{Red, Green, Yellow, RedClear}
 use Rattle.tsb_objects.specs.tsb_types.declared.interval.PedestrianInterval.TheVariants.{DontWalk, Walk, PedestrianClear}
 use Rattle.tsb_objects.specs.tsb_types.Intervals.{is_green, is_yellow, is_red_clear, is_walk, is_clearance}
-use Rattle.tsb_objects.specs.tsb_types.Sets.{names, list_of, list_in}
-use Rattle.tsb_objects.proofs.tsb_types.SetLemmas.{list_of-names, same-list_of}
+use Rattle.tsb_objects.specs.tsb_types.Sets.{list_of}
 use Rattle.tsb_objects.proofs.tsb_types.ClipLemmas.{is_phase_from}
 use Rattle.tsb_phase.specs.declared.TheConstants.{CELLS}
 use Rattle.tsb_phase.specs.declared.ending.Ending.TheVariants.{MaxOut, GapOut}

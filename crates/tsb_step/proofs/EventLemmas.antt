@@ -1,8 +1,7 @@
 -- Each green that ends freely has one cause.
 use Rattle.std.proofs.Common.{◌≡◌, ◌∙◌, ℕ, ◌+◌, Bool, true, false, ◌&&◌, if◌then◌else◌, Option, Some, None, is_some, is_none, refl, sym, ap}
 use Rattle.std.proofs.lemmas.Bool.{and_parts}
-use Rattle.tsb_types.specs.declared.interval.Interval.{Interval}
-use Rattle.tsb_types.specs.declared.interval.Interval.TheVariants.{Red, Green, Yellow, RedClear}
+use Rattle.tsb_types.specs.declared.interval.Interval.TheVariants.{Green, Yellow}
 use Rattle.tsb_types.specs.declared.row.Row.{Row}
 use Rattle.tsb_types.specs.Intervals.{is_green, is_yellow}
 use Rattle.tsb_phase.specs.declared.cause.Cause.{Cause}
@@ -19,21 +18,10 @@ use Rattle.tsb_step.specs.State.{State, interval}
 use Rattle.tsb_step.specs.Step.{step}
 use Rattle.tsb_step.specs.Tick.{moves, next, phases_given, phase_read}
 use Rattle.tsb_step.proofs.ClearLemmas.{phases_then}
+use Rattle.tsb_step.proofs.TellLemmas.{is_in_green, is_in_yellow}
 use Rattle.tsb_step.proofs.WaitedLemmas.{ended_was_ready}
 
 -- a phase that goes from Green to Yellow in a tick is one that a ring ends
-green_is : (i : Interval) → is_green i ≡ true → i ≡ Green
-green_is Green h = refl
-green_is Red h = absurd cc
-green_is Yellow h = absurd cc
-green_is RedClear h = absurd cc
-
-yellow_is : (i : Interval) → is_yellow i ≡ true → i ≡ Yellow
-yellow_is Yellow h = refl
-yellow_is Red h = absurd cc
-yellow_is Green h = absurd cc
-yellow_is RedClear h = absurd cc
-
 ended_now : (s : State) (row : Row) (p : ℕ) → s.trip ≡ None → interval s p ≡ Green → interval (step s (Tick row)) p ≡ Yellow →
     is_ended (moves s row) p ≡ true
 ended_now s row p dark e h =
@@ -66,7 +54,7 @@ one-cause last s row p dark free =
     let after : State = step s (Tick row) in
     let parts = and_parts (is_green (interval s p)) (is_yellow (interval after p) && is_none (ended_by (phases_given s row) p)) free in
     let others = and_parts (is_yellow (interval after p)) (is_none (ended_by (phases_given s row) p)) parts.1 in
-    let ended = ended_now s row p dark (green_is (interval s p) parts.0) (yellow_is (interval after p) others.0) in
+    let ended = ended_now s row p dark (is_in_green (interval s p) parts.0) (is_in_yellow (interval after p) others.0) in
     let has_cause = ready-has-cause s.plan (phases_given s row) p (phase_read s p) (ended_was_ready s row p ended)
     (none-of (ended_by (phases_given s row) p) others.1) in
     ap told_by (ap (λ (b : Bool). if b then causes.cause s.plan (phases_given s row) p (phase_read s p) else None) free)

@@ -55,10 +55,6 @@ cause_without_maximum plan given p w =
     if needs_forced given p then by_force_off (forced_latch given p (held_of w))
     else (if is_by_gap plan given p (is_gapped plan given p (held_of w)) then Some Gap else by_force_off (forced_latch given p (held_of w)))
 
-is_ready_at_maximum : is_ready plan driven_on 1 (green_for 300 Off (On 200)) ≡ true
-unfolding plan run_from cars_waiting reduction_timer gap initial maximum_in_use pedestrian_now is_ready
-is_ready_at_maximum = refl
-
 has_no_cause : cause_without_maximum plan driven_on 1 (green_for 300 Off (On 200)) ≡ None
 unfolding plan run_from cars_waiting reduction_timer gap initial maximum_in_use pedestrian_now is_ready
 has_no_cause = refl

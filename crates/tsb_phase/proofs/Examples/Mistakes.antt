@@ -17,7 +17,7 @@ use Rattle.tsb_phase.specs.Phase.{Phase, Given, GreenHeld, none_held, held_of}
 use Rattle.tsb_phase.specs.Green.{conflict_timer, begins_reduction, cars_waiting, reduction_timer, gap, initial, initial_has_passed, gap_has_expired, gapped_latch, is_gapped, has_maxed_out, forced_latch}
 use Rattle.tsb_phase.specs.DynamicMaximum.{maximum_in_use, effective_maximum, stepped, running_maximum_after}
 use Rattle.tsb_phase.specs.Pedestrian.{pedestrian_now}
-use Rattle.tsb_phase.specs.Ready.{has_timed_out, has_passed, red_revert_now, red_revert_passed, is_ready}
+use Rattle.tsb_phase.specs.Ready.{has_timed_out, has_passed, red_revert_now, is_ready}
 use Rattle.tsb_phase.specs.Next.{next, pedestrian_at_start}
 use Rattle.tsb_phase.proofs.Examples.Examples.{plan, nothing, waiting, held, several}
 use Rattle.tsb_phase.proofs.Examples.GreenExamples.{driven_on, green_for}

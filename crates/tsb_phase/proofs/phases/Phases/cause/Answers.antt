@@ -1,4 +1,4 @@
-use Rattle.std.proofs.Common.{◌≡◌, ◌∙◌, ap}
+use Rattle.std.proofs.Common.{◌∙◌, ap}
 use Rattle.tsb_objects.specs.Checked.{checked_plan}
 use Rattle.tsb_phase.specs.Causes.{cause}
 use Rattle.tsb_phase.specs.Cells.{phase_of}

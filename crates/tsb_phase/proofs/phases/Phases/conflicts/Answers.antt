@@ -1,8 +1,7 @@
-use Rattle.std.proofs.Common.{◌≡◌, ◌∙◌, ℕ, ◌==◌, Bool, not, sym, ap, arith, refl, inl, inr}
+use Rattle.std.proofs.Common.{◌≡◌, ◌∙◌, ℕ, ◌==◌, not, sym, ap, arith, refl, inl, inr}
 use Rattle.std.proofs.lemmas.Bool.{cases_Bool}
 use Rattle.tsb_cells.specs.Timer.{timer_at, is_on}
 use Rattle.tsb_phase.specs.Phase.{Phase}
-use Rattle.tsb_phase.specs.Cells.{row_in}
 use Rattle.tsb_phase.specs.Layer.{cells_of}
 use Rattle.tsb_phase.proofs.ReadLemmas.{phase_in-row}
 use Rattle.tsb_phase.proofs.phases.Phases.conflicts.Goals as goal
