@@ -22,7 +22,7 @@ use Rattle.tsb_step.proofs.TellLemmas.{is_in_green, is_in_yellow}
 use Rattle.tsb_step.proofs.WaitedLemmas.{ended_was_ready}
 
 -- a phase that goes from Green to Yellow in a tick is one that a ring ends
-ended_now : (s : State) (row : Row) (p : ℕ) → s.trip ≡ None → interval s p ≡ Green → interval (step s (Tick row)) p ≡ Yellow →
+pub ended_now : (s : State) (row : Row) (p : ℕ) → s.trip ≡ None → interval s p ≡ Green → interval (step s (Tick row)) p ≡ Yellow →
     is_ended (moves s row) p ≡ true
 ended_now s row p dark e h =
     go (is_started (moves s row) p) (is_ended (moves s row) p) refl refl

@@ -34,6 +34,7 @@ use Rattle.tsb_step.specs.Runs.{replay, AreTaken}
 use Rattle.tsb_step.specs.Laws.{IsConsistent}
 use Rattle.tsb_step.specs.Good.{IsGood}
 use Rattle.tsb_step.proofs.ClipLemmas.{clipped_holds}
+use Rattle.tsb_step.proofs.EventLemmas.{ended_now}
 use Rattle.tsb_step.proofs.ClearLemmas.{plan_stays}
 use Rattle.tsb_step.proofs.GivenLemmas.{symmetric, given}
 use Rattle.tsb_step.proofs.GoodLemmas.{good_run}
@@ -46,7 +47,6 @@ use Rattle.tsb_laws.proofs.safety.IntergreenLemmas.{good_then, turns_yellow, sta
 use Rattle.tsb_laws.proofs.safety.ChoiceLemmas.{pick_not_omitted, entry_not_omitted}
 use Rattle.tsb_laws.proofs.safety.EnabledLemmas.{callable_not_omitted}
 use Rattle.tsb_laws.proofs.safety.DueLemmas.{count_run, clipped_at}
-use Rattle.tsb_laws.proofs.safety.ServedLemmas.{ended_now}
 
 -- ## A coordinated green that ends
 

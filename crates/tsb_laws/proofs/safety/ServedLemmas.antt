@@ -25,6 +25,7 @@ use Rattle.tsb_step.specs.Laws.{IsConsistent}
 use Rattle.tsb_step.specs.Good.{IsGood}
 use Rattle.tsb_step.specs.TimeLaws.{held_for, TellsTime}
 use Rattle.tsb_step.proofs.ClearLemmas.{plan_stays, one_later}
+use Rattle.tsb_step.proofs.EventLemmas.{ended_now}
 use Rattle.tsb_step.proofs.GivenLemmas.{symmetric, given}
 use Rattle.tsb_step.proofs.GoodLemmas.{good_run}
 use Rattle.tsb_step.proofs.StandLemmas.{rings_then, StandsOrStarts, stands_in_runs}
@@ -352,16 +353,6 @@ chosen_is_other s row r p c good own green h same = go (pick_chosen s.plan s.rin
     go (is_wanted target e k l) =
         let serving_p : serving s.plan (rings_given s row) r ≡ Some p = is_serving s.plan s.rings (rings_given s row) r p good.rings own (ap in_service green) in
         true≢false (sym (rw same at k) ∙ (rw serving_p at l))
-
-pub ended_now : (s : State) (row : Row) (p : ℕ) → s.trip ≡ None → interval s p ≡ Green → interval (step s (Tick row)) p ≡ Yellow → is_ended (moves s row) p ≡ true
-ended_now s row p dark e h =
-    go (is_started (moves s row) p) (is_ended (moves s row) p) refl refl (sym (at_next s row p dark) ∙ h)
-  where
-    go : (starts ends : Bool) → is_started (moves s row) p ≡ starts → is_ended (moves s row) p ≡ ends → interval (next s row) p ≡ Yellow →
-        is_ended (moves s row) p ≡ true
-    go true ends k l x = let bad : Green ≡ Yellow = rw k at x in absurd cc
-    go false true k l x = l
-    go false false k l x = let bad : Green ≡ Yellow = rw (k, e, l) at x in absurd cc
 
 made_so : (s : State) (row : Row) (r : Ring) (p c : ℕ) → IsGood s → s.trip ≡ None → in_ring s.plan r p ≡ true → is_ended (moves s row) p ≡ true →
     (step s (Tick row)).rings.commitment r ≡ Some c → (step s (Tick row)).rings.crossing ≡ None → pick s.plan s.rings (rings_given s row) r ≡ Some c
