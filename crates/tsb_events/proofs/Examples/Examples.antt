@@ -11,6 +11,7 @@ unfoldable pub opened : Unit {0}
 unfolding run_from
 opened = tt
 
+-- no number, and one number alone
 abbrev none : ℕ → Bool
 none n = false
 
