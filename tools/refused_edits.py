@@ -239,10 +239,10 @@ def tried_alone(crate: Any, edit: Edit, kept: str) -> Verdict:
     goal = refused(crate, [edit], kept).get(edit.file)
     if goal:
         return Verdict(True, f"must-fail {crate.name}/{edit.file.name}: refused, as it must be, alone: {goal[:160]}")
-    is_refused, line = kit.kit().must_fail(crate, str(edit.file), ["--jobs", "1"], kept)
-    if not is_refused:
-        is_refused, line = kit.kit().must_fail(crate, str(edit.file), ["--jobs", "1"])
-    return Verdict(is_refused, line)
+    said, line = kit.kit().must_fail(crate, str(edit.file), ["--jobs", "1"], kept)
+    if said != kit.kit().REFUSED:
+        said, line = kit.kit().must_fail(crate, str(edit.file), ["--jobs", "1"])
+    return Verdict(said == kit.kit().REFUSED, line)
 
 
 def tried(crate: Any, group: list[Edit], kept: str) -> list[Verdict]:
