@@ -1,52 +1,46 @@
 #!/usr/bin/env python3
 """Has the prover refuse the edits of must-fail/, several in one run: refused_edits.py [CRATE ..], at the top.
 
-It needs the libraries that `rt ci` left in `crates/*/out/rlib`. Edits of different functions of a crate are put into one
-copy of it, and the prover is asked for these functions alone. An edit is refused if the prover names a goal of the very
-function that it edits, or of one that names the constant that it edits: a goal that no search proved, or that the
-answer written for it does not fit. A function that is not proved only because of what it calls, or because a proof
-names what the edit took away, shows nothing. Such an edit is tried by itself, and in the end over the whole crate, as
-`rt ci` tries it. The last line is `N passed, M failed`.
+It needs the libraries that `rt ci` left in `crates/*/out/rlib`. The edits of a crate are put into one copy of it, and the
+prover is asked for the functions that they change, and for these alone. Of two edits of one function the second is made
+in a copy of the function, beside one more in which nothing is changed.
 
-Runs of one crate share what they prove. An edit that the whole crate does not refuse so is tried once more from nothing.
-That the crate as it is would be proved over what they share is not tried, as `rt ci` tries it.
+An edit is refused if the prover names a goal of the very function that it edits, or of one that names the constant that
+it edits, itself or in the fields of its type: a goal that no search proved, or that the answer written for it does not
+fit. A function that is not proved only because of what it calls, or because a proof names what the edit took away, shows
+nothing. Such an edit is tried by itself, and in the end over the whole crate, as `rt ci` tries it. The last line is
+`N passed, M failed`.
+
+Functions that are not asked for are not proved: their contracts stand all the same for those that call them, and what
+is told of a function for its callees alone shows nothing. Runs of one crate share what they prove. An edit that the
+whole crate does not refuse so is tried once more from nothing. That the crate as it is would be proved over what they
+share is not tried, as `rt ci` tries it.
 """
+import contextlib
 import dataclasses
 import functools
 import pathlib
 import re
+import resource
 import shutil
 import subprocess
 import sys
 import tempfile
+import time
 from collections.abc import Iterator
 from typing import Any
 
 import kit
+from crate_functions import Function, Path, function_at, functions_at, functions_of, is_of_trait, proof_of, sources
+from crate_functions import span
 
 # How the prover begins what it says of a goal that is left open, and of an answer that does not fit.
-OPEN_GOAL = re.compile(r"note: (?:\./)?(\S+?):(\d+):\d+: it is not proved that ")
+OPEN_GOAL = re.compile(r"note: (?:\./)?(\S+?):(\d+):\d+: (?:it is not proved that |`search` found no proof \()")
 BAD_ANSWER = re.compile(r"(?:\./)?proofs/(\S+)/[^/\s]+:\d+:\d+: error: ")
 # What an answer says that only names what the edit, or another one, took away.
 TAKEN_AWAY = re.compile(r"has no field|is not in scope|has no `|was not admitted|is no name")
-HEAD = re.compile(r"([ \t]*)(?:pub(?:\([^)]*\))? )?(?:const )?fn (\w+)")
-CONSTANT = re.compile(r"(?:pub(?:\([^)]*\))? )?const (\w+):")
-MACRO = re.compile(r"macro_rules! (\w+)")
-IMPL = re.compile(r"impl(?:<[^>]*>)? (?:(\S+?)(?:<(.*)>)? for )?&?(\w+)")
-
-# The path of a file in a crate.
-Path = str
-
-
-@dataclasses.dataclass(frozen=True)
-class Function:
-    """A function: its file, the end of the prover's name of it, and the lines on which it begins and ends."""
-
-    path: Path
-    name: str
-    first: int
-    last: int
-
+# How long to wait before a look at how far a check is, in seconds.
+POLL = 0.02
 
 @dataclasses.dataclass(frozen=True)
 class Change:
@@ -59,11 +53,13 @@ class Change:
 
 @dataclasses.dataclass(frozen=True)
 class Edit:
-    """An edit of a crate: its file, what it changes, and the functions that it changes it in."""
+    """An edit of a crate: its file, what it changes, and the functions that it changes it in; and whether it can as well
+    be made in a copy of its function."""
 
     file: pathlib.Path
     changes: tuple[Change, ...]
     functions: frozenset[tuple[Path, str]]
+    may_be_copied: bool
 
 
 def changes_of(file: pathlib.Path) -> Iterator[Change]:
@@ -78,86 +74,31 @@ def changes_of(file: pathlib.Path) -> Iterator[Change]:
             yield Change(path, old, line.removeprefix("new:").removeprefix(" "))
 
 
-def owner(rows: list[str], first: int) -> str:
-    """The name that the prover gives the block that a method stands in: of its type, its trait and the trait's words."""
-    head = next((row for row in reversed(rows[:first]) if row.startswith(("impl", "pub trait", "trait"))), "")
-    found = IMPL.match(head)
-    if not found:
-        return head.removeprefix("pub ").removeprefix("trait ").partition("<")[0].partition(" ")[0].partition(":")[0]
-    generics = re.findall(r"\w+", head.partition(">")[0]) if head.startswith("impl<") else []
-    words = [it for it in re.split(r",\s*", found[2] or "") if it and it not in generics]
-    named = "".join(part[:1].upper() + part[1:] for it in words for part in re.findall(r"\w+", it))
-    return found[3] + (found[1] or "").rpartition("::")[2] + named
-
-
-def function_at(path: Path, text: str, at: int) -> Function | None:
-    """The function that a place of a file stands in, if it stands in one."""
-    rows = text.split("\n")
-    row = text.count("\n", 0, at)
-    for first in range(row, -1, -1):
-        found = HEAD.match(rows[first])
-        if found:
-            break
-    else:
-        return None
-    last = next((k for k in range(first, len(rows)) if rows[k] == found[1] + "}"), len(rows) - 1)
-    if row > last:
-        return None
-    module = path.rpartition("/")[2].removesuffix(".rt")
-    above = owner(rows, first) if found[1] else "" if module in ("lib", "main") else module
-    # (the prover names the attribute above a function as its place)
-    while first and rows[first - 1].lstrip().startswith("#["):
-        first -= 1
-    return Function(path, f"{above}::{found[2]}" if above else found[2], first + 1, last + 1)
-
-
-def constant_at(text: str, at: int) -> str | None:
-    """The constant that a place of a file stands in; of a macro, the first constant that is made by it."""
-    for row in reversed(text[:at].split("\n")):
-        constant, macro = CONSTANT.match(row), MACRO.match(row)
-        if constant or HEAD.match(row):
-            return constant[1] if constant else None
-        if macro:
-            made = re.search(rf"^{CONSTANT.pattern}.*\b{macro[1]}!", text[at:], re.M)
-            return made[1] if made else None
-    return None
-
-
-def readers(path: Path, texts: dict[Path, str], at: int) -> list[Function]:
-    """The functions that name the constant that a place of a file stands in, if it stands in one."""
-    name = constant_at(texts[path], at)
-    if not name:
-        return []
-    named = re.compile(rf"\b{name}\b")
-    places = ((it, text, place.start()) for it, text in texts.items() for place in named.finditer(text))
-    return [it for it in (function_at(*place) for place in places) if it]
-
-
-def functions_at(path: Path, texts: dict[Path, str], at: int) -> list[Function]:
-    """The function that a place of a file stands in, or those that name the constant that it stands in."""
-    found = function_at(path, texts[path], at)
-    return [found] if found else readers(path, texts, at)
-
-
-def sources(folder: str) -> dict[Path, str]:
-    """The files of src/."""
-    return {f"src/{it.relative_to(f'{folder}/src')}": it.read_text() for it in pathlib.Path(folder, "src").rglob("*.rt")}
-
-
 def edit_of(folder: str, file: pathlib.Path) -> Edit:
     """An edit, with the functions that hold the ends of what it changes."""
     changes = tuple(changes_of(file))
     texts = sources(folder)
     found = (functions_at(it.path, texts, texts[it.path].find(it.old) + len(it.old)) for it in changes if it.path in texts)
-    return Edit(file, changes, frozenset((it.path, it.name) for functions in found for it in functions))
+    functions = {it for functions in found for it in functions}
+    may_be_copied = len(functions) == 1 and is_plain(texts, changes, *functions)
+    return Edit(file, changes, frozenset((it.path, it.name) for it in functions), may_be_copied)
+
+
+def is_plain(texts: dict[Path, str], changes: tuple[Change, ...], function: Function) -> bool:
+    """Whether a function can be copied under another name: it is none of a trait, and all of these changes are in it."""
+    text = texts[function.path]
+    start, end = span(text, function)
+    inside = all(it.path == function.path and start <= text.find(it.old) <= end - len(it.old) for it in changes)
+    return inside and not is_of_trait(text, function) and proof_of(texts, function) is not None
 
 
 def grouped(edits: list[Edit]) -> list[list[Edit]]:
-    """Edits in groups, in each of which no two change one function; those outside functions stand alone."""
+    """Edits in groups, in each of which no two change one function in one place; those outside functions stand alone."""
     groups: list[list[Edit]] = []
     for edit in edits:
         for group in groups:
-            if edit.functions and all(it.functions and not it.functions & edit.functions for it in group):
+            taken = {name for it in group for name in it.functions}
+            if edit.functions and all(it.functions for it in group) and (edit.may_be_copied or not taken & edit.functions):
                 group.append(edit)
                 break
         else:
@@ -165,39 +106,128 @@ def grouped(edits: list[Edit]) -> list[list[Edit]]:
     return groups
 
 
+@dataclasses.dataclass(frozen=True)
+class Write:
+    """A text that is written into a file in place of what stands there, and what it is written for."""
+
+    path: Path
+    start: int
+    end: int
+    new: str
+    reason: pathlib.Path
+
+
+def unedited(function: Function) -> pathlib.Path:
+    """What stands for the copy of a function in which nothing is changed."""
+    return pathlib.Path("unedited", function.path, function.name)
+
+
+def copied(folder: str, texts: dict[Path, str], function: Function, changes: tuple[Change, ...], word: str) -> Iterator[tuple[Path, str]]:
+    """A copy of a function behind it, under its name with this word, after these changes; and its proof, if one is written."""
+    start, end = span(texts[function.path], function)
+    made = texts[function.path][start:end]
+    for it in changes:
+        made = made.replace(it.old, it.new, 1)
+    name = function.name.rpartition(":")[2]
+    yield function.path, "\n\n" + re.sub(rf"\bfn {name}\b", f"fn {name}{word}", made, count=1)
+    proof = proof_of(texts, function) or ""
+    named = re.compile(rf"\b{re.escape(proof.replace('/', '.'))}(?=\.)")
+    for file in sorted(pathlib.Path(folder, proof).glob("*.antt")):
+        yield f"{proof}{word}/{file.name}", named.sub(proof.replace("/", ".") + word, file.read_text())
+
+
+def function_of(texts: dict[Path, str], edit: Edit) -> Function:
+    """The one function that an edit changes."""
+    change = edit.changes[0]
+    found = function_at(change.path, texts[change.path], texts[change.path].find(change.old) + len(change.old))
+    assert found is not None
+    return found
+
+
+def placed(folder: str, edits: list[Edit]) -> Iterator[Write]:
+    """What is written for these edits. The first of a function is made in it, and each further one in a copy behind it. One
+    copy more has no change: what the prover cannot show of that one shows nothing of the others."""
+    texts, taken, seen = sources(folder), set(), set()
+    for number, edit in enumerate(edits):
+        if not edit.functions & taken:
+            taken |= edit.functions
+            for it in edit.changes:
+                at = pathlib.Path(folder, it.path).read_text().find(it.old)
+                yield Write(it.path, at, at + len(it.old), it.new, edit.file)
+            continue
+        function = function_of(texts, edit)
+        made = [(edit.file, edit.changes, f"_again_{number}")]
+        made += [] if function in seen else [(unedited(function), (), "_again")]
+        seen.add(function)
+        for reason, changes, word in made:
+            for path, new in copied(folder, texts, function, changes, word):
+                at = span(texts[path], function)[1] if path == function.path else 0
+                yield Write(path, at, at, new, reason)
+
+
 def applied(folder: str, edits: list[Edit]) -> tuple[dict[Path, str], dict[pathlib.Path, list[tuple[Path, int]]]]:
     """The files with all these edits made, and where what each edit wrote ends in them."""
     texts: dict[Path, str] = {}
-    ends: dict[pathlib.Path, list[tuple[Path, int]]] = {it.file: [] for it in edits}
-    changes = [(change, edit.file) for edit in edits for change in edit.changes]
-    for path in sorted({change.path for change, _ in changes}):
-        text = pathlib.Path(folder, path).read_text()
+    ends: dict[pathlib.Path, list[tuple[Path, int]]] = {}
+    writes = list(placed(folder, edits))
+    for path in sorted({it.path for it in writes}):
+        text = pathlib.Path(folder, path).read_text() if pathlib.Path(folder, path).is_file() else ""
         made, end = "", 0
-        for at, change, file in sorted((text.find(it.old), it, file) for it, file in changes if it.path == path):
-            if at < end:
-                raise ValueError(f"{file.name} changes what another edit of its group changes")
-            made += text[end:at] + change.new
-            end = at + len(change.old)
-            ends[file].append((path, len(made)))
+        for it in sorted((it for it in writes if it.path == path), key=lambda it: it.start):
+            if it.start < end:
+                raise ValueError(f"{it.reason.name} changes what another edit of its group changes")
+            made += text[end:it.start] + it.new
+            end = it.end
+            if path.startswith("src/"):
+                ends.setdefault(it.reason, []).append((path, len(made)))
         texts[path] = made + text[end:]
     return texts, ends
+
+
+def leave_out(room: str, texts: dict[Path, str], functions: set[str]) -> None:
+    """Has the prover prove none but these functions in a copy of the crate, and those of traits: in place of the proof of
+    each other one is an empty file. Its contract is there all the same for those that call it."""
+    others = (it for it in functions_of(texts) if it.name not in functions and not is_of_trait(texts[it.path], it))
+    for folder in filter(None, (proof_of(texts, it) for it in others)):
+        place = pathlib.Path(room, folder)
+        place.mkdir(parents=True, exist_ok=True)
+        for name in ("Answers.antt", "Invariants.antt"):
+            (place / name).unlink(missing_ok=True)
+        (place / "Proof.antt").write_text("")
+
+
+def said_by(words: list[str], room: str) -> str:
+    """What a check says. When it has proved what it can, it may open no more files: so it does not prove all once more to
+    show what to write in place of what failed, and says at once what it found."""
+    stages = pathlib.Path(room, "stages")
+    with tempfile.TemporaryFile("w+", errors="replace") as told:
+        running = subprocess.Popen([*words, "--stage-times", str(stages)], cwd=room, stdin=subprocess.DEVNULL,
+                                   stdout=told, stderr=subprocess.STDOUT)
+        while running.poll() is None:
+            if stages.is_file() and "\nstage session " in stages.read_text():
+                with contextlib.suppress(ProcessLookupError):
+                    resource.prlimit(running.pid, resource.RLIMIT_NOFILE, (3, 3))
+                break
+            time.sleep(POLL)
+        running.wait()
+        told.seek(0)
+        return told.read()
 
 
 def prove(crate: Any, texts: dict[Path, str], functions: set[str], kept: str) -> list[str]:
     """What the prover says of these functions in a copy of the crate with these files. What it proves goes into a folder,
     and what is there and still fits is not proved again."""
-    room_of = tempfile.TemporaryDirectory(prefix="edits-")
-    with room_of as room:
+    with tempfile.TemporaryDirectory(prefix="edits-") as room:
         for part in kit.kit().rtlib.PARTS:
             if pathlib.Path(crate.folder, part).is_dir():
                 shutil.copytree(f"{crate.folder}/{part}", f"{room}/{part}")
         for path, text in texts.items():
+            pathlib.Path(room, path).parent.mkdir(parents=True, exist_ok=True)
             pathlib.Path(room, path).write_text(text)
+        leave_out(room, sources(room), functions)
         asked = [word for name in sorted(functions) for word in ("--only", name)]
         words = [kit.kit().rtlib.RATTLE, "check", *crate.words(["--jobs", "1"], keeps=False), *asked, "--incremental", kept]
-        done = subprocess.run(words, cwd=room, stdin=subprocess.DEVNULL, stdout=subprocess.PIPE,
-                              stderr=subprocess.STDOUT, text=True, errors="replace")
-    return done.stdout.split("\n")
+        return said_by(words, room).split("\n")
 
 
 def own_goal(lines: list[str], function: Function) -> str | None:
@@ -217,13 +247,16 @@ def own_goal(lines: list[str], function: Function) -> str | None:
 def refused(crate: Any, group: list[Edit], kept: str) -> dict[pathlib.Path, str]:
     """The edits of a group that are refused, tried together, each with the goal that its own function does not meet."""
     texts, ends = applied(crate.folder, group)
-    whole = sources(crate.folder) | texts
+    whole = sources(crate.folder) | {path: text for path, text in texts.items() if path.startswith("src/")}
     functions = {file: [it for path, at in places if path in whole for it in functions_at(path, whole, at)]
                  for file, places in ends.items()}
     asked = {it.name for found in functions.values() for it in found}
     lines = prove(crate, texts, asked, kept) if asked else []
     goals = {file: next(filter(None, (own_goal(lines, it) for it in found)), None) for file, found in functions.items()}
-    return {file: goal for file, goal in goals.items() if goal}
+    # (where a copy without a change is not proved either, those with one show nothing)
+    texts = sources(crate.folder)
+    lost = {it.file for it in group if it.may_be_copied and goals.get(unedited(function_of(texts, it)))}
+    return {it.file: goal for it in group if (goal := goals.get(it.file)) and it.file not in lost}
 
 
 @dataclasses.dataclass(frozen=True)

@@ -1,12 +1,14 @@
 #!/usr/bin/env python3
-"""Runs the built program on files of the disk and compares what it writes; run it at the top, with the program's path.
+"""Runs the built program tsb on files of the disk and compares what it writes: run_program.py PROGRAM PLAYER, at the top.
 
 Each run has its words, its input, and the exact bytes that it must write on standard output and on standard error, with
 the status that it must end with. Plans, logs and sessions, with what they are answered, are those of `examples/`; lines
 of faults are those of docs/MANUAL.md. The program runs in a folder that holds a copy of the examples and some files
-more, and that is taken away afterwards. The last session goes through all 6,000,000 ticks that there are.
+more, and that is taken away afterwards. The last session goes through all 6,000,000 ticks that there are, and so does
+PLAYER, the program tsb_memory_runs, which plays and copies the bench.
 """
 import itertools
+import os
 import pathlib
 import shutil
 import subprocess
@@ -28,6 +30,8 @@ TORN = "/proc/self/mem"
 ENDLESS, FULL = "/dev/zero", "/dev/full"
 
 TICKS = 6_000_000
+# How many of them are played at once, and how many rows a long log has.
+MANY = 1_100_000
 
 # What phases 2 and 4 of the built-in plan show from tick 1 on, again and again, and for how many ticks: 10 and 8 s of
 # green, 3 of yellow, 1 of red clearance.
@@ -132,14 +136,22 @@ def file_runs():
         yield Run(["run", path, "empty.log"], 1, b"", b"plan: too large\n")
     yield Run(["run", "two.json", ENDLESS], 1, b"", b"log: too large\n", b"step 1\n")
     yield Run(["run", "two.json", "two.json"], 1, b"", b"log line 1: malformed\n", b"step 1\n")
+    for path in ["many_versions.json", "many_indices.json"]:
+        yield Run(["check", path], 0, OK)
+    yield Run(["check", "many_members.json"], 1, b"plan: a: no such object\n")
+    yield Run(["check", "many_values.json"], 1, b"plan: phaseWalk: not a table\n")
+    yield Run(["run", "two.json", "many.log"], 0, line("0000001", "-G-R").encode(), b"", b"step 1\n")
+    yield Run(["run", "two.json", "many_and_first.log"], 1, b"", f"log line {MANY + 1}: tick order\n".encode(), b"step 1\n")
+    yield Run(["run", "two.json", "many_and_bad.log"], 1, b"", f"log line {MANY + 1}: malformed\n".encode(), b"step 1\n")
     for log in ["empty.log", "same_tick.log", "none.log"]:
         yield Run(["run", "two_short_yellow.json", log], 1, b"", RULE, b"step 1\n")
     yield Run(["run", "none.json", "same_tick.log"], 3, b"", READ, b"step 1\n")
 
 
 def stream_runs():
-    """Standard streams that fail, commands that are too long, and an input that ends in a line."""
+    """Standard streams that fail, commands that are as long as they may be or longer, and an input that ends in a line."""
     session = (EXAMPLES / "step_and_back.expected").read_bytes()
+    longest = b"step 1\nback 1\n".ljust(LONGEST_COMMANDS, b"\n")
     too_long = b"step 1\nback 1\n".ljust(LONGEST_COMMANDS + 1, b"\n")
     undos = LONGEST_COMMANDS // len(b"undo\n")
     yield Run([], 0, b"nothing\n" * undos, b"", b"undo\n" * undos)
@@ -148,6 +160,7 @@ def stream_runs():
         yield Run(words, 0, session, b"", b"step 1\nback 1")
         yield Run(words, 3, b"", READ, stdin=TORN)
         yield Run(words, 3, b"", WRITE, b"show\n", stdout=FULL)
+        yield Run(words, 0, session, b"", longest)
         yield Run(words, 3, session, b"commands: too large\n", too_long)
         yield Run(words, 3, b"", b"commands: too large\n", stdin=ENDLESS)
     yield Run(["check", "two.json"], 3, b"", WRITE, stdout=FULL)
@@ -194,6 +207,41 @@ def longest_session(program):
     return [f"all ticks: status is {status}, not 0"] if status else []
 
 
+def played_ticks(player):
+    """What a run of the player through all ticks writes otherwise."""
+    shown = [line(TICKS, CYCLE[(TICKS - 1) % len(CYCLE)]), line("0000000", "-R-R")]
+    ended = ["Err(TickLimit)\n", "Ok(())\n", shown[1], "Err(Nothing)\n"]
+    wanted = f"{MANY} of {MANY} taken: {line(MANY, CYCLE[(MANY - 1) % len(CYCLE)])}"
+    wanted += "".join(f"{name}: {it}" for name in ["copy", "bench"] for it in [shown[0], *ended])
+    return [f"ticks that are played: {it}" for it in Run([], 0, wanted.encode(), b"", b"all ticks").differences(player, ".")]
+
+
+def read_too_far(program):
+    """Whether a session reads on after the byte that makes its commands too long: of a file, what is left stays there."""
+    with tempfile.TemporaryFile() as commands:
+        commands.write(b"\n" * (LONGEST_COMMANDS + (1 << 20)))
+        commands.seek(0)
+        done = subprocess.run([program], stdin=commands, capture_output=True, timeout=120)
+        count = os.lseek(commands.fileno(), 0, os.SEEK_CUR)
+    ended = done.returncode, done.stdout, done.stderr
+    is_well = count == LONGEST_COMMANDS + 1 and ended == (3, b"", b"commands: too large\n")
+    return [] if is_well else [f"a file of commands that is too long: {count} bytes are read, and it ends with {ended}"]
+
+
+def long_texts(folder):
+    """Puts texts of a great many parts into a folder: plans of over 65,536 members, and logs of over a million rows."""
+    rest = (folder / "two.json").read_bytes().lstrip()[1:]
+    for name, start, piece, times, end in [
+        ("many_versions", b"{", b'"version":2,', 87_000, b""), ("many_members", b"{", b'"a":[],', 140_000, b""),
+        ("many_indices", b'{"phaseWalk":{', b'"2":1,', 170_000, b'"2":0},'),
+        ("many_values", b'{"phaseWalk":[', b"0,", 500_000, b"0],"),
+    ]:
+        (folder / f"{name}.json").write_bytes(start + piece * times + end + rest)
+    rows = "".join(f"{tick:07} {tick % 2}000000000000000 00000000 0000\n" for tick in range(1, MANY + 1)).encode()
+    for name, end in [("many", b""), ("many_and_first", b"0000001 0000000000000000 00000000 0000\n"), ("many_and_bad", b"what\n")]:
+        (folder / f"{name}.log").write_bytes(rows + end)
+
+
 def fill(folder):
     """Puts the files of the runs into a folder."""
     shutil.copytree(EXAMPLES, folder, dirs_exist_ok=True)
@@ -206,14 +254,16 @@ def fill(folder):
     (folder / "too_long.json").write_bytes(plan.ljust(LONGEST_PLAN + 1))
     for name in ["two.json ", " two.json"]:
         shutil.copy(folder / "two_short_yellow.json", folder / name)
+    long_texts(folder)
 
 
 def main(words):
-    if len(words) != 1:
-        sys.exit("usage: tools/run_program.py PROGRAM")
-    program = pathlib.Path(words[0]).resolve()
-    if not program.is_file():
-        sys.exit(f"there is no {program}")
+    if len(words) != 2:
+        sys.exit("usage: tools/run_program.py PROGRAM PLAYER")
+    program, player = (pathlib.Path(it).resolve() for it in words)
+    for path in [program, player]:
+        if not path.is_file():
+            sys.exit(f"there is no {path}")
     runs = [*example_runs(), *word_runs(), *file_runs(), *stream_runs()]
     wrong = []
     with tempfile.TemporaryDirectory() as name:
@@ -221,8 +271,8 @@ def main(words):
         fill(folder)
         for run in runs:
             wrong += [f"{run.words} {run.places or ''}: {it}" for it in run.differences(program, folder)]
-    wrong += longest_session(program)
-    print("\n".join(wrong) if wrong else f"program: {len(runs) + 1} runs as expected")
+    wrong += longest_session(program) + read_too_far(program) + played_ticks(player)
+    print("\n".join(wrong) if wrong else f"program: {len(runs) + 3} runs as expected")
     return 1 if wrong else 0
 
 

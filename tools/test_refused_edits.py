@@ -1,9 +1,10 @@
 #!/usr/bin/env python3
-"""Tries refused_edits.py on a small repository: test_refused_edits.py, alone or by pytest. It takes about a minute.
+"""Tries refused_edits.py on a small repository: test_refused_edits.py, alone or by pytest. It takes some two minutes.
 
-One edit makes a clause false. Three show nothing, and each has to be told: one that is harmless, one that does not fit,
-and one that is harmless and calls a function that another edit of its run turns, so that the prover refuses it there
-for its callee alone.
+Three edits make a clause false, one of them in a copy of its function. Four show nothing, and each has to be told: one
+that does not fit; a harmless one, which is made in a copy as well; and two that are harmless and call a function which is
+not proved in that run, so that the prover refuses them there for their callee alone. Another edit turns the one callee,
+and the other is left out of the proof.
 """
 import pathlib
 import subprocess
@@ -42,21 +43,43 @@ pub fn double(n: u8) -> u8
 {
     n + n
 }
+
+/// The number before this one.
+pub fn before(n: u8) -> u8
+    requires { 0 < n }
+    ensures { result + 1 ≡ n }
+{
+    n - 1
+}
+
+/// The number two before this one.
+pub fn second_before(n: u8) -> u8
+    requires { 1 < n }
+    ensures { result + 2 ≡ n }
+{
+    before(before(n))
+}
 """
 
 EDITS = {
     "stays": ("    n + 1", "    n"),
     "only_its_callee_is_turned": ("    next(next(n))", "    next(n) + 1"),
+    "doubles_the_next": ("    n + n", "    n + n + 1"),
     "harmless": ("    n + n", "    2 * n"),
-    "does_not_fit": ("    n - 1", "    n"),
+    "its_callee_is_left_out": ("    before(before(n))", "    before(n) - 1"),
+    "does_not_fit": ("    n - 2", "    n"),
+    "yields_too_little": ("    n + n", "    n"),
 }
 
 # How the line of each edit goes on after its name.
 SAID = {
     "stays": "refused, as it must be: ",
     "only_its_callee_is_turned": "NOT REFUSED: ",
+    "doubles_the_next": "refused, as it must be: ",
     "harmless": "NOT REFUSED: ",
+    "its_callee_is_left_out": "NOT REFUSED: ",
     "does_not_fit": "BAD EDIT: ",
+    "yields_too_little": "refused, as it must be: ",
 }
 
 
@@ -79,7 +102,7 @@ def test_what_shows_nothing_is_told() -> None:
     said = done.stdout
     for name, wanted in SAID.items():
         assert f"must-fail small/{name}.edit: {wanted}" in said, said + done.stderr
-    assert said.endswith("1 passed, 3 failed\n"), said + done.stderr
+    assert said.endswith("3 passed, 4 failed\n"), said + done.stderr
     assert done.returncode == 1
 
 

@@ -97,6 +97,42 @@ fn events_words(rt: HostRuntime) {
     assert!(rt; ask_for_events(rt.alloc(), &words, time, "1001", "a.log"));
 }
 
+/// Whether the words ask for a record of this device from this time on, on this plan and log.
+fn ask_for_record(
+    alloc: Global,
+    words: &[&str],
+    time: &[u8],
+    name: &str,
+    files: (&str, &str),
+) -> bool {
+    match read_words(alloc, words) {
+        Ok(
+            Asked::Record {
+                from,
+                device,
+                plan,
+                log,
+            },
+        ) => Some(from) == read_moment(time) && device == name && (plan, log) == files,
+        _ => false,
+    }
+}
+
+#[test]
+fn record_words(rt: HostRuntime) {
+    let words = [
+        "tsb_field",
+        "record",
+        "a.json",
+        "--device=1001",
+        "--from",
+        "2026-11-22T07:00:00",
+        "a.log",
+    ];
+    let time = b"2026-11-22 07:00:00".as_slice();
+    assert!(rt; ask_for_record(rt.alloc(), &words, time, "1001", ("a.json", "a.log")));
+}
+
 /// Whether the words ask for a diagram with this log, title and width.
 fn ask_for_diagram(
     alloc: Global,
@@ -136,7 +172,7 @@ fn diagram_words(rt: HostRuntime) {
 const FROM: &str = "--from=2026-11-22T07:00:00";
 
 /// Words that ask for nothing.
-const BAD: [&[&str]; 21] = [
+const BAD: [&[&str]; 24] = [
     &["tsb_field"],
     &["tsb_field", "help"],
     &["tsb_field", "log"],
@@ -153,6 +189,16 @@ const BAD: [&[&str]; 21] = [
     &["tsb_field", "log", FROM, "--pedestrian=1=9"],
     &["tsb_field", "log", FROM, "--preempt=1=5"],
     &["tsb_field", "log", FROM, "--vehicle=4294967296=1"],
+    &["tsb_field", "record", FROM, "--device=1", "a.json"],
+    &["tsb_field", "record", FROM, "a.json", "a.log"],
+    &[
+        "tsb_field",
+        "record",
+        FROM,
+        "--device=a\"b",
+        "a.json",
+        "a.log",
+    ],
     &["tsb_field", "events", FROM],
     &["tsb_field", "events", FROM, "--device=a\"b"],
     &["tsb_field", "events", "--device=1"],

@@ -1,12 +1,16 @@
-//! Plays commands of every kind on the built-in plan of eight phases, and copies the bench that they leave. It writes the
-//! answer to each, then what the copy and the bench show and undo; or what memory ran out for.
+//! Plays commands on the built-in plans, and copies the bench that they leave.
 //!
-//! Its input is the number of a command that is left out, or nothing. tools/refused_calls.py refuses its requests for
-//! memory one after another, and leaves out the input that was refused, to see that the others are answered the same.
+//! Its input is `all ticks`, or the number of a command that is left out, or nothing. Given a number or nothing it plays
+//! commands of every kind on the plan of eight phases. It writes the answer to each, then what the copy and the bench
+//! show and undo; or what memory ran out for. tools/refused_calls.py refuses its requests for memory one after another,
+//! and leaves out the input that was refused, to see that the others are answered the same. For `all ticks` see
+//! `all_ticks`.
 #![tactic(auto)]
 
+mod all_ticks;
 mod commands;
 
+use crate::all_ticks::all_ticks;
 use crate::commands::commands;
 use std::io::{self, Read};
 use tsb_bench::{Bench, play};
@@ -14,7 +18,17 @@ use tsb_lines::number;
 use tsb_text::{Checked, Plan, line};
 
 fn main(rt: HostRuntime) -> io::Result<()> {
-    let left_out = number_given(&rt)?;
+    let mut text = [0; 16];
+    let count = rt.reader().read(&mut text)?;
+    let given = &text[..count];
+    if given == b"all ticks".as_slice() {
+        return all_ticks(&rt);
+    }
+    all_kinds(&rt, number(given).unwrap_or(0))
+}
+
+/// Plays commands of every kind but the one of this number, if there is one, and writes what is answered and shown.
+fn all_kinds(rt: &HostRuntime, left_out: u32) -> io::Result<()> {
     let Ok(commands) = commands(rt.alloc(), left_out) else {
         return println!(rt; "commands: memory");
     };
@@ -28,17 +42,10 @@ fn main(rt: HostRuntime) -> io::Result<()> {
         println!(rt; "{answer:?}")?;
     }
     match bench.clone_in(rt.alloc()) {
-        Ok(mut copy) => tell(&rt, "copy", &mut copy)?,
+        Ok(mut copy) => tell(rt, "copy", &mut copy)?,
         Err(refusal) => println!(rt; "copy: {refusal:?}")?,
     }
-    tell(&rt, "bench", &mut bench)
-}
-
-/// The number that is read, or 0. It takes no memory.
-fn number_given(rt: &HostRuntime) -> io::Result<u32> {
-    let mut text = [0; 16];
-    let count = rt.reader().read(&mut text)?;
-    Ok(number(&text[..count]).unwrap_or(0))
+    tell(rt, "bench", &mut bench)
 }
 
 /// Writes what a bench shows, and what it then undoes.

@@ -1,5 +1,5 @@
-//! Long runs with ample memory. A call that may answer `Memory` does not do so at any length, not beyond 65,536 and not
-//! beyond 1,000,000.
+//! Long runs with ample memory. A call that may answer `Memory` does not do so at a length beyond 65,536. The built
+//! programs are run beyond 1,000,000 (`tools/run_program.py`).
 
 use std::alloc::{AllocError, Global};
 use std::test::Fail;
@@ -10,11 +10,11 @@ use tsb_objects::{
     Checked, Lamp, NumberSet, Object, ObjectId, Phase, Plan, Row, SignalColor, Station,
 };
 
-/// More than a million.
-const MANY: u32 = 1_100_000;
+/// More than 65,536.
+const MANY: u32 = 70_000;
 
 /// How many rounds of inputs there are.
-const ROUNDS: usize = 2000;
+const ROUNDS: usize = 200;
 
 /// A tick with all inputs on.
 fn busy_tick() -> Input {
@@ -138,8 +138,8 @@ fn copy_is_taken_back(alloc: Global, bench: &mut Bench) -> bool {
 fn takes_rounds(alloc: Global, commands: &[Cmd]) -> bool {
     match played(alloc, Plan::quad(), commands) {
         Some((mut bench, answers)) => {
-            all_are_taken(&answers, 30_000)
-                && is_at(&bench, 4000, 300)
+            all_are_taken(&answers, 3000)
+                && is_at(&bench, 400, 300)
                 && copy_is_taken_back(alloc, &mut bench)
         }
         None => false,
@@ -208,7 +208,7 @@ fn long_history(alloc: Global) -> Result<History, AllocError> {
 fn a_long_history_is_copied(rt: HostRuntime) -> Result<(), Fail> {
     let history = long_history(rt.alloc())?;
     let copy = history.clone_in(rt.alloc())?;
-    assert!(rt; copy.len() == 1_100_000 && copy.bytes() == history.bytes());
+    assert!(rt; copy.len() == 70_000 && copy.bytes() == history.bytes());
     Ok(())
 }
 
@@ -231,7 +231,7 @@ fn many_rows(alloc: Global) -> Result<Vec<u8>, AllocError> {
 /// Whether the log has the many rows.
 fn has_many_rows(log: &Log) -> bool {
     let mut place = 0;
-    for tick in [1, 2, 65_536, 65_537, 1_000_000, 1_000_001, MANY - 1, MANY] {
+    for tick in [1, 2, 65_536, 65_537, MANY - 1, MANY] {
         if u32::from(log.row(tick, &mut place).vehicles.list()) != tick % 2 {
             return false;
         }
@@ -261,8 +261,8 @@ fn many_rows_are_read(rt: HostRuntime) -> Result<(), Fail> {
         matches!(
             (twice, other),
             (
-                Some(LogError::TickOrder(1_100_001)),
-                Some(LogError::Malformed(1_100_001)),
+                Some(LogError::TickOrder(70_001)),
+                Some(LogError::Malformed(70_001)),
             )
         )
     );

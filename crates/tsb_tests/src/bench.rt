@@ -293,37 +293,3 @@ fn keeps_plans_that_break_a_rule_out(rt: HostRuntime) {
 fn is_two_against(bench: &Bench, rule: Rule) -> bool {
     bench.desk().rule() == Some(rule) && *bench.plan() == Plan::two()
 }
-
-/// Whether the bench is at the last tick, and takes no further one.
-fn is_at_the_last_tick(bench: &mut Bench) -> bool {
-    number_of(bench) == Bench::TICKS && taken(bench, tick()) == Err(Refusal::TickLimit)
-}
-
-/// Whether the bench can be taken back to power-up, and no further.
-fn is_taken_back(bench: &mut Bench) -> bool {
-    sought(bench, 0) == Ok(()) && undone(bench) == Err(Nothing)
-}
-
-/// Whether a copy of the bench is at the last tick too, and is taken back.
-fn copy_is_taken_back(alloc: Global, bench: &Bench) -> bool {
-    match copied(alloc, bench) {
-        Some(mut copy) => is_at_the_last_tick(&mut copy) && is_taken_back(&mut copy),
-        None => false,
-    }
-}
-
-/// Whether the bench runs to the last tick and back, and so does a copy of it.
-fn ends(alloc: Global, bench: &mut Bench) -> bool {
-    run_to(bench, Bench::TICKS);
-    is_at_the_last_tick(bench) && copy_is_taken_back(alloc, bench) && is_taken_back(bench)
-}
-
-/// With ample memory no tick is refused up to the last one that there is, the bench can be copied there, and all can be
-/// taken back. An unproved run by `rt try`, which watches each access, does not end in time.
-#[test]
-fn runs_to_the_last_tick(rt: HostRuntime) {
-    let Some(mut bench) = powered_up(rt.alloc()) else {
-        panic!(rt; "no memory");
-    };
-    assert!(rt; ends(rt.alloc(), &mut bench));
-}

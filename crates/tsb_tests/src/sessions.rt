@@ -3,9 +3,7 @@
 use std::alloc::Global;
 use std::cell::Cell;
 use std::io::{self, Read, Write};
-use tsb_text::{
-    Bench, COMMANDS, Checked, Log, Plan, SessionError, line, read_log, read_plan, session,
-};
+use tsb_text::{Bench, Checked, Log, Plan, SessionError, line, read_log, read_plan, session};
 
 /// Gives its bytes in pieces, and fails at one of its reads.
 #[derive(Drop)]
@@ -67,23 +65,6 @@ impl Read for Typist<'_> {
         }
         self.typed += 1;
         buf[..count].copy_from_slice(self.line);
-        Ok(count)
-    }
-}
-
-/// Gives blank lines for ever, or as many bytes as are left.
-#[derive(Drop)]
-struct Blanks {
-    left: usize,
-}
-
-impl Read for Blanks {
-    fn read(&mut self, buf: &mut [u8]) -> io::Result<usize> {
-        let count = self.left.min(buf.len());
-        for byte in &mut buf[..count] {
-            *byte = b'\n';
-        }
-        self.left -= count;
         Ok(count)
     }
 }
@@ -188,28 +169,6 @@ fn answers_are_shown_before_each_read(rt: HostRuntime) {
     ] {
         assert!(rt; is_shown_before_each_read(rt.alloc(), line, answer));
     }
-}
-
-/// Whether as many bytes as a session takes are blank lines to it.
-fn takes_as_many_as_there_may_be(alloc: Global) -> bool {
-    let mut out = Vec::new(alloc);
-    ends(alloc, &mut Blanks { left: COMMANDS }, &mut out) && out.is_empty()
-}
-
-/// Whether a session ends at the byte after those.
-fn takes_no_more(alloc: Global) -> bool {
-    let mut out = Vec::new(alloc);
-    let mut more = Blanks { left: usize::MAX };
-    let ended = talk(alloc, &mut more, &mut out);
-    matches!(ended, Some(Err(SessionError::TooLarge)))
-        && more.left == usize::MAX - COMMANDS - 1
-        && out.is_empty()
-}
-
-/// A session takes 16 MiB, and not a byte more.
-#[test]
-fn a_reader_that_never_ends_is_too_large(rt: HostRuntime) {
-    assert!(rt; takes_as_many_as_there_may_be(rt.alloc()) && takes_no_more(rt.alloc()));
 }
 
 /// Whether what follows `quit` is not answered.
