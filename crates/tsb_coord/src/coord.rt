@@ -125,7 +125,7 @@ impl Coord {
 
     /// The pattern that runs: the one that is selected, if it has a cycle.
     #[inline(always)]
-    fn running(&self, plan: &Checked) -> Option<Pattern>
+    pub fn running(&self, plan: &Checked) -> Option<Pattern>
         requires by { IsBy (cells_of self.now) }
         ensures runs { result ≡ running (checked_plan plan.now) (pattern_in (cells_of self.now)) }
         ensures used { IfSome result (λ n. is_used (checked_plan plan.now) n ≡ true) }

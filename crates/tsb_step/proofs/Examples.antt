@@ -2,6 +2,9 @@
 pub mod Scenes
 pub mod TickExamples
 pub mod EventExamples
+pub mod WaitExamples
+pub mod WaitMistakes
+pub mod StatusExamples
 pub mod OrderExamples
 pub mod SignsExamples
 pub mod StepExamples

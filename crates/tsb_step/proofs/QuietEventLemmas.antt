@@ -143,7 +143,7 @@ view-later s = refl
 -- ## Quiet ticks
 
 -- no phase is Green and Yellow
-not-both : (i : Interval) (x : Bool) → (is_green i && (is_yellow i && x)) ≡ false
+pub not-both : (i : Interval) (x : Bool) → (is_green i && (is_yellow i && x)) ≡ false
 not-both Red x = refl
 not-both Green x = refl
 not-both Yellow x = refl

@@ -19,7 +19,6 @@ use Rattle.tsb_types.specs.declared.interval.Interval.TheVariants.{Red}
 use Rattle.tsb_types.specs.declared.interval.PedestrianInterval.{PedestrianInterval}
 use Rattle.tsb_types.specs.declared.interval.PedestrianInterval.TheVariants.{DontWalk}
 use Rattle.tsb_types.specs.declared.lamp.Aspect.{Aspect}
-use Rattle.tsb_types.specs.declared.lamp.Aspect.TheVariants as aspects
 use Rattle.tsb_types.specs.declared.row.Row.{Row}
 use Rattle.tsb_types.specs.declared.stage.Stage.{Stage}
 use Rattle.tsb_types.specs.declared.stage.Stage.TheVariants.{Track, Dwell, Exit}
@@ -35,6 +34,8 @@ use Rattle.tsb_phase.specs.Causes as causes
 use Rattle.tsb_phase.specs.Pedestrian.{ended_by}
 use Rattle.tsb_preempt.specs.Preempts as preempts
 use Rattle.tsb_preempt.specs.Preempts.{is_dwell, is_exit}
+use Rattle.tsb_heads.specs.Monitoring as heads
+use Rattle.tsb_heads.specs.Colours as colours
 use Rattle.tsb_step.specs.declared.inputs.Input.{Input}
 use Rattle.tsb_step.specs.declared.inputs.Input.TheVariants.{Tick}
 use Rattle.tsb_step.specs.State.{State, interval, pedestrian_part}
@@ -106,23 +107,13 @@ calls_now s = record {
 abbrev pub is_overlap : ℕ → Bool
 is_overlap o = nat_le 1 o && nat_le o 4
 
--- a green head
-abbrev pub is_green_head : Aspect → Bool
-is_green_head aspects.Green = true
-is_green_head a = false
-
--- a yellow head
-abbrev pub is_yellow_head : Aspect → Bool
-is_yellow_head aspects.Yellow = true
-is_yellow_head a = false
-
 -- some phase that the overlap includes is in service
 abbrev pub includes_service : State → ℕ → Bool
 includes_service s o = list_any (λ p. is_included s.plan o p && in_service (shown_interval s p)) (phases s.plan)
 
 -- its head is neither green nor yellow, and no such phase is in service
 abbrev pub is_off : Aspect → Bool → Bool
-is_off head serves = not (is_green_head head || is_yellow_head head) && not serves
+is_off head serves = not (heads.is_green head || colours.is_yellow head) && not serves
 
 -- a value of the pattern that runs, or of its split table; 0 where there is none
 abbrev pub or_zero : Option ℕ → (ℕ → ℕ) → ℕ
@@ -151,8 +142,8 @@ view s = record {
   clearances = λ p. is_clearance (shown_part s p);
   vehicle_calls = standing.vehicle_call s.plan (calls_now s) s.memories;
   pedestrian_calls = standing.pedestrian_call s.plan (calls_now s) s.memories;
-  overlap_greens = λ o. is_overlap o && is_green_head ((display s).overlap o);
-  overlap_yellows = λ o. is_overlap o && is_yellow_head ((display s).overlap o);
+  overlap_greens = λ o. is_overlap o && heads.is_green ((display s).overlap o);
+  overlap_yellows = λ o. is_overlap o && colours.is_yellow ((display s).overlap o);
   overlaps_off = λ o. is_overlap o && is_off ((display s).overlap o) (includes_service s o);
   alarms = λ d. is_some (s.detectors d).alarm;
   preempts = serves (λ k. true) (stage s);
