@@ -228,9 +228,9 @@ reset-untripped now old by none = record {
   entries_are = sym (nothing-differs old);
 }
 
--- the rows can be held at the tick in force, also those of a controller that has tripped
-pub by-now : (now : ℕ) (old : All) → AreAllBy now old → AreBy now old.layers
-by-now now old by = rows-stay (clock_at now (trip_in old.monitor)) now old.layers (at (trip_in old.monitor) refl) by.layers
+-- timers stand at a tick that has been
+pub clock-most : (now : ℕ) (old : All) → AreAllBy now old → clock_at now (trip_in old.monitor) ≤ now
+clock-most now old by = at (trip_in old.monitor) refl
   where
     tick : Option Tripped → ℕ
     tick None = 0
@@ -247,6 +247,10 @@ by-now now old by = rows-stay (clock_at now (trip_in old.monitor)) now old.layer
     at : (t : Option Tripped) → trip_in old.monitor ≡ t → clock_at now t ≤ now
     at None is = omega arith
     at (Some t) is = subst (λ (n : ℕ). n ≤ now) (tick-of t is) by.monitor.tick
+
+-- the rows can be held at the tick in force, also those of a controller that has tripped
+pub by-now : (now : ℕ) (old : All) → AreAllBy now old → AreBy now old.layers
+by-now now old by = rows-stay (clock_at now (trip_in old.monitor)) now old.layers (clock-most now old by) by.layers
 
 pub reset-done : (now : ℕ) (old new : All) (entries : List (ℕ × ℕ)) → AreAllBy now old → is_some (trip_in old.monitor) ≡ true →
     IsRestarted now old.layers new.layers → AreBy now new.layers → new.plan ≡ old.plan → new.desk ≡ old.desk → lamp_in new.monitor ≡ None → trip_in new.monitor ≡ None →

@@ -8,5 +8,6 @@ pub mod ValueLemmas
 pub mod SessionLemmas
 pub mod WatchedLemmas
 pub mod RoomLemmas
+pub mod TellingLemmas
 pub use Rattle.tsb_machine.proofs as tsb_machine
 pub use Rattle.tsb_step.proofs as tsb_step

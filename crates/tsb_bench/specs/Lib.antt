@@ -4,6 +4,8 @@ pub mod Cabinet
 pub mod Watched
 -- what callers see of a bench, and what it keeps
 pub mod Held
+-- what is kept of the cabinet before an input, by which its events are told
+pub mod Telling
 -- how long the room of the history lasts
 pub mod Room
 -- what laws of runs say of what `play` leaves

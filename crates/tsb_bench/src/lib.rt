@@ -14,12 +14,14 @@ mod passing;
 mod play_laws;
 mod player;
 mod room_laws;
+mod telling;
 mod watched;
 
 pub use bench::{Bench, Nothing};
 pub use play_laws::plays_keep_the_laws;
 pub use player::{answer, play};
 pub use room_laws::room_lasts;
+pub use tsb_events::Events;
 pub use tsb_history::Kind;
 pub use tsb_machine::Answer;
 pub use tsb_step::{Cmd, Input};

@@ -13,3 +13,6 @@ pub mod WholeLemmas
 pub mod ChangeLemmas
 mod CauseLemmas
 mod ReaderLemmas
+pub mod SeenLemmas
+pub mod EndingLemmas
+pub mod WaitLemmas

@@ -31,6 +31,7 @@ use Rattle.tsb_calls.specs.Memories.{Memories, as_set, has_output}
 use Rattle.tsb_calls.specs.Promises as calls
 use Rattle.tsb_calls.proofs.LookLemmas.{look-alike}
 use Rattle.tsb_calls.proofs.NextLemmas.{ticks-give}
+use Rattle.tsb_phase.specs.declared.conditions.Conditions as phase_conditions
 use Rattle.tsb_phase.specs.Cells as phase_cells
 use Rattle.tsb_phase.specs.Cells.{phase_in, row_in}
 use Rattle.tsb_phase.specs.Laws as phase_laws
@@ -71,7 +72,7 @@ use Rattle.tsb_step.proofs.ClipLemmas.{clipped_holds}
 use Rattle.tsb_controller.specs.declared.values.Sensed.{Sensed}
 use Rattle.tsb_controller.specs.declared.values.Movement.{Movement}
 use Rattle.tsb_controller.specs.Carried.{moved_by}
-use Rattle.tsb_controller.specs.Found.{observed, for_rings, IsSensed, IsMoved, AreDecided}
+use Rattle.tsb_controller.specs.Found.{observed, for_rings, IsSensed, IsMoved, AreConditions, AreDecided}
 use Rattle.tsb_controller.specs.Promises.{IsTicked}
 use Rattle.tsb_controller.specs.Rows.{Rows, AreBy, untripped, state_of}
 use Rattle.tsb_controller.proofs.PlacedLemmas.{IsPlaced, for_calls, within}
@@ -128,12 +129,11 @@ once plan g x p by_gap y = once_started plan g x p (once_cleared x p (once_ended
 -- `old` are the rows before it, `sensed_rows` once preempts and detectors have run, `mid` the calls' once they are set, and
 -- `moved_rows` once the moves are carried out
 
-module _ (now : ℕ) (plan : Plan) (desk : Desk) (lamp : Option Lamp) (row : Row) (old sensed_rows moved_rows : Rows) (mid : List ℕ) (s : Sensed) (called : Called) (m : Movement)
+module _ (now : ℕ) (plan : Plan) (desk : Desk) (lamp : Option Lamp) (row : Row) (old sensed_rows : Rows) (mid : List ℕ) (s : Sensed) (called : Called)
     (one : 1 ≤ now) (placed : IsPlaced plan) (by : AreBy (now - 1) old)
     (sensed : IsSensed now row plan old sensed_rows s)
     (sets : calls.IsSet (observed row s) plan old.calls mid)
-    (calls_told : calls.TellsCalled (observed row s) plan old.calls called)
-    (run : IsMoved now s called plan (record old { detectors = sensed_rows.detectors; calls = mid; preempts = sensed_rows.preempts }) moved_rows m) where
+    (calls_told : calls.TellsCalled (observed row s) plan old.calls called) where
   abbrev pub t : State
   t = state_of (now - 1) (untripped plan desk lamp) old
 
@@ -210,148 +210,156 @@ module _ (now : ℕ) (plan : Plan) (desk : Desk) (lamp : Option Lamp) (row : Row
   pedestrian_is : Agree (has called.pedestrian) (pedestrian_call t row)
   pedestrian_is p from to = (calls_told p from to).pedestrian ∙ called_alike.pedestrian p from to
 
+  -- ### Conditions of phase timing
+
+  module _ (conditions : phase_conditions.Conditions) (counts : List ℕ) (lent : calls.LendsCounts mid counts) (are : AreConditions s called counts conditions) where
+    pub phases_alike : phase_laws.AgreeOnPhases (phases.given_of conditions) (phases_given t row)
+    unfolding phases_given
+    phases_alike = record {
+      output = λ p from to. ap (λ (x : Called). has x.output p) are.called_are ∙ (calls_told p from to).output ∙ called_alike.output p from to
+          ∙ sym (clipped-agrees (has_output plan (calls_given t row)) p from to);
+      conflict = λ p from to. ap (λ (x : Called). has x.conflict p) are.called_are ∙ (calls_told p from to).conflict ∙ called_alike.conflict p from to
+          ∙ sym (clipped-agrees (conflict t row) p from to);
+      callable = λ p from to. ap (λ (x : Called). has x.callable p) are.called_are ∙ callable_is p from to ∙ sym (clipped-agrees (callable t row) p from to);
+      pedestrian_call = λ p from to. ap (λ (x : Called). has x.pedestrian p) are.called_are ∙ pedestrian_is p from to
+          ∙ sym (clipped-agrees (pedestrian_call t row) p from to);
+      count = λ p from to. ap (λ (xs : List ℕ). slice_index xs (p - 1)) are.counts_are
+          ∙ (lent p from to).same ∙ (sets p from to).count ∙ as_sets.count p from to ∙ sym (within-agrees 0 (set t row).count p from to);
+      runs = are.runs_is ∙ sensed.ordered.runs;
+      service = are.service_is ∙ served;
+      hold = λ p from to. ap (λ (x : Orders). has x.hold p) are.orders_are ∙ sensed.ordered.hold p from to ∙ sym (clipped-agrees (tick.hold t) p from to);
+      must_end = λ p from to. ap (λ (x : Orders). has x.must_end p) are.orders_are ∙ wanted.must_end p from to
+          ∙ sym (clipped-agrees (tick.must_end t row) p from to);
+      forced = λ p from to. ap (λ (x : Orders). has x.forced p) are.orders_are ∙ sensed.ordered.forced p from to
+          ∙ ap (λ (n : ℕ). asks_force_off plan n t.pattern p) now_is ∙ sym (clipped-agrees (tick.forced t) p from to);
+    }
+
+    pub told : (p : ℕ) → 1 ≤ p → p ≤ 16 → IsToldTheSame plan (phases.given_of conditions) (phases_given t row) p
+    told p from to = looks_only plan (phases.given_of conditions) (phases_given t row) placed.count phases_alike p from to
+
   -- ### Phases
 
-  phases_alike : phase_laws.AgreeOnPhases (phases.given_of run.conditions) (phases_given t row)
-  unfolding phases_given
-  phases_alike = record {
-    output = λ p from to. ap (λ (x : Called). has x.output p) run.conditions_are.called_are ∙ (calls_told p from to).output ∙ called_alike.output p from to
-        ∙ sym (clipped-agrees (has_output plan (calls_given t row)) p from to);
-    conflict = λ p from to. ap (λ (x : Called). has x.conflict p) run.conditions_are.called_are ∙ (calls_told p from to).conflict ∙ called_alike.conflict p from to
-        ∙ sym (clipped-agrees (conflict t row) p from to);
-    callable = λ p from to. ap (λ (x : Called). has x.callable p) run.conditions_are.called_are ∙ callable_is p from to ∙ sym (clipped-agrees (callable t row) p from to);
-    pedestrian_call = λ p from to. ap (λ (x : Called). has x.pedestrian p) run.conditions_are.called_are ∙ pedestrian_is p from to
-        ∙ sym (clipped-agrees (pedestrian_call t row) p from to);
-    count = λ p from to. ap (λ (xs : List ℕ). slice_index xs (p - 1)) run.conditions_are.counts_are
-        ∙ (run.lent p from to).same ∙ (sets p from to).count ∙ as_sets.count p from to ∙ sym (within-agrees 0 (set t row).count p from to);
-    runs = run.conditions_are.runs_is ∙ sensed.ordered.runs;
-    service = run.conditions_are.service_is ∙ served;
-    hold = λ p from to. ap (λ (x : Orders). has x.hold p) run.conditions_are.orders_are ∙ sensed.ordered.hold p from to ∙ sym (clipped-agrees (tick.hold t) p from to);
-    must_end = λ p from to. ap (λ (x : Orders). has x.must_end p) run.conditions_are.orders_are ∙ wanted.must_end p from to
-        ∙ sym (clipped-agrees (tick.must_end t row) p from to);
-    forced = λ p from to. ap (λ (x : Orders). has x.forced p) run.conditions_are.orders_are ∙ sensed.ordered.forced p from to
-        ∙ ap (λ (n : ℕ). asks_force_off plan n t.pattern p) now_is ∙ sym (clipped-agrees (tick.forced t) p from to);
-  }
+  module _ (moved_rows : Rows) (m : Movement)
+      (run : IsMoved now s called plan (record old { detectors = sensed_rows.detectors; calls = mid; preempts = sensed_rows.preempts }) moved_rows m) where
+    alike_here : (p : ℕ) → 1 ≤ p → p ≤ 16 → IsToldTheSame plan (phases.given_of run.conditions) (phases_given t row) p
+    alike_here = told run.conditions run.counts run.lent run.conditions_are
 
-  told : (p : ℕ) → 1 ≤ p → p ≤ 16 → IsToldTheSame plan (phases.given_of run.conditions) (phases_given t row) p
-  told p from to = looks_only plan (phases.given_of run.conditions) (phases_given t row) placed.count phases_alike p from to
+    abbrev was : ℕ → Phase
+    was p = phase_in (now - 1) old.phases p
 
-  abbrev was : ℕ → Phase
-  was p = phase_in (now - 1) old.phases p
+    ready_is : Agree (has m.timing.ready) (ready t row)
+    ready_is p from to = run.ready p from to ∙ (alike_here p from to).ready (as_read (was p))
 
-  ready_is : Agree (has m.timing.ready) (ready t row)
-  ready_is p from to = run.ready p from to ∙ (told p from to).ready (as_read (was p))
+    gapped_is : Agree (has m.timing.gapped) (gapped t row)
+    gapped_is p from to = run.gapped p from to ∙ (alike_here p from to).gapped (as_read (was p))
 
-  gapped_is : Agree (has m.timing.gapped) (gapped t row)
-  gapped_is p from to = run.gapped p from to ∙ (told p from to).gapped (as_read (was p))
+    ticked_is : Agree (phase_in now run.timed) (λ p. phase_next.ticked plan (phases_given t row) p (was p))
+    ticked_is p from to = run.ticked p from to ∙ (alike_here p from to).goes_on none_moved none_moved (was p) (record { ends = refl; clears = refl; starts = refl })
 
-  ticked_is : Agree (phase_in now run.timed) (λ p. phase_next.ticked plan (phases_given t row) p (was p))
-  ticked_is p from to = run.ticked p from to ∙ (told p from to).goes_on none_moved none_moved (was p) (record { ends = refl; clears = refl; starts = refl })
+    -- ### Rings
 
-  -- ### Rings
+    rings_alike : ring_looks.AgreeOnPhases (rings.given_of plan (for_rings s called m.timing)) (rings_given t row)
+    unfolding rings_given
+    rings_alike = record {
+      interval = shown;
+      sequence = λ r. ap (λ (n : ℕ). sequence plan n (number r)) sensed.ordered.sequence;
+      callable = λ p from to. callable_is p from to ∙ sym (clipped-agrees (callable t row) p from to);
+      omitted = λ p from to. sensed.ordered.omit p from to ∙ sym (clipped-agrees (tick.omitted t) p from to);
+      ready = λ p from to. ready_is p from to ∙ sym (clipped-agrees (ready t row) p from to);
+      over = λ p from to. run.over p from to ∙ sym (clipped-agrees (over t) p from to);
+      reverted = λ p from to. run.reverted p from to ∙ sym (clipped-agrees (reverted t) p from to);
+      target = same-targets _ (tick.target t row) wanted.target;
+    }
 
-  rings_alike : ring_looks.AgreeOnPhases (rings.given_of plan (for_rings s called m.timing)) (rings_given t row)
-  unfolding rings_given
-  rings_alike = record {
-    interval = shown;
-    sequence = λ r. ap (λ (n : ℕ). sequence plan n (number r)) sensed.ordered.sequence;
-    callable = λ p from to. callable_is p from to ∙ sym (clipped-agrees (callable t row) p from to);
-    omitted = λ p from to. sensed.ordered.omit p from to ∙ sym (clipped-agrees (tick.omitted t) p from to);
-    ready = λ p from to. ready_is p from to ∙ sym (clipped-agrees (ready t row) p from to);
-    over = λ p from to. run.over p from to ∙ sym (clipped-agrees (over t) p from to);
-    reverted = λ p from to. run.reverted p from to ∙ sym (clipped-agrees (reverted t) p from to);
-    target = same-targets _ (tick.target t row) wanted.target;
-  }
+    pub moves_are : m.moves ≡ moves t row
+    unfolding moves
+    moves_are =
+        run.decided
+        ∙ moves-same plan (rings_in old.rings) (rings.given_of plan (for_rings s called m.timing)) (rings_given t row) (within plan old.rings placed by.rings) rings_alike
 
-  pub moves_are : m.moves ≡ moves t row
-  unfolding moves
-  moves_are =
-      run.decided
-      ∙ moves-same plan (rings_in old.rings) (rings.given_of plan (for_rings s called m.timing)) (rings_given t row) (within plan old.rings placed by.rings) rings_alike
+    pub rings_are : rings_in moved_rows.rings ≡ rings_next.next plan (rings_in old.rings) (rings_given t row)
+    unfolding moves
+    rings_are =
+        run.acted ∙ ap (λ (x : Moves). ring_moves.acted Ring1First x (rings_in old.rings)) moves_are
+        ∙ acts_as_next plan (rings_in old.rings) (rings_given t row) Ring1First
 
-  pub rings_are : rings_in moved_rows.rings ≡ rings_next.next plan (rings_in old.rings) (rings_given t row)
-  unfolding moves
-  rings_are =
-      run.acted ∙ ap (λ (x : Moves). ring_moves.acted Ring1First x (rings_in old.rings)) moves_are
-      ∙ acts_as_next plan (rings_in old.rings) (rings_given t row) Ring1First
+    -- ### Phases once the moves are carried out
 
-  -- ### Phases once the moves are carried out
+    -- the rings end only greens, and clear only what is over
+    are-moves : (p : ℕ) → phase_laws.AreMoves plan (moved t row) p (was p)
+    unfolding moves rings_given
+    are-moves p = record {
+      ends_greens = λ on. (ends_ready plan t.rings (rings_given t row) p on).0;
+      clears_overs = λ on. clipped_holds (over t) p (clears_over plan t.rings (rings_given t row) p on);
+    }
 
-  -- the rings end only greens, and clear only what is over
-  are-moves : (p : ℕ) → phase_laws.AreMoves plan (moved t row) p (was p)
-  unfolding moves rings_given
-  are-moves p = record {
-    ends_greens = λ on. (ends_ready plan t.rings (rings_given t row) p on).0;
-    clears_overs = λ on. clipped_holds (over t) p (clears_over plan t.rings (rings_given t row) p on);
-  }
+    once-same : (x : phase.Moved) (p : ℕ) (by_gap : Bool) (y : Phase) → 1 ≤ p → p ≤ 16 → once plan (phases.given_of run.conditions) x p by_gap y ≡ once plan (phases_given t row) x p by_gap y
+    once-same x p by_gap y from to =
+        ap₂ (λ (f : Phase → Phase) (e : Phase). let moved_on : Phase = once_cleared x p (if x.ends p then e else y) in if x.starts p then f moved_on else moved_on)
+        (fun_ext (λ z. (alike_here p from to).starts z)) ((alike_here p from to).ends by_gap y)
 
-  once-same : (x : phase.Moved) (p : ℕ) (by_gap : Bool) (y : Phase) → 1 ≤ p → p ≤ 16 → once plan (phases.given_of run.conditions) x p by_gap y ≡ once plan (phases_given t row) x p by_gap y
-  once-same x p by_gap y from to =
-      ap₂ (λ (f : Phase → Phase) (e : Phase). let moved_on : Phase = once_cleared x p (if x.ends p then e else y) in if x.starts p then f moved_on else moved_on)
-      (fun_ext (λ z. (told p from to).starts z)) ((told p from to).ends by_gap y)
+    started-off : (p : ℕ) → is_phase p ≡ false → (moved t row).starts p ≡ false
+    started-off p out = outside ((moved t row).starts p) p out (λ on. run.ones.starts p (subst (λ (x : Moves). is_started x p ≡ true) (sym moves_are) on))
 
-  started-off : (p : ℕ) → is_phase p ≡ false → (moved t row).starts p ≡ false
-  started-off p out = outside ((moved t row).starts p) p out (λ on. run.ones.starts p (subst (λ (x : Moves). is_started x p ≡ true) (sym moves_are) on))
+    ended-off : (p : ℕ) → is_phase p ≡ false → (moved t row).ends p ≡ false
+    ended-off p out = outside ((moved t row).ends p) p out (λ on. run.ones.ends p (subst (λ (x : Moves). is_ended x p ≡ true) (sym moves_are) on))
 
-  ended-off : (p : ℕ) → is_phase p ≡ false → (moved t row).ends p ≡ false
-  ended-off p out = outside ((moved t row).ends p) p out (λ on. run.ones.ends p (subst (λ (x : Moves). is_ended x p ≡ true) (sym moves_are) on))
+    pub phases_are : phase_in now moved_rows.phases ≡ (λ p. phase_next.next plan (phases_given t row) (moved t row) p (was p))
+    phases_are = fun_ext (λ p. at p)
+      where
+        h : phase.Given
+        h = phases_given t row
 
-  pub phases_are : phase_in now moved_rows.phases ≡ (λ p. phase_next.next plan (phases_given t row) (moved t row) p (was p))
-  phases_are = fun_ext (λ p. at p)
-    where
-      h : phase.Given
-      h = phases_given t row
+        inside : (p : ℕ) → 1 ≤ p → p ≤ 16 → phase_in now moved_rows.phases p ≡ phase_next.next plan h (moved t row) p (was p)
+        inside p from to =
+            run.carried p from to
+            ∙ once-same (moved_by m.moves) p (has m.timing.gapped p) (phase_in now run.timed p) from to
+            ∙ ap (λ (x : Moves). once plan h (moved_by x) p (has m.timing.gapped p) (phase_in now run.timed p)) moves_are
+            ∙ ap₂ (λ (by_gap : Bool) (y : Phase). once plan h (moved t row) p by_gap y) (gapped_is p from to) (ticked_is p from to)
+            ∙ one_by_one plan h p (was p) (was p).interval ((moved t row).ends p) ((moved t row).clears p) ((moved t row).starts p)
+            (record { ends_greens = (are-moves p).ends_greens; clears_overs = (are-moves p).clears_overs })
 
-      inside : (p : ℕ) → 1 ≤ p → p ≤ 16 → phase_in now moved_rows.phases p ≡ phase_next.next plan h (moved t row) p (was p)
-      inside p from to =
-          run.carried p from to
-          ∙ once-same (moved_by m.moves) p (has m.timing.gapped p) (phase_in now run.timed p) from to
-          ∙ ap (λ (x : Moves). once plan h (moved_by x) p (has m.timing.gapped p) (phase_in now run.timed p)) moves_are
-          ∙ ap₂ (λ (by_gap : Bool) (y : Phase). once plan h (moved t row) p by_gap y) (gapped_is p from to) (ticked_is p from to)
-          ∙ one_by_one plan h p (was p) (was p).interval ((moved t row).ends p) ((moved t row).clears p) ((moved t row).starts p)
-          (record { ends_greens = (are-moves p).ends_greens; clears_overs = (are-moves p).clears_overs })
+        at : (p : ℕ) → phase_in now moved_rows.phases p ≡ phase_next.next plan h (moved t row) p (was p)
+        at p = elim (cases_Bool (is_phase p)) [
+          | inl on ↦ inside p (among_16 p on).from (among_16 p on).to
+          | inr out ↦
+              at-rest now moved_rows.phases p out
+              ∙ sym (stays plan h (moved t row) p (was p) (at-rest (now - 1) old.phases p out) (started-off p out) (ended-off p out))
+        ]
 
-      at : (p : ℕ) → phase_in now moved_rows.phases p ≡ phase_next.next plan h (moved t row) p (was p)
-      at p = elim (cases_Bool (is_phase p)) [
-        | inl on ↦ inside p (among_16 p on).from (among_16 p on).to
-        | inr out ↦
-            at-rest now moved_rows.phases p out
-            ∙ sym (stays plan h (moved t row) p (was p) (at-rest (now - 1) old.phases p out) (started-off p out) (ended-off p out))
-      ]
+    -- ### Calls once they are settled
 
-  -- ### Calls once they are settled
+    pub memories_are : (d : Decided) (new : List ℕ) → AreDecided s called m d → calls.IsSettled d mid new → memories_in new ≡ (next t row).memories
+    memories_are d new decided settled =
+        ticks-give plan (calls_given t row) (done t row) (observed row s) d old.calls mid new (for_calls plan placed) calls_alike
+        (record {
+          starts = λ p from to. decided.starts_are p ∙ ap (λ (x : Moves). is_started x p) moves_are;
+          ends = λ p from to. decided.ends_are p ∙ ap (λ (x : Moves). is_ended x p) moves_are;
+          gapped = λ p from to. ap (λ (x : PhaseSet). has x p) decided.gapped_are ∙ gapped_is p from to ∙ sym (clipped-agrees (gapped t row) p from to);
+          service = decided.service_is ∙ served;
+        })
+        (record { starts = started-off; ends = ended-off })
+        (λ p from to. ap (λ (x : PhaseSet). has x p) decided.pedestrian_are ∙ pedestrian_is p from to)
+        sets settled
 
-  pub memories_are : (d : Decided) (new : List ℕ) → AreDecided s called m d → calls.IsSettled d mid new → memories_in new ≡ (next t row).memories
-  memories_are d new decided settled =
-      ticks-give plan (calls_given t row) (done t row) (observed row s) d old.calls mid new (for_calls plan placed) calls_alike
-      (record {
-        starts = λ p from to. decided.starts_are p ∙ ap (λ (x : Moves). is_started x p) moves_are;
-        ends = λ p from to. decided.ends_are p ∙ ap (λ (x : Moves). is_ended x p) moves_are;
-        gapped = λ p from to. ap (λ (x : PhaseSet). has x p) decided.gapped_are ∙ gapped_is p from to ∙ sym (clipped-agrees (gapped t row) p from to);
-        service = decided.service_is ∙ served;
-      })
-      (record { starts = started-off; ends = ended-off })
-      (λ p from to. ap (λ (x : PhaseSet). has x p) decided.pedestrian_are ∙ pedestrian_is p from to)
-      sets settled
+    -- ### All of it
 
-  -- ### All of it
-
-  pub joined : (d : Decided) (new : List ℕ) → AreDecided s called m d → calls.IsSettled d mid new →
-      state_of now (untripped plan desk lamp) (record old { detectors = sensed_rows.detectors; calls = new; phases = moved_rows.phases; rings = moved_rows.rings; preempts = sensed_rows.preempts })
-      ≡ next t row
-  joined d new decided settled = λ i. record {
-    now = now_is i;
-    plan = plan;
-    desk = desk;
-    pattern = pattern_in old.pattern;
-    detectors = detectors_are i;
-    memories = memories_are d new decided settled i;
-    phases = phases_are i;
-    rings = rings_are i;
-    preempts = preempts_are i;
-    lamp = lamp;
-    trip = None;
-  }
+    pub joined : (d : Decided) (new : List ℕ) → AreDecided s called m d → calls.IsSettled d mid new →
+        state_of now (untripped plan desk lamp) (record old { detectors = sensed_rows.detectors; calls = new; phases = moved_rows.phases; rings = moved_rows.rings; preempts = sensed_rows.preempts })
+        ≡ next t row
+    joined d new decided settled = λ i. record {
+      now = now_is i;
+      plan = plan;
+      desk = desk;
+      pattern = pattern_in old.pattern;
+      detectors = detectors_are i;
+      memories = memories_are d new decided settled i;
+      phases = phases_are i;
+      rings = rings_are i;
+      preempts = preempts_are i;
+      lamp = lamp;
+      trip = None;
+    }
 
 -- The rows after the tick, from the rows after each step: no step changes a row but its own.
 pub stepped : (now : ℕ) (plan : Plan) (row : Row) (old sensed_rows moved_rows : Rows) (mid new : List ℕ) (s : Sensed) (called : Called) (m : Movement) (d : Decided) →
@@ -363,7 +371,7 @@ stepped now plan row old sensed_rows moved_rows mid new s called m d one placed 
     let own_run : IsMoved now s called plan (record old { detectors = sensed_rows.detectors; calls = mid; preempts = sensed_rows.preempts }) moved_rows m =
     subst (λ (r : Rows). IsMoved now s called plan (record r { calls = mid }) moved_rows m) sensed.rest run in
     ap (λ (r : Rows). state_of now (untripped plan desk lamp) (record r { calls = new })) own_run.rest
-    ∙ joined now plan desk lamp row old sensed_rows moved_rows mid s called m one placed by sensed
+    ∙ joined now plan desk lamp row old sensed_rows mid s called one placed by sensed
     (subst (λ (r : Rows). calls.IsSet (observed row s) plan r.calls mid) sensed.rest sets)
     (subst (λ (r : Rows). calls.TellsCalled (observed row s) plan r.calls called) sensed.rest calls_told)
-    own_run d new decided (subst (λ (xs : List ℕ). calls.IsSettled d xs new) (ap (λ (r : Rows). r.calls) own_run.rest) settled)
+    moved_rows m own_run d new decided (subst (λ (xs : List ℕ). calls.IsSettled d xs new) (ap (λ (r : Rows). r.calls) own_run.rest) settled)

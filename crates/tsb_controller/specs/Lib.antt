@@ -10,6 +10,10 @@ pub mod Carried
 pub mod Records
 -- what a display is made from, by the contracts of the layers
 pub mod Shown
+-- what the log of a controller sees of the layers
+pub mod Seen
+-- what ends the greens that a tick ends
+pub mod Causes
 -- the clauses of the public calls of `Controller`
 pub mod Promises
 -- ticks that may be passed over: up to which one all layers stay as they are

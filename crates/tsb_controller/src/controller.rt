@@ -52,7 +52,7 @@ impl Controller {
 
     /// What the tick finds before the calls: it sees the phases as they were, runs preempts and detectors, and asks
     /// coordination.
-    fn sense(&mut self, now: u32, row: &Row, plan: &Checked) -> Sensed
+    pub(crate) fn sense(&mut self, now: u32, row: &Row, plan: &Checked) -> Sensed
         requires opened { IsOpen self.old }
         requires begun { 1 ≤ now }
         requires in_time { now ≤ last_tick }

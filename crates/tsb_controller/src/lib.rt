@@ -7,13 +7,17 @@
 #![tactic(auto)]
 
 mod carry;
+pub mod causes;
 pub mod controller;
 mod inputs;
 pub mod laws;
 pub mod passing;
 mod readers;
 mod record;
+mod seen;
+mod selected;
 mod values;
 mod watch;
 
+pub use causes::Causes;
 pub use controller::Controller;

@@ -2,7 +2,7 @@
 ghost use Rattle.std.specs.Prelude.{◌≡◌, ◌-◌, ◌≤◌, false, IfSome};
 ghost use Rattle.tsb_objects.specs.Checked.{checked_plan};
 ghost use Rattle.tsb_ring.specs.Cells as rings;
-ghost use Rattle.tsb_heads.specs.Promises.{Flashes, AreApart};
+ghost use Rattle.tsb_heads.specs.Promises.{Flashes, AreApart, NamesOverlaps};
 ghost use Rattle.tsb_step.specs.MonitorLaws.{IsCause};
 ghost use Rattle.tsb_transact.specs.Desk.{Desk};
 ghost use Rattle.tsb_step.specs.Good.{IsGood};
@@ -19,11 +19,12 @@ impl Controller {
     ghost use Rattle.tsb_controller.specs.Layer.{rows_of, kept_of, IsOpen};
 
     /// A display by the intervals, the pedestrian parts and the commitments as they are.
-    fn heads(&self, tripped: bool, plan: &Checked) -> Display
+    pub(crate) fn heads(&self, tripped: bool, plan: &Checked) -> Display
         requires rings_by { rings.IsBy (rows_of self.now).rings }
         ensures shown { IsShown (checked_plan plan.now) tripped (rows_of self.now) result }
         ensures flashing { Flashes tripped result }
         ensures apart { AreApart result }
+        ensures few { NamesOverlaps result }
     {
         Display::new(
             &self.phases.intervals(),

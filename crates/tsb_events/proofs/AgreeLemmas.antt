@@ -1,13 +1,15 @@
 -- Views that agree on the numbers 1 to 16 tell the same events.
-use Rattle.std.proofs.Common.{◌≡◌, ℕ, ◌+◌, ◌<◌, ◌≤◌, Bool, not, ◌&&◌, ◌||◌, zero, suc, List, [], ◌∷◌, ◌++◌, map, filter, if◌then◌else◌, refl, ap, arith}
+use Rattle.std.proofs.Common.{◌≡◌, ℕ, ◌+◌, ◌-◌, ◌<◌, ◌≤◌, Bool, not, ◌&&◌, ◌||◌, zero, suc, List, [], ◌∷◌, ◌++◌, map, filter, flat_map, if◌then◌else◌, nat_eq, refl, ap, arith}
+use Rattle.std.specs.Option.{option_eq}
 use Rattle.tsb_types.specs.Clip.{Agree}
-use Rattle.tsb_types.specs.Lists.{run_from}
+use Rattle.tsb_types.specs.Lists.{or_number, run_from}
 use Rattle.tsb_types.specs.Sets.{has_number}
 use Rattle.tsb_types.specs.Events.{event, told, begins, either}
+use Rattle.tsb_types.specs.declared.event.Event.{Event}
 use Rattle.tsb_types.specs.declared.event.TheConstants as codes
 use Rattle.tsb_step.specs.Events as events
 use Rattle.tsb_step.specs.Events.{View, Found, Selected}
-use Rattle.tsb_events.specs.Agree.{AgreeInAll, AgreeInFound}
+use Rattle.tsb_events.specs.Agree.{AgreeInAll, AgreeInFound, AgreeInSelected}
 
 filter-within : (f g : ℕ → Bool) (a n : ℕ) → ((k : ℕ) → a ≤ k → k < a + n → f k ≡ g k) → filter f (run_from a n) ≡ filter g (run_from a n)
 unfolding run_from
@@ -17,19 +19,19 @@ filter-within f g a (suc n) same =
     (ap (λ (ks : List ℕ). if g a then a ∷ ks else ks)
     (filter-within f g (a + 1) n (λ k from below. same k (omega (arith, from)) (omega (arith, below)))))
 
-told-same : (tick code : ℕ) (f g : ℕ → Bool) → Agree f g → told tick code f ≡ told tick code g
+pub told-same : (tick code : ℕ) (f g : ℕ → Bool) → Agree f g → told tick code f ≡ told tick code g
 told-same tick code f g same =
     ap (λ (ns : List ℕ). map (λ n. event tick code n) ns)
     (filter-within f g 1 16 (λ k from below. same k from (omega (arith, below))))
 
-agree-either : (f g h k : ℕ → Bool) → Agree f g → Agree h k → Agree (either f h) (either g k)
+pub agree-either : (f g h k : ℕ → Bool) → Agree f g → Agree h k → Agree (either f h) (either g k)
 agree-either f g h k one other n from to = λ i. one n from to i || other n from to i
 
 agree-begins : (f g h k : ℕ → Bool) → Agree f g → Agree h k → Agree (begins f h) (begins g k)
 agree-begins f g h k was now n from to = λ i. now n from to i && not (was n from to i)
 
 -- what begins, and so what ends, is told the same
-begun-same : (tick code : ℕ) (f g h k : ℕ → Bool) → Agree f g → Agree h k → told tick code (begins f h) ≡ told tick code (begins g k)
+pub begun-same : (tick code : ℕ) (f g h k : ℕ → Bool) → Agree f g → Agree h k → told tick code (begins f h) ≡ told tick code (begins g k)
 begun-same tick code f g h k was now = told-same tick code (begins f h) (begins g k) (agree-begins f g h k was now)
 
 -- ## Group by group
@@ -118,6 +120,30 @@ flash-same tick v w x y was now =
     λ i. if now.flashes i && not (was.flashes i) then event tick codes.FLASH_CHANGES codes.FLASH ∷ []
     else (if was.flashes i && not (now.flashes i) then event tick codes.FLASH_CHANGES codes.NO_FLASH ∷ [] else [])
 
+flat-within : (f g : ℕ → List Event) (a n : ℕ) → ((k : ℕ) → a ≤ k → k < a + n → f k ≡ g k) → flat_map f (run_from a n) ≡ flat_map g (run_from a n)
+unfolding run_from
+flat-within f g a zero same = refl
+flat-within f g a (suc n) same =
+    rw (same a (omega arith) (omega arith))
+    (ap (λ (es : List Event). g a ++ es)
+    (flat-within f g (a + 1) n (λ k from below. same k (omega (arith, from)) (omega (arith, below)))))
+
+split-same : (tick : ℕ) (s s_too t t_too : Selected) → AgreeInSelected s s_too → AgreeInSelected t t_too →
+    events.split_events tick s t ≡ events.split_events tick s_too t_too
+split-same tick s s_too t t_too was now =
+    flat-within (λ p. events.if_differs tick (codes.SPLIT_CHANGES + p - 1) (s.split p) (t.split p))
+    (λ p. events.if_differs tick (codes.SPLIT_CHANGES + p - 1) (s_too.split p) (t_too.split p)) 1 16
+    (λ p from below i. events.if_differs tick (codes.SPLIT_CHANGES + p - 1) (was.split p from (omega (arith, below)) i) (now.split p from (omega (arith, below)) i))
+
+pattern-same : (tick : ℕ) (s s_too t t_too : Selected) → AgreeInSelected s s_too → AgreeInSelected t t_too →
+    events.pattern_events tick s t ≡ events.pattern_events tick s_too t_too
+pattern-same tick s s_too t t_too was now =
+    λ i. if option_eq nat_eq (was.pattern i) (now.pattern i) then [] else
+    (event tick codes.PATTERN_CHANGES (or_number (now.pattern i) codes.FREE) ∷ [])
+    ++ events.if_differs tick codes.CYCLE_CHANGES (was.cycle i) (now.cycle i)
+    ++ events.if_differs tick codes.OFFSET_CHANGES (was.offset i) (now.offset i)
+    ++ split-same tick s s_too t t_too was now i
+
 -- ## All groups
 
 pub ticks-same : (tick : ℕ) (f g : Found) (v w x y : View) → AgreeInFound f g → AgreeInAll v w → AgreeInAll x y →
@@ -129,10 +155,11 @@ ticks-same tick f g v w x y same was now =
     ++ other-input-same tick f g same i ++ preempt-same tick v w x y was now i
     ++ presence-same tick f g v w x y same was now i ++ exit-same tick v w x y was now i ++ flash-same tick v w x y was now i
 
-pub others-same : (tick : ℕ) (v w x y : View) (s t : Selected) → AgreeInAll v w → AgreeInAll x y →
-    events.other_events tick v x s t ≡ events.other_events tick w y s t
-others-same tick v w x y s t was now =
+pub others-same : (tick : ℕ) (v w x y : View) (s s_too t t_too : Selected) → AgreeInAll v w → AgreeInAll x y →
+    AgreeInSelected s s_too → AgreeInSelected t t_too →
+    events.other_events tick v x s t ≡ events.other_events tick w y s_too t_too
+others-same tick v w x y s s_too t t_too was now selected_was selected_now =
     λ i. green-same tick v w x y was now i ++ clearing-same tick v w x y was now i
     ++ pedestrian-same tick v w x y was now i ++ call-same tick v w x y was now i ++ overlap-same tick v w x y was now i
     ++ alarm-same tick v w x y was now i ++ preempt-same tick v w x y was now i ++ exit-same tick v w x y was now i
-    ++ events.pattern_events tick s t ++ flash-same tick v w x y was now i
+    ++ pattern-same tick s s_too t t_too selected_was selected_now i ++ flash-same tick v w x y was now i

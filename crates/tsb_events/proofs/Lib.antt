@@ -1,3 +1,4 @@
 pub mod SplitLemmas
 pub mod AgreeLemmas
+pub mod OrderLemmas
 pub mod Examples

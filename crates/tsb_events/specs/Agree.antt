@@ -36,6 +36,13 @@ pub record AgreeInFound (f g : Found) : Type 0 where
   pub row : f.row ≡ g.row
   pub served : f.served ≡ g.served
 
+-- what is seen of the selected pattern agrees
+pub record AgreeInSelected (s t : Selected) : Type 0 where
+  pub pattern : s.pattern ≡ t.pattern
+  pub cycle : s.cycle ≡ t.cycle
+  pub offset : s.offset ≡ t.offset
+  pub split : Agree s.split t.split
+
 -- ## Laws
 
 -- ticks that agree tell the same events
@@ -45,5 +52,5 @@ TicksTellByNumbers = (tick : ℕ) (f g : Found) (was was_too now now_too : View)
 
 -- and so do other inputs
 abbrev pub OthersTellByNumbers : Type 0
-OthersTellByNumbers = (tick : ℕ) (was was_too now now_too : View) (s t : Selected) → AgreeInAll was was_too → AgreeInAll now now_too →
-    events.other_events tick was now s t ≡ events.other_events tick was_too now_too s t
+OthersTellByNumbers = (tick : ℕ) (was was_too now now_too : View) (s s_too t t_too : Selected) → AgreeInAll was was_too → AgreeInAll now now_too →
+    AgreeInSelected s s_too → AgreeInSelected t t_too → events.other_events tick was now s t ≡ events.other_events tick was_too now_too s_too t_too

@@ -2,3 +2,5 @@
 pub mod Seen
 -- views that agree on the numbers 1 to 16, and that they tell the same
 pub mod Agree
+-- the order in which events stand
+pub mod Order

@@ -27,51 +27,51 @@ pub const EVENTS: usize = 562;
 /// The events of one input.
 pub type Events = ArrayVec<Event, EVENTS>;
 
-/// The events of tick `tick`, from what the log saw before it, what it sees after it, and what the tick found.
-pub fn tick_events(tick: u32, was: &Seen, now: &Seen, found: &Found) -> Events
-    ensures { result.items ≡ tick_events tick (found_of found.now) (view_of was.now) (view_of now.now) }
+/// The events of tick `tick`, from what the log saw before it, what it sees after it, and what the tick found. They take
+/// the place of those in `events`.
+pub fn tick_events(events: &mut Events, tick: u32, was: &Seen, now: &Seen, found: &Found)
+    ensures { events.new.items ≡ tick_events tick (found_of found.now) (view_of was.now) (view_of now.now) }
 {
-    let mut events = Events::new();
-    tell_greens(&mut events, tick, was, now);
-    tell_endings(&mut events, tick, found);
-    tell_clearings(&mut events, tick, was, now);
-    tell_pedestrians(&mut events, tick, was, now);
-    tell_crossing(&mut events, tick, was, now);
-    tell_calls(&mut events, tick, was, now);
-    tell_overlaps(&mut events, tick, was, now);
-    tell_vehicle_inputs(&mut events, tick, found);
-    tell_alarms(&mut events, tick, was, now);
-    tell_other_inputs(&mut events, tick, found);
-    tell_preempts(&mut events, tick, was, now);
-    tell_presence(&mut events, tick, found, was, now);
-    tell_exits(&mut events, tick, was, now);
-    tell_flash(&mut events, tick, was, now);
-    events
+    events.clear();
+    tell_greens(events, tick, was, now);
+    tell_endings(events, tick, found);
+    tell_clearings(events, tick, was, now);
+    tell_pedestrians(events, tick, was, now);
+    tell_crossing(events, tick, was, now);
+    tell_calls(events, tick, was, now);
+    tell_overlaps(events, tick, was, now);
+    tell_vehicle_inputs(events, tick, found);
+    tell_alarms(events, tick, was, now);
+    tell_other_inputs(events, tick, found);
+    tell_preempts(events, tick, was, now);
+    tell_presence(events, tick, found, was, now);
+    tell_exits(events, tick, was, now);
+    tell_flash(events, tick, was, now);
 }
 
 /// The events of an input that is no tick, at tick number `tick`, from what the log saw before it and what it sees
-/// after it.
+/// after it. They take the place of those in `events`.
 pub fn other_events(
+    events: &mut Events,
     tick: u32,
     was: &Seen,
     now: &Seen,
     was_selected: &Selected,
     selected: &Selected,
-) -> Events
-    ensures { result.items ≡ other_events tick (view_of was.now) (view_of now.now) (selected_of was_selected.now) (selected_of selected.now) }
+)
+    ensures { events.new.items ≡ other_events tick (view_of was.now) (view_of now.now) (selected_of was_selected.now) (selected_of selected.now) }
 {
-    let mut events = Events::new();
-    tell_greens(&mut events, tick, was, now);
-    tell_clearings(&mut events, tick, was, now);
-    tell_pedestrians(&mut events, tick, was, now);
-    tell_calls(&mut events, tick, was, now);
-    tell_overlaps(&mut events, tick, was, now);
-    tell_alarms(&mut events, tick, was, now);
-    tell_preempts(&mut events, tick, was, now);
-    tell_exits(&mut events, tick, was, now);
-    tell_pattern(&mut events, tick, was_selected, selected);
-    tell_flash(&mut events, tick, was, now);
-    events
+    events.clear();
+    tell_greens(events, tick, was, now);
+    tell_clearings(events, tick, was, now);
+    tell_pedestrians(events, tick, was, now);
+    tell_calls(events, tick, was, now);
+    tell_overlaps(events, tick, was, now);
+    tell_alarms(events, tick, was, now);
+    tell_preempts(events, tick, was, now);
+    tell_exits(events, tick, was, now);
+    tell_pattern(events, tick, was_selected, selected);
+    tell_flash(events, tick, was, now);
 }
 
 /// Adds an event for each number that is in a set now and was not.

@@ -12,10 +12,10 @@ unfolding run_from
 opened = tt
 
 -- no number, and one number alone
-abbrev none : ℕ → Bool
+abbrev pub none : ℕ → Bool
 none n = false
 
-abbrev only : ℕ → ℕ → Bool
+abbrev pub only : ℕ → ℕ → Bool
 only m n = m == n
 
 -- inputs by the lists that name them: vehicles, pedestrians, preempts
@@ -23,7 +23,7 @@ abbrev inputs : ℕ → ℕ → ℕ → Row
 inputs v w p = record { vehicles = set_of_list v; pedestrians = set_of_list w; preempts = set_of_list p }
 
 -- nothing is lit, called or in service
-abbrev dark : events.View
+abbrev pub dark : events.View
 dark = record {
   greens = none;
   yellows = none;
@@ -48,14 +48,14 @@ dark = record {
 }
 
 -- a tick that finds nothing
-abbrev quiet : events.Found
+abbrev pub quiet : events.Found
 quiet = record { gap = none; maximum = none; force_off = none; last = all_off; row = all_off; served = false }
 
 -- free operation, and a pattern of 90 seconds with splits for phases 1 and 16
-abbrev free : events.Selected
+abbrev pub free : events.Selected
 free = record { pattern = None; cycle = 0; offset = 0; split = λ p. 0 }
 
-abbrev pattern_2 : events.Selected
+abbrev pub pattern_2 : events.Selected
 pattern_2 = record { pattern = Some 2; cycle = 90; offset = 10; split = λ p. if p == 1 then 30 else (if p == 16 then 25 else 0) }
 
 -- nothing differs

@@ -1,13 +1,10 @@
-use Rattle.std.proofs.Common.{◌≡◌, List, sym, subst}
+use Rattle.std.proofs.Common.{List, sym, subst}
 use Rattle.tsb_objects.specs.Checked.{checked_plan}
-use Rattle.tsb_plan.specs.Plan.{Plan}
 use Rattle.tsb_step.specs.declared.inputs.Input.{Input}
 use Rattle.tsb_step.specs.Laws.{IsConsistent, ServesTogether, WalksBesideGreen, StartsWaiting, ServesPreempt, OfEveryRun}
 use Rattle.tsb_step.specs.Play.{remaining}
-use Rattle.tsb_step.specs.Runs.{replay, AreTaken}
 use Rattle.tsb_step.specs.Signs.{IsSafe}
 use Rattle.tsb_step.specs.State.{State}
-use Rattle.tsb_step.specs.TimeLaws.{OfEveryUntrippedRun}
 use Rattle.tsb_bench.specs.Held.{state_of}
 use Rattle.tsb_bench.specs.PlayLaws.{ClearsGreens, HasSafeField, KeepsCommitments, ServesItsSide}
 use Rattle.tsb_bench.proofs.play_laws.plays_keep_the_laws.Goals as goal

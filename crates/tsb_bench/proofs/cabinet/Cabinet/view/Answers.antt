@@ -1,0 +1,15 @@
+use Rattle.std.proofs.Common.{refl, sym}
+use Rattle.tsb_objects.specs.Checked.{checked_plan}
+use Rattle.tsb_plan.specs.PlanOf.{plan_of}
+use Rattle.tsb_step.specs.Events.{view}
+use Rattle.tsb_bench.specs.Cabinet.{rows_of}
+use Rattle.tsb_bench.proofs.InputLemmas.{beside}
+use Rattle.tsb_bench.proofs.cabinet.Cabinet.view.Goals as goal
+
+pub returns-clause-sees : goal.returns-clause-sees
+unfolding checked_plan plan_of
+returns-clause-sees c now = c.view.ensures now (beside (rows_of c.args.self.now)) refl (sym c.is_tripped.ensures)
+
+pub returns-clause-flashes : goal.returns-clause-flashes
+unfolding view
+returns-clause-flashes c = (returns-clause-sees c 0).flashes

@@ -1,0 +1,53 @@
+-- What is kept of the cabinet as it was before an input, by which the events of the input are told.
+use Rattle.std.specs.Prelude.{◌≡◌, ℕ, None, is_some}
+use Rattle.tsb_types.specs.declared.row.Row.{Row}
+use Rattle.tsb_phase.specs.Causes.{cause}
+use Rattle.tsb_step.specs.declared.inputs.Input.{Input}
+use Rattle.tsb_step.specs.declared.inputs.Input.TheVariants.{Tick}
+use Rattle.tsb_step.specs.Cells.{clock_at}
+use Rattle.tsb_step.specs.Events.{ends_freely, found, selected, view}
+use Rattle.tsb_step.specs.MonitorCells.{trip_in}
+use Rattle.tsb_step.specs.State.{State}
+use Rattle.tsb_step.specs.Step.{step, verdict}
+use Rattle.tsb_step.specs.Tick.{phases_given, phase_read}
+use Rattle.tsb_events.specs.declared.seen.Found.{Found}
+use Rattle.tsb_events.specs.declared.seen.Seen.{Seen}
+use Rattle.tsb_events.specs.declared.seen.Selected.{Selected}
+use Rattle.tsb_events.specs.Agree.{AgreeInAll, AgreeInFound, AgreeInSelected}
+use Rattle.tsb_events.specs.Seen.{found_of, selected_of, view_of}
+use Rattle.tsb_controller.specs.declared.causes.Causes.{Causes}
+use Rattle.tsb_controller.specs.Causes.{AreCausesOf}
+use Rattle.tsb_controller.specs.Layer as layers
+use Rattle.tsb_controller.specs.Layer.{IsClosed}
+use Rattle.tsb_controller.specs.Whole.{All, all_in}
+use Rattle.tsb_bench.specs.declared.telling.Before.{Before}
+
+-- what a log sees in these rows, at whatever tick number
+abbrev pub Sees : All → Seen → Type 0
+Sees a seen = (now : ℕ) → AgreeInAll (view_of seen) (view (all_in now a))
+
+-- what it sees of the selected pattern
+abbrev pub SeesSelected : All → Selected → Type 0
+SeesSelected a s = (now : ℕ) → AgreeInSelected (selected_of s) (selected (all_in now a))
+
+-- what is kept of these rows at tick number `tick`
+pub record IsBefore (tick : ℕ) (a : All) (b : Before) : Type 0 where
+  pub seen : Sees a b.seen
+  pub selected : SeesSelected a b.selected
+  pub layers : layers.rows_of b.controller ≡ a.layers
+  pub closed : IsClosed b.controller
+  pub clock : b.clock ≡ clock_at tick (trip_in a.monitor)
+  pub tripped : b.seen.flashes ≡ is_some (trip_in a.monitor)
+
+-- at tick number `tick` the input is not refused
+abbrev pub IsAllowed : ℕ → All → Input → Type 0
+IsAllowed tick a i = verdict (all_in tick a) i ≡ None
+
+-- what ended the greens that the next tick of a state ends by themselves
+abbrev pub AreEnds : State → Row → Causes → Type 0
+AreEnds s row result =
+    AreCausesOf (ends_freely s row (step s (Tick row))) (λ p. cause s.plan (phases_given s row) p (phase_read s p)) result
+
+-- what a tick finds that leads from a state to the next
+abbrev pub IsFound : Row → State → Row → Found → Type 0
+IsFound last s row result = AgreeInFound (found_of result) (found last s row (step s (Tick row)))

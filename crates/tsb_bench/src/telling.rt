@@ -1,0 +1,187 @@
+//! Taking an input and telling its events.
+#![tactic(auto, unfolding(tsb_objects::specs::Checked::checked_plan, tsb_plan::specs::PlanOf::plan_of))]
+
+ghost use Rattle.std.specs.Prelude.{◌≡◌, ℕ, ◌+◌, ◌<◌, ◌≤◌, [], ◌∷◌, length, Err, None, true, is_some, OnOk, OnErr, IfErr};
+ghost use Rattle.tsb_history.specs.History.{record_size};
+ghost use Rattle.tsb_types.specs.declared.refusal.Refusal.TheVariants.{Memory};
+ghost use Rattle.tsb_plan.specs.PlanOf.{plan_in};
+ghost use Rattle.tsb_machine.specs.Play.{IsRefusal};
+ghost use Rattle.tsb_step.specs.declared.inputs.Input.TheVariants as inputs;
+ghost use Rattle.tsb_step.specs.Events.{events_of};
+ghost use Rattle.tsb_step.specs.MonitorCells.{trip_in};
+ghost use Rattle.tsb_step.specs.Past.{earlier, record_of};
+ghost use Rattle.tsb_step.specs.Step.{kind_of, last_tick, step, verdict};
+ghost use Rattle.tsb_controller.specs.Whole.{All, AreAllBy, all_in};
+ghost use Rattle.tsb_bench.specs.Cabinet.{rows_of, IsShut, most_cells};
+ghost use Rattle.tsb_bench.specs.Held.{state_of, whole};
+ghost use Rattle.tsb_bench.specs.Telling.{AreEnds, IsAllowed, IsBefore, IsFound, Sees, SeesSelected};
+
+use crate::bench::Bench;
+use crate::cabinet::Cabinet;
+use tsb_controller::{Causes, Controller};
+use tsb_events::{Events, Found, Seen, Selected, other_events, tick_events};
+use tsb_objects::{Refusal, Row};
+use tsb_step::Input;
+
+/// What is kept of the cabinet as it was before an input.
+#[derive(Clone, Copy)]
+pub(crate) struct Before {
+    /// What the log saw.
+    seen: Seen,
+    /// What it saw of the selected pattern.
+    selected: Selected,
+    /// The layers.
+    controller: Controller,
+    /// The tick number, or that of the trip, at which timers stand.
+    clock: u32,
+}
+
+/// Whether an input is a tick with the inputs of this row.
+fn has_row(input: &Input, row: &Row) -> bool
+    ensures { result ≡ true → input.now ≡ inputs.Tick row.now }
+{
+    match input {
+        Input::Tick(given) => *given == *row,
+        _ => false,
+    }
+}
+
+impl Cabinet {
+    /// What the log of a controller sees.
+    fn view(&self) -> Seen
+        requires by { (now : ℕ) × AreAllBy now (rows_of self.now) }
+        ensures sees { Sees (rows_of self.now) result }
+        ensures flashes { result.flashes ≡ is_some (trip_in (rows_of self.now).monitor) }
+    {
+        self.controller.view(self.monitor.is_tripped(), &self.plan)
+    }
+
+    /// What it sees of the selected pattern.
+    fn selected(&self) -> Selected
+        requires by { (now : ℕ) × AreAllBy now (rows_of self.now) }
+        ensures { SeesSelected (rows_of self.now) result }
+    {
+        self.controller.selected(&self.plan)
+    }
+
+    /// What is kept of the cabinet at tick number `tick`, before an input.
+    fn before(&self, tick: u32) -> Before
+        requires shut { IsShut self.now }
+        requires by { AreAllBy tick (rows_of self.now) }
+        ensures { IsBefore tick (rows_of self.now) result }
+    {
+        let clock = match self.monitor.trip() {
+            Some(trip) => trip.1,
+            None => tick,
+        };
+        Before {
+            seen: self.view(),
+            selected: self.selected(),
+            controller: self.controller,
+            clock,
+        }
+    }
+
+    /// What ended the greens that the tick after tick number `tick` ended. The cabinet is as it is after the tick.
+    fn causes(&self, before: &Before, tick: u32, row: &Row) -> Causes
+        requires was { (a : All) × IsBefore tick a before.now × AreAllBy tick a × IsAllowed tick a (inputs.Tick row.now) × (plan_in a.plan ≡ plan_in (rows_of self.now).plan) }
+        ensures { (a : All) (now : ℕ) → IsBefore tick a before.now → AreAllBy tick a → all_in now (rows_of self.now) ≡ step (all_in tick a) (inputs.Tick row.now)
+            → AreEnds (all_in tick a) row.now result }
+    {
+        if before.seen.flashes {
+            return Causes::none();
+        }
+        let intervals = self.controller.phases().intervals();
+        let yellow = intervals.yellow.difference(intervals.green);
+        before.controller.causes(yellow, tick + 1, row, &self.plan)
+    }
+
+    /// What the tick after tick number `tick` found, with the inputs of `row` on, and those of `last` in the tick before
+    /// it. The cabinet is as it is after the tick.
+    fn found(&self, before: &Before, tick: u32, row: &Row, last: &Row) -> Found
+        requires was { (a : All) × IsBefore tick a before.now × AreAllBy tick a × IsAllowed tick a (inputs.Tick row.now) × (plan_in a.plan ≡ plan_in (rows_of self.now).plan) }
+        ensures { (a : All) (now : ℕ) → IsBefore tick a before.now → AreAllBy tick a → all_in now (rows_of self.now) ≡ step (all_in tick a) (inputs.Tick row.now)
+            → IsFound last.now (all_in tick a) row.now result }
+    {
+        let causes = self.causes(before, tick, row);
+        Found {
+            gap: causes.gap,
+            maximum: causes.maximum,
+            force_off: causes.force_off,
+            last: *last,
+            row: *row,
+            served: before.controller.is_served(before.clock, row, &self.plan),
+        }
+    }
+
+    /// Tells the events of an input that was taken at tick number `tick`; the cabinet is as it is after it, at tick
+    /// number `now`.
+    fn tell(
+        &self,
+        before: &Before,
+        tick: u32,
+        now: u32,
+        input: &Input,
+        last: &Row,
+        events: &mut Events,
+    )
+        requires was { (a : All) × IsBefore tick a before.now × AreAllBy tick a × IsAllowed tick a input.now × (all_in now (rows_of self.now) ≡ step (all_in tick a) input.now) }
+        requires by { AreAllBy now (rows_of self.now) }
+        ensures { (a : All) → IsBefore tick a before.now → AreAllBy tick a → all_in now (rows_of self.now) ≡ step (all_in tick a) input.now
+            → events.new.items ≡ events_of last.now (all_in tick a) input.now }
+    {
+        let seen = self.view();
+        match input {
+            Input::Tick(row) => {
+                let found = self.found(before, tick, row, last);
+                tick_events(events, now, &before.seen, &seen, &found);
+            }
+            _ => other_events(
+                events,
+                now,
+                &before.seen,
+                &seen,
+                &before.selected,
+                &self.selected(),
+            ),
+        }
+    }
+}
+
+impl Bench {
+    /// Takes an input, as `apply` does, and tells its events in `events`, in place of what was there. `last` is the inputs
+    /// that were on in the newest tick before it, and all off before the first. A refused input has no events.
+    ///
+    /// It takes no memory beside that of `apply`. A tick that changes nothing, with the inputs of the tick before, costs
+    /// what it costs there.
+    pub fn apply_telling(
+        &mut self,
+        input: Input,
+        last: &Row,
+        events: &mut Events,
+    ) -> Result<(), Refusal>
+        ensures allowed { OnOk result (verdict (state_of self.old) input ≡ None) }
+        ensures state { OnOk result (state_of self.new ≡ step (state_of self.old) input) }
+        ensures records { OnOk result (self.new.records ≡ record_of input (state_of self.old) (state_of self.new) ∷ self.old.records) }
+        ensures back { OnOk result (earlier (whole self.new) 1 ≡ whole self.old) }
+        ensures refused { IfErr result (IsRefusal (verdict (state_of self.old) input)) }
+        ensures err { OnErr result (self.new ≡ self.old) }
+        ensures few { OnOk result (length (record_of input (state_of self.old) (state_of self.new)).entries ≤ most_cells (kind_of input)) }
+        ensures wanting { result ≡ Err Memory → self.old.room < record_size (most_cells (kind_of input)) }
+        ensures room { OnOk result (self.old.room
+            ≤ self.new.room + record_size (length (record_of input (state_of self.old) (state_of self.new)).entries)) }
+        ensures told { OnOk result (events.new.items ≡ events_of last.now (state_of self.old) input) }
+        ensures untold { OnErr result (events.new.items ≡ []) }
+    {
+        events.clear();
+        if self.cabinet.passes(self.tick, &input) && has_row(&input, last) {
+            return self.apply(input);
+        }
+        let tick = self.tick;
+        let before = self.cabinet.before(tick);
+        self.apply(input)?;
+        self.cabinet
+            .tell(&before, tick, self.tick, &input, last, events);
+        Ok(())
+    }
+}

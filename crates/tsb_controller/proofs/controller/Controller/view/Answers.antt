@@ -1,0 +1,69 @@
+use Rattle.std.proofs.Common.{◌∙◌, ◌&&◌, ◌||◌, ℕ, ◌≤◌, Bool, Option, true, sym, ap, ap₂, is_some}
+use Rattle.tsb_step.specs.tsb_types.declared.stage.Stage.{Stage}
+use Rattle.tsb_step.specs.tsb_types.Intervals.{in_service, is_clearance, is_green, is_red_clear, is_walk, is_yellow}
+use Rattle.tsb_step.specs.tsb_types.Sets.{has}
+use Rattle.tsb_objects.specs.Checked.{checked_plan}
+use Rattle.tsb_heads.specs.Colours.{is_yellow as is_yellow_head}
+use Rattle.tsb_heads.specs.Monitoring.{is_green as is_green_head}
+use Rattle.tsb_heads.specs.Promises.{IsSame}
+use Rattle.tsb_heads.specs.Reading.{heads_of}
+use Rattle.tsb_ring.proofs.BoolLemmas.{served}
+use Rattle.tsb_step.specs.Cells.{clock_at}
+use Rattle.tsb_step.specs.Events.{is_track, serves, view}
+use Rattle.tsb_preempt.specs.Preempts.{is_dwell, is_exit}
+use Rattle.tsb_step.specs.Signs.{display}
+use Rattle.tsb_step.specs.State.{State}
+use Rattle.tsb_controller.specs.Layer.{rows_of}
+use Rattle.tsb_controller.specs.Rows.{state_of}
+use Rattle.tsb_controller.proofs.PlacedLemmas.{placed}
+use Rattle.tsb_controller.proofs.SeenLemmas.{clear-set, clearance-set, dark-green, dark-yellow, off-told, overlaps-told, pedestrian-calls, served-told, shown-intervals, shown-parts, vehicle-calls, walk-set, yellow-set}
+use Rattle.tsb_controller.proofs.TickLemmas.{green-set}
+use Rattle.tsb_controller.proofs.WatchLemmas.{displayed}
+use Rattle.tsb_controller.proofs.controller.Controller.view.Goals as goal
+
+pub returns : goal.returns
+unfolding view
+returns c now b same trips =
+    let rows = rows_of c.args.self.now in
+    let plan = checked_plan c.args.plan.now in
+    let few = (placed c.args.plan.now).count in
+    let s : State = state_of now b rows in
+    let i = c.shown_intervals-shown.result in
+    let w = c.shown_pedestrians-walking.result in
+    let shown = shown-intervals c.args.tripped rows now b trips c.intervals-intervals.result i c.intervals-intervals.ensures c.shown_intervals-shown.ensures in
+    let parts = shown-parts c.args.tripped rows now b trips c.pedestrians-pedestrians.result w c.pedestrians-pedestrians.ensures c.shown_pedestrians-walking.ensures in
+    let d = c.heads-display.result in
+    let heads : IsSame (heads_of d) (display s) = displayed plan c.args.tripped rows d few c.heads-display.ensures.shown now b same trips in
+    let at_stage = c.stage-stage.ensures (clock_at now b.trip) in
+    let greens = λ (o : ℕ) (from : 1 ≤ o). c.overlap_greens-overlap_greens.ensures o ∙ overlaps-told is_green_head dark-green d (display s) heads c.heads-display.ensures.few o from in
+    let yellows = λ (o : ℕ) (from : 1 ≤ o). c.overlap_yellows-overlap_yellows.ensures o ∙ overlaps-told is_yellow_head dark-yellow d (display s) heads c.heads-display.ensures.few o from in
+    let in_serving = λ (p : ℕ) (from : 1 ≤ p) (to : p ≤ 16).
+    c.union-served.ensures p ∙ ap (λ (x : Bool). x || has i.red_clear p) (c.union.ensures p) ∙ served (has i.green p) (has i.yellow p) (has i.red_clear p) ∙ ap in_service (shown p from to) in
+    record {
+      greens = λ p from to. c.numbers.ensures p ∙ green-set i p ∙ ap is_green (shown p from to);
+      yellows = λ p from to. c.numbers-2.ensures p ∙ c.difference.ensures p ∙ yellow-set i p ∙ ap is_yellow (shown p from to);
+      red_clearances = λ p from to. c.numbers-3.ensures p ∙ c.difference-3.ensures p ∙ rw (c.difference-2.ensures p) (clear-set i p) ∙ ap is_red_clear (shown p from to);
+      conflicts = λ p from to. c.numbers-4.ensures p ∙ c.intersection.ensures p
+          ∙ ap₂ (λ (x y : Bool). x && y) (green-set i p ∙ ap is_green (shown p from to)) (c.conflicts.ensures (clock_at now b.trip) p from to);
+      walks = λ p from to. c.numbers-5.ensures p ∙ walk-set w p ∙ ap is_walk (parts p from to);
+      clearances = λ p from to. c.numbers-6.ensures p ∙ c.difference-4.ensures p ∙ clearance-set w p ∙ ap is_clearance (parts p from to);
+      vehicle_calls = λ p from to. c.numbers-7.ensures p
+          ∙ vehicle-calls plan few rows c.intervals-intervals.result c.pedestrians-pedestrians.result c.standing-standing.result c.intervals-intervals.ensures c.pedestrians-pedestrians.ensures c.standing-standing.ensures now b same p from to;
+      pedestrian_calls = λ p from to. c.numbers-8.ensures p
+          ∙ pedestrian-calls plan few rows c.intervals-intervals.result c.pedestrians-pedestrians.result c.standing-standing.result c.intervals-intervals.ensures c.pedestrians-pedestrians.ensures c.standing-standing.ensures now b same p from to;
+      overlap_greens = λ o from to. greens o from;
+      overlap_yellows = λ o from to. yellows o from;
+      overlaps_off = λ o from to.
+          off-told plan c.union-2.result c.overlaps_off.result c.union-served.result s (display s) c.overlaps_off.ensures.off c.overlaps_off.ensures.few
+          (λ n low. c.union-2.ensures n ∙ ap₂ (λ (x y : Bool). x || y) (greens n low) (yellows n low))
+          (λ n. served-told c.args.plan.now n c.union-served.result s same in_serving) o from;
+      alarms = λ n from to. c.alarms.ensures (clock_at now b.trip) n from to;
+      preempts = λ n from to. c.stages_of-stages.ensures.any n ∙ ap (λ (o : Option (ℕ × Stage)). serves (λ k. true) o n) at_stage;
+      tracks = λ n from to. c.stages_of-stages.ensures.track n ∙ ap (λ (o : Option (ℕ × Stage)). serves is_track o n) at_stage;
+      dwells = λ n from to. c.stages_of-stages.ensures.dwell n ∙ ap (λ (o : Option (ℕ × Stage)). serves is_dwell o n) at_stage;
+      exits = λ n from to. c.stages_of-stages.ensures.exit n ∙ ap (λ (o : Option (ℕ × Stage)). serves is_exit o n) at_stage;
+      is_preempted = c.is_some.ensures ∙ ap is_some at_stage;
+      crosses = c.is_some-2.ensures ∙ ap is_some c.crossing.ensures;
+      side = c.side.ensures;
+      flashes = sym trips;
+    }

@@ -1,0 +1,51 @@
+-- What the log of a controller sees of the layers, over the controller's rows.
+use Rattle.std.specs.Prelude.{◌≡◌, ℕ, Bool, false, not, ◌&&◌, is_some}
+use Rattle.std.specs.List.{list_any}
+use Rattle.tsb_step.specs.tsb_types.declared.flow.Intervals.{Intervals}
+use Rattle.tsb_step.specs.tsb_types.declared.flow.Pedestrians.{Pedestrians}
+use Rattle.tsb_step.specs.tsb_types.declared.number_set.NumberSet.{NumberSet}
+use Rattle.tsb_step.specs.tsb_types.declared.phase_set.PhaseSet.{PhaseSet}
+use Rattle.tsb_step.specs.tsb_types.Lists.{run_from}
+use Rattle.tsb_step.specs.tsb_types.Sets.{has, has_number}
+use Rattle.tsb_step.specs.tsb_plan.Parts.{is_included}
+use Rattle.tsb_step.specs.tsb_plan.Plan.{Plan}
+use Rattle.tsb_step.specs.tsb_plan.Running.{running}
+use Rattle.tsb_detect.specs.Promises.{TellsActuations, TellsOutputs}
+use Rattle.tsb_calls.specs.declared.observed.Observed.{Observed}
+use Rattle.tsb_calls.specs.declared.standing.Standing.{Standing}
+use Rattle.tsb_calls.specs.Promises.{TellsStanding}
+use Rattle.tsb_coord.specs.Cells.{pattern_in}
+use Rattle.tsb_step.specs.Events.{selected, view}
+use Rattle.tsb_events.specs.declared.seen.Seen.{Seen}
+use Rattle.tsb_events.specs.declared.seen.Selected.{Selected}
+use Rattle.tsb_events.specs.Agree.{AgreeInAll, AgreeInSelected}
+use Rattle.tsb_events.specs.Seen.{selected_of, view_of}
+use Rattle.tsb_controller.specs.Rows.{Rows, Beside, state_of}
+
+-- overlap o is none of the lit ones, and includes none of the phases in service
+abbrev pub is_off_beside : Plan → NumberSet → PhaseSet → ℕ → Bool
+is_off_beside plan lit served o =
+    not (has_number lit o) && not (list_any (λ p. is_included plan o p && has served p) (run_from 1 16))
+
+-- the calls that stand, of phases in these intervals and parts: no button is pressed, and no order is given
+pub record IsStanding (intervals : Intervals) (pedestrians : Pedestrians) (plan : Plan) (rows : Rows) (result : Standing) : Type 0 where
+  pub observed : Observed
+  pub outputs_are : TellsOutputs rows.detectors observed.outputs
+  pub actuated_are : TellsActuations rows.detectors observed.actuated
+  pub no_button : (d : ℕ) → has_number observed.buttons d ≡ false
+  pub intervals_are : observed.intervals ≡ intervals
+  pub pedestrians_are : observed.pedestrians ≡ pedestrians
+  pub runs_is : observed.runs ≡ running plan (pattern_in rows.pattern)
+  pub none_omitted : (p : ℕ) → has observed.omit p ≡ false
+  pub none_ended : observed.service_ended ≡ false
+  pub stands : TellsStanding observed plan rows.calls result
+
+-- `view(tripped, plan)`: what a log sees of the state, at whatever tick, whatever stands beside the rows
+abbrev pub TellsSeen : Plan → Bool → Rows → Seen → Type 0
+TellsSeen plan tripped rows result = (now : ℕ) (b : Beside) → b.plan ≡ plan → is_some b.trip ≡ tripped →
+    AgreeInAll (view_of result) (view (state_of now b rows))
+
+-- `selected(plan)`: what a log sees of the selected pattern
+abbrev pub TellsSelected : Plan → Rows → Selected → Type 0
+TellsSelected plan rows result = (now : ℕ) (b : Beside) → b.plan ≡ plan →
+    AgreeInSelected (selected_of result) (selected (state_of now b rows))
