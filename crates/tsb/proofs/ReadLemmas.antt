@@ -1,13 +1,7 @@
 -- What reading a file comes to, by what its text gave, and what is told of it.
 use Rattle.std.proofs.Common.{ℕ, List, Option, inl, inr}
-use Rattle.std.specs.Prelude.{Result, Ok, Err, Some}
-use Rattle.tsb_text.specs.tsb_objects.declared.checked.Checked.{Checked}
-use Rattle.tsb_text.specs.tsb_objects.Checked.{checked_plan}
+use Rattle.std.specs.Prelude.{Err, Some}
 use Rattle.tsb_text.specs.tsb_plan.Plan.{Plan}
-use Rattle.tsb_text.specs.tsb_plan_text.declared.error.PlanError.{PlanError}
-use Rattle.tsb_text.specs.tsb_plan_text.declared.error.PlanError.TheVariants as told
-use Rattle.tsb_text.specs.tsb_plan_text.PlanErrors as plans
-use Rattle.tsb_text.specs.tsb_plan_text.PlanText.{reading}
 use Rattle.tsb_program.specs.tsb_log_text.declared.error.LogError.{LogError}
 use Rattle.tsb_program.specs.tsb_log_text.FaultLines.{log_fault}
 use Rattle.tsb_program.specs.declared.files.FileError.TheVariants as files
@@ -15,23 +9,7 @@ use Rattle.tsb_program.specs.declared.read.ReadError.{ReadError}
 use Rattle.tsb_program.specs.declared.read.ReadError.TheVariants as faults
 use Rattle.tsb.specs.Ends.{Stops}
 use Rattle.tsb.specs.Lines.{Refuses}
-use Rattle.tsb_program.specs.Read.{IsFront, LogRead}
-use Rattle.tsb.specs.Read.{HasPlan, PlanRead, plan_made}
-
-pub plan-read : (answer : Result Checked PlanError) (known : Option (List ℕ)) (text : List ℕ) → IsFront known 1048577 text
-    → plans.Gives checked_plan answer (reading text) → PlanRead (plan_made answer) known
-plan-read (Ok plan) known text front gives = (text, front, gives)
-plan-read (Err told.Memory) known text front gives = tt
-plan-read (Err told.TooLarge) known text front gives = (text, front, gives, λ is. cc)
-plan-read (Err told.NotJson) known text front gives = (text, front, gives, λ is. cc)
-plan-read (Err told.NotATable) known text front gives = (text, front, gives, λ is. cc)
-plan-read (Err told.Version) known text front gives = (text, front, gives, λ is. cc)
-plan-read (Err (told.NoSuchObject name)) known text front gives = (text, front, gives, λ is. cc)
-plan-read (Err (told.ObjectNotATable o)) known text front gives = (text, front, gives, λ is. cc)
-plan-read (Err (told.NoSuchIndex o index)) known text front gives = (text, front, gives, λ is. cc)
-plan-read (Err (told.NotAWholeNumber o index)) known text front gives = (text, front, gives, λ is. cc)
-plan-read (Err (told.OutOfRange o index)) known text front gives = (text, front, gives, λ is. cc)
-plan-read (Err (told.Rule r)) known text front gives = (text, front, gives, λ is. cc)
+use Rattle.tsb_program.specs.Read.{HasPlan, LogRead}
 
 -- a log that is not had ends `run` where there is a plan
 pub stops-log : (fault : ReadError LogError) (found : Plan) (status : ℕ) (plan log told tells : Option (List ℕ)) → HasPlan plan found → LogRead (Err fault) log

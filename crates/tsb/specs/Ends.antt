@@ -17,8 +17,7 @@ use Rattle.tsb_program.specs.tsb_lines.Writes.{AppendsFront}
 use Rattle.tsb.specs.Lines.{FailsToRead, TellsEnd, TellsWords, plan_line, log_line}
 use Rattle.tsb_program.specs.Failures.{Fails}
 use Rattle.tsb_program.specs.declared.failure.Failure.TheVariants.{Write}
-use Rattle.tsb_program.specs.Read.{HasLog, RefusesLog}
-use Rattle.tsb.specs.Read.{HasPlan, RefusesPlan}
+use Rattle.tsb_program.specs.Read.{HasLog, HasPlan, RefusesLog, RefusesPlan}
 
 -- what is found of the plan in a file: with 0 that its text gives one, with 1 the fault that it has
 abbrev pub Finds : Option (List ℕ) → ℕ → List ℕ → Type 0

@@ -1,5 +1,3 @@
--- what the file of a plan gives: a plan, or none
-pub mod Read
 -- the lines that the program writes of faults
 pub mod Lines
 -- what the program has done and written for the words that it was given

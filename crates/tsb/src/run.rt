@@ -7,7 +7,6 @@ ghost use Rattle.tsb_words.specs.BenchWords.{Spells};
 ghost use Rattle.tsb_text.specs.tsb_objects.Checked.{checked_plan};
 ghost use Rattle.tsb.specs.Lines.{Refuses, TellsEnd, TellsWords};
 ghost use Rattle.tsb_program.specs.Statuses.{number};
-ghost use Rattle.tsb.specs.Read.{PlanRead, plan_made};
 ghost use Rattle.tsb.specs.Ends.{Checks, Judged, Ran, RanBuiltIn, Did, Talked};
 
 use std::alloc::Global;
@@ -15,10 +14,9 @@ use std::convert::AsStr;
 use std::fmt::Display;
 use std::io::{Read, Write};
 use tsb_program::{
-    Failure, FileError, Files, ReadError, Status, fail, line_of, log_of, read_file, tell,
-    write_line,
+    Failure, Files, ReadError, Status, fail, line_of, log_of, plan_of, tell, write_line,
 };
-use tsb_text::{Checked, Log, PLAN_LIMIT, Plan, PlanError, SessionError, read_plan, session};
+use tsb_text::{Checked, Log, Plan, PlanError, SessionError, session};
 use tsb_words::WordsError;
 use tsb_words::bench::{Asked, read_words};
 
@@ -57,25 +55,6 @@ pub fn tell_words_fault<E: Write>(errors: &mut E, fault: WordsError) -> u8
             Status::BadWords,
             b"usage: tsb check PLAN or tsb run PLAN LOG\n",
         ),
-    }
-}
-
-/// The plan in the file at this path.
-fn plan_of<F: Files>(alloc: Global, files: &F, path: &str) -> Result<Checked, ReadError<PlanError>>
-    ensures { PlanRead result (F.bytes files.now path.now) }
-{
-    let text = read_file(alloc, files, path, PLAN_LIMIT + 1).map_err(ReadError::Failed)?;
-    plan_made(read_plan(alloc, &text))
-}
-
-/// What reading a plan's text gave.
-fn plan_made(answer: Result<Checked, PlanError>) -> Result<Checked, ReadError<PlanError>>
-    ensures { result ≡ plan_made answer }
-{
-    match answer {
-        Ok(plan) => Ok(plan),
-        Err(PlanError::Memory) => Err(ReadError::Failed(FileError::Memory)),
-        Err(fault) => Err(ReadError::Refused(fault)),
     }
 }
 

@@ -5,7 +5,13 @@ use Rattle.tsb_log_text.specs.declared.error.LogError.{LogError}
 use Rattle.tsb_log_text.specs.declared.error.LogError.TheVariants as logs
 use Rattle.tsb_log_text.specs.declared.log.LogRow.{LogRow}
 use Rattle.tsb_log_text.specs.Logs.{Gives, log_of}
-use Rattle.tsb_program.specs.Read.{IsFront, LogRead, log_made}
+use Rattle.tsb_plan_text.specs.declared.error.PlanError.{PlanError}
+use Rattle.tsb_plan_text.specs.declared.error.PlanError.TheVariants as told
+use Rattle.tsb_plan_text.specs.PlanErrors as plans
+use Rattle.tsb_plan_text.specs.PlanText.{reading}
+use Rattle.tsb_objects.specs.Checked.{checked_plan}
+use Rattle.tsb_objects.specs.declared.checked.Checked.{Checked}
+use Rattle.tsb_program.specs.Read.{IsFront, LogRead, PlanRead, log_made, plan_made}
 
 pub log-read : (answer : Result (List LogRow) LogError) (known : Option (List ℕ)) (text : List ℕ) → IsFront known 67108865 text
     → Gives answer (log_of text) → LogRead (log_made answer) known
@@ -14,3 +20,18 @@ log-read (Err logs.Memory) known text front gives = tt
 log-read (Err logs.TooLarge) known text front gives = (text, front, gives)
 log-read (Err (logs.Malformed n)) known text front gives = (text, front, gives)
 log-read (Err (logs.TickOrder n)) known text front gives = (text, front, gives)
+
+pub plan-read : (answer : Result Checked PlanError) (known : Option (List ℕ)) (text : List ℕ) → IsFront known 1048577 text
+    → plans.Gives checked_plan answer (reading text) → PlanRead (plan_made answer) known
+plan-read (Ok plan) known text front gives = (text, front, gives)
+plan-read (Err told.Memory) known text front gives = tt
+plan-read (Err told.TooLarge) known text front gives = (text, front, gives, λ is. cc)
+plan-read (Err told.NotJson) known text front gives = (text, front, gives, λ is. cc)
+plan-read (Err told.NotATable) known text front gives = (text, front, gives, λ is. cc)
+plan-read (Err told.Version) known text front gives = (text, front, gives, λ is. cc)
+plan-read (Err (told.NoSuchObject name)) known text front gives = (text, front, gives, λ is. cc)
+plan-read (Err (told.ObjectNotATable o)) known text front gives = (text, front, gives, λ is. cc)
+plan-read (Err (told.NoSuchIndex o index)) known text front gives = (text, front, gives, λ is. cc)
+plan-read (Err (told.NotAWholeNumber o index)) known text front gives = (text, front, gives, λ is. cc)
+plan-read (Err (told.OutOfRange o index)) known text front gives = (text, front, gives, λ is. cc)
+plan-read (Err (told.Rule r)) known text front gives = (text, front, gives, λ is. cc)

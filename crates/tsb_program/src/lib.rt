@@ -10,5 +10,5 @@ mod status;
 pub use failure::{Failure, fail};
 pub use files::{Disk, FileError, Files, read_file};
 pub use lines::{line_of, tell, write_line};
-pub use read::{ReadError, log_of};
+pub use read::{ReadError, log_of, plan_of};
 pub use status::Status;

@@ -1,10 +1,12 @@
 //! Files that are read, and what they give.
 ghost use Rattle.std.specs.Prelude.{◌≡◌};
-ghost use Rattle.tsb_program.specs.Read.{LogRead, log_made};
+ghost use Rattle.tsb_program.specs.Read.{LogRead, PlanRead, log_made, plan_made};
 
 use crate::files::{FileError, Files, read_file};
 use std::alloc::Global;
 use tsb_log_text::{LIMIT, Log, LogError, read_log};
+use tsb_objects::Checked;
+use tsb_plan_text::{LIMIT as PLAN_LIMIT, PlanError, read_plan};
 
 /// Why a file gives nothing.
 #[derive(Drop)]
@@ -30,6 +32,29 @@ fn log_made(answer: Result<Log, LogError>) -> Result<Log, ReadError<LogError>>
     match answer {
         Ok(log) => Ok(log),
         Err(LogError::Memory) => Err(ReadError::Failed(FileError::Memory)),
+        Err(fault) => Err(ReadError::Refused(fault)),
+    }
+}
+
+/// The plan in the file at this path. Where it is too large, one byte more than the longest plan has is read.
+pub fn plan_of<F: Files>(
+    alloc: Global,
+    files: &F,
+    path: &str,
+) -> Result<Checked, ReadError<PlanError>>
+    ensures { PlanRead result (F.bytes files.now path.now) }
+{
+    let text = read_file(alloc, files, path, PLAN_LIMIT + 1).map_err(ReadError::Failed)?;
+    plan_made(read_plan(alloc, &text))
+}
+
+/// What reading a plan's text gave.
+fn plan_made(answer: Result<Checked, PlanError>) -> Result<Checked, ReadError<PlanError>>
+    ensures { result ≡ plan_made answer }
+{
+    match answer {
+        Ok(plan) => Ok(plan),
+        Err(PlanError::Memory) => Err(ReadError::Failed(FileError::Memory)),
         Err(fault) => Err(ReadError::Refused(fault)),
     }
 }

@@ -12,7 +12,7 @@ mod waiting;
 mod watch;
 
 pub use error::SessionError;
-pub use lines::line;
+pub use lines::{line, refused_line};
 pub use talk::{COMMANDS, session};
 pub use tsb_bench::{Bench, Kind};
 pub use tsb_command_text::{Command, read_command};

@@ -80,8 +80,8 @@ pub(crate) fn tick_line(tick: u32) -> [u8; 12]
     [b't', b'i', b'c', b'k', b' ', a, b, c, d, e, f, g]
 }
 
-/// The line of a refusal.
-pub(crate) fn refused_line(refusal: Refusal) -> &'static [u8]
+/// The line of a refusal, with its number, E1 to E12, and its name. It has at most 63 bytes.
+pub fn refused_line(refusal: Refusal) -> &'static [u8]
     ensures line { result.now ≡ refused_line refusal }
     ensures short { length result.now ≤ 63 }
 {

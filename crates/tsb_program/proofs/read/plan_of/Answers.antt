@@ -1,7 +1,7 @@
 use Rattle.std.proofs.Common.{rules}
 use Rattle.tsb_program.specs.Read.{IsFront}
-use Rattle.tsb.proofs.ReadLemmas.{plan-read}
-use Rattle.tsb.proofs.run.plan_of.Goals as goal
+use Rattle.tsb_program.proofs.ReadLemmas.{plan-read}
+use Rattle.tsb_program.proofs.read.plan_of.Goals as goal
 
 pub returns : goal.returns
 returns g c =

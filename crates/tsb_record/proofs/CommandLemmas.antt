@@ -1,0 +1,78 @@
+-- What lines leave is what remains of some commands with right answers.
+use Rattle.std.proofs.Common.{zero, suc, ◌≡◌, ℕ, List, [], ◌∷◌, subst, inl, inr}
+use Rattle.std.specs.declared.option.Option.{Option}
+use Rattle.tsb_types.specs.declared.refusal.Refusal.{Refusal}
+use Rattle.tsb_bench.specs.tsb_machine.declared.commands.Answer.{Answer}
+use Rattle.tsb_bench.specs.tsb_machine.declared.commands.Answer.TheVariants.{Took, Refused}
+use Rattle.tsb_bench.specs.tsb_machine.declared.commands.Command.TheVariants as asks
+use Rattle.tsb_step.specs.tsb_plan.Plan.{Plan}
+use Rattle.tsb_step.specs.declared.inputs.Input.{Input}
+use Rattle.tsb_step.specs.Play.{AreRight, AreRightFrom, Cmd, IsRight, remaining, remaining_after, remaining_from}
+use Rattle.tsb_command_text.specs.declared.command.Command.{Command}
+use Rattle.tsb_command_text.specs.declared.command.Command.TheVariants.{Step, Show, Quit, When}
+use Rattle.tsb_command_text.specs.declared.command.Reading.{Reading}
+use Rattle.tsb_command_text.specs.declared.command.Reading.TheVariants.{Skip, Bad, Do}
+use Rattle.tsb_text.specs.Answers.{Setup, next_tick}
+use Rattle.tsb_record.specs.Leaves.{Asked, Come, Ends, GoesOn, Leaves, Steps}
+
+-- commands with right answers lead from some inputs to others
+record Leads (plan : Plan) (is new : List Input) : Type 0 where
+  cs : List Cmd
+  ans : List Answer
+  right : AreRightFrom plan is cs ans
+  left : new ≡ remaining_from plan is cs ans
+
+stay : (plan : Plan) (is new : List Input) → new ≡ is → Leads plan is new
+stay plan is new same = record { cs = []; ans = []; right = tt; left = same }
+
+one : (plan : Plan) (is new : List Input) (c : Cmd) (a : Answer) → IsRight plan is c a → new ≡ remaining_after plan is c a → Leads plan is new
+one plan is new c a right left = record { cs = c ∷ []; ans = a ∷ []; right = (right, tt); left = left }
+
+-- one command, and then others
+onto : (plan : Plan) (is last : List Input) (c : Cmd) (a : Answer) → IsRight plan is c a → Leads plan (remaining_after plan is c a) last → Leads plan is last
+onto plan is last c a right rest = record { cs = c ∷ rest.cs; ans = a ∷ rest.ans; right = (right, rest.right); left = rest.left }
+
+both : (plan : Plan) (is new last : List Input) (cs : List Cmd) (ans : List Answer) → AreRightFrom plan is cs ans → new ≡ remaining_from plan is cs ans → Leads plan new last → Leads plan is last
+both plan is new last [] [] right left rest = subst (λ (x : List Input). Leads plan x last) left rest
+both plan is new last [] (a ∷ ans) right left rest = absurd right
+both plan is new last (c ∷ cs) [] right left rest = absurd right
+both plan is new last (c ∷ cs) (a ∷ ans) right left rest =
+    onto plan is last c a right.0 (both plan (remaining_after plan is c a) new last cs ans right.1 left rest)
+
+then : (plan : Plan) (is new last : List Input) → Leads plan is new → Leads plan new last → Leads plan is last
+then plan is new last first rest = both plan is new last first.cs first.ans first.right first.left rest
+
+by-steps : (given : Setup) (n : ℕ) (is : List Input) (refusal : Option Refusal) (new : List Input) → Steps given is n refusal new → Leads given.plan is new
+by-steps given zero is refusal new s = stay given.plan is new s.1
+by-steps given (suc n) is refusal new (inl s) =
+    onto given.plan is new (asks.Apply (next_tick given is)) Took s.0 (by-steps given n (next_tick given is ∷ is) refusal new s.1)
+by-steps given (suc n) is refusal new (inr s) = one given.plan is new (asks.Apply (next_tick given is)) (Refused s.0) s.1 s.3
+
+by-asked : (given : Setup) (is : List Input) (c : Cmd) (refusal : Option Refusal) (new : List Input) → Asked given is c refusal new → Leads given.plan is new
+by-asked given is c refusal new a = one given.plan is new c a.answer a.right a.left
+
+by-command : (given : Setup) (is : List Input) (c : Command) (refusal : Option Refusal) (new : List Input) → Leaves given is c refusal new → Leads given.plan is new
+by-command given is (Step n) refusal new l = by-steps given n is refusal new l
+by-command given is Show refusal new l = stay given.plan is new l.1
+by-command given is Quit refusal new l = stay given.plan is new l.1
+by-command given is (When watch) refusal new l = stay given.plan is new l.1
+by-command given is c refusal new l = by-asked given is _ refusal new l
+
+by-rest : (given : Setup) (left new : List Input) (c : Command) (Rest : List Input → List ℕ → Type 0) (told : List ℕ) → ((text : List ℕ) → Rest new text → Leads given.plan new left) → GoesOn c (Ends left) Rest new told
+    → Leads given.plan new left
+by-rest given left new Quit Rest told rest g = stay given.plan new left g.1
+by-rest given left new c Rest told rest g = rest told g
+
+by-lines : (given : Setup) (left : List Input) (lines : List Reading) (n : ℕ) (is : List Input) (told : List ℕ) → Come given left n is lines told → Leads given.plan is left
+by-lines given left [] n is told h = stay given.plan is left h.1
+by-lines given left (Skip ∷ lines) n is told h = by-lines given left lines (suc n) is told h
+by-lines given left (Bad ∷ lines) n is told h = by-lines given left lines (suc n) is h.0 h.2
+by-lines given left (Do c ∷ lines) n is told h =
+    then given.plan is h.2 left (by-command given is c h.0 h.2 h.3)
+    (by-rest given left h.2 c (λ new rest. Come given left (suc n) new lines rest) h.1 (λ text rest. by-lines given left lines (suc n) h.2 text rest) h.5)
+
+pub lines_leave_what_remains : (given : Setup) (left : List Input) (lines : List Reading) (told : List ℕ) → Come given left 1 [] lines told
+    → (cs : List Cmd) × (ans : List Answer) × AreRight given.plan cs ans × (left ≡ remaining given.plan cs ans)
+lines_leave_what_remains given left lines told h =
+    let all : Leads given.plan [] left = by-lines given left lines 1 [] told h in
+    (all.cs, all.ans, all.right, all.left)

@@ -1,0 +1,7 @@
+pub mod ToldLemmas
+pub mod TickLemmas
+pub mod AlongLemmas
+pub mod RecorderLemmas
+pub mod SessionLemmas
+pub mod CommandLemmas
+pub mod Examples

@@ -1,0 +1,34 @@
+-- What the inputs of a run tell. Inputs are piled up, the newest first; what they tell stands the oldest first.
+use Rattle.std.specs.Prelude.{ℕ, List, [], ◌∷◌, ◌++◌}
+use Rattle.tsb_types.specs.Sets.{all_off}
+use Rattle.tsb_types.specs.declared.event.Event.{Event}
+use Rattle.tsb_types.specs.declared.row.Row.{Row}
+use Rattle.tsb_step.specs.tsb_plan.Plan.{Plan}
+use Rattle.tsb_step.specs.declared.inputs.Input.{Input}
+use Rattle.tsb_step.specs.declared.inputs.Input.TheVariants.{Tick}
+use Rattle.tsb_step.specs.Events.{events_of}
+use Rattle.tsb_step.specs.Runs.{replay}
+use Rattle.tsb_record.specs.Told.{Telling, nothing_told, with_events, with_mark}
+
+-- the row of the newest tick; all inputs are off before the first
+abbrev pub last_row : List Input → Row
+last_row [] = all_off
+last_row (Tick row ∷ is) = row
+last_row (i ∷ is) = last_row is
+
+-- the events of all inputs from power-up, each told where it came
+abbrev pub told_along : Plan → List Input → List Event
+told_along plan [] = []
+told_along plan (i ∷ is) = told_along plan is ++ events_of (last_row is) (replay plan is) i
+
+-- ## What is kept of them
+
+-- an input has told these events, with this tick in force before it
+abbrev pub with_input : Input → ℕ → List Event → Telling → Telling
+with_input (Tick row) tick news told = with_events news told
+with_input i tick news told = with_mark tick news told
+
+-- the events and the marks of all inputs from power-up
+abbrev pub telling : Plan → List Input → Telling
+telling plan [] = nothing_told
+telling plan (i ∷ is) = with_input i (replay plan is).now (events_of (last_row is) (replay plan is) i) (telling plan is)

@@ -1,0 +1,14 @@
+-- what inputs have told, and how it is taken back
+pub mod Told
+-- what the inputs of a run tell
+pub mod Along
+-- what holds of all events
+pub mod Laws
+-- which inputs commands leave, and what is told of refused ones
+pub mod Leaves
+-- what private functions of a record promise each other
+pub mod Recording
+-- how the record of a run ends
+pub mod Ended
+-- the names of crates below, for those above
+pub use Rattle.tsb_types.specs as tsb_types

@@ -1,0 +1,170 @@
+//! A bench, with what the inputs that remain have told.
+ghost use Rattle.std.specs.Prelude.{◌≡◌, ◌+◌, ◌∷◌, ◌++◌, [], List, take};
+ghost use Rattle.tsb_bench.specs.Held.{whole};
+ghost use Rattle.tsb_bench.specs.tsb_machine.declared.commands.Command.TheVariants.{Apply};
+ghost use Rattle.tsb_step.specs.tsb_history.declared.kinds.Kind.TheVariants.{Tick};
+ghost use Rattle.tsb_step.specs.declared.inputs.Input.{Input as InputValue};
+ghost use Rattle.tsb_log_text.specs.declared.log.LogRow.{LogRow};
+ghost use Rattle.tsb_log_text.specs.Logs.{row_at};
+ghost use Rattle.tsb_text.specs.Answers.{Setup};
+ghost use Rattle.tsb_record.specs.Leaves.{Asked, Leaves, Steps};
+ghost use Rattle.tsb_record.specs.Told.{gone_back, nothing_told};
+ghost use Rattle.tsb_record.specs.declared.told.Mark.{Mark};
+ghost use Rattle.tsb_record.specs.Recording.{AreOfLog, Done, GoesBack, IsNoTick, Stands, Took, row_in_force};
+
+use crate::told::Told;
+use std::alloc::Global;
+use tsb_bench::{Answer, Bench, Kind, answer};
+use tsb_command_text::Command;
+use tsb_events::Events;
+use tsb_log_text::Log;
+use tsb_step::{Cmd, Input};
+use tsb_types::{Event, Refusal, Row};
+
+/// A bench, with what the inputs that remain have told.
+#[derive(Drop)]
+pub(crate) struct Recorder {
+    bench: Bench,
+    told: Told,
+    /// What the newest input told. It is kept because it takes long to make, and says nothing more.
+    news: Events,
+    /// Where the log's row of the last tick was found.
+    place: usize,
+}
+
+impl Recorder {
+    /// A bench that no input has reached.
+    pub(crate) fn new(alloc: Global, bench: Bench) -> Recorder
+        ensures bench { result.bench ≡ bench }
+        ensures told { result.told ≡ nothing_told }
+    {
+        Recorder {
+            bench,
+            told: Told::new(alloc),
+            news: Events::new(),
+            place: 0,
+        }
+    }
+
+    /// What the inputs that remain have told, the oldest first.
+    pub(crate) fn into_events(self) -> Vec<Event>
+        ensures { result.items ≡ self.told.events }
+    {
+        self.told.into_events()
+    }
+
+    /// Carries out a command, and says why it was refused, where it was. It takes the rows of ticks from `log`.
+    pub(crate) fn obey(&mut self, log: &Log, command: Command) -> Option<Refusal>
+        ensures { (given : Setup) (inputs : List InputValue) → Stands given log.now (whole self.old.bench) self.old.told inputs
+            → Done result given log.now (whole self.new.bench) self.new.told (Leaves given inputs command) }
+    {
+        match command {
+            Command::Step(ticks) => self.step(log, ticks),
+            Command::Show => None,
+            Command::Quit => None,
+            Command::When(_) => None,
+            Command::Back(ticks) => self.go_back(Cmd::Back(ticks)),
+            Command::Seek(tick) => self.go_back(Cmd::Seek(tick)),
+            Command::Undo => self.go_back(Cmd::Undo),
+            Command::Begin(station) => self.apply(log, Input::Begin(station)),
+            Command::Set(station, id, value) => self.apply(log, Input::Set(station, id, value)),
+            Command::Verify(station) => self.apply(log, Input::Verify(station)),
+            Command::Commit(station) => self.apply(log, Input::Commit(station)),
+            Command::Abort(station) => self.apply(log, Input::Abort(station)),
+            Command::Pattern(number) => self.apply(log, Input::Pattern(number)),
+            Command::Preempt(number, on) => self.apply(log, Input::Switch(number, on)),
+            Command::Fault(lamp) => self.apply(log, Input::Fault(lamp)),
+            Command::Reset => self.apply(log, Input::Reset),
+        }
+    }
+
+    /// So many ticks, with the rows of the log, up to one that is refused.
+    fn step(&mut self, log: &Log, ticks: u32) -> Option<Refusal>
+        ensures { (given : Setup) (inputs : List InputValue) → Stands given log.now (whole self.old.bench) self.old.told inputs
+            → Done result given log.now (whole self.new.bench) self.new.told (Steps given inputs ticks) }
+    {
+        for _i in 0..ticks {
+            let row = next_row(&self.bench, log, &mut self.place);
+            match self.take(log, Input::Tick(row)) {
+                Ok(()) => {}
+                Err(refusal) => return Some(refusal),
+            }
+        }
+        None
+    }
+
+    /// Applies an input that is no tick.
+    fn apply(&mut self, log: &Log, input: Input) -> Option<Refusal>
+        ensures { (given : Setup) (inputs : List InputValue) → IsNoTick input → Stands given log.now (whole self.old.bench) self.old.told inputs
+            → Done result given log.now (whole self.new.bench) self.new.told (Asked given inputs (Apply input)) }
+    {
+        match self.take(log, input) {
+            Ok(()) => None,
+            Err(refusal) => Some(refusal),
+        }
+    }
+
+    /// Takes an input, and keeps what it tells. Where there is no memory for that the input is refused, and nothing has
+    /// changed.
+    fn take(&mut self, log: &Log, input: Input) -> Result<(), Refusal>
+        ensures { (given : Setup) (inputs : List InputValue) → Stands given log.now (whole self.old.bench) self.old.told inputs
+            → AreOfLog given (input ∷ inputs) → Took result given log.now (whole self.new.bench) self.new.told inputs input }
+    {
+        let tick = self.bench.now();
+        let last = row_in_force(tick, log, &mut self.place);
+        self.bench.apply_telling(input, &last, &mut self.news)?;
+        if self.told.add(&input, tick, &self.news).is_err() {
+            let _ = self.bench.undo();
+            return Err(Refusal::Memory);
+        }
+        Ok(())
+    }
+
+    /// Goes back as the command says, and takes back what was told since.
+    fn go_back(&mut self, command: Cmd) -> Option<Refusal>
+        ensures { (given : Setup) (log : List LogRow) (inputs : List InputValue) → GoesBack command → Stands given log (whole self.old.bench) self.old.told inputs
+            → Done result given log (whole self.new.bench) self.new.told (Asked given inputs command) }
+    {
+        match answer(&mut self.bench, command) {
+            Answer::Moved => {
+                self.told.go_back(self.bench.now());
+                None
+            }
+            Answer::Undone(kind) => {
+                untell(&mut self.told, self.bench.now(), kind);
+                None
+            }
+            _ => None,
+        }
+    }
+}
+
+/// Takes back what the newest input has told, which was of this kind. Without it, this tick is in force.
+fn untell(told: &mut Told, tick: u32, kind: Kind)
+    ensures tick { kind ≡ Tick → told.new ≡ gone_back tick told.old }
+    ensures other { (kind ≡ Tick → ⊥) → (marks : List Mark) (mark : Mark) → told.old.marks ≡ marks ++ mark ∷ []
+        → told.new ≡ record { events = take mark.events told.old.events; marks = marks } }
+{
+    match kind {
+        Kind::Tick => told.go_back(tick),
+        _ => told.undo_input(),
+    }
+}
+
+/// The row that is in force at a tick number. Before the first tick all inputs are off.
+fn row_in_force(tick: u32, log: &Log, place: &mut usize) -> Row
+    ensures { result ≡ row_in_force log.now tick }
+{
+    if tick == 0 {
+        Row::all_off()
+    } else {
+        log.row(tick, place)
+    }
+}
+
+/// The log's row of the next tick.
+fn next_row(bench: &Bench, log: &Log, place: &mut usize) -> Row
+    ensures { result ≡ row_at log.now (bench.now.tick + 1) }
+{
+    log.row(bench.now() + 1, place)
+}

@@ -1,0 +1,131 @@
+//! What inputs have told, which can be taken back.
+ghost use Rattle.std.specs.Prelude.{◌≡◌, ◌∷◌, ◌++◌, [], List, OnErr, OnOk, take};
+ghost use Rattle.tsb_record.specs.Told.{Telling, gone_back, nothing_told, with_events, with_mark, without_later, event_tick, mark_tick};
+ghost use Rattle.tsb_record.specs.Along.{with_input};
+ghost use Rattle.tsb_record.specs.declared.told.Mark.{Mark};
+
+use std::alloc::{AllocError, Global};
+use std::marker::Model;
+use tsb_step::Input;
+use tsb_types::Event;
+
+/// Where an input came that is no tick.
+#[derive(Clone, Copy, Default)]
+pub struct Mark {
+    /// The number of the tick in force.
+    pub tick: u32,
+    /// How many events had been told before it.
+    pub events: usize,
+}
+
+/// What the inputs that remain have told, the oldest first. A contract sees the events and the marks, one for each
+/// input that is no tick.
+#[derive(Drop)]
+pub struct Told {
+    events: Vec<Event>,
+    marks: Vec<Mark>,
+}
+
+impl Model for Told {
+    ghost use Rattle.tsb_record.specs.Told.{Telling};
+
+    ghost Value = { Telling };
+
+    ghost view = { λ told. record { events = told.events.items; marks = told.marks.items } };
+}
+
+impl Told {
+    /// Nothing, which takes no memory.
+    pub fn new(alloc: Global) -> Told
+        ensures { result ≡ nothing_told }
+    {
+        Told {
+            events: Vec::new(alloc),
+            marks: Vec::new(alloc),
+        }
+    }
+
+    /// All events, the oldest first.
+    pub fn into_events(self) -> Vec<Event>
+        ensures { result.items ≡ self.events }
+    {
+        let Told { events, marks } = self;
+        drop(marks);
+        events
+    }
+
+    /// Adds the events of an input, where this tick was in force before it. The error is that memory ran out, and nothing
+    /// has changed.
+    pub fn add(&mut self, input: &Input, tick: u32, news: &[Event]) -> Result<(), AllocError>
+        ensures ok { OnOk result (self.new ≡ with_input input.now tick news.now self.old) }
+        ensures err { OnErr result (self.new ≡ self.old) }
+    {
+        match input {
+            Input::Tick(_) => self.add_tick(news),
+            _ => self.add_input(tick, news),
+        }
+    }
+
+    /// Adds the events of a tick. The error is that memory ran out, and nothing has changed.
+    fn add_tick(&mut self, news: &[Event]) -> Result<(), AllocError>
+        ensures ok { OnOk result (self.new ≡ with_events news.now self.old) }
+        ensures err { OnErr result (self.new ≡ self.old) }
+    {
+        self.events.extend_from_slice(news)
+    }
+
+    /// Adds the events of an input that is no tick, where this tick is in force. The error is that memory ran out, and
+    /// nothing has changed.
+    fn add_input(&mut self, tick: u32, news: &[Event]) -> Result<(), AllocError>
+        ensures ok { OnOk result (self.new ≡ with_mark tick news.now self.old) }
+        ensures err { OnErr result (self.new ≡ self.old) }
+    {
+        let events = self.events.len();
+        self.marks.reserve(1)?;
+        self.events.extend_from_slice(news)?;
+        let _ = self.marks.push(Mark { tick, events });
+        Ok(())
+    }
+
+    /// Takes back what the newest input has told, which is no tick.
+    pub fn undo_input(&mut self)
+        ensures { (marks : List Mark) (mark : Mark) → self.old.marks ≡ marks ++ mark ∷ []
+            → self.new ≡ record { events = take mark.events self.old.events; marks = marks } }
+    {
+        if let Some(mark) = self.marks.pop() {
+            self.events.truncate(mark.events);
+        }
+    }
+
+    /// Takes back what all inputs have told that came later than a tick: with a tick number above it.
+    pub fn go_back(&mut self, tick: u32)
+        ensures { self.new ≡ gone_back tick self.old }
+    {
+        drop_later_events(&mut self.events, tick);
+        drop_later_marks(&mut self.marks, tick);
+    }
+}
+
+/// Drops the events at the end that come later than a tick.
+fn drop_later_events(events: &mut Vec<Event>, tick: u32)
+    ensures { events.new.items ≡ without_later event_tick tick events.old.items }
+{
+    while let Some(last) = events.last() {
+        if last.tick <= tick {
+            return;
+        }
+        let _ = events.pop();
+    }
+}
+
+/// Drops the marks at the end that come later than a tick.
+fn drop_later_marks(marks: &mut Vec<Mark>, tick: u32)
+    ensures { marks.new.items ≡ without_later mark_tick tick marks.old.items }
+{
+    while let Some(last) = marks.last() {
+        if last.tick <= tick {
+            return;
+        }
+        let _ = marks.pop();
+    }
+}
