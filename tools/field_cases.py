@@ -11,6 +11,7 @@ from run_program import ENDLESS, EXAMPLES, FULL, READ, TORN, WRITE, Run
 USAGE = (
     b"usage: tsb_field log --from TIME [--device ID] [--vehicle CHANNEL=DETECTOR].. [--pedestrian CHANNEL=DETECTOR].. "
     b"[--preempt CHANNEL=INPUT]..\n"
+    b"    or tsb_field record --from TIME --device ID PLAN LOG\n"
     b"    or tsb_field events --from TIME --device ID [--log LOG]\n"
     b"    or tsb_field diagram [--log LOG] [--title TEXT] [--seconds-per-line N]\n"
 )
@@ -20,6 +21,7 @@ AT = "2026-11-22 07:00:00"
 FROM = ["--from", AT]
 BEGIN = field_rules.moment(AT.encode())
 LOG, EVENTS = ["log", *FROM], ["events", *FROM, "--device", "1001"]
+RECORD = ["record", *FROM, "--device", "1001", "quad.json"]
 
 # The last moment of tick 6,000,000, and the first one behind it.
 LAST, BEHIND = "2026-11-29 05:39:59.999999999", "2026-11-29 05:40:00"
@@ -382,6 +384,68 @@ def word_runs():
     turned = ["log", "--device=7", "--from", AT.replace(" ", "T")]
     for words in [["log", f"--from={AT}"], turned, [*LOG, "--vehicle=2=2"]]:
         yield Run(words, 0, CAR_LOG, b"", CAR)
+
+
+def record(*events):
+    """A record of controller 1001: each event has its tick, a code and a parameter."""
+    return HEADER + b"".join(b"1001,2026-11-22 07:00:0%d.%d,%d,%d\n" % (*divmod(tick - 1, 10), code, parameter)
+                             for tick, code, parameter in events)
+
+
+# From power-up phases 2 and 6 of quad turn green, as they are recalled, and overlap 1, which includes phase 2.
+FIRST = [(1, 0, 2), (1, 0, 6), (1, 1, 2), (1, 1, 6), (1, 44, 2), (1, 44, 6), (1, 61, 1)]
+# Pattern 1 has a cycle of 80 seconds, no offset, and eight splits.
+PATTERN = [(1, 131, 1), (1, 132, 80), *((1, 133 + p, (25, 15)[p % 2]) for p in range(1, 9))]
+
+
+def record_runs():
+    """Records: of what remains, what is told of commands that were refused, and faults."""
+    for commands, events, errors in [
+        (b"", [], b""), (b"step 1\n", FIRST, b""), (b"step 1", FIRST, b""),
+        (b"step 1\r\nshow\r\nwhen trip", FIRST, b""),
+        (b"step 1\nundo\n", [], b""), (b"step 1\nseek 0\n", [], b""), (b"step 9\nback 8\n", FIRST, b""),
+        (b"step 1\npattern 1\n", [*FIRST, *PATTERN], b""), (b"step 1\npattern 1\nundo\n", FIRST, b""),
+        (b"step 1\npattern 1\nstep 5\nseek 1\n", [*FIRST, *PATTERN], b""), (b"undo\nback 1\nseek 7\n", [], b""),
+        (b"step 1\npattern 17\n", FIRST, b"command 2: refused E9 NoSuchPattern\n"),
+        (b"# a comment\n\nx\nstep 1\n", FIRST, b"command 3: bad command\n"),
+        (b"begin 2\nbegin 1\nverify 1\n", [], b"command 2: refused E4 Busy 2\ncommand 3: refused E5 NotOwner\n"),
+        (b"step 1\nquit\nstep 1\nx\n", FIRST, b""), (b"quit", [], b""), (b"#" * 200 + b"\n", [], b""),
+        (b"#" * 201 + b"\nstep 1", FIRST, b"command 1: bad command\n"), (b"step 1\r", [], b"command 1: bad command\n"),
+    ]:
+        yield Run([*RECORD, "empty.log"], 0, record(*events), errors, commands)
+    yield Run([*RECORD, "one_row.log", "--"], 0, HEADER, b"", b"show\n")
+    yield Run(["record", "--device=1001", "quad.json", *FROM, "empty.log"], 0, record(*FIRST), b"", b"step 1\n")
+    yield Run(["record", *FROM, "--device=a,b", "quad.json", "empty.log"], 0, HEADER, b"", b"")
+    late = ["record", "--from", "9999-12-31 00:00:00", "--device", "7", "quad.json", "empty.log"]
+    yield Run(late, 2, b"", b"events: past the year 9999\n", b"step 1\n")
+    yield Run(late, 2, b"", b"command 1: bad command\nevents: past the year 9999\n", b"x\n")
+
+
+def record_faults():
+    """Plans and logs that `record` refuses or can't read, and streams that fail."""
+    plan = ["record", *FROM, "--device", "1001"]
+    for path, status, line in [
+        ("none.json", 3, READ), ("folder", 3, READ), (TORN, 3, READ), ("car.log", 1, b"plan: not JSON\n"),
+        (ENDLESS, 1, b"plan: too large\n"), ("two_short_yellow.json", 1, b"plan: rule K8\n"),
+    ]:
+        yield Run([*plan, path, "none.log"], status, b"", line, b"step 1\n")
+    for path, status, line in log_faults():
+        yield Run([*RECORD, path], status, b"", line, b"x\n")
+        yield Run([*RECORD, path, "more"], 2, b"", USAGE, stdin=TORN, stdout=FULL)
+    for words in [
+        [*RECORD], [*RECORD, "empty.log", "more"], ["record", "quad.json", "empty.log"],
+        [*RECORD, "--log", "empty.log"], ["record", *FROM, "quad.json", "empty.log"],
+        ["record", *FROM, "--device", 'a"b', "quad.json", "empty.log"],
+        ["record", "--device", "7", "quad.json", "empty.log"], [*RECORD, *FROM, "empty.log"],
+    ]:
+        yield Run(words, 2, b"", USAGE, b"step 1\n")
+    words = [*RECORD, "empty.log"]
+    yield Run(words, 3, b"", READ, stdin=TORN)
+    yield Run(words, 3, b"", WRITE, b"step 1\n", stdout=FULL)
+    yield Run(words, 3, b"", b"", b"x\nstep 1\n", stderr=FULL)
+    yield Run(words, 3, b"", b"commands: too large\n", b" " * (1 << 24) + b"\n")
+    yield Run(words, 0, b"", b"", b"\n" * (1 << 24), stdout="/dev/null")
+    yield Run(words, 0, stdin="/dev/null", stdout="/dev/null")
 
 
 def log_faults():

@@ -29,7 +29,10 @@ LOGS = [
 ]
 
 # Words, and what is read.
+RECORD = ["record", *FROM, "--device", "7", "examples/quad.json"]
 OTHERS = [
+    ([*RECORD, LOG], b"step 3\npattern 1\nstep 60\nback 40\nundo\nquit\nx\n"),
+    ([*RECORD, "none.log"], b"step 3\n"),
     (["events", *FROM, "--device", "7", "--log", LOG], ALL_LINES),
     (["events", "--from", "9999-12-31 00:00:00", "--device", "7"], ALL_LINES),
     (["diagram", "--log", LOG, "--title", "A & B"], ALL_LINES),
@@ -44,13 +47,26 @@ def fronts(text):
     return [text[:k] for k in range(len(text) + 1)]
 
 
+def stopped_records(program, words, text):
+    """What a record is with 0 where one of its commands has no memory: that of the commands without it, or of a step
+    that ends with the tick before. The command is told, and refused with E1."""
+    lines = text.splitlines(True)
+    for number, line in enumerate(lines, 1):
+        if line.startswith((b"step", b"pattern")):
+            shorter = [b"step %d\n" % k for k in range(int(line.split()[1]))] if line.startswith(b"step") else [b"#\n"]
+            for one in shorter:
+                _, record, told, *_ = program.run(words, b"".join([*lines[:number - 1], one, *lines[number:]]))
+                yield 0, record, told + b"command %d: refused E1 Memory\n" % number
+
+
 def memory(program, wrong):
     """Refuses each request for memory. One, behind those for the words given, is for what it can do without."""
     for words, text in RUNS:
         whole = program.run(words, text)[:3]
+        stopped = list(stopped_records(program, words, text)) if words[0] == "record" and whole[0] == 0 else []
         for number, ended in program.sweep(words, text):
             refused = ((3, front, MEMORY) for front in fronts(whole[1]))
-            wrong.compare(f"{words}, request {number}", ended, whole, *refused)
+            wrong.compare(f"{words}, request {number}", ended, whole, *stopped, *refused)
 
 
 def reads_of_log(program, wrong):

@@ -3,6 +3,9 @@ use Rattle.std.proofs.Common.{◌≡◌, ℕ, List, subst, inl, inr}
 use Rattle.std.specs.Prelude.{Err}
 use Rattle.std.specs.declared.option.Option.{Option}
 use Rattle.tsb_program.specs.Failures.{failure_of}
+use Rattle.tsb_program.specs.Read.{HasPlan, LogRead, PlanRead}
+use Rattle.tsb_text.specs.tsb_plan.Plan.{Plan}
+use Rattle.tsb_text.specs.tsb_plan_text.declared.error.PlanError.{PlanError}
 use Rattle.tsb_program.specs.declared.read.ReadError.{ReadError}
 use Rattle.tsb_program.specs.declared.read.ReadError.TheVariants as faults
 use Rattle.tsb_event_text.specs.declared.times.Moment.{Moment}
@@ -11,13 +14,23 @@ use Rattle.tsb_log_text.specs.declared.log.LogRow.{LogRow}
 use Rattle.tsb_field_display.specs.declared.shown.Shown.{Shown}
 use Rattle.tsb_field_events.specs.Merge.{session_events}
 use Rattle.tsb_field_events.specs.Texts.{IsLog}
-use Rattle.tsb_field.specs.Ends.{IsEvents, LogNamed, Pictured, Stops, TellsNoLog}
+use Rattle.tsb_field.specs.Ends.{IsEvents, LogNamed, NoRun, Pictured, Stops, TellsNoLog, TellsNoPlan}
 
 -- there is no log
 pub stops : (fault : ReadError LogError) (known : List ℕ → Option (List ℕ)) (path : Option (List ℕ)) (status : ℕ) (told tells : Option (List ℕ)) → LogNamed (Err fault) known path
     → TellsNoLog fault status told tells → Stops known path status told tells
 stops (faults.Failed why) known path status told tells named line = inr (named, failure_of why, line)
 stops (faults.Refused fault) known path status told tells none line = inl (fault, none, line)
+
+-- there is no plan, or no log beside one
+pub no-plan : (fault : ReadError PlanError) (status : ℕ) (plan log told tells : Option (List ℕ)) → PlanRead (Err fault) plan → TellsNoPlan fault status told tells → NoRun plan log status told tells
+no-plan (faults.Failed why) status plan log told tells read line = inr (inr (failure_of why, line))
+no-plan (faults.Refused fault) status plan log told tells read line = inl (fault, read, line)
+
+pub no-log : (fault : ReadError LogError) (found : Plan) (status : ℕ) (plan log told tells : Option (List ℕ)) → HasPlan plan found → LogRead (Err fault) log → TellsNoLog fault status told tells
+    → NoRun plan log status told tells
+no-log (faults.Failed why) found status plan log told tells has read line = inr (inr (failure_of why, line))
+no-log (faults.Refused fault) found status plan log told tells has read line = inr (inl (found, has, fault, read, line))
 
 -- what was handed on is the same
 pub events-are : (from : Moment) (device other : List ℕ) (lines shown : List Shown) (rows named : List LogRow) (last : Option ℕ) (text : List ℕ) → other ≡ device → shown ≡ lines → named ≡ rows

@@ -4,7 +4,7 @@
 use Rattle.std.specs.Prelude.{◌≡◌, ◌⊎◌, ℕ, List, [], IsSome, Option, Some, None, Result, Ok, Err, unwrap_or, codes}
 use Rattle.std.specs.Io.KnownBytes.{Appends, Consumes, IsAtEnd, Keeps}
 use Rattle.tsb_lines.specs.Writes.{AppendsFront}
-use Rattle.tsb_program.specs.Read.{HasLog, RefusesLog}
+use Rattle.tsb_program.specs.Read.{HasLog, HasPlan, RefusesLog, RefusesPlan}
 use Rattle.tsb_program.specs.Failures.{Fails, failure_of}
 use Rattle.tsb_program.specs.declared.failure.Failure.{Failure}
 use Rattle.tsb_program.specs.declared.failure.Failure.TheVariants.{Write}
@@ -22,14 +22,21 @@ use Rattle.tsb_field_events.specs.Merge.{session_events}
 use Rattle.tsb_field_events.specs.Texts.{IsLog}
 use Rattle.tsb_field_events.specs.Ticks.{AreWritten}
 use Rattle.tsb_field_log.specs.Mapping.{wires_of}
+use Rattle.tsb_record.specs.Ended as recorded
+use Rattle.tsb_record.specs.tsb_types.declared.event.Event.{Event}
+use Rattle.tsb_text.specs.Answers.{Setup}
+use Rattle.tsb_text.specs.declared.error.SessionError.{SessionError}
+use Rattle.tsb_text.specs.tsb_plan.Plan.{Plan}
+use Rattle.tsb_text.specs.tsb_plan_text.FaultLines.{plan_fault}
+use Rattle.tsb_text.specs.tsb_plan_text.declared.error.PlanError.{PlanError}
 use Rattle.tsb_field_streams.specs.Filtering.{Given}
 use Rattle.tsb_field_streams.specs.Streaming.{Ended}
 use Rattle.tsb_field_streams.specs.declared.error.FilterError.{FilterError}
 use Rattle.tsb_field_streams.specs.declared.filter.LeftOut.{LeftOut}
-use Rattle.tsb_words.specs.FieldWords.{Wish, diagram, events, log, seen}
+use Rattle.tsb_words.specs.FieldWords.{Wish, diagram, events, log, recording, seen}
 use Rattle.tsb_words.specs.declared.field_files.Asked.{Asked}
 use Rattle.tsb_words.specs.declared.error.WordsError.{WordsError}
-use Rattle.tsb_field.specs.Lines.{Refuses, TellsFault, TellsLate, TellsLeftOut, TellsWords}
+use Rattle.tsb_field.specs.Lines.{Refuses, TellsEnd as TellsRunEnd, TellsFault, TellsLate, TellsLeftOut, TellsWords}
 
 -- ## `log`
 
@@ -72,6 +79,11 @@ abbrev pub TellsNoLog : ReadError LogError → ℕ → Option (List ℕ) → Opt
 TellsNoLog (faults.Failed why) status told tells = Fails (failure_of why) status told tells
 TellsNoLog (faults.Refused fault) status told tells = Refuses 1 (Some (log_fault fault)) status told tells
 
+-- why there is no plan is told
+abbrev pub TellsNoPlan : ReadError PlanError → ℕ → Option (List ℕ) → Option (List ℕ) → Type 0
+TellsNoPlan (faults.Failed why) status told tells = Fails (failure_of why) status told tells
+TellsNoPlan (faults.Refused fault) status told tells = Refuses 1 (Some (plan_fault fault)) status told tells
+
 -- ## Texts of a session
 
 -- a text is written, nothing is told, and the program ends with 0; or the writer failed, which is told, with a prefix
@@ -101,6 +113,40 @@ Told status from device files path input left old new told tells =
     ⊎ ((bytes : List ℕ) × Consumes input left bytes × (AreWritten from → ⊥) × (new ≡ old)
     × TellsLate status told tells))
 
+-- ## `record`
+
+-- there is no run: with 1 because the plan is refused, or because there is a plan and the log is refused; or because a file
+-- or memory failed
+abbrev pub NoRun : Option (List ℕ) → Option (List ℕ) → ℕ → Option (List ℕ) → Option (List ℕ) → Type 0
+NoRun plan rows status told tells =
+    ((fault : PlanError) × RefusesPlan plan fault × Refuses 1 (Some (plan_fault fault)) status told tells)
+    ⊎ (((found : Plan) × HasPlan plan found × (fault : LogError) × RefusesLog rows fault × Refuses 1 (Some (log_fault fault)) status told tells)
+    ⊎ ((failure : Failure) × Fails failure status told tells))
+
+-- the events of the inputs that remain are written; or nothing is: memory failed, or with 2 a tick has no time
+abbrev pub Writes : ℕ → Moment → List ℕ → List Event → Option (List ℕ) → Option (List ℕ) → Option (List ℕ) → Option (List ℕ) → Type 0
+Writes status from device all old new told tells =
+    ((text : List ℕ) × IsLog from device all text × Written status text old new told tells)
+    ⊎ (((new ≡ old) × (failure : Failure) × Fails failure status told tells)
+    ⊎ ((AreWritten from → ⊥) × (new ≡ old) × TellsLate status told tells))
+
+-- a run ended well, or by a fault with nothing written
+abbrev pub WritesEnd : Result (List Event) SessionError → ℕ → Moment → List ℕ → Option (List ℕ) → Option (List ℕ) → Option (List ℕ) → Option (List ℕ) → Type 0
+WritesEnd (Ok all) status from device old new told tells = Writes status from device all old new told tells
+WritesEnd (Err fault) status from device old new told tells = (new ≡ old) × TellsRunEnd fault status told tells
+
+-- commands were run on a plan and a log, and told of what was refused; and then this was written
+abbrev pub RanSo : ℕ → Moment → List ℕ → Setup → Option (List ℕ) → Option (List ℕ) → Option (List ℕ) → Option (List ℕ) → Option (List ℕ) → Option (List ℕ) → Type 0
+RanSo status from device given input left old new told tells =
+    (result : Result (List Event) SessionError) × (mid : Option (List ℕ)) × recorded.Ended result given input left told mid
+    × WritesEnd result status from device old new mid tells
+
+-- how `record` ended on the files of a plan and a log: after a run, or with nothing read and nothing written
+abbrev pub Recorded : ℕ → Moment → List ℕ → Option (List ℕ) → Option (List ℕ) → Option (List ℕ) → Option (List ℕ) → Option (List ℕ) → Option (List ℕ) → Option (List ℕ) → Option (List ℕ) → Type 0
+Recorded status from device plan rows input left old new told tells =
+    ((given : Setup) × HasPlan plan given.plan × HasLog rows given.log × RanSo status from device given input left old new told tells)
+    ⊎ ((left ≡ input) × (new ≡ old) × NoRun plan rows status told tells)
+
 -- ## `diagram`
 
 -- the title, or what stands there where words give none
@@ -127,6 +173,8 @@ Pictured status title seconds files path input left old new told tells =
 abbrev pub DidWish : Wish → ℕ → (List ℕ → Option (List ℕ)) → Option (List ℕ) → Option (List ℕ) → Option (List ℕ) → Option (List ℕ) → Option (List ℕ) → Option (List ℕ) → Type 0
 DidWish (log from device wires) status files input left old new told tells =
     Logged status (record { from = from.nanos; device = device; wires = wires_of wires }) input left old new told tells
+DidWish (recording from device plan file) status files input left old new told tells =
+    Recorded status from device (files plan) (files file) input left old new told tells
 DidWish (events from device path) status files input left old new told tells = Told status from device files path input left old new told tells
 DidWish (diagram path title seconds) status files input left old new told tells = Pictured status (title_of title) (seconds_of seconds) files path input left old new told tells
 

@@ -5,6 +5,8 @@ use Rattle.tsb_field_streams.specs.declared.error.FilterError.{FilterError}
 use Rattle.tsb_field_streams.specs.declared.error.FilterError.TheVariants as ends
 use Rattle.tsb_field_streams.specs.FaultLines.{filter_fault}
 use Rattle.tsb_field_streams.specs.declared.filter.LeftOut.{LeftOut}
+use Rattle.tsb_text.specs.declared.error.SessionError.{SessionError}
+use Rattle.tsb_text.specs.declared.error.SessionError.TheVariants as sessions
 use Rattle.tsb_words.specs.declared.error.WordsError.{WordsError}
 use Rattle.tsb_words.specs.declared.error.WordsError.TheVariants as words
 use Rattle.tsb_program.specs.Failures.{Fails}
@@ -13,7 +15,7 @@ use Rattle.tsb_program.specs.declared.failure.Failure.TheVariants.{Memory, Read,
 -- how the program is used
 abbrev pub usage : List ℕ
 usage =
-    codes "usage: tsb_field log --from TIME [--device ID] [--vehicle CHANNEL=DETECTOR].. [--pedestrian CHANNEL=DETECTOR].. [--preempt CHANNEL=INPUT]..\n    or tsb_field events --from TIME --device ID [--log LOG]\n    or tsb_field diagram [--log LOG] [--title TEXT] [--seconds-per-line N]\n"
+    codes "usage: tsb_field log --from TIME [--device ID] [--vehicle CHANNEL=DETECTOR].. [--pedestrian CHANNEL=DETECTOR].. [--preempt CHANNEL=INPUT]..\n    or tsb_field record --from TIME --device ID PLAN LOG\n    or tsb_field events --from TIME --device ID [--log LOG]\n    or tsb_field diagram [--log LOG] [--title TEXT] [--seconds-per-line N]\n"
 
 -- bad words end with 2 and how the program is used; words may run out of memory
 abbrev pub TellsWords : WordsError → ℕ → Option (List ℕ) → Option (List ℕ) → Type 0
@@ -31,6 +33,13 @@ TellsFault ends.Memory status told tells = Fails Memory status told tells
 TellsFault ends.Read status told tells = Fails Read status told tells
 TellsFault ends.Write status told tells = Fails Write status told tells
 TellsFault fault status told tells = Refuses 1 (Some (filter_fault fault)) status told tells
+
+-- what ended a run before its commands did is told, with 3: a failure, or commands without end
+abbrev pub TellsEnd : SessionError → ℕ → Option (List ℕ) → Option (List ℕ) → Type 0
+TellsEnd sessions.Memory status told tells = Fails Memory status told tells
+TellsEnd sessions.Read status told tells = Fails Read status told tells
+TellsEnd sessions.Write status told tells = Fails Write status told tells
+TellsEnd sessions.TooLarge status told tells = (status ≡ 3) × AppendsFront told tells (codes "commands: too large\n")
 
 -- a tick that has no time is told, as a fault of the words: with 2
 abbrev pub TellsLate : ℕ → Option (List ℕ) → Option (List ℕ) → Type 0

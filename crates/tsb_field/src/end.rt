@@ -1,6 +1,6 @@
 //! How the program ends, and the lines that it writes then.
 ghost use Rattle.std.specs.Prelude.{◌≡◌, IfOk, string_bytes};
-ghost use Rattle.tsb_field.specs.Lines.{Refuses, TellsFault, TellsLate, TellsLeftOut, TellsWords, left_out_line};
+ghost use Rattle.tsb_field.specs.Lines.{Refuses, TellsEnd, TellsFault, TellsLate, TellsLeftOut, TellsWords, left_out_line};
 ghost use Rattle.tsb_field.specs.Ends.{Written};
 
 use std::alloc::{AllocError, Global};
@@ -8,11 +8,13 @@ use std::fmt::Display;
 use std::io::Write;
 use tsb_field_streams::{FilterError, LeftOut};
 use tsb_program::{Failure, Status, fail, line_of, tell, write_line};
+use tsb_text::SessionError;
 use tsb_words::WordsError;
 
 /// How the program is used.
 const USAGE: &[u8] =
     b"usage: tsb_field log --from TIME [--device ID] [--vehicle CHANNEL=DETECTOR].. [--pedestrian CHANNEL=DETECTOR].. [--preempt CHANNEL=INPUT]..
+    or tsb_field record --from TIME --device ID PLAN LOG
     or tsb_field events --from TIME --device ID [--log LOG]
     or tsb_field diagram [--log LOG] [--title TEXT] [--seconds-per-line N]
 ";
@@ -36,6 +38,18 @@ pub(crate) fn tell_fault<E: Write>(alloc: Global, errors: &mut E, fault: FilterE
         FilterError::Read => fail(errors, Failure::Read),
         FilterError::Write => fail(errors, Failure::Write),
         _ => refuse(alloc, errors, fault),
+    }
+}
+
+/// Says what ended a run before its commands did.
+pub(crate) fn tell_end<E: Write>(errors: &mut E, fault: SessionError) -> u8
+    ensures { TellsEnd fault result (E.contents errors.old) (E.contents errors.new) }
+{
+    match fault {
+        SessionError::Memory => fail(errors, Failure::Memory),
+        SessionError::Read => fail(errors, Failure::Read),
+        SessionError::Write => fail(errors, Failure::Write),
+        SessionError::TooLarge => tell(errors, Status::Failed, b"commands: too large\n"),
     }
 }
 

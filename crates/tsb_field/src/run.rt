@@ -4,21 +4,27 @@ ghost use Rattle.tsb_field_log.specs.Mapping.{wires_of};
 ghost use Rattle.tsb_words.specs.declared.field_files.Asked.{Asked};
 ghost use Rattle.tsb_words.specs.declared.error.WordsError.{WordsError};
 ghost use Rattle.tsb_words.specs.FieldProgram.{Spells};
-ghost use Rattle.tsb_field.specs.Ends.{Did, LogNamed, Logged, Pictured, TellsNoLog, Told, title_of};
+ghost use Rattle.tsb_text.specs.Answers.{Setup};
+ghost use Rattle.tsb_text.specs.tsb_objects.Checked.{checked_plan};
+ghost use Rattle.tsb_field.specs.Ends.{Did, LogNamed, Logged, Pictured, RanSo, Recorded, TellsNoLog, TellsNoPlan, Told, title_of};
 
-use crate::end::{refuse, tell_fault, tell_late, tell_left_out, tell_words_fault, write_all};
+use crate::end::{
+    refuse, tell_end, tell_fault, tell_late, tell_left_out, tell_words_fault, write_all,
+};
 use std::alloc::Global;
 use std::convert::AsStr;
 use std::io::{Read, Write};
 use tsb_event_text::Moment;
 use tsb_field_diagram::diagram_text;
 use tsb_field_display::{ReplayError, read_replay};
-use tsb_field_events::{EventsError, events_text};
+use tsb_field_events::{EventsError, events_text, log_text};
 use tsb_field_log::Wire;
 use tsb_field_streams::log;
 use tsb_lines::pass_on;
 use tsb_log_text::{Log, LogError};
-use tsb_program::{Failure, Files, ReadError, fail, log_of};
+use tsb_program::{Failure, Files, ReadError, fail, log_of, plan_of};
+use tsb_record::record;
+use tsb_text::{Checked, PlanError};
 use tsb_words::field_files::{Asked, read_words};
 
 /// The title of a diagram where words give none.
@@ -50,6 +56,14 @@ pub fn run_words<S: AsStr, F: Files, R: Read, W: Write, E: Write>(
                 wires,
             },
         ) => write_log(alloc, from, device, &wires, input, output, errors),
+        Ok(
+            Asked::Record {
+                from,
+                device,
+                plan,
+                log,
+            },
+        ) => write_record(alloc, from, device, plan, log, files, input, output, errors),
         Ok(Asked::Events { from, device, log }) => {
             write_events(alloc, from, device, log, files, input, output, errors)
         }
@@ -98,6 +112,57 @@ fn bytes_of(name: Option<&str>) -> Option<&[u8]>
     match name {
         Some(name) => Some(name.as_bytes()),
         None => None,
+    }
+}
+
+/// Makes a controller's event log from a run of commands.
+fn write_record<F: Files, R: Read, W: Write, E: Write>(
+    alloc: Global,
+    from: Moment,
+    device: &str,
+    plan: &str,
+    log: &str,
+    files: &F,
+    input: &mut R,
+    output: &mut W,
+    errors: &mut E,
+) -> u8
+    ensures { Recorded result from device.now (F.bytes files.now plan.now) (F.bytes files.now log.now)
+        (R.remaining input.old) (R.remaining input.new) (W.contents output.old) (W.contents output.new) (E.contents errors.old) (E.contents errors.new) }
+{
+    let checked = match plan_of(alloc, files, plan) {
+        Ok(checked) => checked,
+        Err(fault) => return refuse_plan(alloc, errors, fault),
+    };
+    let rows = match log_of(alloc, files, log) {
+        Ok(rows) => rows,
+        Err(fault) => return refuse_log(alloc, errors, fault),
+    };
+    record_run(alloc, from, device, checked, &rows, input, output, errors)
+}
+
+/// Runs commands on a plan and a log, and writes the events of the inputs that remain.
+fn record_run<R: Read, W: Write, E: Write>(
+    alloc: Global,
+    from: Moment,
+    device: &str,
+    plan: Checked,
+    rows: &Log,
+    input: &mut R,
+    output: &mut W,
+    errors: &mut E,
+) -> u8
+    ensures { RanSo result from device.now (record { plan = checked_plan plan; log = rows.now })
+        (R.remaining input.old) (R.remaining input.new) (W.contents output.old) (W.contents output.new) (E.contents errors.old) (E.contents errors.new) }
+{
+    let events = match record(alloc, plan, rows, input, errors) {
+        Ok(events) => events,
+        Err(fault) => return tell_end(errors, fault),
+    };
+    match log_text(alloc, from, device.as_bytes(), &events) {
+        Ok(text) => write_all(output, errors, &text),
+        Err(EventsError::Memory) => fail(errors, Failure::Memory),
+        Err(EventsError::Late) => tell_late(errors),
     }
 }
 
@@ -192,6 +257,16 @@ fn log_named<F: Files>(
     match path {
         Some(path) => log_of(alloc, files, path),
         None => Ok(Log::empty(alloc)),
+    }
+}
+
+/// Says why there is no plan.
+fn refuse_plan<E: Write>(alloc: Global, errors: &mut E, fault: ReadError<PlanError>) -> u8
+    ensures { TellsNoPlan fault result (E.contents errors.old) (E.contents errors.new) }
+{
+    match fault {
+        ReadError::Failed(fault) => fail(errors, fault.failure()),
+        ReadError::Refused(fault) => refuse(alloc, errors, fault),
     }
 }
 

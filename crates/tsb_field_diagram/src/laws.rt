@@ -9,6 +9,7 @@ ghost use Rattle.tsb_field_diagram.specs.Laws.{OnAsStretches, ShownAsStretches};
 /// Not said: how it looks. A dark stretch is a bar without a text.
 /// Mistakes: a bar for each change (`no_stretches`); what is in force when the line begins is left out (`late`); a bar
 /// ends a tick early (`gap`).
+/// Witness: `rises`, `as_defined` of Mistakes.
 pub fn heads_are_told_by_stretches()
     ensures { ShownAsStretches }
 {}
@@ -18,6 +19,7 @@ pub fn heads_are_told_by_stretches()
 ///
 /// Needs: as `heads_are_told_by_stretches`.
 /// Mistakes: as of `heads_are_told_by_stretches`.
+/// Witness: as of `heads_are_told_by_stretches`.
 pub fn inputs_are_told_by_stretches()
     ensures { OnAsStretches }
 {}

@@ -38,9 +38,13 @@ pub record IsLog (from : Moment) (device : List ℕ) (events : List Event) (text
   pub behind : text ≡ header_text ++ lines
   pub told : AreLines from device events lines
 
--- what a call gives: where each tick has a time, the log of the session's events, unless memory runs out; and otherwise
--- that it is late
+-- what a call gives: where each tick has a time, the log of these events, unless memory runs out; and otherwise that it
+-- is late
+abbrev pub LogWritten : {A : Type 0} → Result (Vec ℕ A) EventsError → Moment → List ℕ → List Event → Type 0
+LogWritten (Ok text) from device events = AreWritten from × IsLog from device events text.items
+LogWritten (Err Memory) from device events = AreWritten from
+LogWritten (Err Late) from device events = AreWritten from → ⊥
+
+-- so of the events of a session
 abbrev pub EventsWritten : {A : Type 0} → Result (Vec ℕ A) EventsError → Moment → List ℕ → List Shown → List LogRow → Type 0
-EventsWritten (Ok text) from device changes rows = AreWritten from × IsLog from device (session_events changes rows) text.items
-EventsWritten (Err Memory) from device changes rows = AreWritten from
-EventsWritten (Err Late) from device changes rows = AreWritten from → ⊥
+EventsWritten result from device changes rows = LogWritten result from device (session_events changes rows)

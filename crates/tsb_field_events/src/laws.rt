@@ -5,6 +5,7 @@ ghost use Rattle.tsb_field_events.specs.Laws.{AreAllTold, HeaderIsRead, LinesAre
 ///
 /// Needs: display lines whose ticks rise, and a log's rows whose ticks rise.
 /// Mistake: the events of inputs after all others (`out_of_order`).
+/// Witness: `as_defined` of Mistakes.
 pub fn events_stand_in_order()
     ensures { StandInOrder }
 {}
@@ -13,6 +14,7 @@ pub fn events_stand_in_order()
 /// display lines.
 ///
 /// Mistake: the first event that does not come before another is left out (`rest_without`).
+/// Witness: `as_defined`, `kept` of Mistakes.
 pub fn all_events_are_told()
     ensures { AreAllTold }
 {}

@@ -13,5 +13,5 @@ mod times;
 
 pub use error::EventsError;
 pub use merge::session_events;
-pub use texts::events_text;
+pub use texts::{events_text, log_text};
 pub use times::LAST_TICK;

@@ -1,7 +1,7 @@
 //! The text of events.
-ghost use Rattle.std.specs.Prelude.{◌≡◌, ◌++◌, IfOk, OnOk, List, ℕ};
-ghost use Rattle.tsb_field_events.specs.Merge.{session_events};
-ghost use Rattle.tsb_field_events.specs.Texts.{AreLines, EventsWritten, IsLog};
+ghost use Rattle.std.specs.Prelude.{◌≡◌, ◌++◌, IfOk, MatchResult, OnOk, List, ℕ};
+ghost use Rattle.tsb_field_events.specs.declared.error.EventsError.TheVariants.{Late};
+ghost use Rattle.tsb_field_events.specs.Texts.{AreLines, EventsWritten, IsLog, LogWritten};
 ghost use Rattle.tsb_field_events.specs.Ticks.{AreWritten};
 
 use crate::error::EventsError;
@@ -39,30 +39,56 @@ pub fn events_text(
 ) -> Result<Vec<u8>, EventsError>
     ensures { EventsWritten result from device.now changes.now rows.now }
 {
-    if !are_written(from) {
-        return Err(EventsError::Late);
+    judge_times(from)?;
+    match session_events(alloc, changes, rows) {
+        Ok(events) => log_text(alloc, from, device, &events),
+        Err(_) => Err(EventsError::Memory),
     }
-    match log_text(alloc, from, device, changes, rows) {
+}
+
+/// These events, as the text of a controller's event log, as `events_text` has it: the header, and then a line for each
+/// event, in their order.
+///
+/// `Late` where the time of tick 9,999,999, or `from`, has no year of four digits: it comes before any other error, and
+/// nothing was made. `Memory` where memory runs out: what was made is gone.
+pub fn log_text(
+    alloc: Global,
+    from: Moment,
+    device: &[u8],
+    events: &[Event],
+) -> Result<Vec<u8>, EventsError>
+    ensures { LogWritten result from device.now events.now }
+{
+    judge_times(from)?;
+    match written(alloc, from, device, events) {
         Ok(text) => Ok(text),
         Err(_) => Err(EventsError::Memory),
     }
 }
 
-/// The header and the lines of the events of a session.
-fn log_text(
+/// Whether each tick has a time. `Late` is its only error.
+fn judge_times(from: Moment) -> Result<(), EventsError>
+    ensures { MatchResult result (λ _. AreWritten from) (λ fault. (fault ≡ Late) × (AreWritten from → ⊥)) }
+{
+    if !are_written(from) {
+        return Err(EventsError::Late);
+    }
+    Ok(())
+}
+
+/// The header and the lines of events.
+fn written(
     alloc: Global,
     from: Moment,
     device: &[u8],
-    changes: &[Shown],
-    rows: &[LogRow],
+    events: &[Event],
 ) -> Result<Vec<u8>, AllocError>
     requires { AreWritten from }
-    ensures { IfOk result (λ text. IsLog from device.now (session_events changes.now rows.now) text.items) }
+    ensures { IfOk result (λ text. IsLog from device.now events.now text.items) }
 {
-    let events = session_events(alloc, changes, rows)?;
     let mut text = Vec::new(alloc);
     text.extend_from_slice(HEADER)?;
-    append_lines(&mut text, from, device, &events)?;
+    append_lines(&mut text, from, device, events)?;
     Ok(text)
 }
 

@@ -6,7 +6,7 @@ use Rattle.clap.specs.declared.parser.matches.Found.{Found}
 use Rattle.clap.proofs.WalkLemmas.{first_value-rows, raw_values-rows}
 use Rattle.tsb_event_text.specs.Times.{moment_of}
 use Rattle.tsb_event_text.specs.declared.times.Moment.{Moment}
-use Rattle.tsb_words.specs.FieldProgram.{diagram_in, diagram_with, events_in, events_with, log_in, log_with, moment_in, seconds_said, texts_in, wires_in}
+use Rattle.tsb_words.specs.FieldProgram.{diagram_in, diagram_with, events_in, events_with, log_in, log_with, moment_in, record_in, record_with, seconds_said, texts_in, wires_in}
 use Rattle.tsb_field_log.specs.declared.inputs.Wire.{Wire}
 use Rattle.tsb_words.specs.FieldWords.{Wish, log}
 
@@ -20,7 +20,17 @@ moment_none f e = ap (option_and_then moment_of) (first_is f (codes "from") None
 pub moment_some : (f : Found) (text : Text) → Some text ≡ first_value f (codes "from") → moment_in (rows_of f) ≡ moment_of text
 moment_some f text e = ap (option_and_then moment_of) (first_is f (codes "from") (Some text) e)
 
--- what `events` asks for, by what the getters answer
+-- what `record` asks for, by what the getters answer
+pub getters_record : (f : Found) (asked : Option Wish) (from : Option Moment) (device plan file : Option Text)
+    → from ≡ moment_in (rows_of f) → device ≡ first_value f (codes "device") → plan ≡ first_value f (codes "PLAN") → file ≡ first_value f (codes "LOG")
+    → asked ≡ record_with from device plan file → asked ≡ record_in (rows_of f)
+getters_record f asked from device plan file from-is device-is plan-is file-is is =
+    let device-there : device ≡ first_of (codes "device") (rows_of f) = sym (first_is f (codes "device") device device-is) in
+    let plan-there : plan ≡ first_of (codes "PLAN") (rows_of f) = sym (first_is f (codes "PLAN") plan plan-is) in
+    let file-there : file ≡ first_of (codes "LOG") (rows_of f) = sym (first_is f (codes "LOG") file file-is) in
+    is ∙ (λ j. record_with (from-is j) (device-there j) (plan-there j) (file-there j))
+
+-- what `events` asks for
 pub getters_events : (f : Found) (asked : Option Wish) (from : Option Moment) (device file : Option Text)
     → from ≡ moment_in (rows_of f) → device ≡ first_value f (codes "device") → file ≡ first_value f (codes "log")
     → asked ≡ events_with from device file → asked ≡ events_in (rows_of f)

@@ -12,7 +12,7 @@ use Rattle.tsb_field_log.specs.declared.inputs.Kind.TheVariants.{Vehicle, Pedest
 use Rattle.tsb_field_log.specs.declared.inputs.Wire.{Wire}
 use Rattle.tsb_words.specs.declared.field_files.Asked.{Asked}
 use Rattle.tsb_words.specs.declared.error.WordsError.{WordsError}
-use Rattle.tsb_words.specs.FieldWords.{Wish, diagram, events, log, seconds_of, seen}
+use Rattle.tsb_words.specs.FieldWords.{Wish, diagram, events, log, recording, seconds_of, seen}
 use Rattle.tsb_words.specs.Words.{SpelledBy, met_by}
 use Rattle.tsb_words.specs.Wires.{joined, wires_of}
 
@@ -23,6 +23,10 @@ option_rule name = record (new_rule name) { long = Some name }
 -- one that has to come
 abbrev pub required_rule : Text → Rule
 required_rule name = record (option_rule name) { required = true }
+
+-- a file that has to be named
+abbrev pub file_rule : Text → Rule
+file_rule name = record (new_rule name) { required = true }
 
 -- one that may come several times
 abbrev pub repeated_rule : Text → Rule
@@ -41,6 +45,11 @@ abbrev pub log_shape : Shape
 log_shape = shape_with (codes "log")
     (required_rule (codes "from") ∷ option_rule (codes "device") ∷ wire_rules)
 
+-- those of `record`
+abbrev pub record_shape : Shape
+record_shape = shape_with (codes "record")
+    (file_rule (codes "PLAN") ∷ file_rule (codes "LOG") ∷ required_rule (codes "from") ∷ required_rule (codes "device") ∷ [])
+
 -- those of `events`
 abbrev pub events_shape : Shape
 events_shape = shape_with (codes "events")
@@ -55,7 +64,7 @@ diagram_shape = shape_with (codes "diagram")
 abbrev pub program : App
 program = record {
   top = record (new_shape (codes "tsb_field")) { is_leaf = false };
-  subs = log_shape ∷ events_shape ∷ diagram_shape ∷ [];
+  subs = log_shape ∷ record_shape ∷ events_shape ∷ diagram_shape ∷ [];
 }
 
 -- an argument of the command belongs to its subcommands as well
@@ -101,6 +110,17 @@ log_with from device wires = None
 abbrev pub log_in : List Row → Option Wish
 log_in rows = log_with (moment_in rows) (first_of (codes "device") rows) (wires_in rows)
 
+-- a record, where it is said from when, of which device and of which files, and a line can name that device
+abbrev pub record_with : Option Moment → Option Text → Option Text → Option Text → Option Wish
+record_with (Some from) (Some device) (Some plan) (Some file) =
+    if can_be_written device then Some (recording from device plan file) else None
+record_with from device plan file = None
+
+-- what `record` asks for, with these options and files
+abbrev pub record_in : List Row → Option Wish
+record_in rows =
+    record_with (moment_in rows) (first_of (codes "device") rows) (first_of (codes "PLAN") rows) (first_of (codes "LOG") rows)
+
 -- events, where it is said from when and of which device, and a line can name that
 abbrev pub events_with : Option Moment → Option Text → Option Text → Option Wish
 events_with (Some from) (Some device) file = if can_be_written device then Some (events from device file) else None
@@ -124,7 +144,8 @@ abbrev pub asked_by : Option (Text × List Row) → Option Wish
 asked_by None = None
 asked_by (Some met) =
     if bytes_eq met.0 (codes "log") then log_in met.1
-    else (if bytes_eq met.0 (codes "events") then events_in met.1 else diagram_in met.1)
+    else (if bytes_eq met.0 (codes "record") then record_in met.1
+    else (if bytes_eq met.0 (codes "events") then events_in met.1 else diagram_in met.1))
 
 -- what words ask for, of which the first is the program's name: by what `clap` reads of them where it takes them
 abbrev pub wish_of : List Text → Option Wish

@@ -2,7 +2,7 @@
 ghost use Rattle.std.specs.Prelude.{◌≡◌, map, option_map};
 ghost use Rattle.clap.specs.Words.{found_of, rows_of};
 ghost use Rattle.clap.specs.Simple.{subcommand_rows_of};
-ghost use Rattle.tsb_words.specs.FieldProgram.{Spells, asked_by, diagram_in, diagram_with, events_in, events_with, log_in, seconds_said, wires_in};
+ghost use Rattle.tsb_words.specs.FieldProgram.{Spells, asked_by, diagram_in, diagram_with, events_in, events_with, log_in, record_in, record_with, seconds_said, wires_in};
 ghost use Rattle.tsb_words.specs.FieldWords.{seen};
 ghost use Rattle.tsb_words.specs.Wires.{AreSpelled};
 ghost use Rattle.tsb_words.specs.Words.{SpelledBy};
@@ -36,6 +36,17 @@ pub enum Asked<'a> {
         /// words.
         wires: Vec<Wire>,
     },
+    /// Events of a controller's log, told by a run of commands.
+    Record {
+        /// The moment at which tick 1 begins.
+        from: Moment,
+        /// The device that the events are of, which a line can name (`can_be_written`).
+        device: &'a str,
+        /// The file of the plan.
+        plan: &'a str,
+        /// The file of the log of inputs.
+        log: &'a str,
+    },
     /// Events of a controller's log, made from display lines.
     Events {
         /// The moment at which tick 1 begins.
@@ -59,11 +70,12 @@ pub enum Asked<'a> {
 /// What the words ask for, the first of which is the program's name.
 ///
 /// `log` has `--from TIME`, and may have `--device ID` and any number of `--vehicle CHANNEL=DETECTOR`,
-/// `--pedestrian CHANNEL=DETECTOR` and `--preempt CHANNEL=INPUT`; `events` has `--from TIME` and `--device ID`, and may
-/// have `--log LOG`; `diagram` may have `--log LOG`, `--title TEXT` and `--seconds-per-line N`. Options come in any
-/// order, and `--NAME=VALUE` is `--NAME VALUE`. A value that begins with a hyphen comes after `=`. All else is `Bad`,
-/// and so are a request for help and a device of `events` with a double quote, an end of a line or over 900 bytes.
-/// `Memory` may come in place of every answer.
+/// `--pedestrian CHANNEL=DETECTOR` and `--preempt CHANNEL=INPUT`; `record` has `--from TIME`, `--device ID`, and the
+/// files of a plan and a log; `events` has `--from TIME` and `--device ID`, and may have `--log LOG`; `diagram` may have
+/// `--log LOG`, `--title TEXT` and `--seconds-per-line N`. Options come in any order, and `--NAME=VALUE` is
+/// `--NAME VALUE`. A value that begins with a hyphen comes after `=`. All else is `Bad`, and so are a request for help
+/// and a device of `record` or `events` with a double quote, an end of a line or over 900 bytes. `Memory` may come in
+/// place of every answer.
 pub fn read_words<'a, S: AsStr>(alloc: Global, words: &'a [S]) -> Result<Asked<'a>, WordsError>
     ensures { Spells (map S.text words.now) result }
 {
@@ -81,7 +93,9 @@ fn asked_of<'a>(alloc: Global, matches: &ArgMatches<'a>) -> Result<Asked<'a>, Wo
     if name == "log" {
         return log_asked(alloc, options);
     }
-    let found = if name == "events" {
+    let found = if name == "record" {
+        record_asked(options)
+    } else if name == "events" {
         events_asked(options)
     } else {
         diagram_asked(options)
@@ -118,6 +132,42 @@ fn all_wires(alloc: Global, options: &ArgMatches<'_>) -> Result<Vec<Wire>, Words
     add_option(&mut wires, Kind::Pedestrian, options.get_raw("pedestrian"))?;
     add_option(&mut wires, Kind::Preempt, options.get_raw("preempt"))?;
     Ok(wires)
+}
+
+/// What `record` asks for, with these options and files.
+fn record_asked<'a>(options: &ArgMatches<'a>) -> Option<Asked<'a>>
+    ensures { option_map seen result ≡ record_in (rows_of (found_of options.now)) }
+{
+    let from = moment(options);
+    let device = options.get_str("device");
+    let plan = options.get_str("PLAN");
+    let log = options.get_str("LOG");
+    record_with(from, device, plan, log)
+}
+
+/// A record, where it is said from when, of which device and of which files, and a line can name that device.
+fn record_with<'a>(
+    from: Option<Moment>,
+    device: Option<&'a str>,
+    plan: Option<&'a str>,
+    log: Option<&'a str>,
+) -> Option<Asked<'a>>
+    ensures { option_map seen result
+        ≡ record_with from (option_map (λ text. text.now) device.entry) (option_map (λ text. text.now) plan.entry) (option_map (λ text. text.now) log.entry) }
+{
+    let from = from?;
+    let device = device?;
+    let plan = plan?;
+    let log = log?;
+    if can_be_written(device.as_bytes()) {
+        return Some(Asked::Record {
+            from,
+            device,
+            plan,
+            log,
+        });
+    }
+    None
 }
 
 /// What `events` asks for, with these options.

@@ -32,3 +32,8 @@ with-hyphen = refl
 apart : wish_of (given (codes "diagram" ∷ codes "--title" ∷ codes "-A" ∷ [])) ≡ None
 unfolding clap_on_literals
 apart = refl
+
+-- `record` needs a plan and a log
+no-log : wish_of (given (codes "record" ∷ codes "--from=2026-11-22T07:00:00" ∷ codes "--device=7" ∷ codes "a.plan" ∷ [])) ≡ None
+unfolding clap_on_literals
+no-log = refl

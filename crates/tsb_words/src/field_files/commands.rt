@@ -1,7 +1,7 @@
 //! The command of the program, as `clap` reads it.
 ghost use Rattle.std.specs.Prelude.{◌≡◌, IfOk, false};
 ghost use Rattle.clap.specs.Words.{app_of, rule_of};
-ghost use Rattle.tsb_words.specs.FieldProgram.{IsLeaf, diagram_shape, events_shape, log_shape, option_rule, program, has_globals, repeated_rule, required_rule, wire_rules, with_rules};
+ghost use Rattle.tsb_words.specs.FieldProgram.{IsLeaf, diagram_shape, events_shape, file_rule, log_shape, option_rule, program, has_globals, record_shape, repeated_rule, required_rule, wire_rules, with_rules};
 
 use clap::{Arg, ArgAction, Command};
 use std::alloc::{AllocError, Global};
@@ -11,10 +11,12 @@ pub(crate) fn program<'a>(alloc: Global) -> Result<Command<'a>, AllocError>
     ensures { IfOk result (λ command. app_of command ≡ program) }
 {
     let log = log_command(alloc)?;
+    let record = record_command(alloc)?;
     let events = events_command(alloc)?;
     let diagram = diagram_command(alloc)?;
     Command::new(alloc, "tsb_field")
         .subcommand(log)?
+        .subcommand(record)?
         .subcommand(events)?
         .subcommand(diagram)
 }
@@ -39,6 +41,17 @@ fn with_wires<'a>(alloc: Global, command: Command<'a>) -> Result<Command<'a>, Al
         .arg(repeated(alloc, "preempt"))
 }
 
+/// `record`.
+fn record_command<'a>(alloc: Global) -> Result<Command<'a>, AllocError>
+    ensures { IfOk result (IsLeaf record_shape) }
+{
+    Command::new(alloc, "record")
+        .arg(file(alloc, "PLAN"))?
+        .arg(file(alloc, "LOG"))?
+        .arg(required(alloc, "from"))?
+        .arg(required(alloc, "device"))
+}
+
 /// `events`.
 fn events_command<'a>(alloc: Global) -> Result<Command<'a>, AllocError>
     ensures { IfOk result (IsLeaf events_shape) }
@@ -57,6 +70,14 @@ fn diagram_command<'a>(alloc: Global) -> Result<Command<'a>, AllocError>
         .arg(option(alloc, "log"))?
         .arg(option(alloc, "title"))?
         .arg(option(alloc, "seconds-per-line"))
+}
+
+/// A file that has to be named.
+fn file<'a>(alloc: Global, name: &'a str) -> Arg<'a>
+    ensures rule { rule_of result ≡ file_rule name.now }
+    ensures own { result.global ≡ false }
+{
+    Arg::new(alloc, name).required(true)
 }
 
 /// An option with one value, `--NAME VALUE`, that may come once.

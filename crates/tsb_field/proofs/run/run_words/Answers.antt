@@ -5,6 +5,13 @@ use Rattle.tsb_words.specs.declared.field_files.Asked.TheVariants as asks
 use Rattle.tsb_field.proofs.EndLemmas.{pictured-as}
 use Rattle.tsb_field.proofs.run.run_words.Goals as goal
 
+pub returns-in-Ok-Record : goal.returns-in-Ok-Record
+returns-in-Ok-Record g c = (
+  Ok (asks.Record c.in-Ok-Record.from c.in-Ok-Record.device c.in-Ok-Record.plan c.in-Ok-Record.log),
+  c.in-Ok-Record.ensures ∙ ap (λ (asked : Asked). Some (seen asked)) c.in-Ok-Record.field-0-is,
+  c.write_record.ensures,
+)
+
 pub returns-in-Ok-Events : goal.returns-in-Ok-Events
 returns-in-Ok-Events g c = (Ok (asks.Events c.in-Ok-Events.from c.in-Ok-Events.device c.in-Ok-Events.log), c.in-Ok-Events.ensures ∙ ap (λ (asked : Asked). Some (seen asked)) c.in-Ok-Events.field-0-is, c.write_events.ensures)
 

@@ -1,4 +1,4 @@
-use Rattle.std.proofs.Common.{◌∙◌, inl, inr, refl, subst, sym, List, ℕ}
+use Rattle.std.proofs.Common.{◌∙◌, inl, inr, refl, subst, List, ℕ}
 use Rattle.tsb_field_display.specs.Remaining.{last_tick}
 use Rattle.tsb_field_display.specs.Stream.{shown_lines}
 use Rattle.tsb_program.specs.declared.failure.Failure.TheVariants.{Memory}
