@@ -42,7 +42,7 @@ come-of-changes (line ∷ lines) = ap (λ (es : List Event). events_of nothing_l
 
 -- ## What events say, one after the other
 
-lit-append : (says : Event → Option Bool) (lit : Bool) (es fs : List Event) → lit_after says lit (es ++ fs) ≡ lit_after says (lit_after says lit es) fs
+pub lit-append : (says : Event → Option Bool) (lit : Bool) (es fs : List Event) → lit_after says lit (es ++ fs) ≡ lit_after says (lit_after says lit es) fs
 lit-append says lit [] fs = refl
 lit-append says lit (e ∷ es) fs = lit-append says (said_or (says e) lit) es fs
 
@@ -54,7 +54,7 @@ lit-silent says lit tick code (n ∷ ns) silent =
     ap (λ (o : Option Bool). lit_after says (said_or o lit) (map (λ m. event tick code m) ns)) (silent n) ∙ lit-silent says lit tick code ns silent
 
 -- what a code makes of it where one of its events is told of the head
-abbrev effect : Option Bool → Bool → Bool → Bool
+abbrev pub effect : Option Bool → Bool → Bool → Bool
 effect None on lit = lit
 effect (Some b) on lit = if on then b else lit
 
@@ -107,20 +107,20 @@ lit-told by_code p lit tick code test from within =
 -- ## What the events of a change say
 
 -- events lead from what was lit to what is
-record Leads (says : Event → Option Bool) (lit : Bool) (es : List Event) (last : Bool) : Type 0 where
-  is_lit : lit_after says lit es ≡ last
+pub record Leads (says : Event → Option Bool) (lit : Bool) (es : List Event) (last : Bool) : Type 0 where
+  pub is_lit : lit_after says lit es ≡ last
 
-is_lit_of : {says : Event → Option Bool} {lit last : Bool} {es : List Event} → Leads says lit es last → lit_after says lit es ≡ last
+pub is_lit_of : {says : Event → Option Bool} {lit last : Bool} {es : List Event} → Leads says lit es last → lit_after says lit es ≡ last
 is_lit_of l = l.is_lit
 
-after : {says : Event → Option Bool} {lit next last : Bool} {es fs : List Event} → Leads says lit es next → Leads says next fs last → Leads says lit (es ++ fs) last
+pub after : {says : Event → Option Bool} {lit next last : Bool} {es fs : List Event} → Leads says lit es next → Leads says next fs last → Leads says lit (es ++ fs) last
 after {says} {lit} {next} {last} {es} {fs} one other =
     record { is_lit = lit-append says lit es fs ∙ ap (λ (b : Bool). lit_after says b fs) one.is_lit ∙ other.is_lit }
 
 leads : (says : Event → Option Bool) (lit : Bool) (es : List Event) (last : Bool) → lit_after says lit es ≡ last → Leads says lit es last
 leads says lit es last e = record { is_lit = e }
 
-leads-told : (by_code : ℕ → Option Bool) (p : ℕ) (lit : Bool) (tick code : ℕ) (test : ℕ → Bool) → 1 ≤ p → p ≤ 16 →
+pub leads-told : (by_code : ℕ → Option Bool) (p : ℕ) (lit : Bool) (tick code : ℕ) (test : ℕ → Bool) → 1 ≤ p → p ≤ 16 →
     Leads (says_at by_code p) lit (told tick code test) (effect (by_code code) (test p) lit)
 leads-told by_code p lit tick code test from within = record { is_lit = lit-told by_code p lit tick code test from within }
 
@@ -219,7 +219,7 @@ lit-flash was now =
 
 -- ## Colours, one by one
 
-begun-or-ended : (was now : Bool) → (if was && not now then false else (if now && not was then true else was)) ≡ now
+pub begun-or-ended : (was now : Bool) → (if was && not now then false else (if now && not was then true else was)) ≡ now
 begun-or-ended true true = refl
 begun-or-ended true false = refl
 begun-or-ended false true = refl

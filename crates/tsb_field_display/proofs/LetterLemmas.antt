@@ -1,5 +1,5 @@
 -- The heads that have a letter, by the letters one after the other.
-use Rattle.std.proofs.Common.{◌≡◌, ◌≢◌, ◌∙◌, ℕ, ◌+◌, ◌*◌, ◌^◌, ◌<◌, ◌==◌, true, false, zero, suc, List, [], ◌∷◌, length, get_or, drop, drop-cons, if◌then◌else◌, refl, sym, ap, arith}
+use Rattle.std.proofs.Common.{◌≡◌, ◌≢◌, ◌∙◌, ℕ, ◌+◌, ◌*◌, ◌^◌, ◌<◌, ◌≤◌, ◌==◌, true, false, zero, suc, List, [], ◌∷◌, length, get_or, drop, drop-cons, if◌then◌else◌, refl, sym, ap, arith}
 use Rattle.std.specs.Int.{bit_at}
 use Rattle.std.proofs.lemmas.Bool.{eqb-true, ne_eqb}
 use Rattle.std.proofs.lemmas.Nat.Bits.{bit_at_lowest, bit_at-suc}
@@ -22,6 +22,12 @@ pub names-letter : (letter : ℕ) (bs : List ℕ) (k : ℕ) → k < length bs �
 names-letter letter [] k below = absurd (omega arith)
 names-letter letter (b ∷ bs) zero below = names-first_letter letter b bs
 names-letter letter (b ∷ bs) (suc k) below = names-later_letter letter b bs k ∙ names-letter letter bs k (omega arith)
+
+-- there is no head beyond the last letter
+pub names-beyond : (letter : ℕ) (bs : List ℕ) (k : ℕ) → length bs ≤ k → names (list_with letter bs) (suc k) ≡ false
+names-beyond letter [] k beyond = names-zero (suc k)
+names-beyond letter (b ∷ bs) zero beyond = absurd (omega (arith, beyond))
+names-beyond letter (b ∷ bs) (suc k) beyond = names-later_letter letter b bs k ∙ names-beyond letter bs k (omega (arith, beyond))
 
 other-letter : (b one other : ℕ) → one ≢ other → (b == one) ≡ true → (b == other) ≡ false
 other-letter b one other differ e = ne_eqb b other (λ same. differ (sym (eqb-true b one e) ∙ same))

@@ -2,6 +2,7 @@ pub mod LetterLemmas
 pub mod SameLemmas
 pub mod LawLemmas
 pub mod LineLemmas
+pub mod HeadLemmas
 pub mod ReplayLemmas
 pub mod EventLemmas
 pub mod StreamLemmas

@@ -59,7 +59,7 @@ preempt-digit : (preempt : Option ℕ) → IfSome preempt (λ n. (1 ≤ n) × (n
 preempt-digit None known = refl
 preempt-digit (Some n) known = and_from _ _ (le-leb 48 (48 + n) (omega arith)) (le-leb (48 + n) 52 (omega (arith, known.1)))
 
-preempt-read : (preempt : Option ℕ) → IfSome preempt (λ n. (1 ≤ n) × (n ≤ 4)) → preempt_of (preempt_digit preempt) ≡ preempt
+pub preempt-read : (preempt : Option ℕ) → IfSome preempt (λ n. (1 ≤ n) × (n ≤ 4)) → preempt_of (preempt_digit preempt) ≡ preempt
 preempt-read None known = refl
 preempt-read (Some n) known =
     let other : (48 + n == 48) ≡ false = ne_eqb (48 + n) 48 (λ e. absurd (omega (arith, e, known.0))) in
@@ -68,12 +68,12 @@ preempt-read (Some n) known =
 
 -- ## Heads are read by their letters
 
-mapped-length : (f : ℕ → ℕ) (a n : ℕ) → length (map f (run_from a n)) ≡ n
+pub mapped-length : (f : ℕ → ℕ) (a n : ℕ) → length (map f (run_from a n)) ≡ n
 unfolding run_from
 mapped-length f a zero = refl
 mapped-length f a (suc n) = ap suc (mapped-length f (a + 1) n)
 
-head-letter : (code : ℕ) (f : ℕ → ℕ) (n p : ℕ) → 1 ≤ p → p ≤ n → has_number (heads_with code (map f (run_from 1 n))) p ≡ (f p == code)
+pub head-letter : (code : ℕ) (f : ℕ → ℕ) (n p : ℕ) → 1 ≤ p → p ≤ n → has_number (heads_with code (map f (run_from 1 n))) p ≡ (f p == code)
 head-letter code f n zero from within = absurd (omega (arith, from))
 head-letter code f n (suc k) from within =
     let whole : length (map f (run_from 1 n)) ≡ n = mapped-length f 1 n in
@@ -115,17 +115,17 @@ pedestrians-read f n p from within =
 
 -- ## The line
 
-record Fields (now : ℕ) (heads : Heads) (preempt local : Option ℕ) (line : List ℕ) : Type 0 where
-  wide : length line ≡ 53
-  spaced : (has_space 7 line && has_space 24 line && has_space 41 line && has_space 46 line && has_space 48 line) ≡ true
-  tick : field 0 7 line ≡ tick_field now
-  vehicles : field 8 16 line ≡ vehicle_field heads.vehicle
-  pedestrians : field 25 16 line ≡ pedestrian_field heads.pedestrian
-  overlaps : field 42 4 line ≡ overlap_field heads.overlap
-  served : slice_index line 47 ≡ preempt_digit preempt
-  counter : field 49 4 line ≡ local_field local
+pub record Fields (now : ℕ) (heads : Heads) (preempt local : Option ℕ) (line : List ℕ) : Type 0 where
+  pub wide : length line ≡ 53
+  pub spaced : (has_space 7 line && has_space 24 line && has_space 41 line && has_space 46 line && has_space 48 line) ≡ true
+  pub tick : field 0 7 line ≡ tick_field now
+  pub vehicles : field 8 16 line ≡ vehicle_field heads.vehicle
+  pub pedestrians : field 25 16 line ≡ pedestrian_field heads.pedestrian
+  pub overlaps : field 42 4 line ≡ overlap_field heads.overlap
+  pub served : slice_index line 47 ≡ preempt_digit preempt
+  pub counter : field 49 4 line ≡ local_field local
 
-fields : (now : ℕ) (heads : Heads) (preempt local : Option ℕ) → Fields now heads preempt local (line_of now heads preempt local)
+pub fields : (now : ℕ) (heads : Heads) (preempt local : Option ℕ) → Fields now heads preempt local (line_of now heads preempt local)
 unfolding line_of run_from
 fields now heads preempt None =
     record { wide = refl; spaced = refl; tick = refl; vehicles = refl; pedestrians = refl; overlaps = refl; served = refl; counter = refl }
@@ -157,7 +157,7 @@ tells now heads preempt local line known is_line = record {
   preempt = ap preempt_of is_line.served ∙ preempt-read preempt known;
 }
 
-read : (now : ℕ) (heads : Heads) (preempt local : Option ℕ) (line : List ℕ) → now < 10000000 → IfSome preempt (λ n. (1 ≤ n) × (n ≤ 4)) →
+pub read : (now : ℕ) (heads : Heads) (preempt local : Option ℕ) (line : List ℕ) → now < 10000000 → IfSome preempt (λ n. (1 ≤ n) × (n ≤ 4)) →
     Fields now heads preempt local line → shown_of line ≡ Some (record { tick = now; signals = signals_of line })
 unfolding shown_of
 read now heads preempt local line small known is_line =

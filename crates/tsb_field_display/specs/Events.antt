@@ -1,5 +1,5 @@
 -- The events that come of a change of what is shown, by the Indiana enumerations: their codes and parameters.
-use Rattle.std.specs.Prelude.{ℕ, Bool, not, ◌&&◌, ◌||◌, if◌then◌else◌, List, [], ◌∷◌, ◌++◌, map, filter, Option, Some, None}
+use Rattle.std.specs.Prelude.{ℕ, Bool, not, ◌&&◌, if◌then◌else◌, List, [], ◌∷◌, ◌++◌, Option, Some, None}
 use Rattle.tsb_types.specs.Lists.{run_from, is, some_passes}
 use Rattle.tsb_types.specs.Sets.{has_number}
 use Rattle.tsb_field_display.specs.declared.shown.Signals.{Signals}

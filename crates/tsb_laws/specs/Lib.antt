@@ -30,3 +30,5 @@ pub mod Versions
 pub mod Texts
 -- that a session has one text, but for memory
 pub mod OneText
+-- what the events of runs tell
+pub mod Told

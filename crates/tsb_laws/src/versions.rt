@@ -8,6 +8,7 @@ ghost use Rattle.tsb_laws.specs.Texts.{NamedPlansBreakNoRule, ReadBenchesGoAlike
 /// none.
 ///
 /// Mistake: splits that are not translated, `not_translated` (`narrow_forces`, `forces_none`, `is_wrong`).
+/// Witness: `is_right`, `is_right_too` of Mistakes, a plan of version 1 and its wide plan.
 pub fn wide_plans_say_the_same()
     ensures plans { WidePlansSayTheSame }
     ensures rules { BreakTheSameRule }
@@ -15,6 +16,9 @@ pub fn wide_plans_say_the_same()
 
 /// Values of version 1 make a plan of version 1 and its wide plan. They are put in turn, in the wide plan at translated
 /// indices; the built-in plans are the wide plans of two that are of version 1.
+///
+/// Mistake: values put at indices that are not translated, `not_translated` (`narrow_forces`, `forces_none`).
+/// Witness: `narrow_forces`, `wide_forces` of Mistakes, whose plans are made of the same values.
 pub fn values_make_both_plans()
     ensures narrow { PutsMakeNarrowPlans }
     ensures wide { PutsMakeWidePlans }
@@ -27,6 +31,7 @@ pub fn values_make_both_plans()
 /// same state, but for the translated plan and edits.
 ///
 /// Needs: a plan of version 1, and sets and lamps within its ranges; `lamp_of_9` and `set_9` compute why.
+/// Mistake: a bench of 16 on values that are not translated, `not_translated` (`narrow_holds`, `holds_none`).
 /// Witness: `narrow_preempted` and `wide_preempted` of Examples.
 pub fn benches_show_the_same()
     ensures heads { HeadsAgree }
@@ -39,6 +44,7 @@ pub fn benches_show_the_same()
 /// The benches of 8 and of 16 phases refuse the same inputs, each for the same cause. So they take the same inputs.
 ///
 /// Needs: as `benches_show_the_same`.
+/// Witness: as of `benches_show_the_same`.
 pub fn benches_take_the_same()
     ensures refusals { RefusalsAgree }
     ensures same { TakeTheSame }
@@ -47,6 +53,7 @@ pub fn benches_take_the_same()
 /// Phases beyond the eighth rest in the bench of 16. They are not enabled, and stay as at power-up.
 ///
 /// Needs: as `benches_show_the_same`.
+/// Witness: as of `benches_show_the_same`.
 pub fn other_phases_rest()
     ensures { OthersRest }
 {}

@@ -17,6 +17,8 @@ pub fn cells_tell_the_state()
 
 /// The plans that the program runs are among those that the laws of cells and records speak of. Each checked plan is
 /// one of them.
+///
+/// Witness: `held` of Witness, the built-in plan of two phases.
 pub fn checked_plans_are_held()
     ensures { CheckedPlansAreHeld }
 {}
@@ -38,6 +40,7 @@ pub fn pasts_are_the_run()
 /// it did not stay Off and did not run on.
 ///
 /// Mistake: a cell that counts, `counting_cell` (`stays_8`, `would_be_written`).
+/// Witness: `ran` of Witness, in whose first tick a timer starts (`was_off`, `starts`) and another runs on (`runs_on`).
 pub fn waiting_timers_are_not_written()
     ensures { WaitingTimersAreNotWritten }
 {}

@@ -43,7 +43,7 @@ rings_agree-same : (plan : Plan) (t d : ℕ) → IsNarrow plan → rings_agree (
 rings_agree-same plan t d narrow =
     rw (has_phases-same plan 1 d narrow, has_phases-same plan 2 d narrow, split_sum-same plan t 1 d narrow, split_sum-same plan t 2 d narrow) refl
 
-any-never : (test : ℕ → Bool) (ps : List ℕ) → ((p : ℕ) → test p ≡ false) → list_any test ps ≡ false
+pub any-never : (test : ℕ → Bool) (ps : List ℕ) → ((p : ℕ) → test p ≡ false) → list_any test ps ≡ false
 any-never test [] never = refl
 any-never test (p ∷ ps) never = rw (never p) (any-never test ps never)
 

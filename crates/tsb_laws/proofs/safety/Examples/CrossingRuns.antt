@@ -30,7 +30,7 @@ use Rattle.tsb_laws.proofs.safety.Examples.CommitmentRuns.{IsKnown}
 abbrev quick_values : List (Object × ℕ × ℕ)
 quick_values = (PhasePedRecall, 2, 1) ∷ (PreemptMinimumGreen, 1, 0) ∷ (PreemptMinimumWalk, 1, 0) ∷ (PreemptEnterPedClear, 1, 0) ∷ []
 
-unfoldable quick : Plan
+unfoldable pub quick : Plan
 quick = with_values quad quick_values
 
 -- no phase has a longer clearance or red revert
@@ -53,13 +53,13 @@ breaks_none : first_broken quick ≡ None
 unfolding opened quick
 breaks_none = refl
 
-abbrev walked : List Input
+abbrev pub walked : List Input
 walked = Tick all_off ∷ []
 
-abbrev crossed : List Input
+abbrev pub crossed : List Input
 crossed = Tick all_off ∷ Switch 1 true ∷ walked
 
-taken : AreTaken quick crossed
+pub taken : AreTaken quick crossed
 unfolding opened quick
 taken = (((tt, refl), refl), refl)
 
@@ -70,7 +70,7 @@ ticked_2 : (replay quick crossed).now ≡ 2
 unfolding opened quick
 ticked_2 = refl
 
-known : IsKnown quick crossed
+pub known : IsKnown quick crossed
 known = record {
   consistent = consistent limit quick quick_count breaks_none quick_fits;
   few = (let count = quick_count in omega (arith, count));

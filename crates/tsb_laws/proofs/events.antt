@@ -1,0 +1,9 @@
+pub mod KeptLemmas
+pub mod LineLemmas
+pub mod SeenLemmas
+pub mod RunLemmas
+pub mod SayLemmas
+pub mod BackLemmas
+pub mod InputLemmas
+pub mod RowLemmas
+pub mod Examples

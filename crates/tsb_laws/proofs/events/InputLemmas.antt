@@ -1,0 +1,181 @@
+-- The events of inputs among those of a run are those of its log.
+use Rattle.std.proofs.Common.{◌≡◌, ◌∙◌, ℕ, ◌==◌, Bool, true, ◌&&◌, List, [], ◌∷◌, ◌++◌, filter, refl, sym, ap, inl, inr, append_assoc}
+use Rattle.std.proofs.lemmas.Bool.{and_parts, cases_Bool, eqb-true}
+use Rattle.std.proofs.lemmas.List.{append-nil}
+use Rattle.std.proofs.lemmas.List.Elements.{filter-append}
+use Rattle.tsb_step.specs.tsb_types.Events.{told, begins, ends}
+use Rattle.tsb_step.specs.tsb_types.Lists.{among}
+use Rattle.tsb_step.specs.tsb_types.Sets.{all_off, has_number}
+use Rattle.tsb_step.specs.tsb_types.declared.event.Event.{Event}
+use Rattle.tsb_step.specs.tsb_types.declared.event.TheConstants as codes
+use Rattle.tsb_step.specs.tsb_types.declared.row.Row.{Row}
+use Rattle.tsb_step.proofs.tsb_types.EventLemmas as none
+use Rattle.tsb_step.specs.tsb_plan.Plan.{Plan}
+use Rattle.tsb_step.specs.declared.inputs.Input.{Input}
+use Rattle.tsb_step.specs.declared.inputs.Input.TheVariants as inputs
+use Rattle.tsb_step.specs.Events as events
+use Rattle.tsb_step.specs.Events.{View, Found, Selected, events_of, found, selected, view}
+use Rattle.tsb_step.specs.Runs.{replay}
+use Rattle.tsb_step.specs.State.{State}
+use Rattle.tsb_step.specs.Step.{step}
+use Rattle.tsb_events.proofs.OrderLemmas.{alarm-span, call-span, clearing-span, crossing-span, ending-span, flash-span, green-span, one-code, overlap-span, pattern-span, pedestrian-span, preempt-span}
+use Rattle.tsb_log_text.specs.declared.log.LogRow.{LogRow}
+use Rattle.tsb_field_events.specs.Inputs.{events_behind, events_of_row, events_of_rows}
+use Rattle.tsb_field_events.specs.Laws.{is_of_input}
+use Rattle.tsb_record.specs.Along.{last_row, told_along}
+use Rattle.tsb_laws.specs.Told.{InputsMakeTheLog, if_changed, is_same_row, log_of}
+use Rattle.tsb_laws.proofs.events.KeptLemmas.{Kept, both, first-alone, second-alone, all-told, none-of, not-among}
+
+-- ## What is kept of the events of an input
+
+-- inputs have events of these codes
+abbrev input_codes : List ℕ
+input_codes = 81 ∷ 82 ∷ 89 ∷ 90 ∷ 102 ∷ 104 ∷ []
+
+abbrev pub by_input : ℕ → Bool
+by_input c = among c input_codes
+
+kept-vehicle : (tick : ℕ) (f : Found) → Kept by_input (events.vehicle_input_events tick f) (events.vehicle_input_events tick f)
+kept-vehicle tick f = both (all-told by_input tick codes.VEHICLE_OFF _ refl) (all-told by_input tick codes.VEHICLE_ON _ refl)
+
+kept-other : (tick : ℕ) (f : Found) → Kept by_input (events.other_input_events tick f) (events.other_input_events tick f)
+kept-other tick f =
+    both (both (both (all-told by_input tick codes.PEDESTRIAN_OFF _ refl) (all-told by_input tick codes.PEDESTRIAN_ON _ refl))
+    (all-told by_input tick codes.PREEMPT_ON _ refl)) (all-told by_input tick codes.PREEMPT_OFF _ refl)
+
+pub ticks-kept : (tick : ℕ) (f : Found) (v w : View) →
+    Kept by_input (events.tick_events tick f v w) (events.vehicle_input_events tick f ++ events.other_input_events tick f)
+ticks-kept tick f v w =
+    first-alone (first-alone (first-alone (first-alone (both (first-alone (second-alone before (kept-vehicle tick f))
+    (none-of (alarm-span tick v w) (not-among 83 85 input_codes refl))) (kept-other tick f))
+    (none-of (preempt-span tick v w) (not-among 105 108 input_codes refl)))
+    (none-of (one-code tick codes.PRESENCE_EXCEEDED _) (not-among 110 111 input_codes refl)))
+    (none-of (one-code tick codes.EXIT_BEGINS _) (not-among 111 112 input_codes refl)))
+    (none-of (flash-span tick v w) (not-among 173 174 input_codes refl))
+  where
+    before : Kept by_input
+        (events.green_events tick v w ++ events.ending_events tick f ++ events.clearing_events tick v w ++ events.pedestrian_events tick v w
+        ++ events.crossing_events tick v w ++ events.call_events tick v w ++ events.overlap_events tick v w) []
+    before =
+        first-alone (first-alone (first-alone (first-alone (first-alone (first-alone
+        (none-of (green-span tick v w) (not-among 0 3 input_codes refl))
+        (none-of (ending-span tick f) (not-among 4 7 input_codes refl)))
+        (none-of (clearing-span tick v w) (not-among 7 13 input_codes refl)))
+        (none-of (pedestrian-span tick v w) (not-among 21 24 input_codes refl)))
+        (none-of (crossing-span tick v w) (not-among 31 32 input_codes refl)))
+        (none-of (call-span tick v w) (not-among 43 46 input_codes refl)))
+        (none-of (overlap-span tick v w) (not-among 61 66 input_codes refl))
+
+pub others-kept : (tick : ℕ) (v w : View) (s t : Selected) → Kept by_input (events.other_events tick v w s t) []
+others-kept tick v w s t =
+    first-alone (first-alone (first-alone (first-alone (first-alone (first-alone (first-alone (first-alone (first-alone
+    (none-of (green-span tick v w) (not-among 0 3 input_codes refl))
+    (none-of (clearing-span tick v w) (not-among 7 13 input_codes refl)))
+    (none-of (pedestrian-span tick v w) (not-among 21 24 input_codes refl)))
+    (none-of (call-span tick v w) (not-among 43 46 input_codes refl)))
+    (none-of (overlap-span tick v w) (not-among 61 66 input_codes refl)))
+    (none-of (alarm-span tick v w) (not-among 83 85 input_codes refl)))
+    (none-of (preempt-span tick v w) (not-among 105 108 input_codes refl)))
+    (none-of (one-code tick codes.EXIT_BEGINS _) (not-among 111 112 input_codes refl)))
+    (none-of (pattern-span tick s t) (not-among 131 150 input_codes refl)))
+    (none-of (flash-span tick v w) (not-among 173 174 input_codes refl))
+
+-- ## Rows
+
+regrouped : (a b c d : List Event) → a ++ (b ++ c ++ d) ≡ a ++ b ++ (c ++ d)
+regrouped a b c d = ap (λ (es : List Event). a ++ es) (append_assoc b c d) ∙ sym (append_assoc a b (c ++ d))
+
+-- the events of the inputs of a tick are those of its row
+pub row-told : (tick : ℕ) (f : Found) → events.vehicle_input_events tick f ++ events.other_input_events tick f
+    ≡ events_of_row f.last (record { tick = tick; row = f.row })
+unfolding events_of_row
+row-told tick f =
+    regrouped (events.vehicle_input_events tick f)
+    (told tick 89 (ends (has_number f.last.pedestrians) (has_number f.row.pedestrians)) ++ told tick 90 (begins (has_number f.last.pedestrians) (has_number f.row.pedestrians)))
+    (told tick 102 (begins (has_number f.last.preempts) (has_number f.row.preempts))) (told tick 104 (ends (has_number f.last.preempts) (has_number f.row.preempts)))
+
+same-rows : (one other : Row) → is_same_row one other ≡ true → one ≡ other
+same-rows one other e =
+    let parts = and_parts (one.vehicles.word == other.vehicles.word) (one.pedestrians.word == other.pedestrians.word && one.preempts.word == other.preempts.word) e in
+    let rest = and_parts (one.pedestrians.word == other.pedestrians.word) (one.preempts.word == other.preempts.word) parts.1 in
+    λ i. record {
+      vehicles = record { word = eqb-true one.vehicles.word other.vehicles.word parts.0 i };
+      pedestrians = record { word = eqb-true one.pedestrians.word other.pedestrians.word rest.0 i };
+      preempts = record { word = eqb-true one.preempts.word other.preempts.word rest.1 i };
+    }
+
+-- the same inputs again tell nothing
+no-change : (tick : ℕ) (row : Row) → events_of_row row (record { tick = tick; row = row }) ≡ []
+unfolding events_of_row
+no-change tick row =
+    λ i. (none.none-told tick 81 (has_number row.vehicles) i ++ none.none-told tick 82 (has_number row.vehicles) i)
+    ++ (none.none-told tick 89 (has_number row.pedestrians) i ++ none.none-told tick 90 (has_number row.pedestrians) i)
+    ++ (none.none-told tick 102 (has_number row.preempts) i ++ none.none-told tick 104 (has_number row.preempts) i)
+
+-- the row of the last of rows, of which the first comes after this
+abbrev row_after : Row → List LogRow → Row
+row_after before [] = before
+row_after before (row ∷ rows) = row_after row.row rows
+
+events-append : (before : Row) (rows more : List LogRow) → events_behind before (rows ++ more) ≡ events_behind before rows ++ events_behind (row_after before rows) more
+events-append before [] more = refl
+events-append before (row ∷ rows) more =
+    ap (λ (es : List Event). events_of_row before row ++ es) (events-append row.row rows more)
+    ∙ sym (append_assoc (events_of_row before row) (events_behind row.row rows) (events_behind (row_after row.row rows) more))
+
+row-append : (before : Row) (rows more : List LogRow) → row_after before (rows ++ more) ≡ row_after (row_after before rows) more
+row-append before [] more = refl
+row-append before (row ∷ rows) more = row-append row.row rows more
+
+-- a row that changes is told, and another tells nothing
+told-if-changed : (last : Row) (tick : ℕ) (row : Row) → events_behind last (if_changed last tick row) ≡ events_of_row last (record { tick = tick; row = row })
+told-if-changed last tick row = elim (cases_Bool (is_same_row last row)) [
+  | inl same ↦ rw same (sym (no-change tick row) ∙ ap (λ (r : Row). events_of_row r (record { tick = tick; row = row })) (sym (same-rows last row same)))
+  | inr other ↦ rw other (append-nil (events_of_row last (record { tick = tick; row = row })))
+]
+
+row-if-changed : (last : Row) (tick : ℕ) (row : Row) → row_after last (if_changed last tick row) ≡ row
+row-if-changed last tick row = elim (cases_Bool (is_same_row last row)) [
+  | inl same ↦ rw same (same-rows last row same)
+  | inr other ↦ rw other refl
+]
+
+-- ## Runs
+
+newest-row : (plan : Plan) (is : List Input) → row_after all_off (log_of plan is) ≡ last_row is
+newest-row plan [] = refl
+newest-row plan (inputs.Tick row ∷ is) =
+    row-append all_off (log_of plan is) (if_changed (last_row is) (replay plan (inputs.Tick row ∷ is)).now row)
+    ∙ ap (λ (r : Row). row_after r (if_changed (last_row is) (replay plan (inputs.Tick row ∷ is)).now row)) (newest-row plan is)
+    ∙ row-if-changed (last_row is) (replay plan (inputs.Tick row ∷ is)).now row
+newest-row plan (i ∷ is) = newest-row plan is
+
+pub make-the-log : InputsMakeTheLog
+unfolding events_of
+make-the-log plan [] = refl
+make-the-log plan (inputs.Tick row ∷ is) =
+    filter-append is_of_input (told_along plan is) (events_of (last_row is) (replay plan is) (inputs.Tick row))
+    ∙ (λ i. make-the-log plan is i ++ new i)
+    ∙ sym (events-append all_off (log_of plan is) (if_changed (last_row is) (replay plan (inputs.Tick row ∷ is)).now row))
+  where
+    s : State
+    s = replay plan is
+
+    after : State
+    after = step s (inputs.Tick row)
+
+    new : filter is_of_input (events_of (last_row is) s (inputs.Tick row)) ≡ events_behind (row_after all_off (log_of plan is)) (if_changed (last_row is) after.now row)
+    new =
+        (ticks-kept after.now (found (last_row is) s row after) (view s) (view after)).kept
+        ∙ row-told after.now (found (last_row is) s row after)
+        ∙ sym (told-if-changed (last_row is) after.now row)
+        ∙ ap (λ (r : Row). events_behind r (if_changed (last_row is) after.now row)) (sym (newest-row plan is))
+make-the-log plan (i ∷ is) =
+    filter-append is_of_input (told_along plan is) (events_of (last_row is) (replay plan is) i)
+    ∙ (λ j. make-the-log plan is j ++ none-new j) ∙ append-nil (events_of_rows (log_of plan is))
+  where
+    s : State
+    s = replay plan is
+
+    none-new : filter is_of_input (events_of (last_row is) s i) ≡ []
+    none-new = (others-kept (step s i).now (view s) (view (step s i)) (selected s) (selected (step s i))).kept

@@ -1,0 +1,116 @@
+-- What the events of a run tell: those of display lines stand among them, and so do those of inputs; and they tell the
+-- heads at its end. Each law here is the contract of a function in src/events.rt.
+use Rattle.std.specs.Prelude.{◌≡◌, ℕ, ◌≤◌, ◌==◌, Bool, true, false, ◌&&◌, List, [], ◌∷◌, ◌++◌, filter, Option, Some, None, is_some, if◌then◌else◌}
+use Rattle.tsb_step.specs.tsb_types.Lists.{among}
+use Rattle.tsb_step.specs.tsb_types.Sets.{has_number}
+use Rattle.tsb_step.specs.tsb_types.declared.event.Event.{Event}
+use Rattle.tsb_step.specs.tsb_types.declared.row.Row.{Row}
+use Rattle.tsb_step.specs.tsb_heads.Colours as colours
+use Rattle.tsb_step.specs.tsb_heads.Monitoring as monitor
+use Rattle.tsb_step.specs.tsb_plan.Plan.{Plan}
+use Rattle.tsb_step.specs.declared.inputs.Input.{Input}
+use Rattle.tsb_step.specs.declared.inputs.Input.TheVariants.{Tick}
+use Rattle.tsb_step.specs.Events.{events_of}
+use Rattle.tsb_step.specs.Laws.{IsConsistent}
+use Rattle.tsb_step.specs.Runs.{replay, AreTaken}
+use Rattle.tsb_step.specs.Signs.{display}
+use Rattle.tsb_step.specs.State.{State}
+use Rattle.tsb_text.specs.Answers.{display_line}
+use Rattle.tsb_record.specs.Along.{last_row, told_along}
+use Rattle.tsb_log_text.specs.declared.log.LogRow.{LogRow}
+use Rattle.tsb_field_display.specs.declared.shown.Shown.{Shown}
+use Rattle.tsb_field_display.specs.declared.shown.Signals.{Signals}
+use Rattle.tsb_field_display.specs.Events as display_lines
+use Rattle.tsb_field_display.specs.Reading.{shown_of, signals_of}
+use Rattle.tsb_field_display.specs.ReadBack.{Lit, lit_after, read_back, says_at}
+use Rattle.tsb_field_events.specs.Inputs.{events_of_rows}
+use Rattle.tsb_field_events.specs.Laws.{is_of_input}
+
+-- ## Display lines
+
+-- what the display line of a state shows
+abbrev pub signals : State → Signals
+signals s = signals_of (display_line s)
+
+-- with its tick
+abbrev pub shown_in : State → Shown
+shown_in s = record { tick = s.now; signals = signals s }
+
+-- the display line of each state of a run is read as this
+abbrev pub LinesAreReadInRuns : Type 0
+LinesAreReadInRuns = (plan : Plan) (is : List Input) → IsConsistent plan → AreTaken plan is →
+    shown_of (display_line (replay plan is)) ≡ Some (shown_in (replay plan is))
+
+-- display lines have events of this code
+abbrev pub is_of_line : Event → Bool
+is_of_line e = among e.code (1 ∷ 7 ∷ 8 ∷ 9 ∷ 21 ∷ 22 ∷ 23 ∷ 61 ∷ 63 ∷ 64 ∷ 105 ∷ 173 ∷ [])
+
+-- the events that come of the display lines before and after an input are those of the same codes among its events
+abbrev pub LinesTellTheSame : Type 0
+LinesTellTheSame = (plan : Plan) (is : List Input) (i : Input) (last : Row) → IsConsistent plan → plan.phase_count ≤ 16 →
+    AreTaken plan (i ∷ is) →
+    display_lines.events_of (signals (replay plan is)) (shown_in (replay plan (i ∷ is)))
+    ≡ filter is_of_line (events_of last (replay plan is) i)
+
+-- ## Heads
+
+-- these are the heads that the display shows green, yellow, in walk and in clearance, and whether the controller is in
+-- flash
+pub record TellsHeads (lit : Lit) (s : State) : Type 0 where
+  pub green : (p : ℕ) → 1 ≤ p → p ≤ 16 → lit.green p ≡ monitor.is_green ((display s).vehicle p)
+  pub yellow : (p : ℕ) → 1 ≤ p → p ≤ 16 → lit.yellow p ≡ colours.is_yellow ((display s).vehicle p)
+  pub walk : (p : ℕ) → 1 ≤ p → p ≤ 16 → lit.walk p ≡ colours.shows_walk ((display s).pedestrian p)
+  pub clearance : (p : ℕ) → 1 ≤ p → p ≤ 16 → lit.clearance p ≡ colours.shows_clearance ((display s).pedestrian p)
+  pub overlap_green : (o : ℕ) → 1 ≤ o → o ≤ 4 → lit.overlap_green o ≡ monitor.is_green ((display s).overlap o)
+  pub overlap_yellow : (o : ℕ) → 1 ≤ o → o ≤ 4 → lit.overlap_yellow o ≡ colours.is_yellow ((display s).overlap o)
+  pub flash : lit.flash ≡ is_some s.trip
+
+-- the events of a run tell what the heads show at its end
+abbrev pub RunsTellTheHeads : Type 0
+RunsTellTheHeads = (plan : Plan) (is : List Input) → IsConsistent plan → plan.phase_count ≤ 16 → AreTaken plan is →
+    TellsHeads (read_back (told_along plan is)) (replay plan is)
+
+-- ## Inputs
+
+-- the same inputs are on
+abbrev pub is_same_row : Row → Row → Bool
+is_same_row one other =
+    one.vehicles.word == other.vehicles.word
+    && (one.pedestrians.word == other.pedestrians.word && one.preempts.word == other.preempts.word)
+
+-- a row of a log, where its inputs are not those of the tick before
+abbrev pub if_changed : Row → ℕ → Row → List LogRow
+if_changed last tick row = if is_same_row last row then [] else record { tick = tick; row = row } ∷ []
+
+-- the log of a run: the row of each tick whose inputs are not those of the tick before
+abbrev pub log_of : Plan → List Input → List LogRow
+log_of plan [] = []
+log_of plan (Tick row ∷ is) = log_of plan is ++ if_changed (last_row is) (replay plan (Tick row ∷ is)).now row
+log_of plan (i ∷ is) = log_of plan is
+
+-- what a code says of a vehicle input
+abbrev pub says_vehicle : ℕ → Option Bool
+says_vehicle code = if code == 82 then Some true else (if code == 81 then Some false else None)
+
+-- of a pedestrian input
+abbrev pub says_pedestrian : ℕ → Option Bool
+says_pedestrian code = if code == 90 then Some true else (if code == 89 then Some false else None)
+
+-- of the input of a preempt
+abbrev pub says_preempt : ℕ → Option Bool
+says_preempt code = if code == 102 then Some true else (if code == 104 then Some false else None)
+
+-- of each input, whether it is on in this row, as the last of these events says that says something of it; before them
+-- all are off
+pub record TellsRow (es : List Event) (row : Row) : Type 0 where
+  pub vehicles : (d : ℕ) → 1 ≤ d → d ≤ 16 → lit_after (says_at says_vehicle d) false es ≡ has_number row.vehicles d
+  pub pedestrians : (d : ℕ) → 1 ≤ d → d ≤ 16 → lit_after (says_at says_pedestrian d) false es ≡ has_number row.pedestrians d
+  pub preempts : (n : ℕ) → 1 ≤ n → n ≤ 16 → lit_after (says_at says_preempt n) false es ≡ has_number row.preempts n
+
+-- the events of a run tell the inputs of its newest tick
+abbrev pub RunsTellTheInputs : Type 0
+RunsTellTheInputs = (plan : Plan) (is : List Input) → TellsRow (told_along plan is) (last_row is)
+
+-- the events of inputs among those of a run are those of its log
+abbrev pub InputsMakeTheLog : Type 0
+InputsMakeTheLog = (plan : Plan) (is : List Input) → filter is_of_input (told_along plan is) ≡ events_of_rows (log_of plan is)
