@@ -1,0 +1,5 @@
+pub mod WaitFoundLemmas
+pub mod Examples
+pub mod TimesLemmas
+pub mod TimesFoundLemmas
+pub mod RingFoundLemmas

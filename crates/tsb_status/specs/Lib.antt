@@ -1,0 +1,16 @@
+-- what a phase waits for, of what was found of it and of the rings
+pub mod WaitBy
+-- what it is found from, of a state; and that it is then what the definition says
+pub mod WaitFound
+-- the timers of a phase as they were told, as phase timing has them
+pub mod Times
+-- the plain value of a status, as the definition has it
+pub mod Agree
+-- the status that a plain value stands for
+pub mod Plain
+-- what is told of a phase, as a state has it
+pub mod TimesFound
+-- the status of a ring, of its phase in service as it was told
+pub mod RingBy
+-- a ring as a state has it
+pub mod RingFound
