@@ -1,0 +1,94 @@
+-- Statuses that are alike have one text.
+use Rattle.std.proofs.Common.{◌≡◌, ℕ, zero, suc, ◌+◌, ◌<◌, ◌≤◌, Bool, List, [], ◌∷◌, Option, Some, None, option_map, codes, decimal, if◌then◌else◌, refl, ap, arith}
+use Rattle.tsb_types.specs.Clip.{Agree}
+use Rattle.tsb_step.specs.tsb_ring.Rings.{Ring1, Ring2}
+use Rattle.tsb_step.specs.declared.waits.Wait.{Wait}
+use Rattle.tsb_step.specs.Status.{Status}
+use Rattle.tsb_status_text.specs.Json.{array, member, number_in, numbers, object, onto, optional, string, values_from}
+use Rattle.tsb_status_text.specs.Names.{desk_name, flash_name, free_name, preempt_name}
+use Rattle.tsb_status_text.specs.Alike.{Alike}
+use Rattle.tsb_status_text.specs.StatusText.{phases_text, overlaps_text, detectors_text, preempts_text, desk_text, ring_text, rings_text, wait_in, wait_text, waits_text, status_text}
+
+values-same : (f g : ℕ → Option (List ℕ)) (a n : ℕ) → ((p : ℕ) → a ≤ p → p < a + n → f p ≡ g p) → values_from f a n ≡ values_from g a n
+unfolding values_from
+values-same f g a zero same = refl
+values-same f g a (suc n) same =
+    let here : f a ≡ g a = same a (omega arith) (omega arith) in
+    let rest : values_from f (a + 1) n ≡ values_from g (a + 1) n = values-same f g (a + 1) n (λ p from below. same p (omega (arith, from)) (omega (arith, below))) in
+    λ i. onto (here i) (rest i)
+
+numbers-same : (f g : ℕ → Bool) (n : ℕ) → n ≤ 16 → Agree f g → numbers f n ≡ numbers g n
+unfolding numbers
+numbers-same f g n few same =
+    ap array (values-same (number_in f) (number_in g) 1 n (λ p from below. ap (λ (b : Bool). if b then Some (decimal p) else None) (same p from (omega (arith, below, few)))))
+
+waits-same : (f g : ℕ → Option Wait) → Agree f g → waits_text f ≡ waits_text g
+unfolding waits_text
+waits-same f g same =
+    ap array (values-same (wait_in f) (wait_in g) 1 16 (λ p from below. ap (λ (w : Option Wait). option_map (wait_text p) w) (same p from (omega (arith, below)))))
+
+phases-same : (x y : Status) → Alike x y → phases_text x ≡ phases_text y
+unfolding phases_text
+phases-same x y a = λ i. object (
+    member (codes "reds") (numbers-same x.reds y.reds 16 (omega arith) a.reds i)
+    ∷ member (codes "yellows") (numbers-same x.yellows y.yellows 16 (omega arith) a.yellows i)
+    ∷ member (codes "greens") (numbers-same x.greens y.greens 16 (omega arith) a.greens i)
+    ∷ member (codes "dontWalks") (numbers-same x.dont_walks y.dont_walks 16 (omega arith) a.dont_walks i)
+    ∷ member (codes "pedClears") (numbers-same x.pedestrian_clears y.pedestrian_clears 16 (omega arith) a.pedestrian_clears i)
+    ∷ member (codes "walks") (numbers-same x.walks y.walks 16 (omega arith) a.walks i)
+    ∷ member (codes "vehCalls") (numbers-same x.vehicle_calls y.vehicle_calls 16 (omega arith) a.vehicle_calls i)
+    ∷ member (codes "pedCalls") (numbers-same x.pedestrian_calls y.pedestrian_calls 16 (omega arith) a.pedestrian_calls i)
+    ∷ member (codes "phaseOns") (numbers-same x.phase_ons y.phase_ons 16 (omega arith) a.phase_ons i)
+    ∷ member (codes "phaseNexts") (numbers-same x.phase_nexts y.phase_nexts 16 (omega arith) a.phase_nexts i)
+    ∷ [])
+
+overlaps-same : (x y : Status) → Alike x y → overlaps_text x ≡ overlaps_text y
+unfolding overlaps_text
+overlaps-same x y a = λ i. object (
+    member (codes "reds") (numbers-same x.overlap_reds y.overlap_reds 4 (omega arith) a.overlap_reds i)
+    ∷ member (codes "yellows") (numbers-same x.overlap_yellows y.overlap_yellows 4 (omega arith) a.overlap_yellows i)
+    ∷ member (codes "greens") (numbers-same x.overlap_greens y.overlap_greens 4 (omega arith) a.overlap_greens i)
+    ∷ [])
+
+detectors-same : (x y : Status) → Alike x y → detectors_text x ≡ detectors_text y
+unfolding detectors_text
+detectors-same x y a = λ i. object (
+    member (codes "active") (numbers-same x.active y.active 16 (omega arith) a.active i)
+    ∷ member (codes "alarms") (numbers-same x.alarms y.alarms 16 (omega arith) a.alarms i)
+    ∷ [])
+
+preempts-same : (x y : Status) → Alike x y → preempts_text x.preempt ≡ preempts_text y.preempt
+unfolding preempts_text
+preempts-same x y a = λ i. array (
+    string (preempt_name (a.preempt 1 (omega arith) (omega arith) i))
+    ∷ string (preempt_name (a.preempt 2 (omega arith) (omega arith) i))
+    ∷ string (preempt_name (a.preempt 3 (omega arith) (omega arith) i))
+    ∷ string (preempt_name (a.preempt 4 (omega arith) (omega arith) i))
+    ∷ [])
+
+desk-same : (x y : Status) → Alike x y → desk_text x ≡ desk_text y
+unfolding desk_text
+desk-same x y a = λ i. object (member (codes "owner") (optional (a.owner i)) ∷ member (codes "state") (string (desk_name (a.desk i))) ∷ [])
+
+rings-same : (x y : Status) → Alike x y → rings_text x.ring ≡ rings_text y.ring
+unfolding rings_text
+rings-same x y a = λ i. array (ring_text (a.ring Ring1 i) ∷ ring_text (a.ring Ring2 i) ∷ [])
+
+-- the whole line
+pub text-same : (x y : Status) → Alike x y → status_text x ≡ status_text y
+unfolding status_text
+text-same x y a = λ i. object (
+    member (codes "tick") (decimal (a.now i))
+    ∷ member (codes "phaseStatusGroup") (phases-same x y a i)
+    ∷ member (codes "overlapStatusGroup") (overlaps-same x y a i)
+    ∷ member (codes "vehicleDetectorStatusGroup") (detectors-same x y a i)
+    ∷ member (codes "preemptState") (preempts-same x y a i)
+    ∷ member (codes "coordPatternStatus") (decimal (a.pattern i))
+    ∷ member (codes "localFreeStatus") (string (free_name (a.free i)))
+    ∷ member (codes "localCounter") (optional (a.local i))
+    ∷ member (codes "coordSyncStatus") (optional (a.sync i))
+    ∷ member (codes "unitFlashStatus") (string (flash_name (a.flash i)))
+    ∷ member (codes "desk") (desk-same x y a i)
+    ∷ member (codes "rings") (rings-same x y a i)
+    ∷ member (codes "waits") (waits-same x.wait y.wait a.wait i)
+    ∷ [])

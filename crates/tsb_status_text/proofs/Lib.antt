@@ -1,0 +1,4 @@
+pub mod RoomLemmas
+pub mod ListLemmas
+pub mod AlikeLemmas
+pub mod Examples

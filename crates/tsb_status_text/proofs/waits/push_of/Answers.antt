@@ -1,0 +1,9 @@
+use Rattle.std.proofs.Common.{arith}
+use Rattle.tsb_status_text.proofs.RoomLemmas.{at-most, number-as, then, two-digits}
+use Rattle.tsb_status_text.proofs.waits.push_of.Goals as goal
+
+pub returns : goal.returns
+returns c =
+    at-most (omega (arith, two-digits c.number.result (omega (arith, c.number.ensures.within))))
+    (then c.push.ensures
+    (number-as c.number.result c.args.phase c.number.ensures.same c.push_byte.ensures.line))

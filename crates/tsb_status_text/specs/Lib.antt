@@ -1,0 +1,10 @@
+-- what is added to a line, and what it has room for
+pub mod Room
+-- JSON of short lists and objects
+pub mod Json
+-- the names of states
+pub mod Names
+-- the line of a status
+pub mod StatusText
+-- statuses of which a line says the same
+pub mod Alike

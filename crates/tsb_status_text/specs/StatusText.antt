@@ -1,0 +1,175 @@
+-- The line of a status: one JSON object, in ASCII, without spaces and without a line feed. Its names are those of NTCIP
+-- 1202, group by group: `reds` of `phaseStatusGroup` is phaseStatusGroupReds. A set is the list of its numbers, what is
+-- none is null, times are in tenths of a second, and numbers of phases, detectors and preempts begin with 1.
+use Rattle.std.specs.Prelude.{ℕ, List, [], ◌∷◌, Option, Some, None, option_map, codes, decimal}
+use Rattle.tsb_step.specs.tsb_ring.Rings.{Ring, Ring1, Ring2}
+use Rattle.tsb_step.specs.declared.status.PreemptState.{PreemptState}
+use Rattle.tsb_step.specs.declared.waits.Lack.{Lack}
+use Rattle.tsb_step.specs.declared.waits.Lack.TheVariants as lacks
+use Rattle.tsb_step.specs.declared.waits.Wait.{Wait}
+use Rattle.tsb_step.specs.declared.waits.Wait.TheVariants as waits
+use Rattle.tsb_step.specs.Status.{RingStatus, Status}
+use Rattle.tsb_status_text.specs.Json.{string, array, member, object, optional, numbers, values_from}
+use Rattle.tsb_status_text.specs.Names.{part_name, preempt_name, free_name, flash_name, desk_name}
+
+-- ## Groups
+
+-- phaseStatusGroup: Reds, Yellows, Greens, DontWalks, PedClears, Walks, VehCalls, PedCalls, PhaseOns, PhaseNexts
+unfoldable pub phases_text : Status → List ℕ
+phases_text s = object (
+    member (codes "reds") (numbers s.reds 16)
+    ∷ member (codes "yellows") (numbers s.yellows 16)
+    ∷ member (codes "greens") (numbers s.greens 16)
+    ∷ member (codes "dontWalks") (numbers s.dont_walks 16)
+    ∷ member (codes "pedClears") (numbers s.pedestrian_clears 16)
+    ∷ member (codes "walks") (numbers s.walks 16)
+    ∷ member (codes "vehCalls") (numbers s.vehicle_calls 16)
+    ∷ member (codes "pedCalls") (numbers s.pedestrian_calls 16)
+    ∷ member (codes "phaseOns") (numbers s.phase_ons 16)
+    ∷ member (codes "phaseNexts") (numbers s.phase_nexts 16)
+    ∷ [])
+
+-- overlapStatusGroup: Reds, Yellows, Greens
+unfoldable pub overlaps_text : Status → List ℕ
+overlaps_text s = object (
+    member (codes "reds") (numbers s.overlap_reds 4)
+    ∷ member (codes "yellows") (numbers s.overlap_yellows 4)
+    ∷ member (codes "greens") (numbers s.overlap_greens 4)
+    ∷ [])
+
+-- vehicleDetectorStatusGroup: Active, Alarms
+unfoldable pub detectors_text : Status → List ℕ
+detectors_text s = object (
+    member (codes "active") (numbers s.active 16)
+    ∷ member (codes "alarms") (numbers s.alarms 16)
+    ∷ [])
+
+-- preemptState of preempts 1 to 4
+unfoldable pub preempts_text : (ℕ → PreemptState) → List ℕ
+preempts_text preempt = array (
+    string (preempt_name (preempt 1))
+    ∷ string (preempt_name (preempt 2))
+    ∷ string (preempt_name (preempt 3))
+    ∷ string (preempt_name (preempt 4))
+    ∷ [])
+
+-- the desk: the station that owns it, and how far its transaction is
+unfoldable pub desk_text : Status → List ℕ
+desk_text s = object (
+    member (codes "owner") (optional s.owner)
+    ∷ member (codes "state") (string (desk_name s.desk))
+    ∷ [])
+
+-- a ring: ringStatus, the phase in service, the one that it starts next, and its times
+unfoldable pub ring_text : RingStatus → List ℕ
+ring_text x = object (
+    member (codes "ringStatus") (string (part_name x.part))
+    ∷ member (codes "phase") (optional x.phase)
+    ∷ member (codes "next") (optional x.next)
+    ∷ member (codes "initialLeft") (optional x.initial_left)
+    ∷ member (codes "gap") (optional x.gap)
+    ∷ member (codes "gapLeft") (optional x.gap_left)
+    ∷ member (codes "maximumLeft") (optional x.maximum_left)
+    ∷ member (codes "walkLeft") (optional x.walk_left)
+    ∷ member (codes "clearanceLeft") (optional x.clearance_left)
+    ∷ member (codes "yellowLeft") (optional x.yellow_left)
+    ∷ member (codes "redClearanceLeft") (optional x.red_clearance_left)
+    ∷ member (codes "forceOffIn") (optional x.force_off_in)
+    ∷ [])
+
+-- rings 1 and 2
+unfoldable pub rings_text : (Ring → RingStatus) → List ℕ
+rings_text ring = array (ring_text (ring Ring1) ∷ ring_text (ring Ring2) ∷ [])
+
+-- ## Waits
+
+-- the name of what is lacking
+abbrev pub lack_name : Lack → List ℕ
+lack_name (lacks.Walk left) = codes "walk"
+lack_name (lacks.Clearance left) = codes "clearance"
+lack_name (lacks.Initial left) = codes "initial"
+lack_name lacks.ForceOff = codes "forceOff"
+lack_name (lacks.Gap left) = codes "gap"
+
+-- the time that is left of it
+abbrev pub lack_time : Lack → Option ℕ
+lack_time (lacks.Walk left) = Some left
+lack_time (lacks.Clearance left) = Some left
+lack_time (lacks.Initial left) = Some left
+lack_time lacks.ForceOff = None
+lack_time (lacks.Gap left) = Some left
+
+-- it, where it has a time
+abbrev pub left_members : Option ℕ → List (List ℕ)
+left_members None = []
+left_members (Some left) = member (codes "left") (decimal left) ∷ []
+
+-- what is lacking, with the time that is left of it
+abbrev pub lack_members : Lack → List (List ℕ)
+lack_members lack = member (codes "lack") (string (lack_name lack)) ∷ left_members (lack_time lack)
+
+-- the name of a wait
+abbrev pub wait_name : Wait → List ℕ
+wait_name waits.Flash = codes "flash"
+wait_name waits.Omitted = codes "omitted"
+wait_name (waits.Preempted n) = codes "preempted"
+wait_name (waits.RedRevert left) = codes "redRevert"
+wait_name (waits.Next q) = codes "next"
+wait_name (waits.Clears q left) = codes "clears"
+wait_name (waits.Across q left) = codes "across"
+wait_name (waits.Beside q left) = codes "beside"
+wait_name waits.Due = codes "due"
+wait_name (waits.Crossing q) = codes "crossing"
+wait_name (waits.Barrier q) = codes "barrier"
+wait_name (waits.Green q lack) = codes "green"
+wait_name (waits.Conflict q) = codes "conflict"
+wait_name waits.Turn = codes "turn"
+
+-- its parts: the preempt, the phase that is waited for, what that one lacks, and the time that is left
+abbrev pub wait_members : Wait → List (List ℕ)
+wait_members waits.Flash = []
+wait_members waits.Omitted = []
+wait_members (waits.Preempted n) = member (codes "preempt") (decimal n) ∷ []
+wait_members (waits.RedRevert left) = member (codes "left") (decimal left) ∷ []
+wait_members (waits.Next q) = member (codes "of") (decimal q) ∷ []
+wait_members (waits.Clears q left) = member (codes "of") (decimal q) ∷ member (codes "left") (decimal left) ∷ []
+wait_members (waits.Across q left) = member (codes "of") (decimal q) ∷ member (codes "left") (decimal left) ∷ []
+wait_members (waits.Beside q left) = member (codes "of") (decimal q) ∷ member (codes "left") (decimal left) ∷ []
+wait_members waits.Due = []
+wait_members (waits.Crossing q) = member (codes "of") (optional q) ∷ []
+wait_members (waits.Barrier q) = member (codes "of") (optional q) ∷ []
+wait_members (waits.Green q lack) = member (codes "of") (decimal q) ∷ lack_members lack
+wait_members (waits.Conflict q) = member (codes "of") (decimal q) ∷ []
+wait_members waits.Turn = []
+
+-- what phase p waits for
+unfoldable pub wait_text : ℕ → Wait → List ℕ
+wait_text p w = object (member (codes "phase") (decimal p) ∷ member (codes "for") (string (wait_name w)) ∷ wait_members w)
+
+-- what phase p waits for, if it does
+abbrev pub wait_in : (ℕ → Option Wait) → ℕ → Option (List ℕ)
+wait_in wait p = option_map (wait_text p) (wait p)
+
+-- of each phase that waits, in ascending order
+unfoldable pub waits_text : (ℕ → Option Wait) → List ℕ
+waits_text wait = array (values_from (wait_in wait) 1 16)
+
+-- ## The line
+
+-- the line of a status: a member for each group of status objects, and one for what phases wait for
+unfoldable pub status_text : Status → List ℕ
+status_text s = object (
+    member (codes "tick") (decimal s.now)
+    ∷ member (codes "phaseStatusGroup") (phases_text s)
+    ∷ member (codes "overlapStatusGroup") (overlaps_text s)
+    ∷ member (codes "vehicleDetectorStatusGroup") (detectors_text s)
+    ∷ member (codes "preemptState") (preempts_text s.preempt)
+    ∷ member (codes "coordPatternStatus") (decimal s.pattern)
+    ∷ member (codes "localFreeStatus") (string (free_name s.free))
+    ∷ member (codes "localCounter") (optional s.local)
+    ∷ member (codes "coordSyncStatus") (optional s.sync)
+    ∷ member (codes "unitFlashStatus") (string (flash_name s.flash))
+    ∷ member (codes "desk") (desk_text s)
+    ∷ member (codes "rings") (rings_text s.ring)
+    ∷ member (codes "waits") (waits_text s.wait)
+    ∷ [])

@@ -1,0 +1,167 @@
+//! The line, and its groups of status objects.
+ghost use Rattle.std.specs.Prelude.{◌≡◌, ◌+◌, ◌-◌, ◌++◌, get_or, length};
+ghost use Rattle.tsb_types.specs.Sets.{has_number};
+ghost use Rattle.tsb_step.specs.declared.status.PreemptState.TheVariants.{NotActive};
+ghost use Rattle.tsb_status.specs.Plain.{resting, ring_place, ring_status_of, status_of};
+ghost use Rattle.tsb_status_text.specs.Alike.{TellsAllAlike};
+ghost use Rattle.tsb_status_text.specs.Json.{numbers, optional, string};
+ghost use Rattle.tsb_status_text.specs.Names.{preempt_name};
+ghost use Rattle.tsb_status_text.specs.Room.{Adds};
+ghost use Rattle.tsb_status_text.specs.StatusText.{desk_text, detectors_text, overlaps_text, phases_text, preempts_text, rings_text, status_text, waits_text};
+
+use crate::line::{
+    StatusLine, push, push_byte, push_named, push_number, push_numbers, push_optional,
+};
+use crate::names::{desk_name, flash_name, free_name, preempt_name};
+use crate::rings::push_ring;
+use crate::waits::push_waits;
+use arrayvec::ArrayVec;
+use tsb_status::{RingStatus, Status};
+use tsb_step::PreemptState;
+use tsb_types::{NumberSet, Station};
+
+/// How many phases and vehicle detectors there are.
+const PHASES: u8 = 16;
+
+/// How many overlaps there are.
+const OVERLAPS: u8 = 4;
+
+/// The line of a status: one object of JSON, in ASCII, without spaces and without a line feed. Its names are those of
+/// NTCIP 1202, group by group, so that `reds` of `phaseStatusGroup` is phaseStatusGroupReds; those that it has not are
+/// "profile". A set is the list of its numbers, what is none is null, and times are in tenths of a second. It has at
+/// most `LONGEST` bytes and takes no memory.
+pub fn status_line(status: &Status) -> StatusLine
+    ensures line { result.items ≡ status_text (status_of status.entry.now) }
+    ensures alike { TellsAllAlike (status_of status.entry.now) result.items }
+{
+    let mut line = ArrayVec::new();
+    push(&mut line, b"{\"tick\":");
+    push_number(&mut line, status.now);
+    push(&mut line, b",\"phaseStatusGroup\":");
+    push_phases(&mut line, status);
+    push(&mut line, b",\"overlapStatusGroup\":");
+    push_overlaps(&mut line, status);
+    push(&mut line, b",\"vehicleDetectorStatusGroup\":");
+    push_detectors(&mut line, status);
+    push(&mut line, b",\"preemptState\":");
+    push_preempts(&mut line, &status.preempts);
+    push(&mut line, b",\"coordPatternStatus\":");
+    push_byte(&mut line, status.pattern);
+    push_named(&mut line, b",\"localFreeStatus\":", free_name(status.free));
+    push_optional(&mut line, b",\"localCounter\":", status.local);
+    push_optional(&mut line, b",\"coordSyncStatus\":", status.sync);
+    push_named(
+        &mut line,
+        b",\"unitFlashStatus\":",
+        flash_name(status.flash),
+    );
+    push(&mut line, b",\"desk\":");
+    push_desk(&mut line, status);
+    push(&mut line, b",\"rings\":");
+    push_rings(&mut line, &status.rings);
+    push(&mut line, b",\"waits\":");
+    push_waits(&mut line, &status.waits);
+    push(&mut line, b"}");
+    line
+}
+
+/// Adds a set of phases or vehicle detectors to a line, after a name.
+fn push_set(line: &mut StatusLine, name: &[u8], set: NumberSet)
+    ensures { Adds (length name.now + 40) line.old.items (name.now ++ numbers (has_number set) 16) line.new.items }
+{
+    push(line, name);
+    push_numbers(line, set, PHASES);
+}
+
+/// Adds a set of overlaps to a line, after a name.
+fn push_overlap_set(line: &mut StatusLine, name: &[u8], set: NumberSet)
+    ensures { Adds (length name.now + 9) line.old.items (name.now ++ numbers (has_number set) 4) line.new.items }
+{
+    push(line, name);
+    push_numbers(line, set, OVERLAPS);
+}
+
+/// Adds preemptState of a preempt to a line, after a name.
+fn push_preempt(line: &mut StatusLine, name: &[u8], state: PreemptState)
+    ensures { Adds (length name.now + 19) line.old.items (name.now ++ string (preempt_name state)) line.new.items }
+{
+    push_named(line, name, preempt_name(state));
+}
+
+/// Adds phaseStatusGroup to a line.
+fn push_phases(line: &mut StatusLine, status: &Status)
+    ensures { Adds 515 line.old.items (phases_text (status_of status.entry.now)) line.new.items }
+{
+    push_set(line, b"{\"reds\":", status.reds);
+    push_set(line, b",\"yellows\":", status.yellows);
+    push_set(line, b",\"greens\":", status.greens);
+    push_set(line, b",\"dontWalks\":", status.dont_walks);
+    push_set(line, b",\"pedClears\":", status.pedestrian_clears);
+    push_set(line, b",\"walks\":", status.walks);
+    push_set(line, b",\"vehCalls\":", status.vehicle_calls);
+    push_set(line, b",\"pedCalls\":", status.pedestrian_calls);
+    push_set(line, b",\"phaseOns\":", status.phase_ons);
+    push_set(line, b",\"phaseNexts\":", status.phase_nexts);
+    push(line, b"}");
+}
+
+/// Adds overlapStatusGroup to a line.
+fn push_overlaps(line: &mut StatusLine, status: &Status)
+    ensures { Adds 57 line.old.items (overlaps_text (status_of status.entry.now)) line.new.items }
+{
+    push_overlap_set(line, b"{\"reds\":", status.overlap_reds);
+    push_overlap_set(line, b",\"yellows\":", status.overlap_yellows);
+    push_overlap_set(line, b",\"greens\":", status.overlap_greens);
+    push(line, b"}");
+}
+
+/// Adds vehicleDetectorStatusGroup to a line.
+fn push_detectors(line: &mut StatusLine, status: &Status)
+    ensures { Adds 101 line.old.items (detectors_text (status_of status.entry.now)) line.new.items }
+{
+    push_set(line, b"{\"active\":", status.active);
+    push_set(line, b",\"alarms\":", status.alarms);
+    push(line, b"}");
+}
+
+/// Adds preemptState of preempts 1 to 4 to a line.
+fn push_preempts(line: &mut StatusLine, states: &[PreemptState; 4])
+    ensures { Adds 81 line.old.items (preempts_text (λ n. get_or states.now (n - 1) NotActive)) line.new.items }
+{
+    push_preempt(line, b"[", states[0]);
+    push_preempt(line, b",", states[1]);
+    push_preempt(line, b",", states[2]);
+    push_preempt(line, b",", states[3]);
+    push(line, b"]");
+}
+
+/// Adds the number of the desk's owner to a line, or null where there is none.
+fn push_owner(line: &mut StatusLine, owner: Option<Station>)
+    ensures { Adds 4 line.old.items (optional owner) line.new.items }
+{
+    match owner {
+        None => push(line, b"null"),
+        Some(station) => push_byte(line, station.number()),
+    }
+}
+
+/// Adds the desk to a line.
+fn push_desk(line: &mut StatusLine, status: &Status)
+    ensures { Adds 36 line.old.items (desk_text (status_of status.entry.now)) line.new.items }
+{
+    push(line, b"{\"owner\":");
+    push_owner(line, status.owner);
+    push_named(line, b",\"state\":", desk_name(status.desk));
+    push(line, b"}");
+}
+
+/// Adds both rings to a line.
+fn push_rings(line: &mut StatusLine, rings: &[RingStatus; 2])
+    ensures { Adds 541 line.old.items (rings_text (λ r. ring_status_of (get_or rings.now (ring_place r) resting))) line.new.items }
+{
+    push(line, b"[");
+    push_ring(line, &rings[0]);
+    push(line, b",");
+    push_ring(line, &rings[1]);
+    push(line, b"]");
+}

@@ -1,0 +1,180 @@
+//! What phases wait for.
+ghost use Rattle.std.specs.Prelude.{◌≡◌, ℕ, ◌+◌, ◌-◌, [], ◌∷◌, ◌++◌, ◌≤◌, None, codes, decimal, get_or, length};
+ghost use Rattle.tsb_status_text.specs.Json.{member, more, optional};
+ghost use Rattle.tsb_status_text.specs.Room.{Adds};
+ghost use Rattle.tsb_status_text.specs.StatusText.{lack_members, lack_name, lack_time, wait_members, wait_name, wait_text, waits_text};
+
+use crate::line::{StatusLine, push, push_byte, push_named, push_number, push_phase, separate};
+use tsb_step::{Lack, Wait};
+use tsb_types::{Phase, Preempt};
+
+/// The name of what is lacking.
+fn lack_name(lack: &Lack) -> &'static [u8]
+    ensures name { result.now ≡ lack_name lack.now }
+    ensures short { length result.now ≤ 9 }
+{
+    match lack {
+        Lack::Walk(_) => b"walk",
+        Lack::Clearance(_) => b"clearance",
+        Lack::Initial(_) => b"initial",
+        Lack::ForceOff => b"forceOff",
+        Lack::Gap(_) => b"gap",
+    }
+}
+
+/// The time that is left of what is lacking.
+fn lack_time(lack: &Lack) -> Option<u32>
+    ensures { result ≡ lack_time lack.now }
+{
+    match lack {
+        Lack::Walk(left) => Some(*left),
+        Lack::Clearance(left) => Some(*left),
+        Lack::Initial(left) => Some(*left),
+        Lack::ForceOff => None,
+        Lack::Gap(left) => Some(*left),
+    }
+}
+
+/// The name of a wait.
+fn wait_name(wait: &Wait) -> &'static [u8]
+    ensures name { result.now ≡ wait_name wait.now }
+    ensures short { length result.now ≤ 9 }
+{
+    match wait {
+        Wait::Flash => b"flash",
+        Wait::Omitted => b"omitted",
+        Wait::Preempted(_) => b"preempted",
+        Wait::RedRevert(_) => b"redRevert",
+        Wait::Next(_) => b"next",
+        Wait::Clears(_, _) => b"clears",
+        Wait::Across(_, _) => b"across",
+        Wait::Beside(_, _) => b"beside",
+        Wait::Due => b"due",
+        Wait::Crossing(_) => b"crossing",
+        Wait::Barrier(_) => b"barrier",
+        Wait::Green(_, _) => b"green",
+        Wait::Conflict(_) => b"conflict",
+        Wait::Turn => b"turn",
+    }
+}
+
+/// Adds the phase that is waited for to a line.
+fn push_of(line: &mut StatusLine, phase: Phase)
+    ensures { Adds 8 line.old.items (codes ",\"of\":" ++ decimal phase) line.new.items }
+{
+    push(line, b",\"of\":");
+    push_byte(line, phase.number());
+}
+
+/// Adds the time that is left to a line, and closes what it is of.
+fn push_left(line: &mut StatusLine, left: u32)
+    ensures { Adds 19 line.old.items (more (member (codes "left") (decimal left) ∷ []) 125) line.new.items }
+{
+    push(line, b",\"left\":");
+    push_number(line, left);
+    push(line, b"}");
+}
+
+/// Adds what is lacking to a line, and closes what it is of.
+fn push_lack(line: &mut StatusLine, lack: &Lack)
+    ensures { Adds 38 line.old.items (more (lack_members lack.now) 125) line.new.items }
+{
+    push_named(line, b",\"lack\":", lack_name(lack));
+    match lack_time(lack) {
+        None => push(line, b"}"),
+        Some(left) => push_left(line, left),
+    }
+}
+
+/// Adds the phase that is waited for to a line, if there is one, and closes what it is of.
+fn push_keeper(line: &mut StatusLine, phase: Option<Phase>)
+    ensures { Adds 11 line.old.items (more (member (codes "of") (optional phase) ∷ []) 125) line.new.items }
+{
+    push_phase(line, b",\"of\":", phase);
+    push(line, b"}");
+}
+
+/// Adds the phase that is waited for to a line, and closes what it is of.
+fn push_only(line: &mut StatusLine, phase: Phase)
+    ensures { Adds 9 line.old.items (more (member (codes "of") (decimal phase) ∷ []) 125) line.new.items }
+{
+    push_of(line, phase);
+    push(line, b"}");
+}
+
+/// Adds the phase that is waited for to a line, with the time that is left, and closes what they are of.
+fn push_clearing(line: &mut StatusLine, phase: Phase, left: u32)
+    ensures { Adds 27 line.old.items
+        (more (member (codes "of") (decimal phase) ∷ member (codes "left") (decimal left) ∷ []) 125) line.new.items }
+{
+    push_of(line, phase);
+    push_left(line, left);
+}
+
+/// Adds the preempt that is waited for to a line, and closes what it is of.
+fn push_preempt(line: &mut StatusLine, preempt: Preempt)
+    ensures { Adds 15 line.old.items (more (member (codes "preempt") (decimal preempt) ∷ []) 125) line.new.items }
+{
+    push(line, b",\"preempt\":");
+    push_byte(line, preempt.number());
+    push(line, b"}");
+}
+
+/// Adds a green that is waited for to a line, with what it lacks, and closes what they are of.
+fn push_green(line: &mut StatusLine, phase: Phase, lack: &Lack)
+    ensures { Adds 46 line.old.items (more (member (codes "of") (decimal phase) ∷ lack_members lack.now) 125) line.new.items }
+{
+    push_of(line, phase);
+    push_lack(line, lack);
+}
+
+/// Adds the parts of a wait to a line, and closes it.
+fn push_members(line: &mut StatusLine, wait: &Wait)
+    ensures { Adds (51 - length (wait_name wait.now)) line.old.items (more (wait_members wait.now) 125) line.new.items }
+{
+    match wait {
+        Wait::Flash => push(line, b"}"),
+        Wait::Omitted => push(line, b"}"),
+        Wait::Due => push(line, b"}"),
+        Wait::Turn => push(line, b"}"),
+        Wait::RedRevert(left) => push_left(line, *left),
+        Wait::Crossing(q) => push_keeper(line, *q),
+        Wait::Barrier(q) => push_keeper(line, *q),
+        Wait::Preempted(n) => push_preempt(line, *n),
+        Wait::Next(q) => push_only(line, *q),
+        Wait::Conflict(q) => push_only(line, *q),
+        Wait::Clears(q, left) => push_clearing(line, *q, *left),
+        Wait::Across(q, left) => push_clearing(line, *q, *left),
+        Wait::Beside(q, left) => push_clearing(line, *q, *left),
+        Wait::Green(q, lack) => push_green(line, *q, lack),
+    }
+}
+
+/// Adds to a line what a phase waits for.
+fn push_wait(line: &mut StatusLine, phase: u8, wait: &Wait)
+    ensures { Adds (69 + length (decimal phase)) line.old.items (wait_text phase wait.now) line.new.items }
+{
+    push(line, b"{\"phase\":");
+    push_byte(line, phase);
+    push_named(line, b",\"for\":", wait_name(wait));
+    push_members(line, wait);
+}
+
+/// Adds to a line what phases 1 to 16 wait for, those that do.
+pub(crate) fn push_waits(line: &mut StatusLine, waits: &[Option<Wait>; 16])
+    ensures { Adds 1144 line.old.items (waits_text (λ p. get_or waits.now (p - 1) None)) line.new.items }
+{
+    push(line, b"[");
+    let mut first = true;
+    for k in 0..16 {
+        match &waits[k] {
+            None => {}
+            Some(wait) => {
+                separate(line, first);
+                push_wait(line, k as u8 + 1, wait);
+                first = false;
+            }
+        }
+    }
+    push(line, b"]");
+}
