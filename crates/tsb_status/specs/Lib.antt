@@ -4,7 +4,7 @@ pub mod WaitBy
 pub mod WaitFound
 -- the timers of a phase as they were told, as phase timing has them
 pub mod Times
--- the plain value of a status, as the definition has it
+-- the plain value of the status of a ring, as the definition has it
 pub mod Agree
 -- the status that a plain value stands for
 pub mod Plain
