@@ -5,3 +5,4 @@ pub mod RowLemmas
 pub mod TimerLemmas
 pub mod TableLemmas
 pub mod WriteLemmas
+pub mod Examples

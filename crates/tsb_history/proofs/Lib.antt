@@ -1,3 +1,4 @@
 pub mod PlaceLemmas
 pub mod ByteLemmas
 pub mod LawLemmas
+pub mod Examples

@@ -5,3 +5,4 @@ pub mod LawLemmas
 pub mod DigitLemmas
 -- known bytes of readers and writers, a piece at a time
 pub mod StreamLemmas
+pub mod Examples

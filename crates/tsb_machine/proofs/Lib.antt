@@ -2,3 +2,4 @@ pub mod PastLemmas
 pub mod WatchLemmas
 pub mod SessionLemmas
 pub mod PlayLemmas
+pub mod Examples

@@ -4,3 +4,4 @@ pub mod CellLemmas
 pub mod NameLemmas
 pub mod ToldLemmas
 pub mod RangeLemmas
+pub mod Examples

@@ -4,6 +4,9 @@ ghost use Rattle.tsb_plan.specs.VersionLaws.{TranslateWithin, TranslateApart, Ta
 
 /// Each index of version 1 has its own place in a plan. A translated index is one that the object has, no two become
 /// one, values stay in range; split tables and sequences keep their numbers; no two objects have one name.
+///
+/// Mistake: an index of version 1 stays as it is, `kept_as_it_is` (`becomes_17`, `would_stay_9`).
+/// Witness: `has_9`, `becomes_17` of Mistakes, phase 1 of split table 2.
 pub fn versions_say_the_same()
     ensures within { TranslateWithin }
     ensures apart { TranslateApart }

@@ -106,7 +106,7 @@ turn : (a b : Bool) → (a || b) ≡ true → b ≡ false → a ≡ true
 turn true b e off = refl
 turn false b e off = cc
 
-is-off : (b : Bool) → not b ≡ true → b ≡ false
+pub is-off : (b : Bool) → not b ≡ true → b ≡ false
 is-off false e = refl
 is-off true e = cc
 

@@ -1,3 +1,4 @@
 pub mod RuleLemmas
 pub mod ConsistentLemmas
 pub mod TwoLemmas
+pub mod Examples

@@ -6,6 +6,8 @@ ghost use Rattle.tsb_rules.specs.Consistent.{OfConsistentPlans, PhasesArePlaced,
 /// sides. Two concurrent phases are enabled, in different rings and on one side, and each names the other.
 ///
 /// Needs: a plan that breaks no rule.
+/// Mistake: a check without K5, `without_symmetry` (`would_pass_one_list`, `names_5`, `names_not_1`).
+/// Witness: `breaks_none` of Mistakes, the built-in plan of eight phases with another offset.
 pub fn concurrency_is_sound()
     ensures placed { OfConsistentPlans PhasesArePlaced }
     ensures together { OfConsistentPlans ConcurrentGoTogether }
@@ -15,6 +17,9 @@ pub fn concurrency_is_sound()
 /// for each ring its phases, each once and no other, sides in rising order, with zeros only after them.
 ///
 /// Needs: a plan that breaks no rule.
+/// Mistake: a K6 that does not ask for each phase of a ring, `with_sequence_in_part` (`would_pass_without_4`,
+/// `lists_not_4`).
+/// Witness: `breaks_none` of Mistakes, the built-in plan of eight phases with another offset.
 pub fn sequences_list_rings()
     ensures first { OfConsistentPlans FirstSequenceListsRings }
     ensures used { OfConsistentPlans SequencesInUseListRings }
@@ -24,6 +29,9 @@ pub fn sequences_list_rings()
 /// track and exit lists.
 ///
 /// Needs: a plan that breaks no rule.
+/// Mistake: a K15 that asks only that listed phases are enabled, `with_enabled_lists` (`would_pass_wants_2_4`,
+/// `dwells_in_both`, `apart_2_4`).
+/// Witness: `breaks_none` of Mistakes, the built-in plan of eight phases with another offset.
 pub fn preempts_are_sound()
     ensures { OfConsistentPlans PreemptsAreSound }
 {}
@@ -33,6 +41,9 @@ pub fn preempts_are_sound()
 /// has phases there, and their splits end at one time.
 ///
 /// Needs: a plan that breaks no rule.
+/// Mistakes: a K17 that lets an offset be the cycle, `with_offset_of_cycle` (`would_pass_late`, `is_the_cycle`); a K20
+/// that does not ask for a coordinated phase in each ring, `with_one_ring` (`would_pass_one_ring`, `none_in_ring_2`).
+/// Witness: `breaks_none` of Mistakes, the built-in plan of eight phases with another offset.
 pub fn coordinated_phases_agree()
     ensures whole { OfConsistentPlans PatternsAreWhole }
     ensures coordinated { OfConsistentPlans CoordinatedPhasesAgree }

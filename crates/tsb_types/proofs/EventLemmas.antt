@@ -28,7 +28,7 @@ tell-end e all tick code s none is_told =
     ∙ ap (λ (ns : List ℕ). e ++ map (λ m. event tick code m) ns) (sym (filter-none s 1 16 (λ n from below. none n)))
     ∙ is_told
 
-same-begins : (b : Bool) → (b && not b) ≡ false
+pub same-begins : (b : Bool) → (b && not b) ≡ false
 same-begins true = refl
 same-begins false = refl
 

@@ -7,3 +7,4 @@ pub mod OptionLemmas
 pub mod IntervalLemmas
 pub mod NumberLemmas
 pub mod EventLemmas
+pub mod Examples

@@ -1,6 +1,6 @@
 -- One-line mistakes, each with an example that tells it from the definition.
 use Rattle.std.specs.Prelude.{◌≡◌, ℕ, nat_lt, Bool, true, false, not, ◌&&◌, ◌||◌, if◌then◌else◌, [], ◌∷◌, reverse, Option, Some, None, is_some, refl}
-use Rattle.std.specs.Option.{option_or}
+use Rattle.std.specs.Option.{option_map, option_or}
 use Rattle.tsb_objects.specs.tsb_types.declared.interval.Interval.TheVariants as intervals
 use Rattle.tsb_objects.specs.tsb_types.declared.lamp.Aspect.{Aspect}
 use Rattle.tsb_objects.specs.tsb_types.declared.lamp.Aspect.TheVariants.{Dark, Red, Yellow, Green, FlashingRed}
@@ -180,3 +180,48 @@ walk_counts = refl
 walk_counts_not : right_of_way_with_walk quad with_walk_of_3 3 ≡ false
 unfolding quad
 walk_counts_not = refl
+
+-- ## Any two phases with right of way are a conflict, concurrent or not: 2 and 6 are
+
+abbrev pub are_both : Heads → ℕ → ℕ → Bool
+are_both heads p q = nat_lt p q && (has_right_of_way heads p && has_right_of_way heads q)
+
+abbrev pub conflict_of_any : Plan → Heads → Option Trip
+conflict_of_any plan heads = option_map (λ q. Conflict 2 q) (first (are_both heads 2) (phases plan))
+
+no_conflict : conflict quad before ≡ None
+unfolding quad run_from conflict conflict_of
+no_conflict = refl
+
+would_conflict : conflict_of_any quad before ≡ Some (Conflict 2 6)
+unfolding quad run_from
+would_conflict = refl
+
+-- ## A plan of 17 phases: the head of phase 17 is looked at too
+
+unfoldable pub of_17 : Plan
+of_17 = record quad { phase_count = 17 }
+
+abbrev pub with_17 : Heads
+with_17 = field quad through (Some (lamps.Phase 17 signals.Green))
+
+is_not_seen : judge quad before with_17 ≡ None
+unfolding quad run_from conflict conflict_of green_to_red
+is_not_seen = refl
+
+would_be_seen : judge of_17 before with_17 ≡ Some (Conflict 2 17)
+unfolding of_17 quad run_from conflict conflict_of
+would_be_seen = refl
+
+-- ## A red head trips, whatever it showed before
+
+abbrev pub judge_of_red : Plan → Heads → Option Trip
+judge_of_red plan after = option_or (conflict plan after) (option_map (λ p. GreenToRed p) (first (λ p. is_red (after.vehicle p)) (phases plan)))
+
+stay : judge quad before before ≡ None
+unfolding quad run_from conflict conflict_of green_to_red
+stay = refl
+
+would_trip : judge_of_red quad before ≡ Some (GreenToRed 1)
+unfolding quad run_from conflict conflict_of
+would_trip = refl

@@ -1,0 +1,187 @@
+-- Mistakes in rules, each with a plan that it would let pass and what then is no longer so of every plan. The plans are
+-- the built-in one of eight phases with one value changed.
+use Rattle.std.specs.Prelude.{◌≡◌, ℕ, nat_le, Bool, true, false, not, ◌&&◌, ◌||◌, Option, Some, None, refl}
+use Rattle.std.specs.List.{list_all}
+use Rattle.tsb_plan.specs.declared.object.Object.TheVariants.{PhaseConcurrency, PatternOffsetTime, PreemptTrackPhase, PreemptDwellPhase, PreemptExitPhase, SequenceData, SplitCoordPhase}
+use Rattle.tsb_types.specs.Lists.{among, run_from}
+use Rattle.tsb_plan.specs.Parts.{cycle, is_coordinated, is_dwell_phase, offset, sequence_of, split_of}
+use Rattle.tsb_plan.specs.Plan.{Plan, is_concurrent, phases, sequence, with_value}
+use Rattle.tsb_plan.specs.Quad.{quad}
+use Rattle.tsb_rules.specs.declared.rules.Rule.{Rule}
+use Rattle.tsb_rules.specs.declared.rules.Rule.TheVariants.{K1, K2, K3, K4, K5, K6, K7, K14, K15, K16, K17, K18, K19, K20}
+use Rattle.tsb_rules.specs.PatternRules.{agrees_with_all, coordinated_count, coordinated_phases_agree, each_pattern, has_coordinated, may_coordinate, names_sequence, names_split, patterns_are_whole, some_and, split_end, split_sum, side_sum, splits_fill_cycles, splits_hold_phases}
+use Rattle.tsb_rules.specs.Rules.{are_placed, broken_by_extensions, broken_by_parts, broken_by_phases, broken_by_rings, concurrency_is_symmetric, first_broken, included_phases_are_enabled, lists_name_across_rings, names_enabled, or_rule, preempts_are_concurrent, preempts_dwell, some_enabled, unless, unused_lists_are_empty}
+use Rattle.tsb_rules.specs.SequenceRules.{first_sequence_is_ordered, lists_once, lists_only, other_sequences_are_ordered, rises, zeros_last}
+
+-- what a computed line opens
+unfoldable pub opened : Unit {0}
+unfolding quad run_from first_broken broken_by_rings broken_by_phases broken_by_parts broken_by_extensions split_sum side_sum split_end coordinated_count
+opened = tt
+
+-- the first rule that a plan breaks, with these tests in place of K5 and K6
+abbrev pub broken_with_rings : (Plan → Bool) → (Plan → Bool) → Plan → Option Rule
+broken_with_rings symmetry first plan =
+    or_rule
+    (unless (some_enabled plan) K1
+    (unless (are_placed plan) K2
+    (unless (unused_lists_are_empty plan) K3
+    (unless (lists_name_across_rings plan) K4
+    (unless (symmetry plan) K5
+    (unless (first plan) K6
+    (unless (other_sequences_are_ordered plan) K7
+    None)))))))
+    (or_rule (broken_by_phases plan)
+    (or_rule (broken_by_parts plan)
+    (broken_by_extensions plan)))
+
+-- and with these in place of K15, K17 and K20
+abbrev pub broken_with_parts : (Plan → Bool) → (Plan → Bool) → (Plan → Bool) → Plan → Option Rule
+broken_with_parts concurrent whole agree plan =
+    or_rule (broken_by_rings plan)
+    (or_rule (broken_by_phases plan)
+    (or_rule
+    (unless (included_phases_are_enabled plan) K14
+    (unless (concurrent plan) K15
+    (unless (preempts_dwell plan) K16
+    (unless (whole plan) K17
+    (unless (splits_hold_phases plan) K18
+    (unless (splits_fill_cycles plan) K19
+    (unless (agree plan) K20
+    None)))))))
+    (broken_by_extensions plan)))
+
+-- ## A plan that breaks no rule: its second pattern begins 40 seconds later
+
+unfoldable pub in_step : Plan
+in_step = with_value quad PatternOffsetTime 2 40
+
+breaks_none : first_broken in_step ≡ None
+unfolding opened in_step
+breaks_none = refl
+
+-- ## K5 is left out: phase 5 does not name phase 1, which names it
+
+abbrev pub without_symmetry : Plan → Option Rule
+without_symmetry plan = broken_with_rings (λ p. true) first_sequence_is_ordered plan
+
+unfoldable pub one_list : Plan
+one_list = with_value quad PhaseConcurrency 5 2
+
+breaks_K5 : first_broken one_list ≡ Some K5
+unfolding opened one_list
+breaks_K5 = refl
+
+would_pass_one_list : without_symmetry one_list ≡ None
+unfolding opened one_list
+would_pass_one_list = refl
+
+names_5 : is_concurrent one_list 1 5 ≡ true
+unfolding opened one_list
+names_5 = refl
+
+names_not_1 : is_concurrent one_list 5 1 ≡ false
+unfolding opened one_list
+names_not_1 = refl
+
+-- ## K6 does not ask for each phase of a ring: sequence 1 leaves out phase 4
+
+abbrev pub is_ordered_in_part : Plan → ℕ → Bool
+is_ordered_in_part plan r =
+    lists_only plan r (sequence plan 1 r) && (lists_once (sequence plan 1 r) && (rises plan (sequence plan 1 r) && zeros_last (sequence plan 1 r)))
+
+abbrev pub with_sequence_in_part : Plan → Option Rule
+with_sequence_in_part plan = broken_with_rings concurrency_is_symmetric (λ p. is_ordered_in_part p 1 && is_ordered_in_part p 2) plan
+
+unfoldable pub without_4 : Plan
+without_4 = with_value quad SequenceData 4 0
+
+breaks_K6 : first_broken without_4 ≡ Some K6
+unfolding opened without_4
+breaks_K6 = refl
+
+would_pass_without_4 : with_sequence_in_part without_4 ≡ None
+unfolding opened without_4
+would_pass_without_4 = refl
+
+lists_not_4 : among 4 (sequence without_4 1 1) ≡ false
+unfolding opened without_4
+lists_not_4 = refl
+
+-- ## K15 asks only that what a preempt's list names is enabled: preempt 1 dwells in phases 2 and 4 of one ring
+
+abbrev pub lists_enabled : Plan → ℕ → Bool
+lists_enabled plan n =
+    names_enabled plan (plan.value PreemptTrackPhase n) && (names_enabled plan (plan.value PreemptDwellPhase n) && names_enabled plan (plan.value PreemptExitPhase n))
+
+abbrev pub with_enabled_lists : Plan → Option Rule
+with_enabled_lists plan = broken_with_parts (λ p. list_all (lists_enabled p) (run_from 1 4)) patterns_are_whole coordinated_phases_agree plan
+
+unfoldable pub wants_2_4 : Plan
+wants_2_4 = with_value quad PreemptDwellPhase 1 10
+
+breaks_K15 : first_broken wants_2_4 ≡ Some K15
+unfolding opened wants_2_4
+breaks_K15 = refl
+
+would_pass_wants_2_4 : with_enabled_lists wants_2_4 ≡ None
+unfolding opened wants_2_4
+would_pass_wants_2_4 = refl
+
+dwells_in_both : is_dwell_phase wants_2_4 1 2 && is_dwell_phase wants_2_4 1 4 ≡ true
+unfolding opened wants_2_4
+dwells_in_both = refl
+
+apart_2_4 : is_concurrent wants_2_4 2 4 ≡ false
+unfolding opened wants_2_4
+apart_2_4 = refl
+
+-- ## K17 lets an offset be the cycle itself
+
+abbrev pub is_whole_or_at : Plan → ℕ → Bool
+is_whole_or_at plan n = nat_le (offset plan n) (cycle plan n) && (names_split plan n && names_sequence plan n)
+
+abbrev pub with_offset_of_cycle : Plan → Option Rule
+with_offset_of_cycle plan = broken_with_parts preempts_are_concurrent (λ p. each_pattern p (is_whole_or_at p)) coordinated_phases_agree plan
+
+unfoldable pub late : Plan
+late = with_value quad PatternOffsetTime 2 80
+
+breaks_K17 : first_broken late ≡ Some K17
+unfolding opened late
+breaks_K17 = refl
+
+would_pass_late : with_offset_of_cycle late ≡ None
+unfolding opened late
+would_pass_late = refl
+
+is_the_cycle : offset late 2 ≡ cycle late 2
+unfolding opened late
+is_the_cycle = refl
+
+-- ## K20 does not ask for a coordinated phase in each ring: ring 2 has none
+
+abbrev pub coordinates_alone : Plan → ℕ → ℕ → ℕ → Bool
+coordinates_alone plan s t p = may_coordinate plan t p && agrees_with_all plan s t p
+
+abbrev pub agree_alone : Plan → ℕ → ℕ → Bool
+agree_alone plan s t = has_coordinated plan t && list_all (λ p. not (is_coordinated plan t p) || coordinates_alone plan s t p) (phases plan)
+
+abbrev pub with_one_ring : Plan → Option Rule
+with_one_ring plan =
+    broken_with_parts preempts_are_concurrent patterns_are_whole
+    (λ p. each_pattern p (λ n. some_and (λ s. some_and (agree_alone p s) (split_of p n)) (sequence_of p n))) plan
+
+unfoldable pub one_ring : Plan
+one_ring = with_value quad SplitCoordPhase 6 0
+
+breaks_K20 : first_broken one_ring ≡ Some K20
+unfolding opened one_ring
+breaks_K20 = refl
+
+would_pass_one_ring : with_one_ring one_ring ≡ None
+unfolding opened one_ring
+would_pass_one_ring = refl
+
+none_in_ring_2 : coordinated_count one_ring 1 2 ≡ 0
+unfolding opened one_ring
+none_in_ring_2 = refl
