@@ -4,11 +4,17 @@ ghost use Rattle.tsb_field_display.specs.Laws.{AreRead, ComeOfChanges, TellTheHe
 /// What is read from a display line is what it shows. That is its tick, what each head shows, and the preempt.
 ///
 /// Not said: the local counter, which no event reports.
+/// Mistake: the letters of a field are read from the last (`shows_2`, `would_show_15`, `would_not_show_2`).
+/// Witness: `is_written`, `shows_2` of Mistakes.
 pub fn display_lines_are_read()
     ensures { AreRead }
 {}
 
 /// Lines that show what the line before shows have no events.
+///
+/// Mistake: a line shows something else only where a vehicle head does, `vehicle_changes_after` (`tells_all`,
+/// `would_tell_none`).
+/// Witness: `tells_clearance`, `tells_all` of Mistakes.
 pub fn events_come_of_changes()
     ensures { ComeOfChanges }
 {}

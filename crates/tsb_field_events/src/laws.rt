@@ -20,6 +20,9 @@ pub fn all_events_are_told()
 {}
 
 /// The header of an event log names the usual columns.
+///
+/// Mistake: code and parameter in the other order (`is_usual`, `would_change_places`).
+/// Witness: `is_usual` of Mistakes.
 pub fn the_header_is_read()
     ensures { HeaderIsRead }
 {}
@@ -29,6 +32,7 @@ pub fn the_header_is_read()
 ///
 /// Not said: that the text is cut into these lines.
 /// Mistakes: code and parameter change places (`other_event`); tick 1 begins a tenth late (`first_tick_not`).
+/// Witness: `named` of LineExamples in tsb_event_text, a device with a comma, whose line is read again there.
 pub fn lines_are_read()
     ensures { LinesAreRead }
 {}

@@ -13,6 +13,9 @@ pub fn no_pulse_is_lost()
 
 /// The text of the rows is a log of those rows. It is one that `read_log` takes, where it has at most 64 MiB; each row
 /// has 39 bytes.
+///
+/// Mistake: a tick has six digits, `line_in_six` (`is_a_log`, `would_be_malformed`).
+/// Witness: `is_a_log`, `is_long` of TickMistakes.
 pub fn what_is_written_is_a_log()
     ensures logs { AreLogs }
     ensures long { AreLong }
@@ -21,6 +24,9 @@ pub fn what_is_written_is_a_log()
 /// The row in force at a tick has an input on exactly where one of the wires that lead to it is on in that tick.
 ///
 /// Not said: which wires there are.
+/// Mistakes: a row is written only as some input is on, `changes_of_on` (`is_off_at_4`, `would_be_on_at_4`); an input is
+/// on where all wires that lead to it are, `all_on` (`has_3`, `would_not_have_3`).
+/// Witness: `is_off_at_4`, `has_3` of TickMistakes.
 pub fn rows_tell_the_inputs()
     ensures force { AreInForce }
     ensures inputs { AreTheInputs }

@@ -44,6 +44,8 @@ pub fn benches_show_the_same()
 /// The benches of 8 and of 16 phases refuse the same inputs, each for the same cause. So they take the same inputs.
 ///
 /// Needs: as `benches_show_the_same`.
+/// Mistake: the law without ranges, as a value of phase 9 is refused in the one and taken in the other, `set_9`
+/// (`is_refused`, `is_taken`).
 /// Witness: as of `benches_show_the_same`.
 pub fn benches_take_the_same()
     ensures refusals { RefusalsAgree }
@@ -53,6 +55,7 @@ pub fn benches_take_the_same()
 /// Phases beyond the eighth rest in the bench of 16. They are not enabled, and stay as at power-up.
 ///
 /// Needs: as `benches_show_the_same`.
+/// Mistake: a wide plan that enables phase 9 too, `with_9` (`rests_9`, `would_be_enabled`).
 /// Witness: as of `benches_show_the_same`.
 pub fn other_phases_rest()
     ensures { OthersRest }

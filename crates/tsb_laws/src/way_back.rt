@@ -18,6 +18,7 @@ pub fn cells_tell_the_state()
 /// The plans that the program runs are among those that the laws of cells and records speak of. Each checked plan is
 /// one of them.
 ///
+/// Mistake: plans that break no rule, whatever their values are, `over` (`would_pass`, `is_too_great`).
 /// Witness: `held` of Witness, the built-in plan of two phases.
 pub fn checked_plans_are_held()
     ensures { CheckedPlansAreHeld }

@@ -1,10 +1,19 @@
 -- One-line mistakes, each with an example that tells it from the definition.
-use Rattle.std.specs.Prelude.{◌≡◌, ℕ, ◌+◌, ◌==◌, true, false, not, List, [], ◌∷◌, ◌++◌, filter, refl}
+use Rattle.std.specs.Prelude.{◌≡◌, ℕ, ◌+◌, ◌==◌, true, false, not, List, [], ◌∷◌, ◌++◌, codes, filter, reverse, if◌then◌else◌, Some, refl}
+use Rattle.tsb_types.specs.Events.{event}
+use Rattle.tsb_types.specs.Lists.{run_from}
 use Rattle.tsb_types.specs.declared.event.Event.{Event}
+use Rattle.tsb_types.specs.declared.lamp.Aspect.TheVariants.{Dark, Yellow}
+use Rattle.tsb_types.specs.declared.lamp.PedestrianAspect.TheVariants as pedestrian_aspects
+use Rattle.tsb_display_text.specs.Line.{line_of}
+use Rattle.tsb_display_text.specs.tsb_heads.Heads.{Heads}
 use Rattle.tsb_field_display.specs.declared.shown.Shown.{Shown}
+use Rattle.tsb_field_display.specs.declared.shown.Signals.{Signals}
 use Rattle.tsb_field_display.specs.Events.{events_of_lines, is_yellow, is_clearance}
-use Rattle.tsb_field_display.specs.Remaining.{remaining, before_tick}
+use Rattle.tsb_field_display.specs.Reading.{field, signals_of, vehicles_of}
+use Rattle.tsb_field_display.specs.Remaining.{changes_of, remaining, before_tick}
 use Rattle.tsb_field_display.specs.ReadBack.{read_back}
+use Rattle.tsb_field_display.specs.Shows.{are_same_vehicles, aspect_of}
 use Rattle.tsb_field_display.proofs.Examples.Examples.{opened, at, red, green, clearing, ending}
 
 -- ## Events without code 9
@@ -46,3 +55,55 @@ twice = refl
 
 once : remaining (at 1 red ∷ at 2 green ∷ at 2 red ∷ []) ≡ at 1 red ∷ at 2 red ∷ []
 once = refl
+
+-- ## The letters of a field are read from the last
+
+-- a display with phase 2 yellow and preempt 3 in service, as it is written
+abbrev pub heads : Heads
+heads = record {
+  vehicle = λ p. if p == 2 then Yellow else Dark;
+  pedestrian = λ p. pedestrian_aspects.Dark;
+  overlap = λ o. Dark;
+}
+
+abbrev pub written : List ℕ
+written = line_of 101 heads (Some 3) (Some 759)
+
+is_written : written ≡ codes "0000101 -Y-------------- ---------------- ---- 3 0759"
+unfolding line_of run_from
+is_written = refl
+
+shows_2 : aspect_of (signals_of written).vehicles 2 ≡ Yellow
+unfolding line_of run_from
+shows_2 = refl
+
+would_show_15 : aspect_of (vehicles_of (reverse (field 8 16 written))) 15 ≡ Yellow
+unfolding line_of run_from
+would_show_15 = refl
+
+would_not_show_2 : aspect_of (vehicles_of (reverse (field 8 16 written))) 2 ≡ Dark
+unfolding line_of run_from
+would_not_show_2 = refl
+
+-- ## A line shows something else only where a vehicle head does
+
+abbrev pub vehicle_changes_after : Signals → List Shown → List Shown
+vehicle_changes_after before [] = []
+vehicle_changes_after before (line ∷ lines) =
+    if are_same_vehicles before.vehicles line.signals.vehicles then vehicle_changes_after before lines
+    else line ∷ vehicle_changes_after line.signals lines
+
+abbrev pub walks_then_clears : List Shown
+walks_then_clears = at 1 green ∷ at 2 green ∷ at 3 clearing ∷ []
+
+tells_clearance : events_of_lines (changes_of walks_then_clears)
+    ≡ event 1 1 2 ∷ event 1 21 2 ∷ event 1 61 1 ∷ event 3 22 2 ∷ event 3 105 1 ∷ []
+unfolding opened
+tells_clearance = refl
+
+tells_all : events_of_lines walks_then_clears ≡ events_of_lines (changes_of walks_then_clears)
+unfolding opened
+tells_all = refl
+
+would_tell_none : vehicle_changes_after green (at 2 green ∷ at 3 clearing ∷ []) ≡ []
+would_tell_none = refl

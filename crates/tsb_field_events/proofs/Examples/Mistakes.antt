@@ -1,8 +1,8 @@
 -- One-line mistakes, each with an example that tells it from the definition.
-use Rattle.std.proofs.Common.{◌≡◌, ℕ, ◌*◌, ◌+◌, true, false, List, [], ◌∷◌, ◌++◌, Option, Some, None, if◌then◌else◌, filter, refl, ap, arith}
+use Rattle.std.proofs.Common.{◌≡◌, ℕ, ◌*◌, ◌+◌, true, false, List, [], ◌∷◌, ◌++◌, Option, Some, None, if◌then◌else◌, codes, filter, refl, ap, arith}
 use Rattle.tsb_event_text.specs.declared.rows.EventRow.{EventRow}
 use Rattle.tsb_event_text.specs.declared.times.Moment.{Moment}
-use Rattle.tsb_event_text.specs.Columns.{usual_columns}
+use Rattle.tsb_event_text.specs.Columns.{header_of, usual_columns}
 use Rattle.tsb_event_text.specs.Events.{can_be_written, event_row_text}
 use Rattle.tsb_event_text.specs.Rows.{row_of}
 use Rattle.tsb_event_text.proofs.EventLemmas.{read-again}
@@ -68,3 +68,13 @@ first_tick from = omega arith
 
 first_tick_not : (from : Moment) → (moment_of_tick_late from 1).nanos ≡ from.nanos + 100000000
 first_tick_not from = refl
+
+-- ## The header has code and parameter in the other order
+
+is_usual : header_of (codes "SignalID,Timestamp,EventCode,EventParam") ≡ Some usual_columns
+unfolding header_of
+is_usual = refl
+
+would_change_places : header_of (codes "SignalID,Timestamp,EventParam,EventCode") ≡ Some (record { device = 0; time = 1; code = 3; parameter = 2 })
+unfolding header_of
+would_change_places = refl

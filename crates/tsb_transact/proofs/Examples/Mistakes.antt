@@ -1,5 +1,6 @@
 -- One-line mistakes, each with an example that tells it from the definition.
-use Rattle.std.specs.Prelude.{◌≡◌, ℕ, ◌==◌, nat_le, Bool, true, false, not, ◌||◌, if◌then◌else◌, List, [], ◌∷◌, ◌++◌, length, Option, Some, None, refl}
+use Rattle.std.proofs.Common.{◌≡◌, ℕ, ◌+◌, ◌-◌, ◌==◌, nat_le, Bool, true, false, not, ◌||◌, if◌then◌else◌, List, [], ◌∷◌, ◌++◌, length, Option, Some, None, refl, ap, arith, true≢false}
+use Rattle.std.proofs.lemmas.List.Elements.{All-cons, All-nil}
 use Rattle.std.specs.List.{list_any, filter}
 use Rattle.tsb_objects.specs.tsb_types.Lists.{run_from}
 use Rattle.tsb_objects.specs.tsb_types.declared.interval.Interval.{Interval}
@@ -9,15 +10,18 @@ use Rattle.tsb_objects.specs.tsb_types.declared.refusal.Refusal.TheVariants.{Bus
 use Rattle.tsb_objects.specs.tsb_rules.declared.rules.Rule.TheVariants.{K5}
 use Rattle.tsb_plan.specs.declared.object.Object.TheVariants.{PhaseConcurrency, PhaseWalk, PhaseMaximum1, SplitTime, PreemptDwellPhase}
 use Rattle.tsb_plan.specs.declared.object.ObjectId.{ObjectId}
-use Rattle.tsb_plan.specs.Objects.{is_structural, has_index, greatest}
+use Rattle.tsb_plan.specs.Objects.{objects, first_cell, is_structural, has_index, greatest}
 use Rattle.tsb_plan.specs.Plan.{Plan, phases}
+use Rattle.tsb_plan.specs.PlanOf.{put_refusal}
 use Rattle.tsb_plan.specs.Quad.{quad}
 use Rattle.tsb_transact.specs.declared.desk_state.DeskState.TheVariants.{Transaction}
 use Rattle.tsb_transact.specs.declared.edit.Edit.{Edit}
-use Rattle.tsb_transact.specs.Desk.{Desk, is_of, with_edit, with_edits}
+use Rattle.tsb_transact.specs.Cells.{id_at, place_of}
+use Rattle.tsb_transact.specs.Desk.{Desk, is_of, is_open, with_edit, with_edits}
+use Rattle.tsb_transact.specs.Laws.{IsInRange}
 use Rattle.tsb_transact.specs.Commit.{changes_structure, serves, must_wait}
 use Rattle.tsb_transact.specs.Calls.{refused_if, begin_refusal, commit_refusal, abort_refusal, with_set}
-use Rattle.tsb_transact.proofs.Examples.Examples.{at, edit, broken, apart, checked, full}
+use Rattle.tsb_transact.proofs.Examples.Examples.{at, edit, forty, broken, apart, checked, full}
 use Rattle.tsb_transact.proofs.Examples.CommitExamples.{equal, all_red, none_committed}
 
 -- ## A set leaves the desk in Done, so that what was not checked is committed
@@ -168,3 +172,34 @@ all_take_effect = refl
 first_takes_effect : (with_first_edit quad checked.edits).value PhaseConcurrency 5 ≡ 3
 unfolding quad
 first_takes_effect = refl
+
+-- ## The place of an edit counts from 0, as the cells of a plan do: it is read as the index before
+
+abbrev pub place_from_0 : ObjectId → ℕ
+place_from_0 id = first_cell id.object + (id.index - 1)
+
+reads_2 : id_at (place_of (at PhaseMaximum1 2)) ≡ at PhaseMaximum1 2
+unfolding first_cell objects
+reads_2 = refl
+
+would_read_1 : id_at (place_from_0 (at PhaseMaximum1 2)) ≡ at PhaseMaximum1 1
+unfolding first_cell objects
+would_read_1 = refl
+
+would_write_257 : place_from_0 (id_at 258) ≡ 257
+unfolding first_cell objects
+would_write_257 = refl
+
+-- a desk that has a table, with that edit
+in_range : IsInRange forty
+in_range = record {
+  sound = record {
+    owned = refl;
+    kept = refl;
+    none = λ n. absurd (true≢false (ap is_open n));
+    once = λ i j d less below. absurd (omega (arith, less, below));
+    taken = All-cons (λ (x : Edit). put_refusal x.id x.value ≡ None) (edit PhaseMaximum1 2 40) [] refl (All-nil (λ (x : Edit). put_refusal x.id x.value ≡ None));
+    room = omega arith;
+  };
+  owner = (omega arith, omega arith);
+}

@@ -5,8 +5,8 @@ use Rattle.tsb_step.specs.tsb_types.declared.lamp.Lamp.TheVariants as lamps
 use Rattle.tsb_step.specs.tsb_types.declared.lamp.SignalColor.TheVariants as signals
 use Rattle.tsb_step.specs.tsb_types.declared.refusal.Refusal.TheVariants.{NoSuchObject}
 use Rattle.tsb_step.specs.tsb_plan.declared.object.Object.{Object}
-use Rattle.tsb_step.specs.tsb_plan.declared.object.Object.TheVariants.{PhaseMinRecall, PatternSplitNumber, SplitTime, SplitCoordPhase}
-use Rattle.tsb_step.specs.tsb_plan.Plan.{Plan, with_values}
+use Rattle.tsb_step.specs.tsb_plan.declared.object.Object.TheVariants.{PhaseEnabled, PhaseMinRecall, PatternSplitNumber, SplitTime, SplitCoordPhase}
+use Rattle.tsb_step.specs.tsb_plan.Plan.{Plan, is_enabled, with_value, with_values}
 use Rattle.tsb_step.specs.tsb_plan.Quad.{quad}
 use Rattle.tsb_step.specs.tsb_rules.declared.rules.Rule.TheVariants.{K18}
 use Rattle.tsb_step.specs.tsb_rules.Rules.{first_broken}
@@ -105,3 +105,16 @@ is_refused = refl
 is_taken : verdict (replay quad (Begin 1 ∷ [])) set_9 ≡ None
 unfolding opened
 is_taken = refl
+
+-- ## A wide plan that enables phase 9 too
+
+unfoldable with_9 : Plan
+with_9 = with_value quad PhaseEnabled 9 1
+
+rests_9 : is_enabled (replay quad (Tick all_off ∷ [])).plan 9 ≡ false
+unfolding opened
+rests_9 = refl
+
+would_be_enabled : is_enabled (replay with_9 (Tick all_off ∷ [])).plan 9 ≡ true
+unfolding opened with_9
+would_be_enabled = refl

@@ -1,6 +1,6 @@
 -- What the laws refuse: for each a mistake in the definitions, and by computing what comes of it. Beside each stands what
 -- the definitions as they are make of the same.
-use Rattle.std.specs.Prelude.{◌≡◌, ℕ, ◌+◌, ◌-◌, List, [], ◌∷◌, Some, None, refl}
+use Rattle.std.specs.Prelude.{◌≡◌, ℕ, ◌+◌, ◌-◌, nat_le, false, List, [], ◌∷◌, Some, None, refl}
 use Rattle.tsb_step.specs.tsb_cells.declared.timer.Timer.{Timer}
 use Rattle.tsb_step.specs.tsb_cells.declared.timer.Timer.TheVariants.{Off, On}
 use Rattle.tsb_step.specs.tsb_cells.Timer.{advanced, timer_cell, timer_at}
@@ -8,10 +8,16 @@ use Rattle.tsb_step.specs.tsb_cells.Diff.{diff, apply_diff}
 use Rattle.tsb_step.specs.tsb_heads.declared.monitor.Trip.TheVariants.{Conflict}
 use Rattle.tsb_step.specs.tsb_history.declared.kinds.Kind.{Kind}
 use Rattle.tsb_step.specs.tsb_history.declared.kinds.Kind.TheVariants as kinds
+use Rattle.tsb_step.specs.tsb_plan.declared.object.Object.TheVariants.{PhaseRedClear}
+use Rattle.tsb_step.specs.tsb_plan.Objects.{greatest}
+use Rattle.tsb_step.specs.tsb_plan.Plan.{Plan, with_value}
+use Rattle.tsb_step.specs.tsb_plan.Two.{two}
 use Rattle.tsb_step.specs.tsb_ring.Rings.{State, Ring1, Ring2, power_up}
+use Rattle.tsb_step.specs.tsb_rules.Rules.{first_broken}
 use Rattle.tsb_step.specs.tsb_types.Lists.{or_number}
 use Rattle.tsb_step.specs.Cells.{clock_at}
 use Rattle.tsb_step.specs.Past.{ticks_of}
+use Rattle.tsb_step.proofs.Examples.Scenes.{opened}
 
 -- ## Cells tell the state: a clock that goes on while the controller is tripped
 
@@ -76,3 +82,16 @@ would_be_written = refl
 -- and, the other way round, a timer that begins anew and leaves its cell
 is_written : diff (timer_cell 10 (On 3) ∷ []) (timer_cell 11 (On 0) ∷ []) ≡ (0, 8) ∷ []
 is_written = refl
+
+-- ## Checked plans are held: a plan is checked by its rules alone, whatever its values are
+
+unfoldable over : Plan
+over = with_value two PhaseRedClear 2 300
+
+would_pass : first_broken over ≡ None
+unfolding opened over two
+would_pass = refl
+
+is_too_great : nat_le (over.value PhaseRedClear 2) (greatest PhaseRedClear) ≡ false
+unfolding opened over two
+is_too_great = refl
