@@ -25,7 +25,7 @@ pub fn rows_are_in_force_to_the_next()
 
 /// Input k is on exactly where the k-th digit is 1.
 ///
-/// Mistake: the last digit is that of input 1, `list_from_last` (`is_input_2`, `would_be_input_3`).
+/// Mistake: the last digit is that of input 1, `list_from_last` (`is_input_2`, `would_be_input_3`, `would_not_name_2`).
 /// Witness: `is_input_2`, `names_2` of Mistakes.
 pub fn digits_tell_their_inputs()
     ensures { TellTheirInputs }

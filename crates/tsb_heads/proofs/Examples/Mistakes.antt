@@ -186,14 +186,15 @@ walk_counts_not = refl
 abbrev pub are_both : Heads → ℕ → ℕ → Bool
 are_both heads p q = nat_lt p q && (has_right_of_way heads p && has_right_of_way heads q)
 
-abbrev pub conflict_of_any : Plan → Heads → Option Trip
-conflict_of_any plan heads = option_map (λ q. Conflict 2 q) (first (are_both heads 2) (phases plan))
+-- the lower phase of the least such pair
+abbrev pub conflict_of_any : Plan → Heads → Option ℕ
+conflict_of_any plan heads = first (λ p. is_some (first (are_both heads p) (phases plan))) (phases plan)
 
 no_conflict : conflict quad before ≡ None
 unfolding quad run_from conflict conflict_of
 no_conflict = refl
 
-would_conflict : conflict_of_any quad before ≡ Some (Conflict 2 6)
+would_conflict : conflict_of_any quad before ≡ Some 2
 unfolding quad run_from
 would_conflict = refl
 
