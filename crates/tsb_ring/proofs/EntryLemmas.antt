@@ -25,7 +25,8 @@ cross_is (Some Cross) h = refl
 cross_is (Some Rest) h = absurd (cc)
 cross_is (Some Stop) h = absurd (cc)
 
-else_cases : (a b : Option ℕ) (p : ℕ) → or_else a b ≡ Some p → (a ≡ Some p) ⊎ ((a ≡ None) × (b ≡ Some p))
+-- where the first of two gives nothing, the second gave it
+pub else_cases : (a b : Option ℕ) (p : ℕ) → or_else a b ≡ Some p → (a ≡ Some p) ⊎ ((a ≡ None) × (b ≡ Some p))
 else_cases None b p h = inr (refl, h)
 else_cases (Some x) b p h = inl h
 

@@ -1,5 +1,6 @@
 -- A quiet tick with the inputs of the tick before tells nothing.
 use Rattle.std.proofs.Common.{◌≡◌, ◌∙◌, ℕ, ◌+◌, ◌==◌, Bool, true, false, not, ◌&&◌, ◌||◌, List, [], ◌∷◌, ◌++◌, map, Option, Some, None, is_some, is_none, if◌then◌else◌, refl, ap}
+use Rattle.std.proofs.Math.Bool.{and-not_self}
 use Rattle.tsb_cells.specs.declared.timer.Timer.{Timer}
 use Rattle.tsb_cells.specs.declared.timer.Timer.TheVariants.{Off, On}
 use Rattle.tsb_cells.specs.Timer.{advanced, is_on}
@@ -40,10 +41,6 @@ use Rattle.tsb_step.specs.Tick.{phases_given, phase_read}
 told-none : (tick code : ℕ) (f : ℕ → Bool) → ((n : ℕ) → f n ≡ false) → told tick code f ≡ []
 told-none tick code f none = ap (λ (ns : List ℕ). map (λ n. event tick code n) ns) (filter-none f 1 16 (λ n from below. none n))
 
-and-not : (b : Bool) → (b && not b) ≡ false
-and-not true = refl
-and-not false = refl
-
 -- a tick that found this: no cause, and the inputs of the tick before
 abbrev same_inputs : (ℕ → Bool) → (ℕ → Bool) → (ℕ → Bool) → Row → Bool → Found
 same_inputs gap maximum force_off row served =
@@ -61,7 +58,7 @@ none-between tick gap maximum force_off row served v no_gap no_maximum no_force_
     ++ none-told tick codes.PHASE_OFF (events.serving v) i)
     ++ (none-told tick codes.WALK_BEGINS v.walks i ++ none-told tick codes.CLEARANCE_BEGINS v.clearances i
     ++ none-told tick codes.DONT_WALK_BEGINS (λ n. v.walks n || v.clearances n) i)
-    ++ (if and-not v.crosses i then event tick codes.BARRIER_CROSSED v.side ∷ [] else [])
+    ++ (if and-not_self v.crosses i then event tick codes.BARRIER_CROSSED v.side ∷ [] else [])
     ++ (none-told tick codes.CALL_COMES v.vehicle_calls i ++ none-told tick codes.CALL_GOES v.vehicle_calls i
     ++ none-told tick codes.PEDESTRIAN_CALL_COMES v.pedestrian_calls i)
     ++ (none-told tick codes.OVERLAP_GREEN_BEGINS v.overlap_greens i ++ none-told tick codes.OVERLAP_YELLOW_BEGINS v.overlap_yellows i
@@ -74,8 +71,8 @@ none-between tick gap maximum force_off row served v no_gap no_maximum no_force_
     ++ (none-told tick codes.PREEMPT_ENTERS v.preempts i ++ none-told tick codes.TRACK_BEGINS v.tracks i ++ none-told tick codes.DWELL_BEGINS v.dwells i)
     ++ told-none tick codes.PRESENCE_EXCEEDED (λ n. leaves_dwell v v n && not served) (λ n j. stays n j && not served) i
     ++ none-told tick codes.EXIT_BEGINS v.exits i
-    ++ (if and-not v.flashes i then event tick codes.FLASH_CHANGES codes.FLASH ∷ []
-    else (if and-not v.flashes i then event tick codes.FLASH_CHANGES codes.NO_FLASH ∷ [] else []))
+    ++ (if and-not_self v.flashes i then event tick codes.FLASH_CHANGES codes.FLASH ∷ []
+    else (if and-not_self v.flashes i then event tick codes.FLASH_CHANGES codes.NO_FLASH ∷ [] else []))
 
 -- ## What a log sees once timers have run on
 

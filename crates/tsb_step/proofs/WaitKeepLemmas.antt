@@ -23,7 +23,7 @@ use Rattle.tsb_ring.specs.Moves.{is_started}
 use Rattle.tsb_ring.proofs.ClaimLemmas.{ring_of_is}
 use Rattle.tsb_ring.proofs.MoveLemmas.{and_three, is-Some, one_of, completes_may, starts_reverted}
 use Rattle.tsb_ring.proofs.StartLemmas.{may_clear, starting_is}
-use Rattle.tsb_ring.proofs.WaitLemmas.{called_candidate, targeted_candidate}
+use Rattle.tsb_ring.proofs.WaitLemmas.{idle_is, called_candidate, targeted_candidate}
 use Rattle.tsb_ring.proofs.WantLemmas.{and_four, pick_want, pick_free, fitting}
 use Rattle.tsb_step.specs.declared.inputs.Input.TheVariants.{Tick}
 use Rattle.tsb_step.specs.declared.waits.Lack.{Lack}
@@ -54,10 +54,6 @@ pub data Starts (s : State) (row : Row) (p : ℕ) : Type 0 where
   by_want : s.rings.crossing ≡ None → s.rings.commitment (own_ring s.plan p) ≡ None → served s (own_ring s.plan p) ≡ None →
       want_found s.plan s.rings (rings_given s row) (own_ring s.plan p) (picked_before s.plan s.rings (rings_given s row) (own_ring s.plan p))
       (target s row) ≡ Go p → Starts s row p
-
-idle_is : (was picked : Option ℕ) (p : ℕ) → idle_pick was picked ≡ Some p → (was ≡ None) × (picked ≡ Some p)
-idle_is None picked p h = (refl, h)
-idle_is (Some q) picked p h = absurd cc
 
 may_be_started : (plan : Plan) (s : rings.State) (g : rings.Given) (r : Ring) (c p : ℕ) → s.commitment r ≡ Some c →
     start_now plan s g r (Some c) ≡ Some p → (may_start plan g r (Some c) ≡ true) × (c ≡ p)

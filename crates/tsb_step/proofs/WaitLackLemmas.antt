@@ -1,9 +1,7 @@
 -- A phase that waits for nothing starts; and for how long a green that lacks something keeps its ring and the barrier.
 use Rattle.std.proofs.Common.{◌≡◌, ℕ, Bool, true, false, not, ◌&&◌, ◌||◌, if◌then◌else◌, Option, Some, None, is_some, option_map, refl, sym, subst, ap, ◌∙◌, inl, inr}
-use Rattle.std.proofs.lemmas.Bool.{cases_Bool, eq-eqb, true≢false}
+use Rattle.std.proofs.lemmas.Bool.{cases_Bool, eq-eqb, not-true, true≢false}
 use Rattle.std.proofs.Math.Bool.{and-false}
-use Rattle.tsb_types.specs.declared.interval.Interval.{Interval}
-use Rattle.tsb_types.specs.declared.interval.Interval.TheVariants.{Red, Green, Yellow, RedClear}
 use Rattle.tsb_types.specs.declared.row.Row.{Row}
 use Rattle.tsb_types.specs.Clip.{clipped}
 use Rattle.tsb_types.specs.Intervals.{is_green, is_dont_walk}
@@ -20,13 +18,14 @@ use Rattle.tsb_ring.specs.declared.want.Want.TheVariants.{Go, Cross, Rest, Stop}
 use Rattle.tsb_ring.specs.Rings as rings
 use Rattle.tsb_ring.specs.Rings.{Ring, Ring1, Ring2, other, own_ring, serving}
 use Rattle.tsb_ring.specs.Wants.{taken, want_of, pick}
-use Rattle.tsb_ring.specs.Crossings.{joins_in, joins, begins, committed}
+use Rattle.tsb_ring.specs.Crossings.{joins, begins, committed}
 use Rattle.tsb_ring.specs.Next as rings_next
 use Rattle.tsb_ring.specs.Next.{is_none_or_over, makes_way, may_start, completes, idle_pick, start_now, starting, new_commitment}
 use Rattle.tsb_ring.specs.Moves as ring_moves
 use Rattle.tsb_ring.specs.Moves.{is_ended, is_started}
 use Rattle.tsb_ring.proofs.ActLemmas.{begins_not}
 use Rattle.tsb_ring.proofs.MoveLemmas.{is-Some, begins_joined}
+use Rattle.tsb_ring.proofs.StillLemmas.{joins_not}
 use Rattle.tsb_step.specs.declared.waits.Lack.{Lack}
 use Rattle.tsb_step.specs.declared.waits.Lack.TheVariants as lacks
 use Rattle.tsb_step.specs.declared.waits.Wait.{Wait}
@@ -222,10 +221,6 @@ not-ready-parts a b c h = rw h (and-false a)
 not-ready-done : (a b c : Bool) → c ≡ false → (a && (b && c)) ≡ false
 not-ready-done a b c h = rw (h, and-false b) (and-false a)
 
-not-true : (b : Bool) → not b ≡ true → b ≡ false
-not-true true x = absurd cc
-not-true false x = refl
-
 time-lacks : (plan : Plan) (given : phase.Given) (p : ℕ) (w : Phase) (o : Option ℕ) → has_reached w.timer (time_to_last plan given p o) ≡ false →
     green_is_done plan given p w o ≡ false
 time-lacks plan given p w None h = rw h refl
@@ -276,13 +271,6 @@ interval-as-told : (s : State) (row : Row) (q : ℕ) → (rings_given s row).int
 unfolding rings_given
 interval-as-told s row q = refl
 
--- a ring does not join in a crossing with a green that is not ready
-green-joins-not : (i : Interval) (ready : Bool) (w : Option Want) (c : Option ℕ) → is_green i ≡ true → ready ≡ false → joins_in i ready w c ≡ false
-green-joins-not Green ready w c g h = rw h refl
-green-joins-not Red ready w c g h = absurd cc
-green-joins-not Yellow ready w c g h = absurd cc
-green-joins-not RedClear ready w c g h = absurd cc
-
 none-begins : (s : State) (row : Row) (r : Ring) (q : ℕ) → served s r ≡ Some q → is_green (interval s q) ≡ true → ready s row q ≡ false →
     begins s.plan s.rings (rings_given s row) ≡ false
 none-begins s row r q e green h =
@@ -291,7 +279,7 @@ none-begins s row r q e green h =
           (let joined = begins_joined s.plan s.rings (rings_given s row) r k in
           let in_service : joins (rings_given s row) (Some q) (s.rings.commitment r) (want_of s.plan s.rings (rings_given s row) r) ≡ true =
           subst (λ o. joins (rings_given s row) o (s.rings.commitment r) (want_of s.plan s.rings (rings_given s row) r) ≡ true) (served-is s row r ∙ e) joined in
-          absurd (true≢false (sym in_service ∙ green-joins-not ((rings_given s row).interval q) ((rings_given s row).ready q)
+          absurd (true≢false (sym in_service ∙ joins_not ((rings_given s row).interval q) ((rings_given s row).ready q)
           (want_of s.plan s.rings (rings_given s row) r) (s.rings.commitment r) (ap is_green (interval-as-told s row q) ∙ green) (not-told-ready s row q h))))
       | inr k ↦ k
     ]

@@ -9,6 +9,7 @@ use Rattle.tsb_objects.specs.tsb_plan.Plan.{Plan, is_concurrent, side_of}
 use Rattle.tsb_preempt.specs.Promises.{stage_of}
 use Rattle.tsb_preempt.specs.Service.{Service, stage_phases}
 use Rattle.tsb_ring.specs.Rings.{Ring, other, own_ring}
+use Rattle.tsb_ring.proofs.EntryLemmas.{else_cases}
 use Rattle.tsb_step.specs.declared.waits.Lack.{Lack}
 use Rattle.tsb_step.specs.declared.waits.Wait.{Wait}
 use Rattle.tsb_step.specs.declared.waits.Wait.TheVariants as waits
@@ -22,10 +23,6 @@ use Rattle.tsb_step.specs.WaitLaws.{Keeps, committed, here, across, IsKept}
 pub first-cases : (a b : Option Wait) (w : Wait) → first_wait a b ≡ Some w → (a ≡ Some w) ⊎ ((a ≡ None) × (b ≡ Some w))
 first-cases None b w h = inr (refl, h)
 first-cases (Some v) b w h = inl h
-
-else-cases : (a b : Option ℕ) (q : ℕ) → or_else a b ≡ Some q → (a ≡ Some q) ⊎ ((a ≡ None) × (b ≡ Some q))
-else-cases None b q h = inr (refl, h)
-else-cases (Some x) b q h = inl h
 
 -- a wait that names a phase
 pub record Named (f : ℕ → Wait) (o : Option ℕ) (w : Wait) : Type 0 where
@@ -194,7 +191,7 @@ crossing-so s p w free h =
     so : (o : Option ℕ) → kept ≡ o → IfSome o (λ q. (is_over_next s q ≡ false) × ((served s r ≡ Some q) ⊎ (served s (other r) ≡ Some q)))
     so None e = tt
     so (Some q) e =
-        elim (else-cases (not_over s (served s r)) (not_over s (served s (other r))) q e) [
+        elim (else_cases (not_over s (served s r)) (not_over s (served s (other r))) q e) [
           | inl a ↦ (let k = not-over s (served s r) q a in (k.1, inl k.0))
           | inr a ↦ (let k = not-over s (served s (other r)) q a.1 in (k.1, inr k.0))
         ]
@@ -212,7 +209,7 @@ barrier-so s p w free h =
 
     greens : (q : ℕ) → or_else (lacking s (served s r)) (lacking s (served s (other r))) ≡ Some q → Keeps s p q
     greens q e =
-        elim (else-cases (lacking s (served s r)) (lacking s (served s (other r))) q e) [
+        elim (else_cases (lacking s (served s r)) (lacking s (served s (other r))) q e) [
           | inl a ↦ (let k = lacks-one s (served s r) q a in here k.0 k.1 k.2)
           | inr a ↦ (let k = lacks-one s (served s (other r)) q a.1 in across k.0 k.1 k.2)
         ]
@@ -220,7 +217,7 @@ barrier-so s p w free h =
     so : (o : Option ℕ) → kept ≡ o → IfSome o (Keeps s p)
     so None e = tt
     so (Some q) e =
-        elim (else-cases (s.rings.commitment (other r)) (or_else (lacking s (served s r)) (lacking s (served s (other r)))) q e) [
+        elim (else_cases (s.rings.commitment (other r)) (or_else (lacking s (served s r)) (lacking s (served s (other r)))) q e) [
           | inl a ↦ committed a
           | inr a ↦ greens q a.1
         ]
@@ -241,7 +238,7 @@ conflict-so : (s : State) (p : ℕ) (w : Wait) → is_committed s p ≡ false �
 conflict-so s p w free n =
     subst (IsKept s p) n.gives (
       free,
-      elim (else-cases (not_concurrent s.plan p (served s (other r))) (not_concurrent s.plan p (s.rings.commitment (other r))) n.one n.there) [
+      elim (else_cases (not_concurrent s.plan p (served s (other r))) (not_concurrent s.plan p (s.rings.commitment (other r))) n.one n.there) [
         | inl a ↦ (let k = not-concurrent s.plan p (served s (other r)) n.one a in record { there = inl k.0; apart = k.1 })
         | inr a ↦ (let k = not-concurrent s.plan p (s.rings.commitment (other r)) n.one a.1 in record { there = inr k.0; apart = k.1 })
       ],
