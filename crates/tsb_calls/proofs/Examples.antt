@@ -3,3 +3,4 @@ pub mod Examples
 pub mod MemoryExamples
 pub mod EnabledExamples
 pub mod Mistakes
+pub mod RangeMistakes

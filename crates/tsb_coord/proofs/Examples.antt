@@ -3,3 +3,4 @@ pub mod Examples
 pub mod PatternExamples
 pub mod Mistakes
 pub mod LawMistakes
+pub mod RangeMistakes

@@ -20,11 +20,17 @@ pub fn forced_phases_end_with_their_splits()
 {}
 
 /// A row that the layer can have is the encoding of what is read in it.
+///
+/// Mistake: a row with one cell more, `longer` of RangeMistakes (`would_lose_it`).
+/// Witness: `can_be`, `is_told` of RangeMistakes.
 pub fn rows_are_told()
     ensures { RowsAreTold }
 {}
 
 /// The encoding of a state in range reads back as that state, and is a row that the layer can have.
+///
+/// Mistake: a cell of 0 that is read as a number, `read_plainly` of RangeMistakes (`would_read_0`).
+/// Witness: `reads_none` of RangeMistakes.
 pub fn states_are_read()
     ensures read { StatesAreRead }
     ensures by { StatesAreBy }

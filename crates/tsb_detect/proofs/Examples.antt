@@ -1,3 +1,4 @@
 -- Computed examples of the definitions, and mistakes that they refuse.
 pub mod Examples
 pub mod Mistakes
+pub mod RangeMistakes

@@ -8,3 +8,5 @@ pub mod CauseExamples
 pub mod CellsExamples
 pub mod Mistakes
 pub mod LawMistakes
+pub mod MoveMistakes
+pub mod RangeMistakes

@@ -3,3 +3,5 @@ pub mod Examples
 pub mod SpentExamples
 pub mod RequestExamples
 pub mod Mistakes
+pub mod LawMistakes
+pub mod RangeMistakes

@@ -7,3 +7,4 @@ pub mod PremiseExamples
 pub mod CellsExamples
 pub mod Mistakes
 pub mod LawMistakes
+pub mod RangeMistakes

@@ -17,3 +17,4 @@ pub mod TimeLawMistakes
 pub mod TimeRuns
 pub mod EndMistakes
 pub mod OtherRuns
+pub mod MemoryMistakes

@@ -7,6 +7,7 @@ ghost use Rattle.tsb_step.specs.ClearanceLaws.{ClearedAreOver, CoordinatedClearA
 ///
 /// Not said: anything of walks that ended before.
 /// Mistake: a preempt that ends a green at once, `ready_at_once` (`is_not_ready`, `would_be_ready`).
+/// Witness: `ends_now` of TimeRuns.
 ///
 /// `cleared`: A phase that goes Red is over. Its yellow change and red clearance have lasted; from any state.
 ///

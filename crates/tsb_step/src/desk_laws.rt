@@ -6,6 +6,7 @@ ghost use Rattle.tsb_step.specs.DeskLaws.{ChangeTheDeskAlone, LeaveTheDesk, ActB
 ///
 /// Mistakes: a set that acts at once, `step_at_once` (`acts_not`, `acts_at_once`); a reset that closes the desk,
 /// `reset_closes` (`keeps_owner`, `would_be_closed`).
+/// Witness: `acts_not` of DeskLawMistakes, `keeps_owner` of EndMistakes.
 pub fn desk_inputs_change_the_desk()
     ensures alone { ChangeTheDeskAlone }
     ensures others { LeaveTheDesk }

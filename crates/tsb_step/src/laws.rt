@@ -16,12 +16,14 @@ ghost use Rattle.tsb_step.specs.Laws.{DisplaysAreSafe, FaultsAloneTrip, MemoryIs
 /// Mistakes: a preempt's list that is not pairwise concurrent, `wants_3_7` (`serves_3`, `serves_7`, `apart_3_7`); a
 /// commit of the structure while the rings cross, `parted_in_crossing`, which E12 refuses (`has_to_wait`,
 /// `serves_3_then`, `serves_8_then`, `apart_3_8_then`).
+/// Witness: `pair` of OtherRuns, in which two phases are in service.
 ///
 /// `walks`: Pedestrians walk or clear only beside a Green phase. This holds under a preempt too, and while the
 /// controller flashes.
 ///
 /// Not said: for how long.
 /// Mistake: a pedestrian part that is kept as the green ends, `part_kept` (`walks_no_more`, `would_walk_on`).
+/// Witness: `walk_before` to `green_after` of TimeRuns, a walk up to the end of its green.
 pub fn displays_are_safe()
     ensures safe { DisplaysAreSafe }
     ensures together { ServedGoTogether }
@@ -54,6 +56,7 @@ pub fn starts_wait()
 ///
 /// Not said: that the rings decide in either order. Ring 1 is asked first.
 /// Mistake: rings that decide as they act, `pick_in_turn` of tsb_ring (`first_takes_1`, `second_takes_none`).
+/// Witness: `takes_over` of OrderExamples, where both act.
 pub fn rings_act_in_either_order()
     ensures { RingsActInEitherOrder }
 {}
@@ -80,6 +83,11 @@ pub fn faults_alone_trip()
 
 /// The laws speak of the program's plans. A plan in memory that breaks no rule is one of those that the laws of runs
 /// speak of, and takes the same values.
+///
+/// Mistakes: one that gives the next object's value beyond an object's indices, `value_beyond` of MemoryMistakes
+/// (`has_no_place`, `gives_none`, `would_give_1`); a plan of 8 phases beside it, `narrow` of MemoryMistakes
+/// (`memory_takes_9`, `would_refuse_9`).
+/// Witness: `two_consistent` of OtherRuns, of the built-in plan of two phases; `takes_9` of MemoryMistakes.
 pub fn plans_in_memory_are_consistent()
     ensures consistent { MemoryIsConsistent }
     ensures refuses { MemoryRefusesTheSame }
@@ -88,6 +96,10 @@ pub fn plans_in_memory_are_consistent()
 /// The record of an input takes the input back. It does so where the cells of a state can be read as the state. The
 /// record is of the input's kind; the tick number begins at 0 and goes on by one at most. The laws of the way back of
 /// every machine ask for this (tsb_machine).
+///
+/// Mistakes: a record with what cells hold after the input (`gives_back`, `would_stay` of tsb_laws); one that leaves
+/// the tick number, `ticks_of_none` of tsb_laws (`goes_to_6`, `would_be_at_7`).
+/// Witness: `ran` of tsb_laws, a run after which cells tell the state.
 pub fn records_give_back()
     ensures back { RecordsGiveBack }
     ensures kinds { RecordsTellKinds }
@@ -98,6 +110,7 @@ pub fn records_give_back()
 ///
 /// Not said: which ticks are quiet.
 /// Mistake: a cell that holds what its timer has reached, and not when it began, `cell_as_it_runs`.
+/// Witness: `is_quiet` of EventExamples, a tick of a controller that has tripped.
 pub fn quiet_ticks_write_nothing()
     ensures { QuietTicksWriteNothing }
 {}

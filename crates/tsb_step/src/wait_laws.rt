@@ -21,7 +21,7 @@ pub fn waits_are_so()
 /// said here.
 /// Mistakes: an omit that is told to keep a phase from a preempt too (`is_omitted`, `would_start_it`); a preempt, where
 /// its service ends (`is_preempted`, `would_start_then`); red revert and clearance by timers as the last tick left them,
-/// `reverts_as_it_was` (`has_not_passed`, `starts_at_20`) and `over_as_it_was` (`is_not_over`, `starts_3`).
+/// `reverts_as_it_was` (`has_not_passed`, `starts_at_20`) and `over_as_it_was` (`is_not_over`, `starts`).
 /// Witness: `flashes` to `conflict_next` of WaitExamples.
 pub fn waits_keep_phases()
     ensures { WaitsKeepPhases }

@@ -1,12 +1,14 @@
 -- The events of inputs, by computing, worked by hand from the plan of eight phases. Its overlap 1 includes phases 1 and 2.
-use Rattle.std.specs.Prelude.{◌≡◌, true, false, [], ◌∷◌, is_some, refl}
+use Rattle.std.specs.Prelude.{◌≡◌, true, false, [], ◌∷◌, Some, is_some, refl}
 use Rattle.tsb_cells.specs.declared.timer.Timer.TheVariants.{On}
 use Rattle.tsb_types.specs.Events.{event}
 use Rattle.tsb_types.specs.Sets.{all_off}
 use Rattle.tsb_objects.specs.tsb_plan.Quad.{quad}
+use Rattle.tsb_heads.specs.declared.monitor.Trip.TheVariants.{GreenToRed}
 use Rattle.tsb_phase.specs.Causes.{cause}
 use Rattle.tsb_step.specs.declared.inputs.Input.TheVariants.{Tick, Pattern}
 use Rattle.tsb_step.specs.Events.{ends_freely, events_of, selected, view}
+use Rattle.tsb_step.specs.Quiet.{IsQuiet}
 use Rattle.tsb_step.specs.State.{State, start}
 use Rattle.tsb_step.specs.Tick.{phases_given, phase_read}
 use Rattle.tsb_step.proofs.Examples.Scenes as scenes
@@ -51,6 +53,18 @@ quiet_too = refl
 stands : (view (after standing all_off)).vehicle_calls 3 ≡ true
 unfolding opened
 stands = refl
+
+-- so is each tick of a controller that has tripped, which changes the tick number alone
+abbrev tripped : State
+tripped = record resting { trip = Some (record { cause = GreenToRed 4; tick = 50 }) }
+
+is_quiet : IsQuiet tripped (after tripped all_off)
+unfolding opened
+is_quiet = refl
+
+quiet_as_it_flashes : events_of all_off tripped (Tick all_off) ≡ []
+unfolding opened
+quiet_as_it_flashes = refl
 
 -- pattern 1 is selected: a cycle of 80 seconds, no offset, and eight splits
 pattern : events_of all_off resting (Pattern 1) ≡

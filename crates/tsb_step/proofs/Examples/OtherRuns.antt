@@ -14,17 +14,22 @@ use Rattle.tsb_objects.specs.tsb_rules.Rules.{first_broken}
 use Rattle.tsb_objects.proofs.tsb_rules.TwoLemmas.{two-meets}
 use Rattle.tsb_heads.specs.declared.monitor.Trip.TheVariants.{Conflict}
 use Rattle.tsb_heads.specs.Monitoring.{has_right_of_way}
+use Rattle.tsb_ring.specs.Laws.{IsSymmetric, IsGiven, IsSound}
 use Rattle.tsb_machine.specs.declared.commands.Command.TheVariants.{Apply, Undo}
 use Rattle.tsb_machine.specs.declared.commands.Answer.{Answer}
 use Rattle.tsb_machine.specs.declared.commands.Answer.TheVariants.{Took, Undone}
 use Rattle.tsb_step.specs.declared.inputs.Input.{Input}
 use Rattle.tsb_step.specs.declared.inputs.Input.TheVariants.{Tick, Switch, Begin, Set, Verify, Commit}
+use Rattle.tsb_step.specs.Good.{IsGood}
 use Rattle.tsb_step.specs.State.{interval}
 use Rattle.tsb_step.specs.Signs.{display, stage}
 use Rattle.tsb_step.specs.MonitorCells.{monitor_cells, trip_in}
 use Rattle.tsb_step.specs.Play.{Cmd, AreRight, remaining}
 use Rattle.tsb_step.specs.Runs.{replay, AreTaken}
+use Rattle.tsb_step.specs.Tick.{rings_given}
 use Rattle.tsb_step.specs.Laws.{IsConsistent}
+use Rattle.tsb_step.proofs.GivenLemmas.{symmetric, given}
+use Rattle.tsb_step.proofs.GoodLemmas.{good_run}
 use Rattle.tsb_step.proofs.Examples.Scenes.{opened}
 use Rattle.tsb_step.proofs.Examples.TimeRuns.{HasNone, none_with, two_none, consistent}
 
@@ -71,6 +76,19 @@ way_of_4 = refl
 together : is_concurrent (replay pair one_tick).plan 2 4 ≡ true
 unfolding opened pair two
 together = refl
+
+-- its rings are sound while both are in service, and what they are told in the next tick is what their own laws ask for
+good : IsGood (replay pair one_tick)
+good = good_run pair one_tick pair_consistent pair_taken
+
+are_sound : IsSound (replay pair one_tick).plan (interval (replay pair one_tick)) (replay pair one_tick).rings
+are_sound = good.rings
+
+go_both_ways : IsSymmetric pair
+go_both_ways = symmetric pair pair_rules
+
+are_given : IsGiven (replay pair one_tick).plan (rings_given (replay pair one_tick) all_off)
+are_given = given (replay pair one_tick) all_off good
 
 -- ## A preempt in service: 1 wants 4
 

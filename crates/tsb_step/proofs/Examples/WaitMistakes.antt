@@ -87,7 +87,7 @@ would_name_8 = refl
 is_3 : at_barrier.rings.commitment Ring1 ≡ Some 3
 is_3 = refl
 
--- ## Clears: by the timer as the last tick left it
+-- ## Clears: by the timer as the last tick left it, though 3 starts in the next tick (`starts` of WaitExamples)
 
 over_as_it_was : State → ℕ → Bool
 over_as_it_was s p = is_over s.plan p (s.phases p)
@@ -95,10 +95,6 @@ over_as_it_was s p = is_over s.plan p (s.phases p)
 is_not_over : over_as_it_was at_barrier 2 ≡ false
 unfolding opened over_as_it_was
 is_not_over = refl
-
-starts_3 : is_started (moves at_barrier all_off) 3 ≡ true
-unfolding opened
-starts_3 = refl
 
 -- ## Across: a crossing that looks at its own ring alone
 
