@@ -1,5 +1,5 @@
 -- A record takes bytes piece after piece, and its commands line after line.
-use Rattle.std.proofs.Common.{suc, ◌≡◌, ◌∙◌, ℕ, ◌+◌, ◌-◌, ◌<◌, ◌≤◌, List, [], ◌∷◌, ◌++◌, length, length-append, refl, sym, ap, subst, append_assoc, Ok, Err, arith, take, drop, get_or, take_all, codes, map, inl, inr, OnOk, ◌↔◌}
+use Rattle.std.proofs.Common.{zero, suc, ◌≡◌, ◌∙◌, ℕ, ◌+◌, ◌-◌, ◌<◌, ◌≤◌, List, [], ◌∷◌, ◌++◌, length, length-append, refl, sym, ap, subst, append_assoc, Ok, Err, arith, take, drop, get_or, take_all, codes, map, inl, inr, OnOk, ◌↔◌}
 use Rattle.std.proofs.lemmas.List.{append-nil}
 use Rattle.std.specs.declared.option.Option.{Option}
 use Rattle.std.specs.declared.result.Result.{Result}
@@ -21,8 +21,9 @@ use Rattle.tsb_command_text.specs.Readings.{reading}
 use Rattle.tsb_lines.specs.Lines.{HasNoFeed, kept, without_return}
 use Rattle.tsb_lines.specs.Writes.{AppendsFront}
 use Rattle.tsb_lines.specs.declared.writes.WriteError.{WriteError}
+use Rattle.tsb_lines.proofs.KeptLemmas.{feedless-kept}
 use Rattle.tsb_lines.proofs.LineLemmas.{lines-alone, lines-joined}
-use Rattle.tsb_lines.proofs.StreamLemmas.{appends-kept, appends-more, appends-nothing, consumes-kept, consumes-more, consumes-nothing, front-more, front-rest}
+use Rattle.tsb_lines.proofs.StreamLemmas.{appends-more, appends-nothing, consumes-kept, consumes-more, consumes-nothing, front-more, front-rest}
 use Rattle.tsb_log_text.specs.declared.log.LogRow.{LogRow}
 use Rattle.tsb_text.specs.Answers.{Setup}
 use Rattle.tsb_text.proofs.TextLemmas.{lines-read}
@@ -30,10 +31,11 @@ use Rattle.tsb_text.specs.declared.error.SessionError.{SessionError}
 use Rattle.tsb_text.specs.declared.error.SessionError.TheVariants.{Memory, Read, TooLarge, Write}
 use Rattle.tsb_record.specs.declared.session.Flow.{Flow}
 use Rattle.tsb_record.specs.declared.session.Flow.TheVariants.{On, Over}
-use Rattle.tsb_record.specs.Ended.{Ended, EndedSo, IsTooLarge}
+use Rattle.tsb_record.specs.Ended.{Begins, Carries, Ended, EndedSo, IsBegun, IsOfReading, IsTooLarge, TellsWhole}
 use Rattle.tsb_record.proofs.AlongLemmas.{told-same}
+use Rattle.tsb_record.proofs.BegunLemmas.{begins-bad, begins-do, begun-more, carries-begun, pieces-told}
 use Rattle.tsb_record.specs.Leaves.{Come, Comes, Ends, Leaves, fault_line, readings, refusal_text}
-use Rattle.tsb_record.specs.Recording.{Carries, ComesLine, Done, Finished, Going, Grows, Obeyed, Ran, Stands, Went, Wrote, as_record, flow_after}
+use Rattle.tsb_record.specs.Recording.{BeginsLine, ComesLine, Done, Finished, Going, Obeyed, Ran, Stands, Went, Wrote, as_record, flow_after}
 use Rattle.tsb_record.specs.Told.{Telling, nothing_told}
 
 -- ## What was told
@@ -41,43 +43,13 @@ use Rattle.tsb_record.specs.Told.{Telling, nothing_told}
 pub wrote-nothing : (a : Option (List ℕ)) (P : List ℕ → Type 0) → P [] → Wrote a a P
 wrote-nothing a P so = record { text = []; grown = appends-nothing a; so = so }
 
-pub grown-more : (a b c : Option (List ℕ)) (P : List ℕ → Type 0) → Wrote a b P → Grows b c → Grows a c
-grown-more a b c P w g = record { text = w.text ++ g.text; grown = appends-more a b c w.text g.text w.grown g.grown; so = tt }
-
--- the first bytes of a text went out
-pub front-grows : (a b : Option (List ℕ)) (text : List ℕ) → AppendsFront a b text → Grows a b
-front-grows a b text f = record { text = f.0; grown = f.2; so = tt }
-
-pub whole-grows : (a b : Option (List ℕ)) (text : List ℕ) → Appends a b text → Grows a b
-whole-grows a b text h = record { text = text; grown = h; so = tt }
-
 -- ## A line of faults
 
-on-ok : (r : Result (Unit {0}) WriteError) (P : Type 0) → P → OnOk r P
-on-ok (Ok u) P p = p
-on-ok (Err e) P p = tt
-
--- it goes out in pieces
-pieces-told : (a b c d e f g : Option (List ℕ)) (digits words : List ℕ) → Appends a b (codes "command ") → Appends b c digits → Appends c d (codes ": ") → Appends d e words → Appends e f (10 ∷ []) → Keeps f g
-    → Appends a g (codes "command " ++ (digits ++ (codes ": " ++ (words ++ 10 ∷ []))))
-pieces-told a b c d e f g digits words one two three four five kept =
-    appends-more a b g (codes "command ") (digits ++ (codes ": " ++ (words ++ 10 ∷ []))) one
-    (appends-more b c g digits (codes ": " ++ (words ++ 10 ∷ [])) two
-    (appends-more c d g (codes ": ") (words ++ 10 ∷ []) three (appends-more d e g words (10 ∷ []) four (appends-kept e f g (10 ∷ []) five kept))))
-
-pub line-told : (r : Result (Unit {0}) WriteError) (a b c d e f g : Option (List ℕ)) (number : ℕ) (digits words : List ℕ) → digits ≡ decimal number
-    → Appends a b (codes "command ") → Appends b c digits → Appends c d (codes ": ") → Appends d e words → Appends e f (10 ∷ []) → Keeps f g → OnOk r (Appends a g (fault_line number words))
-line-told r a b c d e f g number digits words is one two three four five kept =
-    on-ok r (Appends a g (fault_line number words))
-    (subst (λ (v : List ℕ). Appends a g (codes "command " ++ (v ++ (codes ": " ++ (words ++ 10 ∷ []))))) is (pieces-told a b c d e f g digits words one two three four five kept))
-
-pub line-grows : (a b c d e f g : Option (List ℕ)) (digits words : List ℕ) → Appends a b (codes "command ") → Appends b c digits → Appends c d (codes ": ") → Appends d e words → Appends e f (10 ∷ []) → Keeps f g → Grows a g
-line-grows a b c d e f g digits words one two three four five kept =
-    whole-grows a g (codes "command " ++ (digits ++ (codes ": " ++ (words ++ 10 ∷ [])))) (pieces-told a b c d e f g digits words one two three four five kept)
-
--- a piece more, of which the first bytes went out
-pub piece-grows : (a b c : Option (List ℕ)) (x y : List ℕ) → Appends a b x → AppendsFront b c y → Grows a c
-piece-grows a b c x y one front = record { text = x ++ front.0; grown = appends-more a b c x front.0 one front.2; so = tt }
+pub line-told : (r : Result (Unit {0}) WriteError) (a b c d e f : Option (List ℕ)) (number : ℕ) (digits words : List ℕ) → digits ≡ decimal number → Appends a b (codes "command ") → Appends b c digits → Appends c d (codes ": ") → Appends d e words
+    → OnOk r (Appends e f (10 ∷ [])) → OnOk r (Appends a f (fault_line number words))
+line-told (Ok u) a b c d e f number digits words is one two three four five =
+    subst (λ (v : List ℕ). Appends a f (codes "command " ++ (v ++ (codes ": " ++ (words ++ 10 ∷ []))))) is (pieces-told a b c d e f digits words one two three four five)
+line-told (Err e) a b c d f h number digits words is one two three four five = tt
 
 -- ## A line
 
@@ -103,6 +75,14 @@ obeyed-bad given log number is bench told r words a b e tells stands grown = (
   },
 )
 
+pub obeyed-bad_fault : (given : Setup) (log : List LogRow) (number : ℕ) (is : List Input) (bench : Whole) (told : Telling) (r : Reading) (words : List ℕ) (a b : Option (List ℕ)) (e : WriteError) → r ≡ Bad → words ≡ codes "bad command"
+    → AppendsFront a b (fault_line number words) → Obeyed (Err e) given number is r log bench told a b
+obeyed-bad_fault given log number is bench told r words a b e same tells f = record {
+  text = f.0;
+  grown = f.2;
+  so = subst (λ (x : Reading). BeginsLine given number is x f.0) (sym same) (begins-bad given number is f.0 f.1 (ap (λ (v : List ℕ). fault_line number v) (sym tells) ∙ f.3));
+}
+
 carried-out : (given : Setup) (log : List LogRow) (number : ℕ) (is : List Input) (bench : Whole) (told : Telling) (c : Command) (refusal : Option Refusal) (a b : Option (List ℕ))
     → Done refusal given log bench told (Leaves given is c) → Appends a b (refusal_text number refusal) → Obeyed (Ok (flow_after c)) given number is (Do c) log bench told a b
 carried-out given log number is bench told Quit refusal a b done grown =
@@ -115,6 +95,14 @@ pub obeyed-do : (given : Setup) (log : List LogRow) (number : ℕ) (is : List In
 obeyed-do given log number is bench told r c flow refusal a b e after done grown =
     subst (λ (x : Reading). Obeyed (Ok flow) given number is x log bench told a b) (sym e)
     (subst (λ (f : Flow). Obeyed (Ok f) given number is (Do c) log bench told a b) (sym after) (carried-out given log number is bench told c refusal a b done grown))
+
+pub obeyed-do_fault : (given : Setup) (log : List LogRow) (number : ℕ) (is : List Input) (bench : Whole) (told : Telling) (r : Reading) (c : Command) (refusal : Option Refusal) (a b : Option (List ℕ)) (e : WriteError) → r ≡ Do c
+    → Done refusal given log bench told (Leaves given is c) → AppendsFront a b (refusal_text number refusal) → Obeyed (Err e) given number is r log bench told a b
+obeyed-do_fault given log number is bench told r c refusal a b e same done f = record {
+  text = f.0;
+  grown = f.2;
+  so = subst (λ (x : Reading). BeginsLine given number is x f.0) (sym same) (begins-do given number is c refusal done.0 f.0 f.1 done.2 f.3);
+}
 
 -- ## A byte
 
@@ -141,7 +129,11 @@ went-line r given log number next is bench told asked h line held a b f reads li
       record { text = o.2.text; grown = o.2.grown; so = record { on = λ left more text t. goes left (o.2.text ++ text) more (o.2.so left (readings more) text (here left o.0 more text t)) } },
     )
     at (Ok Over) o = (o.0, o.1, record { text = o.2.text; grown = o.2.grown; so = record { all = λ more. goes o.0 o.2.text more (o.2.so (readings more)) } })
-    at (Err e) o = o
+    at (Err e) o = record {
+      text = o.text;
+      grown = o.grown;
+      so = record { rest = λ more. ((o.so (readings more)).0, (o.so (readings more)).1, goes (o.so (readings more)).0 (o.text ++ (o.so (readings more)).1) more (o.so (readings more)).2) };
+    }
 
 pub went-kept : (given : Setup) (log : List LogRow) (number : ℕ) (is : List Input) (bench : Whole) (told : Telling) (line held : List ℕ) (a : Option (List ℕ)) → HasNoFeed line → held ≡ kept 202 line → Stands given log bench told is
     → Went (Ok On) given number is line log bench told number held a a
@@ -185,7 +177,18 @@ joined (Ok Over) given log number next last is bytes now h piece bench told held
     };
   },
 )
-joined (Err e) given log number next last is bytes now h piece bench told held a b c k went = grown-more a b c (Carries given number is bytes next now h) k went
+joined (Err e) given log number next last is bytes now h piece bench told held a b c k went = record {
+  text = k.text ++ went.text;
+  grown = appends-more a b c k.text went.text k.grown went.grown;
+  so = record {
+    rest = λ more. let rest : (left : List Input) × (rest : List ℕ) × Come given left next now (readings ((h ++ piece) ++ more)) (went.text ++ rest) = went.so.rest more in (
+      rest.0,
+      rest.1,
+      rw (append_assoc bytes piece more, append_assoc k.text went.text rest.1)
+          (k.so.on rest.0 (piece ++ more) (went.text ++ rest.1) (subst (λ (v : List ℕ). Come given rest.0 next now (readings v) (went.text ++ rest.1)) (append_assoc h piece more) rest.2)),
+    );
+  };
+}
 
 -- what the first of these bytes brought
 pub record Talking (given : Setup) (log : List LogRow) (number : ℕ) (is : List Input) (bytes : List ℕ) (bench : Whole) (told : Telling) (next : ℕ) (held : List ℕ) (a b : Option (List ℕ)) : Type 0 where
@@ -231,10 +234,18 @@ talking-over given log number is h bytes i x old new told tells next last held k
       },
     )
 
-pub talking-fault : (given : Setup) (log : List LogRow) (number : ℕ) (is : List Input) (h : List ℕ) (old new : Whole) (told tells : Telling) (next last : ℕ) (held kept bytes : List ℕ) (e : WriteError) (a b c : Option (List ℕ)) (all : List ℕ)
-    → Talking given log number is h old told next held a b
-    → ((given : Setup) (is : List Input) → Stands given log old told is → Went (Err e) given next is bytes log new tells last kept b c) → Went (Err e) given number is all log new tells last kept a c
-talking-fault given log number is h old new told tells next last held kept bytes e a b c all t went = grown-more a b c (Carries given number is h next t.now held) t.wrote (went given t.now t.stands)
+pub talking-fault : (given : Setup) (log : List LogRow) (number : ℕ) (is : List Input) (h bytes : List ℕ) (i x : ℕ) (old new : Whole) (told tells : Telling) (next last : ℕ) (held kept : List ℕ) (e : WriteError) (a b c : Option (List ℕ))
+    → i < length bytes → x ≡ get_or bytes i 0 → Talking given log number is (h ++ take i bytes) old told next held a b
+    → ((given : Setup) (is : List Input) → Stands given log old told is → Went (Err e) given next is (held ++ x ∷ []) log new tells last kept b c)
+    → Went (Err e) given number is (h ++ bytes) log new tells last kept a c
+talking-fault given log number is h bytes i x old new told tells next last held kept e a b c lt same t went =
+    let all : Went (Err e) given number is ((h ++ take i bytes) ++ x ∷ []) log new tells last kept a c =
+    joined (Err e) given log number next last is (h ++ take i bytes) t.now held (x ∷ []) new tells kept a b c t.wrote (went given t.now t.stands) in
+    record {
+      text = all.text;
+      grown = all.grown;
+      so = subst (λ (v : List ℕ). IsBegun given number is v all.text) (front-rest h bytes i x lt same) (begun-more given number is ((h ++ take i bytes) ++ x ∷ []) (drop (i + 1) bytes) all.text all.so);
+    }
 
 pub talking-end : (given : Setup) (log : List LogRow) (number : ℕ) (is : List Input) (h bytes : List ℕ) (i : ℕ) (bench : Whole) (told : Telling) (next : ℕ) (held : List ℕ) (a b : Option (List ℕ)) → length bytes ≤ i
     → Talking given log number is (h ++ take i bytes) bench told next held a b → Went (Ok On) given number is (h ++ bytes) log bench told next held a b
@@ -263,6 +274,26 @@ finished flow given log number is bench told asked h line a b f reads lines o =
       },
     )
     at Over o = (o.0, o.1, record { text = o.2.text; grown = o.2.grown; so = subst (λ (rs : List Reading). Come given o.0 number is rs o.2.text) (sym alone) (o.2.so []) })
+
+pub finished-fault : (given : Setup) (log : List LogRow) (number : ℕ) (is : List Input) (bench : Whole) (told : Telling) (asked : Reading) (h line : List ℕ) (a b : Option (List ℕ)) (e : WriteError) → HasNoFeed h → asked ≡ reading line → line ≡ h
+    → Obeyed (Err e) given number is asked log bench told a b → Finished (Err e) given number is h log bench told a b
+finished-fault given log number is bench told asked h line a b e f reads lines o = record {
+  text = o.text;
+  grown = o.grown;
+  so =
+      let one : (left : List Input) × (rest : List ℕ) × Comes given number asked is (o.text ++ rest) (Ends left) (λ new text. Come given left (suc number) new [] text) = o.so [] in
+      let read : Comes given number (reading h) is (o.text ++ one.1) (Ends one.0) (λ new text. Come given one.0 (suc number) new [] text) =
+      subst (λ (x : Reading). Comes given number x is (o.text ++ one.1) (Ends one.0) (λ new text. Come given one.0 (suc number) new [] text)) (reads ∙ ap reading lines) one.2 in
+      (one.0, one.1, subst (λ (rs : List Reading). Come given one.0 number is rs (o.text ++ one.1)) (sym (ap (λ (ls : List (List ℕ)). map reading ls) (lines-alone h f))) read);
+}
+
+-- ## What is held
+
+pub none-unfinished : (held : List ℕ) → held ≡ [] → HasNoFeed held
+none-unfinished held empty = subst HasNoFeed (sym empty) tt
+
+pub kept-unfinished : (line held : List ℕ) → HasNoFeed line → held ≡ kept 202 line → HasNoFeed held
+kept-unfinished line held f same = subst HasNoFeed (sym same) (feedless-kept 202 line f)
 
 -- ## All bytes
 
@@ -295,32 +326,45 @@ going-more given log old new told tells number next held kept budget i l l2 o n 
     }
 
 -- a read failed
-pub ran-read : (given : Setup) (log : List LogRow) (bench : Whole) (told : Telling) (number : ℕ) (held : List ℕ) (budget : ℕ) (i l l2 o n : Option (List ℕ)) → Going given log bench told number held budget i l o n → Keeps l l2
+pub ran-read : (given : Setup) (log : List LogRow) (bench : Whole) (told : Telling) (number : ℕ) (held : List ℕ) (budget : ℕ) (i l l2 o n : Option (List ℕ)) → Going given log bench told number held budget i l o n → HasNoFeed held → Keeps l l2
     → Ran (Err Read) given log bench told i l2 o n
-ran-read given log bench told number held budget i l l2 o n g k = record {
+ran-read given log bench told number held budget i l l2 o n g clean k = record {
   read = g.read;
   taken = consumes-kept i l l2 g.read g.taken k;
-  wrote = record { text = g.wrote.text; grown = g.wrote.grown; so = tt };
+  wrote = record { text = g.wrote.text; grown = g.wrote.grown; so = inr (carries-begun given 1 [] g.read number g.now held g.wrote.text g.wrote.so) };
   sound = λ e. cc;
   large = (λ h. absurd h, λ h. absurd (let f : length g.read + budget ≡ 16777216 = g.fits in omega (arith, h, f)));
   most = let f : length g.read + budget ≡ 16777216 = g.fits in omega (arith, f);
+  whole =
+      let f : length g.read + budget ≡ 16777216 = g.fits in
+      let all : take 16777216 g.read ≡ g.read = take_all 16777216 g.read (omega (arith, f)) in
+      λ r. subst (λ (v : List ℕ). TellsWhole given v g.wrote.text) (sym all) (record { next = number; now = g.now; held = held; unfinished = clean; carries = g.wrote.so });
 }
+
+take-front : (n : ℕ) (xs ys : List ℕ) → length xs ≡ n → take n (xs ++ ys) ≡ xs
+take-front zero [] ys e = refl
+take-front zero (x ∷ xs) ys e = absurd (omega (arith, e))
+take-front (suc n) [] ys e = absurd (omega (arith, e))
+take-front (suc n) (x ∷ xs) ys e = ap (λ (v : List ℕ). x ∷ v) (take-front n xs ys (omega (arith, e)))
 
 -- a byte stands after those that may be read
 pub ran-large : (given : Setup) (log : List LogRow) (bench : Whole) (told : Telling) (number : ℕ) (held : List ℕ) (budget : ℕ) (i l l2 o n : Option (List ℕ)) (count most : ℕ) (piece : List ℕ)
-    → Going given log bench told number held budget i l o n → Consumes l l2 piece → budget < count → count ≡ length piece → count ≤ most → (budget < most → most ≤ 1)
+    → Going given log bench told number held budget i l o n → HasNoFeed held → Consumes l l2 piece → budget < count → count ≡ length piece → count ≤ most → (budget < most → most ≤ 1)
     → Ran (Err TooLarge) given log bench told i l2 o n
-ran-large given log bench told number held budget i l l2 o n count most piece g k over long room one =
+ran-large given log bench told number held budget i l l2 o n count most piece g clean k over long room one =
     let f : length g.read + budget ≡ 16777216 = g.fits in
     let all : length (g.read ++ piece) ≡ length g.read + length piece = length-append g.read piece in
     let single : most ≤ 1 = one (omega (arith, over, room)) in
+    let full : length g.read ≡ 16777216 = omega (arith, f, over, room, single) in
+    let first : take 16777216 (g.read ++ piece) ≡ g.read = take-front 16777216 g.read piece full in
     record {
       read = g.read ++ piece;
       taken = consumes-more i l l2 g.read piece g.taken k;
-      wrote = record { text = g.wrote.text; grown = g.wrote.grown; so = tt };
+      wrote = record { text = g.wrote.text; grown = g.wrote.grown; so = inr (begun-more given 1 [] g.read piece g.wrote.text (carries-begun given 1 [] g.read number g.now held g.wrote.text g.wrote.so)) };
       sound = λ e. cc;
       large = (λ h. omega (arith, f, all, over, long), λ h. tt);
       most = omega (arith, f, all, over, long, room, single);
+      whole = λ r. subst (λ (v : List ℕ). TellsWhole given v g.wrote.text) (sym first) (record { next = number; now = g.now; held = held; unfinished = clean; carries = g.wrote.so });
     }
 
 -- the end of what is read
@@ -350,17 +394,29 @@ ran-end r given log old new told tells number held budget i l l2 o n n2 count bu
       sound = λ e. cc;
       large = (λ h. absurd h, λ h. absurd (omega (arith, h, f, all)));
       most = omega (arith, f, all);
+      whole = λ r. absurd r;
     }
-    at (Err e) w =
-        let grows : Grows o n2 = grown-more o n n2 (Carries given 1 [] g.read number g.now held) g.wrote w in
-        record {
-          read = g.read ++ [];
-          taken = taken;
-          wrote = record { text = grows.text; grown = grows.grown; so = tt };
-          sound = λ e. cc;
-          large = (λ h. absurd h, λ h. absurd (omega (arith, h, f, all)));
-          most = omega (arith, f, all);
-        }
+    at (Err e) w = record {
+      read = g.read ++ [];
+      taken = taken;
+      wrote = record {
+        text = g.wrote.text ++ w.text;
+        grown = appends-more o n n2 g.wrote.text w.text g.wrote.grown w.grown;
+        so = inl (
+          end,
+          (
+            w.so.0,
+            w.so.1,
+            subst (λ (v : List ℕ). Come given w.so.0 1 [] (readings (g.read ++ [])) v) (sym (append_assoc g.wrote.text w.text w.so.1))
+                (g.wrote.so.on w.so.0 [] (w.text ++ w.so.1) (subst (λ (v : List ℕ). Come given w.so.0 number g.now (readings v) (w.text ++ w.so.1)) (sym (append-nil held)) w.so.2)),
+          ),
+        );
+      };
+      sound = λ e. cc;
+      large = (λ h. absurd h, λ h. absurd (omega (arith, h, f, all)));
+      most = omega (arith, f, all);
+      whole = λ r. absurd r;
+    }
 
 -- a line ended it
 pub ran-over : (given : Setup) (log : List LogRow) (old new : Whole) (told tells : Telling) (number next : ℕ) (held kept : List ℕ) (budget : ℕ) (i l l2 o n n2 : Option (List ℕ)) (f : Flow) (count : ℕ) (piece : List ℕ)
@@ -379,6 +435,7 @@ ran-over given log old new told tells number next held kept budget i l l2 o n n2
       sound = λ e. cc;
       large = (λ h. absurd h, λ h. absurd (omega (arith, h, f, all, long, fits)));
       most = omega (arith, f, all, long, fits);
+      whole = λ r. absurd r;
     }
 
 -- a line of faults was not written
@@ -387,16 +444,17 @@ pub ran-fault : (e : WriteError) (given : Setup) (log : List LogRow) (old new : 
     → ((given : Setup) (is : List Input) → Stands given log old told is → Went (Err e) given number is (held ++ piece) log new tells next kept n n2)
     → Ran (Err Write) given log new tells i l2 o n2
 ran-fault e given log old new told tells number next held kept budget i l l2 o n n2 count piece g k long fits went =
-    let grows : Grows o n2 = grown-more o n n2 (Carries given 1 [] g.read number g.now held) g.wrote (went given g.now g.stands) in
+    let w : Wrote o n2 (IsBegun given 1 [] (g.read ++ piece)) = joined (Err e) given log 1 number next [] g.read g.now held piece new tells kept o n n2 g.wrote (went given g.now g.stands) in
     let f : length g.read + budget ≡ 16777216 = g.fits in
     let all : length (g.read ++ piece) ≡ length g.read + length piece = length-append g.read piece in
     record {
       read = g.read ++ piece;
       taken = consumes-more i l l2 g.read piece g.taken k;
-      wrote = record { text = grows.text; grown = grows.grown; so = tt };
+      wrote = record { text = w.text; grown = w.grown; so = inr w.so };
       sound = λ x. cc;
       large = (λ h. absurd h, λ h. absurd (omega (arith, h, f, all, long, fits)));
       most = omega (arith, f, all, long, fits);
+      whole = λ r. absurd r;
     }
 
 -- ## The record
@@ -412,15 +470,16 @@ recorded given log bench told i l o n events r same = record {
   so = (r.wrote.so.0, r.wrote.so.2, same ∙ ap (λ (t : Telling). t.events) r.wrote.so.1.tells ∙ told-same given.plan r.wrote.so.0);
   large = r.large;
   most = r.most;
+  whole = λ f. absurd f;
 }
 
 -- a run that ended by it
 abbrev fault_of : SessionError → Result (Unit {0}) SessionError
 fault_of e = Err e
 
-fault-so : (e : SessionError) (given : Setup) (left : Option (List ℕ)) (read said : List ℕ) → (fault_of e ≡ Err Memory → ⊥) → EndedSo (Err e) given left read said
-fault-so Memory given left read said sound = absurd (sound refl)
-fault-so e given left read said sound = tt
+fault-so : (e : SessionError) (given : Setup) (left : Option (List ℕ)) (read said : List ℕ) → (fault_of e ≡ Err Memory → ⊥) → Begins given left read said → EndedSo (Err e) given left read said
+fault-so Memory given left read said sound begun = absurd (sound refl)
+fault-so e given left read said sound begun = begun
 
 large-there : (e : SessionError) (read : List ℕ) → (IsTooLarge {T = Unit {0}} (Err e) ↔ (16777216 < length read)) → IsTooLarge {T = List Event} (Err e) ↔ (16777216 < length read)
 large-there TooLarge read large = large
@@ -428,15 +487,22 @@ large-there Memory read large = large
 large-there Read read large = large
 large-there Write read large = large
 
+of-reading-there : (e : SessionError) → IsOfReading {T = List Event} (Err e) → IsOfReading {T = Unit {0}} (Err e)
+of-reading-there TooLarge r = r
+of-reading-there Memory r = absurd r
+of-reading-there Read r = r
+of-reading-there Write r = absurd r
+
 pub not-recorded : (given : Setup) (log : List LogRow) (bench : Whole) (told : Telling) (i l o n : Option (List ℕ)) (e : SessionError) → Ran (Err e) given log bench told i l o n → Ended (Err e) given i l o n
 not-recorded given log bench told i l o n e r = record {
   read = r.read;
   taken = r.taken;
   told = r.wrote.text;
   grown = r.wrote.grown;
-  so = fault-so e given l r.read r.wrote.text r.sound;
+  so = fault-so e given l r.read r.wrote.text r.sound r.wrote.so;
   large = large-there e r.read r.large;
   most = r.most;
+  whole = λ f. r.whole (of-reading-there e f);
 }
 
 -- nothing was read, where there was no memory to begin with
@@ -449,6 +515,7 @@ none-recorded given i o = record {
   so = (refl, refl);
   large = (λ h. absurd h, λ h. absurd (omega (arith, h)));
   most = omega arith;
+  whole = λ f. absurd f;
 }
 
 -- at power-up no input has come, and none has told anything

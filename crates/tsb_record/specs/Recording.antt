@@ -1,5 +1,5 @@
 -- How far a record has come with the bytes that were read: what its own calls tell one another.
-use Rattle.std.specs.Prelude.{◌≡◌, ◌↔◌, ◌<◌, ◌≤◌, ◌+◌, ◌==◌, ℕ, suc, List, [], ◌∷◌, ◌++◌, length, Option, Result, Ok, Err, if◌then◌else◌}
+use Rattle.std.specs.Prelude.{◌≡◌, ◌↔◌, ◌<◌, ◌≤◌, ◌+◌, ◌==◌, ℕ, suc, List, [], ◌∷◌, ◌++◌, length, take, true, false, Option, Result, Ok, Err, if◌then◌else◌}
 use Rattle.std.specs.Io.KnownBytes.{Appends, Consumes}
 use Rattle.tsb_types.specs.Sets.{all_off}
 use Rattle.tsb_types.specs.declared.refusal.Refusal.{Refusal}
@@ -21,11 +21,12 @@ use Rattle.tsb_text.specs.Answers.{Setup}
 use Rattle.tsb_record.specs.Along.{telling}
 use Rattle.tsb_record.specs.Leaves.{Come, Comes, Ends, readings}
 use Rattle.tsb_record.specs.Told.{Telling}
-use Rattle.tsb_record.specs.Ended.{IsTooLarge, Remain}
+use Rattle.tsb_record.specs.Ended.{Begins, BeginsLast, Carries, IsBegun, IsOfReading, IsTooLarge, Remain, TellsWhole}
 use Rattle.tsb_text.specs.declared.error.SessionError.{SessionError}
-use Rattle.tsb_text.specs.declared.error.SessionError.TheVariants.{Memory, Write}
+use Rattle.tsb_text.specs.declared.error.SessionError.TheVariants.{Memory, Read, Write}
 use Rattle.tsb_record.specs.declared.session.Flow.{Flow}
 use Rattle.tsb_record.specs.declared.session.Flow.TheVariants.{On, Over}
+use Rattle.tsb_record.specs.declared.watch.Watch.{Watch}
 
 -- ## A bench, with what was told
 
@@ -75,10 +76,6 @@ pub record Wrote (old new : Option (List ℕ)) (P : List ℕ → Type 0) : Type 
   pub grown : Appends old new text
   pub so : P text
 
--- it has taken some text
-abbrev pub Grows : Option (List ℕ) → Option (List ℕ) → Type 0
-Grows old new = Wrote old new (λ text. Unit {0})
-
 -- whether a session goes on after a command
 abbrev pub flow_after : Command → Flow
 flow_after Quit = Over
@@ -94,21 +91,21 @@ abbrev pub ComesLast : Setup → ℕ → List Input → Reading → List Input �
 ComesLast given number is asked now said = (lines : List Reading)
     → Comes given number asked is said (Ends now) (λ new text. Come given now (suc number) new lines text)
 
--- a line was obeyed: the session goes on, or the line ends it, or a fault came
+-- this begins what line `number` and those after it come to, whatever lines come after it
+abbrev pub BeginsLine : Setup → ℕ → List Input → Reading → List ℕ → Type 0
+BeginsLine given number is asked said = (lines : List Reading) → (left : List Input) × (rest : List ℕ)
+    × Comes given number asked is (said ++ rest) (Ends left) (λ new text. Come given left (suc number) new lines text)
+
+-- a line was obeyed: the session goes on, or the line ends it, or a fault came within
 abbrev pub Obeyed : Result Flow WriteError → Setup → ℕ → List Input → Reading → List LogRow → Whole → Telling
     → Option (List ℕ) → Option (List ℕ) → Type 0
 Obeyed (Ok On) given number is asked log bench told old new = (now : List Input)
     × Stands given log bench told now × Wrote old new (ComesLine given number is asked now)
 Obeyed (Ok Over) given number is asked log bench told old new = (now : List Input)
     × Stands given log bench told now × Wrote old new (ComesLast given number is asked now)
-Obeyed (Err e) given number is asked log bench told old new = Grows old new
+Obeyed (Err e) given number is asked log bench told old new = Wrote old new (BeginsLine given number is asked)
 
 -- ## Bytes
-
--- what these bytes and any more come to is this, and then what those held and the more come to
-pub record Carries (given : Setup) (number : ℕ) (is : List Input) (bytes : List ℕ) (next : ℕ) (now : List Input) (held said : List ℕ) : Type 0 where
-  pub on : (left : List Input) (more text : List ℕ) → Come given left next now (readings (held ++ more)) text
-      → Come given left number is (readings (bytes ++ more)) (said ++ text)
 
 -- these bytes come to this, whatever comes after them
 pub record IsWhole (given : Setup) (number : ℕ) (is : List Input) (bytes : List ℕ) (left : List Input) (said : List ℕ) : Type 0 where
@@ -121,14 +118,14 @@ Went (Ok On) given number is bytes log bench told next held old new = (now : Lis
     × Stands given log bench told now × Wrote old new (Carries given number is bytes next now held)
 Went (Ok Over) given number is bytes log bench told next held old new = (now : List Input)
     × Stands given log bench told now × Wrote old new (IsWhole given number is bytes now)
-Went (Err e) given number is bytes log bench told next held old new = Grows old new
+Went (Err e) given number is bytes log bench told next held old new = Wrote old new (IsBegun given number is bytes)
 
 -- at the end of the input the bytes held are the last line
 abbrev pub Finished : Result (Unit {0}) WriteError → Setup → ℕ → List Input → List ℕ → List LogRow → Whole → Telling
     → Option (List ℕ) → Option (List ℕ) → Type 0
 Finished (Ok u) given number is held log bench told old new = (left : List Input)
     × Stands given log bench told left × Wrote old new (Come given left number is (readings held))
-Finished (Err e) given number is held log bench told old new = Grows old new
+Finished (Err e) given number is held log bench told old new = Wrote old new (BeginsLast given number is held)
 
 -- the bytes that were read so far, of which this many more may come, and what was told for them
 pub record Going (given : Setup) (log : List LogRow) (bench : Whole) (told : Telling) (number : ℕ) (held : List ℕ) (budget : ℕ) (input left old new : Option (List ℕ)) : Type 0 where
@@ -146,10 +143,10 @@ abbrev pub as_record : Result (Unit {0}) WriteError → Result (Unit {0}) Sessio
 as_record (Ok u) = Ok u
 as_record (Err e) = Err Write
 
--- all commands were carried out, or a fault came
+-- all commands were carried out, or a fault came, which left a prefix of what is to be told
 abbrev pub RanSo : Result (Unit {0}) SessionError → Setup → List LogRow → Whole → Telling → Option (List ℕ) → List ℕ → List ℕ → Type 0
 RanSo (Ok u) given log bench told left read said = (is : List Input) × Stands given log bench told is × Remain given left read is said
-RanSo (Err e) given log bench told left read said = Unit {0}
+RanSo (Err e) given log bench told left read said = Begins given left read said
 
 -- the bytes that were read, and those that were told
 pub record Ran (result : Result (Unit {0}) SessionError) (given : Setup) (log : List LogRow) (bench : Whole) (told : Telling) (input left old new : Option (List ℕ)) : Type 0 where
@@ -159,3 +156,26 @@ pub record Ran (result : Result (Unit {0}) SessionError) (given : Setup) (log : 
   pub sound : result ≡ Err Memory → ⊥
   pub large : IsTooLarge result ↔ (16777216 < length read)
   pub most : length read ≤ 16777217
+  pub whole : IsOfReading result → TellsWhole given (take 16777216 read) wrote.text
+
+-- ## Devices
+
+-- no read and no write has failed, and all that was written was flushed
+abbrev pub IsFine : Watch → Type 0
+IsFine watch = (watch.read_failed ≡ false) × (watch.write_failed ≡ false) × (watch.flushed ≡ true)
+
+-- after calls that tell: all went well, or a write failed
+abbrev pub AfterTold : {T : Type 0} → Result T WriteError → Watch → Type 0
+AfterTold (Ok t) watch = IsFine watch
+AfterTold (Err e) watch = (watch.read_failed ≡ false) × (watch.write_failed ≡ true)
+
+-- after a read: it went well, or failed
+abbrev pub AfterRead : {T E : Type 0} → Result T E → Watch → Type 0
+AfterRead (Ok t) watch = IsFine watch
+AfterRead (Err e) watch = (watch.read_failed ≡ true) × (watch.write_failed ≡ false)
+
+-- at the end a fault of a device is answered exactly where a call of that device failed
+abbrev pub AfterRun : Result (Unit {0}) SessionError → Watch → Type 0
+AfterRun (Err Read) watch = (watch.read_failed ≡ true) × (watch.write_failed ≡ false)
+AfterRun (Err Write) watch = (watch.read_failed ≡ false) × (watch.write_failed ≡ true)
+AfterRun result watch = IsFine watch

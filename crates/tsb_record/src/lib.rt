@@ -5,6 +5,7 @@ pub mod laws;
 mod recorder;
 mod session;
 mod told;
+mod watch;
 
 pub use session::record;
 pub use told::{Mark, Told};

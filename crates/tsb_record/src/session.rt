@@ -1,22 +1,25 @@
 //! The commands of a record: they are read and carried out, and what is refused is told.
-ghost use Rattle.std.specs.Prelude.{◌≡◌, ◌+◌, ◌<◌, ◌≤◌, ◌∷◌, ◌++◌, [], ℕ, List, length, IfOk, OnOk};
+ghost use Rattle.std.specs.Prelude.{◌≡◌, ◌+◌, ◌<◌, ◌≤◌, ◌∷◌, ◌++◌, [], List, length, OnErr, OnOk, true};
 ghost use Rattle.std.specs.Io.{ReadsAtMost};
 ghost use Rattle.std.specs.Io.KnownBytes.{Appends, ReadConsumes};
 ghost use Rattle.tsb_objects.specs.Checked.{checked_plan};
 ghost use Rattle.tsb_bench.specs.Held.{whole};
+ghost use Rattle.tsb_lines.specs.Lines.{HasNoFeed};
+ghost use Rattle.tsb_lines.specs.Writes.{AppendsFront};
 ghost use Rattle.tsb_step.specs.declared.inputs.Input.{Input};
 ghost use Rattle.tsb_text.specs.Answers.{Setup};
 ghost use Rattle.tsb_record.specs.Ended.{Ended, events_in};
 ghost use Rattle.tsb_record.specs.Leaves.{refusal_text, fault_line};
-ghost use Rattle.tsb_record.specs.Recording.{Finished, Grows, Obeyed, Ran, Stands, Went, as_record, flow_after};
+ghost use Rattle.tsb_record.specs.Recording.{AfterRead, AfterRun, AfterTold, Finished, IsFine, Obeyed, Ran, Stands, Went, as_record, flow_after};
 
 use crate::recorder::Recorder;
+use crate::watch::Watch;
 use itoa::Buffer;
 use std::alloc::Global;
 use std::io::{self, Read, Write};
 use tsb_bench::Bench;
 use tsb_command_text::{Command, LINE, Reading, reading_of};
-use tsb_lines::{KeptLine, WriteError, pass_on, write_text};
+use tsb_lines::{KeptLine, WriteError};
 use tsb_log_text::Log;
 use tsb_objects::Checked;
 use tsb_text::{COMMANDS, SessionError, refused_line};
@@ -35,12 +38,14 @@ pub(crate) enum Flow {
     Over,
 }
 
-/// A session between two bytes: its recorder, what is kept of the line that is not whole yet, and its number.
+/// A session between two bytes: its recorder, what is kept of the line that is not whole yet and its number, and what
+/// has become of the calls of its devices.
 #[derive(Drop)]
 struct Session {
     recorder: Recorder,
     line: KeptLine<KEPT>,
     number: u32,
+    watch: Watch,
 }
 
 impl Session {
@@ -55,17 +60,18 @@ impl Session {
         ensures obeyed { (given : Setup) (inputs : List Input) → Stands given log.now (whole self.old.recorder.bench) self.old.recorder.told inputs
             → Obeyed result given number inputs asked log.now (whole self.new.recorder.bench) self.new.recorder.told (E.contents errors.old) (E.contents errors.new) }
         ensures held { (self.new.line ≡ self.old.line) × (self.new.number ≡ self.old.number) }
+        ensures blame { IsFine self.old.watch → AfterTold result self.new.watch }
     {
         match asked {
             Reading::Skip => Ok(Flow::On),
             Reading::Bad => {
-                tell_fault(errors, number, b"bad command")?;
+                tell_fault(&mut self.watch, errors, number, b"bad command")?;
                 Ok(Flow::On)
             }
             Reading::Do(command) => {
                 let flow = flow_after(&command);
                 let refusal = self.recorder.obey(log, command);
-                tell_refusal(errors, number, refusal)?;
+                tell_refusal(&mut self.watch, errors, number, refusal)?;
                 Ok(flow)
             }
         }
@@ -77,6 +83,8 @@ impl Session {
         ensures went { (given : Setup) (inputs : List Input) → Stands given log.now (whole self.old.recorder.bench) self.old.recorder.told inputs
             → Went result given self.old.number inputs (self.old.line ++ byte ∷ []) log.now (whole self.new.recorder.bench) self.new.recorder.told self.new.number self.new.line (E.contents errors.old) (E.contents errors.new) }
         ensures number { self.new.number ≤ self.old.number + 1 }
+        ensures unfinished { HasNoFeed self.new.line }
+        ensures blame { IsFine self.old.watch → AfterTold result self.new.watch }
     {
         if byte == b'\n' {
             let asked = reading_of(self.line.ended());
@@ -100,6 +108,8 @@ impl Session {
         ensures went { (given : Setup) (inputs : List Input) → Stands given log.now (whole self.old.recorder.bench) self.old.recorder.told inputs
             → Went result given self.old.number inputs (self.old.line ++ bytes.now) log.now (whole self.new.recorder.bench) self.new.recorder.told self.new.number self.new.line (E.contents errors.old) (E.contents errors.new) }
         ensures number { self.new.number ≤ self.old.number + length bytes.now }
+        ensures unfinished { HasNoFeed self.old.line → HasNoFeed self.new.line }
+        ensures blame { IsFine self.old.watch → AfterTold result self.new.watch }
     {
         for byte in bytes {
             match self.feed(log, *byte, errors)? {
@@ -112,8 +122,9 @@ impl Session {
 
     /// Does what the line asks that no line feed ends, at the end of the input.
     fn finish<E: Write>(&mut self, log: &Log, errors: &mut E) -> Result<(), WriteError>
-        ensures { (given : Setup) (inputs : List Input) → Stands given log.now (whole self.old.recorder.bench) self.old.recorder.told inputs
+        ensures finished { (given : Setup) (inputs : List Input) → Stands given log.now (whole self.old.recorder.bench) self.old.recorder.told inputs
             → Finished result given self.old.number inputs self.old.line log.now (whole self.new.recorder.bench) self.new.recorder.told (E.contents errors.old) (E.contents errors.new) }
+        ensures blame { IsFine self.old.watch → AfterTold result self.new.watch }
     {
         let asked = reading_of(self.line.last());
         let _ = self.answer(log, self.number, asked, errors)?;
@@ -129,15 +140,17 @@ impl Session {
     ) -> Result<(), SessionError>
         requires held { self.old.line ≡ [] }
         requires first { self.old.number ≡ 1 }
-        ensures { (given : Setup) → Stands given log.now (whole self.old.recorder.bench) self.old.recorder.told []
+        requires fine { IsFine self.old.watch }
+        ensures ran { (given : Setup) → Stands given log.now (whole self.old.recorder.bench) self.old.recorder.told []
             → Ran result given log.now (whole self.new.recorder.bench) self.new.recorder.told (R.remaining reader.old) (R.remaining reader.new) (E.contents errors.old) (E.contents errors.new) }
+        ensures blame { AfterRun result self.new.watch }
     {
         let mut chunk = [0; CHUNK];
         let mut left = COMMANDS;
         loop {
             let most = left.min(CHUNK).max(1);
             let room = &mut chunk[..most];
-            let count = match read_more(reader, room) {
+            let count = match read_more(&mut self.watch, reader, room) {
                 Ok(count) => count,
                 Err(_) => return Err(SessionError::Read),
             };
@@ -169,39 +182,65 @@ fn flow_after(command: &Command) -> Flow
 
 /// Tells of a refusal by the number of its line, where there is one.
 fn tell_refusal<E: Write>(
+    watch: &mut Watch,
     errors: &mut E,
     number: u32,
     refusal: Option<Refusal>,
 ) -> Result<(), WriteError>
     ensures whole { OnOk result (Appends (E.contents errors.old) (E.contents errors.new) (refusal_text number refusal)) }
-    ensures grows { Grows (E.contents errors.old) (E.contents errors.new) }
+    ensures front { AppendsFront (E.contents errors.old) (E.contents errors.new) (refusal_text number refusal) }
+    ensures blame { IsFine watch.old → AfterTold result watch.new }
 {
     match refusal {
-        Some(refusal) => tell_fault(errors, number, refused_line(refusal)),
+        Some(refusal) => tell_fault(watch, errors, number, refused_line(refusal)),
         None => Ok(()),
     }
 }
 
-/// Tells of a line by its number, in these words.
-fn tell_fault<E: Write>(errors: &mut E, number: u32, words: &[u8]) -> Result<(), WriteError>
+/// Tells of a line by its number, in these words, and has the writer pass that on.
+fn tell_fault<E: Write>(
+    watch: &mut Watch,
+    errors: &mut E,
+    number: u32,
+    words: &[u8],
+) -> Result<(), WriteError>
     ensures whole { OnOk result (Appends (E.contents errors.old) (E.contents errors.new) (fault_line number words.now)) }
-    ensures grows { Grows (E.contents errors.old) (E.contents errors.new) }
+    ensures front { AppendsFront (E.contents errors.old) (E.contents errors.new) (fault_line number words.now) }
+    ensures blame { IsFine watch.old → AfterTold result watch.new }
 {
-    let mut digits = Buffer::new();
-    write_text(errors, b"command ")?;
-    write_text(errors, digits.format(number).as_bytes())?;
-    write_text(errors, b": ")?;
-    write_text(errors, words)?;
-    write_text(errors, b"\n")?;
-    pass_on(errors)
+    write_fault(watch, errors, number, words)?;
+    watch.flush(errors)
 }
 
-/// Reads more commands.
-fn read_more<R: Read>(reader: &mut R, room: &mut [u8]) -> io::Result<usize>
+/// Writes what is told of a line by its number, in these words.
+fn write_fault<E: Write>(
+    watch: &mut Watch,
+    errors: &mut E,
+    number: u32,
+    words: &[u8],
+) -> Result<(), WriteError>
+    ensures whole { OnOk result (Appends (E.contents errors.old) (E.contents errors.new) (fault_line number words.now)) }
+    ensures front { AppendsFront (E.contents errors.old) (E.contents errors.new) (fault_line number words.now) }
+    ensures blame { OnErr result (watch.new.write_failed ≡ true) }
+    ensures well { OnOk result (watch.new.write_failed ≡ watch.old.write_failed) }
+    ensures reads { watch.new.read_failed ≡ watch.old.read_failed }
+{
+    let mut digits = Buffer::new();
+    watch.write_text(errors, b"command ")?;
+    watch.write_text(errors, digits.format(number).as_bytes())?;
+    watch.write_text(errors, b": ")?;
+    watch.write_text(errors, words)?;
+    watch.write_text(errors, b"\n")
+}
+
+/// Reads more commands, once all that was told has gone out and was flushed.
+fn read_more<R: Read>(watch: &mut Watch, reader: &mut R, room: &mut [u8]) -> io::Result<usize>
+    requires flushed { watch.old.flushed ≡ true }
     ensures bound { ReadsAtMost result room.new }
     ensures bytes { ReadConsumes (R.remaining reader.old) (R.remaining reader.new) result room.new }
+    ensures blame { IsFine watch.old → AfterRead result watch.new }
 {
-    reader.read(room)
+    watch.read(reader, room)
 }
 
 /// What a record ends with after a line was told, or was not.
@@ -222,8 +261,9 @@ fn as_record(told: Result<(), WriteError>) -> Result<(), SessionError>
 /// NoSuchPattern` or `command 12: bad command`: the number is that of its line, from 1, and lines that are skipped count
 /// too. What a command only asks is not answered.
 ///
-/// `TooLarge` comes where there is a byte after the first 16 MiB, and `Memory` where there is none for the bench at
-/// power-up: nothing was read then. Where there is none for the events of an input it is refused with E1.
+/// A fault ends the record; what was told until then is a prefix of what is to be told. `TooLarge` comes where there is a
+/// byte after the first 16 MiB, once the whole lines within them were carried out, and `Memory` where there is none for
+/// the bench at power-up: nothing was read then. Where there is none for the events of an input it is refused with E1.
 pub fn record<R: Read, E: Write>(
     alloc: Global,
     plan: Checked,
@@ -241,6 +281,7 @@ pub fn record<R: Read, E: Write>(
         recorder: Recorder::new(alloc, bench),
         line: KeptLine::new(),
         number: 1,
+        watch: Watch::new(),
     };
     match session.run(log, reader, errors) {
         Ok(()) => Ok(session.recorder.into_events()),

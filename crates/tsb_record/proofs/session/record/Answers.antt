@@ -12,7 +12,7 @@ returns-in-Ok-run g c =
     let stands : Stands given c.args.log.now (whole c.new.result.bench) c.new.result.told [] =
     stands-start (checked_plan c.args.plan) c.args.log.now c.in-Ok.bench c.new.result.bench c.new.result.told c.in-Ok.ensures c.new.ensures.bench c.new.ensures.told in
     recorded given c.args.log.now (whole c.run.new.self.recorder.bench) c.run.new.self.recorder.told (g.R.Read.remaining c.args.reader.now) (g.R.Read.remaining c.run.new.reader) (g.E.Write.contents c.args.errors.now)
-    (g.E.Write.contents c.run.new.errors) c.into_events.result.items (c.in-Ok-run.ensures given stands) c.into_events.ensures
+    (g.E.Write.contents c.run.new.errors) c.into_events.result.items (c.in-Ok-run.ensures.ran given stands) c.into_events.ensures
 
 pub returns-in-Err : goal.returns-in-Err
 returns-in-Err g c =
@@ -20,4 +20,4 @@ returns-in-Err g c =
     let stands : Stands given c.args.log.now (whole c.new.result.bench) c.new.result.told [] =
     stands-start (checked_plan c.args.plan) c.args.log.now c.in-Ok.bench c.new.result.bench c.new.result.told c.in-Ok.ensures c.new.ensures.bench c.new.ensures.told in
     not-recorded given c.args.log.now (whole c.run.new.self.recorder.bench) c.run.new.self.recorder.told (g.R.Read.remaining c.args.reader.now) (g.R.Read.remaining c.run.new.reader) (g.E.Write.contents c.args.errors.now)
-    (g.E.Write.contents c.run.new.errors) c.in-Err.fault (c.in-Err.ensures given stands)
+    (g.E.Write.contents c.run.new.errors) c.in-Err.fault (c.in-Err.ensures.ran given stands)

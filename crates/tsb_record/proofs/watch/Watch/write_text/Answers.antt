@@ -1,0 +1,12 @@
+use Rattle.std.proofs.Common.{◌∙◌, rules}
+use Rattle.tsb_lines.proofs.StreamLemmas.{gone-more}
+use Rattle.tsb_record.proofs.watch.Watch.write_text.Goals as goal
+
+pub loop-gone-preserved : goal.loop-gone-preserved
+loop-gone-preserved g c = record {
+  going = gone-more (g.W.Write.contents c.args.writer.now) (g.W.Write.contents c.loop-gone.writer) (g.W.Write.contents c.write.new.writer) c.args.text.now c.loop-gone.gone c.in-Ok.count
+      c.loop-gone.invariant.going c.in-Ok.ensures.bytes;
+  within = search rules;
+  well = c.in-Ok.ensures.well ∙ c.loop-gone.invariant.well;
+  reads = c.write.ensures.reads ∙ c.loop-gone.invariant.reads;
+}
