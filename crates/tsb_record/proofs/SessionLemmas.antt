@@ -31,7 +31,7 @@ use Rattle.tsb_text.specs.declared.error.SessionError.{SessionError}
 use Rattle.tsb_text.specs.declared.error.SessionError.TheVariants.{Memory, Read, TooLarge, Write}
 use Rattle.tsb_record.specs.declared.session.Flow.{Flow}
 use Rattle.tsb_record.specs.declared.session.Flow.TheVariants.{On, Over}
-use Rattle.tsb_record.specs.Ended.{Begins, Carries, Ended, EndedSo, IsBegun, IsOfReading, IsTooLarge, TellsWhole}
+use Rattle.tsb_record.specs.Ended.{Begins, Carries, Ended, EndedSo, IsBegun, IsOfReading, IsTooLarge, ReadsOn, TellsWhole}
 use Rattle.tsb_record.proofs.AlongLemmas.{told-same}
 use Rattle.tsb_record.proofs.BegunLemmas.{begins-bad, begins-do, begun-more, carries-begun, pieces-told}
 use Rattle.tsb_record.specs.Leaves.{Come, Comes, Ends, Leaves, fault_line, readings, refusal_text}
@@ -325,6 +325,17 @@ going-more given log old new told tells number next held kept budget i l l2 o n 
       fits = let f : length g.read + budget ≡ 16777216 = g.fits in let all : length (g.read ++ piece) ≡ length g.read + length piece = length-append g.read piece in omega (arith, f, all, long, fits);
     }
 
+-- what was read is told of, but for the line that is held
+going-tells : (given : Setup) (log : List LogRow) (bench : Whole) (told : Telling) (number : ℕ) (held : List ℕ) (budget : ℕ) (i l o n : Option (List ℕ)) (g : Going given log bench told number held budget i l o n) → HasNoFeed held
+    → TellsWhole given g.read g.wrote.text
+going-tells given log bench told number held budget i l o n g clean = record { next = number; now = g.now; held = held; unfinished = clean; carries = g.wrote.so }
+
+-- and then one piece more was read
+reads-piece : (given : Setup) (log : List LogRow) (bench : Whole) (told : Telling) (number : ℕ) (held : List ℕ) (budget : ℕ) (i l o n : Option (List ℕ)) (g : Going given log bench told number held budget i l o n) (piece : List ℕ) → HasNoFeed held
+    → length piece ≤ 4096 → ReadsOn given (g.read ++ piece)
+reads-piece given log bench told number held budget i l o n g piece clean short =
+    record { before = g.read; last = piece; whole = refl; short = short; said = g.wrote.text; going = going-tells given log bench told number held budget i l o n g clean }
+
 -- a read failed
 pub ran-read : (given : Setup) (log : List LogRow) (bench : Whole) (told : Telling) (number : ℕ) (held : List ℕ) (budget : ℕ) (i l l2 o n : Option (List ℕ)) → Going given log bench told number held budget i l o n → HasNoFeed held → Keeps l l2
     → Ran (Err Read) given log bench told i l2 o n
@@ -338,7 +349,8 @@ ran-read given log bench told number held budget i l l2 o n g clean k = record {
   whole =
       let f : length g.read + budget ≡ 16777216 = g.fits in
       let all : take 16777216 g.read ≡ g.read = take_all 16777216 g.read (omega (arith, f)) in
-      λ r. subst (λ (v : List ℕ). TellsWhole given v g.wrote.text) (sym all) (record { next = number; now = g.now; held = held; unfinished = clean; carries = g.wrote.so });
+      λ r. subst (λ (v : List ℕ). TellsWhole given v g.wrote.text) (sym all) (going-tells given log bench told number held budget i l o n g clean);
+  reads = subst (ReadsOn given) (append-nil g.read) (reads-piece given log bench told number held budget i l o n g [] clean (omega arith));
 }
 
 take-front : (n : ℕ) (xs ys : List ℕ) → length xs ≡ n → take n (xs ++ ys) ≡ xs
@@ -364,14 +376,15 @@ ran-large given log bench told number held budget i l l2 o n count most piece g 
       sound = λ e. cc;
       large = (λ h. omega (arith, f, all, over, long), λ h. tt);
       most = omega (arith, f, all, over, long, room, single);
-      whole = λ r. subst (λ (v : List ℕ). TellsWhole given v g.wrote.text) (sym first) (record { next = number; now = g.now; held = held; unfinished = clean; carries = g.wrote.so });
+      whole = λ r. subst (λ (v : List ℕ). TellsWhole given v g.wrote.text) (sym first) (going-tells given log bench told number held budget i l o n g clean);
+      reads = reads-piece given log bench told number held budget i l o n g piece clean (omega (arith, long, room, single));
     }
 
 -- the end of what is read
 pub ran-end : (r : Result (Unit {0}) WriteError) (given : Setup) (log : List LogRow) (old new : Whole) (told tells : Telling) (number : ℕ) (held : List ℕ) (budget : ℕ) (i l l2 o n n2 : Option (List ℕ)) (count : ℕ) (buf : List ℕ)
-    → Going given log old told number held budget i l o n → count ≡ 0 → Consumes l l2 (take count buf) → IsAtEnd l2
+    → Going given log old told number held budget i l o n → HasNoFeed held → count ≡ 0 → Consumes l l2 (take count buf) → IsAtEnd l2
     → ((given : Setup) (is : List Input) → Stands given log old told is → Finished r given number is held log new tells n n2) → Ran (as_record r) given log new tells i l2 o n2
-ran-end r given log old new told tells number held budget i l l2 o n n2 count buf g none k end finish = at r (finish given g.now g.stands)
+ran-end r given log old new told tells number held budget i l l2 o n n2 count buf g clean none k end finish = at r (finish given g.now g.stands)
   where
     f : length g.read + budget ≡ 16777216
     f = g.fits
@@ -381,6 +394,9 @@ ran-end r given log old new told tells number held budget i l l2 o n n2 count bu
 
     all : length (g.read ++ []) ≡ length g.read + 0
     all = length-append g.read []
+
+    reads : ReadsOn given (g.read ++ [])
+    reads = reads-piece given log old told number held budget i l o n g [] clean (omega arith)
 
     at : (r : Result (Unit {0}) WriteError) → Finished r given number g.now held log new tells n n2 → Ran (as_record r) given log new tells i l2 o n2
     at (Ok u) w = record {
@@ -395,6 +411,7 @@ ran-end r given log old new told tells number held budget i l l2 o n n2 count bu
       large = (λ h. absurd h, λ h. absurd (omega (arith, h, f, all)));
       most = omega (arith, f, all);
       whole = λ r. absurd r;
+      reads = reads;
     }
     at (Err e) w = record {
       read = g.read ++ [];
@@ -416,14 +433,15 @@ ran-end r given log old new told tells number held budget i l l2 o n n2 count bu
       large = (λ h. absurd h, λ h. absurd (omega (arith, h, f, all)));
       most = omega (arith, f, all);
       whole = λ r. absurd r;
+      reads = reads;
     }
 
 -- a line ended it
 pub ran-over : (given : Setup) (log : List LogRow) (old new : Whole) (told tells : Telling) (number next : ℕ) (held kept : List ℕ) (budget : ℕ) (i l l2 o n n2 : Option (List ℕ)) (f : Flow) (count : ℕ) (piece : List ℕ)
-    → Going given log old told number held budget i l o n → Consumes l l2 piece → count ≡ length piece → count ≤ budget → f ≡ Over
+    → Going given log old told number held budget i l o n → HasNoFeed held → Consumes l l2 piece → count ≡ length piece → count ≤ budget → count ≤ 4096 → f ≡ Over
     → ((given : Setup) (is : List Input) → Stands given log old told is → Went (Ok f) given number is (held ++ piece) log new tells next kept n n2)
     → Ran (Ok tt) given log new tells i l2 o n2
-ran-over given log old new told tells number next held kept budget i l l2 o n n2 f count piece g k long fits over went =
+ran-over given log old new told tells number next held kept budget i l l2 o n n2 f count piece g clean k long fits short over went =
     let step : Went (Ok Over) given number g.now (held ++ piece) log new tells next kept n n2 = subst (λ (x : Flow). Went (Ok x) given number g.now (held ++ piece) log new tells next kept n n2) over (went given g.now g.stands) in
     let w : Went (Ok Over) given 1 [] (g.read ++ piece) log new tells next kept o n2 = joined (Ok Over) given log 1 number next [] g.read g.now held piece new tells kept o n n2 g.wrote step in
     let f : length g.read + budget ≡ 16777216 = g.fits in
@@ -436,14 +454,15 @@ ran-over given log old new told tells number next held kept budget i l l2 o n n2
       large = (λ h. absurd h, λ h. absurd (omega (arith, h, f, all, long, fits)));
       most = omega (arith, f, all, long, fits);
       whole = λ r. absurd r;
+      reads = reads-piece given log old told number held budget i l o n g piece clean (omega (arith, long, short));
     }
 
 -- a line of faults was not written
 pub ran-fault : (e : WriteError) (given : Setup) (log : List LogRow) (old new : Whole) (told tells : Telling) (number next : ℕ) (held kept : List ℕ) (budget : ℕ) (i l l2 o n n2 : Option (List ℕ)) (count : ℕ) (piece : List ℕ)
-    → Going given log old told number held budget i l o n → Consumes l l2 piece → count ≡ length piece → count ≤ budget
+    → Going given log old told number held budget i l o n → HasNoFeed held → Consumes l l2 piece → count ≡ length piece → count ≤ budget → count ≤ 4096
     → ((given : Setup) (is : List Input) → Stands given log old told is → Went (Err e) given number is (held ++ piece) log new tells next kept n n2)
     → Ran (Err Write) given log new tells i l2 o n2
-ran-fault e given log old new told tells number next held kept budget i l l2 o n n2 count piece g k long fits went =
+ran-fault e given log old new told tells number next held kept budget i l l2 o n n2 count piece g clean k long fits short went =
     let w : Wrote o n2 (IsBegun given 1 [] (g.read ++ piece)) = joined (Err e) given log 1 number next [] g.read g.now held piece new tells kept o n n2 g.wrote (went given g.now g.stands) in
     let f : length g.read + budget ≡ 16777216 = g.fits in
     let all : length (g.read ++ piece) ≡ length g.read + length piece = length-append g.read piece in
@@ -455,6 +474,7 @@ ran-fault e given log old new told tells number next held kept budget i l l2 o n
       large = (λ h. absurd h, λ h. absurd (omega (arith, h, f, all, long, fits)));
       most = omega (arith, f, all, long, fits);
       whole = λ r. absurd r;
+      reads = reads-piece given log old told number held budget i l o n g piece clean (omega (arith, long, short));
     }
 
 -- ## The record
@@ -471,6 +491,7 @@ recorded given log bench told i l o n events r same = record {
   large = r.large;
   most = r.most;
   whole = λ f. absurd f;
+  reads = r.reads;
 }
 
 -- a run that ended by it
@@ -503,6 +524,7 @@ not-recorded given log bench told i l o n e r = record {
   large = large-there e r.read r.large;
   most = r.most;
   whole = λ f. r.whole (of-reading-there e f);
+  reads = r.reads;
 }
 
 -- nothing was read, where there was no memory to begin with
@@ -516,6 +538,14 @@ none-recorded given i o = record {
   large = (λ h. absurd h, λ h. absurd (omega (arith, h)));
   most = omega arith;
   whole = λ f. absurd f;
+  reads = record {
+    before = [];
+    last = [];
+    whole = refl;
+    short = omega arith;
+    said = [];
+    going = record { next = 1; now = []; held = []; unfinished = tt; carries = record { on = λ left more text t. t } };
+  };
 }
 
 -- at power-up no input has come, and none has told anything

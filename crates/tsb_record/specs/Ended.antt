@@ -34,6 +34,15 @@ pub record TellsWhole (given : Setup) (bytes told : List ℕ) : Type 0 where
   pub unfinished : HasNoFeed held
   pub carries : Carries given 1 [] bytes next now held told
 
+-- the commands went on up to the last read, which brought 4,096 bytes at most: those before it end no session
+pub record ReadsOn (given : Setup) (read : List ℕ) : Type 0 where
+  pub before : List ℕ
+  pub last : List ℕ
+  pub whole : read ≡ before ++ last
+  pub short : length last ≤ 4096
+  pub said : List ℕ
+  pub going : TellsWhole given before said
+
 -- ## How it ends
 
 -- these inputs remain of a session whose commands are these bytes, at the end of what is read, or where a line was
@@ -82,3 +91,5 @@ pub record Ended (result : Result (List Event) SessionError) (given : Setup) (in
   pub most : length read ≤ 16777217
   -- after a read that failed, and after 16 MiB, nothing that is to be told of a whole line is missing
   pub whole : IsOfReading result → TellsWhole given (take 16777216 read) told
+  -- after a line `quit` nothing more is read
+  pub reads : ReadsOn given read

@@ -21,7 +21,7 @@ use Rattle.tsb_text.specs.Answers.{Setup}
 use Rattle.tsb_record.specs.Along.{telling}
 use Rattle.tsb_record.specs.Leaves.{Come, Comes, Ends, readings}
 use Rattle.tsb_record.specs.Told.{Telling}
-use Rattle.tsb_record.specs.Ended.{Begins, BeginsLast, Carries, IsBegun, IsOfReading, IsTooLarge, Remain, TellsWhole}
+use Rattle.tsb_record.specs.Ended.{Begins, BeginsLast, Carries, IsBegun, IsOfReading, IsTooLarge, ReadsOn, Remain, TellsWhole}
 use Rattle.tsb_text.specs.declared.error.SessionError.{SessionError}
 use Rattle.tsb_text.specs.declared.error.SessionError.TheVariants.{Memory, Read, Write}
 use Rattle.tsb_record.specs.declared.session.Flow.{Flow}
@@ -157,6 +157,7 @@ pub record Ran (result : Result (Unit {0}) SessionError) (given : Setup) (log : 
   pub large : IsTooLarge result ↔ (16777216 < length read)
   pub most : length read ≤ 16777217
   pub whole : IsOfReading result → TellsWhole given (take 16777216 read) wrote.text
+  pub reads : ReadsOn given read
 
 -- ## Devices
 

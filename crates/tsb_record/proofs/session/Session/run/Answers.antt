@@ -29,7 +29,7 @@ returns-in-Err-clause-ran g c given s = ran-read given c.args.log.now (whole c.l
 pub returns-then-count-eq0-clause-ran : goal.returns-then-count-eq0-clause-ran
 returns-then-count-eq0-clause-ran g c given s = rw c.as_record.ensures
     (ran-end c.finish.result given c.args.log.now (whole c.loop-count.self.recorder.bench) (whole c.finish.new.self.recorder.bench) c.loop-count.self.recorder.told c.finish.new.self.recorder.told c.loop-count.self.number c.loop-count.self.line c.loop-count.left (g.R.Read.remaining c.args.reader.now) (g.R.Read.remaining c.loop-count.reader) (g.R.Read.remaining c.read_more.new.reader) (g.E.Write.contents c.args.errors.now) (g.E.Write.contents c.loop-count.errors) (g.E.Write.contents c.finish.new.errors)
-    c.in-Ok.count c.read_more.new.room (c.loop-count.invariant.going given s) c.if-count-eq0.true c.in-Ok.ensures.bytes.0 (c.in-Ok.ensures.bytes.1 c.if-count-eq0.true (search rules)) c.finish.ensures.finished)
+    c.in-Ok.count c.read_more.new.room (c.loop-count.invariant.going given s) c.loop-count.invariant.unfinished c.if-count-eq0.true c.in-Ok.ensures.bytes.0 (c.in-Ok.ensures.bytes.1 c.if-count-eq0.true (search rules)) c.finish.ensures.finished)
 
 pub returns-then-left-count-clause-ran : goal.returns-then-left-count-clause-ran
 returns-then-left-count-clause-ran g c given s =
@@ -38,10 +38,10 @@ returns-then-left-count-clause-ran g c given s =
 
 pub returns-in-Ok-Over-clause-ran : goal.returns-in-Ok-Over-clause-ran
 returns-in-Ok-Over-clause-ran g c given s =
-    ran-over given c.args.log.now (whole c.loop-count.self.recorder.bench) (whole c.feed_all.new.self.recorder.bench) c.loop-count.self.recorder.told c.feed_all.new.self.recorder.told c.loop-count.self.number c.feed_all.new.self.number c.loop-count.self.line c.feed_all.new.self.line c.loop-count.left (g.R.Read.remaining c.args.reader.now) (g.R.Read.remaining c.loop-count.reader) (g.R.Read.remaining c.read_more.new.reader) (g.E.Write.contents c.args.errors.now) (g.E.Write.contents c.loop-count.errors) (g.E.Write.contents c.feed_all.new.errors) c.in-Ok-Over.field-0 c.in-Ok.count (take c.in-Ok.count c.read_more.new.room) (c.loop-count.invariant.going given s) c.in-Ok.ensures.bytes.0 c.in-Ok.ensures.bound.1
-    c.if-left-count.false c.in-Ok-Over.field-0-is c.in-Ok-Over.ensures.went
+    ran-over given c.args.log.now (whole c.loop-count.self.recorder.bench) (whole c.feed_all.new.self.recorder.bench) c.loop-count.self.recorder.told c.feed_all.new.self.recorder.told c.loop-count.self.number c.feed_all.new.self.number c.loop-count.self.line c.feed_all.new.self.line c.loop-count.left (g.R.Read.remaining c.args.reader.now) (g.R.Read.remaining c.loop-count.reader) (g.R.Read.remaining c.read_more.new.reader) (g.E.Write.contents c.args.errors.now) (g.E.Write.contents c.loop-count.errors) (g.E.Write.contents c.feed_all.new.errors) c.in-Ok-Over.field-0 c.in-Ok.count (take c.in-Ok.count c.read_more.new.room) (c.loop-count.invariant.going given s) c.loop-count.invariant.unfinished c.in-Ok.ensures.bytes.0 c.in-Ok.ensures.bound.1
+    c.if-left-count.false (search rules) c.in-Ok-Over.field-0-is c.in-Ok-Over.ensures.went
 
 pub returns-in-Err-feed_all-clause-ran : goal.returns-in-Err-feed_all-clause-ran
 returns-in-Err-feed_all-clause-ran g c given s =
-    ran-fault c.in-Err-feed_all.field-0 given c.args.log.now (whole c.loop-count.self.recorder.bench) (whole c.feed_all.new.self.recorder.bench) c.loop-count.self.recorder.told c.feed_all.new.self.recorder.told c.loop-count.self.number c.feed_all.new.self.number c.loop-count.self.line c.feed_all.new.self.line c.loop-count.left (g.R.Read.remaining c.args.reader.now) (g.R.Read.remaining c.loop-count.reader) (g.R.Read.remaining c.read_more.new.reader) (g.E.Write.contents c.args.errors.now) (g.E.Write.contents c.loop-count.errors) (g.E.Write.contents c.feed_all.new.errors) c.in-Ok.count (take c.in-Ok.count c.read_more.new.room) (c.loop-count.invariant.going given s) c.in-Ok.ensures.bytes.0 c.in-Ok.ensures.bound.1
-    c.if-left-count.false c.in-Err-feed_all.ensures.went
+    ran-fault c.in-Err-feed_all.field-0 given c.args.log.now (whole c.loop-count.self.recorder.bench) (whole c.feed_all.new.self.recorder.bench) c.loop-count.self.recorder.told c.feed_all.new.self.recorder.told c.loop-count.self.number c.feed_all.new.self.number c.loop-count.self.line c.feed_all.new.self.line c.loop-count.left (g.R.Read.remaining c.args.reader.now) (g.R.Read.remaining c.loop-count.reader) (g.R.Read.remaining c.read_more.new.reader) (g.E.Write.contents c.args.errors.now) (g.E.Write.contents c.loop-count.errors) (g.E.Write.contents c.feed_all.new.errors) c.in-Ok.count (take c.in-Ok.count c.read_more.new.room) (c.loop-count.invariant.going given s) c.loop-count.invariant.unfinished c.in-Ok.ensures.bytes.0 c.in-Ok.ensures.bound.1
+    c.if-left-count.false (search rules) c.in-Err-feed_all.ensures.went
