@@ -408,18 +408,23 @@ def events_of(reference: Reference, before: State, given: Given, after: State, r
 
 # --- the record of a session ---
 
-def remaining(bench: Any, plan: dict[str, list[int]], rows: Any, commands: bytes) -> list[Given]:
-    """The inputs of a session that were taken, and not taken back by the time at which its commands end."""
-    session = bench.Session(plan, rows, bench.V2)
-    for line in bench.lines_of(commands):
-        if len(line) <= 200 and bench.blank(line):
-            continue
+def opened(bench: Any, plan: bytes, log: bytes) -> Any | None:
+    """A session of the reference on a plan and a log: none where one of them has a fault."""
+    timing, fault = bench.read_plan(plan, bench.V2)
+    if fault:
+        return None
+    rows, fault = bench.read_log(log)
+    return None if fault else bench.Session(timing, rows, bench.V2)
+
+
+def commands_of(bench: Any, text: bytes) -> Iterator[Given]:
+    """The commands of a session, up to `quit`; a line that is none is passed over."""
+    for line in bench.lines_of(text):
         command = bench.read_command(line, bench.V2)
         if command == ("quit",):
-            break
+            return
         if command is not None:
-            session.answer(command, [])
-    return session.inputs
+            yield command
 
 
 def replayed(reference: Reference, plan: dict[str, list[int]], inputs: list[Given]) -> Iterator[Event]:
@@ -447,12 +452,10 @@ def record(reference: Reference, plan: bytes, log: bytes, commands: bytes, from_
 
     It has the events of the inputs that remain when the commands end. What was refused or taken back tells nothing.
     """
-    bench = reference.bench
-    timing, fault = bench.read_plan(plan, bench.V2)
-    if fault:
+    session = opened(reference.bench, plan, log)
+    if session is None:
         return None
-    rows, fault = bench.read_log(log)
-    if fault:
-        return None
-    events = replayed(reference, timing, remaining(bench, timing, rows, commands))
+    for command in commands_of(reference.bench, commands):
+        session.answer(command, [])
+    events = replayed(reference, session.states[0].plan, session.inputs)
     return HEADER + b"".join(spelled(event, from_time, device) for event in events)
