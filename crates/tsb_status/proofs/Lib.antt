@@ -3,3 +3,4 @@ pub mod Examples
 pub mod TimesLemmas
 pub mod TimesFoundLemmas
 pub mod RingFoundLemmas
+pub mod ToldLemmas

@@ -1,5 +1,5 @@
 -- What is found of a ring is its status.
-use Rattle.std.proofs.Common.{ℕ, Some, None, refl, sym, subst}
+use Rattle.std.proofs.Common.{◌≡◌, ℕ, Some, None, refl, sym, subst}
 use Rattle.tsb_phase.specs.declared.told.PhaseTimes.{PhaseTimes}
 use Rattle.tsb_phase.specs.Green.{reduction_timer, cars_waiting}
 use Rattle.tsb_phase.specs.Promises.{IsTold}
@@ -8,47 +8,36 @@ use Rattle.tsb_step.specs.State.{State}
 use Rattle.tsb_step.specs.Status.{ring_with, force_off_of}
 use Rattle.tsb_step.specs.Waits.{phases_again}
 use Rattle.tsb_status.specs.declared.times.GreenFound.{GreenFound}
-use Rattle.tsb_status.specs.Agree.{IsRingStatus}
+use Rattle.tsb_status.specs.Plain.{ring_status_of}
 use Rattle.tsb_status.specs.RingBy.{ring_by}
 use Rattle.tsb_status.specs.RingFound.{RingsAreFound}
 use Rattle.tsb_status.specs.TimesFound.{IsGreenFound}
 
 -- with phase q in service
 serving-found : (s : State) (r : Ring) (q : ℕ) (x : PhaseTimes) (found : GreenFound) → IsTold (s.phases q) x → IsGreenFound s q found →
-    IsRingStatus (ring_by s.plan (s.rings.commitment r) (Some (record { phase = q; times = x; found = found })) (force_off_of s (Some q))) (ring_with s r (Some q))
+    ring_status_of (ring_by s.plan (s.rings.commitment r) (Some (record { phase = q; times = x; found = found })) (force_off_of s (Some q))) ≡ ring_with s r (Some q)
 unfolding phases_again reduction_timer cars_waiting
-serving-found s r q x found h g = record {
-  part = rw (g.count, g.service, g.must_end, h.interval, h.timer, h.pedestrian, h.pedestrian_timer, h.passage, h.conflict, h.reduction, h.gapped) refl;
-  phase = refl;
-  next = refl;
-  initial_left = rw (g.count, g.service, g.must_end, h.interval, h.timer) refl;
-  gap = rw (h.interval, h.reduction) refl;
-  gap_left = rw (h.interval, h.passage, h.reduction) refl;
-  maximum_left = rw (g.runs, h.interval, h.conflict, h.running_maximum) refl;
-  walk_left = rw (g.service, g.must_end, h.pedestrian, h.pedestrian_timer) refl;
-  clearance_left = rw (g.service, g.must_end, h.pedestrian, h.pedestrian_timer) refl;
-  yellow_left = rw (h.interval, h.timer) refl;
-  red_clearance_left = rw (h.interval, h.timer) refl;
-  force_off_in = refl;
-}
+serving-found s r q x found h g =
+    rw (
+      g.count,
+      g.runs,
+      g.service,
+      g.must_end,
+      h.interval,
+      h.timer,
+      h.pedestrian,
+      h.pedestrian_timer,
+      h.passage,
+      h.conflict,
+      h.reduction,
+      h.gapped,
+      h.running_maximum,
+    ) refl
 
 pub rings-found : RingsAreFound
-rings-found s r None None h = record {
-  part = refl;
-  phase = refl;
-  next = refl;
-  initial_left = refl;
-  gap = refl;
-  gap_left = refl;
-  maximum_left = refl;
-  walk_left = refl;
-  clearance_left = refl;
-  yellow_left = refl;
-  red_clearance_left = refl;
-  force_off_in = refl;
-}
+rings-found s r None None h = refl
 rings-found s r None (Some x) h = absurd h
 rings-found s r (Some q) None h = absurd h
 rings-found s r (Some q) (Some x) h =
-    subst (λ p. IsRingStatus (ring_by s.plan (s.rings.commitment r) (Some (record { phase = p; times = x.times; found = x.found })) (force_off_of s (Some q)))
-    (ring_with s r (Some q))) (sym h.phase) (serving-found s r q x.times x.found h.told h.found)
+    subst (λ p. ring_status_of (ring_by s.plan (s.rings.commitment r) (Some (record { phase = p; times = x.times; found = x.found })) (force_off_of s (Some q)))
+    ≡ ring_with s r (Some q)) (sym h.phase) (serving-found s r q x.times x.found h.told h.found)

@@ -4,8 +4,6 @@ pub mod WaitBy
 pub mod WaitFound
 -- the timers of a phase as they were told, as phase timing has them
 pub mod Times
--- the plain value of the status of a ring, as the definition has it
-pub mod Agree
 -- the status that a plain value stands for
 pub mod Plain
 -- what is told of a phase, as a state has it
@@ -14,3 +12,7 @@ pub mod TimesFound
 pub mod RingBy
 -- a ring as a state has it
 pub mod RingFound
+-- what waits are found from, of phases as they are told
+pub mod Told
+-- statuses that say the same of all numbers that there are
+pub mod Alike

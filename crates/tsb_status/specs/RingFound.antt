@@ -5,7 +5,7 @@ use Rattle.tsb_step.specs.tsb_ring.Rings.{Ring}
 use Rattle.tsb_step.specs.State.{State}
 use Rattle.tsb_step.specs.Status.{ring_with, force_off_of}
 use Rattle.tsb_status.specs.declared.rings.PhaseFound.{PhaseFound}
-use Rattle.tsb_status.specs.Agree.{IsRingStatus}
+use Rattle.tsb_status.specs.Plain.{ring_status_of}
 use Rattle.tsb_status.specs.RingBy.{ring_by}
 use Rattle.tsb_status.specs.TimesFound.{IsGreenFound}
 
@@ -25,4 +25,4 @@ IsFound s (Some q) (Some x) = IsPhaseFound s q x
 -- What is found of a ring is its status, with whichever phase in service.
 abbrev pub RingsAreFound : Type 0
 RingsAreFound = (s : State) (r : Ring) (o : Option ℕ) (x : Option PhaseFound) → IsFound s o x →
-    IsRingStatus (ring_by s.plan (s.rings.commitment r) x (force_off_of s o)) (ring_with s r o)
+    ring_status_of (ring_by s.plan (s.rings.commitment r) x (force_off_of s o)) ≡ ring_with s r o

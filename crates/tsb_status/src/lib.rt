@@ -8,6 +8,7 @@ pub mod laws;
 pub mod rings;
 pub mod status;
 pub mod times;
+pub mod told;
 pub mod waits;
 
 pub use found::{Circumstances, Next, RingFound, Served, Service, Waiting};

@@ -1,0 +1,35 @@
+-- Statuses that say the same of phases, vehicle detectors and overlaps 1 to 16, of preempts 1 to 4, of both rings, and in
+-- all else.
+use Rattle.std.specs.Prelude.{◌≡◌, ℕ, ◌≤◌}
+use Rattle.tsb_step.specs.tsb_types.Clip.{Agree}
+use Rattle.tsb_step.specs.tsb_ring.Rings.{Ring}
+use Rattle.tsb_step.specs.Status.{Status}
+
+-- field by field
+pub record Alike (x y : Status) : Type 0 where
+  pub now : x.now ≡ y.now
+  pub reds : Agree x.reds y.reds
+  pub yellows : Agree x.yellows y.yellows
+  pub greens : Agree x.greens y.greens
+  pub dont_walks : Agree x.dont_walks y.dont_walks
+  pub pedestrian_clears : Agree x.pedestrian_clears y.pedestrian_clears
+  pub walks : Agree x.walks y.walks
+  pub vehicle_calls : Agree x.vehicle_calls y.vehicle_calls
+  pub pedestrian_calls : Agree x.pedestrian_calls y.pedestrian_calls
+  pub phase_ons : Agree x.phase_ons y.phase_ons
+  pub phase_nexts : Agree x.phase_nexts y.phase_nexts
+  pub overlap_reds : Agree x.overlap_reds y.overlap_reds
+  pub overlap_yellows : Agree x.overlap_yellows y.overlap_yellows
+  pub overlap_greens : Agree x.overlap_greens y.overlap_greens
+  pub active : Agree x.active y.active
+  pub alarms : Agree x.alarms y.alarms
+  pub preempt : (n : ℕ) → 1 ≤ n → n ≤ 4 → x.preempt n ≡ y.preempt n
+  pub pattern : x.pattern ≡ y.pattern
+  pub free : x.free ≡ y.free
+  pub local : x.local ≡ y.local
+  pub sync : x.sync ≡ y.sync
+  pub flash : x.flash ≡ y.flash
+  pub owner : x.owner ≡ y.owner
+  pub desk : x.desk ≡ y.desk
+  pub ring : (r : Ring) → x.ring r ≡ y.ring r
+  pub wait : Agree x.wait y.wait
