@@ -14,6 +14,7 @@ mod passing;
 mod play_laws;
 mod player;
 mod room_laws;
+mod status;
 mod telling;
 mod watched;
 
@@ -24,4 +25,5 @@ pub use room_laws::room_lasts;
 pub use tsb_events::Events;
 pub use tsb_history::Kind;
 pub use tsb_machine::Answer;
+pub use tsb_status::Status;
 pub use tsb_step::{Cmd, Input};

@@ -7,6 +7,7 @@ ghost use Rattle.tsb_types.specs.declared.refusal.Refusal.TheVariants.{Memory};
 ghost use Rattle.tsb_plan.specs.PlanOf.{plan_in};
 ghost use Rattle.tsb_machine.specs.Play.{IsRefusal};
 ghost use Rattle.tsb_step.specs.declared.inputs.Input.TheVariants as inputs;
+ghost use Rattle.tsb_step.specs.Cells.{clock_at};
 ghost use Rattle.tsb_step.specs.Events.{events_of};
 ghost use Rattle.tsb_step.specs.MonitorCells.{trip_in};
 ghost use Rattle.tsb_step.specs.Past.{earlier, record_of};
@@ -64,21 +65,28 @@ impl Cabinet {
         self.controller.selected(&self.plan)
     }
 
+    /// The tick number at which timers stand, at tick number `tick`: that of the trip, where there is one.
+    pub(crate) fn clock(&self, tick: u32) -> u32
+        requires by { (now : ℕ) × AreAllBy now (rows_of self.now) }
+        ensures { result ≡ clock_at tick (trip_in (rows_of self.now).monitor) }
+    {
+        match self.monitor.trip() {
+            Some(trip) => trip.1,
+            None => tick,
+        }
+    }
+
     /// What is kept of the cabinet at tick number `tick`, before an input.
     fn before(&self, tick: u32) -> Before
         requires shut { IsShut self.now }
         requires by { AreAllBy tick (rows_of self.now) }
         ensures { IsBefore tick (rows_of self.now) result }
     {
-        let clock = match self.monitor.trip() {
-            Some(trip) => trip.1,
-            None => tick,
-        };
         Before {
             seen: self.view(),
             selected: self.selected(),
             controller: self.controller,
-            clock,
+            clock: self.clock(tick),
         }
     }
 

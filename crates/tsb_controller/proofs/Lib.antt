@@ -1,3 +1,6 @@
+pub mod StatusLemmas
+pub mod WaitTellLemmas
+pub mod StatusSetLemmas
 mod CarryLemmas
 mod PlacedLemmas
 mod MovesLemmas

@@ -16,6 +16,8 @@ pub mod Seen
 pub mod Causes
 -- the clauses of the public calls of `Controller`
 pub mod Promises
+-- the clauses of the calls that tell its status
+pub mod StatusPromises
 -- ticks that may be passed over: up to which one all layers stay as they are
 pub mod Passing
 -- the rows of the whole bench, with plan, desk and monitor, and laws of records over them

@@ -9,6 +9,7 @@
 mod carry;
 pub mod causes;
 pub mod controller;
+mod found;
 mod inputs;
 pub mod laws;
 pub mod passing;
@@ -16,8 +17,11 @@ mod readers;
 mod record;
 mod seen;
 mod selected;
+pub mod status;
 mod values;
+mod waits;
 mod watch;
 
 pub use causes::Causes;
 pub use controller::Controller;
+pub use status::Beside;

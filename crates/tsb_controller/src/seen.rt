@@ -20,7 +20,7 @@ use tsb_events::Seen;
 use tsb_objects::{Checked, Intervals, NumberSet, Overlap, Pedestrians, PhaseSet, Preempt, Stage};
 
 /// The numbers of the phases of a set.
-fn numbers(phases: PhaseSet) -> NumberSet
+pub(crate) fn numbers(phases: PhaseSet) -> NumberSet
     ensures { (n : ℕ) → has_number result n ≡ has phases n }
 {
     NumberSet::from_list(phases.list())

@@ -1,0 +1,264 @@
+//! The status of the controller, by the names of NTCIP 1202's status objects.
+ghost use Rattle.std.specs.Prelude.{◌≡◌, ◌≤◌, ◌||◌, ◌%◌, ℕ, true, option_map, if◌then◌else◌, IfSome};
+ghost use Rattle.tsb_objects.specs.Checked.{checked_plan};
+ghost use Rattle.tsb_coord.specs.Cells as coord;
+ghost use Rattle.tsb_ring.specs.Cells as rings;
+ghost use Rattle.tsb_step.specs.tsb_plan.Parts.{cycle, is_used};
+ghost use Rattle.tsb_step.specs.tsb_types.declared.event.TheConstants.{FREE};
+ghost use Rattle.tsb_step.specs.tsb_types.Lists.{is, or_number};
+ghost use Rattle.tsb_step.specs.tsb_types.Sets.{has_number};
+ghost use Rattle.tsb_step.specs.declared.status.FlashStatus.TheVariants.{Mmu, NotFlash};
+ghost use Rattle.tsb_step.specs.Status.{free_status, idle_state, state_in};
+ghost use Rattle.tsb_step.specs.Step.{last_tick};
+ghost use Rattle.tsb_controller.specs.Rows.{AreBy};
+ghost use Rattle.tsb_controller.specs.StatusPromises.{TellsPreempt, TellsSets, TellsStatus, force_off_by, preempt_by, ring_status_by};
+
+use crate::controller::Controller;
+use crate::found::RingTold;
+use crate::seen::numbers;
+use crate::waits::WaitsFound;
+use tsb_events::Seen;
+use tsb_objects::{Checked, Interval, NumberSet, Pattern, Phase, Preempt, Ring, Stage, Station};
+use tsb_status::{PhaseFound, RingStatus, Status, ring};
+use tsb_step::{FlashStatus, FreeStatus, PreemptState};
+use tsb_transact::DeskState;
+use tsb_types::event::FREE;
+
+/// What a status tells that the controller does not keep.
+#[derive(Clone, Copy)]
+pub struct Beside {
+    /// The tick number.
+    pub tick: u32,
+    /// The tick number at which timers stand: that of the trip, where there is one.
+    pub clock: u32,
+    /// Whether the monitor has tripped the controller.
+    pub tripped: bool,
+    /// The station whose transaction is open.
+    pub owner: Option<Station>,
+    /// How far the transaction is.
+    pub desk: DeskState,
+}
+
+/// The sets of a status that the log of a controller does not see.
+#[derive(Clone, Copy)]
+pub(crate) struct Sets {
+    /// `phaseStatusGroupReds`.
+    reds: NumberSet,
+    /// `phaseStatusGroupDontWalks`.
+    dont_walks: NumberSet,
+    /// `phaseStatusGroupPhaseOns`.
+    phase_ons: NumberSet,
+    /// `overlapStatusGroupReds`.
+    overlap_reds: NumberSet,
+    /// Phases that are called and not Green.
+    waiting: NumberSet,
+}
+
+/// The set of two phases, of one, or of none.
+fn nexts(first: Option<Phase>, second: Option<Phase>) -> NumberSet
+    ensures { (n : ℕ) → has_number result n ≡ (is n first || is n second) }
+{
+    let mut set = NumberSet::empty();
+    if let Some(phase) = first {
+        set = set.with(phase.number(), true);
+    }
+    if let Some(phase) = second {
+        set = set.with(phase.number(), true);
+    }
+    set
+}
+
+/// The number of the pattern that runs.
+fn number_of(runs: &Option<Pattern>) -> u8
+    ensures { result ≡ or_number runs.now FREE }
+{
+    match runs {
+        None => FREE,
+        Some(n) => n.number(),
+    }
+}
+
+/// Why no pattern runs, by the pattern that runs and the one that is selected.
+fn free_status(runs: &Option<Pattern>, selected: Option<Pattern>) -> FreeStatus
+    ensures { result ≡ free_status runs.now selected }
+{
+    if runs.is_some() {
+        return FreeStatus::NotFree;
+    }
+    if selected.is_some() {
+        FreeStatus::BadPlan
+    } else {
+        FreeStatus::CommandFree
+    }
+}
+
+/// Where the clock of the pattern that runs is, at tick number `now`.
+fn sync(runs: &Option<Pattern>, now: u32, plan: &Checked) -> Option<u32>
+    requires used { IfSome runs.now (λ n. is_used (checked_plan plan.now) n ≡ true) }
+    ensures { result ≡ option_map (λ n. now % cycle (checked_plan plan.now) n) runs.now }
+{
+    match runs {
+        None => None,
+        Some(n) => Some(now % plan.plan().cycle(*n)),
+    }
+}
+
+/// `preemptState` of a stage.
+fn state_in(stage: Stage) -> PreemptState
+    ensures { result ≡ state_in stage }
+{
+    match stage {
+        Stage::Track => PreemptState::TrackService,
+        Stage::Dwell => PreemptState::Dwell,
+        Stage::Exit => PreemptState::ExitStarted,
+    }
+}
+
+/// `preemptState` of a preempt that is not in service.
+fn idle_state(called: bool) -> PreemptState
+    ensures { result ≡ idle_state called }
+{
+    if called {
+        PreemptState::NotActiveWithCall
+    } else {
+        PreemptState::NotActive
+    }
+}
+
+/// `preemptState` of a preempt that is called or not, by the one in service, if one is.
+fn preempt_by(called: bool, stage: &Option<(Preempt, Stage)>, n: Preempt) -> PreemptState
+    ensures { result ≡ preempt_by called stage.now n }
+{
+    match stage {
+        None => idle_state(called),
+        Some(served) => if served.0 == n {
+            state_in(served.1)
+        } else {
+            idle_state(called)
+        },
+    }
+}
+
+/// `unitFlashStatus`.
+fn flash(tripped: bool) -> FlashStatus
+    ensures { result ≡ (if tripped then Mmu else NotFlash) }
+{
+    if tripped {
+        FlashStatus::Mmu
+    } else {
+        FlashStatus::NotFlash
+    }
+}
+
+impl Controller {
+    ghost use Rattle.tsb_controller.specs.Layer.{rows_of};
+
+    /// The sets of a status that the log does not see, beside those that it sees.
+    fn sets(&self, seen: &Seen, plan: &Checked) -> Sets
+        requires rings_by { rings.IsBy (rows_of self.now).rings }
+        ensures { TellsSets seen.now (checked_plan plan.now) (rows_of self.now) result }
+    {
+        let display = self.heads(seen.flashes, plan);
+        let lit = seen.greens.union(seen.yellows);
+        let walking = seen.walks.union(seen.clearances);
+        let called = seen.vehicle_calls.union(seen.pedestrian_calls);
+        Sets {
+            reds: numbers(plan.enabled()).difference(lit),
+            dont_walks: numbers(plan.enabled().intersection(plan.with_walk())).difference(walking),
+            phase_ons: lit.union(seen.red_clearances),
+            overlap_reds: display.overlap_reds().union(display.overlaps_flashing()),
+            waiting: called.difference(numbers(self.phases.intervals().green)),
+        }
+    }
+
+    /// `preemptState` of a preempt.
+    fn preempt_state(&self, n: Preempt) -> PreemptState
+        ensures { TellsPreempt (rows_of self.now) n result }
+    {
+        preempt_by(self.preempts.is_called(n), &self.preempts.stage(), n)
+    }
+
+    /// Until the local counter is at the force-off instant of a green in a pattern, at tick number `now`.
+    fn force_off_in(&self, served: &Option<PhaseFound>, now: u32, plan: &Checked) -> Option<u32>
+        requires pattern_by { coord.IsBy (rows_of self.now).pattern }
+        requires in_time { now ≤ last_tick }
+        ensures { result ≡ force_off_by (checked_plan plan.now) now (rows_of self.now) served.now }
+    {
+        let Some(q) = served else {
+            return None;
+        };
+        let (Interval::Green, Some(n)) = (q.times.interval, self.coord.running(plan)) else {
+            return None;
+        };
+        let local = self.coord.local(now, plan)?;
+        let instant = plan.force_off(n, q.phase)?;
+        let cycle = plan.plan().cycle(n);
+        Some((instant + cycle).saturating_sub(local) % cycle)
+    }
+
+    /// The status of a ring.
+    fn ring_status(&self, told: &RingTold, beside: &Beside, plan: &Checked) -> RingStatus
+        requires pattern_by { coord.IsBy (rows_of self.now).pattern }
+        requires in_time { beside.now.tick ≤ last_tick }
+        ensures { result ≡ ring_status_by (checked_plan plan.now) beside.now (rows_of self.now) told.now }
+    {
+        let served = if beside.tripped { None } else { told.served };
+        let force_off_in = self.force_off_in(&served, beside.tick, plan);
+        ring(plan, told.next, &served, force_off_in)
+    }
+
+    /// The status of the controller. It takes no memory.
+    pub fn status(&self, beside: &Beside, plan: &Checked) -> Status
+        requires by { AreBy beside.now.clock (rows_of self.now) }
+        requires clock { beside.now.clock ≤ last_tick }
+        requires in_time { beside.now.tick ≤ last_tick }
+        ensures { TellsStatus beside.now (checked_plan plan.now) (rows_of self.now) result }
+    {
+        let seen = self.view(beside.tripped, plan);
+        let sets = self.sets(&seen, plan);
+        let first = self.ring_told(Ring::of(1), beside.clock, plan);
+        let second = self.ring_told(Ring::of(2), beside.clock, plan);
+        let found = WaitsFound {
+            first: self.ring_found(&first, beside.clock, plan),
+            second: self.ring_found(&second, beside.clock, plan),
+            around: self.around(beside.tripped, plan),
+        };
+        let runs = self.coord.running(plan);
+        Status {
+            now: beside.tick,
+            reds: sets.reds,
+            yellows: seen.yellows,
+            greens: seen.greens,
+            dont_walks: sets.dont_walks,
+            pedestrian_clears: seen.clearances,
+            walks: seen.walks,
+            vehicle_calls: seen.vehicle_calls,
+            pedestrian_calls: seen.pedestrian_calls,
+            phase_ons: sets.phase_ons,
+            phase_nexts: nexts(first.next, second.next),
+            overlap_reds: sets.overlap_reds,
+            overlap_yellows: seen.overlap_yellows,
+            overlap_greens: seen.overlap_greens,
+            active: self.detectors.outputs(),
+            alarms: seen.alarms,
+            preempts: [
+                self.preempt_state(Preempt::of(1)),
+                self.preempt_state(Preempt::of(2)),
+                self.preempt_state(Preempt::of(3)),
+                self.preempt_state(Preempt::of(4)),
+            ],
+            pattern: number_of(&runs),
+            free: free_status(&runs, self.coord.pattern()),
+            local: self.coord.local(beside.tick, plan),
+            sync: sync(&runs, beside.tick, plan),
+            flash: flash(beside.tripped),
+            owner: beside.owner,
+            desk: beside.desk,
+            rings: [
+                self.ring_status(&first, beside, plan),
+                self.ring_status(&second, beside, plan),
+            ],
+            waits: self.waits(sets.waiting, &found, beside.clock, plan),
+        }
+    }
+}
