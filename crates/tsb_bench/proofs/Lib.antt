@@ -9,5 +9,6 @@ pub mod SessionLemmas
 pub mod WatchedLemmas
 pub mod RoomLemmas
 pub mod TellingLemmas
+pub mod Examples
 pub use Rattle.tsb_machine.proofs as tsb_machine
 pub use Rattle.tsb_step.proofs as tsb_step

@@ -29,6 +29,8 @@ use tsb_step::time_laws::{
 ///
 /// Needs: what `play` promises, in its clauses `taken` and `state`.
 /// Not said: the other laws of tsb_step, red revert among them, and those of tsb_laws. They hold of the same runs.
+/// Mistake: an input that is carried out though it was refused, `carried_out` (`breaks_none`, `would_break_K5`).
+/// Witness: `are_right`, `are_taken` of Mistakes, a session with a commit that E7 refuses.
 pub fn plays_keep_the_laws(plan: Checked, commands: &[Cmd], answers: &[Answer], bench: &Bench)
     requires taken { AreTaken (checked_plan plan) (remaining (checked_plan plan) commands.now answers.now) }
     requires state { state_of bench.now ≡ replay (checked_plan plan) (remaining (checked_plan plan) commands.now answers.now) }

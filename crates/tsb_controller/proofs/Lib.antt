@@ -19,3 +19,4 @@ mod ReaderLemmas
 pub mod SeenLemmas
 pub mod EndingLemmas
 pub mod WaitLemmas
+pub mod Examples

@@ -145,12 +145,18 @@ impl Controller {
 /// A monitor that found nothing finds nothing where nothing changes. A tick that the monitor watched is a tick. Where
 /// it left the rows as they were and the monitor found nothing, the monitor finds nothing in another tick that leaves
 /// them so; the bench passes over such ticks.
+///
+/// Mistake: a monitor that looks from tick 10 on, `judge_from_10` (`would_find_none_at_9`, `would_find_it_at_10`).
+/// Witness: `detectors_run_on`, `phases_stay`, `side_stays` and `trips_not` of Examples, a tick that leaves them so.
 pub fn watched_ticks_pass()
     ensures ticked { WatchedTicksAreTicked }
     ensures passed { WatchedTicksPass }
 {}
 
 /// Where a tick's record is empty the rows are as they were.
+///
+/// Mistake: a record without the cells of the preempts, `changes_without` (`has_a_change`, `would_have_none`).
+/// Witness: `can_be` of Examples, with `differs_not`.
 pub fn unchanged_rows_are_same()
     ensures { UnchangedRowsAreSame }
 {}
