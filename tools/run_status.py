@@ -3,10 +3,10 @@
 
     tools/run_status.py PROGRAM [SUMS CASES..]
 
-PROGRAM is called `PROGRAM PLAN LOG`, reads the commands of a session, and writes a line of status after each tick and
-after each other command. Without SUMS they are crates/tsb_stored/data/statuses.sums, of the sessions that lie beside
-it; its head says of what there is a line, and tools/make_status.py writes such a file. Of a session whose plan or log
-has a fault nothing is written, and the status is 1.
+PROGRAM is tsb_runs: `PROGRAM PLAN LOG COMMANDS` writes a line of status after each tick and after each other command.
+Without SUMS they are crates/tsb_stored/data/statuses.sums, of the sessions that lie beside it; its head says of what
+there is a line, and tools/make_status.py writes such a file. Of a session whose plan or log has a fault nothing is
+written, and the status is 1.
 
 Fresh sessions at random come from the reference, for seeds that no file has. These are 10,000:
 
@@ -30,7 +30,7 @@ FILES = ["statuses.sums", "even.cases", "late.cases", "aimed.cases", "tripped.ca
 
 def difference(program: pathlib.Path, case: stored_cases.Case, wanted: str) -> str | None:
     """What the lines of status have otherwise than they should."""
-    return stored_sums.difference(stored_sums.ran([program], case), case, wanted, sum_of)
+    return stored_sums.difference(stored_sums.ran([program], case, reads_file=True), case, wanted, sum_of)
 
 
 if __name__ == "__main__":

@@ -1,14 +1,4 @@
-//! Plays commands on the built-in plans, and copies the bench that they leave.
-//!
-//! Its input is `all ticks`, or the number of a command that is left out, or nothing. Given a number or nothing it plays
-//! commands of every kind on the plan of eight phases. It writes the answer to each, then what the copy and the bench
-//! show and undo; or what memory ran out for. tools/refused_calls.py refuses its requests for memory one after another,
-//! and leaves out the input that was refused, to see that the others are answered the same. For `all ticks` see
-//! `all_ticks`.
-#![tactic(auto)]
-
-mod all_ticks;
-mod commands;
+//! Commands that are played on the built-in plans.
 
 use crate::all_ticks::all_ticks;
 use crate::commands::commands;
@@ -17,14 +7,15 @@ use tsb_bench::{Bench, play};
 use tsb_lines::number;
 use tsb_text::{Checked, Plan, line};
 
-fn main(rt: HostRuntime) -> io::Result<()> {
+/// Plays what standard input asks for.
+pub fn read_and_play(rt: &HostRuntime) -> io::Result<()> {
     let mut text = [0; 16];
     let count = rt.reader().read(&mut text)?;
     let given = &text[..count];
     if given == b"all ticks".as_slice() {
-        return all_ticks(&rt);
+        return all_ticks(rt);
     }
-    all_kinds(&rt, number(given).unwrap_or(0))
+    all_kinds(rt, number(given).unwrap_or(0))
 }
 
 /// Plays commands of every kind but the one of this number, if there is one, and writes what is answered and shown.
