@@ -14,6 +14,8 @@ pub enum Kind {
     When,
     /// The display lines of a session.
     Lines,
+    /// The status after each tick.
+    Status,
     /// Each of these.
     All,
     /// Nothing: the log is written.
@@ -44,7 +46,7 @@ impl Asked<'_> {
 
 /// The words ask for nothing.
 #[derive(Clone, Copy, Debug, Error, PartialEq, Eq)]
-#[error("usage: tsb_speed PLAN LOG TICKS ticks|undo|when|lines|all|log [times]")]
+#[error("usage: tsb_speed PLAN LOG TICKS ticks|undo|when|lines|status|all|log [times]")]
 pub struct BadWords;
 
 /// What the words ask for, after the program's name.
@@ -71,6 +73,7 @@ fn kind_of(word: &str) -> Option<Kind> {
         "undo" => Some(Kind::Undo),
         "when" => Some(Kind::When),
         "lines" => Some(Kind::Lines),
+        "status" => Some(Kind::Status),
         "all" => Some(Kind::All),
         "log" => Some(Kind::Log),
         _ => None,

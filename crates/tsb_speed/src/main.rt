@@ -5,7 +5,8 @@
 //! - `undo`: they pass, and each is taken back;
 //! - `when`: they pass, and the last change of watched values is asked for, many times;
 //! - `lines`: a session steps through them, and its display lines are counted;
-//! - `all`: these four, one after the other;
+//! - `status`: they pass, and the status is asked for after each;
+//! - `all`: these five, one after the other;
 //! - `log`: the log is written.
 //!
 //! What was counted is written, and with a fifth word, `times`, also how long it took. Without words nothing is done.
@@ -65,6 +66,9 @@ fn measure(rt: &HostRuntime, asked: &Asked<'_>, log: &Log) -> Result<()> {
     }
     if asked.has(Kind::Lines) {
         measured.step()?;
+    }
+    if asked.has(Kind::Status) {
+        measured.ask_status()?;
     }
     Ok(())
 }

@@ -105,6 +105,28 @@ impl Measured<'_> {
         Ok(())
     }
 
+    /// Lets the ticks pass and asks for the status after each, and writes how many waits were told.
+    pub fn ask_status(&self) -> Result<()> {
+        let Ok(mut bench) = Bench::power_up(self.rt.alloc(), self.plan) else {
+            return Err(AllocError.into());
+        };
+        let (mut place, mut statuses, mut waits) = (0, 0u32, 0u32);
+        let start = Instant::now(self.rt)?;
+        for k in 0..self.ticks {
+            let row = self.log.row(k + 1, &mut place);
+            if bench.apply(Input::Tick(row)).is_err() {
+                break;
+            }
+            statuses = statuses.saturating_add(1);
+            for wait in bench.status().waits {
+                waits = waits.saturating_add(u32::from(wait.is_some()));
+            }
+        }
+        self.tell("status", start)?;
+        println!(self.rt; "{statuses} statuses with {waits} waits")?;
+        Ok(())
+    }
+
     /// Writes how long something took, where times are written.
     fn tell(&self, name: &str, start: Instant) -> Result<()> {
         if self.is_timed {
