@@ -291,9 +291,14 @@ def tried(crate: Any, group: list[Edit], kept: str) -> list[Verdict]:
 
 
 def tried_all(crate: Any, edits: list[Edit]) -> list[Verdict]:
-    """The edits of a crate, group after group: what is proved for one group is not proved again for the next."""
+    """The edits of a crate, group after group: what is proved for one group is not proved again for the next. It says how
+    long that took."""
+    start, groups = time.monotonic(), grouped(edits)
     with tempfile.TemporaryDirectory(prefix="edits-kept-") as kept:
-        return [verdict for group in grouped(edits) for verdict in tried(crate, group, kept)]
+        verdicts = [verdict for group in groups for verdict in tried(crate, group, kept)]
+    if edits:
+        print(f"edits of {crate.name}: {len(edits)} in {len(groups)} runs, {time.monotonic() - start:.0f} s", flush=True)
+    return verdicts
 
 
 def unfit(crate: Any) -> tuple[list[Edit], list[Verdict]]:
