@@ -69,17 +69,14 @@ def sums_of(path: pathlib.Path) -> dict[str, str]:
     return dict(line.split(" ", 1) for line in lines if line and not line.startswith("#"))
 
 
-def ran(words: list[str | pathlib.Path], case: stored_cases.Case,
-        reads_file: bool = False) -> subprocess.CompletedProcess[bytes]:
-    """A run of a program on a session: its words, then the files of the plan and the log; it reads the commands, or has
-    their file as one more word."""
+def ran(words: list[str | pathlib.Path], case: stored_cases.Case) -> subprocess.CompletedProcess[bytes]:
+    """A run of a program on a session: its words, then the files of the plan and the log; it reads the commands."""
     with tempfile.TemporaryDirectory() as folder:
-        plan, log, commands = (pathlib.Path(folder, name) for name in ("plan", "log", "commands"))
+        plan, log = pathlib.Path(folder, "plan"), pathlib.Path(folder, "log")
         plan.write_bytes(case.plan)
         log.write_bytes(case.log)
-        commands.write_bytes(case.commands)
-        files = [plan, log, commands] if reads_file else [plan, log]
-        return subprocess.run([*words, *files], input=case.commands, capture_output=True, check=False, timeout=SECONDS)
+        return subprocess.run([*words, plan, log], input=case.commands, capture_output=True, check=False,
+                              timeout=SECONDS)
 
 
 def difference(done: subprocess.CompletedProcess[bytes], case: stored_cases.Case, wanted: str,
