@@ -1,10 +1,10 @@
 -- Answers are said one after another, and go out in any pieces.
-use Rattle.std.proofs.Common.{◌≡◌, ℕ, ◌+◌, ◌-◌, ◌≤◌, List, [], ◌∷◌, ◌++◌, length, take, drop, refl, sym, ap, ◌∙◌, append_assoc, arith, subst, zero, suc, take_all, length-drop}
+use Rattle.std.proofs.Common.{◌≡◌, ℕ, ◌+◌, ◌-◌, ◌<◌, ◌≤◌, List, [], ◌∷◌, ◌++◌, length, take, drop, get_or, refl, sym, ap, ◌∙◌, append_assoc, arith, subst, zero, suc, take_all, length-drop}
 use Rattle.std.proofs.lemmas.List.{append-nil, take-append-drop, drop-drop}
 use Rattle.std.specs.declared.option.Option.{Option}
 use Rattle.std.specs.Io.KnownBytes.{Appends, Keeps}
-use Rattle.tsb_lines.proofs.StreamLemmas.{appends-kept, appends-more, appends-nothing}
-use Rattle.tsb_dialog.specs.Said.{Said}
+use Rattle.tsb_lines.proofs.StreamLemmas.{appends-kept, appends-more, appends-nothing, front-more}
+use Rattle.tsb_dialog.specs.Said.{Said, Wrote}
 
 pub said-nothing : (a : Option (List ℕ)) (w : List ℕ) → Said a a w w []
 said-nothing a w = record { gone = []; grown = appends-nothing a; kept = append-nil w }
@@ -45,3 +45,15 @@ said-behind a b w v items new x g s is h grown =
       grown = s.grown;
       kept = ap (λ (l : List ℕ). l ++ x) (sym (append-nil w) ∙ s.kept) ∙ append_assoc s.gone v x ∙ ap (λ (l : List ℕ). s.gone ++ l) (sym there);
     }
+
+-- one byte more of a text
+pub said-byte : (a b c : Option (List ℕ)) (w v u text : List ℕ) (i x : ℕ) → i < length text → x ≡ get_or text i 0 → Said a b w v (take i text) → Said b c v u (x ∷ []) → Said a c w u (take (i + 1) text)
+said-byte a b c w v u text i x lt is s r = subst (λ (t : List ℕ). Said a c w u t) (front-more [] text i x lt is) (said-more a b c w v u (take i text) (x ∷ []) s r)
+
+-- a first part of a text was said, and no more of it
+pub said-front : (a b c : Option (List ℕ)) (w v u text : List ℕ) (i : ℕ) → Said a b w v (take i text) → Said b c v u [] → Wrote a c w u (λ said. (rest : List ℕ) × (text ≡ said ++ rest))
+said-front a b c w v u text i s r = record {
+  text = take i text ++ [];
+  said = said-more a b c w v u (take i text) [] s r;
+  so = (drop i text, sym (take-append-drop i text) ∙ ap (λ (l : List ℕ). l ++ drop i text) (sym (append-nil (take i text))));
+}

@@ -1,10 +1,10 @@
 //! Answers on their way out.
 
-ghost use Rattle.std.specs.Prelude.{◌≡◌, ◌≤◌, [], length, OnOk, OnErr, true};
+ghost use Rattle.std.specs.Prelude.{◌≡◌, ◌++◌, ◌≤◌, [], ℕ, List, length, OnOk, OnErr, true};
 ghost use Rattle.std.specs.Io.{ReadsAtMost};
 ghost use Rattle.std.specs.Io.KnownBytes.{ReadConsumes};
 ghost use Rattle.tsb_dialog.specs.Pended.{AfterRead, AfterWrites, IsWell};
-ghost use Rattle.tsb_dialog.specs.Said.{Said, with_feed};
+ghost use Rattle.tsb_dialog.specs.Said.{Said, Wrote, with_feed};
 
 use crate::waiting::Waiting;
 use crate::watch::Watch;
@@ -54,6 +54,16 @@ impl Pending {
         ensures blame { IsWell self.old → AfterWrites result self.new }
     {
         self.waiting.say(&mut self.watch, writer, line)
+    }
+
+    /// Says a text of any length, as it is: no line feed is added. Where there is no room, what waits is written; where
+    /// that fails, a first part of the text may have been said.
+    pub fn add<W: Write>(&mut self, writer: &mut W, text: &[u8]) -> Result<(), WriteError>
+        ensures ok { OnOk result (Said (W.contents writer.old) (W.contents writer.new) self.old.waits self.new.waits text.now) }
+        ensures front { Wrote (W.contents writer.old) (W.contents writer.new) self.old.waits self.new.waits (λ said. (rest : List ℕ) × (text.now ≡ said ++ rest)) }
+        ensures blame { IsWell self.old → AfterWrites result self.new }
+    {
+        self.waiting.add(&mut self.watch, writer, text)
     }
 
     /// Writes all that waits, and has the writer pass it on.

@@ -1,8 +1,8 @@
 //! Answers that wait to be written.
 #![tactic(auto)]
 
-ghost use Rattle.std.specs.Prelude.{◌≡◌, ◌≤◌, [], length, OnOk, OnErr, true};
-ghost use Rattle.tsb_dialog.specs.Said.{Said, with_feed};
+ghost use Rattle.std.specs.Prelude.{◌≡◌, ◌∷◌, ◌++◌, ◌≤◌, [], ℕ, List, length, OnOk, OnErr, true};
+ghost use Rattle.tsb_dialog.specs.Said.{Said, Wrote, with_feed};
 
 use crate::watch::Watch;
 use arrayvec::ArrayVec;
@@ -69,6 +69,50 @@ impl Waiting {
         }
         let _ = self.bytes.try_extend_from_slice(line);
         self.bytes.push(b'\n');
+        Ok(())
+    }
+
+    /// Says a text of any length, as it is. Where there is no room, what waits is written; where that fails, a first part
+    /// of the text may have been said.
+    pub(crate) fn add<W: Write>(
+        &mut self,
+        watch: &mut Watch,
+        writer: &mut W,
+        text: &[u8],
+    ) -> Result<(), WriteError>
+        ensures ok { OnOk result (Said (W.contents writer.old) (W.contents writer.new) self.old self.new text.now) }
+        ensures front { Wrote (W.contents writer.old) (W.contents writer.new) self.old self.new (λ said. (rest : List ℕ) × (text.now ≡ said ++ rest)) }
+        ensures blame { OnErr result (watch.new.write_failed ≡ true) }
+        ensures well { OnOk result (watch.new.write_failed ≡ watch.old.write_failed) }
+        ensures reads { watch.new.read_failed ≡ watch.old.read_failed }
+    {
+        for byte in text {
+            self.push(watch, writer, *byte)?;
+        }
+        Ok(())
+    }
+
+    /// Says one byte. Where there is no room for it, what waits is written first; where that fails, it was not said.
+    fn push<W: Write>(
+        &mut self,
+        watch: &mut Watch,
+        writer: &mut W,
+        byte: u8,
+    ) -> Result<(), WriteError>
+        ensures ok { OnOk result (Said (W.contents writer.old) (W.contents writer.new) self.old self.new (byte ∷ [])) }
+        ensures fault { OnErr result (Said (W.contents writer.old) (W.contents writer.new) self.old self.new []) }
+        ensures blame { OnErr result (watch.new.write_failed ≡ true) }
+        ensures well { OnOk result (watch.new.write_failed ≡ watch.old.write_failed) }
+        ensures reads { watch.new.read_failed ≡ watch.old.read_failed }
+    {
+        if self.bytes.is_full() {
+            self.send(watch, writer)?;
+            self.gone = 0;
+            self.bytes.clear();
+            self.bytes.push(byte);
+            return Ok(());
+        }
+        self.bytes.push(byte);
         Ok(())
     }
 
