@@ -57,6 +57,7 @@ impl Watch {
         ensures blame { OnErr result (self.new.write_failed ≡ true) }
         ensures well { OnOk result (self.new.write_failed ≡ self.old.write_failed) }
         ensures reads { self.new.read_failed ≡ self.old.read_failed }
+        ensures flushed { self.new.flushed ≡ false }
     {
         self.flushed = false;
         match writer.write(bytes) {
