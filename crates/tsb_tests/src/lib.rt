@@ -18,6 +18,8 @@ mod desk;
 #[cfg(test)]
 mod devices;
 #[cfg(test)]
+mod dialogs;
+#[cfg(test)]
 mod display_lines;
 #[cfg(test)]
 mod history;
