@@ -10,7 +10,7 @@ use Rattle.tsb_lines.proofs.DigitLemmas.{seven-digits-read}
 use Rattle.tsb_types.specs.Sets.{has_number, number_of_bits}
 use Rattle.tsb_types.specs.declared.number_set.NumberSet.{NumberSet}
 use Rattle.tsb_types.proofs.SetLemmas.{list_of-names_within}
-use Rattle.tsb_log_text.specs.Rows.{row_of, row_with, tick_of, in_ticks, list_in_digits, onto_digits}
+use Rattle.tsb_log_text.specs.Rows.{row_of, row_with, inputs_of, inputs_with, tick_of, in_ticks, list_in_digits, onto_digits}
 use Rattle.tsb_log_text.specs.Logs.{log_of, Rises}
 use Rattle.tsb_log_text.specs.Laws.{heeded}
 use Rattle.tsb_log_text.specs.declared.log.LogRow.{LogRow}
@@ -43,8 +43,9 @@ set-read n set fits = marks-read n (λ k. has_number set (suc k)) ∙ ap (λ (k 
 
 -- ## The line of a row
 
-line-parts : (r : LogRow) → row_of (row_line r) ≡ row_with (tick_of (seven_digits r.tick)) (list_in_digits (set_marks 16 r.row.vehicles)) (list_in_digits (set_marks 8 r.row.pedestrians)) (list_in_digits (set_marks 4 r.row.preempts))
-unfolding row_of row_line
+line-parts : (r : LogRow) → row_of (row_line r)
+    ≡ row_with (tick_of (seven_digits r.tick)) (inputs_with (list_in_digits (set_marks 16 r.row.vehicles)) (list_in_digits (set_marks 8 r.row.pedestrians)) (list_in_digits (set_marks 4 r.row.preempts)))
+unfolding row_of inputs_of row_line
 line-parts r = refl
 
 line-read : (r : LogRow) → IsRow r → row_of (row_line r) ≡ Some r
@@ -54,10 +55,10 @@ line-read r is =
     let p : list_in_digits (set_marks 8 r.row.pedestrians) ≡ Some r.row.pedestrians.word = set-read 8 r.row.pedestrians is.pedestrians in
     let n : list_in_digits (set_marks 4 r.row.preempts) ≡ Some r.row.preempts.word = set-read 4 r.row.preempts is.preempts in
     line-parts r
-    ∙ ap (λ (o : Option ℕ). row_with o (list_in_digits (set_marks 16 r.row.vehicles)) (list_in_digits (set_marks 8 r.row.pedestrians)) (list_in_digits (set_marks 4 r.row.preempts))) t
-    ∙ ap (λ (o : Option ℕ). row_with (Some r.tick) o (list_in_digits (set_marks 8 r.row.pedestrians)) (list_in_digits (set_marks 4 r.row.preempts))) v
-    ∙ ap (λ (o : Option ℕ). row_with (Some r.tick) (Some r.row.vehicles.word) o (list_in_digits (set_marks 4 r.row.preempts))) p
-    ∙ ap (λ (o : Option ℕ). row_with (Some r.tick) (Some r.row.vehicles.word) (Some r.row.pedestrians.word) o) n
+    ∙ ap (λ (o : Option ℕ). row_with o (inputs_with (list_in_digits (set_marks 16 r.row.vehicles)) (list_in_digits (set_marks 8 r.row.pedestrians)) (list_in_digits (set_marks 4 r.row.preempts)))) t
+    ∙ ap (λ (o : Option ℕ). row_with (Some r.tick) (inputs_with o (list_in_digits (set_marks 8 r.row.pedestrians)) (list_in_digits (set_marks 4 r.row.preempts)))) v
+    ∙ ap (λ (o : Option ℕ). row_with (Some r.tick) (inputs_with (Some r.row.vehicles.word) o (list_in_digits (set_marks 4 r.row.preempts)))) p
+    ∙ ap (λ (o : Option ℕ). row_with (Some r.tick) (inputs_with (Some r.row.vehicles.word) (Some r.row.pedestrians.word) o)) n
 
 -- none of its bytes ends it
 feedless-append : (xs ys : List ℕ) → HasNoFeed xs → HasNoFeed ys → HasNoFeed (xs ++ ys)

@@ -3,6 +3,7 @@ use Rattle.std.specs.Prelude.{ℕ, ◌+◌, ◌*◌, ◌==◌, ◌&&◌, nat_le,
 use Rattle.tsb_lines.specs.Words.{number_of}
 use Rattle.tsb_types.specs.declared.limits.TheConstants.{TICKS}
 use Rattle.tsb_types.specs.Sets.{set_of_list}
+use Rattle.tsb_types.specs.declared.row.Row.{Row}
 use Rattle.tsb_log_text.specs.declared.log.LogRow.{LogRow}
 
 -- a digit 0 or 1 before others, of which this is the number
@@ -32,16 +33,27 @@ field place count line = take count (drop place line)
 abbrev pub has_space : ℕ → List ℕ → Bool
 has_space place line = slice_index line place == 32
 
--- a row where the tick and all three lists are spelled, otherwise none
-abbrev pub row_with : Option ℕ → Option ℕ → Option ℕ → Option ℕ → Option LogRow
-row_with (Some t) (Some v) (Some p) (Some e) =
-    Some (record { tick = t; row = record { vehicles = set_of_list v; pedestrians = set_of_list p; preempts = set_of_list e } })
-row_with t v p e = None
+-- inputs where all three lists are spelled, otherwise none
+abbrev pub inputs_with : Option ℕ → Option ℕ → Option ℕ → Option Row
+inputs_with (Some v) (Some p) (Some e) = Some (record { vehicles = set_of_list v; pedestrians = set_of_list p; preempts = set_of_list e })
+inputs_with v p e = None
 
--- a row: 7 digits for its tick, 16 for vehicle detectors, 8 for pedestrian detectors and 4 for preempt inputs, with a
+-- the inputs of a row: 16 digits for vehicle detectors, 8 for pedestrian detectors and 4 for preempt inputs, with a
 -- space between them
+unfoldable pub inputs_of : List ℕ → Option Row
+inputs_of digits =
+    if length digits == 30 && has_space 16 digits && has_space 25 digits
+    then inputs_with (list_in_digits (field 0 16 digits)) (list_in_digits (field 17 8 digits)) (list_in_digits (field 26 4 digits))
+    else None
+
+-- a row where the tick and the inputs are spelled, otherwise none
+abbrev pub row_with : Option ℕ → Option Row → Option LogRow
+row_with (Some t) (Some r) = Some (record { tick = t; row = r })
+row_with t r = None
+
+-- a row: 7 digits for its tick, a space and its inputs
 unfoldable pub row_of : List ℕ → Option LogRow
 row_of line =
-    if length line == 38 && has_space 7 line && has_space 24 line && has_space 33 line
-    then row_with (tick_of (field 0 7 line)) (list_in_digits (field 8 16 line)) (list_in_digits (field 25 8 line)) (list_in_digits (field 34 4 line))
+    if length line == 38 && has_space 7 line
+    then row_with (tick_of (field 0 7 line)) (inputs_of (field 8 30 line))
     else None

@@ -16,3 +16,4 @@ mod search;
 pub use error::LogError;
 pub use log::{Log, LogRow};
 pub use read::{LIMIT, read_log};
+pub use row_text::inputs_of;

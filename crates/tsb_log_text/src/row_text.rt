@@ -1,6 +1,6 @@
 //! The line that spells a row.
 ghost use Rattle.std.specs.Prelude.{◌≡◌, ◌≤◌, length};
-ghost use Rattle.tsb_log_text.specs.Rows.{list_in_digits, row_of, tick_of};
+ghost use Rattle.tsb_log_text.specs.Rows.{inputs_of, list_in_digits, row_of, tick_of};
 
 use crate::log::LogRow;
 use tsb_lines::number;
@@ -12,20 +12,31 @@ use tsb_types::{NumberSet, Row};
 pub(crate) fn row(line: &[u8]) -> Option<LogRow>
     ensures { result ≡ row_of line.now }
 {
-    if line.len() != 38 || line[7] != b' ' || line[24] != b' ' || line[33] != b' ' {
+    if line.len() != 38 || line[7] != b' ' {
         return None;
     }
     let tick = tick(&line[..7])?;
-    let vehicles = list(&line[8..24])?;
-    let pedestrians = list(&line[25..33])?;
-    let preempts = list(&line[34..38])?;
-    Some(LogRow {
-        tick,
-        row: Row {
-            vehicles: NumberSet::from_list(vehicles),
-            pedestrians: NumberSet::from_list(pedestrians),
-            preempts: NumberSet::from_list(preempts),
-        },
+    let row = inputs_of(&line[8..38])?;
+    Some(LogRow { tick, row })
+}
+
+/// The inputs that 30 bytes spell as a row of a log does behind its tick: 16 digits 0 or 1 for vehicle detectors 1 to
+/// 16, 8 for pedestrian detectors 1 to 8 and 4 for preempt inputs 1 to 4, with a space between them. `None` for any
+/// other bytes: a row has no further space at either end.
+#[tactic(auto, unfolding(crate::specs::Rows::inputs_of))]
+pub fn inputs_of(digits: &[u8]) -> Option<Row>
+    ensures { result ≡ inputs_of digits.now }
+{
+    if digits.len() != 30 || digits[16] != b' ' || digits[25] != b' ' {
+        return None;
+    }
+    let vehicles = list(&digits[..16])?;
+    let pedestrians = list(&digits[17..25])?;
+    let preempts = list(&digits[26..30])?;
+    Some(Row {
+        vehicles: NumberSet::from_list(vehicles),
+        pedestrians: NumberSet::from_list(pedestrians),
+        preempts: NumberSet::from_list(preempts),
     })
 }
 

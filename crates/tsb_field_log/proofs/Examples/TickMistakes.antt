@@ -3,7 +3,7 @@ use Rattle.std.specs.Prelude.{◌≡◌, ℕ, zero, suc, ◌+◌, ◌*◌, ◌&&
 use Rattle.tsb_types.specs.Sets.{all_off, has_number, number_of_bits}
 use Rattle.tsb_types.specs.declared.row.Row.{Row}
 use Rattle.tsb_log_text.specs.Logs.{log_of, row_at, rows_from}
-use Rattle.tsb_log_text.specs.Rows.{row_of}
+use Rattle.tsb_log_text.specs.Rows.{inputs_of, row_of}
 use Rattle.tsb_log_text.specs.declared.error.LogError.TheVariants.{Malformed}
 use Rattle.tsb_log_text.specs.declared.log.LogRow.{LogRow}
 use Rattle.tsb_field_log.specs.declared.inputs.InputEvent.{InputEvent}
@@ -87,7 +87,7 @@ text_in_six [] = []
 text_in_six (r ∷ rs) = line_in_six r ++ 10 ∷ text_in_six rs
 
 is_a_log : log_of (log_text rows) ≡ Ok rows
-unfolding changes row_in number_of_bits log_text row_line rows_from row_of
+unfolding changes row_in number_of_bits log_text row_line rows_from row_of inputs_of
 is_a_log = refl
 
 is_long : length (log_text rows) ≡ 39 * length rows
@@ -95,5 +95,5 @@ unfolding changes row_in number_of_bits log_text row_line
 is_long = refl
 
 would_be_malformed : log_of (text_in_six rows) ≡ Err (Malformed 1)
-unfolding changes row_in number_of_bits row_line rows_from row_of
+unfolding changes row_in number_of_bits row_line rows_from row_of inputs_of
 would_be_malformed = refl

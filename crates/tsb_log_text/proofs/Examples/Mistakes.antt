@@ -4,7 +4,7 @@ use Rattle.tsb_lines.specs.Lines.{is_skipped}
 use Rattle.tsb_types.specs.Sets.{names, set_of_list, all_off}
 use Rattle.tsb_types.specs.declared.row.Row.{Row}
 use Rattle.tsb_log_text.specs.Logs.{with_rows, row_then, rows_from, row_at}
-use Rattle.tsb_log_text.specs.Rows.{list_in_digits, row_of}
+use Rattle.tsb_log_text.specs.Rows.{inputs_of, list_in_digits, row_of}
 use Rattle.tsb_log_text.specs.declared.log.LogRow.{LogRow}
 use Rattle.tsb_log_text.specs.declared.error.LogError.{LogError}
 use Rattle.tsb_log_text.specs.declared.error.LogError.TheVariants.{Malformed, TickOrder}
@@ -28,7 +28,7 @@ off_row = record { tick = 9; row = all_off }
 
 -- a comment does not count as a row
 rises : rows_from 1 0 (codes "# a comment" ∷ on_line ∷ off_line ∷ []) ≡ Ok (on_row ∷ off_row ∷ [])
-unfolding rows_from row_of
+unfolding rows_from row_of inputs_of
 rises = refl
 
 -- ## A row may have the tick of the row before it
@@ -44,11 +44,11 @@ rows_or_at n last (line ∷ lines) =
     else row_then_or_at n last (row_of line) (λ tick. rows_or_at (n + 1) tick lines)
 
 stays : rows_from 1 0 (on_line ∷ on_line ∷ []) ≡ Err (TickOrder 2)
-unfolding rows_from row_of
+unfolding rows_from row_of inputs_of
 stays = refl
 
 would_be_a_log : rows_or_at 1 0 (on_line ∷ on_line ∷ []) ≡ Ok (on_row ∷ on_row ∷ [])
-unfolding row_of
+unfolding row_of inputs_of
 would_be_a_log = refl
 
 -- ## Lines that are skipped are not counted, so a fault is told of another line
@@ -60,11 +60,11 @@ rows_uncounted n last (line ∷ lines) =
     else row_then n last (row_of line) (λ tick. rows_uncounted (n + 1) tick lines)
 
 is_line_2 : rows_from 1 0 (codes "# a comment" ∷ codes "5" ∷ []) ≡ Err (Malformed 2)
-unfolding rows_from row_of
+unfolding rows_from row_of inputs_of
 is_line_2 = refl
 
 would_be_line_1 : rows_uncounted 1 0 (codes "# a comment" ∷ codes "5" ∷ []) ≡ Err (Malformed 1)
-unfolding row_of
+unfolding row_of inputs_of
 would_be_line_1 = refl
 
 -- ## A row is in force from the tick after its own
