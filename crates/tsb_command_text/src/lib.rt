@@ -9,4 +9,4 @@ mod lamps;
 mod read;
 
 pub use command::{Command, Reading};
-pub use read::{LINE, read_command, reading_of};
+pub use read::{LINE, read_command, reading_of, turned_on};

@@ -187,8 +187,8 @@ fn watch_by_two(word: &[u8], number: &[u8]) -> Option<Watch>
     None
 }
 
-/// `true` for `on`, `false` for `off`.
-fn turned_on(word: &[u8]) -> Option<bool>
+/// What a word says of a switch: `true` for `on`, `false` for `off`, `None` for any other word.
+pub fn turned_on(word: &[u8]) -> Option<bool>
     ensures { result ≡ on_or_off word.now }
 {
     if word == b"on".as_slice() {
