@@ -1,0 +1,4 @@
+-- What lines ask, line by line.
+pub mod LineExamples
+-- Computed mistakes that the definitions refuse.
+pub mod Mistakes

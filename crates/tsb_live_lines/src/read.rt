@@ -1,0 +1,90 @@
+//! What a line asks.
+ghost use Rattle.std.specs.Prelude.{◌≡◌, ◌≤◌, length};
+ghost use Rattle.tsb_lines.specs.Words.{words_of};
+ghost use Rattle.tsb_live_lines.specs.LiveCommands.{live_command_in, own_in, own_of_one, own_of_two};
+ghost use Rattle.tsb_live_lines.specs.LiveReadings.{live_reading};
+
+use crate::command::{LiveCommand, LiveReading};
+use tsb_command_text::{LINE, read_command, turned_on};
+use tsb_lines::{is_skipped, next_word, number};
+use tsb_log_text::inputs_of;
+
+/// What a line asks. The line is given without its end, and is bad where it has over `LINE` bytes.
+#[tactic(auto, unfolding(crate::specs::LiveReadings::live_reading))]
+pub fn live_reading_of(line: &[u8]) -> LiveReading
+    ensures { result ≡ live_reading line.now }
+{
+    if line.len() > LINE {
+        return LiveReading::Bad;
+    }
+    if is_skipped(line) {
+        return LiveReading::Skip;
+    }
+    if let Some(row) = inputs_of(line) {
+        return LiveReading::Tick(row);
+    }
+    match live_command(line) {
+        None => LiveReading::Bad,
+        Some(command) => LiveReading::Ask(command),
+    }
+}
+
+/// The command of a line.
+fn live_command(line: &[u8]) -> Option<LiveCommand>
+    requires { length line.now ≤ 200 }
+    ensures { result ≡ live_command_in (words_of line.now) }
+{
+    if let Some(command) = own_command(line) {
+        return Some(command);
+    }
+    Some(LiveCommand::Session(read_command(line)?))
+}
+
+/// The command of a line that is asked live alone.
+fn own_command(line: &[u8]) -> Option<LiveCommand>
+    ensures { result ≡ own_in (words_of line.now) }
+{
+    let (name, rest) = next_word(line)?;
+    let Some((word, rest)) = next_word(rest) else {
+        return own_of_one(name);
+    };
+    if next_word(rest).is_some() {
+        return None;
+    }
+    own_of_two(name, word)
+}
+
+#[tactic(auto, unfolding(crate::specs::LiveCommands::own_of_one))]
+fn own_of_one(name: &[u8]) -> Option<LiveCommand>
+    ensures { result ≡ own_of_one name.now }
+{
+    if name == b"status".as_slice() {
+        return Some(LiveCommand::Status);
+    }
+    if name == b"plan".as_slice() {
+        return Some(LiveCommand::Plan);
+    }
+    if name == b"edits".as_slice() {
+        return Some(LiveCommand::Edits);
+    }
+    if name == b"save".as_slice() {
+        return Some(LiveCommand::Save);
+    }
+    None
+}
+
+#[tactic(auto, unfolding(crate::specs::LiveCommands::own_of_two))]
+fn own_of_two(name: &[u8], word: &[u8]) -> Option<LiveCommand>
+    ensures { result ≡ own_of_two name.now word.now }
+{
+    if name == b"changes".as_slice() {
+        return Some(LiveCommand::Changes(number(word)?));
+    }
+    if name == b"events".as_slice() {
+        return Some(LiveCommand::Events(turned_on(word)?));
+    }
+    if name == b"echo".as_slice() {
+        return Some(LiveCommand::Echo(turned_on(word)?));
+    }
+    None
+}
