@@ -268,7 +268,7 @@ members_leave v (member name d rest) p q e o k none =
           (λ i has one at. none i (subst (λ (s : Object). has_index_in v s i ≡ true) one has) (subst (λ (s : Object). translated v s i ≡ k) one at))
     ]
 
-says_these : TranslateApart → (v : Version) (ms : Members) (plan : Plan) → AllRise ms → with_members v ms empty ≡ Ok plan → SaysThese v ms plan
+pub says_these : TranslateApart → (v : Version) (ms : Members) (plan : Plan) → AllRise ms → with_members v ms empty ≡ Ok plan → SaysThese v ms plan
 says_these apart v ms plan rises e = record {
   there = members_say apart v ms empty plan rises e;
   elsewhere = members_leave v ms empty plan e;
