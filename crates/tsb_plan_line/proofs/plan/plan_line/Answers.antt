@@ -1,0 +1,18 @@
+use Rattle.std.proofs.Common.{◌≡◌, ◌∙◌, ◌++◌, List, ℕ, [], ap, refl}
+use Rattle.json.specs.Print.{print}
+use Rattle.tsb_plan.specs.Objects.{objects}
+use Rattle.tsb_plan.specs.PlanOf.{plan_of}
+use Rattle.tsb_plan_line.specs.PlanLine.{plan_text}
+use Rattle.tsb_plan_line.proofs.TokenLemmas.{plan-on}
+use Rattle.tsb_plan_line.proofs.plan.plan_line.Goals as goal
+
+pub returns : goal.returns
+unfolding plan_text objects
+returns c =
+    let before : c.write_objects.new.writer.before ≡ [] =
+    c.write_objects.ensures.before ∙ c.u64.ensures.room.0 ∙ c.key.ensures.room.0 ∙ c.begin_object.ensures.room.0 ∙ c.new-writer.ensures.before ∙ c.new.ensures.items in
+    c.into_inner.ensures.items
+    ∙ ap (λ (bytes : List ℕ). bytes ++ print c.write_objects.new.writer.tokens) before
+    ∙ ap print
+    (plan-on (plan_of c.args.plan.now) _ c.new-writer.result.tokens c.begin_object.new.self.tokens c.key.new.self.tokens c.u64.new.self.tokens c.write_objects.new.writer.tokens
+    refl c.new-writer.ensures.tokens c.in_ok-begin_object.ensures.ok c.in_ok-key.ensures.ok c.in_ok-u64.ensures.ok c.in_ok-write_objects.ensures.tokens)

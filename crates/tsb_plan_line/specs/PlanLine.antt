@@ -1,0 +1,47 @@
+-- The line of a plan: one plan text of version 2, without spaces and without a line feed. `version` comes first, then
+-- each object that is not all zeros, in the order of the table of objects, and of each object the indices at which it is
+-- not 0, in ascending order. So what differs between two plans is all that differs between their lines.
+use Rattle.std.specs.List.{list_all}
+use Rattle.std.specs.Prelude.{ℕ, ◌==◌, Bool, if◌then◌else◌, List, [], ◌∷◌, codes, decimal}
+use Rattle.json.specs.Json.{Json, number, object, Members, no_members, member}
+use Rattle.json.specs.Print.{print}
+use Rattle.json.specs.Tree.{json_tokens}
+use Rattle.tsb_plan.specs.declared.object.Object.{Object}
+use Rattle.tsb_plan.specs.Names.{name_of}
+use Rattle.tsb_plan.specs.Objects.{objects, indices}
+use Rattle.tsb_plan.specs.Plan.{Plan}
+use Rattle.tsb_objects.specs.tsb_types.Lists.{run_from}
+
+-- the value at an index before other members, unless it is 0
+abbrev pub with_entry : ℕ → ℕ → Members → Members
+with_entry i v rest = if v == 0 then rest else member (decimal i) (number (decimal v)) rest
+
+-- the values of an object at these indices
+abbrev pub entries : Plan → Object → List ℕ → Members
+entries plan o [] = no_members
+entries plan o (i ∷ is) = with_entry i (plan.value o i) (entries plan o is)
+
+-- the table of an object
+unfoldable pub table : Plan → Object → Members
+table plan o = entries plan o (run_from 1 (indices o))
+
+-- the object is 0 at each of its indices
+unfoldable pub is_all_zeros : Plan → Object → Bool
+is_all_zeros plan o = list_all (λ i. plan.value o i == 0) (run_from 1 (indices o))
+
+-- an object with its table before other members, unless it is all zeros
+unfoldable pub with_object : Plan → Object → Members → Members
+with_object plan o rest = if is_all_zeros plan o then rest else member (name_of o) (object (table plan o)) rest
+
+-- these objects
+abbrev pub members_of : Plan → List Object → Members
+members_of plan [] = no_members
+members_of plan (o ∷ os) = with_object plan o (members_of plan os)
+
+-- the plan as JSON
+unfoldable pub plan_json : Plan → Json
+plan_json plan = object (member (codes "version") (number (decimal 2)) (members_of plan objects))
+
+-- the line of a plan, without its end
+unfoldable pub plan_text : Plan → List ℕ
+plan_text plan = print (json_tokens (plan_json plan))
