@@ -1,5 +1,5 @@
 -- The line of a plan is JSON: its numbers are, it nests two deep, its bytes are UTF-8, and it is short.
-use Rattle.std.proofs.Common.{◌≡◌, ◌∙◌, ℕ, zero, suc, ◌+◌, ◌*◌, ◌^◌, ◌<◌, ◌≤◌, ◌==◌, ◌&&◌, Bool, true, false, cond, List, [], ◌∷◌, ◌++◌, append-nil, length, length-append, if◌then◌else◌, nat_lt, option_and_then, codes, decimal, refl, sym, ap, arith, rules}
+use Rattle.std.proofs.Common.{◌≡◌, ◌∙◌, ℕ, zero, suc, ◌+◌, ◌*◌, ◌<◌, ◌≤◌, ◌==◌, ◌&&◌, Bool, true, false, cond, List, [], ◌∷◌, ◌++◌, append-nil, length, length-append, if◌then◌else◌, nat_lt, option_and_then, codes, decimal, refl, sym, ap, arith, rules}
 use Rattle.std.proofs.lemmas.Fmt.{IsAscii-decimal, length-decimal-le}
 use Rattle.std.proofs.lemmas.Str.{IsUtf8-append, IsUtf8-from_ascii, IsUtf8-nil}
 use Rattle.std.specs.Bool.{⊤}
@@ -7,7 +7,7 @@ use Rattle.std.specs.Prelude.{IsUtf8}
 use Rattle.json.specs.Json as json
 use Rattle.json.specs.Json.{Members, no_members, member, number, object}
 use Rattle.json.specs.Lex.{tokens}
-use Rattle.json.specs.Print.{print, print_from, token_text, separator, begins, ends, escape, escape_byte, escape_letter, quoted}
+use Rattle.json.specs.Print.{print, print_from, token_text, separator, begins, ends, escape, escape_byte, escape_letter}
 use Rattle.json.specs.Token.{Token}
 use Rattle.json.specs.Tree.{json_tokens, members_tokens, depth, members_depth, HasNumbers, MembersHaveNumbers, room}
 use Rattle.json.proofs.Printed.Decimals.{IsNumber-decimal}
@@ -18,11 +18,10 @@ use Rattle.serde_json.specs.Read.{read, max_depth, of_json}
 use Rattle.tsb_objects.specs.tsb_types.Lists.{run_from}
 use Rattle.tsb_plan.proofs.TableLemmas.{length-objects}
 use Rattle.tsb_plan.specs.declared.object.Object.{Object}
-use Rattle.tsb_plan.specs.declared.object.TheConstants.Object.{COUNT}
 use Rattle.tsb_plan.specs.Names.{name_of}
 use Rattle.tsb_plan.specs.Objects.{objects, indices}
 use Rattle.tsb_plan.specs.Plan.{Plan}
-use Rattle.tsb_plan_line.specs.PlanLine.{entries, is_all_zeros, members_of, plan_json, plan_text, table, with_entry, with_object}
+use Rattle.tsb_plan_line.specs.PlanLine.{entries, is_all_zeros, members_of, plan_json, plan_text, table, with_object}
 
 -- each value has at most 16 bits
 abbrev pub AreSmall : Plan → Type 0
@@ -31,7 +30,7 @@ AreSmall plan = (o : Object) (i : ℕ) → plan.value o i < 65536
 pub few_indices : (o : Object) → indices o ≤ 128
 few_indices o = search rules
 
-short_name : (o : Object) → length (name_of o) ≤ 27
+short_name : (o : Object) → length (name_of o) ≤ 28
 short_name o = search rules
 
 name_ascii : (o : Object) → are_ascii (name_of o) ≡ true
@@ -129,7 +128,7 @@ opening_utf8 = IsUtf8-are_ascii (123 ∷ []) refl
 entry_utf8 : (b : Bool) (i v : ℕ) (rest : Members) → i < 65536 → v < 65536 → AreUtf8 (members_tokens rest) →
     AreUtf8 (members_tokens (if b then rest else member (decimal i) (number (decimal v)) rest))
 entry_utf8 true i v rest hi hv h = h
-entry_utf8 false i v rest hi hv h = (IsUtf8-key (decimal i) (decimal_utf8 i hi), decimal_utf8 v hv, h)
+entry_utf8 false i v rest hi hv h = (IsUtf8-key (decimal i) (decimal_utf8 i hi), (decimal_utf8 v hv, h))
 
 entries_utf8 : (plan : Plan) → AreSmall plan → (o : Object) (a n : ℕ) → a + n ≤ 1000 → AreUtf8 (members_tokens (entries plan o (run_from a n)))
 unfolding run_from
@@ -144,7 +143,7 @@ table_utf8 plan small o = entries_utf8 plan small o 1 (indices o) (omega (arith,
 object_utf8 : (b : Bool) (k : List ℕ) (ms rest : Members) → IsUtf8 k → AreUtf8 (members_tokens ms) → AreUtf8 (members_tokens rest) →
     AreUtf8 (members_tokens (if b then rest else member k (object ms) rest))
 object_utf8 true k ms rest hk hm h = h
-object_utf8 false k ms rest hk hm h = (IsUtf8-key k hk, opening_utf8, utf8_append (members_tokens ms) (members_tokens rest) hm h)
+object_utf8 false k ms rest hk hm h = (IsUtf8-key k hk, (opening_utf8, utf8_append (members_tokens ms) (members_tokens rest) hm h))
 
 members_utf8 : (plan : Plan) → AreSmall plan → (os : List Object) → AreUtf8 (members_tokens (members_of plan os))
 unfolding with_object
@@ -156,11 +155,11 @@ pub text_utf8 : (plan : Plan) → AreSmall plan → IsUtf8 (plan_text plan)
 unfolding plan_text plan_json
 text_utf8 plan small =
     print_utf8 false (json_tokens (plan_json plan))
-    (opening_utf8, IsUtf8-key (codes "version") (IsUtf8-are_ascii (codes "version") refl), decimal_utf8 2 (omega arith), members_utf8 plan small objects)
+    (opening_utf8, (IsUtf8-key (codes "version") (IsUtf8-are_ascii (codes "version") refl), (decimal_utf8 2 (omega arith), members_utf8 plan small objects)))
 
 -- ## Its length
 
-comma_room : (b : Bool) → length (cond b (44 ∷ []) []) ≤ 1
+comma_room : (b : Bool) → length {A = ℕ} (cond b (44 ∷ []) []) ≤ 1
 comma_room true = omega arith
 comma_room false = omega arith
 
@@ -172,7 +171,7 @@ print_room c (t ∷ ts) =
     let rest = print_room (ends t) ts in
     omega (arith, comma, rest, length-append (separator c t) (token_text t ++ print_from (ends t) ts), length-append (token_text t) (print_from (ends t) ts))
 
-byte_room : (short low : Bool) (a b c x : ℕ) → length (cond short (92 ∷ a ∷ []) (cond low (92 ∷ 117 ∷ 48 ∷ 48 ∷ b ∷ c ∷ []) (x ∷ []))) ≤ 6
+byte_room : (short low : Bool) (a b c x : ℕ) → length {A = ℕ} (cond short (92 ∷ a ∷ []) (cond low (92 ∷ 117 ∷ 48 ∷ 48 ∷ b ∷ c ∷ []) (x ∷ []))) ≤ 6
 byte_room true low a b c x = omega arith
 byte_room false true a b c x = omega arith
 byte_room false false a b c x = omega arith
@@ -208,7 +207,7 @@ table_room : (plan : Plan) → AreSmall plan → (o : Object) → room (members_
 unfolding table
 table_room plan small o = omega (arith, few_indices o, entries_room plan small o 1 (indices o) (omega (arith, few_indices o)))
 
-object_room : (b : Bool) (k : List ℕ) (ms rest : Members) → length k ≤ 27 → room (members_tokens ms) ≤ 3842 →
+object_room : (b : Bool) (k : List ℕ) (ms rest : Members) → length k ≤ 28 → room (members_tokens ms) ≤ 3842 →
     room (members_tokens (if b then rest else member k (object ms) rest)) ≤ 4100 + room (members_tokens rest)
 object_room true k ms rest hk hm = omega arith
 object_room false k ms rest hk hm = omega (arith, hk, hm, key_room k, room-append (members_tokens ms) (members_tokens rest))

@@ -1,15 +1,14 @@
 -- The tokens of a plan, a member after another.
-use Rattle.std.proofs.Common.{◌≡◌, ◌∙◌, ℕ, zero, suc, ◌+◌, ◌-◌, ◌<◌, ◌≤◌, ◌==◌, true, false, List, [], ◌∷◌, ◌++◌, append_assoc, if◌then◌else◌, codes, decimal, refl, sym, ap, arith, OnOk, Ok, Err}
+use Rattle.std.proofs.Common.{◌≡◌, ◌∙◌, ℕ, suc, ◌+◌, ◌-◌, ◌<◌, ◌≤◌, List, [], ◌∷◌, ◌++◌, codes, decimal, refl, sym, ap, arith, OnOk, Ok, Err}
 use Rattle.std.specs.declared.result.Result.{Result}
-use Rattle.json.specs.Json.{Members, no_members, member, number, object}
+use Rattle.json.specs.Json.{Members, no_members}
 use Rattle.json.specs.Token.{Token}
 use Rattle.json.specs.Tree.{json_tokens, members_tokens}
 use Rattle.tsb_plan.specs.declared.object.Object.{Object}
-use Rattle.tsb_plan.specs.Names.{name_of}
 use Rattle.tsb_plan.specs.Objects.{objects, indices}
 use Rattle.tsb_plan.specs.Plan.{Plan}
 use Rattle.tsb_objects.specs.tsb_types.Lists.{run_from}
-use Rattle.tsb_plan_line.specs.PlanLine.{entries, is_all_zeros, members_of, plan_json, table, with_entry, with_object}
+use Rattle.tsb_plan_line.specs.PlanLine.{entries, members_of, plan_json, table, with_entry}
 
 -- the values from an index on are that at it, and those after it
 pub entries-more : (plan : Plan) (o : Object) (a b : ℕ) → a < b →

@@ -4,6 +4,7 @@
 //! [`edits_line`] writes what is open at the desk as JSON, and takes no memory.
 #![tactic(auto)]
 
+pub mod laws;
 mod plan;
 
 pub use plan::plan_line;

@@ -1,10 +1,13 @@
 //! The line of a plan.
-ghost use Rattle.std.specs.Prelude.{◌≡◌, ◌++◌, IfOk, OnOk};
+ghost use Rattle.std.specs.Prelude.{◌≡◌, ◌++◌, IfOk, None, Ok, OnOk};
 ghost use Rattle.json.specs.Json.{Members, object};
 ghost use Rattle.json.specs.Tree.{json_tokens, members_tokens};
+ghost use Rattle.tsb_objects.specs.tsb_rules.Rules.{first_broken};
 ghost use Rattle.tsb_plan.specs.PlanOf.{plan_of};
+ghost use Rattle.tsb_plan_text.specs.PlanText.{reading};
 ghost use Rattle.tsb_plan_line.specs.PlanLine.{is_all_zeros, members_of, plan_text, table, with_entry, with_object};
 
+use crate::laws::lines_are_read_back;
 use itoa::Buffer;
 use json::Writer;
 use std::alloc::{AllocError, Global};
@@ -23,8 +26,13 @@ const VERSION_NUMBER: u64 = 2;
 /// says that there is no memory for it.
 
 pub fn plan_line(alloc: Global, plan: &Plan) -> Result<Vec<u8>, AllocError>
-    ensures { IfOk result (λ line. line.items ≡ plan_text (plan_of plan.now)) }
+    ensures line { IfOk result (λ line. line.items ≡ plan_text (plan_of plan.now)) }
+
+    // A plan in effect breaks no rule, so its line is read as that plan.
+    ensures reads_back { first_broken (plan_of plan.now) ≡ None
+        → IfOk result (λ line. reading line.items ≡ Ok (plan_of plan.now)) }
 {
+    lines_are_read_back();
     let mut writer = Writer::new(Vec::new(alloc));
     writer.begin_object()?;
     writer.key(VERSION)?;

@@ -1,7 +1,6 @@
 use Rattle.std.proofs.Common.{◌≡◌, ◌==◌, false, arith, sym}
 use Rattle.std.proofs.lemmas.Bool.{eq-eqb, ne_eqb}
 use Rattle.tsb_objects.proofs.tsb_types.RunLemmas.{all-run_from, not_all-run_from}
-use Rattle.tsb_objects.specs.tsb_types.Lists.{run_from}
 use Rattle.tsb_plan.specs.Objects.{indices}
 use Rattle.tsb_plan.specs.PlanOf.{plan_of}
 use Rattle.tsb_plan_line.specs.PlanLine.{is_all_zeros}
