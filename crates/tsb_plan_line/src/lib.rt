@@ -4,7 +4,11 @@
 //! [`edits_line`] writes what is open at the desk as JSON, and takes no memory.
 #![tactic(auto)]
 
+mod edits;
 pub mod laws;
+mod line;
 mod plan;
 
+pub use edits::edits_line;
+pub use line::{EditsLine, LONGEST};
 pub use plan::plan_line;

@@ -1,0 +1,118 @@
+//! The line of the desk.
+ghost use Rattle.std.specs.Prelude.{◌≡◌, true};
+ghost use Rattle.tsb_plan_line.specs.Bytes.{Adds, comma, edit_bytes, list_bytes, owner_bytes, rule_bytes};
+ghost use Rattle.tsb_plan_line.specs.EditsLine.{edits_text, state_name};
+ghost use Rattle.tsb_plan_text.specs.RuleLines.{rule_name};
+ghost use Rattle.tsb_transact.specs.Cells.{desk_in};
+ghost use Rattle.tsb_transact.specs.Layer.{cells_of};
+
+use crate::line::{EditsLine, push, push_number};
+use arrayvec::ArrayVec;
+use tsb_objects::{Rule, Station};
+use tsb_plan_text::rule_line;
+use tsb_transact::{Desk, DeskState, Edit};
+
+/// The word that `rule_line` has before the name of a rule.
+const RULE_WORD: usize = "rule ".len();
+
+/// The desk as one JSON object, in ASCII, without spaces and without a line feed.
+///
+/// `owner` is the number of the station whose transaction is open, `state` how far that is, `rule` the rule that the
+/// last check found broken, while it is kept; what is none is null. `edits` are in the order in which their objects
+/// were set first, each with the words of a command `set`: object, index, value. The line has at most `LONGEST` bytes
+/// and takes no memory.
+pub fn edits_line(desk: &Desk) -> EditsLine
+    ensures { result.items ≡ edits_text (desk_in (cells_of desk.now)) }
+{
+    let mut line = ArrayVec::new();
+    push(&mut line, b"{\"owner\":");
+    push_owner(&mut line, desk.owner());
+    push(&mut line, b",\"state\":\"");
+    push(&mut line, state_name(desk.state()));
+    push(&mut line, b"\",\"rule\":");
+    push_rule(&mut line, desk.rule());
+    push(&mut line, b",\"edits\":[");
+    push_edits(&mut line, desk.edits().as_slice());
+    push(&mut line, b"}");
+    line
+}
+
+/// Adds the number of a station to a line, or null where there is none.
+fn push_owner(line: &mut EditsLine, owner: Option<Station>)
+    ensures { Adds line.old.items (owner_bytes owner) line.new.items }
+{
+    match owner {
+        None => push(line, b"null"),
+        Some(station) => push_number(line, u32::from(station.number())),
+    }
+}
+
+/// How far a transaction is.
+fn state_name(state: DeskState) -> &'static [u8]
+    ensures { result.now ≡ state_name state }
+{
+    match state {
+        DeskState::Normal => b"normal",
+        DeskState::Transaction => b"transaction",
+        DeskState::Verify => b"verify",
+        DeskState::Done => b"done",
+    }
+}
+
+/// Adds the name of a rule to a line, or null where there is none.
+fn push_rule(line: &mut EditsLine, rule: Option<Rule>)
+    ensures { Adds line.old.items (rule_bytes rule) line.new.items }
+{
+    match rule {
+        None => push(line, b"null"),
+        Some(rule) => {
+            push(line, b"\"");
+            push(line, rule_name(rule));
+            push(line, b"\"");
+        }
+    }
+}
+
+/// The letter K and the number of a rule.
+fn rule_name(rule: Rule) -> &'static [u8]
+    ensures { result.now ≡ rule_name rule }
+{
+    &rule_line(rule).as_bytes()[RULE_WORD..]
+}
+
+/// Adds edits to a line, with commas between them, and closes their list.
+fn push_edits(line: &mut EditsLine, edits: &[Edit])
+    ensures { Adds line.old.items (list_bytes true edits.now) line.new.items }
+{
+    let mut first = true;
+    for edit in edits {
+        separate(line, first);
+        push_edit(line, *edit);
+        first = false;
+    }
+    push(line, b"]");
+}
+
+/// Adds the comma that stands before each edit but the first.
+fn separate(line: &mut EditsLine, first: bool)
+    ensures { Adds line.old.items (comma first) line.new.items }
+{
+    if first {
+        push(line, b"");
+    } else {
+        push(line, b",");
+    }
+}
+
+/// Adds an edit to a line.
+fn push_edit(line: &mut EditsLine, edit: Edit)
+    ensures { Adds line.old.items (edit_bytes edit) line.new.items }
+{
+    push(line, b"{\"object\":\"");
+    push(line, edit.id.object.name().as_bytes());
+    push(line, b"\",\"index\":");
+    push_number(line, edit.id.index);
+    push(line, b",\"value\":");
+    push_number(line, edit.value);
+    push(line, b"}");
+}
