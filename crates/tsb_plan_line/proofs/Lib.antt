@@ -2,7 +2,9 @@ pub mod TokenLemmas
 pub mod RoomLemmas
 pub mod ListLemmas
 pub mod TextLemmas
+pub mod DeskLemmas
 pub mod JsonLemmas
 pub mod FoundLemmas
 pub mod AcceptLemmas
 pub mod ReadLemmas
+pub mod Examples

@@ -4,5 +4,5 @@ pub mod PlanLine
 pub mod EditsLine
 -- that line byte by byte
 pub mod Bytes
--- that the line of a plan is read as that plan
+-- that lines are read as what they tell
 pub mod Laws

@@ -1,15 +1,13 @@
-//! What holds of the line of every plan, each law the contract of a function that does nothing.
-ghost use Rattle.tsb_plan_line.specs.Laws.{AreReadBack, TellPlansApart};
+//! What holds of the line of every plan and of that of every desk, each law the contract of a function that does nothing.
+ghost use Rattle.tsb_plan_line.specs.Laws.{AreReadBack, AreTheirJson, TellDesksApart, TellPlansApart};
 
 use tsb_plan::version_laws::versions_say_the_same;
 
-/// The line of a plan is a plan text of that plan.
-///
-/// What reads a text, reads the line of a plan that breaks no rule as that very plan. Plans of one line are one plan.
+/// The line of a plan that breaks no rule is read as that plan. Plans of one line are one plan, whatever they break.
 ///
 /// Needs: what a plan in memory always meets: 16 phases, 4 sides, values in range.
-/// Not said: a plan that breaks a rule has a line too, and it is read as the fault of that rule.
-/// Mistake: the first index of an object that is 0 ends its table, `entries_to_zero` (`has_both`, `would_lose_4`).
+/// Not said: that a plan that breaks a rule is read; it has a line too.
+/// Mistake: the first index at which an object is 0 ends its table, `entries_to_zero` (`has_both`, `would_lose_4`).
 /// Witness: `line_of_two` of Lines, the line of the built-in plan of two phases.
 pub fn lines_are_read_back()
     ensures reads { AreReadBack }
@@ -17,3 +15,14 @@ pub fn lines_are_read_back()
 {
     versions_say_the_same();
 }
+
+/// The line of a desk is JSON, and tells all of the desk. Its value has owner, state, rule and edits, each as the desk
+/// has it, and desks of one line are one desk.
+///
+/// Needs: what every desk meets: an owner of 1 to 4, edits that a plan takes.
+/// Mistake: an edit is told without its index, `edit_without_index` (`tells_2`, `would_tell_same`).
+/// Witness: `line_in_verify` of Lines, the line of a desk with an edit that breaks a rule.
+pub fn lines_tell_desks()
+    ensures json { AreTheirJson }
+    ensures apart { TellDesksApart }
+{}

@@ -1,0 +1,3 @@
+-- Computed examples of the definitions, and mistakes that they refuse.
+pub mod Lines
+pub mod Mistakes
