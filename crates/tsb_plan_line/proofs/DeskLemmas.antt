@@ -131,16 +131,16 @@ rule_apart (Some r) None e = let none : 1 ≡ 0 = ap rank e in absurd (omega (ar
 rule_apart (Some r) (Some s) e = ap Some (name_apart r s (ap text_in e))
 
 edit_from : (a b : Edit) → a.id.object ≡ b.id.object → a.id.index ≡ b.id.index → a.value ≡ b.value → a ≡ b
-edit_from a b object index value =
+edit_from a b same index value =
     let made : Object → ℕ → ℕ → Edit = λ o i v. record { id = record { object = o; index = i }; value = v } in
-    ap (λ (o : Object). made o a.id.index a.value) object ∙ ap (λ (i : ℕ). made b.id.object i a.value) index ∙ ap (made b.id.object b.id.index) value
+    ap (λ (o : Object). made o a.id.index a.value) same ∙ ap (λ (i : ℕ). made b.id.object i a.value) index ∙ ap (made b.id.object b.id.index) value
 
 edit_apart : (a b : Edit) → IsShort a → IsShort b → edit_json a ≡ edit_json b → a ≡ b
 edit_apart a b ha hb e =
-    let object : name_of a.id.object ≡ name_of b.id.object = ap (λ (j : Json). text_in (first_in (members_in j))) e in
+    let name : name_of a.id.object ≡ name_of b.id.object = ap (λ (j : Json). text_in (first_in (members_in j))) e in
     let index : decimal a.id.index ≡ decimal b.id.index = ap (λ (j : Json). text_in (first_in (rest_in (members_in j)))) e in
     let value : decimal a.value ≡ decimal b.value = ap (λ (j : Json). text_in (first_in (rest_in (rest_in (members_in j))))) e in
-    edit_from a b (names-apart a.id.object b.id.object object)
+    edit_from a b (names-apart a.id.object b.id.object name)
     (decimal_injective a.id.index b.id.index (omega (arith, ha.index)) (omega (arith, hb.index)) index)
     (decimal_injective a.value b.value (omega (arith, ha.value)) (omega (arith, hb.value)) value)
 

@@ -1,5 +1,6 @@
 -- One-line mistakes, each with an example that tells it from the definition.
 use Rattle.std.proofs.Common.{◌≡◌, ℕ, ◌==◌, if◌then◌else◌, List, [], ◌∷◌, codes, decimal, refl}
+use Rattle.std.specs.Fmt.{digits}
 use Rattle.json.specs.Json.{Json, Members, no_members, member, number, object, string}
 use Rattle.tsb_plan.specs.declared.object.Object.{Object}
 use Rattle.tsb_plan.specs.declared.object.Object.TheVariants.{PhaseEnabled, PhaseWalk}
@@ -19,11 +20,11 @@ entries_to_zero plan o (i ∷ is) =
 
 -- phases 2 and 4 are in use, and phase 3 is not
 has_both : entries two PhaseEnabled (2 ∷ 3 ∷ 4 ∷ []) ≡ member (codes "2") (number (codes "1")) (member (codes "4") (number (codes "1")) no_members)
-unfolding two
+unfolding two digits
 has_both = refl
 
 would_lose_4 : entries_to_zero two PhaseEnabled (2 ∷ 3 ∷ 4 ∷ []) ≡ member (codes "2") (number (codes "1")) no_members
-unfolding two
+unfolding two digits
 would_lose_4 = refl
 
 -- ## An edit is told without its index
@@ -36,6 +37,7 @@ walk i = record { id = record { object = PhaseWalk; index = i }; value = 7 }
 
 tells_2 : edit_json (walk 2)
     ≡ object (member (codes "object") (string (codes "phaseWalk")) (member (codes "index") (number (codes "2")) (member (codes "value") (number (codes "7")) no_members)))
+unfolding digits
 tells_2 = refl
 
 would_tell_same : edit_without_index (walk 2) ≡ edit_without_index (walk 4)
