@@ -26,10 +26,10 @@ use Rattle.tsb_objects.specs.tsb_types.declared.row.Row.{Row}
 use Rattle.std.proofs.lemmas.List.{append-nil}
 use Rattle.tsb_lines.specs.declared.writes.WriteError.{WriteError}
 use Rattle.tsb_text.specs.Answers.{Setup, Asked, Steps, Answers, next_tick, told, refused_line, display_line}
-use Rattle.tsb_text.specs.Talk.{Stands, Done, StepsOn}
-use Rattle.tsb_text.specs.Written.{Said, Wrote, with_feed}
+use Rattle.tsb_text.specs.Obeyed.{Stands, Done}
 use Rattle.tsb_text.proofs.TextLemmas.{some-steps}
-use Rattle.tsb_text.proofs.WrittenLemmas.{said-nothing, said-more}
+use Rattle.tsb_dialog.specs.Said.{Said, Wrote, with_feed}
+use Rattle.tsb_dialog.proofs.SaidLemmas.{said-nothing, said-more}
 
 pub follows-state : (plan : Plan) (w : Whole) (is : List Input) → Follows plan w is → w.state ≡ replay plan is
 follows-state plan w is f = past.follows-state controller (start plan) w is f
@@ -75,11 +75,20 @@ pub refused-right : (old new : Held) (i : Input) (e : Refusal) → IsRefusal (ve
     → (plan : Plan) (inputs : List Input) → Follows plan (whole old) inputs → IsRight plan inputs (Apply i) (Refused e) × Follows plan (whole new) inputs
 refused-right old new i e refused same plan = past.answers-refused controller (start plan) watched (whole old) (whole new) i e refused (ap whole same)
 
+-- so many ticks are answered by this, and then by what answers k ticks from these inputs on
+abbrev pub StepsOn : Setup → List Input → ℕ → List Input → ℕ → List ℕ → Type 0
+StepsOn given inputs n now k said =
+    (text : List ℕ) (last : List Input) → Steps given now k text last → Steps given inputs n (said ++ text) last
+
 -- so far: the ticks that are to come answer the rest
 pub record Stepping (given : Setup) (log : List LogRow) (is : List Input) (n : ℕ) (bench : Whole) (k : ℕ) (a b : Option (List ℕ)) (p q : List ℕ) : Type 0 where
   pub now : List Input
   pub stands : Stands given log bench now
   pub wrote : Wrote a b p q (StepsOn given is n now k)
+
+-- the rows of a log stay the same
+pub row-still : (log rows : List LogRow) (row : Row) (t : ℕ) → row ≡ row_at rows t → rows ≡ log → row ≡ row_at log t
+row-still log rows row t is same = is ∙ ap (λ (v : List LogRow). row_at v t) same
 
 pub steps-start : (given : Setup) (log : List LogRow) (is : List Input) (n k : ℕ) (bench : Whole) (a : Option (List ℕ)) (p : List ℕ) → k ≡ n → Stands given log bench is → Stepping given log is n bench k a a p p
 steps-start given log is n k bench a p all stands = record {

@@ -1,8 +1,7 @@
-pub mod WrittenLemmas
 pub mod WatchLemmas
 pub mod TextLemmas
 pub mod AnswerLemmas
-pub mod HeldLemmas
-pub mod TalkLemmas
-pub mod SessionLemmas
+pub mod ReplyLemmas
+pub mod HeardLemmas
+pub mod EndedLemmas
 pub use Rattle.tsb_objects.proofs.tsb_rules as tsb_rules

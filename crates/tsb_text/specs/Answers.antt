@@ -22,7 +22,7 @@ use Rattle.tsb_command_text.specs.declared.command.Command.{Command}
 use Rattle.tsb_command_text.specs.declared.command.Command.TheVariants.{Step, Back, Seek, Undo, Show, Quit, When, Begin, Set, Verify, Commit, Abort, Pattern, Preempt, Fault, Reset}
 use Rattle.tsb_log_text.specs.declared.log.LogRow.{LogRow}
 use Rattle.tsb_log_text.specs.Logs.{row_at}
-use Rattle.tsb_text.specs.Written.{with_feed}
+use Rattle.tsb_dialog.specs.Said.{with_feed}
 
 -- what a session is given: the plan, and the rows of the log
 pub record Setup : Type 0 where

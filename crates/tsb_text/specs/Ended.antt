@@ -54,6 +54,15 @@ pub record AnswersWhole (given : Setup) (bytes written : List ℕ) : Type 0 wher
   pub unfinished : HasNoFeed held
   pub carries : Carries given [] bytes left held written
 
+-- the commands went on up to the last read, which brought 4,096 bytes at most: those before it end no session
+pub record ReadsOn (given : Setup) (read : List ℕ) : Type 0 where
+  pub before : List ℕ
+  pub last : List ℕ
+  pub whole : read ≡ before ++ last
+  pub short : length last ≤ 4096
+  pub said : List ℕ
+  pub going : AnswersWhole given before said
+
 -- the bytes that it read, and those that it wrote: no others went to the writer
 pub record Ended (result : Result (Unit {0}) SessionError) (given : Setup) (input left old new : Option (List ℕ)) : Type 0 where
   pub read : List ℕ
@@ -66,3 +75,5 @@ pub record Ended (result : Result (Unit {0}) SessionError) (given : Setup) (inpu
   pub most : length read ≤ 16777217
   -- after a read that failed, and after 16 MiB, no answer to a whole line is missing
   pub answered : (result ≡ Err Read) ⊎ (result ≡ Err TooLarge) → AnswersWhole given (take 16777216 read) written
+  -- after a line `quit` nothing more is read
+  pub reads : ReadsOn given read

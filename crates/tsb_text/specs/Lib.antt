@@ -1,14 +1,17 @@
--- answers that were said and wait to be written
-pub mod Written
+-- the rows that ticks take
+pub mod Rows
 -- what is answered to each command
 pub mod Answers
+-- what has become of a bench and of a writer once a command was carried out
+pub mod Obeyed
+-- what a session says to a line
+pub mod Replies
 -- what is answered to all lines of a session
 pub mod Text
 -- what a session has written where it ends
 pub mod Ended
--- what private functions of a session promise each other
-pub mod Talk
 -- the names of crates below, for those above
+pub use Rattle.tsb_dialog.specs.Said as Written
 pub use Rattle.tsb_lines.specs as tsb_lines
 pub use Rattle.tsb_objects.specs.tsb_plan as tsb_plan
 pub use Rattle.tsb_objects.specs.tsb_rules as tsb_rules

@@ -8,7 +8,7 @@ use Rattle.tsb_command_text.specs.declared.command.Reading.TheVariants.{Skip, Ba
 use Rattle.tsb_command_text.specs.Readings.{reading}
 use Rattle.tsb_lines.specs.Lines.{lines_of}
 use Rattle.tsb_text.specs.Answers.{Setup, Answers}
-use Rattle.tsb_text.specs.Written.{with_feed}
+use Rattle.tsb_dialog.specs.Said.{with_feed}
 
 -- what is said after the answer to a command, where Rest says what may be: nothing after `quit`
 abbrev pub GoesOn : Command → (List ℕ → Type 0) → List ℕ → Type 0

@@ -1,38 +1,39 @@
 //! Answers to commands.
 
-ghost use Rattle.std.specs.Prelude.{◌≡◌, ◌+◌, [], List, OnErr, OnOk, true};
+ghost use Rattle.std.specs.Prelude.{◌≡◌, ◌+◌, [], List, OnErr, OnOk};
 ghost use Rattle.tsb_bench.specs.tsb_machine.declared.commands.Command.TheVariants.{Apply};
 ghost use Rattle.tsb_bench.specs.tsb_step.declared.inputs.Input.{Input as InputValue};
 ghost use Rattle.tsb_bench.specs.Held.{whole};
 ghost use Rattle.tsb_log_text.specs.declared.log.LogRow.{LogRow};
 ghost use Rattle.tsb_text.specs.Answers.{Setup, Answers, Asked, Steps, when_line};
-ghost use Rattle.tsb_text.specs.Talk.{Stands, Done};
-ghost use Rattle.tsb_text.specs.Written.{Said, with_feed};
+ghost use Rattle.tsb_text.specs.Obeyed.{Stands, Done};
+ghost use Rattle.tsb_text.specs.Rows.{rows_in};
+ghost use Rattle.tsb_dialog.specs.Pended.{AfterWrites, IsWell};
+ghost use Rattle.tsb_dialog.specs.Said.{Said, with_feed};
 
-use crate::error::WriteError;
 use crate::lines::{line_bytes, refused_line, taken_line, tick_line, undone_line};
-use crate::pending::Pending;
+use crate::rows::Rows;
 use std::io::Write;
 use tsb_bench::{Answer, Bench, Cmd, Input, answer};
 use tsb_command_text::Command;
-use tsb_log_text::Log;
+use tsb_dialog::{Pending, WriteError};
 
-/// Carries out a command, and says its answer. It takes the rows of ticks from `log`; `place` says where the last one
-/// was found.
-pub(crate) fn obey<W: Write>(
+/// Carries out a command, and says its answer. Ticks take their rows from `rows`. At an error the command may have been
+/// carried out, and a first part of its answer was said.
+pub fn obey<W: Write>(
     bench: &mut Bench,
-    log: &Log,
-    place: &mut usize,
+    rows: &mut Rows,
     command: Command,
     pending: &mut Pending,
     writer: &mut W,
 ) -> Result<(), WriteError>
-    ensures done { (given : Setup) (inputs : List InputValue) → Stands given log.now (whole bench.old) inputs
-        → Done result given log.now (whole bench.new) (Answers given inputs command) (W.contents writer.old) (W.contents writer.new) pending.old.waits pending.new.waits }
-    ensures blame { OnErr result (pending.new.watch.failed ≡ true) }
+    ensures done { (given : Setup) (inputs : List InputValue) → Stands given (rows_in rows.old) (whole bench.old) inputs
+        → Done result given (rows_in rows.old) (whole bench.new) (Answers given inputs command) (W.contents writer.old) (W.contents writer.new) pending.old.waits pending.new.waits }
+    ensures rows { rows_in rows.new ≡ rows_in rows.old }
+    ensures blame { IsWell pending.old → AfterWrites result pending.new }
 {
     match command {
-        Command::Step(ticks) => step(bench, log, place, ticks, pending, writer),
+        Command::Step(ticks) => step(bench, rows, ticks, pending, writer),
         Command::Show => pending.say(writer, &line_bytes(bench)),
         Command::Quit => Ok(()),
         Command::Back(ticks) => ask(bench, Cmd::Back(ticks), pending, writer),
@@ -53,21 +54,21 @@ pub(crate) fn obey<W: Write>(
     }
 }
 
-/// So many ticks, with the rows of the log and a display line after each, up to one that is refused.
+/// So many ticks, with a display line after each, up to one that is refused.
 fn step<W: Write>(
     bench: &mut Bench,
-    log: &Log,
-    place: &mut usize,
+    rows: &mut Rows,
     ticks: u32,
     pending: &mut Pending,
     writer: &mut W,
 ) -> Result<(), WriteError>
-    ensures done { (given : Setup) (inputs : List InputValue) → Stands given log.now (whole bench.old) inputs
-        → Done result given log.now (whole bench.new) (Steps given inputs ticks) (W.contents writer.old) (W.contents writer.new) pending.old.waits pending.new.waits }
-    ensures blame { OnErr result (pending.new.watch.failed ≡ true) }
+    ensures done { (given : Setup) (inputs : List InputValue) → Stands given (rows_in rows.old) (whole bench.old) inputs
+        → Done result given (rows_in rows.old) (whole bench.new) (Steps given inputs ticks) (W.contents writer.old) (W.contents writer.new) pending.old.waits pending.new.waits }
+    ensures rows { rows_in rows.new ≡ rows_in rows.old }
+    ensures blame { IsWell pending.old → AfterWrites result pending.new }
 {
     for _i in 0..ticks {
-        let row = log.row(next_tick(bench), place);
+        let row = rows.row(next_tick(bench));
         match bench.apply(Input::Tick(row)) {
             Ok(()) => pending.say(writer, &line_bytes(bench))?,
             Err(refusal) => return pending.say(writer, refused_line(refusal)),
@@ -92,7 +93,7 @@ fn apply<W: Write>(
 ) -> Result<(), WriteError>
     ensures done { (given : Setup) (log : List LogRow) (inputs : List InputValue) → Stands given log (whole bench.old) inputs
         → Done result given log (whole bench.new) (Asked given inputs (Apply input)) (W.contents writer.old) (W.contents writer.new) pending.old.waits pending.new.waits }
-    ensures blame { OnErr result (pending.new.watch.failed ≡ true) }
+    ensures blame { IsWell pending.old → AfterWrites result pending.new }
 {
     ask(bench, Cmd::Apply(input), pending, writer)
 }
@@ -106,7 +107,7 @@ fn ask<W: Write>(
 ) -> Result<(), WriteError>
     ensures done { (given : Setup) (log : List LogRow) (inputs : List InputValue) → Stands given log (whole bench.old) inputs
         → Done result given log (whole bench.new) (Asked given inputs command) (W.contents writer.old) (W.contents writer.new) pending.old.waits pending.new.waits }
-    ensures blame { OnErr result (pending.new.watch.failed ≡ true) }
+    ensures blame { IsWell pending.old → AfterWrites result pending.new }
 {
     match answer(bench, command) {
         Answer::Took => pending.say(writer, taken_line(&command, bench)),
@@ -126,7 +127,7 @@ fn say_change<W: Write>(
 ) -> Result<(), WriteError>
     ensures ok { OnOk result (Said (W.contents writer.old) (W.contents writer.new) pending.old.waits pending.new.waits (with_feed (when_line tick))) }
     ensures fault { OnErr result (Said (W.contents writer.old) (W.contents writer.new) pending.old.waits pending.new.waits []) }
-    ensures blame { OnErr result (pending.new.watch.failed ≡ true) }
+    ensures blame { IsWell pending.old → AfterWrites result pending.new }
 {
     match tick {
         Some(tick) => pending.say(writer, &tick_line(tick)),

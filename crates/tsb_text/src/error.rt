@@ -1,7 +1,6 @@
 //! What ends a session before its commands do.
 
 use thiserror::Error;
-pub(crate) use tsb_lines::WriteError;
 
 /// What ends a session before its commands do. What was written until then is a prefix of the session's text.
 #[derive(Clone, Copy, Debug, PartialEq, Eq, Error)]

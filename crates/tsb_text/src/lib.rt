@@ -6,14 +6,14 @@
 mod answers;
 mod error;
 mod lines;
-mod pending;
-mod talk;
-mod waiting;
-mod watch;
+mod rows;
+mod run;
 
+pub use answers::obey;
 pub use error::SessionError;
 pub use lines::{line, refused_line};
-pub use talk::{COMMANDS, session};
+pub use rows::Rows;
+pub use run::{COMMANDS, session};
 pub use tsb_bench::{Bench, Kind};
 pub use tsb_command_text::{Command, read_command};
 pub use tsb_log_text::{LIMIT as LOG_LIMIT, Log, LogError, read_log};

@@ -1,0 +1,107 @@
+-- What is said to a line is what a text has for it.
+use Rattle.std.proofs.Common.{◌≡◌, ℕ, List, [], ◌++◌, refl, sym, ap, ◌∙◌, subst, Ok, Err, codes}
+use Rattle.std.proofs.lemmas.List.{append-nil}
+use Rattle.std.specs.declared.option.Option.{Option}
+use Rattle.tsb_bench.specs.tsb_step.declared.inputs.Input.{Input}
+use Rattle.tsb_bench.specs.tsb_step.Past.{Whole}
+use Rattle.tsb_command_text.specs.declared.command.Command.{Command}
+use Rattle.tsb_command_text.specs.declared.command.Command.TheVariants.{Quit}
+use Rattle.tsb_command_text.specs.declared.command.Reading.{Reading}
+use Rattle.tsb_command_text.specs.declared.command.Reading.TheVariants.{Skip, Bad, Do}
+use Rattle.tsb_dialog.specs.declared.answers.Flow.{Flow}
+use Rattle.tsb_dialog.specs.declared.answers.Flow.TheVariants.{On, Over}
+use Rattle.tsb_command_text.specs.Readings.{reading}
+use Rattle.tsb_dialog.specs.Said.{Said, Wrote, with_feed}
+use Rattle.tsb_lines.specs.declared.writes.WriteError.{WriteError}
+use Rattle.tsb_log_text.specs.declared.log.LogRow.{LogRow}
+use Rattle.tsb_text.specs.Answers.{Answers}
+use Rattle.tsb_text.specs.Obeyed.{Done, Stands}
+use Rattle.tsb_text.specs.Replies.{Stand, Replies, flow_after, says}
+use Rattle.tsb_text.specs.Text.{GoesOn, Says}
+
+-- what was given stays so
+pub reply-given : (stand left : Stand) (r : Reading) (text : List ℕ) (flow : Flow) → Replies stand r text flow left → left.given ≡ stand.given
+reply-given stand left Skip text flow told = ap (λ (s : Stand). s.given) told.2
+reply-given stand left Bad text flow told = ap (λ (s : Stand). s.given) told.2
+reply-given stand left (Do c) text flow told = told.2
+
+goes-on : (c : Command) (Rest : List ℕ → Type 0) (rest : List ℕ) → On ≡ flow_after c → Rest rest → GoesOn c Rest rest
+goes-on Quit Rest rest on told = absurd (cc)
+goes-on c Rest rest on told = told
+
+-- after a line that the session goes on after, the rest answers the lines after it
+pub reply-on : (stand left : Stand) (r : Reading) (text rest : List ℕ) (Rest : List Input → List ℕ → Type 0) → Replies stand r text On left → Rest left.inputs rest → Says stand.given r stand.inputs (text ++ rest) Rest
+reply-on stand left Skip text rest Rest told next =
+    subst (λ (v : List ℕ). Rest stand.inputs (v ++ rest)) (sym told.0) (subst (λ (s : Stand). Rest s.inputs rest) told.2 next)
+reply-on stand left Bad text rest Rest told next = (rest, ap (λ (v : List ℕ). v ++ rest) told.0, subst (λ (s : Stand). Rest s.inputs rest) told.2 next)
+reply-on stand left (Do c) text rest Rest told next = (text, rest, left.inputs, told.0, refl, goes-on c (Rest left.inputs) rest told.1 next)
+
+ends : (c : Command) (Rest : List ℕ → Type 0) → Over ≡ flow_after c → GoesOn c Rest []
+ends Quit Rest over = refl
+ends c Rest over = absurd (cc)
+
+-- a line that ends the session answers all lines after it
+pub reply-over : (stand left : Stand) (r : Reading) (text : List ℕ) (Rest : List Input → List ℕ → Type 0) → Replies stand r text Over left → Says stand.given r stand.inputs text Rest
+reply-over stand left Skip text Rest told = let over : Over ≡ On = told.1 in absurd (cc)
+reply-over stand left Bad text Rest told = let over : Over ≡ On = told.1 in absurd (cc)
+reply-over stand left (Do c) text Rest told = (text, [], left.inputs, told.0, sym (append-nil text), ends c (Rest left.inputs) told.1)
+
+quit-over : (c : Command) → Over ≡ flow_after c → c ≡ Quit
+quit-over Quit over = refl
+quit-over c over = absurd (cc)
+
+-- and it is `quit`
+pub reply-quit : (stand left : Stand) (r : Reading) (text : List ℕ) → Replies stand r text Over left → r ≡ Do Quit
+reply-quit stand left Skip text told = let over : Over ≡ On = told.1 in absurd (cc)
+reply-quit stand left Bad text told = let over : Over ≡ On = told.1 in absurd (cc)
+reply-quit stand left (Do c) text told = ap Do (quit-over c told.1)
+
+-- the last line
+pub reply-last : (flow : Flow) (stand left : Stand) (r : Reading) (text : List ℕ) → Replies stand r text flow left → Says stand.given r stand.inputs text (λ new rest. rest ≡ [])
+reply-last On stand left r text told =
+    subst (λ (v : List ℕ). Says stand.given r stand.inputs v (λ new rest. rest ≡ [])) (append-nil text) (reply-on stand left r text [] (λ new rest. rest ≡ []) told refl)
+reply-last Over stand left r text told = reply-over stand left r text (λ new rest. rest ≡ []) told
+
+-- ## What was said
+
+-- some of what may be said to a line
+abbrev pub Begins : Stand → ℕ → List ℕ → List ℕ → Type 0
+Begins stand n line text = (rest : List ℕ) × (flow : Flow) × (left : Stand) × says stand n line (text ++ rest) flow left
+
+pub bad-fault : (stand : Stand) (n : ℕ) (line : List ℕ) (r : Reading) (a b : Option (List ℕ)) (p q : List ℕ) → r ≡ reading line → r ≡ Bad → Said a b p q [] → Wrote a b p q (Begins stand n line)
+bad-fault stand n line r a b p q reads bad said = record {
+  text = [];
+  said = said;
+  so = (
+    with_feed (codes "bad command"),
+    On,
+    stand,
+    subst (λ (x : Reading). Replies stand x (with_feed (codes "bad command")) On stand) (sym bad ∙ reads) (refl, refl, refl),
+  );
+}
+
+pub done-said : (stand : Stand) (n : ℕ) (line : List ℕ) (r : Reading) (c : Command) (flow : Flow) (old new : List LogRow) (bench : Whole) (a b : Option (List ℕ)) (p q : List ℕ)
+    → r ≡ reading line → r ≡ Do c → flow ≡ flow_after c → new ≡ old → Done (Ok tt) stand.given old bench (Answers stand.given stand.inputs c) a b p q
+    → (left : Stand) × Stands left.given new bench left.inputs × Wrote a b p q (λ text. says stand n line text flow left)
+done-said stand n line r c flow old new bench a b p q reads asks after rows done = (
+  record { given = stand.given; inputs = done.0 },
+  record { same = done.1.same ∙ sym rows; follows = done.1.follows },
+  record {
+    text = done.2.text;
+    said = done.2.said;
+    so = subst (λ (x : Reading). Replies stand x done.2.text flow (record { given = stand.given; inputs = done.0 })) (sym asks ∙ reads) (done.2.so, after, refl);
+  },
+)
+
+pub done-fault : (stand : Stand) (n : ℕ) (line : List ℕ) (r : Reading) (c : Command) (e : WriteError) (log : List LogRow) (bench : Whole) (a b : Option (List ℕ)) (p q : List ℕ)
+    → r ≡ reading line → r ≡ Do c → Done (Err e) stand.given log bench (Answers stand.given stand.inputs c) a b p q → Wrote a b p q (Begins stand n line)
+done-fault stand n line r c e log bench a b p q reads asks done = record {
+  text = done.text;
+  said = done.said;
+  so = (
+    done.so.0,
+    flow_after c,
+    record { given = stand.given; inputs = done.so.1 },
+    subst (λ (x : Reading). Replies stand x (done.text ++ done.so.0) (flow_after c) (record { given = stand.given; inputs = done.so.1 })) (sym asks ∙ reads) (done.so.2, refl, refl),
+  );
+}

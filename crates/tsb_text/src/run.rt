@@ -1,0 +1,112 @@
+//! Sessions: commands in, answers out.
+
+ghost use Rattle.std.specs.Prelude.{◌≡◌, [], ℕ, List};
+ghost use Rattle.tsb_objects.specs.Checked.{checked_plan};
+ghost use Rattle.tsb_text.specs.Ended.{Ended};
+ghost use Rattle.tsb_text.specs.Replies.{as_session, fault_of, flow_after};
+
+use crate::answers::obey;
+use crate::error::SessionError;
+use crate::rows::Rows;
+use std::alloc::Global;
+use std::io::{Read, Write};
+use tsb_bench::Bench;
+use tsb_command_text::{Command, LINE, Reading, reading_of};
+use tsb_dialog::{Answers, DialogError, Flow, KEPT, Pending, WriteError, converse};
+use tsb_log_text::Log;
+use tsb_objects::Checked;
+
+/// The greatest length of the commands of a session, in bytes: 16 MiB.
+pub const COMMANDS: usize = 16_777_216;
+
+// Of a line a dialog keeps one byte more than its greatest length, and the carriage return after it.
+const _: () = prove!(KEPT == LINE + 2);
+
+/// A bench that does what lines ask.
+#[derive(Drop)]
+struct Machine<'a> {
+    bench: Bench,
+    rows: Rows<'a>,
+}
+
+impl Answers for Machine<'_> {
+    ghost use Rattle.tsb_bench.specs.Held.{whole};
+    ghost use Rattle.tsb_text.specs.Obeyed.{Stands};
+    ghost use Rattle.tsb_text.specs.Replies.{Stand, says};
+    ghost use Rattle.tsb_text.specs.Rows.{rows_in};
+
+    ghost State = { Stand };
+
+    ghost stands = { λ machine stand. Stands stand.given (rows_in machine.rows) (whole machine.bench) stand.inputs };
+
+    ghost says = { says };
+
+    fn answer<W: Write>(
+        &mut self,
+        _number: u32,
+        line: &[u8],
+        pending: &mut Pending,
+        writer: &mut W,
+    ) -> Result<Flow, WriteError> {
+        match reading_of(line) {
+            Reading::Skip => Ok(Flow::On),
+            Reading::Bad => {
+                pending.say(writer, b"bad command")?;
+                Ok(Flow::On)
+            }
+            Reading::Do(command) => {
+                let flow = flow_after(&command);
+                obey(&mut self.bench, &mut self.rows, command, pending, writer)?;
+                Ok(flow)
+            }
+        }
+    }
+}
+
+/// Whether a session goes on after a command.
+fn flow_after(command: &Command) -> Flow
+    ensures { result ≡ flow_after command.now }
+{
+    match command {
+        Command::Quit => Flow::Over,
+        _ => Flow::On,
+    }
+}
+
+/// What a session ends with where its dialog ended with this.
+fn fault_of(fault: DialogError) -> SessionError
+    ensures { result ≡ fault_of fault }
+{
+    match fault {
+        DialogError::Read => SessionError::Read,
+        DialogError::Write => SessionError::Write,
+        DialogError::TooLarge => SessionError::TooLarge,
+    }
+}
+
+/// Runs a session: reads commands, and writes their answers, up to a line `quit` or the end of what is read. The bench
+/// begins at power-up with the plan, and its ticks take the rows of the log.
+///
+/// What was answered goes out before each read. A fault ends the session; what was written until then is a prefix of
+/// its text. `TooLarge` comes where there is a byte after the first 16 MiB, once the whole lines within them were
+/// answered. `Memory` comes where there is none for the bench at power-up: nothing was read then, and nothing written.
+pub fn session<R: Read, W: Write>(
+    alloc: Global,
+    plan: Checked,
+    log: &Log,
+    reader: &mut R,
+    writer: &mut W,
+) -> Result<(), SessionError>
+    ensures { Ended result (record { plan = checked_plan plan; log = log.now })
+        (R.remaining reader.old) (R.remaining reader.new) (W.contents writer.old) (W.contents writer.new) }
+{
+    let Ok(bench) = Bench::power_up(alloc, plan) else {
+        return Err(SessionError::Memory);
+    };
+    let rows = Rows::OfLog { log, place: 0 };
+    let mut machine = Machine { bench, rows };
+    match converse(&mut machine, COMMANDS, reader, writer) {
+        Ok(()) => Ok(()),
+        Err(fault) => Err(fault_of(fault)),
+    }
+}
