@@ -1,5 +1,5 @@
 -- What is said of an answer, where a bench has come from power-up by some inputs.
-use Rattle.std.proofs.Common.{◌≡◌, ℕ, ◌+◌, List, [], ◌∷◌, ◌++◌, None, refl, sym, ap, ◌∙◌, append_assoc, Ok, Err, subst, suc, OnOk, OnErr, inl, inr, codes}
+use Rattle.std.proofs.Common.{◌≡◌, ℕ, ◌+◌, List, [], ◌∷◌, ◌++◌, None, refl, sym, ap, ◌∙◌, append_assoc, Ok, Err, subst, suc, OnOk, OnErr, inl, inr}
 use Rattle.std.specs.declared.option.Option.{Option}
 use Rattle.std.specs.declared.result.Result.{Result}
 use Rattle.tsb_objects.specs.tsb_plan.Plan.{Plan}

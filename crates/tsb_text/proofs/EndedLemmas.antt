@@ -1,16 +1,13 @@
 -- A session ends as its dialog does.
-use Rattle.std.proofs.Common.{◌≡◌, ℕ, ◌<◌, List, [], ◌++◌, refl, sym, subst, inl, inr, ◌⊎◌, Ok, Err, take, drop, arith, length}
+use Rattle.std.proofs.Common.{◌≡◌, ℕ, List, [], ◌++◌, refl, subst, inl, inr, ◌⊎◌, Ok, Err, take, drop, arith}
 use Rattle.std.proofs.lemmas.List.{take-append-drop}
 use Rattle.std.specs.declared.option.Option.{Option}
 use Rattle.std.specs.declared.result.Result.{Result}
-use Rattle.std.specs.Io.KnownBytes.{IsAtEnd}
 use Rattle.tsb_lines.proofs.StreamLemmas.{appends-nothing, consumes-nothing}
-use Rattle.tsb_bench.specs.tsb_step.declared.inputs.Input.{Input}
 use Rattle.tsb_dialog.specs.declared.error.DialogError.{DialogError}
 use Rattle.tsb_dialog.specs.declared.error.DialogError.TheVariants as dialogs
 use Rattle.tsb_dialog.specs.Ended as dialog
 use Rattle.tsb_dialog.specs.Heard.{Heard}
-use Rattle.tsb_text.specs.declared.error.SessionError.{SessionError}
 use Rattle.tsb_text.specs.declared.error.SessionError.TheVariants.{Memory, Read, TooLarge}
 use Rattle.tsb_text.specs.Answers.{Setup}
 use Rattle.tsb_text.specs.Ended.{AnswersWhole, Ended, EndedSo, IsBegun, ReadsOn}

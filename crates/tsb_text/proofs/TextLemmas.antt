@@ -2,7 +2,6 @@
 use Rattle.std.proofs.Common.{◌≡◌, ℕ, ◌+◌, ◌<◌, ◌≤◌, List, [], ◌∷◌, ◌++◌, length, refl, sym, ap, ◌∙◌, arith, rules, subst, zero, suc, true, false, cond, eqb, Bool, length-append, map, ◌⊎◌, inl, inr, nat_lt, Some, None}
 use Rattle.std.proofs.lemmas.Bool.Decides.{eqb_tells}
 use Rattle.std.specs.declared.option.Option.{Option}
-use Rattle.tsb_objects.specs.tsb_plan.Plan.{Plan}
 use Rattle.tsb_objects.specs.tsb_types.declared.refusal.Refusal.{Refusal}
 use Rattle.tsb_objects.specs.tsb_types.declared.watch.Watch.{Watch}
 use Rattle.tsb_bench.specs.tsb_machine.declared.commands.Command.TheVariants as asks

@@ -1,5 +1,5 @@
 -- Of a run it can always be told when a watched value changed last: watched values are equal or they are not.
-use Rattle.std.proofs.Common.{◌≡◌, ◌≢◌, ◌⊎◌, ℕ, zero, suc, Bool, true, false, List, [], ◌∷◌, Option, Some, None, refl, sym, ap, ap₂, ◌∙◌, inl, inr}
+use Rattle.std.proofs.Common.{◌≡◌, ◌≢◌, ◌⊎◌, ℕ, zero, suc, Bool, true, false, List, [], ◌∷◌, Option, Some, None, refl, sym, ap, ◌∙◌, inl, inr}
 use Rattle.std.proofs.lemmas.Bool.Decides.{eqb_tells}
 use Rattle.tsb_objects.specs.tsb_types.declared.interval.Interval.{Interval}
 use Rattle.tsb_objects.specs.tsb_types.declared.interval.Interval.TheVariants as intervals
@@ -15,7 +15,7 @@ use Rattle.tsb_display_text.specs.tsb_heads.declared.monitor.Trip.{Trip}
 use Rattle.tsb_display_text.specs.tsb_heads.declared.monitor.Trip.TheVariants.{Conflict, GreenToRed}
 use Rattle.tsb_bench.specs.tsb_step.State.{State, Tripped, interval, pedestrian_part}
 use Rattle.tsb_bench.specs.tsb_step.Signs.{stage}
-use Rattle.tsb_bench.specs.tsb_step.Watches.{Watched, OfInterval, OfPedestrian, OfCall, OfOutput, OfAlarm, OfStage, OfTrip, watched, TellsLastChange}
+use Rattle.tsb_bench.specs.tsb_step.Watches.{OfInterval, OfPedestrian, OfCall, OfOutput, OfAlarm, OfStage, OfTrip, watched, TellsLastChange}
 
 -- two values are equal, or they are not
 abbrev Told : {A : Type 0} → A → A → Type 0

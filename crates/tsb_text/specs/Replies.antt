@@ -36,12 +36,13 @@ Replies stand (Do c) text flow left =
 abbrev pub says : Stand → ℕ → List ℕ → List ℕ → Flow → Stand → Type 0
 says stand number line text flow left = Replies stand (reading line) text flow left
 
--- what a session ends with where its dialog ended so
+-- the fault of a session whose dialog ended with this one
 abbrev pub fault_of : DialogError → SessionError
 fault_of dialogs.Read = sessions.Read
 fault_of dialogs.Write = sessions.Write
 fault_of dialogs.TooLarge = sessions.TooLarge
 
+-- how a session ends whose dialog ended so
 abbrev pub as_session : Result (Unit {0}) DialogError → Result (Unit {0}) SessionError
 as_session (Ok u) = Ok u
 as_session (Err e) = Err (fault_of e)

@@ -1,9 +1,9 @@
 //! Sessions: commands in, answers out.
 
-ghost use Rattle.std.specs.Prelude.{◌≡◌, [], ℕ, List};
+ghost use Rattle.std.specs.Prelude.{◌≡◌};
 ghost use Rattle.tsb_objects.specs.Checked.{checked_plan};
 ghost use Rattle.tsb_text.specs.Ended.{Ended};
-ghost use Rattle.tsb_text.specs.Replies.{as_session, fault_of, flow_after};
+ghost use Rattle.tsb_text.specs.Replies.{fault_of, flow_after};
 
 use crate::answers::obey;
 use crate::error::SessionError;
@@ -73,7 +73,7 @@ fn flow_after(command: &Command) -> Flow
     }
 }
 
-/// What a session ends with where its dialog ended with this.
+/// The fault of a session whose dialog ended with this one.
 fn fault_of(fault: DialogError) -> SessionError
     ensures { result ≡ fault_of fault }
 {

@@ -126,5 +126,13 @@ session = record {
     large = (λ e. absurd (no_fault (Ok tt) TooLarge refl e), λ more. absurd (omega (arith, more, few)));
     most = omega (arith, few);
     answered = λ fault. elim fault [ inl e ↦ absurd (no_fault (Ok tt) Read refl e) | inr e ↦ absurd (no_fault (Ok tt) TooLarge refl e) ];
+    reads = record {
+      before = [];
+      last = commands;
+      whole = refl;
+      short = omega (arith, few);
+      said = [];
+      going = record { left = []; held = []; unfinished = tt; carries = record { on = λ more rest t. t } };
+    };
   };
 }
