@@ -3,6 +3,8 @@ pub mod TickLemmas
 pub mod AlongLemmas
 pub mod RecorderLemmas
 pub mod BegunLemmas
-pub mod SessionLemmas
+pub mod LineLemmas
+pub mod ComeLemmas
+pub mod EndLemmas
 pub mod CommandLemmas
 pub mod Examples

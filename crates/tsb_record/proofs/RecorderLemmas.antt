@@ -1,5 +1,5 @@
 -- A bench and what was told go on and back together.
-use Rattle.std.proofs.Common.{suc, ◌≡◌, ◌∙◌, ℕ, ◌+◌, ◌-◌, ◌≤◌, ◌==◌, Bool, true, false, List, [], ◌∷◌, ◌++◌, if◌then◌else◌, take, Some, None, Ok, Err, refl, sym, ap, subst, arith, rules, eqb, inl, inr, OnErr, OnOk}
+use Rattle.std.proofs.Common.{suc, ◌≡◌, ◌∙◌, ℕ, ◌+◌, ◌-◌, ◌≤◌, ◌==◌, Bool, true, false, List, [], ◌∷◌, ◌++◌, if◌then◌else◌, take, Some, None, Ok, Err, refl, sym, ap, subst, arith, rules, eqb, inl, inr, is_err, OnErr, OnOk}
 use Rattle.std.specs.declared.option.Option.{Option}
 use Rattle.std.specs.declared.result.Result.{Result}
 use Rattle.tsb_types.specs.declared.event.Event.{Event}
@@ -10,6 +10,7 @@ use Rattle.tsb_step.specs.tsb_history.declared.kinds.Kind.{Kind}
 use Rattle.tsb_step.specs.tsb_history.declared.kinds.Kind.TheVariants as kinds
 use Rattle.tsb_step.specs.tsb_history.History.{Change}
 use Rattle.tsb_step.specs.tsb_plan.Plan.{Plan}
+use Rattle.tsb_bench.proofs.tsb_machine.PlayLemmas as past
 use Rattle.tsb_bench.specs.tsb_machine.Machine.{without_newest}
 use Rattle.tsb_bench.specs.tsb_machine.Play as play
 use Rattle.tsb_bench.specs.tsb_machine.Play.{IsRefusal}
@@ -32,12 +33,11 @@ use Rattle.tsb_step.proofs.ClearLemmas.{one_later}
 use Rattle.tsb_log_text.specs.declared.log.LogRow.{LogRow}
 use Rattle.tsb_log_text.specs.Logs.{row_at}
 use Rattle.tsb_text.specs.Answers.{Setup, next_tick}
-use Rattle.tsb_text.proofs.AnswerLemmas.{follows-state, refused-right, took-right}
 use Rattle.tsb_record.specs.declared.told.Mark.{Mark}
-use Rattle.tsb_record.specs.Along.{last_row, telling, with_input}
+use Rattle.tsb_record.specs.Along.{Wants, last_row, telling, with_input}
 use Rattle.tsb_record.specs.Leaves.{Asked, Steps}
 use Rattle.tsb_record.specs.Recording.{AreOfLog, Done, GoesBack, IsNoTick, Stands, Took, row_in_force}
-use Rattle.tsb_record.specs.Told.{Telling, gone_back}
+use Rattle.tsb_record.specs.Told.{Kept, Telling, gone_back}
 use Rattle.tsb_record.proofs.AlongLemmas.{HasMark, gone-back, input-undone, reached, same-now, tick-undone}
 
 -- ## The row before
@@ -67,14 +67,14 @@ of-log-back given t (i ∷ is) h = go ((replay given.plan (i ∷ is)).now == t) 
 -- ## An input
 
 state-there : (given : Setup) (log : List LogRow) (bench : Held) (told : Telling) (is : List Input) → Stands given log (whole bench) told is → state_of bench ≡ replay given.plan is
-state-there given log bench told is stands = follows-state given.plan (whole bench) is stands.follows
+state-there given log bench told is stands = past.follows-state controller (start given.plan) (whole bench) is stands.follows
 
 pub took : (given : Setup) (log : List LogRow) (is : List Input) (old new : Held) (told next : Telling) (news : List Event) (last : Row) (tick : ℕ) (i : Input)
     → Stands given log (whole old) told is → AreOfLog given (i ∷ is) → tick ≡ old.tick → last ≡ row_in_force log tick
     → verdict (state_of old) i ≡ None → state_of new ≡ step (state_of old) i → new.records ≡ record_of i (state_of old) (state_of new) ∷ old.records → earlier (whole new) 1 ≡ whole old
     → news ≡ events_of last (state_of old) i → next ≡ with_input i tick news told → Took (Ok tt) given log (whole new) next is i
 took given log is old new told next news last tick i stands of_log at row allowed steps records back tells keeps =
-    let both : IsRight given.plan is (Apply i) answers.Took × Follows given.plan (whole new) (i ∷ is) = took-right old new i allowed steps records back given.plan is stands.follows in
+    let both : IsRight given.plan is (Apply i) answers.Took × Follows given.plan (whole new) (i ∷ is) = past.answers-took controller (start given.plan) watched (whole old) (whole new) i allowed steps records back is stands.follows in
     let state : state_of old ≡ replay given.plan is = state-there given log old told is stands in
     let tick_is : tick ≡ (replay given.plan is).now = at ∙ ap (λ (s : State). s.now) state in
     let last_is : last ≡ last_row is =
@@ -90,7 +90,7 @@ took given log is old new told next news last tick i stands of_log at row allowe
 pub not-taken : (given : Setup) (log : List LogRow) (is : List Input) (old new : Held) (told next : Telling) (i : Input) (e : Refusal)
     → Stands given log (whole old) told is → IsRefusal (verdict (state_of old) i) e → new ≡ old → next ≡ told → Took (Err e) given log (whole new) next is i
 not-taken given log is old new told next i e stands refused same keeps =
-    let both : IsRight given.plan is (Apply i) (answers.Refused e) × Follows given.plan (whole new) is = refused-right old new i e refused same given.plan is stands.follows in
+    let both : IsRight given.plan is (Apply i) (answers.Refused e) × Follows given.plan (whole new) is = past.answers-refused controller (start given.plan) watched (whole old) (whole new) i e refused (ap whole same) is stands.follows in
     (both.0, record { same = stands.same; follows = both.1; of_log = stands.of_log; tells = keeps ∙ stands.tells })
 
 was-undone : (r : Result Kind NothingLeft) (mid new : Held) (x : Change) (xs : List Change) → mid.records ≡ x ∷ xs → OnOk r (whole new ≡ earlier (whole mid) 1) → OnErr r (mid.records ≡ [])
@@ -113,6 +113,14 @@ forgotten given log is old mid new told next i r stands allowed records back ok 
         tells = keeps ∙ stands.tells;
       },
     )
+
+-- there was no room for what the input told
+pub not-kept : {E : Type 0} (r : Result (Unit {0}) E) (log : List LogRow) (bench : Held) (kept : Kept) (i : Input) (tick : ℕ) (last : Row) (news : List Event)
+    → tick ≡ bench.tick → last ≡ row_in_force log tick → news ≡ events_of last (state_of bench) i → OnErr r (Wants i news kept) → is_err r ≡ true
+    → Wants i (events_of (row_in_force log bench.tick) (state_of bench) i) kept
+not-kept (Ok u) log bench kept i tick last news at row tells wants is = absurd (let never : false ≡ true = is in cc)
+not-kept (Err e) log bench kept i tick last news at row tells wants is =
+    subst (λ (es : List Event). Wants i es kept) (tells ∙ ap (λ (r : Row). events_of r (state_of bench) i) (row ∙ ap (row_in_force log) at)) wants
 
 of-log-other : (given : Setup) (i : Input) (is : List Input) → IsNoTick i → AreOfLog given is → AreOfLog given (i ∷ is)
 of-log-other given (Tick row) is none h = absurd none
@@ -142,7 +150,7 @@ right-at given log is c old new told result a stands answers same = subst (λ (x
 back-there : (given : Setup) (log : List LogRow) (is : List Input) (t tick : ℕ) (old new : Held) (told next : Telling) → Stands given log (whole old) told is → t ≤ (replay given.plan is).now
     → Follows given.plan (whole new) (back_to given.plan t is) → tick ≡ new.tick → next ≡ gone_back tick told → Stands given log (whole new) next (back_to given.plan t is)
 back-there given log is t tick old new told next stands le follows at keeps =
-    let state : state_of new ≡ replay given.plan (back_to given.plan t is) = follows-state given.plan (whole new) (back_to given.plan t is) follows in
+    let state : state_of new ≡ replay given.plan (back_to given.plan t is) = past.follows-state controller (start given.plan) (whole new) (back_to given.plan t is) follows in
     let tick_is : tick ≡ t = at ∙ ap (λ (s : State). s.now) state ∙ reached given.plan t is le in
     record {
       same = stands.same;
@@ -195,7 +203,7 @@ undone-to : (given : Setup) (log : List LogRow) (is : List Input) (k : Kind) (ti
 unfolding Right
 undone-to given log [] k tick old new told next stands both at untold = absurd both.0
 undone-to given log (i ∷ is) k tick old new told next stands both at untold =
-    let state : state_of new ≡ replay given.plan is = follows-state given.plan (whole new) is both.1 in
+    let state : state_of new ≡ replay given.plan is = past.follows-state controller (start given.plan) (whole new) is both.1 in
     let tick_is : tick ≡ (replay given.plan is).now = at ∙ ap (λ (s : State). s.now) state in
     record {
       same = stands.same;

@@ -1,5 +1,5 @@
 -- What the inputs of a run tell. Inputs are piled up, the newest first; what they tell stands the oldest first.
-use Rattle.std.specs.Prelude.{ℕ, List, [], ◌∷◌, ◌++◌}
+use Rattle.std.specs.Prelude.{◌≡◌, ◌⊎◌, ◌<◌, ℕ, List, [], ◌∷◌, ◌++◌, length}
 use Rattle.tsb_types.specs.Sets.{all_off}
 use Rattle.tsb_types.specs.declared.event.Event.{Event}
 use Rattle.tsb_types.specs.declared.row.Row.{Row}
@@ -8,7 +8,7 @@ use Rattle.tsb_step.specs.declared.inputs.Input.{Input}
 use Rattle.tsb_step.specs.declared.inputs.Input.TheVariants.{Tick}
 use Rattle.tsb_step.specs.Events.{events_of}
 use Rattle.tsb_step.specs.Runs.{replay}
-use Rattle.tsb_record.specs.Told.{Telling, nothing_told, with_events, with_mark}
+use Rattle.tsb_record.specs.Told.{Kept, Telling, nothing_told, with_events, with_mark}
 
 -- the row of the newest tick; all inputs are off before the first
 abbrev pub last_row : List Input → Row
@@ -27,6 +27,11 @@ told_along plan (i ∷ is) = told_along plan is ++ events_of (last_row is) (repl
 abbrev pub with_input : Input → ℕ → List Event → Telling → Telling
 with_input (Tick row) tick news told = with_events news told
 with_input i tick news told = with_mark tick news told
+
+-- there is no memory to keep that an input has told these events: no room for them, or for its mark
+abbrev pub Wants : Input → List Event → Kept → Type 0
+Wants (Tick row) news kept = kept.event_room < length news
+Wants i news kept = (kept.event_room < length news) ⊎ (kept.mark_room ≡ 0)
 
 -- the events and the marks of all inputs from power-up
 abbrev pub telling : Plan → List Input → Telling

@@ -6,6 +6,8 @@ pub mod Along
 pub mod Laws
 -- which inputs commands leave, and what is told of refused ones
 pub mod Leaves
+-- what is told of a line
+pub mod Lines
 -- what private functions of a record promise each other
 pub mod Recording
 -- how the record of a run ends

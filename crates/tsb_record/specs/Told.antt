@@ -9,6 +9,12 @@ pub record Telling : Type 0 where
   pub events : List Event
   pub marks : List Mark
 
+-- what is kept of it, and for how many more events and marks there is memory
+pub record Kept : Type 0 where
+  pub told : Telling
+  pub event_room : ℕ
+  pub mark_room : ℕ
+
 -- no input has told anything
 abbrev pub nothing_told : Telling
 nothing_told = record { events = []; marks = [] }

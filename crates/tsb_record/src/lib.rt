@@ -3,9 +3,8 @@
 
 pub mod laws;
 mod recorder;
-mod session;
+mod recording;
 mod told;
-mod watch;
 
-pub use session::record;
+pub use recording::record;
 pub use told::{Mark, Told};

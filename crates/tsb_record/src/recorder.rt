@@ -1,16 +1,17 @@
 //! A bench, with what the inputs that remain have told.
-ghost use Rattle.std.specs.Prelude.{◌≡◌, ◌+◌, ◌∷◌, ◌++◌, [], List, take};
+ghost use Rattle.std.specs.Prelude.{◌≡◌, ◌+◌, ◌∷◌, ◌++◌, [], Err, List, take};
 ghost use Rattle.tsb_bench.specs.Held.{whole};
 ghost use Rattle.tsb_bench.specs.tsb_machine.declared.commands.Command.TheVariants.{Apply};
 ghost use Rattle.tsb_step.specs.tsb_history.declared.kinds.Kind.TheVariants.{Tick};
 ghost use Rattle.tsb_step.specs.declared.inputs.Input.{Input as InputValue};
+ghost use Rattle.tsb_types.specs.declared.refusal.Refusal.TheVariants.{Memory};
 ghost use Rattle.tsb_log_text.specs.declared.log.LogRow.{LogRow};
 ghost use Rattle.tsb_log_text.specs.Logs.{row_at};
 ghost use Rattle.tsb_text.specs.Answers.{Setup};
 ghost use Rattle.tsb_record.specs.Leaves.{Asked, Leaves, Steps};
 ghost use Rattle.tsb_record.specs.Told.{gone_back, nothing_told};
 ghost use Rattle.tsb_record.specs.declared.told.Mark.{Mark};
-ghost use Rattle.tsb_record.specs.Recording.{AreOfLog, Done, GoesBack, IsNoTick, Stands, Took, row_in_force};
+ghost use Rattle.tsb_record.specs.Recording.{AreOfLog, Done, GoesBack, IsNoTick, IsWanting, Stands, Took, row_in_force};
 
 use crate::told::Told;
 use std::alloc::Global;
@@ -36,7 +37,7 @@ impl Recorder {
     /// A bench that no input has reached.
     pub(crate) fn new(alloc: Global, bench: Bench) -> Recorder
         ensures bench { result.bench ≡ bench }
-        ensures told { result.told ≡ nothing_told }
+        ensures told { result.told.told ≡ nothing_told }
     {
         Recorder {
             bench,
@@ -48,15 +49,15 @@ impl Recorder {
 
     /// What the inputs that remain have told, the oldest first.
     pub(crate) fn into_events(self) -> Vec<Event>
-        ensures { result.items ≡ self.told.events }
+        ensures { result.items ≡ self.told.told.events }
     {
         self.told.into_events()
     }
 
     /// Carries out a command, and says why it was refused, where it was. It takes the rows of ticks from `log`.
     pub(crate) fn obey(&mut self, log: &Log, command: Command) -> Option<Refusal>
-        ensures { (given : Setup) (inputs : List InputValue) → Stands given log.now (whole self.old.bench) self.old.told inputs
-            → Done result given log.now (whole self.new.bench) self.new.told (Leaves given inputs command) }
+        ensures { (given : Setup) (inputs : List InputValue) → Stands given log.now (whole self.old.bench) self.old.told.told inputs
+            → Done result given log.now (whole self.new.bench) self.new.told.told (Leaves given inputs command) }
     {
         match command {
             Command::Step(ticks) => self.step(log, ticks),
@@ -80,8 +81,8 @@ impl Recorder {
 
     /// So many ticks, with the rows of the log, up to one that is refused.
     fn step(&mut self, log: &Log, ticks: u32) -> Option<Refusal>
-        ensures { (given : Setup) (inputs : List InputValue) → Stands given log.now (whole self.old.bench) self.old.told inputs
-            → Done result given log.now (whole self.new.bench) self.new.told (Steps given inputs ticks) }
+        ensures { (given : Setup) (inputs : List InputValue) → Stands given log.now (whole self.old.bench) self.old.told.told inputs
+            → Done result given log.now (whole self.new.bench) self.new.told.told (Steps given inputs ticks) }
     {
         for _i in 0..ticks {
             let row = next_row(&self.bench, log, &mut self.place);
@@ -95,8 +96,8 @@ impl Recorder {
 
     /// Applies an input that is no tick.
     fn apply(&mut self, log: &Log, input: Input) -> Option<Refusal>
-        ensures { (given : Setup) (inputs : List InputValue) → IsNoTick input → Stands given log.now (whole self.old.bench) self.old.told inputs
-            → Done result given log.now (whole self.new.bench) self.new.told (Asked given inputs (Apply input)) }
+        ensures { (given : Setup) (inputs : List InputValue) → IsNoTick input → Stands given log.now (whole self.old.bench) self.old.told.told inputs
+            → Done result given log.now (whole self.new.bench) self.new.told.told (Asked given inputs (Apply input)) }
     {
         match self.take(log, input) {
             Ok(()) => None,
@@ -105,10 +106,11 @@ impl Recorder {
     }
 
     /// Takes an input, and keeps what it tells. Where there is no memory for that the input is refused, and nothing has
-    /// changed.
+    /// changed. It is refused with E1 only where there was no room.
     fn take(&mut self, log: &Log, input: Input) -> Result<(), Refusal>
-        ensures { (given : Setup) (inputs : List InputValue) → Stands given log.now (whole self.old.bench) self.old.told inputs
-            → AreOfLog given (input ∷ inputs) → Took result given log.now (whole self.new.bench) self.new.told inputs input }
+        ensures took { (given : Setup) (inputs : List InputValue) → Stands given log.now (whole self.old.bench) self.old.told.told inputs
+            → AreOfLog given (input ∷ inputs) → Took result given log.now (whole self.new.bench) self.new.told.told inputs input }
+        ensures wanting { result ≡ Err Memory → IsWanting log.now self.old.bench self.old.told input }
     {
         let tick = self.bench.now();
         let last = row_in_force(tick, log, &mut self.place);
@@ -122,8 +124,8 @@ impl Recorder {
 
     /// Goes back as the command says, and takes back what was told since.
     fn go_back(&mut self, command: Cmd) -> Option<Refusal>
-        ensures { (given : Setup) (log : List LogRow) (inputs : List InputValue) → GoesBack command → Stands given log (whole self.old.bench) self.old.told inputs
-            → Done result given log (whole self.new.bench) self.new.told (Asked given inputs command) }
+        ensures { (given : Setup) (log : List LogRow) (inputs : List InputValue) → GoesBack command → Stands given log (whole self.old.bench) self.old.told.told inputs
+            → Done result given log (whole self.new.bench) self.new.told.told (Asked given inputs command) }
     {
         match answer(&mut self.bench, command) {
             Answer::Moved => {
@@ -141,9 +143,9 @@ impl Recorder {
 
 /// Takes back what the newest input has told, which was of this kind. Without it, this tick is in force.
 fn untell(told: &mut Told, tick: u32, kind: Kind)
-    ensures tick { kind ≡ Tick → told.new ≡ gone_back tick told.old }
-    ensures other { (kind ≡ Tick → ⊥) → (marks : List Mark) (mark : Mark) → told.old.marks ≡ marks ++ mark ∷ []
-        → told.new ≡ record { events = take mark.events told.old.events; marks = marks } }
+    ensures tick { kind ≡ Tick → told.new.told ≡ gone_back tick told.old.told }
+    ensures other { (kind ≡ Tick → ⊥) → (marks : List Mark) (mark : Mark) → told.old.told.marks ≡ marks ++ mark ∷ []
+        → told.new.told ≡ record { events = take mark.events told.old.told.events; marks = marks } }
 {
     match kind {
         Kind::Tick => told.go_back(tick),

@@ -1,7 +1,7 @@
 //! What inputs have told, which can be taken back.
-ghost use Rattle.std.specs.Prelude.{◌≡◌, ◌∷◌, ◌++◌, [], List, OnErr, OnOk, take};
-ghost use Rattle.tsb_record.specs.Told.{Telling, gone_back, nothing_told, with_events, with_mark, without_later, event_tick, mark_tick};
-ghost use Rattle.tsb_record.specs.Along.{with_input};
+ghost use Rattle.std.specs.Prelude.{◌≡◌, ◌⊎◌, ◌<◌, ◌∷◌, ◌++◌, [], List, OnErr, OnOk, length, take};
+ghost use Rattle.tsb_record.specs.Told.{gone_back, nothing_told, with_events, with_mark, without_later, event_tick, mark_tick};
+ghost use Rattle.tsb_record.specs.Along.{Wants, with_input};
 ghost use Rattle.tsb_record.specs.declared.told.Mark.{Mark};
 
 use std::alloc::{AllocError, Global};
@@ -19,7 +19,7 @@ pub struct Mark {
 }
 
 /// What the inputs that remain have told, the oldest first. A contract sees the events and the marks, one for each
-/// input that is no tick.
+/// input that is no tick, and for how many more of them there is memory.
 #[derive(Drop)]
 pub struct Told {
     events: Vec<Event>,
@@ -27,17 +27,22 @@ pub struct Told {
 }
 
 impl Model for Told {
-    ghost use Rattle.tsb_record.specs.Told.{Telling};
+    ghost use Rattle.std.specs.Prelude.{◌-◌, vec_capacity, vec_len};
+    ghost use Rattle.tsb_record.specs.Told.{Kept};
 
-    ghost Value = { Telling };
+    ghost Value = { Kept };
 
-    ghost view = { λ told. record { events = told.events.items; marks = told.marks.items } };
+    ghost view = { λ a. record {
+      told = record { events = a.events.items; marks = a.marks.items };
+      event_room = vec_capacity a.events - vec_len a.events;
+      mark_room = vec_capacity a.marks - vec_len a.marks;
+    } };
 }
 
 impl Told {
     /// Nothing, which takes no memory.
     pub fn new(alloc: Global) -> Told
-        ensures { result ≡ nothing_told }
+        ensures { result.told ≡ nothing_told }
     {
         Told {
             events: Vec::new(alloc),
@@ -47,18 +52,19 @@ impl Told {
 
     /// All events, the oldest first.
     pub fn into_events(self) -> Vec<Event>
-        ensures { result.items ≡ self.events }
+        ensures { result.items ≡ self.told.events }
     {
         let Told { events, marks } = self;
         drop(marks);
         events
     }
 
-    /// Adds the events of an input, where this tick was in force before it. The error is that memory ran out, and nothing
-    /// has changed.
+    /// Adds the events of an input, where this tick was in force before it. The error is that memory ran out, which
+    /// comes only where there was no room for them, and leaves what was told as it was.
     pub fn add(&mut self, input: &Input, tick: u32, news: &[Event]) -> Result<(), AllocError>
-        ensures ok { OnOk result (self.new ≡ with_input input.now tick news.now self.old) }
-        ensures err { OnErr result (self.new ≡ self.old) }
+        ensures ok { OnOk result (self.new.told ≡ with_input input.now tick news.now self.old.told) }
+        ensures err { OnErr result (self.new.told ≡ self.old.told) }
+        ensures wanting { OnErr result (Wants input.now news.now self.old) }
     {
         match input {
             Input::Tick(_) => self.add_tick(news),
@@ -66,19 +72,21 @@ impl Told {
         }
     }
 
-    /// Adds the events of a tick. The error is that memory ran out, and nothing has changed.
+    /// Adds the events of a tick. The error is that memory ran out, and leaves what was told as it was.
     fn add_tick(&mut self, news: &[Event]) -> Result<(), AllocError>
-        ensures ok { OnOk result (self.new ≡ with_events news.now self.old) }
-        ensures err { OnErr result (self.new ≡ self.old) }
+        ensures ok { OnOk result (self.new.told ≡ with_events news.now self.old.told) }
+        ensures err { OnErr result (self.new.told ≡ self.old.told) }
+        ensures wanting { OnErr result (self.old.event_room < length news.now) }
     {
         self.events.extend_from_slice(news)
     }
 
     /// Adds the events of an input that is no tick, where this tick is in force. The error is that memory ran out, and
-    /// nothing has changed.
+    /// leaves what was told as it was.
     fn add_input(&mut self, tick: u32, news: &[Event]) -> Result<(), AllocError>
-        ensures ok { OnOk result (self.new ≡ with_mark tick news.now self.old) }
-        ensures err { OnErr result (self.new ≡ self.old) }
+        ensures ok { OnOk result (self.new.told ≡ with_mark tick news.now self.old.told) }
+        ensures err { OnErr result (self.new.told ≡ self.old.told) }
+        ensures wanting { OnErr result ((self.old.event_room < length news.now) ⊎ (self.old.mark_room ≡ 0)) }
     {
         let events = self.events.len();
         self.marks.reserve(1)?;
@@ -89,8 +97,8 @@ impl Told {
 
     /// Takes back what the newest input has told, which is no tick.
     pub fn undo_input(&mut self)
-        ensures { (marks : List Mark) (mark : Mark) → self.old.marks ≡ marks ++ mark ∷ []
-            → self.new ≡ record { events = take mark.events self.old.events; marks = marks } }
+        ensures { (marks : List Mark) (mark : Mark) → self.old.told.marks ≡ marks ++ mark ∷ []
+            → self.new.told ≡ record { events = take mark.events self.old.told.events; marks = marks } }
     {
         if let Some(mark) = self.marks.pop() {
             self.events.truncate(mark.events);
@@ -99,7 +107,7 @@ impl Told {
 
     /// Takes back what all inputs have told that came later than a tick: with a tick number above it.
     pub fn go_back(&mut self, tick: u32)
-        ensures { self.new ≡ gone_back tick self.old }
+        ensures { self.new.told ≡ gone_back tick self.old.told }
     {
         drop_later_events(&mut self.events, tick);
         drop_later_marks(&mut self.marks, tick);

@@ -4,10 +4,10 @@ use Rattle.tsb_record.proofs.recorder.Recorder.apply.Goals as goal
 
 pub returns-in-Ok : goal.returns-in-Ok
 returns-in-Ok c given is none s =
-    applied given c.args.log.now is (whole c.take.new.self.bench) c.take.new.self.told c.args.input
-    (c.in-Ok.ensures given is s (other-of-log given c.args.log.now is (whole c.args.self.now.bench) c.args.self.now.told c.args.input none s))
+    applied given c.args.log.now is (whole c.take.new.self.bench) c.take.new.self.told.told c.args.input
+    (c.in-Ok.ensures.took given is s (other-of-log given c.args.log.now is (whole c.args.self.now.bench) c.args.self.now.told.told c.args.input none s))
 
 pub returns-in-Err : goal.returns-in-Err
 returns-in-Err c given is none s =
-    not-applied given c.args.log.now is (whole c.take.new.self.bench) c.take.new.self.told c.args.input c.in-Err.refusal
-    (c.in-Err.ensures given is s (other-of-log given c.args.log.now is (whole c.args.self.now.bench) c.args.self.now.told c.args.input none s))
+    not-applied given c.args.log.now is (whole c.take.new.self.bench) c.take.new.self.told.told c.args.input c.in-Err.refusal
+    (c.in-Err.ensures.took given is s (other-of-log given c.args.log.now is (whole c.args.self.now.bench) c.args.self.now.told.told c.args.input none s))

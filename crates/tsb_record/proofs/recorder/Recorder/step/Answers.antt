@@ -4,21 +4,21 @@ use Rattle.tsb_record.proofs.RecorderLemmas.{Stepping, steps-end, steps-more, st
 use Rattle.tsb_record.proofs.recorder.Recorder.step.Goals as goal
 
 pub loop-i-init : goal.loop-i-init
-loop-i-init c given is s = steps-start given c.args.log.now is c.args.ticks _ (whole c.args.self.now.bench) c.args.self.now.told (omega arith) s
+loop-i-init c given is s = steps-start given c.args.log.now is c.args.ticks _ (whole c.args.self.now.bench) c.args.self.now.told.told (omega arith) s
 
 pub loop-i-preserved : goal.loop-i-preserved
 loop-i-preserved c given is s =
-    let before : Stepping given c.args.log.now is c.args.ticks (whole c.loop-i.self.bench) c.loop-i.self.told (c.args.ticks - c.loop-i._i) = c.loop-i.invariant given is s in
-    steps-more given c.args.log.now is c.args.ticks c.loop-i.self.bench c.loop-i.self.told (whole c.take.new.self.bench) c.take.new.self.told (c.args.ticks - c.loop-i._i) (c.args.ticks - (c.loop-i._i + 1))
+    let before : Stepping given c.args.log.now is c.args.ticks (whole c.loop-i.self.bench) c.loop-i.self.told.told (c.args.ticks - c.loop-i._i) = c.loop-i.invariant given is s in
+    steps-more given c.args.log.now is c.args.ticks c.loop-i.self.bench c.loop-i.self.told.told (whole c.take.new.self.bench) c.take.new.self.told.told (c.args.ticks - c.loop-i._i) (c.args.ticks - (c.loop-i._i + 1))
     c.next_row-row.result (omega arith) c.next_row-row.ensures before
-    (c.in-Ok.ensures given before.now before.stands (tick-of-log given c.args.log.now before.now c.loop-i.self.bench c.loop-i.self.told c.next_row-row.result before.stands c.next_row-row.ensures))
+    (c.in-Ok.ensures.took given before.now before.stands (tick-of-log given c.args.log.now before.now c.loop-i.self.bench c.loop-i.self.told.told c.next_row-row.result before.stands c.next_row-row.ensures))
 
 pub returns-in-Err : goal.returns-in-Err
 returns-in-Err c given is s =
-    let before : Stepping given c.args.log.now is c.args.ticks (whole c.loop-i.self.bench) c.loop-i.self.told (c.args.ticks - c.loop-i._i) = c.loop-i.invariant given is s in
-    steps-refused given c.args.log.now is c.args.ticks c.loop-i.self.bench c.loop-i.self.told (whole c.take.new.self.bench) c.take.new.self.told (c.args.ticks - c.loop-i._i) (c.args.ticks - (c.loop-i._i + 1))
+    let before : Stepping given c.args.log.now is c.args.ticks (whole c.loop-i.self.bench) c.loop-i.self.told.told (c.args.ticks - c.loop-i._i) = c.loop-i.invariant given is s in
+    steps-refused given c.args.log.now is c.args.ticks c.loop-i.self.bench c.loop-i.self.told.told (whole c.take.new.self.bench) c.take.new.self.told.told (c.args.ticks - c.loop-i._i) (c.args.ticks - (c.loop-i._i + 1))
     c.next_row-row.result c.in-Err.refusal (omega arith) c.next_row-row.ensures before
-    (c.in-Err.ensures given before.now before.stands (tick-of-log given c.args.log.now before.now c.loop-i.self.bench c.loop-i.self.told c.next_row-row.result before.stands c.next_row-row.ensures))
+    (c.in-Err.ensures.took given before.now before.stands (tick-of-log given c.args.log.now before.now c.loop-i.self.bench c.loop-i.self.told.told c.next_row-row.result before.stands c.next_row-row.ensures))
 
 pub returns : goal.returns
-returns c given is s = steps-end given c.args.log.now is c.args.ticks (whole c.loop-i.self.bench) c.loop-i.self.told (c.args.ticks - c.loop-i._i) (omega arith) (c.loop-i.invariant given is s)
+returns c given is s = steps-end given c.args.log.now is c.args.ticks (whole c.loop-i.self.bench) c.loop-i.self.told.told (c.args.ticks - c.loop-i._i) (omega arith) (c.loop-i.invariant given is s)
