@@ -2,7 +2,7 @@
 use Rattle.std.proofs.Common.{◌≡◌, ◌∙◌, ◌⊎◌, ℕ, Bool, true, false, cond, ◌==◌, ◌&&◌, List, [], ◌∷◌, Option, Some, None, if◌then◌else◌, refl, sym, ap, subst, inl, inr, codes, bytes_eq, drop, encode_utf8, option_and_then, slice_get, length, eqb-true}
 use Rattle.std.specs.Option.{option_map_or}
 use Rattle.std.specs.Str.{chars}
-use Rattle.clap.specs.Lexer.{long_of, long_of_rest, short_of, short_of_rest, strip_byte}
+use Rattle.clap.specs.Lexer.{long_of, long_of_rest, name_and_value, short_of, short_of_rest, strip_byte}
 use Rattle.clap.specs.Walk.{Held, Outcome, Row, Rule, Text, after_flag, arg_by_long, arg_by_short, bundle_met, bundle_step, idle, long_or_other, plain, reacted, settled, short_or_plain, value}
 use Rattle.clap.specs.Simple.{filled, help_rule}
 use Rattle.clap.specs.Faults.{bundle_fault, bundle_step_fault, flag_word_fault, flags_fault, long_fault, react_fault, settle_fault, short_fault, use_fault}
@@ -31,10 +31,14 @@ or-nothing (k ∷ ks) = refl
 
 -- ## Which words are flags
 
--- what the word begins with is a name after two hyphens, or a character after one
+-- the word begins with one hyphen and a character
+abbrev pub IsShort : Text → Type 0
+IsShort word = (long_of word ≡ None) × (y : ℕ) × (ys : Text) × (short_of word ≡ Some (y ∷ ys)) × (has_some (chars (y ∷ ys)) ≡ true)
+
+-- the word begins with a name after two hyphens, or with a character after one
 abbrev pub IsFlag : Text → Type 0
-IsFlag word = ((found : Text × Option Text) × (long_of word ≡ Some found))
-    ⊎ ((long_of word ≡ None) × (y : ℕ) × (ys : Text) × (short_of word ≡ Some (y ∷ ys)) × (has_some (chars (y ∷ ys)) ≡ true))
+IsFlag word = ((text : Text) × (word ≡ 45 ∷ 45 ∷ text) × (long_of word ≡ Some (name_and_value text)))
+    ⊎ IsShort word
 
 -- it begins with none; what no character begins is none
 abbrev pub IsNoFlag : Text → Type 0
@@ -50,7 +54,7 @@ IsDash word = bytes_eq word (codes "--")
 sorted-two : (ys : Text) → IsDash (45 ∷ 45 ∷ ys) ≡ false → Sorted (45 ∷ 45 ∷ ys)
 unfolding chars
 sorted-two [] dash = absurd (let bad : ⊥ = cc in bad)
-sorted-two (z ∷ zs) dash = inl (refl, inl (_, refl))
+sorted-two (z ∷ zs) dash = inl (refl, inl (z ∷ zs, refl, refl))
 
 sorted-by-characters : (y : ℕ) (ys : Text) (b : Bool) → has_some (chars (y ∷ ys)) ≡ b
     → long_of (45 ∷ y ∷ ys) ≡ None → short_of (45 ∷ y ∷ ys) ≡ Some (y ∷ ys) → Sorted (45 ∷ y ∷ ys)
@@ -92,10 +96,14 @@ sorted (x ∷ xs) dash = sorted-by-first x xs (x == 45) refl dash
 abbrev pub help : Rule
 help = filled help_rule
 
--- flags name it, or nothing
+-- a flag names it, or nothing
+abbrev pub NamesHelp : Option Rule → Type 0
+NamesHelp found = (found ≡ None) ⊎ (found ≡ Some help)
+
+-- each flag does so
 pub record HasHelpAlone (c : List Rule) : Type 0 where
-  pub long : (name : Text) → (arg_by_long c name ≡ None) ⊎ (arg_by_long c name ≡ Some help)
-  pub short : (x : ℕ) → (arg_by_short c x ≡ None) ⊎ (arg_by_short c x ≡ Some help)
+  pub long : (name : Text) → NamesHelp (arg_by_long c name)
+  pub short : (x : ℕ) → NamesHelp (arg_by_short c x)
 
 pub one-found : (b : Bool) (r : Rule) → (cond b (Some r) None ≡ None) ⊎ (cond b (Some r) None ≡ Some r)
 one-found true r = inr refl
@@ -113,45 +121,44 @@ long-help : (c : List Rule) (again : Bool) (given : Option Text) (h : Held) → 
 long-help c again None h = help-fails c again h
 long-help c again (Some v) h = (TooManyValues, [], refl)
 
-long-fails : (c : List Rule) → HasHelpAlone c → (again : Bool) (name : Text) (given : Option Text) (h : Held)
-    → Fails (long_fault c again (arg_by_long c name) given h)
-long-fails c alone again name given h =
-    elim (alone.long name) [
-      | inl none ↦ subst (λ (o : Option Rule). Fails (long_fault c again o given h)) (sym none) (UnknownArgument, [], refl)
-      | inr some ↦ subst (λ (o : Option Rule). Fails (long_fault c again o given h)) (sym some) (long-help c again given h)
-    ]
+pub long-fails : (c : List Rule) {found : Option Rule} → NamesHelp found → (again : Bool) (given : Option Text) (h : Held)
+    → Fails (long_fault c again found given h)
+long-fails c (inl none) again given h = subst (λ (o : Option Rule). Fails (long_fault c again o given h)) (sym none) (UnknownArgument, [], refl)
+long-fails c (inr some) again given h = subst (λ (o : Option Rule). Fails (long_fault c again o given h)) (sym some) (long-help c again given h)
 
 short-help : (c : List Rule) (again : Bool) (rest : Text) (h : Held) (next : Held → Kinds) → Fails (short_fault c again (Some help) rest h next)
 short-help c again rest h next = fails-first (react_fault c again help [] h) (next (reacted c help [] h)) (help-fails c again h)
 
-short-fails : (c : List Rule) → HasHelpAlone c → (again : Bool) (x : ℕ) (rest : Text) (h : Held) (next : Held → Kinds)
-    → Fails (short_fault c again (arg_by_short c x) rest h next)
-short-fails c alone again x rest h next =
-    elim (alone.short x) [
-      | inl none ↦ subst (λ (o : Option Rule). Fails (short_fault c again o rest h next)) (sym none) (UnknownArgument, [], refl)
-      | inr some ↦ subst (λ (o : Option Rule). Fails (short_fault c again o rest h next)) (sym some) (short-help c again rest h next)
-    ]
+short-fails : (c : List Rule) {found : Option Rule} → NamesHelp found → (again : Bool) (rest : Text) (h : Held) (next : Held → Kinds)
+    → Fails (short_fault c again found rest h next)
+short-fails c (inl none) again rest h next = subst (λ (o : Option Rule). Fails (short_fault c again o rest h next)) (sym none) (UnknownArgument, [], refl)
+short-fails c (inr some) again rest h next = subst (λ (o : Option Rule). Fails (short_fault c again o rest h next)) (sym some) (short-help c again rest h next)
 
-bundle-step-fails : (c : List Rule) → HasHelpAlone c → (again : Bool) (cs flags : Text) (h : Held) (next : Text → ℕ → Held → Kinds)
+bundle-step-fails : (c : List Rule) → ((x : ℕ) → NamesHelp (arg_by_short c x)) → (again : Bool) (cs flags : Text) (h : Held) (next : Text → ℕ → Held → Kinds)
     → has_some cs ≡ true → Fails (bundle_step_fault c again (slice_get cs 0) flags 0 h next)
 bundle-step-fails c alone again [] flags h next has = absurd (let bad : ⊥ = cc in bad)
 bundle-step-fails c alone again (x ∷ xs) flags h next has =
-    short-fails c alone again x (drop (length (encode_utf8 x)) flags) h (next (drop (length (encode_utf8 x)) flags) 0)
+    short-fails c (alone x) again (drop (length (encode_utf8 x)) flags) h (next (drop (length (encode_utf8 x)) flags) 0)
 
-bundle-fails : (c : List Rule) → HasHelpAlone c → (again : Bool) (y : ℕ) (ys : Text) (rows : List Row) (p : Option (Text × List Text))
+bundle-fails : (c : List Rule) → ((x : ℕ) → NamesHelp (arg_by_short c x)) → (again : Bool) (y : ℕ) (ys : Text) (rows : List Row) (p : Option (Text × List Text))
     → has_some (chars (y ∷ ys)) ≡ true → Fails (bundle_fault c again (y ∷ ys) (held_with rows p))
 unfolding clap_on_literals
 bundle-fails c alone again y ys rows p has = bundle-step-fails c alone again (chars (y ∷ ys)) (y ∷ ys) (held_with rows p) (flags_fault c again (length ys)) has
 
-pub flag-fails : (c : List Rule) → HasHelpAlone c → (again : Bool) (word : Text) (rows : List Row) (p : Option (Text × List Text))
-    → IsFlag word → Fails (flag_word_fault c again (long_of word) word (held_with rows p))
-flag-fails c alone again word rows p (inl long) =
-    subst (λ (l : Option (Text × Option Text)). Fails (flag_word_fault c again l word (held_with rows p))) (sym long.1)
-    (long-fails c alone again long.0.0 long.0.1 (held_with rows p))
-flag-fails c alone again word rows p (inr short) =
+-- a character after one hyphen, where characters name help alone
+pub short-flag-fails : (c : List Rule) → ((x : ℕ) → NamesHelp (arg_by_short c x)) → (again : Bool) (word : Text) (rows : List Row) (p : Option (Text × List Text))
+    → IsShort word → Fails (flag_word_fault c again (long_of word) word (held_with rows p))
+short-flag-fails c alone again word rows p short =
     subst (λ (l : Option (Text × Option Text)). Fails (flag_word_fault c again l word (held_with rows p))) (sym short.0)
     (subst (λ (s : Option Text). Fails (option_map_or (λ flags. bundle_fault c again flags (held_with rows p)) s [])) (sym short.3)
     (bundle-fails c alone again short.1 short.2 rows p short.4))
+
+pub flag-fails : (c : List Rule) → HasHelpAlone c → (again : Bool) (word : Text) (rows : List Row) (p : Option (Text × List Text))
+    → IsFlag word → Fails (flag_word_fault c again (long_of word) word (held_with rows p))
+flag-fails c alone again word rows p (inl long) =
+    subst (λ (l : Option (Text × Option Text)). Fails (flag_word_fault c again l word (held_with rows p))) (sym long.2)
+    (long-fails c (alone.long (name_and_value long.0).0) again (name_and_value long.0).1 (held_with rows p))
+flag-fails c alone again word rows p (inr short) = short-flag-fails c alone.short again word rows p short
 
 -- ## Other words are values
 

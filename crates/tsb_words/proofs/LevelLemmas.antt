@@ -60,13 +60,20 @@ pub level-dash : (s : Shape) (rows : List Row) (p : Option (Text × List Text)) 
 unfolding clap_on_literals
 level-dash s rows p position rest = refl
 
+-- a word fails that is met as a flag and fails so
+pub level-fails : (s : Shape) (rows : List Row) (p : Option (Text × List Text)) (position : ℕ) (word : Text) (rest : List Text)
+    → bytes_eq word (codes "--") ≡ false → Fails (flag_word_fault s.rules s.args_override_self (long_of word) word (held_with rows p))
+    → Fails (Level s (standing rows p position false) (word ∷ rest)).0
+unfolding clap_on_literals
+level-fails s rows p position word rest dash fails =
+    turned-fails s (standing rows p position false) word rest (fault_of_word s (held_with rows p) word (bytes_eq word (codes "--"))) (met_of_word s (held_with rows p) position word (bytes_eq word (codes "--")))
+    (subst (λ (b : Bool). Fails (fault_of_word s (held_with rows p) word b)) (sym dash) fails)
+
 -- a flag fails
 pub level-flag : (s : Shape) → HasHelpAlone s.rules → (rows : List Row) (p : Option (Text × List Text)) (position : ℕ) (word : Text) (rest : List Text)
     → bytes_eq word (codes "--") ≡ false → IsFlag word → Fails (Level s (standing rows p position false) (word ∷ rest)).0
-unfolding clap_on_literals
 level-flag s alone rows p position word rest dash flag =
-    turned-fails s (standing rows p position false) word rest (fault_of_word s (held_with rows p) word (bytes_eq word (codes "--"))) (met_of_word s (held_with rows p) position word (bytes_eq word (codes "--")))
-    (subst (λ (b : Bool). Fails (fault_of_word s (held_with rows p) word b)) (sym dash) (flag-fails s.rules alone s.args_override_self word rows p flag))
+    level-fails s rows p position word rest dash (flag-fails s.rules alone s.args_override_self word rows p flag)
 
 -- each other word is a value
 pub level-value : (s : Shape) (rows : List Row) (p : Option (Text × List Text)) (position : ℕ) (word : Text) (rest : List Text)

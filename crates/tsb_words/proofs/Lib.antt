@@ -10,6 +10,8 @@ pub mod FileLemmas
 pub mod ProgramLemmas
 -- what is made of what was met
 pub mod MetLemmas
+-- all words of `tsb_live`
+pub mod LiveLemmas
 -- what options of `tsb_field` say, by what the getters answer
 pub mod OptionLemmas
 -- words and the wires that they spell

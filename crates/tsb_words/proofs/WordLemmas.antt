@@ -2,22 +2,22 @@
 use Rattle.std.proofs.Common.{◌≡◌, ◌∙◌, List, [], ◌∷◌, Option, Some, None, Result, option_and_then, true, refl, sym, ap, subst, inl, inr}
 use Rattle.clap.specs.Faults.{is_simple_and_free}
 use Rattle.clap.specs.Kinds.{HasKind, IsAmong, Kinds}
-use Rattle.clap.specs.Simple.{App, subcommand_rows_of}
+use Rattle.clap.specs.Simple.{App}
 use Rattle.clap.specs.Values.{kind_of}
 use Rattle.clap.specs.Walk.{Row, Text}
 use Rattle.clap.specs.declared.error.Error.{Error}
 use Rattle.clap.specs.declared.error.kind.ErrorKind.{ErrorKind}
 use Rattle.clap.specs.declared.error.kind.ErrorKind.TheVariants.{OutOfMemory}
 use Rattle.clap.specs.declared.parser.matches.ArgMatches.{ArgMatches}
-use Rattle.tsb_words.specs.Words.{IsRefused, SpelledBy, met_by, met_where, words_fault}
+use Rattle.tsb_words.specs.Words.{IsRefused, SpelledBy, met_where, words_fault}
 use Rattle.tsb_words.specs.declared.error.WordsError.{WordsError}
 use Rattle.tsb_words.specs.declared.error.WordsError.TheVariants.{Memory, Bad}
 
-pub meets : (kinds : Kinds) (met : Option (Text × List Row)) → kinds ≡ [] → met_where kinds met ≡ Some met
+pub meets : {M : Type 0} (kinds : Kinds) (met : M) → kinds ≡ [] → met_where kinds met ≡ Some met
 meets [] met none = refl
 meets (k ∷ ks) met none = absurd (cc)
 
-meets-none : (kinds : Kinds) (met : Option (Text × List Row)) (k : ErrorKind) → IsAmong k kinds → met_where kinds met ≡ None
+meets-none : {M : Type 0} (kinds : Kinds) (met : M) (k : ErrorKind) → IsAmong k kinds → met_where kinds met ≡ None
 meets-none [] met k is = absurd is
 meets-none (k ∷ ks) met kind is = refl
 
@@ -26,7 +26,7 @@ refused-by wish OutOfMemory none = tt
 refused-by wish k none = none
 
 -- an error is bad words, or out of memory
-pub refused : (kinds : Kinds) (met : Option (Text × List Row)) (e : Error) → HasKind kinds e → IsRefused (met_where kinds met) (words_fault (kind_of e))
+pub refused : {M : Type 0} (kinds : Kinds) (met : M) (e : Error) → HasKind kinds e → IsRefused (met_where kinds met) (words_fault (kind_of e))
 refused kinds met e (inl memory) = subst (λ (k : ErrorKind). IsRefused (met_where kinds met) (words_fault k)) (sym memory) tt
 refused kinds met e (inr is) = refused-by (met_where kinds met) (kind_of e) (meets-none kinds met (kind_of e) is)
 
@@ -43,7 +43,8 @@ asks seen asked_by met found answer is answered =
     subst (λ (o : Option (Option (Text × List Row))). SpelledBy seen (option_and_then asked_by o) answer) (sym is) answered
 
 -- what is said of the words of a command is said of those of this program, where the command is that of the program
-pub of-program : (app program : App) (words : List Text) (answer : Result ArgMatches WordsError) → app ≡ program → is_simple_and_free program ≡ true
-    → (is_simple_and_free app ≡ true → SpelledBy subcommand_rows_of (met_by app words) answer) → SpelledBy subcommand_rows_of (met_by program words) answer
-of-program app program words answer same free said =
-    subst (λ (a : App). SpelledBy subcommand_rows_of (met_by a words) answer) same (said (ap is_simple_and_free same ∙ free))
+pub of-program : {M : Type 0} (seen : ArgMatches → M) (met : App → List Text → Option M) (app program : App) (words : List Text) (answer : Result ArgMatches WordsError)
+    → app ≡ program → is_simple_and_free program ≡ true
+    → (is_simple_and_free app ≡ true → SpelledBy seen (met app words) answer) → SpelledBy seen (met program words) answer
+of-program seen met app program words answer same free said =
+    subst (λ (a : App). SpelledBy seen (met a words) answer) same (said (ap is_simple_and_free same ∙ free))

@@ -10,3 +10,7 @@ pub mod FieldWords
 pub mod Wires
 -- its command as `clap` reads it, and what is made of what it answers
 pub mod FieldProgram
+-- what the words of `tsb_live` ask for
+pub mod LiveWords
+-- its command as `clap` reads it
+pub mod LiveProgram

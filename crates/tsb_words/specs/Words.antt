@@ -4,10 +4,12 @@ use Rattle.std.specs.declared.io.ErrorKind.{ErrorKind as DeviceKind}
 use Rattle.std.specs.declared.io.ErrorKind.TheVariants as device
 use Rattle.clap.specs.Faults.{fault_of}
 use Rattle.clap.specs.Kinds.{Kinds}
-use Rattle.clap.specs.Simple.{App, subcommand_of}
-use Rattle.clap.specs.Walk.{Row, Text}
+use Rattle.clap.specs.Matches.{found_of}
+use Rattle.clap.specs.Simple.{App, matches_of, subcommand_of}
+use Rattle.clap.specs.Walk.{Row, Text, rows_of}
 use Rattle.clap.specs.declared.error.kind.ErrorKind.{ErrorKind}
 use Rattle.clap.specs.declared.error.kind.ErrorKind.TheVariants as kinds
+use Rattle.clap.specs.declared.parser.matches.ArgMatches.{ArgMatches}
 use Rattle.tsb_words.specs.declared.error.WordsError.{WordsError}
 use Rattle.tsb_words.specs.declared.error.WordsError.TheVariants.{Memory, Bad}
 
@@ -31,11 +33,19 @@ abbrev pub SpelledBy : {W A : Type 0} → (A → W) → Option W → Result A Wo
 SpelledBy seen wish (Ok asked) = wish ≡ Some (seen asked)
 SpelledBy seen wish (Err fault) = IsRefused wish fault
 
--- the subcommand that words meet, if any, where they fail by none of these kinds
-abbrev pub met_where : Kinds → Option (Text × List Row) → Option (Option (Text × List Row))
+-- what words meet, where they fail by none of these kinds
+abbrev pub met_where : {M : Type 0} → Kinds → M → Option M
 met_where [] met = Some met
 met_where (kind ∷ kinds) met = None
 
 -- the subcommand that words meet, if any, where `clap` takes them for this command
 abbrev pub met_by : App → List Text → Option (Option (Text × List Row))
 met_by app words = met_where (fault_of app words) (subcommand_of app words)
+
+-- what words give to the command's own arguments, where `clap` takes them for this command
+abbrev pub given_by : App → List Text → Option (List Row)
+given_by app words = met_where (fault_of app words) (matches_of app words)
+
+-- what was given to the command's own arguments
+abbrev pub given_of : ArgMatches → List Row
+given_of matches = rows_of (found_of matches)

@@ -4,6 +4,7 @@
 pub mod bench;
 mod error;
 pub mod field_files;
+pub mod live;
 mod matches;
 
 pub use error::WordsError;

@@ -2,7 +2,7 @@
 ghost use Rattle.std.specs.Prelude.{◌≡◌, map, true};
 ghost use Rattle.clap.specs.Words.{app_of, is_simple_and_free};
 ghost use Rattle.clap.specs.Simple.{subcommand_rows_of};
-ghost use Rattle.tsb_words.specs.Words.{SpelledBy, met_by};
+ghost use Rattle.tsb_words.specs.Words.{SpelledBy, given_by, given_of, met_by};
 
 use crate::error::WordsError;
 use clap::{ArgMatches, Command};
@@ -13,8 +13,10 @@ pub(crate) fn matches_of<'a, S: AsStr>(
     command: Command<'a>,
     words: &'a [S],
 ) -> Result<ArgMatches<'a>, WordsError>
-    ensures { is_simple_and_free (app_of command.entry) ≡ true
+    ensures met { is_simple_and_free (app_of command.entry) ≡ true
         → SpelledBy subcommand_rows_of (met_by (app_of command.entry) (map S.text words.now)) result }
+    ensures given { is_simple_and_free (app_of command.entry) ≡ true
+        → SpelledBy given_of (given_by (app_of command.entry) (map S.text words.now)) result }
 {
     let matches = command.try_get_matches_from(words)?;
     Ok(matches)

@@ -16,12 +16,12 @@ returns-in_err-matches g c =
     let p = err_from_is_err_and c.from_residual-in_err-matches.result c.from_residual-in_err-matches.ensures.1 in
     rw (p.1, p.2) (subst (λ (o : Option Wish). IsRefused o fault) (agree-all words)
     (asks-nothing asked_by (met_by program words) fault
-    (of-program (app_of c.in_ok-command.field-0) program words (Err fault) c.in_ok-command.ensures is-simple-and-free c.in_err-matches.ensures)))
+    (of-program subcommand_rows_of met_by (app_of c.in_ok-command.field-0) program words (Err fault) c.in_ok-command.ensures is-simple-and-free c.in_err-matches.ensures.met)))
 
 pub returns : goal.returns
 returns g c =
     let words : List Text = map g.S.AsStr.text c.args.words.now in
     subst (λ (o : Option Wish). SpelledBy seen o c.asked_of.result) (agree-all words)
     (asks seen asked_by (met_by program words) (subcommand_rows_of c.in_ok-matches.matches) c.asked_of.result
-    (of-program (app_of c.in_ok-command.field-0) program words (Ok c.in_ok-matches.matches) c.in_ok-command.ensures is-simple-and-free c.in_ok-matches.ensures)
+    (of-program subcommand_rows_of met_by (app_of c.in_ok-command.field-0) program words (Ok c.in_ok-matches.matches) c.in_ok-command.ensures is-simple-and-free c.in_ok-matches.ensures.met)
     c.asked_of.ensures)

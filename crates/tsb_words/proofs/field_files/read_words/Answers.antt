@@ -21,11 +21,11 @@ returns-in_err-matches g c =
     let fault = c.in_err-matches.field-0.0 in
     let p = err_from_is_err_and c.from_residual-in_err-matches.result c.from_residual-in_err-matches.ensures.1 in
     rw (p.1, p.2) (asks-nothing asked_by (met_by program words) fault
-    (of-program (app_of c.in_ok-program.field-0) program words (Err fault) c.in_ok-program.ensures is-simple-and-free c.in_err-matches.ensures))
+    (of-program subcommand_rows_of met_by (app_of c.in_ok-program.field-0) program words (Err fault) c.in_ok-program.ensures is-simple-and-free c.in_err-matches.ensures.met))
 
 pub returns : goal.returns
 returns g c =
     let words : List Text = map g.S.AsStr.text c.args.words.now in
     asks seen asked_by (met_by program words) (subcommand_rows_of c.in_ok-matches.matches) c.asked_of.result
-    (of-program (app_of c.in_ok-program.field-0) program words (Ok c.in_ok-matches.matches) c.in_ok-program.ensures is-simple-and-free c.in_ok-matches.ensures)
+    (of-program subcommand_rows_of met_by (app_of c.in_ok-program.field-0) program words (Ok c.in_ok-matches.matches) c.in_ok-program.ensures is-simple-and-free c.in_ok-matches.ensures.met)
     c.asked_of.ensures
