@@ -8,7 +8,7 @@ use Rattle.tsb_program.specs.declared.files.FileError.TheVariants as files
 use Rattle.tsb_program.specs.declared.read.ReadError.{ReadError}
 use Rattle.tsb_program.specs.declared.read.ReadError.TheVariants as faults
 use Rattle.tsb.specs.Ends.{Stops}
-use Rattle.tsb.specs.Lines.{Refuses}
+use Rattle.tsb_program.specs.Lines.{Refuses}
 use Rattle.tsb_program.specs.Read.{HasPlan, LogRead}
 
 -- a log that is not had ends `run` where there is a plan

@@ -14,7 +14,8 @@ use Rattle.tsb_text.specs.declared.error.SessionError.{SessionError}
 use Rattle.tsb_text.specs.Answers.{Setup}
 use Rattle.tsb_text.specs.Ended.{Ended}
 use Rattle.tsb_program.specs.tsb_lines.Writes.{AppendsFront}
-use Rattle.tsb.specs.Lines.{FailsToRead, TellsEnd, TellsWords, plan_line, log_line}
+use Rattle.tsb.specs.Lines.{TellsWords}
+use Rattle.tsb_program.specs.Lines.{FailsToRead, TellsEnd, log_line, plan_line}
 use Rattle.tsb_program.specs.Failures.{Fails}
 use Rattle.tsb_program.specs.declared.failure.Failure.TheVariants.{Write}
 use Rattle.tsb_program.specs.Read.{HasLog, HasPlan, RefusesLog, RefusesPlan}

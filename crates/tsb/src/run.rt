@@ -5,18 +5,18 @@ ghost use Rattle.tsb_words.specs.declared.bench.Asked.{Asked};
 ghost use Rattle.tsb_words.specs.declared.error.WordsError.{WordsError};
 ghost use Rattle.tsb_words.specs.BenchWords.{Spells};
 ghost use Rattle.tsb_text.specs.tsb_objects.Checked.{checked_plan};
-ghost use Rattle.tsb.specs.Lines.{Refuses, TellsEnd, TellsWords};
+ghost use Rattle.tsb.specs.Lines.{TellsWords};
 ghost use Rattle.tsb_program.specs.Statuses.{number};
 ghost use Rattle.tsb.specs.Ends.{Checks, Judged, Ran, RanBuiltIn, Did, Talked};
 
 use std::alloc::Global;
 use std::convert::AsStr;
-use std::fmt::Display;
 use std::io::{Read, Write};
 use tsb_program::{
-    Failure, Files, ReadError, Status, fail, line_of, log_of, plan_of, tell, write_line,
+    Failure, Files, ReadError, Status, fail, line_of, log_of, plan_of, refuse, tell, tell_end,
+    write_line,
 };
-use tsb_text::{Checked, Log, Plan, PlanError, SessionError, session};
+use tsb_text::{Checked, Log, Plan, PlanError, session};
 use tsb_words::WordsError;
 use tsb_words::bench::{Asked, read_words};
 
@@ -55,19 +55,6 @@ pub fn tell_words_fault<E: Write>(errors: &mut E, fault: WordsError) -> u8
             Status::BadWords,
             b"usage: tsb check PLAN or tsb run PLAN LOG\n",
         ),
-    }
-}
-
-/// Says why there is no plan or log.
-fn refuse<E: Write, T: Display + Drop>(alloc: Global, errors: &mut E, fault: ReadError<T>) -> u8
-    ensures { Refuses T.output fault result (E.contents errors.old) (E.contents errors.new) }
-{
-    match fault {
-        ReadError::Failed(fault) => fail(errors, fault.failure()),
-        ReadError::Refused(fault) => match line_of(alloc, fault) {
-            Ok(line) => tell(errors, Status::Refused, line.as_bytes()),
-            Err(_) => fail(errors, Failure::Memory),
-        },
     }
 }
 
@@ -159,17 +146,5 @@ fn talk<R: Read, W: Write, E: Write>(
     match session(alloc, plan, log, input, output) {
         Ok(()) => Status::Done.number(),
         Err(fault) => tell_end(errors, fault),
-    }
-}
-
-/// Says what ended a session before its commands did.
-fn tell_end<E: Write>(errors: &mut E, fault: SessionError) -> u8
-    ensures { TellsEnd fault result (E.contents errors.old) (E.contents errors.new) }
-{
-    match fault {
-        SessionError::Memory => fail(errors, Failure::Memory),
-        SessionError::Read => fail(errors, Failure::Read),
-        SessionError::Write => fail(errors, Failure::Write),
-        SessionError::TooLarge => tell(errors, Status::Failed, b"commands: too large\n"),
     }
 }

@@ -4,6 +4,8 @@ pub mod Statuses
 pub mod Failures
 -- what the files that were read give
 pub mod Read
+-- the lines of what ended a run
+pub mod Lines
 -- the names of crates below, for those above
 pub use Rattle.tsb_lines.specs as tsb_lines
 pub use Rattle.tsb_log_text.specs as tsb_log_text

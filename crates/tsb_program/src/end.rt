@@ -1,0 +1,36 @@
+//! What a program says of what ended its run.
+ghost use Rattle.tsb_program.specs.Lines.{Refuses, TellsEnd};
+
+use crate::failure::{Failure, fail};
+use crate::lines::{line_of, tell};
+use crate::read::ReadError;
+use crate::status::Status;
+use std::alloc::Global;
+use std::fmt::Display;
+use std::io::Write;
+use tsb_text::SessionError;
+
+/// Says why there is no plan or log, and gives the status that the program ends with.
+pub fn refuse<E: Write, T: Display + Drop>(alloc: Global, errors: &mut E, fault: ReadError<T>) -> u8
+    ensures { Refuses T.output fault result (E.contents errors.old) (E.contents errors.new) }
+{
+    match fault {
+        ReadError::Failed(fault) => fail(errors, fault.failure()),
+        ReadError::Refused(fault) => match line_of(alloc, fault) {
+            Ok(line) => tell(errors, Status::Refused, line.as_bytes()),
+            Err(_) => fail(errors, Failure::Memory),
+        },
+    }
+}
+
+/// Says what ended a session before its commands did, and gives the status that the program ends with.
+pub fn tell_end<E: Write>(errors: &mut E, fault: SessionError) -> u8
+    ensures { TellsEnd fault result (E.contents errors.old) (E.contents errors.new) }
+{
+    match fault {
+        SessionError::Memory => fail(errors, Failure::Memory),
+        SessionError::Read => fail(errors, Failure::Read),
+        SessionError::Write => fail(errors, Failure::Write),
+        SessionError::TooLarge => tell(errors, Status::Failed, b"commands: too large\n"),
+    }
+}
