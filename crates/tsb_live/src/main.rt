@@ -1,0 +1,31 @@
+//! A live run on a plan: `tsb_live PLAN` answers each line that comes. With `--strict` it ends at the first line that is
+//! refused or is no command.
+#![tactic(auto)]
+
+mod run;
+
+use crate::run::{run_words, tell_words_fault};
+use std::env;
+use std::process::ExitCode;
+use tsb_program::Disk;
+use tsb_words::WordsError;
+
+fn main(rt: HostRuntime) -> ExitCode {
+    let status = match words_given(&rt) {
+        Ok(words) => run_words(
+            rt.alloc(),
+            words.as_slice(),
+            &Disk { rt: &rt },
+            &mut rt.stdin(),
+            &mut rt.stdout(),
+            &mut rt.stderr(),
+        ),
+        Err(fault) => tell_words_fault(&mut rt.stderr(), fault),
+    };
+    ExitCode::from(status)
+}
+
+/// The words that the program was given, the first of which is its name.
+fn words_given(rt: &HostRuntime) -> Result<Vec<String>, WordsError> {
+    Ok(env::args(rt)?.collect(rt.alloc())?)
+}
