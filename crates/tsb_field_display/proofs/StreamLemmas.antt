@@ -1,8 +1,9 @@
 -- Bytes that come one after the other, and the display lines in them.
-use Rattle.std.proofs.Common.{◌≡◌, ℕ, ◌≤◌, ◌==◌, List, [], ◌∷◌, ◌++◌, length, true, false, refl, sym, ap, ◌∙◌, append_assoc, Some, None, Ok, Err, arith, subst, inl, inr}
+use Rattle.std.proofs.Common.{◌≡◌, ℕ, ◌≤◌, ◌==◌, List, [], ◌∷◌, ◌++◌, length, Bool, true, false, not, refl, sym, ap, ◌∙◌, append_assoc, Some, None, Ok, Err, arith, subst, inl, inr}
 use Rattle.std.specs.declared.option.Option.{Option}
 use Rattle.std.specs.List.{cons_option, filter_map}
 use Rattle.std.specs.Io.KnownBytes.{Consumes, IsAtEnd}
+use Rattle.std.proofs.lemmas.Bool.{true≢false}
 use Rattle.std.proofs.lemmas.Bool.Decides.{eqb_tells}
 use Rattle.std.proofs.lemmas.List.{append-nil}
 use Rattle.std.proofs.lemmas.List.Sums.{fold-append}
@@ -15,7 +16,7 @@ use Rattle.tsb_field_display.specs.declared.shown.Shown.{Shown}
 use Rattle.tsb_field_display.specs.declared.stream.Stream.{Stream}
 use Rattle.tsb_field_display.specs.Reading.{is_display, shown_of}
 use Rattle.tsb_field_display.specs.Remaining.{Keeps}
-use Rattle.tsb_field_display.specs.Stream.{Going, ReplayRead, Stand, StandsAt, shown_in, shown_lines, start, with_byte, with_bytes, with_held, with_line, with_shown}
+use Rattle.tsb_field_display.specs.Stream.{GoesOn, Going, ReplayRead, Stand, StandsAt, shown_in, shown_lines, start, with_byte, with_bytes, with_held, with_line, with_shown}
 
 -- ## A line of which the first bytes are held
 
@@ -107,3 +108,15 @@ read_end i l old new going end ends = record {
     subst (λ (lines : List Shown). Keeps new.replay lines) (lines-taken going.bytes) (ends (with_bytes start going.bytes) going.stands).shown,
   );
 }
+
+-- the bytes of one read more, of which none is the end
+pub going_on : (i l m : Option (List ℕ)) (old new : Stream) (count : ℕ) (bytes : List ℕ) → Going i l old → Consumes l m bytes
+    → ((s : Stand) → StandsAt s old → StandsAt (with_bytes s bytes) new) → (count ≡ 0 → IsAtEnd m) → GoesOn (not (count == 0)) i m new
+going_on i l m old new count bytes going taken stands end = record {
+  going = going_more i l m old new bytes going taken stands;
+  end = λ none. elim (eqb_tells count 0) [ inl on ↦ end on.1 | inr off ↦ absurd (more (count == 0) off.0 none) ];
+}
+  where
+    more : (is : Bool) → is ≡ false → not is ≡ false → ⊥
+    more true off none = true≢false off
+    more false off none = true≢false none
