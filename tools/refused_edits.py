@@ -12,9 +12,9 @@ nothing. Such an edit is tried by itself, and in the end over the whole crate, a
 `N passed, M failed`.
 
 Functions that are not asked for are not proved: their contracts stand all the same for those that call them, and what
-is told of a function for its callees alone shows nothing. Runs of one crate share what they prove. An edit that the
-whole crate does not refuse so is tried once more from nothing. That the crate as it is would be proved over what they
-share is not tried, as `rt ci` tries it.
+is told of a function for its callees alone shows nothing. Where a crate has several runs, they share what they prove,
+and an edit that the whole crate does not refuse so is tried once more from nothing. That the crate as it is would be
+proved over what they share is not tried, as `rt ci` tries it.
 """
 import contextlib
 import dataclasses
@@ -214,9 +214,9 @@ def said_by(words: list[str], room: str) -> str:
         return told.read()
 
 
-def prove(crate: Any, texts: dict[Path, str], functions: set[str], kept: str) -> list[str]:
-    """What the prover says of these functions in a copy of the crate with these files. What it proves goes into a folder,
-    and what is there and still fits is not proved again."""
+def prove(crate: Any, texts: dict[Path, str], functions: set[str], kept: str | None) -> list[str]:
+    """What the prover says of these functions in a copy of the crate with these files. Where there is a folder for it,
+    what it proves goes into that, and what is there and still fits is not proved again."""
     with tempfile.TemporaryDirectory(prefix="edits-") as room:
         for part in kit.kit().rtlib.PARTS:
             if pathlib.Path(crate.folder, part).is_dir():
@@ -226,8 +226,8 @@ def prove(crate: Any, texts: dict[Path, str], functions: set[str], kept: str) ->
             pathlib.Path(room, path).write_text(text)
         leave_out(room, sources(room), functions)
         asked = [word for name in sorted(functions) for word in ("--only", name)]
-        words = [kit.kit().rtlib.RATTLE, "check", *crate.words(["--jobs", "1"], keeps=False), *asked, "--incremental", kept]
-        return said_by(words, room).split("\n")
+        words = [kit.kit().rtlib.RATTLE, "check", *crate.words(["--jobs", "1"], keeps=False), *asked]
+        return said_by([*words, "--incremental", kept] if kept else words, room).split("\n")
 
 
 def own_goal(lines: list[str], function: Function) -> str | None:
@@ -244,7 +244,7 @@ def own_goal(lines: list[str], function: Function) -> str | None:
     return None
 
 
-def refused(crate: Any, group: list[Edit], kept: str) -> dict[pathlib.Path, str]:
+def refused(crate: Any, group: list[Edit], kept: str | None) -> dict[pathlib.Path, str]:
     """The edits of a group that are refused, tried together, each with the goal that its own function does not meet."""
     texts, ends = applied(crate.folder, group)
     whole = sources(crate.folder) | {path: text for path, text in texts.items() if path.startswith("src/")}
@@ -267,18 +267,18 @@ class Verdict:
     line: str
 
 
-def tried_alone(crate: Any, edit: Edit, kept: str) -> Verdict:
+def tried_alone(crate: Any, edit: Edit, kept: str | None) -> Verdict:
     """An edit by itself: its own functions, and where that shows nothing the whole crate, as `rt ci` tries it."""
     goal = refused(crate, [edit], kept).get(edit.file)
     if goal:
         return Verdict(True, f"must-fail {crate.name}/{edit.file.name}: refused, as it must be, alone: {goal[:160]}")
     said, line = kit.kit().must_fail(crate, str(edit.file), ["--jobs", "1"], kept)
-    if said != kit.kit().REFUSED:
+    if said != kit.kit().REFUSED and kept:
         said, line = kit.kit().must_fail(crate, str(edit.file), ["--jobs", "1"])
     return Verdict(said == kit.kit().REFUSED, line)
 
 
-def tried(crate: Any, group: list[Edit], kept: str) -> list[Verdict]:
+def tried(crate: Any, group: list[Edit], kept: str | None) -> list[Verdict]:
     """The edits of a group, those alone that were not refused together."""
     goals = refused(crate, group, kept) if len(group) > 1 else {}
     verdicts = []
@@ -295,7 +295,9 @@ def tried_all(crate: Any, edits: list[Edit]) -> list[Verdict]:
     long that took."""
     start, groups = time.monotonic(), grouped(edits)
     with tempfile.TemporaryDirectory(prefix="edits-kept-") as kept:
-        verdicts = [verdict for group in groups for verdict in tried(crate, group, kept)]
+        # (to keep what one run proves costs that run some five seconds)
+        shared = kept if len(groups) > 1 else None
+        verdicts = [verdict for group in groups for verdict in tried(crate, group, shared)]
     if edits:
         print(f"edits of {crate.name}: {len(edits)} in {len(groups)} runs, {time.monotonic() - start:.0f} s", flush=True)
     return verdicts
