@@ -11,7 +11,7 @@ mod run;
 
 pub use answers::obey;
 pub use error::SessionError;
-pub use lines::{line, refused_line};
+pub use lines::{line, line_bytes, refused_line};
 pub use rows::Rows;
 pub use run::{COMMANDS, session};
 pub use tsb_bench::{Bench, Kind};

@@ -23,8 +23,8 @@ pub fn line(bench: &Bench) -> ArrayString<64>
     tsb_display_text::line(bench.now(), &bench.display(), preempt, bench.local())
 }
 
-/// The bytes of the display line.
-pub(crate) fn line_bytes(bench: &Bench) -> LineBytes
+/// The bytes of the display line, without a line feed. It takes no memory.
+pub fn line_bytes(bench: &Bench) -> LineBytes
     ensures { result ≡ display_line (state_of bench.now) }
 {
     let preempt = preempt_of(bench.stage());
