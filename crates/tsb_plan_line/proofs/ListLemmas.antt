@@ -1,5 +1,5 @@
 -- Edits, one after another.
-use Rattle.std.proofs.Common.{◌≡◌, ◌∙◌, ℕ, suc, ◌+◌, ◌<◌, Bool, false, true, List, [], ◌∷◌, ◌++◌, append_assoc, drop, drop-cons, get_or, length, take, sym, ap, arith}
+use Rattle.std.proofs.Common.{◌≡◌, ◌∙◌, ℕ, suc, ◌+◌, ◌<◌, Bool, false, List, ◌∷◌, ◌++◌, append_assoc, drop, drop-cons, get_or, length, sym, ap, arith}
 use Rattle.tsb_transact.specs.declared.edit.Edit.{Edit}
 use Rattle.tsb_plan_line.specs.Bytes.{Adds, comma, edit_bytes, kept, list_bytes}
 use Rattle.tsb_plan_line.proofs.RoomLemmas.{onto-kept, then}

@@ -1,5 +1,5 @@
 -- What was told before a fault begins what is to be told: whatever lines come, they come to something.
-use Rattle.std.proofs.Common.{zero, suc, ◌≡◌, ℕ, ◌<◌, ◌≤◌, List, [], ◌∷◌, ◌++◌, Bool, true, false, nat_lt, refl, sym, subst, append_assoc, codes, ◌⊎◌, inl, inr, Some, None, rules}
+use Rattle.std.proofs.Common.{zero, suc, ◌≡◌, ℕ, List, [], ◌∷◌, ◌++◌, Bool, true, false, nat_lt, refl, sym, subst, append_assoc, codes, ◌⊎◌, inl, inr, Some, None, rules}
 use Rattle.std.specs.declared.option.Option.{Option}
 use Rattle.tsb_types.specs.declared.refusal.Refusal.{Refusal}
 use Rattle.tsb_bench.specs.tsb_machine.declared.commands.Answer.{Answer}

@@ -1,9 +1,7 @@
 -- How a record ends, from how its dialog did.
-use Rattle.std.proofs.Common.{◌≡◌, ◌∙◌, ℕ, ◌<◌, ◌≤◌, List, [], ◌++◌, length, take, drop, refl, sym, ap, subst, Ok, Err, arith, inl, inr, ◌↔◌, ◌⊎◌}
+use Rattle.std.proofs.Common.{◌≡◌, ◌∙◌, ℕ, List, [], ◌++◌, take, drop, refl, sym, ap, subst, Ok, Err, arith, inl, inr, ◌⊎◌}
 use Rattle.std.proofs.lemmas.List.{append-nil, take-append-drop}
 use Rattle.std.specs.declared.option.Option.{Option}
-use Rattle.std.specs.declared.result.Result.{Result}
-use Rattle.std.specs.Io.KnownBytes.{IsAtEnd}
 use Rattle.tsb_types.specs.declared.event.Event.{Event}
 use Rattle.tsb_step.specs.declared.inputs.Input.{Input}
 use Rattle.tsb_step.specs.tsb_plan.Plan.{Plan}
@@ -18,10 +16,9 @@ use Rattle.tsb_dialog.specs.declared.error.DialogError.TheVariants as dialog
 use Rattle.tsb_dialog.specs.Ended as dialogs
 use Rattle.tsb_dialog.specs.Heard.{Heard, IsOver, IsSaid}
 use Rattle.tsb_text.specs.Answers.{Setup}
-use Rattle.tsb_text.specs.declared.error.SessionError.{SessionError}
-use Rattle.tsb_text.specs.declared.error.SessionError.TheVariants.{Memory, TooLarge}
+use Rattle.tsb_text.specs.declared.error.SessionError.TheVariants.{Memory}
 use Rattle.tsb_record.specs.Along.{told_along}
-use Rattle.tsb_record.specs.Ended.{Begins, Ended, IsBegun, IsOfReading, IsTooLarge, ReadsOn, Remain, TellsWhole}
+use Rattle.tsb_record.specs.Ended.{Begins, Ended, IsBegun, ReadsOn, Remain, TellsWhole}
 use Rattle.tsb_record.specs.Leaves.{Come, readings}
 use Rattle.tsb_record.specs.Lines.{Course, says}
 use Rattle.tsb_record.specs.Recording.{Stands, session_fault}

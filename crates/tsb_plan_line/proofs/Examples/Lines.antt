@@ -6,7 +6,7 @@ use Rattle.tsb_objects.specs.tsb_rules.declared.rules.Rule.TheVariants.{K8}
 use Rattle.tsb_objects.specs.tsb_types.Lists.{run_from}
 use Rattle.tsb_plan.specs.declared.object.Object.TheVariants.{PhaseYellowChange, PreemptMaximumPresence}
 use Rattle.tsb_plan.specs.Objects.{objects}
-use Rattle.tsb_plan.specs.Plan.{empty, with_value}
+use Rattle.tsb_plan.specs.Plan.{empty}
 use Rattle.tsb_plan.specs.Two.{two}
 use Rattle.tsb_transact.specs.declared.desk_state.DeskState.TheVariants.{Done, Verify}
 use Rattle.tsb_transact.specs.Desk.{Desk, closed}

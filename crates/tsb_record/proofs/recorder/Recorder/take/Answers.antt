@@ -25,4 +25,4 @@ returns-in_err-apply_telling-clause-wanting c memory = let p = err_from_is_err_a
 pub returns-then-is_err-clause-wanting : goal.returns-then-is_err-clause-wanting
 returns-then-is_err-clause-wanting c memory =
     inr (not-kept c.add.result c.args.log.now c.args.self.now.bench c.args.self.now.told c.args.input c.now-tick.result c.row_in_force-last.result c.deref.result.now
-    c.now-tick.ensures.now c.row_in_force-last.ensures (c.deref.ensures.0 ∙ c.in_ok-apply_telling.ensures.told) c.add.ensures.wanting (c.is_err.ensures.value ∙ c.if-is_err.true))
+    c.now-tick.ensures.now c.row_in_force-last.ensures (c.deref.ensures.0 ∙ c.in_ok-apply_telling.ensures.told) c.add.ensures.wanting (sym c.is_err.ensures.value ∙ c.if-is_err.true))
