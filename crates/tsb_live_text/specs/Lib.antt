@@ -1,0 +1,10 @@
+-- what a live run has come to, and what is answered to each line
+pub mod Live
+-- ticks of which only the changes are told
+pub mod Changes
+-- what has become of a bench once they were taken
+pub mod Ticked
+-- what a live run has written where it ends
+pub mod LiveEnded
+-- what private functions of a live run promise each other
+pub mod Standing
