@@ -1,5 +1,4 @@
-//! A live run on a plan: `tsb_live PLAN` answers each line that comes. With `--strict` it ends at the first line that is
-//! refused or is no command.
+//! A live run on a plan: `tsb_live PLAN` answers each line that comes.
 #![tactic(auto)]
 
 mod run;

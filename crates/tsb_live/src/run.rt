@@ -11,10 +11,11 @@ ghost use Rattle.tsb_live.specs.Ends.{Did, Ran, Talked};
 use std::alloc::Global;
 use std::convert::AsStr;
 use std::io::{Read, Write};
+use tsb_live_text::live;
 use tsb_program::{Failure, Files, Status, fail, plan_of, refuse, tell, tell_end};
-use tsb_text::{Checked, Log, session};
+use tsb_text::Checked;
 use tsb_words::WordsError;
-use tsb_words::live::{Asked, read_words};
+use tsb_words::live::read_words;
 
 /// Does what the words ask for, the first of which is the program's name, and gives the status that the program ends
 /// with: 0 where all was done, 1 for a refused plan, 2 for bad words, 3 where a read, a write or memory failed, or where
@@ -33,7 +34,12 @@ pub fn run_words<S: AsStr, F: Files, R: Read, W: Write, E: Write>(
         (R.remaining input.old) (R.remaining input.new) (W.contents output.old) (W.contents output.new) (E.contents errors.old) (E.contents errors.new) }
 {
     match read_words(alloc, words) {
-        Ok(asked) => run(alloc, asked, files, input, output, errors),
+        Ok(asked) => {
+            if asked.is_strict {
+                return tell_words_fault(errors, WordsError::Bad);
+            }
+            run(alloc, asked.plan, files, input, output, errors)
+        }
         Err(fault) => tell_words_fault(errors, fault),
     }
 }
@@ -44,28 +50,24 @@ pub fn tell_words_fault<E: Write>(errors: &mut E, fault: WordsError) -> u8
 {
     match fault {
         WordsError::Memory => fail(errors, Failure::Memory),
-        WordsError::Bad => tell(
-            errors,
-            Status::BadWords,
-            b"usage: tsb_live [--strict] PLAN\n",
-        ),
+        WordsError::Bad => tell(errors, Status::BadWords, b"usage: tsb_live PLAN\n"),
     }
 }
 
 /// Makes a live run on the plan in a file.
 fn run<F: Files, R: Read, W: Write, E: Write>(
     alloc: Global,
-    asked: Asked<'_>,
+    path: &str,
     files: &F,
     input: &mut R,
     output: &mut W,
     errors: &mut E,
 ) -> u8
-    ensures { Ran result (F.bytes files.now asked.entry.plan.now) (R.remaining input.old) (R.remaining input.new)
+    ensures { Ran result (F.bytes files.now path.now) (R.remaining input.old) (R.remaining input.new)
         (W.contents output.old) (W.contents output.new) (E.contents errors.old) (E.contents errors.new) }
 {
-    match plan_of(alloc, files, asked.plan) {
-        Ok(plan) => talk(alloc, plan, asked.is_strict, input, output, errors),
+    match plan_of(alloc, files, path) {
+        Ok(plan) => talk(alloc, plan, input, output, errors),
         Err(fault) => refuse(alloc, errors, fault),
     }
 }
@@ -74,7 +76,6 @@ fn run<F: Files, R: Read, W: Write, E: Write>(
 fn talk<R: Read, W: Write, E: Write>(
     alloc: Global,
     plan: Checked,
-    _is_strict: bool,
     input: &mut R,
     output: &mut W,
     errors: &mut E,
@@ -82,7 +83,7 @@ fn talk<R: Read, W: Write, E: Write>(
     ensures { Talked result (checked_plan plan) (R.remaining input.old) (R.remaining input.new)
         (W.contents output.old) (W.contents output.new) (E.contents errors.old) (E.contents errors.new) }
 {
-    match session(alloc, plan, &Log::empty(alloc), input, output) {
+    match live(alloc, plan, input, output) {
         Ok(()) => Status::Done.number(),
         Err(fault) => tell_end(errors, fault),
     }
