@@ -118,14 +118,14 @@ def text_of(commands):
 
 # --- memory ---
 
-def before_answers(program, wrong):
+def before_answers(program, wrong, good=GOOD, bad=BAD, usage=USAGE):
     """Where memory is refused before the first answer, the program says so and ends with 3, or tells of bad words. One
     request, behind those for the words given, is for what it can do without: refused, it changes nothing."""
-    for words in GOOD + BAD:
+    for words in good + bad:
         whole, unneeded = program.run(words)[:3], 0
-        allowed = [(3, b"", MEMORY)] + [(2, b"", USAGE)] * (words in BAD)
+        allowed = [(3, b"", MEMORY)] + [(2, b"", usage)] * (words in bad)
         for number, ended in program.sweep(words):
-            if words in GOOD and ended[:3] == whole and not unneeded:
+            if words in good and ended[:3] == whole and not unneeded:
                 unneeded = number
             else:
                 wrong.compare(f"{words}, request {number}", ended, *allowed)
@@ -176,27 +176,27 @@ def memory(program, wrong):
 
 # --- reads and writes ---
 
-def reads(program, wrong):
+def reads(program, wrong, words=RUN, lines=INPUTS + WAY_BACK):
     """Fails each read. One of a file that is interrupted is tried again; one of commands is not. A file for which the
     machine has no memory is told as such."""
-    text = text_of(INPUTS + WAY_BACK)
-    of_file = {errno.EIO: (3, b"", READ), errno.ENOMEM: (3, b"", MEMORY), errno.EINTR: program.run(RUN, text)[:3]}
-    of_files = program.calls(RUN, kind="read", piece=PIECE) - 1
+    text = text_of(lines)
+    of_file = {errno.EIO: (3, b"", READ), errno.ENOMEM: (3, b"", MEMORY), errno.EINTR: program.run(words, text)[:3]}
+    of_files = program.calls(words, kind="read", piece=PIECE) - 1
     for error in [*of_file, 0]:
-        for number, ended in program.sweep(RUN, text, kind="read", error=error, piece=PIECE):
+        for number, ended in program.sweep(words, text, kind="read", error=error, piece=PIECE):
             what, given = f"read {number}, error {error}", text[:PIECE * (number - of_files - 1)]
             if number > of_files:
                 told = given if error == 0 else given[:given.rfind(b"\n") + 1]
-                answers = program.run(RUN, told).output
+                answers = program.run(words, told).output
                 wrong.compare(what, ended, (3, answers, READ) if error else (0, answers, b""))
             elif error:
                 wrong.compare(what, ended, of_file[error])
 
 
-def writes(program, wrong):
+def writes(program, wrong, runs=(RUN, ["check", PLAN], ["what"]), lines=INPUTS + WAY_BACK):
     """Fails each write; one that is interrupted is not tried again."""
-    text = text_of(INPUTS + WAY_BACK)
-    for words in [RUN, ["check", PLAN], ["what"]]:
+    text = text_of(lines)
+    for words in runs:
         whole = program.run(words, text)
         for error in [errno.EIO, errno.EINTR, 0]:
             for number, ended in program.sweep(words, text, kind="write", error=error, piece=PIECE):
@@ -207,10 +207,10 @@ def writes(program, wrong):
                     wrong.compare(what, ended, *((3, whole.output[:k], WRITE) for k in range(len(whole.output))))
 
 
-def pieces(program, wrong):
+def pieces(program, wrong, runs=GOOD + BAD, lines=INPUTS + WAY_BACK):
     """Reads and writes move a byte at a time."""
-    text = text_of(INPUTS + WAY_BACK)
-    for words in GOOD + BAD:
+    text = text_of(lines)
+    for words in runs:
         wrong.compare(f"{words}, a byte at a time", program.run(words, text, piece=1), program.run(words, text)[:3])
 
 

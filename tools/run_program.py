@@ -1,9 +1,11 @@
 #!/usr/bin/env python3
-"""Runs the built program tsb on files of the disk and compares what it writes: run_program.py PROGRAM PLAYER, at the top.
+"""Runs the built programs tsb and tsb_live on files of the disk and compares what they write; run it at the top.
+
+    tools/run_program.py PROGRAM PLAYER LIVE
 
 Each run has its words, its input, and the exact bytes that it must write on standard output and on standard error, with
 the status that it must end with. Plans, logs and sessions, with what they are answered, are those of `examples/`; lines
-of faults are those of docs/MANUAL.md. The program runs in a folder that holds a copy of the examples and some files
+of faults are those of docs/MANUAL.md. The programs run in a folder that holds a copy of the examples and some files
 more, and that is taken away afterwards. The last session goes through all 6,000,000 ticks that there are, and so does
 PLAYER, the program tsb_runs, which plays and copies the bench.
 """
@@ -18,6 +20,7 @@ import threading
 
 EXAMPLES = pathlib.Path("examples")
 USAGE = b"usage: tsb check PLAN or tsb run PLAN LOG\n"
+LIVE_USAGE = b"usage: tsb_live PLAN\n"
 READ, WRITE = b"read fault\n", b"write fault\n"
 OK, RULE = b"plan ok\n", b"plan: rule K8\n"
 LONGEST_PLAN, LONGEST_COMMANDS = 1 << 20, 16 << 20
@@ -171,6 +174,38 @@ def stream_runs():
     yield Run(["run", "two.json", "same_tick.log"], 1, stderr=FULL)
 
 
+def live_runs():
+    """The program tsb_live: its words, plans that it refuses or cannot read, and streams that fail."""
+    session, commands = (EXAMPLES / "step_and_back.expected").read_bytes(), b"step 1\nback 1\n"
+    for words in [
+        [], [""], ["--strict"], ["--what", "two.json"], ["two.json", "--what"], ["two.json", "two.json"],
+        ["two.json", "empty.log"], ["--help"], ["-h"], ["two.json", "--help"], ["--version"], ["-s", "two.json"],
+        ["--strict=true", "two.json"], ["--stric", "two.json"], ["--strict", "two.json", "--strict"],
+        ["--strict", "--strict", "two.json"], ["--"], ["--", "two.json", "--"], ["--", "two.json", "--strict"],
+        ["--strict", "--"], [b"\xff"], ["two.json", b"\xc3"], ["--strict", "two.json"], ["two.json", "--strict"],
+        ["--strict", "--", "two.json"], ["two.json", "--strict", "--"], ["--strict", "--", "--help"],
+    ]:
+        yield Run(words, 3 if words == [""] else 2, b"", READ if words == [""] else LIVE_USAGE, commands)
+    for words in [
+        ["two.json"], ["--", "two.json"], ["two.json", "--"], ["--", "--help"], ["./two.json"],
+        ["with spaces/two.json"], [TWELVE], ["check"],
+    ]:
+        yield Run(words, 0, session, b"", commands)
+    for path in ["none.json", "folder", "two.json/none", TORN, "help"]:
+        yield Run([path], 3, b"", READ, commands)
+    for path in ["too_long.json", ENDLESS]:
+        yield Run([path], 1, b"", b"plan: too large\n", commands)
+    yield Run(["two_short_yellow.json"], 1, b"", RULE, commands)
+    yield Run(["longest.json"], 0, session, b"", commands)
+    yield Run(["two.json"], 0)
+    yield Run(["two.json"], 0, session, b"", commands[:-1])
+    yield Run(["two.json"], 3, b"", READ, stdin=TORN)
+    yield Run(["two.json"], 3, b"", WRITE, b"show\n", stdout=FULL)
+    yield Run(["--what"], 2, stderr=FULL)
+    yield Run(["none.json"], 3, stderr=FULL)
+    yield Run(["two_short_yellow.json"], 1, stderr=FULL)
+
+
 def line(tick, heads):
     """The display line of the built-in plan, with a line feed."""
     return f"{tick} {heads}------------ {'-' * 16} ---- 0 ----\n"
@@ -258,19 +293,20 @@ def fill(folder):
 
 
 def main(words):
-    if len(words) != 2:
-        sys.exit("usage: tools/run_program.py PROGRAM PLAYER")
-    program, player = (pathlib.Path(it).resolve() for it in words)
-    for path in [program, player]:
+    if len(words) != 3:
+        sys.exit("usage: tools/run_program.py PROGRAM PLAYER LIVE")
+    program, player, live = (pathlib.Path(it).resolve() for it in words)
+    for path in [program, player, live]:
         if not path.is_file():
             sys.exit(f"there is no {path}")
-    runs = [*example_runs(), *word_runs(), *file_runs(), *stream_runs()]
+    runs = [(program, it) for it in [*example_runs(), *word_runs(), *file_runs(), *stream_runs()]]
+    runs += [(live, it) for it in live_runs()]
     wrong = []
     with tempfile.TemporaryDirectory() as name:
         folder = pathlib.Path(name)
         fill(folder)
-        for run in runs:
-            wrong += [f"{run.words} {run.places or ''}: {it}" for it in run.differences(program, folder)]
+        for path, run in runs:
+            wrong += [f"{path.name} {run.words} {run.places or ''}: {it}" for it in run.differences(path, folder)]
     wrong += longest_session(program) + read_too_far(program) + played_ticks(player)
     print("\n".join(wrong) if wrong else f"program: {len(runs) + 3} runs as expected")
     return 1 if wrong else 0
