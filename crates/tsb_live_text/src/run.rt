@@ -145,7 +145,12 @@ fn flow_after(command: &LiveCommand) -> Flow
 }
 
 /// Runs a plan live: reads rows of inputs and commands, and writes their answers, up to a line `quit` or the end of what
-/// is read. The bench begins at power-up with the plan.
+/// is read. The bench begins at power-up with the plan, at tick 0, and each row of inputs takes one tick, 0.1 s.
+///
+/// What was answered goes out before each read. A fault ends the run; what was written until then is the beginning of
+/// what may be said. `TooLarge` comes where there is a byte after the first `BYTES`, once the whole lines within them
+/// were answered. `Memory` comes where there is none for the bench at power-up: nothing was read then, and nothing
+/// written. A run that has begun goes on where memory runs out, and answers E1.
 pub fn live<R: Read, W: Write>(
     alloc: Global,
     plan: Checked,
