@@ -1,0 +1,5 @@
+pub mod LaterLemmas
+pub mod KeptLemmas
+pub mod ChangeLemmas
+pub mod LawLemmas
+pub mod Examples

@@ -1,0 +1,13 @@
+use Rattle.std.proofs.Common.{◌∙◌, ap}
+use Rattle.tsb_types.specs.Sets.{all_off}
+use Rattle.tsb_kept.specs.Changed.{change_in, value_of}
+use Rattle.tsb_kept.specs.Kept.{Keeping}
+use Rattle.tsb_kept.proofs.ChangeLemmas.{kept-change}
+use Rattle.tsb_kept.proofs.kept.Kept.last_change.Goals as goal
+
+-- src/changed.rt:40:5
+pub returns : goal.returns
+returns c plan inputs is =
+    c.change_in.ensures
+    ∙ ap (change_in (value_of c.args.which) all_off) (c.rows.ensures ∙ ap (λ (k : Keeping). k.rows) is)
+    ∙ kept-change (value_of c.args.which) plan inputs

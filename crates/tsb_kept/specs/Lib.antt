@@ -1,0 +1,12 @@
+-- rows and marks of ticks, without those that come later than a tick
+pub mod Later
+-- what is kept of the inputs that remain
+pub mod Kept
+-- the tick at which an input of rows changed last
+pub mod Changed
+-- what holds of all that is kept
+pub mod Laws
+-- the names of crates below, for those above
+pub use Rattle.tsb_step.specs as tsb_step
+pub use Rattle.tsb_log_text.specs as tsb_log_text
+pub use Rattle.tsb_types.specs as tsb_types
