@@ -1,13 +1,13 @@
 -- What is written of an event is read again.
-use Rattle.std.proofs.Common.{◌≡◌, ◌∙◌, ◌≢◌, ℕ, ◌+◌, ◌-◌, ◌*◌, ◌/◌, ◌%◌, ◌<◌, ◌≤◌, ◌^◌, ◌&&◌, ◌||◌, not, Bool, true, false, leb, zero, suc, List, [], ◌∷◌, ◌++◌, length, take, refl, ap, ap₂, arith, inl, inr, Option, Some, None, if◌then◌else◌, append_assoc, length-append}
-use Rattle.std.proofs.lemmas.Bool.{le-leb, or_parts}
+use Rattle.std.proofs.Common.{◌≡◌, ◌∙◌, ◌≢◌, ℕ, ◌+◌, ◌/◌, ◌%◌, ◌<◌, ◌^◌, ◌&&◌, ◌||◌, not, Bool, true, false, zero, suc, List, [], ◌∷◌, ◌++◌, length, take, refl, ap, ap₂, arith, inl, inr, Option, Some, if◌then◌else◌, append_assoc}
+use Rattle.std.proofs.lemmas.Bool.{or_parts}
 use Rattle.std.proofs.lemmas.Bool.Decides.{eqb_tells}
-use Rattle.std.proofs.lemmas.Fmt.{decimal_by_steps, length-decimal-le}
+use Rattle.std.proofs.lemmas.Fmt.{decimal_by_steps}
 use Rattle.std.specs.Fmt.{decimal}
 use Rattle.std.specs.Prelude.{nat_le}
 use Rattle.tsb_lines.specs.Lines.{is_comment}
-use Rattle.tsb_lines.specs.Words.{number_from, number_of}
-use Rattle.tsb_lines.proofs.DigitLemmas.{digit-read}
+use Rattle.tsb_lines.specs.Words.{number_of}
+use Rattle.tsb_lines.proofs.DigitLemmas.{number-read}
 use Rattle.tsb_event_text.specs.declared.times.Moment.{Moment}
 use Rattle.tsb_event_text.specs.declared.events.TheConstants.{LONGEST_DEVICE}
 use Rattle.tsb_event_text.specs.Columns.{usual_columns}
@@ -112,41 +112,10 @@ device-first device rest can =
 
 -- ## Numbers
 
-from-last : (a : ℕ) (ds : List ℕ) (m d : ℕ) → d < 10 → number_from a ds ≡ Some m → number_from a (ds ++ (48 + d) ∷ []) ≡ Some (m * 10 + d)
-from-last a [] m d lt e = let same : a ≡ m = cc in rw same (digit-read m d [] lt)
-from-last a (b ∷ bs) m d lt e = go (leb 48 b && leb b 57) (from-last (a * 10 + (b - 48)) bs m d lt) e
-  where
-    go : (t : Bool)
-        → (number_from (a * 10 + (b - 48)) bs ≡ Some m → number_from (a * 10 + (b - 48)) (bs ++ (48 + d) ∷ []) ≡ Some (m * 10 + d))
-        → (if t then number_from (a * 10 + (b - 48)) bs else None) ≡ Some m
-        → (if t then number_from (a * 10 + (b - 48)) (bs ++ (48 + d) ∷ []) else None) ≡ Some (m * 10 + d)
-    go true f h = f h
-    go false f h = absurd (cc)
-
--- digits that spell a number, and are a field
-abbrev Spells : ℕ → List ℕ → Type 0
-Spells n ds = (number_from 0 ds ≡ Some n) × (1 ≤ length ds) × IsPlain ds
-
-spelled : (n : ℕ) → n < 2 ^ 64 → Spells n (decimal n)
-spelled = decimal_by_steps Spells
-    (λ n lt. let same : 0 * 10 + n ≡ n = omega arith in (digit-read 0 n [] lt ∙ ap (λ (k : ℕ). Some k) same, omega arith, (λ e. omega (arith, e), λ e. omega (arith, e), tt)))
-    (λ n ds le h.
-    let same : n / 10 * 10 + n % 10 ≡ n = omega arith in (
-      from-last 0 ds (n / 10) (n % 10) (omega arith) h.0 ∙ ap (λ (k : ℕ). Some k) same,
-      omega (arith, length-append ds ((48 + n % 10) ∷ []), h.1),
-      plain-join ds ((48 + n % 10) ∷ []) h.2 (λ e. omega (arith, e), λ e. omega (arith, e), tt),
-    ))
-
 pub number-plain : (n : ℕ) → n < 2 ^ 32 → IsPlain (decimal n)
-number-plain n lt = (spelled n (omega (arith, lt))).2
-
-pub number-read : (n : ℕ) → n < 2 ^ 32 → number_of (decimal n) ≡ Some n
-number-read n lt =
-    let s = spelled n (omega (arith, lt)) in
-    let some : leb 1 (length (decimal n)) ≡ true = le-leb 1 (length (decimal n)) s.1 in
-    let most : leb (length (decimal n)) 10 ≡ true = le-leb (length (decimal n)) 10 (length-decimal-le 10 n (omega arith) (omega (arith, lt)) (omega (arith, lt))) in
-    let fits : leb n 4294967295 ≡ true = le-leb n 4294967295 (omega (arith, lt)) in
-    rw (some, most, s.0, fits) refl
+number-plain n lt =
+    decimal_by_steps (λ (n : ℕ) (ds : List ℕ). IsPlain ds) (λ n lt. (λ e. omega (arith, e), λ e. omega (arith, e), tt))
+    (λ n ds le h. plain-join ds ((48 + n % 10) ∷ []) h (λ e. omega (arith, e), λ e. omega (arith, e), tt)) n (omega (arith, lt))
 
 -- ## Times
 

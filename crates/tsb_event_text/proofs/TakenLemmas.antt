@@ -2,10 +2,10 @@
 use Rattle.std.proofs.Common.{◌≡◌, ℕ, ◌<◌, ◌≤◌, ◌^◌, ◌&&◌, ◌||◌, Bool, true, false, List, [], ◌∷◌, ◌++◌, length, drop, refl, arith, inl, inr, Option, Some, None, if◌then◌else◌, length-append, length-drop}
 use Rattle.std.proofs.lemmas.Bool.{and_parts, cases_Bool, leb-true, or_from, or_parts}
 use Rattle.std.proofs.lemmas.Bool.Decides.{eqb_tells}
-use Rattle.std.proofs.lemmas.Fmt.{length-decimal-le}
 use Rattle.std.specs.Fmt.{decimal}
 use Rattle.std.specs.Prelude.{◌==◌, nat_le, not}
 use Rattle.tsb_lines.specs.Lines.{is_blank, is_comment, is_skipped}
+use Rattle.tsb_lines.proofs.DigitLemmas.{number-short}
 use Rattle.tsb_event_text.specs.declared.times.Moment.{Moment}
 use Rattle.tsb_event_text.specs.declared.events.TheConstants.{LONGEST_DEVICE}
 use Rattle.tsb_event_text.specs.Times.{has_marks, moment_at, moment_of, nano_of}
@@ -59,9 +59,6 @@ time-short time moment e = elim (cases_Bool (nat_le 19 (length time) && has_mark
       omega (arith, nano-short (drop 19 time) n there, length-drop 19 time)
   | inr off ↦ absurd (let no : None ≡ Some moment = rw off at e in cc)
 ]
-
-number-short : (n : ℕ) → n < 2 ^ 32 → length (decimal n) ≤ 10
-number-short n lt = length-decimal-le 10 n (omega arith) (omega (arith, lt)) (omega (arith, lt))
 
 row-short : (device time : List ℕ) (moment : Moment) (code parameter : ℕ) → can_be_written device ≡ true → moment_of time ≡ Some moment
     → code < 2 ^ 32 → parameter < 2 ^ 32 → length (event_row_text device time code parameter) ≤ 1000
