@@ -1,9 +1,10 @@
 -- Rows where inputs differ from the row before.
-use Rattle.std.proofs.Common.{◌≡◌, ℕ, ◌+◌, ◌^◌, ◌<◌, ◌≤◌, Bool, true, false, eqb, ◌&&◌, zero, suc, List, [], ◌∷◌, ◌++◌, refl, sym, ap, ◌∙◌, arith, inl, inr}
+use Rattle.std.proofs.Common.{◌≡◌, ℕ, ◌+◌, ◌<◌, ◌≤◌, Bool, true, false, eqb, ◌&&◌, zero, suc, List, ◌∷◌, ◌++◌, refl, sym, ap, ◌∙◌, arith, inl, inr}
 use Rattle.std.proofs.lemmas.Bool.{le-leb, and_parts}
 use Rattle.std.proofs.lemmas.Bool.Decides.{leb_tells, eqb_tells}
 use Rattle.tsb_types.specs.declared.row.Row.{Row}
 use Rattle.tsb_log_text.specs.Logs.{Rises, row_from}
+use Rattle.tsb_log_text.specs.LogText.{AreRows, IsFit}
 use Rattle.tsb_log_text.specs.declared.log.LogRow.{LogRow}
 use Rattle.tsb_field_log.specs.Changes.{same_row, change, changes}
 
@@ -71,29 +72,12 @@ rising inputs before tick (suc count) last lt =
 
 -- ## Rows that a line can spell
 
--- the numbers of its inputs are those that there are, and its tick is one of a bench
-pub record IsRow (r : LogRow) : Type 0 where
-  pub from_one : 1 ≤ r.tick
-  pub within : r.tick ≤ 6000000
-  pub vehicles : r.row.vehicles.word < 2 ^ 16
-  pub pedestrians : r.row.pedestrians.word < 2 ^ 8
-  pub preempts : r.row.preempts.word < 2 ^ 4
-
-abbrev pub AreRows : List LogRow → Type 0
-AreRows [] = Unit {0}
-AreRows (r ∷ rs) = IsRow r × AreRows rs
-
-pub record IsFit (row : Row) : Type 0 where
-  pub vehicles : row.vehicles.word < 2 ^ 16
-  pub pedestrians : row.pedestrians.word < 2 ^ 8
-  pub preempts : row.preempts.word < 2 ^ 4
-
 pub are-rows : (inputs : ℕ → Row) (before : Row) (tick count : ℕ) → ((t : ℕ) → IsFit (inputs t)) → 1 ≤ tick → tick + count ≤ 6000001 → AreRows (changes inputs before tick count)
 unfolding changes
 are-rows inputs before tick zero fit one most = tt
 are-rows inputs before tick (suc count) fit one most =
     by-change (λ rows. AreRows rows) tick before (inputs tick) (changes inputs (inputs tick) (suc tick) count)
     (λ same. are-rows inputs (inputs tick) (suc tick) count fit (omega (arith, one)) (omega (arith, most))) (
-      record { from_one = one; within = omega (arith, most); vehicles = (fit tick).vehicles; pedestrians = (fit tick).pedestrians; preempts = (fit tick).preempts },
+      record { from_one = one; within = omega (arith, most); fit = fit tick },
       are-rows inputs (inputs tick) (suc tick) count fit (omega (arith, one)) (omega (arith, most)),
     )

@@ -8,8 +8,9 @@ use Rattle.tsb_field_log.specs.declared.inputs.InputEvent.{InputEvent}
 use Rattle.tsb_field_log.specs.Ticks.{row_in, input_on}
 use Rattle.tsb_field_log.specs.Changes.{rows_of}
 use Rattle.tsb_field_log.specs.Laws.{AreLogs, AreLong, AreInForce, AreTheInputs}
-use Rattle.tsb_field_log.proofs.ChangeLemmas.{IsFit, in-force, rising, are-rows}
-use Rattle.tsb_field_log.proofs.TextLemmas.{text-read, text-length}
+use Rattle.tsb_log_text.specs.LogText.{IsFit}
+use Rattle.tsb_field_log.proofs.ChangeLemmas.{in-force, rising, are-rows}
+use Rattle.tsb_log_text.proofs.TextLemmas.{text-read, text-length}
 
 -- a row has no inputs but those that there are
 pub fit : (from : ℕ) (wires : List Wire) (events : List InputEvent) (tick : ℕ) → IsFit (row_in from wires events tick)

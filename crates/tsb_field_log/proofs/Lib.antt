@@ -1,11 +1,9 @@
 pub mod Examples
 pub mod TickLemmas
 pub mod ChangeLemmas
-pub mod TextLemmas
 pub mod LawLemmas
 pub mod LeadLemmas
 pub mod StreetLemmas
 pub mod PushedLemmas
-pub mod RowLineLemmas
 pub mod MappingLemmas
 pub mod TakenLemmas

@@ -14,8 +14,6 @@ pub mod Changes
 pub mod Streets
 -- a street that has taken some events
 pub mod Taken
--- the text of a log
-pub mod LogText
 -- the rows that have become known by the events so far
 pub mod Pushed
 -- what holds of the logs that are written

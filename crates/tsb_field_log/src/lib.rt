@@ -8,11 +8,9 @@
 mod inputs;
 pub mod laws;
 mod leads;
-mod line;
 mod mapping;
 mod street;
 
 pub use inputs::{InputEvent, Kind, Signal, Wire};
-pub use line::row_line;
 pub use mapping::{is_wired, wires};
 pub use street::{Rows, Street};

@@ -3,8 +3,8 @@ use Rattle.std.proofs.Common.{◌≡◌, [], ◌∷◌, ◌++◌, Some, None, re
 use Rattle.tsb_log_text.specs.declared.log.LogRow.{LogRow}
 use Rattle.tsb_field_log.specs.declared.street.Rows.{Rows}
 use Rattle.tsb_field_log.specs.Streets.{rows_in}
-use Rattle.tsb_field_log.specs.LogText.{log_text, row_line}
-use Rattle.tsb_field_log.proofs.TextLemmas.{text-append, text-row}
+use Rattle.tsb_log_text.specs.LogText.{log_text, row_line}
+use Rattle.tsb_log_text.proofs.TextLemmas.{text-append, text-row}
 
 pub some_row : (row : LogRow) → log_text (option_to_list (Some row)) ≡ row_line row ++ 10 ∷ []
 some_row row = text-row row

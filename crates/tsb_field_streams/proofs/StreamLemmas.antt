@@ -12,14 +12,14 @@ use Rattle.tsb_lines.proofs.KeptLemmas.{kept-more}
 use Rattle.tsb_field_log.specs.declared.street.Rows.{Rows}
 use Rattle.tsb_field_log.specs.Changes.{changes, rows_of}
 use Rattle.tsb_field_log.specs.Streets.{rows_in}
-use Rattle.tsb_field_log.specs.LogText.{log_text}
+use Rattle.tsb_log_text.specs.LogText.{log_text}
 use Rattle.tsb_field_log.specs.Pushed.{rows_before}
 use Rattle.tsb_field_log.specs.Ticks.{row_in}
 use Rattle.tsb_field_log.specs.declared.inputs.InputEvent.{InputEvent}
 use Rattle.tsb_log_text.specs.Logs.{log_of}
 use Rattle.tsb_field_log.proofs.LawLemmas.{logs}
 use Rattle.tsb_field_log.proofs.PushedLemmas.{order-last, rows-front}
-use Rattle.tsb_field_log.proofs.TextLemmas.{text-append, text-length}
+use Rattle.tsb_log_text.proofs.TextLemmas.{text-append, text-length}
 use Rattle.tsb_field_streams.specs.declared.error.FilterError.{FilterError}
 use Rattle.tsb_field_streams.specs.declared.error.FilterError.TheVariants.{Read, Write, TooLarge, LogTooLarge}
 use Rattle.tsb_field_streams.specs.declared.filter.Filter.{Filter}

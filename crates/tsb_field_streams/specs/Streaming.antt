@@ -4,7 +4,7 @@ use Rattle.std.specs.Io.KnownBytes.{Appends, Consumes, IsAtEnd}
 use Rattle.tsb_lines.specs.Lines.{kept}
 use Rattle.tsb_log_text.specs.Logs.{log_of}
 use Rattle.tsb_field_log.specs.Changes.{rows_of}
-use Rattle.tsb_field_log.specs.LogText.{log_text}
+use Rattle.tsb_log_text.specs.LogText.{log_text}
 use Rattle.tsb_field_log.specs.Pushed.{rows_before}
 use Rattle.tsb_field_log.specs.Ticks.{row_in}
 use Rattle.tsb_field_streams.specs.declared.error.FilterError.{FilterError}

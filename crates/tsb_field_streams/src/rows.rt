@@ -4,15 +4,15 @@ ghost use Rattle.std.specs.Io.KnownBytes.{Appends, Keeps};
 ghost use Rattle.arrayvec.specs.ArrayVec.{array_vec_len};
 ghost use Rattle.tsb_lines.specs.Writes.{AppendsFront};
 ghost use Rattle.tsb_field_log.specs.Streets.{rows_in};
-ghost use Rattle.tsb_field_log.specs.LogText.{log_text};
+ghost use Rattle.tsb_log_text.specs.LogText.{log_text};
 ghost use Rattle.tsb_field_streams.specs.declared.error.FilterError.TheVariants.{Write as write};
 
 use crate::error::FilterError;
 use arrayvec::ArrayVec;
 use std::io::Write;
-use tsb_field_log::{Rows, row_line};
+use tsb_field_log::Rows;
 use tsb_lines::{pass_on, write_text};
-use tsb_log_text::LogRow;
+use tsb_log_text::{LogRow, row_line};
 
 /// How many bytes the lines of two rows have.
 const ROWS: usize = 78;

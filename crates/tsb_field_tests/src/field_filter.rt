@@ -2,8 +2,9 @@
 
 use std::alloc::{AllocError, Global};
 use tsb_event_text::read_moment;
-use tsb_field_log::{Kind, Rows, Street, Wire, row_line, wires};
+use tsb_field_log::{Kind, Rows, Street, Wire, wires};
 use tsb_field_streams::{Filter, FilterError, LeftOut};
+use tsb_log_text::row_line;
 
 /// What a filter gives for lines from 07:00:00 on.
 #[derive(Drop)]

@@ -2,8 +2,8 @@
 
 use std::alloc::{AllocError, Global};
 use std::test::Fail;
-use tsb_field_log::{InputEvent, Kind, Rows, Street, Wire, is_wired, laws, row_line, wires};
-use tsb_log_text::LogRow;
+use tsb_field_log::{InputEvent, Kind, Rows, Street, Wire, is_wired, laws, wires};
+use tsb_log_text::{LogRow, row_line};
 use tsb_types::{NumberSet, Row};
 
 /// The moment at which tick 1 begins.

@@ -1,5 +1,7 @@
 -- the line of 38 bytes that spells a row of inputs
 pub mod Rows
+-- the text of rows
+pub mod LogText
 -- the rows of a text or its first error, and the row in force at a tick
 pub mod Logs
 -- how many rows have come by a tick

@@ -8,12 +8,14 @@
 
 pub mod error;
 pub mod laws;
+mod line;
 pub mod log;
 mod read;
 mod row_text;
 mod search;
 
 pub use error::LogError;
+pub use line::row_line;
 pub use log::{Log, LogRow};
 pub use read::{LIMIT, read_log};
 pub use row_text::inputs_of;

@@ -8,7 +8,7 @@ use Rattle.tsb_field_log.specs.declared.inputs.Wire.{Wire}
 use Rattle.tsb_field_log.specs.declared.inputs.InputEvent.{InputEvent}
 use Rattle.tsb_field_log.specs.Ticks.{is_on_in, row_in}
 use Rattle.tsb_field_log.specs.Changes.{changes}
-use Rattle.tsb_field_log.specs.LogText.{row_line}
+use Rattle.tsb_log_text.specs.LogText.{row_line}
 
 -- tick 1 begins here
 abbrev pub start : ℕ

@@ -9,7 +9,7 @@ use Rattle.tsb_log_text.specs.declared.log.LogRow.{LogRow}
 use Rattle.tsb_field_log.specs.declared.inputs.InputEvent.{InputEvent}
 use Rattle.tsb_field_log.specs.Changes.{change, changes, same_row}
 use Rattle.tsb_field_log.specs.Inputs.{is_of, on_at, switched_on}
-use Rattle.tsb_field_log.specs.LogText.{log_text, row_line}
+use Rattle.tsb_log_text.specs.LogText.{log_text, row_line}
 use Rattle.tsb_field_log.specs.Ticks.{begin_of, is_on_in, row_in}
 use Rattle.tsb_field_log.proofs.Examples.TickExamples.{detector_3, goes, other, start, ticks, two, wire}
 

@@ -2,7 +2,7 @@ use Rattle.std.proofs.Common.{◌∙◌, ◌++◌, List, ℕ, sym, ap, option_to
 use Rattle.std.proofs.lemmas.List.{append-nil}
 use Rattle.std.specs.declared.option.Option.{Option}
 use Rattle.tsb_log_text.specs.declared.log.LogRow.{LogRow}
-use Rattle.tsb_field_log.specs.LogText.{log_text}
+use Rattle.tsb_log_text.specs.LogText.{log_text}
 use Rattle.tsb_field_streams.proofs.RowLemmas.{no_row}
 use Rattle.tsb_field_streams.proofs.rows.append.Goals as goal
 

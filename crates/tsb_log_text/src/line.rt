@@ -1,10 +1,10 @@
 //! The line of a row of a log.
 ghost use Rattle.std.specs.Prelude.{◌≡◌, ◌+◌, ◌<◌, ◌≤◌, ◌++◌, ◌∷◌, [], take, drop};
 ghost use Rattle.tsb_types.specs.Sets.{has_number};
-ghost use Rattle.tsb_field_log.specs.LogText.{mark, row_line, set_marks};
+ghost use Rattle.tsb_log_text.specs.LogText.{mark, row_line, set_marks};
 
+use crate::log::LogRow;
 use tsb_lines::seven_digits;
-use tsb_log_text::LogRow;
 use tsb_types::NumberSet;
 
 /// The length of the line of a row, with its line feed, in bytes.

@@ -1,8 +1,10 @@
 -- The text of a log: for each row a line of 38 bytes, and its line feed.
-use Rattle.std.specs.Prelude.{ℕ, zero, suc, Bool, true, false, List, [], ◌∷◌, ◌++◌}
+use Rattle.std.specs.Prelude.{ℕ, zero, suc, ◌^◌, ◌<◌, ◌≤◌, Bool, true, false, List, [], ◌∷◌, ◌++◌}
 use Rattle.tsb_lines.specs.Digits.{seven_digits}
 use Rattle.tsb_types.specs.Sets.{has_number}
+use Rattle.tsb_types.specs.declared.limits.TheConstants.{TICKS}
 use Rattle.tsb_types.specs.declared.number_set.NumberSet.{NumberSet}
+use Rattle.tsb_types.specs.declared.row.Row.{Row}
 use Rattle.tsb_log_text.specs.declared.log.LogRow.{LogRow}
 
 -- 1 for an input that is on, and 0 for one that is off
@@ -28,3 +30,22 @@ row_line r =
 unfoldable pub log_text : List LogRow → List ℕ
 log_text [] = []
 log_text (r ∷ rs) = row_line r ++ 10 ∷ log_text rs
+
+-- ## Rows that a line can spell
+
+-- the numbers of its inputs are those that there are
+pub record IsFit (row : Row) : Type 0 where
+  pub vehicles : row.vehicles.word < 2 ^ 16
+  pub pedestrians : row.pedestrians.word < 2 ^ 8
+  pub preempts : row.preempts.word < 2 ^ 4
+
+-- and its tick is one of a bench
+pub record IsRow (r : LogRow) : Type 0 where
+  pub from_one : 1 ≤ r.tick
+  pub within : r.tick ≤ TICKS
+  pub fit : IsFit r.row
+
+-- all of them are so
+abbrev pub AreRows : List LogRow → Type 0
+AreRows [] = Unit {0}
+AreRows (r ∷ rs) = IsRow r × AreRows rs

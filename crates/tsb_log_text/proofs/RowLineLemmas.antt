@@ -2,7 +2,7 @@
 use Rattle.std.proofs.Common.{◌≡◌, ℕ, ◌+◌, ◌<◌, Bool, zero, suc, List, [], ◌∷◌, ◌++◌, length, get_or, take, drop, set, replicate, refl, ap, ◌∙◌, arith}
 use Rattle.tsb_log_text.specs.declared.log.LogRow.{LogRow}
 use Rattle.tsb_lines.specs.Digits.{seven_digits}
-use Rattle.tsb_field_log.specs.LogText.{mark, marks, set_marks, row_line}
+use Rattle.tsb_log_text.specs.LogText.{mark, marks, set_marks, row_line}
 
 -- each mark is in its place
 pub marks-placed : (n : ℕ) (on : ℕ → Bool) (all : List ℕ) → length all ≡ n → ((j : ℕ) → j < n → get_or all j 0 ≡ mark (on j)) → all ≡ marks n on

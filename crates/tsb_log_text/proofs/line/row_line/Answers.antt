@@ -1,6 +1,6 @@
 use Rattle.std.proofs.Common.{◌∙◌, ℕ, List, ap, set}
-use Rattle.tsb_field_log.proofs.RowLineLemmas.{with_field, written, line-written}
-use Rattle.tsb_field_log.proofs.line.row_line.Goals as goal
+use Rattle.tsb_log_text.proofs.RowLineLemmas.{with_field, written, line-written}
+use Rattle.tsb_log_text.proofs.line.row_line.Goals as goal
 
 pub returns : goal.returns
 returns c =

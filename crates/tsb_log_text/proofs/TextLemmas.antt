@@ -15,8 +15,7 @@ use Rattle.tsb_log_text.specs.Logs.{log_of, Rises}
 use Rattle.tsb_log_text.specs.Laws.{heeded}
 use Rattle.tsb_log_text.specs.declared.log.LogRow.{LogRow}
 use Rattle.tsb_log_text.proofs.LawLemmas.{the-rows, heed-row}
-use Rattle.tsb_field_log.specs.LogText.{mark, marks, set_marks, row_line, log_text}
-use Rattle.tsb_field_log.proofs.ChangeLemmas.{IsRow, AreRows}
+use Rattle.tsb_log_text.specs.LogText.{AreRows, IsRow, mark, marks, set_marks, row_line, log_text}
 
 -- ## Digits
 
@@ -51,9 +50,9 @@ line-parts r = refl
 line-read : (r : LogRow) → IsRow r → row_of (row_line r) ≡ Some r
 line-read r is =
     let t : tick_of (seven_digits r.tick) ≡ Some r.tick = tick-read r.tick is.from_one is.within in
-    let v : list_in_digits (set_marks 16 r.row.vehicles) ≡ Some r.row.vehicles.word = set-read 16 r.row.vehicles is.vehicles in
-    let p : list_in_digits (set_marks 8 r.row.pedestrians) ≡ Some r.row.pedestrians.word = set-read 8 r.row.pedestrians is.pedestrians in
-    let n : list_in_digits (set_marks 4 r.row.preempts) ≡ Some r.row.preempts.word = set-read 4 r.row.preempts is.preempts in
+    let v : list_in_digits (set_marks 16 r.row.vehicles) ≡ Some r.row.vehicles.word = set-read 16 r.row.vehicles is.fit.vehicles in
+    let p : list_in_digits (set_marks 8 r.row.pedestrians) ≡ Some r.row.pedestrians.word = set-read 8 r.row.pedestrians is.fit.pedestrians in
+    let n : list_in_digits (set_marks 4 r.row.preempts) ≡ Some r.row.preempts.word = set-read 4 r.row.preempts is.fit.preempts in
     line-parts r
     ∙ ap (λ (o : Option ℕ). row_with o (inputs_with (list_in_digits (set_marks 16 r.row.vehicles)) (list_in_digits (set_marks 8 r.row.pedestrians)) (list_in_digits (set_marks 4 r.row.preempts)))) t
     ∙ ap (λ (o : Option ℕ). row_with (Some r.tick) (inputs_with o (list_in_digits (set_marks 8 r.row.pedestrians)) (list_in_digits (set_marks 4 r.row.preempts)))) v

@@ -1,7 +1,7 @@
 use Rattle.std.proofs.Common.{◌≡◌, ℕ, ◌+◌, ◌<◌, ◌≤◌, get_or, length}
 use Rattle.tsb_types.specs.Sets.{has_number}
-use Rattle.tsb_field_log.specs.LogText.{mark}
-use Rattle.tsb_field_log.proofs.line.marks.Given as goal
+use Rattle.tsb_log_text.specs.LogText.{mark}
+use Rattle.tsb_log_text.proofs.line.marks.Given as goal
 
 -- the marks so far are in their places, and the others are those of inputs that are off
 abbrev pub invariant-loop-k : goal.invariant-loop-k

@@ -1,8 +1,8 @@
 use Rattle.std.proofs.Common.{◌≡◌, ℕ, ◌+◌, ◌∙◌, suc, ap, arith}
 use Rattle.tsb_types.specs.Sets.{has_number}
-use Rattle.tsb_field_log.specs.LogText.{mark}
-use Rattle.tsb_field_log.proofs.RowLineLemmas.{marks-placed}
-use Rattle.tsb_field_log.proofs.line.marks.Goals as goal
+use Rattle.tsb_log_text.specs.LogText.{mark}
+use Rattle.tsb_log_text.proofs.RowLineLemmas.{marks-placed}
+use Rattle.tsb_log_text.proofs.line.marks.Goals as goal
 
 pub returns : goal.returns
 returns g c =
