@@ -1,0 +1,7 @@
+pub mod SaysLemmas
+pub mod PlainLemmas
+pub mod SavedLemmas
+pub mod LogLemmas
+pub mod CommandLemmas
+pub mod EasyLemmas
+pub mod Examples

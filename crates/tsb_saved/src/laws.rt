@@ -1,0 +1,40 @@
+//! What holds of all that is saved, each law the contract of a function that does nothing.
+ghost use Rattle.tsb_saved.specs.Laws.{AreEasy, AreTheirJson, CommandsAreRead, LogsAreRead};
+
+/// The line of what is saved is JSON: an object with the text of the log and the lines of the commands, each as a string.
+///
+/// Mistake: a line feed stands in a string as it is, `unescaped` (`is_no_json`).
+/// Witness: `line_of_one` of Mistakes, one tick after a pattern.
+pub fn saved_lines_are_json()
+    ensures { AreTheirJson }
+{}
+
+/// The saved log is read as the rows that are kept. So each of its ticks has the row that it was given.
+///
+/// Needs: at most 64 MiB of text, which is 1,720,740 rows; inputs of numbers that a row has.
+/// Mistake: lines have no line feed, `unended` (`is_a_log`, `would_be_malformed`).
+/// Witness: `is_a_log` of Mistakes, two rows.
+pub fn saved_logs_are_read()
+    ensures { LogsAreRead }
+{}
+
+/// The saved commands are read as what they were: ticks up to each of the other inputs, and it, and then ticks up to the
+/// one in force.
+///
+/// Needs: inputs of numbers that commands have, as all have that were read in a command.
+/// Not said: that none of them is refused.
+/// Mistake: an object and its index are one word, `set_by_a_dot` (`is_set`, `would_be_bad`).
+/// Witness: `is_set` of Mistakes, an edit.
+pub fn saved_commands_are_read()
+    ensures { CommandsAreRead }
+{}
+
+/// Saved texts have printable ASCII without quotes and backslashes, and line feeds. So a line feed is the only byte that
+/// has an escape, and the line that is said is one line.
+///
+/// Needs: inputs of numbers that commands have.
+/// Mistake: a line feed stands in a string as it is, `unescaped` (`has_a_feed`).
+/// Witness: `line_of_one` of Mistakes.
+pub fn saved_texts_are_plain()
+    ensures { AreEasy }
+{}
