@@ -4,4 +4,5 @@ pub mod SavedLemmas
 pub mod LogLemmas
 pub mod CommandLemmas
 pub mod EasyLemmas
+pub mod TakenLemmas
 pub mod Examples

@@ -4,3 +4,5 @@ pub mod Saved
 pub mod Says
 -- what holds of that line
 pub mod Laws
+-- what commands leave over a log, where nothing is refused
+pub mod Taken

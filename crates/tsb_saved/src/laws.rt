@@ -1,5 +1,6 @@
 //! What holds of all that is saved, each law the contract of a function that does nothing.
 ghost use Rattle.tsb_saved.specs.Laws.{AreEasy, AreTheirJson, CommandsAreRead, LogsAreRead};
+ghost use Rattle.tsb_saved.specs.Taken.{RunsEndAlike};
 
 /// The line of what is saved is JSON: an object with the text of the log and the lines of the commands, each as a string.
 ///
@@ -37,4 +38,15 @@ pub fn saved_commands_are_read()
 /// Witness: `line_of_one` of Mistakes.
 pub fn saved_texts_are_plain()
     ensures { AreEasy }
+{}
+
+/// A saved run ends alike. Of inputs that were taken, the saved commands leave exactly these, over the saved log and from
+/// power-up with the same plan: there is such a run, and no other in which nothing is refused.
+///
+/// Needs: that each of the inputs was taken.
+/// Not said: that memory suffices for them again.
+/// Mistake: ticks come before the inputs that came first, `takes_the_tick_first` (`would_come_last`).
+/// Witness: `takes_both` of Mistakes, a reset and a tick from power-up.
+pub fn saved_runs_end_alike()
+    ensures { RunsEndAlike }
 {}

@@ -10,10 +10,14 @@ use Rattle.tsb_kept.specs.tsb_types.Sets.{all_off, set_of_list}
 use Rattle.tsb_kept.specs.tsb_types.declared.row.Row.{Row}
 use Rattle.tsb_kept.specs.tsb_step.tsb_plan.Names.{object_named}
 use Rattle.tsb_kept.specs.tsb_step.tsb_plan.Objects.{objects}
+use Rattle.tsb_kept.specs.tsb_step.tsb_plan.Plan.{Plan}
 use Rattle.tsb_kept.specs.tsb_step.tsb_plan.declared.object.Object.TheVariants.{PhaseMinimumGreen}
-use Rattle.tsb_step.specs.declared.inputs.Input.TheVariants.{Pattern, Set}
+use Rattle.tsb_step.specs.declared.inputs.Input.TheVariants.{Pattern, Reset, Set, Tick}
+use Rattle.tsb_step.specs.Signs.{watched}
+use Rattle.tsb_step.specs.Step.{step, verdict}
 use Rattle.tsb_command_text.specs.Commands.{command_of_five}
 use Rattle.tsb_command_text.specs.Readings.{reading}
+use Rattle.tsb_command_text.specs.declared.command.Command.{Command}
 use Rattle.tsb_command_text.specs.declared.command.Command.TheVariants as commands
 use Rattle.tsb_command_text.specs.declared.command.Reading.TheVariants.{Bad, Do}
 use Rattle.tsb_log_text.specs.Logs.{log_of, rows_from}
@@ -22,6 +26,7 @@ use Rattle.tsb_log_text.specs.Rows.{inputs_of, row_of}
 use Rattle.tsb_log_text.specs.declared.log.LogRow.{LogRow}
 use Rattle.tsb_log_text.specs.declared.error.LogError.TheVariants.{Malformed}
 use Rattle.tsb_kept.specs.Kept.{Keeping, nothing_kept, with_other, with_row}
+use Rattle.tsb_saved.specs.Taken.{TakeAll}
 use Rattle.tsb_saved.specs.Saved.{input_line, saved_text}
 
 -- detector 2 is on
@@ -83,3 +88,17 @@ kept = with_row 1 on (with_other 0 (Pattern 3) nothing_kept)
 line_of_one : saved_text kept 1 ≡ codes "{\"log\":\"0000001 0100000000000000 00000000 0000\\n\",\"commands\":\"pattern 3\\nstep 1\\n\"}"
 unfolding saved_text print_from escape_byte log_text row_line digits
 line_of_one = refl
+
+-- ## Ticks come before the inputs that came first
+
+-- a reset and a tick: so they are saved
+takes_both : (plan : Plan) → TakeAll plan (row 1 on ∷ []) (commands.Reset ∷ commands.Step 1 ∷ []) [] (Tick on ∷ Reset ∷ [])
+unfolding verdict step watched
+takes_both plan = (Reset ∷ [], (refl, refl), (Tick on ∷ Reset ∷ [], (refl, refl), refl))
+
+abbrev takes_the_tick_first : List Command
+takes_the_tick_first = commands.Step 1 ∷ commands.Reset ∷ []
+
+would_come_last : (plan : Plan) → TakeAll plan (row 1 on ∷ []) takes_the_tick_first [] (Reset ∷ Tick on ∷ [])
+unfolding verdict step watched
+would_come_last plan = (Tick on ∷ [], (refl, refl), (Reset ∷ Tick on ∷ [], (refl, refl), refl))
