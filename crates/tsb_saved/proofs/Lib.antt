@@ -5,4 +5,5 @@ pub mod LogLemmas
 pub mod CommandLemmas
 pub mod EasyLemmas
 pub mod TakenLemmas
+pub mod ReadLemmas
 pub mod Examples

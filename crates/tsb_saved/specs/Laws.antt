@@ -1,6 +1,6 @@
 -- What holds of all that is saved. Each law here is the contract of a function in src/laws.rt, and proved there.
 use Rattle.std.specs.Prelude.{◌≡◌, ℕ, ◌-◌, ◌^◌, ◌<◌, ◌≤◌, ◌==◌, ◌||◌, Bool, true, if◌then◌else◌, List, [], ◌∷◌, ◌++◌, length, map, Option, Some, None, Ok}
-use Rattle.std.specs.List.{list_all}
+use Rattle.std.specs.List.{All, list_all}
 use Rattle.json.specs.Json.{document}
 use Rattle.tsb_lines.specs.Lines.{HasNoFeed, lines_of}
 use Rattle.tsb_kept.specs.tsb_types.declared.lamp.Lamp.{Lamp}
@@ -15,6 +15,8 @@ use Rattle.tsb_command_text.specs.declared.command.Command.TheVariants as comman
 use Rattle.tsb_command_text.specs.declared.command.Reading.TheVariants.{Skip, Do}
 use Rattle.tsb_command_text.specs.Readings.{reading}
 use Rattle.tsb_log_text.specs.Logs.{log_of}
+use Rattle.tsb_log_text.specs.Rows.{inputs_of}
+use Rattle.tsb_kept.specs.tsb_types.declared.row.Row.{Row}
 use Rattle.tsb_log_text.specs.LogText.{IsFit, log_text}
 use Rattle.tsb_kept.specs.declared.kept.Other.{Other}
 use Rattle.tsb_kept.specs.Kept.{Keeping, kept_of}
@@ -112,3 +114,17 @@ is_easy b = (b == 10) || is_plain b
 abbrev pub AreEasy : Type 0
 AreEasy = (kept : Keeping) (now : ℕ) → now < 2 ^ 32 → AreSpelled kept.others
     → (list_all is_easy (log_text kept.rows) ≡ true) × (list_all is_easy (commands_text kept now) ≡ true) × HasNoFeed (saved_text kept now)
+
+-- ## What was read
+
+-- an input whose command was read in a line
+abbrev pub ReadsAreSpelled : Type 0
+ReadsAreSpelled = (line : List ℕ) (c : Command) (i : Input) → reading line ≡ Do c → command_of i ≡ c ∷ [] → IsSpelled i
+
+-- the inputs that were read in a row
+abbrev pub RowsReadAreFit : Type 0
+RowsReadAreFit = (digits : List ℕ) (row : Row) → inputs_of digits ≡ Some row → IsFit row
+
+-- what is kept of such inputs, up to the last tick of a bench
+abbrev pub KeptAreSpelled : Type 0
+KeptAreSpelled = (plan : Plan) (is : List Input) → All IsSpelled is → (replay plan is).now ≤ TICKS → AreSpelled (kept_of plan is).others

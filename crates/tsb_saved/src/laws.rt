@@ -1,5 +1,5 @@
 //! What holds of all that is saved, each law the contract of a function that does nothing.
-ghost use Rattle.tsb_saved.specs.Laws.{AreEasy, AreTheirJson, CommandsAreRead, LogsAreRead};
+ghost use Rattle.tsb_saved.specs.Laws.{AreEasy, AreTheirJson, CommandsAreRead, KeptAreSpelled, LogsAreRead, ReadsAreSpelled, RowsReadAreFit};
 ghost use Rattle.tsb_saved.specs.Taken.{RunsEndAlike};
 
 /// The line of what is saved is JSON: an object with the text of the log and the lines of the commands, each as a string.
@@ -49,4 +49,15 @@ pub fn saved_texts_are_plain()
 /// Witness: `takes_both` of Mistakes, a reset and a tick from power-up.
 pub fn saved_runs_end_alike()
     ensures { RunsEndAlike }
+{}
+
+/// What was read can be saved. The number of an input whose command was read in a line is such as commands have, and a row
+/// that was read has inputs of numbers that a log has. So what is kept of such inputs is as the laws of saved texts need it.
+///
+/// Mistake: a pattern is 1 to 16, as the controller has them, `up_to_16` (`reads_99`, `would_leave_99_out`).
+/// Witness: `reads_99` of Mistakes.
+pub fn what_was_read_can_be_saved()
+    ensures inputs { ReadsAreSpelled }
+    ensures rows { RowsReadAreFit }
+    ensures kept { KeptAreSpelled }
 {}

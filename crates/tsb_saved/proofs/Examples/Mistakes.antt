@@ -1,5 +1,5 @@
 -- Mistakes that the laws refuse, and what is saved of worked inputs, computed.
-use Rattle.std.proofs.Common.{◌≡◌, ℕ, List, [], ◌∷◌, ◌++◌, codes, flat_map, None, Ok, Err, refl}
+use Rattle.std.proofs.Common.{◌≡◌, ◌≤◌, arith, ℕ, List, [], ◌∷◌, ◌++◌, codes, flat_map, None, Ok, Err, refl}
 use Rattle.std.specs.Fmt.{digits}
 use Rattle.json.specs.Json.{document, items, members, value}
 use Rattle.json.specs.Lex.{lex, punctuate}
@@ -15,7 +15,7 @@ use Rattle.tsb_kept.specs.tsb_step.tsb_plan.declared.object.Object.TheVariants.{
 use Rattle.tsb_step.specs.declared.inputs.Input.TheVariants.{Pattern, Reset, Set, Tick}
 use Rattle.tsb_step.specs.Signs.{watched}
 use Rattle.tsb_step.specs.Step.{step, verdict}
-use Rattle.tsb_command_text.specs.Commands.{command_of_five}
+use Rattle.tsb_command_text.specs.Commands.{command_of_five, command_of_two}
 use Rattle.tsb_command_text.specs.Readings.{reading}
 use Rattle.tsb_command_text.specs.declared.command.Command.{Command}
 use Rattle.tsb_command_text.specs.declared.command.Command.TheVariants as commands
@@ -102,3 +102,16 @@ takes_the_tick_first = commands.Step 1 ∷ commands.Reset ∷ []
 would_come_last : (plan : Plan) → TakeAll plan (row 1 on ∷ []) takes_the_tick_first [] (Reset ∷ Tick on ∷ [])
 unfolding verdict step watched
 would_come_last plan = (Tick on ∷ [], (refl, refl), (Reset ∷ Tick on ∷ [], (refl, refl), refl))
+
+-- ## A pattern is 1 to 16
+
+abbrev up_to_16 : ℕ → Type 0
+up_to_16 n = n ≤ 16
+
+-- the controller refuses it, but it is a command
+reads_99 : reading (codes "pattern 99") ≡ Do (commands.Pattern 99)
+unfolding command_of_two
+reads_99 = refl
+
+would_leave_99_out : up_to_16 99 → ⊥
+would_leave_99_out h = omega (arith, h)
