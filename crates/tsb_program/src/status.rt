@@ -13,10 +13,12 @@ pub enum Status {
     BadWords,
     /// A read, a write or memory failed.
     Failed,
+    /// A line that is no command, or that is refused, ended a strict run.
+    Stopped,
 }
 
 impl Status {
-    /// The number that the program ends with, 0 to 3.
+    /// The number that the program ends with, 0 to 4.
     pub fn number(self) -> u8
         ensures { result ≡ number self }
     {
@@ -25,6 +27,7 @@ impl Status {
             Status::Refused => 1,
             Status::BadWords => 2,
             Status::Failed => 3,
+            Status::Stopped => 4,
         }
     }
 }
