@@ -11,7 +11,7 @@ from run_program import ENDLESS, EXAMPLES, FULL, READ, TORN, WRITE, Run
 USAGE = (
     b"usage: tsb_field log --from TIME [--device ID] [--vehicle CHANNEL=DETECTOR].. [--pedestrian CHANNEL=DETECTOR].. "
     b"[--preempt CHANNEL=INPUT]..\n"
-    b"    or tsb_field record --from TIME --device ID PLAN LOG\n"
+    b"    or tsb_field record --from TIME --device ID [--go-on] PLAN LOG\n"
     b"    or tsb_field events --from TIME --device ID [--log LOG]\n"
     b"    or tsb_field diagram [--log LOG] [--title TEXT] [--seconds-per-line N]\n"
 )
@@ -399,26 +399,35 @@ PATTERN = [(1, 131, 1), (1, 132, 80), *((1, 133 + p, (25, 15)[p % 2]) for p in r
 
 
 def record_runs():
-    """Records: of what remains, what is told of commands that were refused, and faults."""
+    """Records: of what remains, and what is told of lines that are no command or are refused; the first ends a strict
+    one."""
     for commands, events, errors in [
         (b"", [], b""), (b"step 1\n", FIRST, b""), (b"step 1", FIRST, b""),
         (b"step 1\r\nshow\r\nwhen trip", FIRST, b""),
         (b"step 1\nundo\n", [], b""), (b"step 1\nseek 0\n", [], b""), (b"step 9\nback 8\n", FIRST, b""),
         (b"step 1\npattern 1\n", [*FIRST, *PATTERN], b""), (b"step 1\npattern 1\nundo\n", FIRST, b""),
         (b"step 1\npattern 1\nstep 5\nseek 1\n", [*FIRST, *PATTERN], b""), (b"undo\nback 1\nseek 7\n", [], b""),
-        (b"step 1\npattern 17\n", FIRST, b"command 2: refused E9 NoSuchPattern\n"),
-        (b"# a comment\n\nx\nstep 1\n", FIRST, b"command 3: bad command\n"),
-        (b"begin 2\nbegin 1\nverify 1\n", [], b"command 2: refused E4 Busy 2\ncommand 3: refused E5 NotOwner\n"),
+        (b"step 1\npattern 17\n", FIRST, b"command 2: pattern 17: refused E9 NoSuchPattern\n"),
+        (b"# a comment\n\nx\nstep 1\n", FIRST, b"command 3: x: bad command\n"),
+        (b"begin 2\nbegin 1\nverify 1\n", [],
+         b"command 2: begin 1: refused E4 Busy 2\ncommand 3: verify 1: refused E5 NotOwner\n"),
         (b"step 1\nquit\nstep 1\nx\n", FIRST, b""), (b"quit", [], b""), (b"#" * 200 + b"\n", [], b""),
-        (b"#" * 201 + b"\nstep 1", FIRST, b"command 1: bad command\n"), (b"step 1\r", [], b"command 1: bad command\n"),
+        (b"#" * 201 + b"\nstep 1", FIRST, b"command 1: " + b"#" * 200 + b": bad command\n"),
+        (b"step 1\r", [], b"command 1: step 1?: bad command\n"),
+        (b"\x1b[31m\xc3\xa9\t~ x\r\nstep 1\n", FIRST, b"command 1: ?[31m???~ x: bad command\n"),
+        (b"step 1\n" + b"pattern 17 " * 18 + b"\r\n", FIRST, b"command 2: " + b"pattern 17 " * 18 + b": bad command\n"),
     ]:
-        yield Run([*RECORD, "empty.log"], 0, record(*events), errors, commands)
+        yield Run([*RECORD, "empty.log", "--go-on"], 0, record(*events), errors, commands)
+        first = errors.splitlines(True)[:1]
+        yield Run([*RECORD, "empty.log"], *((4, b"", *first) if first else (0, record(*events), b"")), commands)
+    yield Run([*RECORD, "empty.log"], 4, b"", b"command 1: x: bad command\n", b"x\n" + b" " * (1 << 24))
     yield Run([*RECORD, "one_row.log", "--"], 0, HEADER, b"", b"show\n")
     yield Run(["record", "--device=1001", "quad.json", *FROM, "empty.log"], 0, record(*FIRST), b"", b"step 1\n")
     yield Run(["record", *FROM, "--device=a,b", "quad.json", "empty.log"], 0, HEADER, b"", b"")
     late = ["record", "--from", "9999-12-31 00:00:00", "--device", "7", "quad.json", "empty.log"]
     yield Run(late, 2, b"", b"events: past the year 9999\n", b"step 1\n")
-    yield Run(late, 2, b"", b"command 1: bad command\nevents: past the year 9999\n", b"x\n")
+    yield Run(late, 4, b"", b"command 1: x: bad command\n", b"x\n")
+    yield Run([*late, "--go-on"], 2, b"", b"command 1: x: bad command\nevents: past the year 9999\n", b"x\n")
 
 
 def record_faults():
@@ -437,12 +446,14 @@ def record_faults():
         [*RECORD, "--log", "empty.log"], ["record", *FROM, "quad.json", "empty.log"],
         ["record", *FROM, "--device", 'a"b', "quad.json", "empty.log"],
         ["record", "--device", "7", "quad.json", "empty.log"], [*RECORD, *FROM, "empty.log"],
+        [*RECORD, "empty.log", "--go-on=1"], [*RECORD, "--go-on", "empty.log", "--go-on"], [*RECORD, "empty.log", "--strict"],
     ]:
         yield Run(words, 2, b"", USAGE, b"step 1\n")
     words = [*RECORD, "empty.log"]
     yield Run(words, 3, b"", READ, stdin=TORN)
     yield Run(words, 3, b"", WRITE, b"step 1\n", stdout=FULL)
     yield Run(words, 3, b"", b"", b"x\nstep 1\n", stderr=FULL)
+    yield Run([*words, "--go-on"], 3, b"", b"", b"x\nstep 1\n", stderr=FULL)
     yield Run(words, 3, b"", b"commands: too large\n", b" " * (1 << 24) + b"\n")
     yield Run(words, 0, b"", b"", b"\n" * (1 << 24), stdout="/dev/null")
     yield Run(words, 0, stdin="/dev/null", stdout="/dev/null")

@@ -30,8 +30,10 @@ LOGS = [
 
 # Words, and what is read.
 RECORD = ["record", *FROM, "--device", "7", "examples/quad.json"]
+COMMANDS = b"step 3\npattern 1\nstep 60\nback 40\nundo\nquit\nx\n"
 OTHERS = [
-    ([*RECORD, LOG], b"step 3\npattern 1\nstep 60\nback 40\nundo\nquit\nx\n"),
+    ([*RECORD, LOG], COMMANDS),
+    ([*RECORD, LOG, "--go-on"], COMMANDS),
     ([*RECORD, "none.log"], b"step 3\n"),
     (["events", *FROM, "--device", "7", "--log", LOG], ALL_LINES),
     (["events", "--from", "9999-12-31 00:00:00", "--device", "7"], ALL_LINES),
@@ -48,15 +50,20 @@ def fronts(text):
 
 
 def stopped_records(program, words, text):
-    """What a record is with 0 where one of its commands has no memory: that of the commands without it, or of a step
-    that ends with the tick before. The command is told, and refused with E1."""
+    """What a record is where one of its commands has no memory: the command is told, and refused with E1, which ends a
+    strict record with 4. One that goes on is that of the commands without it, or of a step that ends with the tick
+    before."""
     lines = text.splitlines(True)
     for number, line in enumerate(lines, 1):
+        refused = b"command %d: %s: refused E1 Memory\n" % (number, line.rstrip(b"\n"))
         if line.startswith((b"step", b"pattern")):
+            if "--go-on" not in words:
+                yield 4, b"", refused
+                continue
             shorter = [b"step %d\n" % k for k in range(int(line.split()[1]))] if line.startswith(b"step") else [b"#\n"]
             for one in shorter:
                 _, record, told, *_ = program.run(words, b"".join([*lines[:number - 1], one, *lines[number:]]))
-                yield 0, record, told + b"command %d: refused E1 Memory\n" % number
+                yield 0, record, told + refused
 
 
 def memory(program, wrong):

@@ -12,9 +12,10 @@ use Rattle.tsb_event_text.specs.declared.times.Moment.{Moment}
 use Rattle.tsb_log_text.specs.declared.error.LogError.{LogError}
 use Rattle.tsb_log_text.specs.declared.log.LogRow.{LogRow}
 use Rattle.tsb_field_display.specs.declared.shown.Shown.{Shown}
+use Rattle.tsb_record.specs.declared.faults.OnFault.{OnFault}
 use Rattle.tsb_field_events.specs.Merge.{session_events}
 use Rattle.tsb_field_events.specs.Texts.{IsLog}
-use Rattle.tsb_field.specs.Ends.{IsEvents, LogNamed, NoRun, Pictured, Stops, TellsNoLog, TellsNoPlan}
+use Rattle.tsb_field.specs.Ends.{IsEvents, LogNamed, NoRun, Pictured, Recorded, Stops, TellsNoLog, TellsNoPlan}
 
 -- there is no log
 pub stops : (fault : ReadError LogError) (known : List ℕ → Option (List ℕ)) (path : Option (List ℕ)) (status : ℕ) (told tells : Option (List ℕ)) → LogNamed (Err fault) known path
@@ -38,6 +39,11 @@ pub events-are : (from : Moment) (device other : List ℕ) (lines shown : List S
 events-are from device other lines shown rows named last text same_device same_lines same_rows log =
     subst (λ (d : List ℕ). IsLog from d (session_events lines rows) text) same_device
     (subst (λ (s : List Shown). IsLog from other (session_events s rows) text) same_lines (subst (λ (r : List LogRow). IsLog from other (session_events shown r) text) same_rows log))
+
+pub recorded-as : (status : ℕ) (from : Moment) (device : List ℕ) (other on_fault : OnFault) (plan rows input left old new told tells : Option (List ℕ)) → other ≡ on_fault
+    → Recorded status from device other plan rows input left old new told tells → Recorded status from device on_fault plan rows input left old new told tells
+recorded-as status from device other on_fault plan rows input left old new told tells same recorded =
+    subst (λ (w : OnFault). Recorded status from device w plan rows input left old new told tells) same recorded
 
 pub pictured-as : (status : ℕ) (title other : List ℕ) (seconds more : ℕ) (known : List ℕ → Option (List ℕ)) (path input left old new told tells : Option (List ℕ)) → other ≡ title → more ≡ seconds
     → Pictured status other more known path input left old new told tells → Pictured status title seconds known path input left old new told tells

@@ -1,7 +1,7 @@
 -- How the program ends, and what it has then written on its output and of faults.
 --
 -- Of each stream there are the bytes before and after: `input` and `left`, `old` and `new`, `told` and `tells`.
-use Rattle.std.specs.Prelude.{◌≡◌, ◌⊎◌, ℕ, List, [], IsSome, Option, Some, None, Result, Ok, Err, unwrap_or, codes}
+use Rattle.std.specs.Prelude.{◌≡◌, ◌⊎◌, ℕ, Bool, true, false, List, [], IsSome, Option, Some, None, Result, Ok, Err, unwrap_or, codes}
 use Rattle.std.specs.Io.KnownBytes.{Appends, Consumes, IsAtEnd, Keeps}
 use Rattle.tsb_lines.specs.Writes.{AppendsFront}
 use Rattle.tsb_program.specs.Read.{HasLog, HasPlan, RefusesLog, RefusesPlan}
@@ -23,6 +23,10 @@ use Rattle.tsb_field_events.specs.Texts.{IsLog}
 use Rattle.tsb_field_events.specs.Ticks.{AreWritten}
 use Rattle.tsb_field_log.specs.Mapping.{wires_of}
 use Rattle.tsb_record.specs.Ended as recorded
+use Rattle.tsb_record.specs.declared.faults.OnFault.{OnFault}
+use Rattle.tsb_record.specs.declared.faults.OnFault.TheVariants.{GoOn, Stop}
+use Rattle.tsb_record.specs.declared.recording.Outcome.{Outcome}
+use Rattle.tsb_record.specs.declared.recording.Outcome.TheVariants as outcomes
 use Rattle.tsb_record.specs.tsb_types.declared.event.Event.{Event}
 use Rattle.tsb_text.specs.Answers.{Setup}
 use Rattle.tsb_text.specs.declared.error.SessionError.{SessionError}
@@ -130,21 +134,27 @@ Writes status from device all old new told tells =
     ⊎ (((new ≡ old) × (failure : Failure) × Fails failure status told tells)
     ⊎ ((AreWritten from → ⊥) × (new ≡ old) × TellsLate status told tells))
 
--- a run ended well, or by a fault with nothing written
-abbrev pub WritesEnd : Result (List Event) SessionError → ℕ → Moment → List ℕ → Option (List ℕ) → Option (List ℕ) → Option (List ℕ) → Option (List ℕ) → Type 0
-WritesEnd (Ok all) status from device old new told tells = Writes status from device all old new told tells
+-- what a record does after a line with which something is wrong, as words say
+abbrev pub on_fault_of : Bool → OnFault
+on_fault_of true = GoOn
+on_fault_of false = Stop
+
+-- a run ended well; or with nothing written: with 4 because a line ended it, of which no more is told, or by a fault
+abbrev pub WritesEnd : Result Outcome SessionError → ℕ → Moment → List ℕ → Option (List ℕ) → Option (List ℕ) → Option (List ℕ) → Option (List ℕ) → Type 0
+WritesEnd (Ok (outcomes.Events all)) status from device old new told tells = Writes status from device all.items old new told tells
+WritesEnd (Ok (outcomes.Stopped line)) status from device old new told tells = (status ≡ 4) × (new ≡ old) × (tells ≡ told)
 WritesEnd (Err fault) status from device old new told tells = (new ≡ old) × TellsRunEnd fault status told tells
 
 -- commands were run on a plan and a log, and told of what was refused; and then this was written
-abbrev pub RanSo : ℕ → Moment → List ℕ → Setup → Option (List ℕ) → Option (List ℕ) → Option (List ℕ) → Option (List ℕ) → Option (List ℕ) → Option (List ℕ) → Type 0
-RanSo status from device given input left old new told tells =
-    (result : Result (List Event) SessionError) × (mid : Option (List ℕ)) × recorded.Ended result given input left told mid
+abbrev pub RanSo : ℕ → Moment → List ℕ → OnFault → Setup → Option (List ℕ) → Option (List ℕ) → Option (List ℕ) → Option (List ℕ) → Option (List ℕ) → Option (List ℕ) → Type 0
+RanSo status from device on_fault given input left old new told tells =
+    (result : Result Outcome SessionError) × (mid : Option (List ℕ)) × recorded.Ended result on_fault given input left told mid
     × WritesEnd result status from device old new mid tells
 
 -- how `record` ended on the files of a plan and a log: after a run, or with nothing read and nothing written
-abbrev pub Recorded : ℕ → Moment → List ℕ → Option (List ℕ) → Option (List ℕ) → Option (List ℕ) → Option (List ℕ) → Option (List ℕ) → Option (List ℕ) → Option (List ℕ) → Option (List ℕ) → Type 0
-Recorded status from device plan rows input left old new told tells =
-    ((given : Setup) × HasPlan plan given.plan × HasLog rows given.log × RanSo status from device given input left old new told tells)
+abbrev pub Recorded : ℕ → Moment → List ℕ → OnFault → Option (List ℕ) → Option (List ℕ) → Option (List ℕ) → Option (List ℕ) → Option (List ℕ) → Option (List ℕ) → Option (List ℕ) → Option (List ℕ) → Type 0
+Recorded status from device on_fault plan rows input left old new told tells =
+    ((given : Setup) × HasPlan plan given.plan × HasLog rows given.log × RanSo status from device on_fault given input left old new told tells)
     ⊎ ((left ≡ input) × (new ≡ old) × NoRun plan rows status told tells)
 
 -- ## `diagram`
@@ -173,8 +183,8 @@ Pictured status title seconds files path input left old new told tells =
 abbrev pub DidWish : Wish → ℕ → (List ℕ → Option (List ℕ)) → Option (List ℕ) → Option (List ℕ) → Option (List ℕ) → Option (List ℕ) → Option (List ℕ) → Option (List ℕ) → Type 0
 DidWish (log from device wires) status files input left old new told tells =
     Logged status (record { from = from.nanos; device = device; wires = wires_of wires }) input left old new told tells
-DidWish (recording from device plan file) status files input left old new told tells =
-    Recorded status from device (files plan) (files file) input left old new told tells
+DidWish (recording from device plan file goes_on) status files input left old new told tells =
+    Recorded status from device (on_fault_of goes_on) (files plan) (files file) input left old new told tells
 DidWish (events from device path) status files input left old new told tells = Told status from device files path input left old new told tells
 DidWish (diagram path title seconds) status files input left old new told tells = Pictured status (title_of title) (seconds_of seconds) files path input left old new told tells
 

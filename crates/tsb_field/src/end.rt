@@ -14,7 +14,7 @@ use tsb_words::WordsError;
 /// How the program is used.
 const USAGE: &[u8] =
     b"usage: tsb_field log --from TIME [--device ID] [--vehicle CHANNEL=DETECTOR].. [--pedestrian CHANNEL=DETECTOR].. [--preempt CHANNEL=INPUT]..
-    or tsb_field record --from TIME --device ID PLAN LOG
+    or tsb_field record --from TIME --device ID [--go-on] PLAN LOG
     or tsb_field events --from TIME --device ID [--log LOG]
     or tsb_field diagram [--log LOG] [--title TEXT] [--seconds-per-line N]
 ";

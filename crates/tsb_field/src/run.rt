@@ -6,7 +6,7 @@ ghost use Rattle.tsb_words.specs.declared.error.WordsError.{WordsError};
 ghost use Rattle.tsb_words.specs.FieldProgram.{Spells};
 ghost use Rattle.tsb_text.specs.Answers.{Setup};
 ghost use Rattle.tsb_text.specs.tsb_objects.Checked.{checked_plan};
-ghost use Rattle.tsb_field.specs.Ends.{Did, LogNamed, Logged, Pictured, RanSo, Recorded, TellsNoLog, TellsNoPlan, Told, title_of};
+ghost use Rattle.tsb_field.specs.Ends.{Did, LogNamed, Logged, Pictured, RanSo, Recorded, on_fault_of, TellsNoLog, TellsNoPlan, Told, title_of};
 
 use crate::end::{
     refuse, tell_end, tell_fault, tell_late, tell_left_out, tell_words_fault, write_all,
@@ -22,8 +22,8 @@ use tsb_field_log::Wire;
 use tsb_field_streams::log;
 use tsb_lines::pass_on;
 use tsb_log_text::{Log, LogError};
-use tsb_program::{Failure, Files, ReadError, fail, log_of, plan_of};
-use tsb_record::record;
+use tsb_program::{Failure, Files, ReadError, Status, fail, log_of, plan_of};
+use tsb_record::{OnFault, Outcome, record};
 use tsb_text::{Checked, PlanError};
 use tsb_words::field_files::{Asked, read_words};
 
@@ -34,7 +34,8 @@ const TITLE: &[u8] = b"Phase diagram";
 const SECONDS: u32 = 300;
 
 /// Does what the words ask for, the first of which is the program's name, and gives the status that the program ends
-/// with: 0 where all was done, 1 for bad input, 2 for bad words, 3 where a read, a write or memory failed.
+/// with: 0 where all was done, 1 for bad input, 2 for bad words, 3 where a read, a write or memory failed, 4 where a line
+/// ended a strict record.
 ///
 /// The log, the events or the diagram go to `output`, and what was left out, faults, bad words and failures to `errors`.
 pub fn run_words<S: AsStr, F: Files, R: Read, W: Write, E: Write>(
@@ -62,8 +63,14 @@ pub fn run_words<S: AsStr, F: Files, R: Read, W: Write, E: Write>(
                 device,
                 plan,
                 log,
+                goes_on,
             },
-        ) => write_record(alloc, from, device, plan, log, files, input, output, errors),
+        ) => {
+            let on_fault = on_fault_of(goes_on);
+            write_record(
+                alloc, from, device, plan, log, on_fault, files, input, output, errors,
+            )
+        }
         Ok(Asked::Events { from, device, log }) => {
             write_events(alloc, from, device, log, files, input, output, errors)
         }
@@ -115,6 +122,17 @@ fn bytes_of(name: Option<&str>) -> Option<&[u8]>
     }
 }
 
+/// What a record does after a line with which something is wrong, as words say.
+fn on_fault_of(goes_on: bool) -> OnFault
+    ensures { result ≡ on_fault_of goes_on }
+{
+    if goes_on {
+        OnFault::GoOn
+    } else {
+        OnFault::Stop
+    }
+}
+
 /// Makes a controller's event log from a run of commands.
 fn write_record<F: Files, R: Read, W: Write, E: Write>(
     alloc: Global,
@@ -122,12 +140,13 @@ fn write_record<F: Files, R: Read, W: Write, E: Write>(
     device: &str,
     plan: &str,
     log: &str,
+    on_fault: OnFault,
     files: &F,
     input: &mut R,
     output: &mut W,
     errors: &mut E,
 ) -> u8
-    ensures { Recorded result from device.now (F.bytes files.now plan.now) (F.bytes files.now log.now)
+    ensures { Recorded result from device.now on_fault (F.bytes files.now plan.now) (F.bytes files.now log.now)
         (R.remaining input.old) (R.remaining input.new) (W.contents output.old) (W.contents output.new) (E.contents errors.old) (E.contents errors.new) }
 {
     let checked = match plan_of(alloc, files, plan) {
@@ -138,25 +157,30 @@ fn write_record<F: Files, R: Read, W: Write, E: Write>(
         Ok(rows) => rows,
         Err(fault) => return refuse_log(alloc, errors, fault),
     };
-    record_run(alloc, from, device, checked, &rows, input, output, errors)
+    record_run(
+        alloc, from, device, checked, &rows, on_fault, input, output, errors,
+    )
 }
 
-/// Runs commands on a plan and a log, and writes the events of the inputs that remain.
+/// Runs commands on a plan and a log, and writes the events of the inputs that remain, or none where a line ended the
+/// record.
 fn record_run<R: Read, W: Write, E: Write>(
     alloc: Global,
     from: Moment,
     device: &str,
     plan: Checked,
     rows: &Log,
+    on_fault: OnFault,
     input: &mut R,
     output: &mut W,
     errors: &mut E,
 ) -> u8
-    ensures { RanSo result from device.now (record { plan = checked_plan plan; log = rows.now })
+    ensures { RanSo result from device.now on_fault (record { plan = checked_plan plan; log = rows.now })
         (R.remaining input.old) (R.remaining input.new) (W.contents output.old) (W.contents output.new) (E.contents errors.old) (E.contents errors.new) }
 {
-    let events = match record(alloc, plan, rows, input, errors) {
-        Ok(events) => events,
+    let events = match record(alloc, plan, rows, on_fault, input, errors) {
+        Ok(Outcome::Events(events)) => events,
+        Ok(Outcome::Stopped(_)) => return Status::Stopped.number(),
         Err(fault) => return tell_end(errors, fault),
     };
     match log_text(alloc, from, device.as_bytes(), &events) {

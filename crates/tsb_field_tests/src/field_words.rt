@@ -97,13 +97,14 @@ fn events_words(rt: HostRuntime) {
     assert!(rt; ask_for_events(rt.alloc(), &words, time, "1001", "a.log"));
 }
 
-/// Whether the words ask for a record of this device from this time on, on this plan and log.
+/// Whether the words ask for a record of this device from this time on, on this plan and log, that goes on or is strict.
 fn ask_for_record(
     alloc: Global,
     words: &[&str],
     time: &[u8],
     name: &str,
     files: (&str, &str),
+    is_lenient: bool,
 ) -> bool {
     match read_words(alloc, words) {
         Ok(
@@ -112,8 +113,14 @@ fn ask_for_record(
                 device,
                 plan,
                 log,
+                goes_on,
             },
-        ) => Some(from) == read_moment(time) && device == name && (plan, log) == files,
+        ) => {
+            Some(from) == read_moment(time)
+                && device == name
+                && (plan, log) == files
+                && goes_on == is_lenient
+        }
         _ => false,
     }
 }
@@ -130,7 +137,24 @@ fn record_words(rt: HostRuntime) {
         "a.log",
     ];
     let time = b"2026-11-22 07:00:00".as_slice();
-    assert!(rt; ask_for_record(rt.alloc(), &words, time, "1001", ("a.json", "a.log")));
+    let files = ("a.json", "a.log");
+    assert!(rt; ask_for_record(rt.alloc(), &words, time, "1001", files, false));
+}
+
+#[test]
+fn record_words_that_go_on(rt: HostRuntime) {
+    let words = [
+        "tsb_field",
+        "record",
+        FROM,
+        "--device=1001",
+        "a.json",
+        "--go-on",
+        "a.log",
+    ];
+    let time = b"2026-11-22 07:00:00".as_slice();
+    let files = ("a.json", "a.log");
+    assert!(rt; ask_for_record(rt.alloc(), &words, time, "1001", files, true));
 }
 
 /// Whether the words ask for a diagram with this log, title and width.
@@ -172,7 +196,7 @@ fn diagram_words(rt: HostRuntime) {
 const FROM: &str = "--from=2026-11-22T07:00:00";
 
 /// Words that ask for nothing.
-const BAD: [&[&str]; 24] = [
+const BAD: [&[&str]; 27] = [
     &["tsb_field"],
     &["tsb_field", "help"],
     &["tsb_field", "log"],
@@ -199,6 +223,26 @@ const BAD: [&[&str]; 24] = [
         "a.json",
         "a.log",
     ],
+    &[
+        "tsb_field",
+        "record",
+        FROM,
+        "--device=1",
+        "--go-on=true",
+        "a.json",
+        "a.log",
+    ],
+    &[
+        "tsb_field",
+        "record",
+        FROM,
+        "--device=1",
+        "--go-on",
+        "--go-on",
+        "a.json",
+        "a.log",
+    ],
+    &["tsb_field", "events", FROM, "--device=1", "--go-on"],
     &["tsb_field", "events", FROM],
     &["tsb_field", "events", FROM, "--device=a\"b"],
     &["tsb_field", "events", "--device=1"],

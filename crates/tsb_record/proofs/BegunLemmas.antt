@@ -1,5 +1,5 @@
 -- What was told before a fault begins what is to be told: whatever lines come, they come to something.
-use Rattle.std.proofs.Common.{zero, suc, ◌≡◌, ℕ, List, [], ◌∷◌, ◌++◌, Bool, true, false, nat_lt, refl, sym, subst, append_assoc, codes, ◌⊎◌, inl, inr, Some, None, rules}
+use Rattle.std.proofs.Common.{zero, suc, ◌≡◌, ℕ, List, [], ◌∷◌, ◌++◌, Bool, true, false, nat_lt, refl, sym, subst, append_assoc, ◌⊎◌, inl, inr, Some, None, option_map, rules}
 use Rattle.std.specs.declared.option.Option.{Option}
 use Rattle.tsb_types.specs.declared.refusal.Refusal.{Refusal}
 use Rattle.tsb_bench.specs.tsb_machine.declared.commands.Answer.{Answer}
@@ -14,9 +14,18 @@ use Rattle.tsb_command_text.specs.declared.command.Command.{Command}
 use Rattle.tsb_command_text.specs.declared.command.Command.TheVariants.{Step, Back, Seek, Undo, Show, Quit, When}
 use Rattle.tsb_command_text.specs.declared.command.Reading.{Reading}
 use Rattle.tsb_command_text.specs.declared.command.Reading.TheVariants.{Skip, Bad, Do}
+use Rattle.tsb_command_text.specs.Readings.{reading}
+use Rattle.tsb_lines.specs.Lines.{lines_of}
+use Rattle.tsb_dialog.specs.declared.answers.Flow.{Flow}
+use Rattle.tsb_dialog.specs.declared.answers.Flow.TheVariants.{On, Over}
 use Rattle.tsb_text.specs.Answers.{Setup, next_tick}
+use Rattle.tsb_record.specs.declared.faults.FaultyLine.{FaultyLine}
+use Rattle.tsb_record.specs.declared.faults.LineFault.{LineFault}
+use Rattle.tsb_record.specs.declared.faults.LineFault.TheVariants as faults
+use Rattle.tsb_record.specs.declared.faults.OnFault.{OnFault}
 use Rattle.tsb_record.specs.Ended.{Carries, IsBegun}
-use Rattle.tsb_record.specs.Leaves.{Asked, Come, Ends, GoesOn, Leaves, Steps, fault_line, readings, refusal_in, refusal_text}
+use Rattle.tsb_record.specs.Faults.{fault_text}
+use Rattle.tsb_record.specs.Leaves.{Asked, Come, Does, End, Ends, Follows, Leaves, Steps, flow_after, quits, refusal_in, stop_at}
 
 -- ## Lines come to something
 
@@ -74,42 +83,47 @@ some-leaves given is (Seek t) = some-seek given is t
 some-leaves given is Undo = some-undo given is
 some-leaves given is c = some-input given is _
 
-some-goes : (given : Setup) (c : Command) (number : ℕ) (lines : List Reading) (new : List Input) → (left : List Input) × (rest : List ℕ) × Come given left number new lines rest
-    → (left : List Input) × (rest : List ℕ) × GoesOn c (Ends left) (λ now text. Come given left number now lines text) new rest
-some-goes given Quit number lines new k = (new, [], (refl, refl))
-some-goes given c number lines new k = k
+some-does : (given : Setup) (is : List Input) (r : Reading) → (fault : Option LineFault) × (new : List Input) × Does given is r fault new
+some-does given is Skip = (None, is, (refl, refl))
+some-does given is Bad = (Some faults.BadCommand, is, (refl, refl))
+some-does given is (Do c) = let l : (refusal : Option Refusal) × (new : List Input) × Leaves given is c refusal new = some-leaves given is c in (option_map faults.Refused l.0, l.1, (l.0, l.2, refl))
 
-some-come : (given : Setup) (lines : List Reading) (number : ℕ) (is : List Input) → (left : List Input) × (told : List ℕ) × Come given left number is lines told
-some-come given [] number is = (is, [], (refl, refl))
-some-come given (Skip ∷ lines) number is = some-come given lines (suc number) is
-some-come given (Bad ∷ lines) number is =
-    let k : (left : List Input) × (told : List ℕ) × Come given left (suc number) is lines told = some-come given lines (suc number) is in
-    (k.0, fault_line number (codes "bad command") ++ k.1, (k.1, refl, k.2))
-some-come given (Do c ∷ lines) number is =
-    let l : (refusal : Option Refusal) × (new : List Input) × Leaves given is c refusal new = some-leaves given is c in
-    let k : (left : List Input) × (rest : List ℕ) × GoesOn c (Ends left) (λ now text. Come given left (suc number) now lines text) l.1 rest =
-    some-goes given c (suc number) lines l.1 (some-come given lines (suc number) l.1) in
-    (k.0, refusal_text number l.0 ++ k.1, (l.0, k.1, l.1, l.2, refl, k.2))
+-- what follows a line comes to something too
+some-follows : (on_fault : OnFault) (given : Setup) (f : Flow) (number : ℕ) (new : List Input) (lines : List (List ℕ)) (stop : Option FaultyLine)
+    → (end : End) × (told : List ℕ) × Come on_fault given end number new lines told
+    → (end : End) × (rest : List ℕ) × Follows f (Come on_fault given end number new lines rest) (Ends end new stop rest)
+some-follows on_fault given On number new lines stop k = k
+some-follows on_fault given Over number new lines stop k = (record { inputs = new; stop = stop }, [], (refl, refl))
+
+some-come : (on_fault : OnFault) (given : Setup) (lines : List (List ℕ)) (number : ℕ) (is : List Input) → (end : End) × (told : List ℕ) × Come on_fault given end number is lines told
+some-come on_fault given [] number is = (record { inputs = is; stop = None }, [], (refl, refl))
+some-come on_fault given (line ∷ lines) number is =
+    let d : (fault : Option LineFault) × (new : List Input) × Does given is (reading line) fault new = some-does given is (reading line) in
+    let f : Flow = flow_after (quits (reading line)) (stop_at on_fault number d.0) in
+    let k : (end : End) × (rest : List ℕ) × Follows f (Come on_fault given end (suc number) d.1 lines rest) (Ends end d.1 (stop_at on_fault number d.0) rest) =
+    some-follows on_fault given f (suc number) d.1 lines (stop_at on_fault number d.0) (some-come on_fault given lines (suc number) d.1) in
+    (k.0, fault_text number line d.0 ++ k.1, (d.0, d.1, k.1, d.2, refl, k.2))
 
 -- ## What was told begins it
 
 -- what bytes come to that carry on is begun
-pub carries-begun : (given : Setup) (number : ℕ) (is : List Input) (bytes : List ℕ) (next : ℕ) (now : List Input) (held said : List ℕ) → Carries given number is bytes next now held said → IsBegun given number is bytes said
-carries-begun given number is bytes next now held said k = record {
-  rest = λ more. let some : (left : List Input) × (told : List ℕ) × Come given left next now (readings (held ++ more)) told = some-come given (readings (held ++ more)) next now in
+pub carries-begun : (on_fault : OnFault) (given : Setup) (number : ℕ) (is : List Input) (bytes : List ℕ) (next : ℕ) (now : List Input) (held said : List ℕ) → Carries on_fault given number is bytes next now held said
+    → IsBegun on_fault given number is bytes said
+carries-begun on_fault given number is bytes next now held said k = record {
+  rest = λ more. let some : (end : End) × (told : List ℕ) × Come on_fault given end next now (lines_of (held ++ more)) told = some-come on_fault given (lines_of (held ++ more)) next now in
       (some.0, some.1, k.on some.0 more some.1 some.2);
 }
 
 -- more bytes after those that are begun
-pub begun-more : (given : Setup) (number : ℕ) (is : List Input) (bytes more said : List ℕ) → IsBegun given number is bytes said → IsBegun given number is (bytes ++ more) said
-begun-more given number is bytes more said b = record {
-  rest = λ after. let some : (left : List Input) × (rest : List ℕ) × Come given left number is (readings (bytes ++ (more ++ after))) (said ++ rest) = b.rest (more ++ after) in
-      (some.0, some.1, subst (λ (v : List ℕ). Come given some.0 number is (readings v) (said ++ some.1)) (sym (append_assoc bytes more after)) some.2);
+pub begun-more : (on_fault : OnFault) (given : Setup) (number : ℕ) (is : List Input) (bytes more said : List ℕ) → IsBegun on_fault given number is bytes said → IsBegun on_fault given number is (bytes ++ more) said
+begun-more on_fault given number is bytes more said b = record {
+  rest = λ after. let some : (end : End) × (rest : List ℕ) × Come on_fault given end number is (lines_of (bytes ++ (more ++ after))) (said ++ rest) = b.rest (more ++ after) in
+      (some.0, some.1, subst (λ (v : List ℕ). Come on_fault given some.0 number is (lines_of v) (said ++ some.1)) (sym (append_assoc bytes more after)) some.2);
 }
 
 -- the first part of what begins it
-pub begun-front : (given : Setup) (number : ℕ) (is : List Input) (bytes said rest : List ℕ) → IsBegun given number is bytes (said ++ rest) → IsBegun given number is bytes said
-begun-front given number is bytes said rest b = record {
-  rest = λ more. let some : (left : List Input) × (after : List ℕ) × Come given left number is (readings (bytes ++ more)) ((said ++ rest) ++ after) = b.rest more in
-      (some.0, rest ++ some.1, subst (λ (v : List ℕ). Come given some.0 number is (readings (bytes ++ more)) v) (append_assoc said rest some.1) some.2);
+pub begun-front : (on_fault : OnFault) (given : Setup) (number : ℕ) (is : List Input) (bytes said rest : List ℕ) → IsBegun on_fault given number is bytes (said ++ rest) → IsBegun on_fault given number is bytes said
+begun-front on_fault given number is bytes said rest b = record {
+  rest = λ more. let some : (end : End) × (after : List ℕ) × Come on_fault given end number is (lines_of (bytes ++ more)) ((said ++ rest) ++ after) = b.rest more in
+      (some.0, rest ++ some.1, subst (λ (v : List ℕ). Come on_fault given some.0 number is (lines_of (bytes ++ more)) v) (append_assoc said rest some.1) some.2);
 }

@@ -1,5 +1,5 @@
 -- What lines leave is what remains of some commands with right answers.
-use Rattle.std.proofs.Common.{zero, suc, ◌≡◌, ℕ, List, [], ◌∷◌, subst, inl, inr}
+use Rattle.std.proofs.Common.{zero, suc, ◌≡◌, ℕ, List, [], ◌∷◌, ap, subst, inl, inr}
 use Rattle.std.specs.declared.option.Option.{Option}
 use Rattle.tsb_types.specs.declared.refusal.Refusal.{Refusal}
 use Rattle.tsb_bench.specs.tsb_machine.declared.commands.Answer.{Answer}
@@ -12,8 +12,14 @@ use Rattle.tsb_command_text.specs.declared.command.Command.{Command}
 use Rattle.tsb_command_text.specs.declared.command.Command.TheVariants.{Step, Show, Quit, When}
 use Rattle.tsb_command_text.specs.declared.command.Reading.{Reading}
 use Rattle.tsb_command_text.specs.declared.command.Reading.TheVariants.{Skip, Bad, Do}
+use Rattle.tsb_command_text.specs.Readings.{reading}
+use Rattle.tsb_dialog.specs.declared.answers.Flow.{Flow}
+use Rattle.tsb_dialog.specs.declared.answers.Flow.TheVariants.{On, Over}
 use Rattle.tsb_text.specs.Answers.{Setup, next_tick}
-use Rattle.tsb_record.specs.Leaves.{Asked, Come, Ends, GoesOn, Leaves, Steps}
+use Rattle.tsb_record.specs.declared.faults.FaultyLine.{FaultyLine}
+use Rattle.tsb_record.specs.declared.faults.LineFault.{LineFault}
+use Rattle.tsb_record.specs.declared.faults.OnFault.{OnFault}
+use Rattle.tsb_record.specs.Leaves.{Asked, Come, Does, End, Ends, Follows, Leaves, Steps, flow_after, quits, stop_at}
 
 -- commands with right answers lead from some inputs to others
 record Leads (plan : Plan) (is new : List Input) : Type 0 where
@@ -58,21 +64,25 @@ by-command given is Quit refusal new l = stay given.plan is new l.1
 by-command given is (When watch) refusal new l = stay given.plan is new l.1
 by-command given is c refusal new l = by-asked given is _ refusal new l
 
-by-rest : (given : Setup) (left new : List Input) (c : Command) (Rest : List Input → List ℕ → Type 0) (told : List ℕ) → ((text : List ℕ) → Rest new text → Leads given.plan new left) → GoesOn c (Ends left) Rest new told
-    → Leads given.plan new left
-by-rest given left new Quit Rest told rest g = stay given.plan new left g.1
-by-rest given left new c Rest told rest g = rest told g
+by-does : (given : Setup) (is : List Input) (r : Reading) (fault : Option LineFault) (new : List Input) → Does given is r fault new → Leads given.plan is new
+by-does given is Skip fault new d = stay given.plan is new d.1
+by-does given is Bad fault new d = stay given.plan is new d.1
+by-does given is (Do c) fault new d = by-command given is c d.0 new d.1
 
-by-lines : (given : Setup) (left : List Input) (lines : List Reading) (n : ℕ) (is : List Input) (told : List ℕ) → Come given left n is lines told → Leads given.plan is left
-by-lines given left [] n is told h = stay given.plan is left h.1
-by-lines given left (Skip ∷ lines) n is told h = by-lines given left lines (suc n) is told h
-by-lines given left (Bad ∷ lines) n is told h = by-lines given left lines (suc n) is h.0 h.2
-by-lines given left (Do c ∷ lines) n is told h =
-    then given.plan is h.2 left (by-command given is c h.0 h.2 h.3)
-    (by-rest given left h.2 c (λ new rest. Come given left (suc n) new lines rest) h.1 (λ text rest. by-lines given left lines (suc n) h.2 text rest) h.5)
+by-rest : (given : Setup) (f : Flow) (new : List Input) (end : End) (stop : Option FaultyLine) (Rest : Type 0) (told : List ℕ) → (Rest → Leads given.plan new end.inputs) → Follows f Rest (Ends end new stop told)
+    → Leads given.plan new end.inputs
+by-rest given On new end stop Rest told rest g = rest g
+by-rest given Over new end stop Rest told rest g = stay given.plan new end.inputs (ap (λ (e : End). e.inputs) g.1)
 
-pub lines_leave_what_remains : (given : Setup) (left : List Input) (lines : List Reading) (told : List ℕ) → Come given left 1 [] lines told
-    → (cs : List Cmd) × (ans : List Answer) × AreRight given.plan cs ans × (left ≡ remaining given.plan cs ans)
-lines_leave_what_remains given left lines told h =
-    let all : Leads given.plan [] left = by-lines given left lines 1 [] told h in
+by-lines : (on_fault : OnFault) (given : Setup) (end : End) (lines : List (List ℕ)) (n : ℕ) (is : List Input) (told : List ℕ) → Come on_fault given end n is lines told → Leads given.plan is end.inputs
+by-lines on_fault given end [] n is told h = stay given.plan is end.inputs (ap (λ (e : End). e.inputs) h.1)
+by-lines on_fault given end (line ∷ lines) n is told h =
+    then given.plan is h.1 end.inputs (by-does given is (reading line) h.0 h.1 h.3)
+    (by-rest given (flow_after (quits (reading line)) (stop_at on_fault n h.0)) h.1 end (stop_at on_fault n h.0) (Come on_fault given end (suc n) h.1 lines h.2) h.2
+    (λ rest. by-lines on_fault given end lines (suc n) h.1 h.2 rest) h.5)
+
+pub lines_leave_what_remains : (on_fault : OnFault) (given : Setup) (end : End) (lines : List (List ℕ)) (told : List ℕ) → Come on_fault given end 1 [] lines told
+    → (cs : List Cmd) × (ans : List Answer) × AreRight given.plan cs ans × (end.inputs ≡ remaining given.plan cs ans)
+lines_leave_what_remains on_fault given end lines told h =
+    let all : Leads given.plan [] end.inputs = by-lines on_fault given end lines 1 [] told h in
     (all.cs, all.ans, all.right, all.left)

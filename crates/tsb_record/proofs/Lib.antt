@@ -7,4 +7,5 @@ pub mod LineLemmas
 pub mod ComeLemmas
 pub mod EndLemmas
 pub mod CommandLemmas
+pub mod StopLemmas
 pub mod Examples

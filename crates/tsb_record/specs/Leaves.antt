@@ -1,7 +1,6 @@
 -- Which inputs remain after the commands of a session, and what is told of those that were refused. Inputs are piled up,
 -- the newest first, and the state is that of their replay. Commands that ask for no change leave all as it was.
-use Rattle.std.specs.Prelude.{◌≡◌, ◌⊎◌, ℕ, zero, suc, List, [], ◌∷◌, ◌++◌, Option, Some, None, codes, map}
-use Rattle.std.specs.Fmt.{decimal}
+use Rattle.std.specs.Prelude.{◌≡◌, ◌⊎◌, ℕ, zero, suc, Bool, true, false, List, [], ◌∷◌, ◌++◌, Option, Some, None, option_map}
 use Rattle.tsb_types.specs.declared.refusal.Refusal.{Refusal}
 use Rattle.tsb_bench.specs.tsb_machine.declared.commands.Command.TheVariants as asks
 use Rattle.tsb_bench.specs.tsb_machine.declared.commands.Answer.{Answer}
@@ -14,8 +13,15 @@ use Rattle.tsb_command_text.specs.declared.command.Command.TheVariants.{Step, Ba
 use Rattle.tsb_command_text.specs.declared.command.Reading.{Reading}
 use Rattle.tsb_command_text.specs.declared.command.Reading.TheVariants.{Skip, Bad, Do}
 use Rattle.tsb_command_text.specs.Readings.{reading}
-use Rattle.tsb_lines.specs.Lines.{lines_of}
-use Rattle.tsb_text.specs.Answers.{Setup, next_tick, refused_line}
+use Rattle.tsb_dialog.specs.declared.answers.Flow.{Flow}
+use Rattle.tsb_dialog.specs.declared.answers.Flow.TheVariants.{On, Over}
+use Rattle.tsb_text.specs.Answers.{Setup, next_tick}
+use Rattle.tsb_record.specs.declared.faults.OnFault.{OnFault}
+use Rattle.tsb_record.specs.declared.faults.OnFault.TheVariants.{Stop}
+use Rattle.tsb_record.specs.declared.faults.LineFault.{LineFault}
+use Rattle.tsb_record.specs.declared.faults.LineFault.TheVariants as faults
+use Rattle.tsb_record.specs.declared.faults.FaultyLine.{FaultyLine}
+use Rattle.tsb_record.specs.Faults.{fault_text}
 
 -- ## Commands
 
@@ -65,38 +71,47 @@ Leaves given is Reset refusal new = Asked given is (asks.Apply inputs.Reset) ref
 
 -- ## Lines
 
--- what is told of a line by its number, in these words
-abbrev pub fault_line : ℕ → List ℕ → List ℕ
-fault_line number words = codes "command " ++ (decimal number ++ (codes ": " ++ (words ++ 10 ∷ [])))
+-- what a line does that reads so: what is wrong with it, if anything, and which inputs remain
+abbrev pub Does : Setup → List Input → Reading → Option LineFault → List Input → Type 0
+Does given is Skip fault new = (fault ≡ None) × (new ≡ is)
+Does given is Bad fault new = (fault ≡ Some faults.BadCommand) × (new ≡ is)
+Does given is (Do c) fault new = (refusal : Option Refusal) × Leaves given is c refusal new × (fault ≡ option_map faults.Refused refusal)
 
--- what is told of a refusal, in the words of a session's answer
-abbrev pub refusal_text : ℕ → Option Refusal → List ℕ
-refusal_text number None = []
-refusal_text number (Some e) = fault_line number (refused_line e)
+-- a line that reads so is `quit`
+abbrev pub quits : Reading → Bool
+quits (Do Quit) = true
+quits r = false
 
--- a session that ends here leaves these inputs, and tells nothing more
-abbrev pub Ends : List Input → List Input → List ℕ → Type 0
-Ends left is told = (told ≡ []) × (left ≡ is)
+-- the line that ends a record: a strict one ends with a line with which something is wrong
+abbrev pub stop_at : OnFault → ℕ → Option LineFault → Option FaultyLine
+stop_at Stop number (Some fault) = Some (record { number = number; fault = fault })
+stop_at on_fault number fault = None
 
--- what follows a command: the end, where it is `quit`
-abbrev pub GoesOn : Command → (List Input → List ℕ → Type 0) → (List Input → List ℕ → Type 0) → List Input → List ℕ → Type 0
-GoesOn Quit End Rest is told = End is told
-GoesOn c End Rest is told = Rest is told
+-- whether a record goes on: after a line that is not `quit`, and that does not end it
+abbrev pub flow_after : Bool → Option FaultyLine → Flow
+flow_after false None = On
+flow_after is_quit stop = Over
 
--- what line `number` comes to, with what is told from it on
-abbrev pub Comes : Setup → ℕ → Reading → List Input → List ℕ → (List Input → List ℕ → Type 0) → (List Input → List ℕ → Type 0) → Type 0
-Comes given number Skip is told End Rest = Rest is told
-Comes given number Bad is told End Rest = (rest : List ℕ) × (told ≡ fault_line number (codes "bad command") ++ rest) × Rest is rest
-Comes given number (Do c) is told End Rest =
-    (refusal : Option Refusal) × (rest : List ℕ) × (new : List Input) × Leaves given is c refusal new
-    × (told ≡ refusal_text number refusal ++ rest) × GoesOn c End Rest new rest
+-- what a record comes to: the inputs that remain, and the line that ended it, where one did
+pub record End : Type 0 where
+  pub inputs : List Input
+  pub stop : Option FaultyLine
 
--- what lines come to that read so, the first of them with this number, where `is` remain before them: which inputs
--- remain then, and what is told
-abbrev pub Come : Setup → List Input → ℕ → List Input → List Reading → List ℕ → Type 0
-Come given left number is [] told = Ends left is told
-Come given left number is (r ∷ rs) told = Comes given number r is told (Ends left) (λ new rest. Come given left (suc number) new rs rest)
+-- a record that ends here comes to this, and nothing more is told
+abbrev pub Ends : End → List Input → Option FaultyLine → List ℕ → Type 0
+Ends end is stop told = (told ≡ []) × (end ≡ record { inputs = is; stop = stop })
 
--- how the lines of these bytes read
-abbrev pub readings : List ℕ → List Reading
-readings bytes = map reading (lines_of bytes)
+-- what follows a line: the rest, or the end
+abbrev pub Follows : Flow → Type 0 → Type 0 → Type 0
+Follows On Rest Ending = Rest
+Follows Over Rest Ending = Ending
+
+-- what these lines come to, the first of them with this number, where `is` remain before them: how the record ends, and
+-- what is told
+abbrev pub Come : OnFault → Setup → End → ℕ → List Input → List (List ℕ) → List ℕ → Type 0
+Come on_fault given end number is [] told = Ends end is None told
+Come on_fault given end number is (line ∷ lines) told =
+    (fault : Option LineFault) × (new : List Input) × (rest : List ℕ) × Does given is (reading line) fault new × (told ≡ fault_text number line fault ++ rest)
+    × Follows (flow_after (quits (reading line)) (stop_at on_fault number fault))
+    (Come on_fault given end (suc number) new lines rest)
+    (Ends end new (stop_at on_fault number fault) rest)

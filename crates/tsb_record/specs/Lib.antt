@@ -4,7 +4,9 @@ pub mod Told
 pub mod Along
 -- what holds of all events
 pub mod Laws
--- which inputs commands leave, and what is told of refused ones
+-- what is told of a line that is no command, or that is refused
+pub mod Faults
+-- which inputs commands leave, and how lines end a record
 pub mod Leaves
 -- what is told of a line
 pub mod Lines

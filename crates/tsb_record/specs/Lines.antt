@@ -1,35 +1,28 @@
--- What is told of a line, and which inputs it leaves.
-use Rattle.std.specs.Prelude.{◌≡◌, ℕ, List, [], Option, codes}
-use Rattle.tsb_types.specs.declared.refusal.Refusal.{Refusal}
+-- What is told of a line, and how far a record has come with it.
+use Rattle.std.specs.Prelude.{◌≡◌, ℕ, List, Option}
 use Rattle.tsb_step.specs.declared.inputs.Input.{Input}
-use Rattle.tsb_command_text.specs.declared.command.Command.{Command}
-use Rattle.tsb_command_text.specs.declared.command.Command.TheVariants.{Quit}
-use Rattle.tsb_command_text.specs.declared.command.Reading.{Reading}
-use Rattle.tsb_command_text.specs.declared.command.Reading.TheVariants.{Skip, Bad, Do}
 use Rattle.tsb_command_text.specs.Readings.{reading}
 use Rattle.tsb_dialog.specs.declared.answers.Flow.{Flow}
-use Rattle.tsb_dialog.specs.declared.answers.Flow.TheVariants.{On, Over}
 use Rattle.tsb_dialog.specs.Says.{Saying}
 use Rattle.tsb_text.specs.Answers.{Setup}
-use Rattle.tsb_record.specs.Leaves.{Leaves, fault_line, refusal_text}
+use Rattle.tsb_record.specs.declared.faults.OnFault.{OnFault}
+use Rattle.tsb_record.specs.declared.faults.LineFault.{LineFault}
+use Rattle.tsb_record.specs.Faults.{fault_text}
+use Rattle.tsb_record.specs.Leaves.{Does, End, flow_after, quits, stop_at}
 
--- what was given, and the inputs that remain
+-- what was given, whether the record is strict, and what it has come to
 pub record Course : Type 0 where
   pub given : Setup
-  pub inputs : List Input
+  pub on_fault : OnFault
+  pub end : End
 
--- whether a session goes on after a command
-abbrev pub flow_after : Command → Flow
-flow_after Quit = Over
-flow_after c = On
-
--- this is told of line `number`, which reads so, and these inputs remain then
-abbrev pub TellsLine : Setup → List Input → ℕ → Reading → List ℕ → Flow → List Input → Type 0
-TellsLine given is number Skip text flow left = (text ≡ []) × (flow ≡ On) × (left ≡ is)
-TellsLine given is number Bad text flow left = (text ≡ fault_line number (codes "bad command")) × (flow ≡ On) × (left ≡ is)
-TellsLine given is number (Do c) text flow left = (refusal : Option Refusal) × Leaves given is c refusal left
-    × (text ≡ refusal_text number refusal) × (flow ≡ flow_after c)
+-- this is told of line `number`, and the record comes to this, where these inputs remain before it
+abbrev pub TellsLine : OnFault → Setup → List Input → ℕ → List ℕ → List ℕ → Flow → End → Type 0
+TellsLine on_fault given is number line text flow end =
+    (fault : Option LineFault) × Does given is (reading line) fault end.inputs × (text ≡ fault_text number line fault)
+    × (end.stop ≡ stop_at on_fault number fault) × (flow ≡ flow_after (quits (reading line)) (stop_at on_fault number fault))
 
 -- this is told of a line with this number
 abbrev pub says : Saying Course
-says now number line text flow new = TellsLine now.given now.inputs number (reading line) text flow new.inputs × (new.given ≡ now.given)
+says now number line text flow new =
+    TellsLine now.on_fault now.given now.end.inputs number line text flow new.end × (new.given ≡ now.given) × (new.on_fault ≡ now.on_fault)

@@ -1,6 +1,7 @@
 -- How far a record has come: what its own calls tell one another.
-use Rattle.std.specs.Prelude.{◌≡◌, ◌⊎◌, ◌<◌, ◌+◌, ◌==◌, ℕ, List, [], ◌∷◌, Option, Result, Ok, Err, if◌then◌else◌}
+use Rattle.std.specs.Prelude.{◌≡◌, ◌⊎◌, ◌<◌, ◌+◌, ◌==◌, ℕ, List, [], ◌∷◌, Option, Some, None, Result, Ok, Err, if◌then◌else◌}
 use Rattle.tsb_types.specs.Sets.{all_off}
+use Rattle.tsb_types.specs.declared.event.Event.{Event}
 use Rattle.tsb_types.specs.declared.refusal.Refusal.{Refusal}
 use Rattle.tsb_types.specs.declared.row.Row.{Row}
 use Rattle.tsb_bench.specs.tsb_machine.declared.commands.Answer.TheVariants as answers
@@ -22,6 +23,9 @@ use Rattle.tsb_log_text.specs.Logs.{row_at}
 use Rattle.tsb_text.specs.Answers.{Setup}
 use Rattle.tsb_text.specs.declared.error.SessionError.{SessionError}
 use Rattle.tsb_text.specs.declared.error.SessionError.TheVariants.{Read, TooLarge, Write}
+use Rattle.tsb_record.specs.declared.faults.FaultyLine.{FaultyLine}
+use Rattle.tsb_record.specs.declared.recording.Outcome.{Outcome}
+use Rattle.tsb_record.specs.declared.recording.Outcome.TheVariants.{Events, Stopped}
 use Rattle.tsb_record.specs.Along.{Wants, telling}
 use Rattle.tsb_record.specs.Told.{Kept, Telling}
 
@@ -66,11 +70,16 @@ GoesBack (asks.Back n) = Unit {0}
 GoesBack (asks.Seek t) = Unit {0}
 GoesBack c = ⊥
 
--- a command was carried out, which leaves these inputs
-abbrev pub Done : Option Refusal → Setup → List LogRow → Whole → Telling → (Option Refusal → List Input → Type 0) → Type 0
-Done refusal given log bench told Leaves = (left : List Input) × Stands given log bench told left × Leaves refusal left
+-- a command or a line was carried out, which leaves these inputs; and this is wrong with it, if anything
+abbrev pub Done : {F : Type 0} → F → Setup → List LogRow → Whole → Telling → (F → List Input → Type 0) → Type 0
+Done fault given log bench told Leaves = (left : List Input) × Stands given log bench told left × Leaves fault left
 
 -- ## The end
+
+-- what a record gives that was ended by this line, or by none with these events told
+abbrev pub IsOutcome : Outcome → Option FaultyLine → List Event → Type 0
+IsOutcome (Events all) stop events = (stop ≡ None) × (all.items ≡ events)
+IsOutcome (Stopped line) stop events = stop ≡ Some line
 
 -- the fault of a record whose dialog ended with this one
 abbrev pub session_fault : DialogError → SessionError

@@ -1,5 +1,5 @@
 //! What holds of all events and of all records, each law the contract of a function that does nothing.
-ghost use Rattle.tsb_record.specs.Laws.{EventsHaveTheirTick, LinesLeaveWhatRemains};
+ghost use Rattle.tsb_record.specs.Laws.{EventsHaveTheirTick, LinesLeaveWhatRemains, NoLineStopsOthers, StrictRecordsStopAtTheFirst};
 
 /// Events have their tick. Each event of an input has the number of the tick that is in force after it. So what was
 /// told later than a tick is found without the inputs.
@@ -19,4 +19,24 @@ pub fn events_have_their_tick()
 /// Witness: `one_tick` and `taken_back` of Mistakes, a tick from power-up, and the same undone.
 pub fn records_are_of_what_remains()
     ensures { LinesLeaveWhatRemains }
+{}
+
+/// A strict record ends with the first faulty line. The line that ends it is the first that is no command or that is
+/// refused, out of memory included; what was told is the text of that line, and nothing else. Where no line ended it,
+/// nothing was told.
+///
+/// Needs: that the lines come to this end.
+/// Mistake: the second such line ends it, so that two are told (`would_tell_two`).
+/// Witness: `stopped` of Mistakes, a line that is no command before any other.
+pub fn strict_records_stop_at_the_first()
+    ensures { StrictRecordsStopAtTheFirst }
+{}
+
+/// No faulty line ends a record that goes on.
+///
+/// Needs: that the lines come to this end.
+/// Mistake: it ends as a strict one does, so that what comes after is left out (`would_leave_out`).
+/// Witness: `gone_on` of Mistakes, a line that is no command and a tick after it.
+pub fn no_line_stops_others()
+    ensures { NoLineStopsOthers }
 {}

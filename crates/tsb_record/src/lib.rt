@@ -1,10 +1,12 @@
 //! The record of a run: the events of the inputs that remain when the commands of a session end.
 #![tactic(auto)]
 
+mod faults;
 pub mod laws;
 mod recorder;
 mod recording;
 mod told;
 
-pub use recording::record;
+pub use faults::{FaultyLine, LineFault, OnFault};
+pub use recording::{Outcome, record};
 pub use told::{Mark, Told};

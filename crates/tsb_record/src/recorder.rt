@@ -8,15 +8,16 @@ ghost use Rattle.tsb_types.specs.declared.refusal.Refusal.TheVariants.{Memory};
 ghost use Rattle.tsb_log_text.specs.declared.log.LogRow.{LogRow};
 ghost use Rattle.tsb_log_text.specs.Logs.{row_at};
 ghost use Rattle.tsb_text.specs.Answers.{Setup};
-ghost use Rattle.tsb_record.specs.Leaves.{Asked, Leaves, Steps};
+ghost use Rattle.tsb_record.specs.Leaves.{Asked, Does, Leaves, Steps};
 ghost use Rattle.tsb_record.specs.Told.{gone_back, nothing_told};
 ghost use Rattle.tsb_record.specs.declared.told.Mark.{Mark};
 ghost use Rattle.tsb_record.specs.Recording.{AreOfLog, Done, GoesBack, IsNoTick, IsWanting, Stands, Took, row_in_force};
 
+use crate::faults::LineFault;
 use crate::told::Told;
 use std::alloc::Global;
 use tsb_bench::{Answer, Bench, Kind, answer};
-use tsb_command_text::Command;
+use tsb_command_text::{Command, Reading};
 use tsb_events::Events;
 use tsb_log_text::Log;
 use tsb_step::{Cmd, Input};
@@ -54,8 +55,24 @@ impl Recorder {
         self.told.into_events()
     }
 
+    /// Carries out a line that reads so, and says what is wrong with it, if anything. It takes the rows of ticks from
+    /// `log`.
+    pub(crate) fn carry_out(&mut self, log: &Log, reading: Reading) -> Option<LineFault>
+        ensures { (given : Setup) (inputs : List InputValue) → Stands given log.now (whole self.old.bench) self.old.told.told inputs
+            → Done result given log.now (whole self.new.bench) self.new.told.told (Does given inputs reading) }
+    {
+        match reading {
+            Reading::Skip => None,
+            Reading::Bad => Some(LineFault::BadCommand),
+            Reading::Do(command) => match self.obey(log, command) {
+                Some(refusal) => Some(LineFault::Refused(refusal)),
+                None => None,
+            },
+        }
+    }
+
     /// Carries out a command, and says why it was refused, where it was. It takes the rows of ticks from `log`.
-    pub(crate) fn obey(&mut self, log: &Log, command: Command) -> Option<Refusal>
+    fn obey(&mut self, log: &Log, command: Command) -> Option<Refusal>
         ensures { (given : Setup) (inputs : List InputValue) → Stands given log.now (whole self.old.bench) self.old.told.told inputs
             → Done result given log.now (whole self.new.bench) self.new.told.told (Leaves given inputs command) }
     {

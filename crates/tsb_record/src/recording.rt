@@ -1,16 +1,15 @@
 //! The commands of a record: they are carried out, and what is refused is told.
-ghost use Rattle.std.specs.Prelude.{◌≡◌, ◌≤◌, [], length, OnErr, OnOk};
+ghost use Rattle.std.specs.Prelude.{◌≡◌, ◌++◌, ℕ, List, OnOk};
 ghost use Rattle.tsb_objects.specs.Checked.{checked_plan};
 ghost use Rattle.tsb_dialog.specs.Pended.{AfterWrites, IsWell};
-ghost use Rattle.tsb_dialog.specs.Said.{Said, with_feed};
-ghost use Rattle.tsb_record.specs.Ended.{Ended, events_in};
-ghost use Rattle.tsb_record.specs.Leaves.{fault_line, refusal_text};
-ghost use Rattle.tsb_record.specs.Lines.{flow_after};
-ghost use Rattle.tsb_record.specs.Recording.{session_fault};
+ghost use Rattle.tsb_dialog.specs.Said.{Said, Wrote};
+ghost use Rattle.tsb_record.specs.Ended.{Ended};
+ghost use Rattle.tsb_record.specs.Faults.{fault_text};
+ghost use Rattle.tsb_record.specs.Leaves.{flow_after, quits};
+ghost use Rattle.tsb_record.specs.Recording.{IsOutcome, session_fault};
 
+use crate::faults::{FaultyLine, LineFault, OnFault, fault_line, stop_at};
 use crate::recorder::Recorder;
-use arrayvec::ArrayVec;
-use itoa::Buffer;
 use std::alloc::Global;
 use std::io::{Read, Write};
 use tsb_bench::Bench;
@@ -18,11 +17,17 @@ use tsb_command_text::{Command, Reading, reading_of};
 use tsb_dialog::{Answers, DialogError, Flow, Pending, WriteError, converse};
 use tsb_log_text::Log;
 use tsb_objects::Checked;
-use tsb_text::{COMMANDS, SessionError, refused_line};
-use tsb_types::{Event, Refusal};
+use tsb_text::{COMMANDS, SessionError};
+use tsb_types::Event;
 
-/// The greatest length of a line that is told, without its line feed, in bytes.
-const LINE: usize = 63;
+/// What came of the commands of a record.
+#[derive(Drop)]
+pub enum Outcome {
+    /// They came to their end: the events of the inputs that remain, the oldest first.
+    Events(Vec<Event>),
+    /// This line ended a strict record. It is the first that is no command, or that was refused.
+    Stopped(FaultyLine),
+}
 
 /// What carries out the commands of a record: the bench with what was told, and the log that its ticks take their rows
 /// from.
@@ -30,16 +35,20 @@ const LINE: usize = 63;
 struct Recording<'a> {
     recorder: Recorder,
     log: &'a Log,
+    on_fault: OnFault,
+    /// The line that ended the record, once it has come.
+    stop: Option<FaultyLine>,
 }
 
 impl Answers for Recording<'_> {
+    ghost use Rattle.std.specs.Prelude.{◌≡◌};
     ghost use Rattle.tsb_bench.specs.Held.{whole};
     ghost use Rattle.tsb_record.specs.Lines.{Course, says};
     ghost use Rattle.tsb_record.specs.Recording.{Stands};
 
     ghost State = { Course };
 
-    ghost stands = { λ r s. Stands s.given r.log.now (whole r.recorder.bench) r.recorder.told.told s.inputs };
+    ghost stands = { λ r s. Stands s.given r.log.now (whole r.recorder.bench) r.recorder.told.told s.end.inputs × (r.on_fault ≡ s.on_fault) × (r.stop ≡ s.end.stop) };
 
     ghost says = { says };
 
@@ -50,77 +59,51 @@ impl Answers for Recording<'_> {
         pending: &mut Pending,
         writer: &mut W,
     ) -> Result<Flow, WriteError> {
-        match reading_of(line) {
-            Reading::Skip => Ok(Flow::On),
-            Reading::Bad => {
-                tell_fault(number, b"bad command", pending, writer)?;
-                Ok(Flow::On)
-            }
-            Reading::Do(command) => {
-                let flow = flow_after(&command);
-                let refusal = self.recorder.obey(self.log, command);
-                tell_refusal(number, refusal, pending, writer)?;
-                Ok(flow)
-            }
-        }
+        let reading = reading_of(line);
+        let is_quit = quits(&reading);
+        let fault = self.recorder.carry_out(self.log, reading);
+        self.stop = stop_at(self.on_fault, number, fault);
+        tell(number, line, &fault, pending, writer)?;
+        Ok(flow_after(is_quit, self.stop))
     }
 }
 
-/// Whether a session goes on after a command.
-fn flow_after(command: &Command) -> Flow
-    ensures { result ≡ flow_after command.now }
+/// Whether a line that reads so is `quit`.
+fn quits(reading: &Reading) -> bool
+    ensures { result ≡ quits reading.now }
 {
-    match command {
-        Command::Quit => Flow::Over,
-        _ => Flow::On,
+    match reading {
+        Reading::Do(Command::Quit) => true,
+        _ => false,
     }
 }
 
-/// Tells of a refusal by the number of its line, where there is one.
-fn tell_refusal<W: Write>(
+/// Whether a record goes on after a line, which is `quit` or not, and ended it or did not.
+fn flow_after(is_quit: bool, stop: Option<FaultyLine>) -> Flow
+    ensures { result ≡ flow_after is_quit stop }
+{
+    match (is_quit, stop) {
+        (false, None) => Flow::On,
+        _ => Flow::Over,
+    }
+}
+
+/// Tells of a line by its number, where something is wrong with it.
+fn tell<W: Write>(
     number: u32,
-    refusal: Option<Refusal>,
+    line: &[u8],
+    fault: &Option<LineFault>,
     pending: &mut Pending,
     writer: &mut W,
 ) -> Result<(), WriteError>
-    ensures ok { OnOk result (Said (W.contents writer.old) (W.contents writer.new) pending.old.waits pending.new.waits (refusal_text number refusal)) }
-    ensures fault { OnErr result (Said (W.contents writer.old) (W.contents writer.new) pending.old.waits pending.new.waits []) }
+    ensures ok { OnOk result (Said (W.contents writer.old) (W.contents writer.new) pending.old.waits pending.new.waits (fault_text number line.now fault.now)) }
+    ensures front { Wrote (W.contents writer.old) (W.contents writer.new) pending.old.waits pending.new.waits (λ said. (rest : List ℕ) × (fault_text number line.now fault.now ≡ said ++ rest)) }
     ensures blame { IsWell pending.old → AfterWrites result pending.new }
 {
-    match refusal {
-        Some(refusal) => tell_fault(number, refused_line(refusal), pending, writer),
+    match fault {
+        Some(fault) => pending.add(writer, &fault_line(number, line, *fault)),
         None => Ok(()),
     }
-}
-
-/// Tells of a line by its number, in these words.
-fn tell_fault<W: Write>(
-    number: u32,
-    words: &[u8],
-    pending: &mut Pending,
-    writer: &mut W,
-) -> Result<(), WriteError>
-    requires { length words.now ≤ 43 }
-    ensures ok { OnOk result (Said (W.contents writer.old) (W.contents writer.new) pending.old.waits pending.new.waits (fault_line number words.now)) }
-    ensures fault { OnErr result (Said (W.contents writer.old) (W.contents writer.new) pending.old.waits pending.new.waits []) }
-    ensures blame { IsWell pending.old → AfterWrites result pending.new }
-{
-    pending.say(writer, &fault_text(number, words))
-}
-
-/// What is told of a line by its number, in these words, without its line feed.
-fn fault_text(number: u32, words: &[u8]) -> ArrayVec<u8, LINE>
-    requires { length words.now ≤ 43 }
-    ensures text { with_feed result.items ≡ fault_line number words.now }
-    ensures short { length result.items ≤ 63 }
-{
-    let mut digits = Buffer::new();
-    let mut text = ArrayVec::new();
-    let _ = text.try_extend_from_slice(b"command ");
-    let _ = text.try_extend_from_slice(digits.format(number).as_bytes());
-    let _ = text.try_extend_from_slice(b": ");
-    let _ = text.try_extend_from_slice(words);
-    text
 }
 
 /// The fault of a record whose dialog ended with this one.
@@ -134,13 +117,25 @@ fn session_fault(fault: DialogError) -> SessionError
     }
 }
 
+/// What a record gives that this line has ended, or none.
+fn outcome_of(recorder: Recorder, stop: Option<FaultyLine>) -> Outcome
+    ensures { IsOutcome result stop recorder.told.told.events }
+{
+    match stop {
+        Some(line) => Outcome::Stopped(line),
+        None => Outcome::Events(recorder.into_events()),
+    }
+}
+
 /// The record of a run: reads commands as a session of `tsb run` does, carries them out, and gives the events of the
 /// inputs that remain, the oldest first. The bench begins at power-up with the plan, and its ticks take the rows of the
 /// log. A line `quit` ends the commands, and nothing more is read.
 ///
-/// Each input that is refused and each line that is no command is told on `errors` by a line, `command 12: refused E9
-/// NoSuchPattern` or `command 12: bad command`: the number is that of its line, from 1, and lines that are skipped count
-/// too. What is told goes out before the next read. What a command only asks is not answered.
+/// Each line that is no command, or that is refused, is told on `errors` by a line, `command 12: pattern 99: refused E9
+/// NoSuchPattern` or `command 12: patern 1: bad command`: the number is that of its line, from 1, and lines that are
+/// skipped count too. Of its own text at most 200 bytes are told, with `?` for each that is no printable ASCII. What is
+/// told goes out before the next read. The first such line ends a strict record (`OnFault::Stop`), which has no events
+/// then, and nothing more is read. What a command only asks is not answered.
 ///
 /// A fault ends the record; what was told until then is a prefix of what is to be told. `TooLarge` comes where there is a
 /// byte after the first 16 MiB, once the whole lines within them were carried out, and `Memory` where there is none for
@@ -149,10 +144,11 @@ pub fn record<R: Read, E: Write>(
     alloc: Global,
     plan: Checked,
     log: &Log,
+    on_fault: OnFault,
     reader: &mut R,
     errors: &mut E,
-) -> Result<Vec<Event>, SessionError>
-    ensures { Ended (events_in result) (record { plan = checked_plan plan; log = log.now })
+) -> Result<Outcome, SessionError>
+    ensures { Ended result on_fault (record { plan = checked_plan plan; log = log.now })
         (R.remaining reader.old) (R.remaining reader.new) (E.contents errors.old) (E.contents errors.new) }
 {
     let Ok(bench) = Bench::power_up(alloc, plan) else {
@@ -161,9 +157,11 @@ pub fn record<R: Read, E: Write>(
     let mut recording = Recording {
         recorder: Recorder::new(alloc, bench),
         log,
+        on_fault,
+        stop: None,
     };
     match converse(&mut recording, COMMANDS, reader, errors) {
-        Ok(()) => Ok(recording.recorder.into_events()),
+        Ok(()) => Ok(outcome_of(recording.recorder, recording.stop)),
         Err(fault) => Err(session_fault(fault)),
     }
 }

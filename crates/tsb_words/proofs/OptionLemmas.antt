@@ -1,12 +1,12 @@
 -- What options say, by what the getters of `clap` answer.
-use Rattle.std.proofs.Common.{◌≡◌, ◌∙◌, List, Option, Some, None, [], ap, sym, codes, option_and_then, option_map, unwrap_or}
+use Rattle.std.proofs.Common.{◌≡◌, ◌∙◌, Bool, List, Option, Some, None, [], ap, sym, codes, option_and_then, option_map, unwrap_or}
 use Rattle.clap.specs.Matches.{first_value, matched_of, raw_values}
 use Rattle.clap.specs.Walk.{Text, first_of, rows_of}
 use Rattle.clap.specs.declared.parser.matches.Found.{Found}
 use Rattle.clap.proofs.WalkLemmas.{first_value-rows, raw_values-rows}
 use Rattle.tsb_event_text.specs.Times.{moment_of}
 use Rattle.tsb_event_text.specs.declared.times.Moment.{Moment}
-use Rattle.tsb_words.specs.FieldProgram.{diagram_in, diagram_with, events_in, events_with, log_in, log_with, moment_in, record_in, record_with, seconds_said, texts_in, wires_in}
+use Rattle.tsb_words.specs.FieldProgram.{diagram_in, diagram_with, events_in, events_with, is_set, log_in, log_with, moment_in, record_in, record_with, seconds_said, texts_in, wires_in}
 use Rattle.tsb_field_log.specs.declared.inputs.Wire.{Wire}
 use Rattle.tsb_words.specs.FieldWords.{Wish, log}
 
@@ -21,14 +21,15 @@ pub moment_some : (f : Found) (text : Text) → Some text ≡ first_value f (cod
 moment_some f text e = ap (option_and_then moment_of) (first_is f (codes "from") (Some text) e)
 
 -- what `record` asks for, by what the getters answer
-pub getters_record : (f : Found) (asked : Option Wish) (from : Option Moment) (device plan file : Option Text)
+pub getters_record : (f : Found) (asked : Option Wish) (from : Option Moment) (device plan file flag : Option Text) (goes_on : Bool)
     → from ≡ moment_in (rows_of f) → device ≡ first_value f (codes "device") → plan ≡ first_value f (codes "PLAN") → file ≡ first_value f (codes "LOG")
-    → asked ≡ record_with from device plan file → asked ≡ record_in (rows_of f)
-getters_record f asked from device plan file from-is device-is plan-is file-is is =
+    → flag ≡ first_value f (codes "go-on") → goes_on ≡ is_set flag → asked ≡ record_with from device plan file goes_on → asked ≡ record_in (rows_of f)
+getters_record f asked from device plan file flag goes_on from-is device-is plan-is file-is flag-is set-is is =
     let device-there : device ≡ first_of (codes "device") (rows_of f) = sym (first_is f (codes "device") device device-is) in
     let plan-there : plan ≡ first_of (codes "PLAN") (rows_of f) = sym (first_is f (codes "PLAN") plan plan-is) in
     let file-there : file ≡ first_of (codes "LOG") (rows_of f) = sym (first_is f (codes "LOG") file file-is) in
-    is ∙ (λ j. record_with (from-is j) (device-there j) (plan-there j) (file-there j))
+    let goes-there : goes_on ≡ is_set (first_of (codes "go-on") (rows_of f)) = set-is ∙ ap is_set (sym (first_is f (codes "go-on") flag flag-is)) in
+    is ∙ (λ j. record_with (from-is j) (device-there j) (plan-there j) (file-there j) (goes-there j))
 
 -- what `events` asks for
 pub getters_events : (f : Found) (asked : Option Wish) (from : Option Moment) (device file : Option Text)

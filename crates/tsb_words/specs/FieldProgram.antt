@@ -2,7 +2,7 @@
 use Rattle.std.specs.Prelude.{◌≡◌, Bool, true, false, if◌then◌else◌, Option, Some, None, option_and_then, option_map, unwrap_or, List, [], ◌∷◌, ◌++◌, ℕ, codes, bytes_eq, Result}
 use Rattle.clap.specs.Simple.{App, Shape, app_of, new_rule, new_shape}
 use Rattle.clap.specs.Walk.{Row, Rule, Text, all_of, first_of}
-use Rattle.clap.specs.declared.builder.action.ArgAction.TheVariants.{Append}
+use Rattle.clap.specs.declared.builder.action.ArgAction.TheVariants.{Append, SetTrue}
 use Rattle.clap.specs.declared.builder.command.Command.{Command}
 use Rattle.clap.specs.declared.builder.command.Command.TheViews.{out-Command}
 use Rattle.tsb_event_text.specs.Events.{can_be_written}
@@ -32,6 +32,10 @@ file_rule name = record (new_rule name) { required = true }
 abbrev pub repeated_rule : Text → Rule
 repeated_rule name = record (option_rule name) { action = Some Append }
 
+-- a flag, that may come once
+abbrev pub flag_rule : Text → Rule
+flag_rule name = record (option_rule name) { action = Some SetTrue }
+
 -- a subcommand with these options
 abbrev pub shape_with : Text → List Rule → Shape
 shape_with name rules = record (new_shape name) { rules = rules }
@@ -45,15 +49,19 @@ abbrev pub log_shape : Shape
 log_shape = shape_with (codes "log")
     (required_rule (codes "from") ∷ option_rule (codes "device") ∷ wire_rules)
 
+-- the options of events that are written
+abbrev pub source_rules : List Rule
+source_rules = required_rule (codes "from") ∷ required_rule (codes "device") ∷ []
+
 -- those of `record`
 abbrev pub record_shape : Shape
 record_shape = shape_with (codes "record")
-    (file_rule (codes "PLAN") ∷ file_rule (codes "LOG") ∷ required_rule (codes "from") ∷ required_rule (codes "device") ∷ [])
+    (file_rule (codes "PLAN") ∷ file_rule (codes "LOG") ∷ flag_rule (codes "go-on") ∷ source_rules)
 
 -- those of `events`
 abbrev pub events_shape : Shape
 events_shape = shape_with (codes "events")
-    (required_rule (codes "from") ∷ required_rule (codes "device") ∷ option_rule (codes "log") ∷ [])
+    (option_rule (codes "log") ∷ source_rules)
 
 -- those of `diagram`
 abbrev pub diagram_shape : Shape
@@ -110,16 +118,22 @@ log_with from device wires = None
 abbrev pub log_in : List Row → Option Wish
 log_in rows = log_with (moment_in rows) (first_of (codes "device") rows) (wires_in rows)
 
+-- whether a flag was set, which `clap` writes as its value
+abbrev pub is_set : Option Text → Bool
+is_set None = false
+is_set (Some value) = bytes_eq value (codes "true")
+
 -- a record, where it is said from when, of which device and of which files, and a line can name that device
-abbrev pub record_with : Option Moment → Option Text → Option Text → Option Text → Option Wish
-record_with (Some from) (Some device) (Some plan) (Some file) =
-    if can_be_written device then Some (recording from device plan file) else None
-record_with from device plan file = None
+abbrev pub record_with : Option Moment → Option Text → Option Text → Option Text → Bool → Option Wish
+record_with (Some from) (Some device) (Some plan) (Some file) goes_on =
+    if can_be_written device then Some (recording from device plan file goes_on) else None
+record_with from device plan file goes_on = None
 
 -- what `record` asks for, with these options and files
 abbrev pub record_in : List Row → Option Wish
 record_in rows =
     record_with (moment_in rows) (first_of (codes "device") rows) (first_of (codes "PLAN") rows) (first_of (codes "LOG") rows)
+    (is_set (first_of (codes "go-on") rows))
 
 -- events, where it is said from when and of which device, and a line can name that
 abbrev pub events_with : Option Moment → Option Text → Option Text → Option Wish

@@ -1,5 +1,5 @@
 -- What words of `tsb_field` may ask for.
-use Rattle.std.specs.Prelude.{◌≡◌, ℕ, ◌&&◌, nat_le, List, Option, Some, None, option_map, Result, Ok, Err, if◌then◌else◌}
+use Rattle.std.specs.Prelude.{◌≡◌, ℕ, Bool, ◌&&◌, nat_le, List, Option, Some, None, option_map, Result, Ok, Err, if◌then◌else◌}
 use Rattle.tsb_lines.specs.Words.{number_of}
 use Rattle.tsb_event_text.specs.declared.times.Moment.{Moment}
 use Rattle.tsb_field_log.specs.declared.inputs.Wire.{Wire}
@@ -11,8 +11,9 @@ use Rattle.tsb_words.specs.declared.field_files.Asked.TheVariants as asks
 pub data Wish : Type 0 where
   -- a log from this moment on, of this device or of each, on these wires
   log : Moment → Option (List ℕ) → List Wire → Wish
-  -- a record from this moment on, of this device, with the plan and the log in these files
-  recording : Moment → List ℕ → List ℕ → List ℕ → Wish
+  -- a record from this moment on, of this device, with the plan and the log in these files; whether it goes on after a
+  -- line that is refused or is no command
+  recording : Moment → List ℕ → List ℕ → List ℕ → Bool → Wish
   -- events from this moment on, of this device, with the log in this file
   events : Moment → List ℕ → Option (List ℕ) → Wish
   -- a diagram with the log in this file, with this title and so many seconds a line
@@ -30,6 +31,6 @@ seconds_of digits = seconds_at (number_of digits)
 -- what was answered, by the text of each name
 abbrev pub seen : Asked → Wish
 seen (asks.Log from device wires) = log from (option_map (λ name. name.now) device) wires.items
-seen (asks.Record from device plan file) = recording from device.now plan.now file.now
+seen (asks.Record from device plan file goes_on) = recording from device.now plan.now file.now goes_on
 seen (asks.Events from device file) = events from device.now (option_map (λ name. name.now) file)
 seen (asks.Diagram file title seconds) = diagram (option_map (λ name. name.now) file) (option_map (λ name. name.now) title) seconds

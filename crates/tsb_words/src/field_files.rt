@@ -2,7 +2,7 @@
 ghost use Rattle.std.specs.Prelude.{◌≡◌, map, option_map};
 ghost use Rattle.clap.specs.Words.{found_of, rows_of};
 ghost use Rattle.clap.specs.Simple.{subcommand_rows_of};
-ghost use Rattle.tsb_words.specs.FieldProgram.{Spells, asked_by, diagram_in, diagram_with, events_in, events_with, log_in, record_in, record_with, seconds_said, wires_in};
+ghost use Rattle.tsb_words.specs.FieldProgram.{Spells, asked_by, diagram_in, diagram_with, events_in, events_with, is_set, log_in, record_in, record_with, seconds_said, wires_in};
 ghost use Rattle.tsb_words.specs.FieldWords.{seen};
 ghost use Rattle.tsb_words.specs.Wires.{AreSpelled};
 ghost use Rattle.tsb_words.specs.Words.{SpelledBy};
@@ -46,6 +46,8 @@ pub enum Asked<'a> {
         plan: &'a str,
         /// The file of the log of inputs.
         log: &'a str,
+        /// Whether the run goes on after a line that is refused or is no command.
+        goes_on: bool,
     },
     /// Events of a controller's log, made from display lines.
     Events {
@@ -71,7 +73,7 @@ pub enum Asked<'a> {
 ///
 /// `log` has `--from TIME`, and may have `--device ID` and any number of `--vehicle CHANNEL=DETECTOR`,
 /// `--pedestrian CHANNEL=DETECTOR` and `--preempt CHANNEL=INPUT`; `record` has `--from TIME`, `--device ID`, and the
-/// files of a plan and a log; `events` has `--from TIME` and `--device ID`, and may have `--log LOG`; `diagram` may have
+/// files of a plan and a log, and may have `--go-on`; `events` has `--from TIME` and `--device ID`, and may have `--log LOG`; `diagram` may have
 /// `--log LOG`, `--title TEXT` and `--seconds-per-line N`. Options come in any order, and `--NAME=VALUE` is
 /// `--NAME VALUE`. A value that begins with a hyphen comes after `=`. All else is `Bad`, and so are a request for help
 /// and a device of `record` or `events` with a double quote, an end of a line or over 900 bytes. `Memory` may come in
@@ -142,7 +144,18 @@ fn record_asked<'a>(options: &ArgMatches<'a>) -> Option<Asked<'a>>
     let device = options.get_str("device");
     let plan = options.get_str("PLAN");
     let log = options.get_str("LOG");
-    record_with(from, device, plan, log)
+    let goes_on = is_set(options.get_str("go-on"));
+    record_with(from, device, plan, log, goes_on)
+}
+
+/// Whether a flag was set, which `clap` writes as its value.
+fn is_set(value: Option<&str>) -> bool
+    ensures { result ≡ is_set (option_map (λ text. text.now) value.entry) }
+{
+    match value {
+        Some(text) => text == "true",
+        None => false,
+    }
 }
 
 /// A record, where it is said from when, of which device and of which files, and a line can name that device.
@@ -151,9 +164,10 @@ fn record_with<'a>(
     device: Option<&'a str>,
     plan: Option<&'a str>,
     log: Option<&'a str>,
+    goes_on: bool,
 ) -> Option<Asked<'a>>
     ensures { option_map seen result
-        ≡ record_with from (option_map (λ text. text.now) device.entry) (option_map (λ text. text.now) plan.entry) (option_map (λ text. text.now) log.entry) }
+        ≡ record_with from (option_map (λ text. text.now) device.entry) (option_map (λ text. text.now) plan.entry) (option_map (λ text. text.now) log.entry) goes_on }
 {
     let from = from?;
     let device = device?;
@@ -165,6 +179,7 @@ fn record_with<'a>(
             device,
             plan,
             log,
+            goes_on,
         });
     }
     None

@@ -1,9 +1,10 @@
 -- Words and what they ask for, computed.
-use Rattle.std.proofs.Common.{◌≡◌, List, [], ◌∷◌, Some, None, refl, codes}
+use Rattle.std.proofs.Common.{◌≡◌, Bool, true, false, List, [], ◌∷◌, Option, Some, None, option_map, refl, codes}
 use Rattle.clap.specs.Walk.{Text}
 use Rattle.clap.proofs.OnLiterals.{clap_on_literals}
 use Rattle.tsb_words.specs.FieldProgram.{wish_of}
-use Rattle.tsb_words.specs.FieldWords.{diagram}
+use Rattle.tsb_event_text.specs.Times.{moment_of}
+use Rattle.tsb_words.specs.FieldWords.{Wish, diagram, recording}
 
 -- these words after the program's name
 abbrev given : List Text → List Text
@@ -37,3 +38,27 @@ apart = refl
 no-log : wish_of (given (codes "record" ∷ codes "--from=2026-11-22T07:00:00" ∷ codes "--device=7" ∷ codes "a.plan" ∷ [])) ≡ None
 unfolding clap_on_literals
 no-log = refl
+
+-- and is strict, unless a flag says that it goes on
+abbrev record_of : List Text → Option Wish
+record_of more = wish_of (given (codes "record" ∷ codes "--from=2026-11-22T07:00:00" ∷ codes "--device=7" ∷ codes "a.plan" ∷ codes "a.log" ∷ more))
+
+abbrev record_wished : Bool → Option Wish
+record_wished goes_on = option_map (λ from. recording from (codes "7") (codes "a.plan") (codes "a.log") goes_on) (moment_of (codes "2026-11-22T07:00:00"))
+
+strict : record_of [] ≡ record_wished false
+unfolding clap_on_literals moment_of
+strict = refl
+
+goes-on : record_of (codes "--go-on" ∷ []) ≡ record_wished true
+unfolding clap_on_literals moment_of
+goes-on = refl
+
+-- it has no value, and comes once
+with-value : record_of (codes "--go-on=true" ∷ []) ≡ None
+unfolding clap_on_literals
+with-value = refl
+
+twice : record_of (codes "--go-on" ∷ codes "--go-on" ∷ []) ≡ None
+unfolding clap_on_literals
+twice = refl

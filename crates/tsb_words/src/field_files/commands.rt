@@ -1,7 +1,7 @@
 //! The command of the program, as `clap` reads it.
 ghost use Rattle.std.specs.Prelude.{◌≡◌, IfOk, false};
 ghost use Rattle.clap.specs.Words.{app_of, rule_of};
-ghost use Rattle.tsb_words.specs.FieldProgram.{IsLeaf, diagram_shape, events_shape, file_rule, log_shape, option_rule, program, has_globals, record_shape, repeated_rule, required_rule, wire_rules, with_rules};
+ghost use Rattle.tsb_words.specs.FieldProgram.{IsLeaf, diagram_shape, events_shape, file_rule, flag_rule, log_shape, option_rule, program, has_globals, record_shape, repeated_rule, required_rule, source_rules, wire_rules, with_rules};
 
 use clap::{Arg, ArgAction, Command};
 use std::alloc::{AllocError, Global};
@@ -45,9 +45,18 @@ fn with_wires<'a>(alloc: Global, command: Command<'a>) -> Result<Command<'a>, Al
 fn record_command<'a>(alloc: Global) -> Result<Command<'a>, AllocError>
     ensures { IfOk result (IsLeaf record_shape) }
 {
-    Command::new(alloc, "record")
+    let files = Command::new(alloc, "record")
         .arg(file(alloc, "PLAN"))?
         .arg(file(alloc, "LOG"))?
+        .arg(flag(alloc, "go-on"))?;
+    with_source(alloc, files)
+}
+
+/// The command with the options of the events that are written.
+fn with_source<'a>(alloc: Global, command: Command<'a>) -> Result<Command<'a>, AllocError>
+    ensures { IfOk result (λ more. (app_of more ≡ with_rules source_rules (app_of command.entry)) × (has_globals more ≡ has_globals command.entry)) }
+{
+    command
         .arg(required(alloc, "from"))?
         .arg(required(alloc, "device"))
 }
@@ -56,10 +65,8 @@ fn record_command<'a>(alloc: Global) -> Result<Command<'a>, AllocError>
 fn events_command<'a>(alloc: Global) -> Result<Command<'a>, AllocError>
     ensures { IfOk result (IsLeaf events_shape) }
 {
-    Command::new(alloc, "events")
-        .arg(required(alloc, "from"))?
-        .arg(required(alloc, "device"))?
-        .arg(option(alloc, "log"))
+    let log = Command::new(alloc, "events").arg(option(alloc, "log"))?;
+    with_source(alloc, log)
 }
 
 /// `diagram`.
@@ -94,6 +101,14 @@ fn required<'a>(alloc: Global, name: &'a str) -> Arg<'a>
     ensures own { result.global ≡ false }
 {
     option(alloc, name).required(true)
+}
+
+/// A flag, `--NAME`, that may come once.
+fn flag<'a>(alloc: Global, name: &'a str) -> Arg<'a>
+    ensures rule { rule_of result ≡ flag_rule name.now }
+    ensures own { result.global ≡ false }
+{
+    option(alloc, name).action(ArgAction::SetTrue)
 }
 
 /// An option that may come several times, with a value each.

@@ -2,14 +2,14 @@ use Rattle.std.proofs.Common.{◌∙◌, Ok, Some, ap}
 use Rattle.tsb_words.specs.FieldWords.{seen}
 use Rattle.tsb_words.specs.declared.field_files.Asked.{Asked}
 use Rattle.tsb_words.specs.declared.field_files.Asked.TheVariants as asks
-use Rattle.tsb_field.proofs.EndLemmas.{pictured-as}
+use Rattle.tsb_field.proofs.EndLemmas.{pictured-as, recorded-as}
 use Rattle.tsb_field.proofs.run.run_words.Goals as goal
 
 pub returns-in-Ok-Record : goal.returns-in-Ok-Record
 returns-in-Ok-Record g c = (
-  Ok (asks.Record c.in-Ok-Record.from c.in-Ok-Record.device c.in-Ok-Record.plan c.in-Ok-Record.log),
+  Ok (asks.Record c.in-Ok-Record.from c.in-Ok-Record.device c.in-Ok-Record.plan c.in-Ok-Record.log c.in-Ok-Record.goes_on),
   c.in-Ok-Record.ensures ∙ ap (λ (asked : Asked). Some (seen asked)) c.in-Ok-Record.field-0-is,
-  c.write_record.ensures,
+  recorded-as c.write_record.result c.in-Ok-Record.from _ c.on_fault_of-on_fault.result _ _ _ _ _ _ _ _ _ c.on_fault_of-on_fault.ensures c.write_record.ensures,
 )
 
 pub returns-in-Ok-Events : goal.returns-in-Ok-Events

@@ -1,46 +1,32 @@
-use Rattle.std.proofs.Common.{[], refl}
+use Rattle.std.proofs.Common.{◌∙◌, ap, refl}
 use Rattle.std.proofs.lemmas.Result.{err_from_is_err_and}
 use Rattle.tsb_bench.specs.Held.{whole}
-use Rattle.tsb_dialog.specs.declared.answers.Flow.TheVariants.{On}
-use Rattle.tsb_record.specs.Leaves.{Leaves, fault_line, refusal_text}
-use Rattle.tsb_record.specs.Lines.{Course}
+use Rattle.tsb_record.specs.declared.faults.OnFault.{OnFault}
+use Rattle.tsb_record.specs.Faults.{fault_text}
+use Rattle.tsb_record.specs.Leaves.{Does, flow_after, stop_at}
 use Rattle.tsb_record.specs.Recording.{Done}
-use Rattle.tsb_record.proofs.LineLemmas.{bad_command, says-bad, says-do}
+use Rattle.tsb_record.proofs.LineLemmas.{after_line, says-found, told-front}
 use Rattle.tsb_record.proofs.recording.RecordingAnswers.answer.Goals as goal
 
-pub returns-in_err-tell_fault-in-Bad-clause-answered : goal.returns-in_err-tell_fault-in-Bad-clause-answered
-returns-in_err-tell_fault-in-Bad-clause-answered g c s here = let p = err_from_is_err_and c.from_residual.result c.from_residual.ensures.1 in
-    rw p.1 (record {
-      text = [];
-      said = c.in_err-tell_fault-in-Bad.ensures.fault;
-      so = (fault_line c.args.number bad_command, On, s, says-bad s c.args.number c.args.line.now bad_command c.reading_of.result c.reading_of.ensures c.in-Bad.is refl);
-    })
+pub returns-in_err-tell-clause-answered : goal.returns-in_err-tell-clause-answered
+returns-in_err-tell-clause-answered g c s here =
+    let p = err_from_is_err_and c.from_residual.result c.from_residual.ensures.1 in
+    let d : Done c.carry_out-fault.result s.given c.args.self.now.log.now (whole c.carry_out-fault.new.self.bench) c.carry_out-fault.new.self.told.told (Does s.given s.end.inputs c.reading_of-reading.result) =
+    c.carry_out-fault.ensures s.given s.end.inputs here.0 in
+    rw p.1 (told-front s (after_line s d.0 c.stop_at-self.result) c.args.number c.args.line.now (fault_text c.args.number c.args.line.now c.carry_out-fault.result) (flow_after c.quits-is_quit.result c.stop_at-self.result) _ _ _ _ c.tell.ensures.front
+    (says-found s c.args.number c.args.line.now c.reading_of-reading.result c.carry_out-fault.result d.0 c.quits-is_quit.result c.stop_at-self.result _ c.reading_of-reading.ensures c.quits-is_quit.ensures
+    (c.stop_at-self.ensures ∙ ap (λ (w : OnFault). stop_at w c.args.number c.carry_out-fault.result) here.1) refl d.2))
 
-pub returns-in_err-tell_refusal-in-Do-clause-answered : goal.returns-in_err-tell_refusal-in-Do-clause-answered
-returns-in_err-tell_refusal-in-Do-clause-answered g c s here =
-    let p = err_from_is_err_and c.from_residual-in_err-tell_refusal-in-Do.result c.from_residual-in_err-tell_refusal-in-Do.ensures.1 in
-    let d : Done c.obey-refusal.result s.given c.args.self.now.log.now (whole c.obey-refusal.new.self.bench) c.obey-refusal.new.self.told.told (Leaves s.given s.inputs c.in-Do.command) = c.obey-refusal.ensures s.given s.inputs here in
-    let left : Course = record { given = s.given; inputs = d.0 } in
-    rw p.1 (record {
-      text = [];
-      said = c.in_err-tell_refusal-in-Do.ensures.fault;
-      so = (
-        refusal_text c.args.number c.obey-refusal.result,
-        c.flow_after-flow.result,
-        left,
-        says-do s left c.args.number c.args.line.now c.reading_of.result c.in-Do.command c.flow_after-flow.result c.obey-refusal.result c.reading_of.ensures c.in-Do.is c.flow_after-flow.ensures d.2 refl,
-      );
-    })
-
-pub returns-in_ok-tell_refusal-in-Do-clause-answered : goal.returns-in_ok-tell_refusal-in-Do-clause-answered
-returns-in_ok-tell_refusal-in-Do-clause-answered g c s here =
-    let d : Done c.obey-refusal.result s.given c.args.self.now.log.now (whole c.obey-refusal.new.self.bench) c.obey-refusal.new.self.told.told (Leaves s.given s.inputs c.in-Do.command) = c.obey-refusal.ensures s.given s.inputs here in
-    let left : Course = record { given = s.given; inputs = d.0 } in (
-      left,
-      d.1,
+pub returns-clause-answered : goal.returns-clause-answered
+returns-clause-answered g c s here =
+    let d : Done c.carry_out-fault.result s.given c.args.self.now.log.now (whole c.carry_out-fault.new.self.bench) c.carry_out-fault.new.self.told.told (Does s.given s.end.inputs c.reading_of-reading.result) =
+    c.carry_out-fault.ensures s.given s.end.inputs here.0 in (
+      after_line s d.0 c.stop_at-self.result,
+      (d.1, here.1, refl),
       record {
-        text = refusal_text c.args.number c.obey-refusal.result;
-        said = c.in_ok-tell_refusal-in-Do.ensures.ok;
-        so = says-do s left c.args.number c.args.line.now c.reading_of.result c.in-Do.command c.flow_after-flow.result c.obey-refusal.result c.reading_of.ensures c.in-Do.is c.flow_after-flow.ensures d.2 refl;
+        text = fault_text c.args.number c.args.line.now c.carry_out-fault.result;
+        said = c.in_ok-tell.ensures.ok;
+        so = says-found s c.args.number c.args.line.now c.reading_of-reading.result c.carry_out-fault.result d.0 c.quits-is_quit.result c.stop_at-self.result c.flow_after.result c.reading_of-reading.ensures c.quits-is_quit.ensures
+            (c.stop_at-self.ensures ∙ ap (λ (w : OnFault). stop_at w c.args.number c.carry_out-fault.result) here.1) c.flow_after.ensures d.2;
       },
     )
