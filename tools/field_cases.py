@@ -26,6 +26,9 @@ RECORD = ["record", *FROM, "--device", "1001", "quad.json"]
 # The last moment of tick 6,000,000, and the first one behind it.
 LAST, BEHIND = "2026-11-29 05:39:59.999999999", "2026-11-29 05:40:00"
 MOST_ROWS = 1_720_740
+
+# What is told of a line that ends before the field of a column, and of one of more than 1,000 bytes.
+ENDS, LONG = b"%b: the line ends before it", b"over 1000 bytes (is it a text with lines?)"
 GIB = 1 << 30
 
 
@@ -165,31 +168,62 @@ def wire_runs():
     yield logged(CAR + MARK + told("07:00:04 82 1"), CAR_LOG, "--device", "7", errors=left % (1, 0))
 
 
+def line_faults():
+    """Lines that are no rows behind a first row, each with what is told of it."""
+    clock = b"7,2026-11-22 07:00:03"
+    yield from ((line, ENDS % column) for line, column in [
+        (b"7", b"time"), (b"\t", b"time"), (b" \t ", b"time"), (b"\t#", b"time"), (b"x", b"time"),
+        (b"7;2026-11-22 07:00:03;82;2", b"time"), (clock, b"code"), (clock + b",82", b"parameter"),
+    ])
+    for code, channel, column, field in [
+        (b"82", b"", b"parameter", b""), (b"", b"2", b"code", b""), (b"82", b"x", b"parameter", b"x"),
+        (b"-82", b"2", b"code", b"-82"), (b" 82", b"2", b"code", b" 82"), (b"00000000082", b"2", b"code", b"00000000082"),
+        (b"82", b"4294967296", b"parameter", b"4294967296"), (b"82", b'x"\x7f\xc3\xa4\t', b"parameter", b"x?????"),
+        (b"82", b"9" * 41, b"parameter", b"9" * 40), (b"82.0", b"", b"code", b"82.0"),
+    ]:
+        yield clock + b"," + code + b"," + channel, b'%b: "%b" is no whole number up to 4294967295' % (column, field)
+    for time in [
+        b"", b"2026-11-22", b"2026-11-22 07:00", b"2026-11-22 07:00:03.", b"2026-11-22 07:00:03.0000000001",
+        b"2026-11-22 07:00:03Z", b"2026-11-22 07:00:03+01:00", b"2026-11-22t07:00:03", b"11/22/2026 07:00:03",
+        b"2026-02-29 07:00:03", b"2026-04-31 07:00:03", b"2026-13-22 07:00:03", b"2026-11-00 07:00:03",
+        b"2026-11-22 24:00:00", b"2026-11-22 07:60:00", b"2026-11-22 07:00:60", b" 2026-11-22 07:00:03", b"1795330803.2",
+    ]:
+        yield b"7," + time + b",82,2", b'time: "%b" is no time as 2026-11-22 07:00:00.1' % time
+    for time in [b"00:03.2", b"07:00:03"]:
+        yield b"7," + time + b",82,2", b'time: "%b" has no day (was it opened in a spreadsheet?)' % time
+    yield from ((line, b"a quote is out of place") for line in [
+        b'"7,2026-11-22 07:00:03,82,2', clock + b',"82"0,2', clock + b',82,2,"', b'"7 ""x""",2026-11-22 07:00:03,82,2',
+        b'"""7""",2026-11-22 07:00:03,82,2', clock + b',82,2,"a ""b"" c"', clock + b',82,2,""""',
+    ])
+    yield HEADER[:-1], b"header: it is there again"
+    yield from ((line, LONG) for line in [b"x" * 1001, b"#" + b"x" * 1000, b"\x00" * 1001])
+
+
 def fault_runs():
     """Faults of event logs."""
-    for line in [
-        b"7", b"7,2026-11-22 07:00:03,82", b"7,2026-11-22 07:00:03,82,", b"7,2026-11-22 07:00:03,,2", b"7,,82,2",
-        b"7,2026-11-22 07:00:03,82,x", b"7,2026-11-22 07:00:03,-82,2", b"7,2026-11-22 07:00:03, 82,2",
-        b"7,2026-11-22 07:00:03,82,4294967296", b"7,2026-11-22 07:00:03,00000000082,2", b"7,2026-11-22,82,2",
-        b"7,2026-11-22 07:00,82,2", b"7,2026-11-22 07:00:03.,82,2", b"7,2026-11-22 07:00:03.0000000001,82,2",
-        b"7,2026-11-22 07:00:03Z,82,2", b"7,2026-11-22 07:00:03+01:00,82,2", b"7,2026-11-22t07:00:03,82,2",
-        b"7,11/22/2026 07:00:03,82,2", b"7,2026-02-29 07:00:03,82,2", b"7,2026-04-31 07:00:03,82,2",
-        b"7,2026-13-22 07:00:03,82,2", b"7,2026-11-00 07:00:03,82,2", b"7,2026-11-22 24:00:00,82,2",
-        b"7,2026-11-22 07:60:00,82,2", b"7,2026-11-22 07:00:60,82,2", b"7, 2026-11-22 07:00:03,82,2",
-        b'"7,2026-11-22 07:00:03,82,2', b'7,2026-11-22 07:00:03,"82"0,2', b'7,2026-11-22 07:00:03,82,2,"',
-        b'"7 ""x""",2026-11-22 07:00:03,82,2', b'"""7""",2026-11-22 07:00:03,82,2',
-        b'7,2026-11-22 07:00:03,82,2,"a ""b"" c"', b'7,2026-11-22 07:00:03,82,2,""""', b"\t", b" \t ", b"\t#",
-        HEADER[:-1], b"7;2026-11-22 07:00:03;82;2", b"x" * 1001, b"#" + b"x" * 1000,
+    for line, why in line_faults():
+        yield refused(CAR + b"\n" + line + b"\n", b"events line 4: " + why + b"\n", CAR_KNOWN)
+        yield refused(CAR + line, b"events line 3: " + why + b"\n", CAR_KNOWN, "--device", "7")
+    yield refused(b"Signal,Timestamp,EventCode,EventParam\n" + CAR, b"events line 1: header: no column is the device\n")
+    yield refused(b"SignalID,Timestamp,EventCode\n" + CAR, b"events line 1: header: no column is the parameter\n")
+    yield refused(b"SignalID,Code,EventId\n" + CAR, b"events line 1: header: no column is the time\n")
+    yield refused(b"SignalID,Timestamp,Code,Parameter\n" + CAR, b"events line 1: header: no column is the code\n")
+    yield refused(HEADER[:-1] + b',"a ""b"""\n' + CAR, b"events line 1: a quote is out of place\n")
+    yield refused(b"\t\n" + CAR, b"events line 1: " + ENDS % b"time" + b"\n")
+    yield refused(b"\n# no time\n8,,82,1\n", b'events line 3: time: "" is no time as 2026-11-22 07:00:00.1\n', b"",
+                  "--device", "7")
+    for text, why in [
+        (b"\xff\xfeS\x00\n", b"UTF-16: convert by iconv -f utf-16 -t utf-8"),
+        (b"\xfe\xff\x00S\n", b"UTF-16: convert by iconv -f utf-16 -t utf-8"),
+        (b"PK\x03\x04\x14\x00\n", b"packed: unpack by unzip or gunzip"),
+        (b"\x1f\x8b\x08\x00\n", b"packed: unpack by unzip or gunzip"),
+        (MARK + b"<EventResponses>\n", b"XML: export as CSV"), (b"<?xml?>", b"XML: export as CSV"),
+        (b"PK\x00\x04\n", b"binary: convert by the controller's own program"),
+        (CAR + b"\x00\x01\x02\n", b"binary: convert by the controller's own program"),
     ]:
-        yield refused(CAR + b"\n" + line + b"\n", b"events line 4: malformed\n", CAR_KNOWN)
-        yield refused(CAR + line, b"events line 3: malformed\n", CAR_KNOWN, "--device", "7")
-    yield refused(b"Signal,Timestamp,EventCode,EventParam\n" + CAR, b"events line 1: malformed\n")
-    yield refused(b"SignalID,Timestamp,EventCode\n" + CAR, b"events line 1: malformed\n")
-    yield refused(HEADER[:-1] + b',"a ""b"""\n' + CAR, b"events line 1: malformed\n")
-    yield refused(b"\t\n" + CAR, b"events line 1: malformed\n")
-    yield refused(b"\n# no time\n8,,82,1\n", b"events line 3: malformed\n", b"", "--device", "7")
+        yield refused(text, b"events: " + why + b"\n", CAR_KNOWN if text.startswith(CAR) else b"")
     yield from return_runs()
-    order = b"events line %d: time order\n"
+    order = b"events line %d: time order: it is before a row above: sort by time\n"
     yield refused(CAR + told("07:00:02.999999999 81 2"), order % 3, CAR_KNOWN)
     yield refused(CAR + told("07:00:03 1 1", "07:00:02 1 1"), order % 4, CAR_KNOWN)
     yield refused(b"\n" + told("06:00:01 1 1", "06:00:00 1 1") + CAR, order % 3)
@@ -206,15 +240,17 @@ def fault_runs():
 
 def return_runs():
     """Returns that are no part of a line's end: one without a line feed behind it, and the first of two."""
-    yield refused(CAR[:-1] + b"\r", b"events line 2: malformed\n")
-    yield refused(CAR + b"\r", b"events line 3: malformed\n", CAR_KNOWN)
-    yield refused(CAR + b"  \r", b"events line 3: malformed\n", CAR_KNOWN)
-    yield refused(HEADER[:-1] + b"\r", b"events line 1: malformed\n")
-    yield refused(HEADER.replace(b"\n", b"\r\r\n") + CAR, b"events line 1: malformed\n")
-    yield refused(CAR.replace(b"\n", b"\r\r\n"), b"events line 1: malformed\n")
+    number = b'parameter: "2?" is no whole number up to 4294967295\n'
+    yield refused(CAR[:-1] + b"\r", b"events line 2: " + number)
+    yield refused(CAR + b"\r", b"events line 3: " + ENDS % b"time" + b"\n", CAR_KNOWN)
+    yield refused(CAR + b"  \r", b"events line 3: " + ENDS % b"time" + b"\n", CAR_KNOWN)
+    header = b"events line 1: header: no column is the parameter\n"
+    yield refused(HEADER[:-1] + b"\r", header)
+    yield refused(HEADER.replace(b"\n", b"\r\r\n") + CAR, header)
+    yield refused(CAR.replace(b"\n", b"\r\r\n"), b"events line 1: " + number)
     # They count among the bytes of their line, of which there are 1,000 at most.
     for end in [b"\r", b"\r\r\n"]:
-        yield refused(CAR + b"#" + b"x" * 999 + end, b"events line 3: malformed\n", CAR_KNOWN)
+        yield refused(CAR + b"#" + b"x" * 999 + end, b"events line 3: " + LONG + b"\n", CAR_KNOWN)
 
 
 def known_runs():
@@ -237,12 +273,12 @@ def known_runs():
         # No event of an input is that of another code, or of a channel that leads nowhere.
         (["07:00:01 82 2", "07:00:05 1 2", "07:00:06 82 17"], b""),
     ]:
-        yield refused(told(*events) + b"x\n", b"events line %d: malformed\n" % (len(events) + 1), known)
+        yield refused(told(*events) + b"x\n", b"events line %d: %b\n" % (len(events) + 1, ENDS % b"time"), known)
     other = told("07:00:01 82 2") + b"8,2026-11-22 07:00:05,82,2\n"
-    yield refused(other + b"x\n", b"events line 3: malformed\n", b"", "--device", "7")
+    yield refused(other + b"x\n", b"events line 3: " + ENDS % b"time" + b"\n", b"", "--device", "7")
     # More rows than a buffer holds: the last ones go out only where the program passes them on as it tells the fault.
     events, log = switching(2000)
-    yield refused(events + b"x\n", b"events line 2001: malformed\n", log[:-len(row(2000))])
+    yield refused(events + b"x\n", b"events line 2001: " + ENDS % b"time" + b"\n", log[:-len(row(2000))])
 
 
 def display(tick, vehicles="-R-R", pedestrians="-D", overlaps="R", preempt=0, local="----"):
@@ -479,7 +515,7 @@ def stream_runs():
         yield Run([*words, "more"], 2, stderr=FULL, commands=text)
         yield Run(words, 3, stdin=TORN, stderr=FULL)
         yield Run(words, 0, stdin="/dev/null", stdout="/dev/null")
-    yield Run(LOG, 1, b"", b"events line 1: malformed\n", b"x\n" + CAR, stdout=FULL)
+    yield Run(LOG, 1, b"", b"events line 1: " + ENDS % b"time" + b"\n", b"x\n" + CAR, stdout=FULL)
     yield Run(LOG, 1, stderr=FULL, commands=b"x\n")
     yield Run([*LOG, "--device", "8"], 0, stderr=FULL, commands=CAR)
     yield Run(LOG, 1, b"", b"events: too large\n", stdin=ENDLESS)

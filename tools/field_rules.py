@@ -28,6 +28,19 @@ NAMES = [
     {b"eventparam", b"parameter"},
 ]
 
+COLUMNS = [b"device", b"time", b"code", b"parameter"]
+
+# What is told of a line that begins so, of which the whole text is no text with lines of events.
+WHOLE_FAULTS = [
+    (rb"\xff\xfe|\xfe\xff", b"UTF-16: convert by iconv -f utf-16 -t utf-8"),
+    (rb"PK.*\x03|\x1f\x8b", b"packed: unpack by unzip or gunzip"), (rb"<", b"XML: export as CSV"),
+    (rb".*\x00", b"binary: convert by the controller's own program"),
+]
+
+# What is told of a field.
+NO_DAY, NO_TIME = b" has no day (was it opened in a spreadsheet?)", b" is no time as 2026-11-22 07:00:00.1"
+NO_NUMBER = b" is no whole number up to 4294967295"
+
 # How many bytes a device has at most that a line can name.
 LONGEST_DEVICE = 900
 
@@ -115,6 +128,35 @@ def row_of(line, places):
     return None if None in row else row
 
 
+def shown(field):
+    """The first bytes of a field, as a fault shows them."""
+    return b'"' + re.sub(rb'[^ !#-~]', b"?", field[:40]) + b'"'
+
+
+def why(line, places):
+    """What is told of a line that is no row, behind `events line N: ` or, of a text without lines, behind `events: `."""
+    for mark, told in WHOLE_FAULTS:
+        if re.match(mark, line, re.S):
+            return b": " + told
+    found = fields(line)
+    named = [any(field.lower() in names for field in found or []) for names in NAMES]
+    if named[1] or named[2]:
+        lacks = [COLUMNS[at] for at, is_named in enumerate(named) if not is_named]
+        return b"header: no column is the " + lacks[0] if lacks else b"header: it is there again"
+    if found is None:
+        return b"a quote is out of place"
+    for column, place in zip(COLUMNS, places):
+        if len(found) <= place:
+            return column + b": the line ends before it"
+    _, time, code, parameter = (found[place] for place in places)
+    if moment(time) is None:
+        has_no_day = b":" in time and b"-" not in time and b"/" not in time
+        return b"time: " + shown(time) + (NO_DAY if has_no_day else NO_TIME)
+    if number(code) is None:
+        return b"code: " + shown(code) + NO_NUMBER
+    return b"parameter: " + shown(parameter) + NO_NUMBER
+
+
 def lines_of(text):
     """The lines of a text: a carriage return before a line feed is a part of the line's end."""
     *ended, last = text.split(b"\n")
@@ -169,12 +211,12 @@ def taken(lines, begin, device, wires):
     without an input. A fault is raised."""
     events, last, others, lost, places = [], 0, 0, 0, None
 
-    def fault(why):
-        raise Fault(f"events{why}\n".encode(), known_log(begin, wires, events))
+    def fault(told):
+        raise Fault(b"events" + told + b"\n", known_log(begin, wires, events))
 
     for count, line in enumerate(lines, 1):
         if len(line) > 1000:
-            fault(f" line {count}: malformed")
+            fault(b" line %d: over 1000 bytes (is it a text with lines?)" % count)
         line = line.removeprefix(b"\xef\xbb\xbf") if count == 1 else line
         if not line.strip(b" ") or line.startswith(b"#"):
             continue
@@ -184,18 +226,19 @@ def taken(lines, begin, device, wires):
                 continue
         row = row_of(line, places)
         if row is None:
-            fault(f" line {count}: malformed")
+            told = why(line, places)
+            fault(told if told.startswith(b": ") else b" line %d: %b" % (count, told))
         of, at, code, channel = row
         if device is not None and of != device:
             others += 1
             continue
         if at < last:
-            fault(f" line {count}: time order")
+            fault(b" line %d: time order: it is before a row above: sort by time" % count)
         last = at
         kind, on = CODES.get(code, (None, None))
         if kind and any(wire[:2] == (kind, channel) for wire in wires):
             if tick_of(begin, at) > TICKS:
-                fault(f": past tick {TICKS}")
+                fault(b": past tick %d" % TICKS)
             events.append((at, kind, channel, on))
         elif kind:
             lost += 1

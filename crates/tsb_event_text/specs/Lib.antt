@@ -10,3 +10,5 @@ pub mod Rows
 pub mod Written
 -- lines of events, written
 pub mod Events
+-- why a line is no row
+pub mod Faults

@@ -6,7 +6,7 @@ ghost use Rattle.tsb_event_text.specs.Columns.{header_of, is_called, names_colum
 use crate::fields::{has_fields, next_field};
 
 /// What a field of a row says.
-#[derive(Clone, Copy, PartialEq, Eq)]
+#[derive(Clone, Copy, Debug, PartialEq, Eq)]
 pub enum Column {
     /// Which controller wrote the event.
     Device,
@@ -64,7 +64,7 @@ pub fn header(line: &[u8]) -> Option<Columns>
 }
 
 /// The place of the first field that names the column, in a line that has fields.
-fn place(line: &[u8], column: Column) -> Option<usize>
+pub(crate) fn place(line: &[u8], column: Column) -> Option<usize>
     ensures { (fields : List (List ℕ)) → fields_of line.now ≡ Some fields → result ≡ place_from 0 column fields }
 {
     let mut rest = line;

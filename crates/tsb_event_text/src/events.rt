@@ -91,7 +91,7 @@ fn begins_with_hash(text: &[u8]) -> bool
 }
 
 /// Whether a text has this byte.
-fn has_byte(byte: u8, text: &[u8]) -> bool
+pub(crate) fn has_byte(byte: u8, text: &[u8]) -> bool
     ensures { result ≡ has_byte byte text.now }
 {
     for other in text {

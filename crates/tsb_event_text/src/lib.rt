@@ -7,6 +7,7 @@
 
 mod columns;
 mod events;
+mod faults;
 mod fields;
 pub mod laws;
 mod rows;
@@ -16,6 +17,7 @@ mod written;
 
 pub use columns::{Column, Columns, header};
 pub use events::{LONGEST_DEVICE, append_event, can_be_written, event_line};
+pub use faults::{RowFault, SHOWN, Shown, row_fault};
 pub use rows::{EventRow, event_row};
 pub use texts::TimeText;
 pub use times::{Moment, read_moment};

@@ -6,7 +6,7 @@ ghost use Rattle.tsb_field.specs.Ends.{Written};
 use std::alloc::{AllocError, Global};
 use std::fmt::Display;
 use std::io::Write;
-use tsb_field_streams::{FilterError, LeftOut};
+use tsb_field_streams::{FilterError, LeftOut, fault_line};
 use tsb_program::{Failure, Status, fail, line_of, tell, write_line};
 use tsb_text::SessionError;
 use tsb_words::WordsError;
@@ -37,7 +37,10 @@ pub(crate) fn tell_fault<E: Write>(alloc: Global, errors: &mut E, fault: FilterE
         FilterError::Memory => fail(errors, Failure::Memory),
         FilterError::Read => fail(errors, Failure::Read),
         FilterError::Write => fail(errors, Failure::Write),
-        _ => refuse(alloc, errors, fault),
+        _ => match fault_line(alloc, fault) {
+            Ok(line) => tell(errors, Status::Refused, &line),
+            Err(_) => fail(errors, Failure::Memory),
+        },
     }
 }
 

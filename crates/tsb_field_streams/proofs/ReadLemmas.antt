@@ -7,27 +7,27 @@ use Rattle.tsb_lines.specs.Lines.{kept, lines_of, without_return}
 use Rattle.tsb_lines.proofs.KeptLemmas.{kept-tells}
 use Rattle.tsb_lines.proofs.LineLemmas.{feedless-more, length-return, lines-alone, lines-joined}
 use Rattle.tsb_field_streams.specs.declared.error.FilterError.{FilterError}
-use Rattle.tsb_field_streams.specs.declared.error.FilterError.TheVariants.{Malformed}
+use Rattle.tsb_field_streams.specs.declared.error.FilterError.TheVariants.{LongLine}
 use Rattle.tsb_field_streams.specs.Filtering.{Given, Stand, one_more, start, with_line}
 use Rattle.tsb_field_streams.specs.Lines.{HasRead, filtered, lines_behind}
 use Rattle.tsb_field_streams.specs.Streaming.{Sticks}
 
 -- ## Lines of which the first bytes are kept
 
-too-long : (g : Given) (n : ℕ) (s : Stand) (line : List ℕ) → 1000 < length line → with_line g n s line ≡ Err (Malformed n)
+too-long : (g : Given) (n : ℕ) (s : Stand) (line : List ℕ) → 1000 < length line → with_line g n s line ≡ Err (LongLine n)
 unfolding with_line
 too-long g n s line lt = rw (lt-ltb 1000 (length line) lt) refl
 
 -- it is enough to keep so many bytes of a line that ends
 pub kept-line : (g : Given) (n : ℕ) (s : Stand) (held : List ℕ) → with_line g n s (without_return (kept 1002 held)) ≡ with_line g n s (without_return held)
-kept-line g n s held = kept-tells (λ (v : List ℕ). with_line g n s (without_return v)) 1002 (Err (Malformed n)) long held
+kept-line g n s held = kept-tells (λ (v : List ℕ). with_line g n s (without_return v)) 1002 (Err (LongLine n)) long held
   where
-    long : (line : List ℕ) → 1002 ≤ length line → with_line g n s (without_return line) ≡ Err (Malformed n)
+    long : (line : List ℕ) → 1002 ≤ length line → with_line g n s (without_return line) ≡ Err (LongLine n)
     long line le = let all : length line ≤ length (without_return line) + 1 = length-return line in too-long g n s (without_return line) (omega (arith, all, le))
 
 -- and of the last one
 pub kept-last : (g : Given) (n : ℕ) (s : Stand) (held : List ℕ) → with_line g n s (kept 1002 held) ≡ with_line g n s held
-kept-last g n s held = kept-tells (λ (v : List ℕ). with_line g n s v) 1002 (Err (Malformed n)) (λ line le. too-long g n s line (omega (arith, le))) held
+kept-last g n s held = kept-tells (λ (v : List ℕ). with_line g n s v) 1002 (Err (LongLine n)) (λ line le. too-long g n s line (omega (arith, le))) held
 
 -- ## Lines
 

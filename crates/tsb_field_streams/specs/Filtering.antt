@@ -7,6 +7,8 @@ use Rattle.tsb_event_text.specs.declared.columns.Columns.{Columns}
 use Rattle.tsb_event_text.specs.declared.rows.EventRow.{EventRow}
 use Rattle.tsb_event_text.specs.Columns.{header_of, usual_columns}
 use Rattle.tsb_event_text.specs.Rows.{row_of}
+use Rattle.tsb_event_text.specs.declared.faults.RowFault.{RowFault}
+use Rattle.tsb_event_text.specs.Faults.{fault_of}
 use Rattle.tsb_field_log.specs.declared.inputs.Signal.{Signal}
 use Rattle.tsb_field_log.specs.declared.inputs.Wire.{Wire}
 use Rattle.tsb_field_log.specs.declared.inputs.InputEvent.{InputEvent}
@@ -15,7 +17,7 @@ use Rattle.tsb_field_log.specs.Mapping.{is_wired}
 use Rattle.tsb_field_log.specs.Streets.{tick_at}
 use Rattle.tsb_field_log.specs.Pushed.{rows_before}
 use Rattle.tsb_field_streams.specs.declared.error.FilterError.{FilterError}
-use Rattle.tsb_field_streams.specs.declared.error.FilterError.TheVariants.{Malformed, TimeOrder, PastEnd, LogTooLarge}
+use Rattle.tsb_field_streams.specs.declared.error.FilterError.TheVariants.{LongLine, Malformed, TimeOrder, PastEnd, LogTooLarge}
 use Rattle.tsb_field_streams.specs.declared.filter.TheConstants.{LINE, MOST_ROWS}
 
 -- what a filter is asked for: the moment at which tick 1 begins, the device whose rows count, and the wires
@@ -65,14 +67,14 @@ with_row g number s row =
     else if nat_lt row.moment.nanos s.last then Err (TimeOrder number)
     else with_signal g (record s { last = row.moment.nanos }) row (signal_of row.code)
 
--- the row of a line, where it spells one
-abbrev pub with_some_row : Given → ℕ → Stand → Option EventRow → Result Stand FilterError
-with_some_row g number s None = Err (Malformed number)
-with_some_row g number s (Some row) = with_row g number s row
+-- the row of a line, where it spells one, or else this fault
+abbrev pub with_some_row : Given → ℕ → Stand → RowFault → Option EventRow → Result Stand FilterError
+with_some_row g number s why None = Err (Malformed number why)
+with_some_row g number s why (Some row) = with_row g number s row
 
 -- a line that is a row, with its columns in these places
 abbrev pub with_row_line : Given → ℕ → Stand → Columns → List ℕ → Result Stand FilterError
-with_row_line g number s columns text = with_some_row g number s (row_of columns g.device text)
+with_row_line g number s columns text = with_some_row g number s (fault_of columns text) (row_of columns g.device text)
 
 -- the first line that is not skipped: a header, or a row with its columns in the usual places
 abbrev pub with_first : Given → ℕ → Stand → List ℕ → Option Columns → Result Stand FilterError
@@ -102,4 +104,4 @@ text_of number line = if number == 1 then without_mark line else line
 -- the line with this number, counted from 1
 unfoldable pub with_line : Given → ℕ → Stand → List ℕ → Result Stand FilterError
 with_line g number s line =
-    if nat_lt LINE (length line) then Err (Malformed number) else with_unmarked g number s (text_of number line)
+    if nat_lt LINE (length line) then Err (LongLine number) else with_unmarked g number s (text_of number line)

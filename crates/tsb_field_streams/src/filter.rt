@@ -9,7 +9,7 @@ ghost use Rattle.tsb_field_streams.specs.Filtering.{Given, Stand, start, text_of
 ghost use Rattle.tsb_field_streams.specs.declared.error.FilterError.TheVariants.{LogTooLarge};
 
 use crate::error::FilterError;
-use tsb_event_text::{Columns, EventRow, event_row, header};
+use tsb_event_text::{Columns, EventRow, event_row, header, row_fault};
 use tsb_field_log::{InputEvent, Rows, Signal, Street, Wire, is_wired};
 use tsb_lines::is_skipped;
 
@@ -79,14 +79,14 @@ impl<'a> Filter<'a> {
     ///
     /// The first line may begin with a byte order mark. A line that is blank or begins with `#` is skipped; the first that
     /// is not names the columns, or is a row with its columns in the usual places. Rows of other devices have only to
-    /// be rows; each of the rest is no earlier than the one before it. The errors are `Malformed`, `TimeOrder`,
-    /// `PastEnd` and `LogTooLarge`; no line is taken after one.
+    /// be rows; each of the rest is no earlier than the one before it. The errors are `LongLine`, `Malformed`,
+    /// `TimeOrder`, `PastEnd` and `LogTooLarge`; no line is taken after one.
     #[tactic(auto, unfolding(crate::specs::Filtering::with_line))]
     pub fn take_line(&mut self, number: u32, line: &[u8]) -> Result<Rows, FilterError>
         ensures takes { (g : Given) (s : Stand) → StandsAt g s self.old → Takes g s (with_line g number s line.now) result self.new }
     {
         if line.len() > LINE {
-            return Err(FilterError::Malformed(number));
+            return Err(FilterError::LongLine(number));
         }
         let text = text_of(number, line);
         if is_skipped(text) {
@@ -121,7 +121,7 @@ impl<'a> Filter<'a> {
         ensures takes { (g : Given) (s : Stand) → StandsAt g s self.old → Takes g s (with_row_line g number s columns text.now) result self.new }
     {
         match event_row(text, columns, self.device) {
-            None => Err(FilterError::Malformed(number)),
+            None => Err(FilterError::Malformed(number, row_fault(text, columns))),
             Some(row) => self.take_row(number, row),
         }
     }

@@ -2,10 +2,12 @@
 #![tactic(auto)]
 
 mod error;
+mod fault_lines;
 mod filter;
 mod rows;
 mod stream;
 
 pub use error::FilterError;
+pub use fault_lines::fault_line;
 pub use filter::{Filter, LINE, LeftOut, MOST_ROWS};
 pub use stream::{EVENTS, log};

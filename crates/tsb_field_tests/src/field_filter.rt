@@ -1,7 +1,7 @@
 //! Lines of events and the rows of the log that they make known. Expected values are worked by hand from the rules.
 
 use std::alloc::{AllocError, Global};
-use tsb_event_text::read_moment;
+use tsb_event_text::{Column, RowFault, read_moment};
 use tsb_field_log::{Kind, Rows, Street, Wire, wires};
 use tsb_field_streams::{Filter, FilterError, LeftOut};
 use tsb_log_text::row_line;
@@ -176,7 +176,7 @@ fn faults_have_lines(alloc: Global, first: &[u8]) -> bool {
     has_fault(
         alloc,
         &[first, b"7,2026-11-22 07:00:01,82"],
-        Some(FilterError::Malformed(2)),
+        Some(FilterError::Malformed(2, RowFault::Missing(Column::Parameter))),
     ) && has_fault(
         alloc,
         &[b"", first, b"7,2026-11-22 07:00:00.9,1,2"],
@@ -184,7 +184,7 @@ fn faults_have_lines(alloc: Global, first: &[u8]) -> bool {
     ) && has_fault(
         alloc,
         &[first, b"SignalID,Timestamp,EventCode,EventParam"],
-        Some(FilterError::Malformed(2)),
+        Some(FilterError::Malformed(2, RowFault::Again)),
     )
 }
 
@@ -212,6 +212,6 @@ fn a_line_has_at_most_1000_bytes(rt: HostRuntime) {
     long[0] = b'#';
     assert!(rt;
         has_fault(rt.alloc(), &[&long[..1000]], None)
-            && has_fault(rt.alloc(), &[&long], Some(FilterError::Malformed(1)))
+            && has_fault(rt.alloc(), &[&long], Some(FilterError::LongLine(1)))
     );
 }

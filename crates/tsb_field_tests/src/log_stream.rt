@@ -2,7 +2,7 @@
 
 use std::alloc::Global;
 use std::io::{self, ErrorKind, Read, Write};
-use tsb_event_text::{Moment, read_moment};
+use tsb_event_text::{Column, Moment, RowFault, SHOWN, Shown, read_moment};
 use tsb_field_log::{Kind, Wire};
 use tsb_field_streams::{FilterError, LeftOut, log};
 
@@ -154,6 +154,16 @@ const OF_ON: [&[u8]; 7] = [
     b"\n\xef\xbb\xbf7,2026-11-22 07:00:00,82,1\n",
 ];
 
+/// A field of at most 40 bytes, as a fault shows it.
+fn shown(field: &[u8]) -> Shown {
+    let mut bytes = [b' '; SHOWN];
+    bytes[..field.len()].copy_from_slice(field);
+    Shown {
+        bytes,
+        count: field.len(),
+    }
+}
+
 /// Whether all the texts give the log.
 fn all_give(alloc: Global, texts: &[&'static [u8]], wanted: &[u8]) -> bool {
     for text in texts {
@@ -169,7 +179,15 @@ fn lines_end_as_lines_do(rt: HostRuntime) {
     assert!(rt; all_give(rt.alloc(), &OF_ON, ON) && gives(rt.alloc(), whole(b""), b""));
     // A return at the end of a last line without a line feed is a byte of the line.
     let text = b"7,2026-11-22 07:00:00,82,1\r".as_slice();
-    assert!(rt; ends(rt.alloc(), whole(text), b"", FilterError::Malformed(1)));
+    let fault = RowFault::NoNumber(Column::Parameter, shown(b"1\r"));
+    assert!(rt;
+        ends(
+            rt.alloc(),
+            whole(text),
+            b"",
+            FilterError::Malformed(1, fault)
+        )
+    );
 }
 
 /// A remark of this many bytes, with this end, and then a row.
@@ -181,14 +199,14 @@ fn remark(alloc: Global, length: usize, end: &[u8]) -> Vec<u8> {
     text
 }
 
-/// Whether the row after a remark of this many bytes is read, or the remark is malformed.
+/// Whether the row after a remark of this many bytes is read, or the remark is too long.
 fn remark_is_read(alloc: Global, length: usize, end: &[u8]) -> Option<bool> {
     let text = remark(alloc, length, end);
     let mut reader = text.as_slice();
     let mut out = Vec::new(alloc);
     match log_of(alloc, &mut reader, &mut out) {
         Ok(_) if out.as_slice() == ON => Some(true),
-        Err(FilterError::Malformed(1)) if out.is_empty() => Some(false),
+        Err(FilterError::LongLine(1)) if out.is_empty() => Some(false),
         _ => None,
     }
 }
@@ -235,7 +253,7 @@ fn is_written_before_faults(alloc: Global) -> bool {
     ) && ends_after_a_row(
         alloc,
         b"7,2026-11-22 07:00:01,82,2\n7,2026-11-22 07:00:02,81,2\n7,2026-11-22 07:00:02,81",
-        FilterError::Malformed(3),
+        FilterError::Malformed(3, RowFault::Missing(Column::Parameter)),
     )
 }
 

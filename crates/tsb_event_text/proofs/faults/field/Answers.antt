@@ -1,0 +1,13 @@
+use Rattle.std.proofs.Common.{◌∙◌, ap, sym, rules}
+use Rattle.tsb_event_text.specs.Faults.{field_in}
+use Rattle.tsb_event_text.proofs.FieldLemmas.{some-there, none-there}
+use Rattle.tsb_event_text.proofs.faults.field.Goals as goal
+
+pub returns-then-not-has_fields : goal.returns-then-not-has_fields
+returns-then-not-has_fields c =
+    sym (ap (λ fields. field_in fields c.args.place) (none-there c.args.line.now (search (rules, c.has_fields.ensures, c.if-not-has_fields.true))))
+
+pub returns : goal.returns
+returns c =
+    let (fields, are) = some-there c.args.line.now (search (rules, c.has_fields.ensures, c.if-not-has_fields.false)) in
+    c.field_at.ensures fields are ∙ sym (ap (λ fields. field_in fields c.args.place) are)

@@ -1,0 +1,146 @@
+//! The line that tells what ended a filter.
+ghost use Rattle.std.specs.Prelude.{◌≡◌, ◌++◌, ◌∷◌, [], map, IfOk, OnOk};
+ghost use Rattle.tsb_field_streams.specs.FaultLines.{column_name, field_text, filter_fault, line_number, row_fault_text, safe, why_text};
+
+use crate::error::FilterError;
+use itoa::Buffer;
+use std::alloc::{AllocError, Global};
+use tsb_event_text::{Column, RowFault, SHOWN, Shown};
+
+/// The line that tells what ended a filter, with its line feed.
+pub fn fault_line(alloc: Global, fault: FilterError) -> Result<Vec<u8>, AllocError>
+    ensures { IfOk result (λ line. line.items ≡ filter_fault fault ++ 10 ∷ []) }
+{
+    let mut text = Vec::new(alloc);
+    append_fault(&mut text, fault)?;
+    text.push(b'\n')?;
+    Ok(text)
+}
+
+/// Adds what ended a filter to a text. At an error a part of it may have been added.
+fn append_fault(text: &mut Vec<u8>, fault: FilterError) -> Result<(), AllocError>
+    ensures { OnOk result (text.new.items ≡ text.old.items ++ filter_fault fault) }
+{
+    match fault {
+        FilterError::Memory => text.extend_from_slice(b"memory"),
+        FilterError::Read => text.extend_from_slice(b"read fault"),
+        FilterError::Write => text.extend_from_slice(b"write fault"),
+        FilterError::TooLarge => text.extend_from_slice(b"events: too large"),
+        FilterError::LongLine(line) => {
+            append_line(text, line)?;
+            text.extend_from_slice(b": over 1000 bytes (is it a text with lines?)")
+        }
+        FilterError::Malformed(line, why) => append_malformed(text, line, why),
+        FilterError::TimeOrder(line) => {
+            append_line(text, line)?;
+            text.extend_from_slice(b": time order: it is before a row above: sort by time")
+        }
+        FilterError::PastEnd => text.extend_from_slice(b"events: past tick 6000000"),
+        FilterError::LogTooLarge => text.extend_from_slice(b"log: too large"),
+    }
+}
+
+/// Adds why a line is no row. What is no text of lines at all is told without a line.
+fn append_malformed(text: &mut Vec<u8>, line: u32, why: RowFault) -> Result<(), AllocError>
+    ensures { OnOk result (text.new.items ≡ text.old.items ++ row_fault_text line why) }
+{
+    match why {
+        RowFault::Utf16 => {
+            text.extend_from_slice(b"events: UTF-16: convert by iconv -f utf-16 -t utf-8")
+        }
+        RowFault::Zip => text.extend_from_slice(b"events: packed: unpack by unzip or gunzip"),
+        RowFault::Xml => text.extend_from_slice(b"events: XML: export as CSV"),
+        RowFault::Binary => {
+            text.extend_from_slice(b"events: binary: convert by the controller's own program")
+        }
+        _ => {
+            append_line(text, line)?;
+            text.extend_from_slice(b": ")?;
+            append_why(text, why)
+        }
+    }
+}
+
+/// Adds what is wrong with a line of a text.
+fn append_why(text: &mut Vec<u8>, why: RowFault) -> Result<(), AllocError>
+    ensures { OnOk result (text.new.items ≡ text.old.items ++ why_text why) }
+{
+    match why {
+        RowFault::Lacks(column) => {
+            text.extend_from_slice(b"header: no column is the ")?;
+            text.extend_from_slice(column_name(column))
+        }
+        RowFault::Again => text.extend_from_slice(b"header: it is there again"),
+        RowFault::Missing(column) => {
+            text.extend_from_slice(column_name(column))?;
+            text.extend_from_slice(b": the line ends before it")
+        }
+        RowFault::NoDay(time) => {
+            append_field(text, Column::Time, &time)?;
+            text.extend_from_slice(b" has no day (was it opened in a spreadsheet?)")
+        }
+        RowFault::NoTime(time) => {
+            append_field(text, Column::Time, &time)?;
+            text.extend_from_slice(b" is no time as 2026-11-22 07:00:00.1")
+        }
+        RowFault::NoNumber(column, field) => {
+            append_field(text, column, &field)?;
+            text.extend_from_slice(b" is no whole number up to 4294967295")
+        }
+        _ => text.extend_from_slice(b"a quote is out of place"),
+    }
+}
+
+/// Adds the name of a column, and what its field has.
+fn append_field(text: &mut Vec<u8>, column: Column, field: &Shown) -> Result<(), AllocError>
+    ensures { OnOk result (text.new.items ≡ text.old.items ++ field_text column field.now) }
+{
+    text.extend_from_slice(column_name(column))?;
+    text.extend_from_slice(b": \"")?;
+    append_safe(text, &field.bytes[..field.count.min(SHOWN)])?;
+    text.push(b'"')?;
+    Ok(())
+}
+
+/// Adds bytes as they can be shown.
+fn append_safe(text: &mut Vec<u8>, bytes: &[u8]) -> Result<(), AllocError>
+    ensures { OnOk result (text.new.items ≡ text.old.items ++ map safe bytes.now) }
+{
+    for byte in bytes {
+        text.push(safe(*byte))?;
+    }
+    Ok(())
+}
+
+/// A byte as it can be shown: a question mark for a double quote and for all that is no printed character of ASCII.
+fn safe(byte: u8) -> u8
+    ensures { result ≡ safe byte }
+{
+    if byte < b' ' || byte > b'~' || byte == b'"' {
+        b'?'
+    } else {
+        byte
+    }
+}
+
+/// Adds which line it is.
+fn append_line(text: &mut Vec<u8>, line: u32) -> Result<(), AllocError>
+    ensures { OnOk result (text.new.items ≡ text.old.items ++ line_number line) }
+{
+    let mut buffer = Buffer::new();
+    text.extend_from_slice(b"events line ")?;
+    text.extend_from_slice(buffer.format(line).as_bytes())?;
+    Ok(())
+}
+
+/// The name of a column.
+fn column_name(column: Column) -> &'static [u8]
+    ensures { result.now ≡ column_name column }
+{
+    match column {
+        Column::Device => b"device",
+        Column::Time => b"time",
+        Column::Code => b"code",
+        Column::Parameter => b"parameter",
+    }
+}
