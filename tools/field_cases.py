@@ -2,6 +2,7 @@
 
 tools/run_field.py runs them in a folder with a copy of the examples and the files of `fill`.
 """
+import pathlib
 import shutil
 
 import field_rules
@@ -20,12 +21,16 @@ MARK = b"\xef\xbb\xbf"
 AT = "2026-11-22 07:00:00"
 FROM = ["--from", AT]
 BEGIN = field_rules.moment(AT.encode())
+EXPORT_FOLDER = pathlib.Path(__file__).parent / "exports"
 LOG, EVENTS = ["log", *FROM], ["events", *FROM, "--device", "1001"]
 RECORD = ["record", *FROM, "--device", "1001", "quad.json"]
 
 # The last moment of tick 6,000,000, and the first one behind it.
 LAST, BEHIND = "2026-11-29 05:39:59.999999999", "2026-11-29 05:40:00"
 MOST_ROWS = 1_720_740
+
+# What is told of what was left out.
+LEFT = b"left out: %d rows of other devices, %d events of channels without an input, %d lines that are no rows\n"
 
 # What is told of a line that ends before the field of a column, and of one of more than 1,000 bytes.
 ENDS, LONG = b"%b: the line ends before it", b"over 1000 bytes (is it a text with lines?)"
@@ -67,6 +72,7 @@ def switching(rows):
 # one more of tick 31 would change it.
 CAR = told("07:00:01 82 2", "07:00:03 81 2")
 CAR_LOG = b"0000011 0100000000000000 00000000 0000\n0000031 0000000000000000 00000000 0000\n"
+CAR_FIRST, CAR_SECOND = CAR.splitlines(keepends=True)
 CAR_KNOWN = b"0000011 0100000000000000 00000000 0000\n"
 
 
@@ -88,6 +94,101 @@ def form_runs():
     turned = b'EventParam,x,"SignalID",DeviceId,EventCode,EventId,Timestamp\n2,,7,8,82,1,%s:01\n2,,7,8,81,1,%s:03\n'
     yield logged(turned.replace(b"%s", AT[:-3].encode()), CAR_LOG)
     yield from (logged(text, b"") for text in [b"", b"\n", HEADER, MARK, MARK + HEADER[:-1], b"# nothing"])
+
+
+def wide_runs():
+    """Forms of rows: the words of headers, spaces, numbers, times, and lines that are passed over."""
+    for header in [
+        b"signal_id,time_stamp,event_code,event_param", b"Signal ID, Timestamp, Event Code, Event Parameter",
+        b"LocationId,DateTime,EventType,Param", b"INTERSECTION-ID,Event Time,Event Type ID,EventValue",
+        b'"Controller Id","Time","Code","Parameter"', b"x,Timestamp,EventCode,EventParam", HEADER[:-1] + b",",
+    ]:
+        yield logged(header + b"\n" + CAR, CAR_LOG)
+    yield from (logged(HEADER + text, CAR_LOG) for text in [
+        CAR.replace(b",", b" , "), CAR.replace(b",82,2", b",82.0,2.000"), CAR.replace(b",2\n", b",2.\n"),
+        CAR.replace(b"\n", b",\n"), CAR.replace(b"7,", b'"7",'),
+    ])
+    # A device of a row that is not plain counts without the spaces around it.
+    yield logged(CAR.replace(b"7,", b" 7 ,").replace(b",8", b", 8"), CAR_LOG, "--device", "7")
+    # Codes that are passed over, and rows of other devices, need no parameter.
+    more = b"7,2026-11-22 07:00:02,150,-1\n7,2026-11-22 07:00:02,1,NULL\n"
+    yield logged(CAR_FIRST + more + CAR_SECOND, CAR_LOG)
+    yield logged(CAR_FIRST + b"8,2026-11-22 07:00:02,82,NULL\n" + CAR_SECOND, CAR_LOG, "--device=7", errors=LEFT % (1, 0, 0))
+    # Lines that are passed over.
+    front = b"C:\\logs\\day.dat\nVersion: 3\nPhases in use: 1,2\n"
+    for text, count in [
+        (front + HEADER + CAR, 3), (front + CAR, 3), (b"\t\n" + CAR, 1), (HEADER + b"---,---,---,---\n" + CAR, 1),
+        (HEADER + b"--------+ ---+----\n" + CAR, 1), (HEADER + CAR_FIRST + HEADER + CAR_SECOND, 1),
+        (CAR + b"event_code,timestamp,param\n", 1), (HEADER + HEADER + b"-|-\n" + CAR, 2),
+    ]:
+        yield logged(text, CAR_LOG, errors=LEFT % (0, 0, count))
+    for first, second in [
+        ("11/22/2026 07:00:01", "11/22/2026 07:00:03.0"), ("11/22/2026 7:0:1 AM", "11/22/2026 07:00:03.000 am"),
+        ("11-22-2026 07:00:01.0", "11-22-2026 07:00:03"), ("22/11/2026 07:00:01", "22/11/2026 07:00:03"),
+        ("22-11-2026 7:00:01 AM", "22-11-2026 07:00:03 UTC"), ("2026/11/22 07:00:01", "2026-11-22 07:00:03"),
+        ("2026-11-22T07:00:01Z", "2026-11-22T07:00:03.0Z"), ("2026-11-22 07:00:01+01:00", "2026-11-22 07:00:03-0700"),
+        ("2026-11-22 07:00:01.0000000 +00:00", "2026-11-22 07:00:03.0000000 -07"), ("1795330801", "1795330803.000"),
+        ("1795330801000", "1795330803000"), (" 11/22/2026 07:00:01 ", "11/22/2026 07:00:03  "),
+    ]:
+        yield logged(f"{HEADER.decode()}7,{first},82,2\n7,{second},81,2\n".encode(), CAR_LOG)
+    # Noon and midnight of a clock of twice 12 hours.
+    for clock, tick in [("12:00:00 AM", 1), ("12:59:59 AM", 35_991), ("1:00:00 AM", 36_001), ("12:00:00 PM", 432_001),
+                        ("1:00:00 PM", 468_001), ("11:59:59 PM", 863_991)]:
+        text = f"7,11/22/2026 {clock},82,1\n".encode()
+        yield Run(["log", "--from", "2026-11-22 00:00:00"], 0, row(tick, [1]), b"", text)
+    two = b" can be read in two ways: its month or its day first\n"
+    yield refused(b"7,03/04/2026 07:00:01,82,2\n" + CAR, b'events line 1: time: "03/04/2026 07:00:01"' + two)
+    yield refused(b"7,03/03/2026 07:00:01,82,2\n" + CAR, b'events line 1: time: "03/03/2026 07:00:01"' + two)
+    # The first row says the form of all.
+    told_so = b'events line 2: time: "%b" is no time as %b\n'
+    for form, first, second in [
+        ("month first", b"11/22/2026 07:00:01", b"22/11/2026 07:00:03"), ("day first", b"22/11/2026 07:00:01", b"11/22/2026 07:00:03"),
+        ("seconds", b"1795330801", b"1795330803000"), ("milliseconds", b"1795330801000", b"2026-11-22 07:00:03"),
+        ("month first", b"11/22/2026 07:00:01", b"2026-11-22 07:00:03"),
+    ]:
+        text = b"7,%b,82,2\n7,%b,81,2\n" % (first, second)
+        yield refused(text, told_so % (second, field_rules.FORM_TIMES[form]))
+
+
+# What the exports of tools/exports have to give: the ticks of the log's rows, of which the first has detector 4 on, and
+# what is told. They were made up, each in the form in which some controller, agency or spreadsheet hands out its log.
+BOTH, ONE = (33, 41), (33,)
+EXPORTS = {
+    "a01_udot4": BOTH, "a02_ampm": BOTH, "a05_epoch": BOTH, "a06_epochms": ONE, "a07_v5": BOTH, "a08_v5z": ONE, "a09_offset": ONE,
+    "a10_odot": BOTH, "a11_ssms": BOTH, "a12_ctrl3": BOTH, "a13_snake": ONE, "a14_space": ONE, "a15_commaspace": ONE,
+    "a17_float": ONE, "a18_bomcrlf": BOTH, "a20_quoted": BOTH, "a21_trailcomma": ONE, "a22_catheader": (BOTH, 1),
+    "a24_pandasidx": BOTH, "a25_econ": (ONE, 3), "a28_headeronly": (), "a30_neg": ONE, "a36_noHdr4": BOTH, "a37_sqldash": (ONE, 1),
+    "a03_excel": b'events line 2: time: "00:03.2" has no day (was it opened in a spreadsheet?)',
+    "a04_excel2": b'events line 2: time: "11/22/2026 7:00" has no seconds (was it opened in a spreadsheet?)',
+    "a16_semicolon": field_rules.NOTHING[:-1],
+    "a19_utf16": b"events: UTF-16: convert by iconv -f utf-16 -t utf-8",
+    "a23_unsorted": b"events line 3: time order: it is before a row above: sort by time",
+    "a26_maxtime": b"events: XML: export as CSV",
+    "a29_null": b'events line 2: parameter: "NULL" is no whole number up to 4294967295',
+    "a31_comma_dec": b'events line 2: time: "2026-11-22 07:00:03,2" is no time as 2026-11-22 07:00:00.1',
+    "a32_noon12": b'events line 2: time: "2026-11-22 24:00:00.0" is no time as 2026-11-22 07:00:00.1',
+    "a33_tab": field_rules.NOTHING[:-1],
+    "a34_ctrllast": b"events line 3: code: the line ends before it",
+    "a35_eof": b"events line 4: time: the line ends before it",
+}
+KNOWN = {"a35_eof": (33,)}
+
+
+def export_runs():
+    """The exports of tools/exports."""
+    for name, wanted in EXPORTS.items():
+        text = (EXPORT_FOLDER / f"{name}.csv").read_bytes()
+        if isinstance(wanted, bytes):
+            yield refused(text, wanted + b"\n", ticked(KNOWN.get(name, ())))
+        elif wanted and isinstance(wanted[0], tuple):
+            yield logged(text, ticked(wanted[0]), errors=LEFT % (0, 0, wanted[1]))
+        else:
+            yield logged(text, ticked(wanted))
+
+
+def ticked(ticks):
+    """The rows of a log in which detector 4 goes on and off at these ticks."""
+    return b"".join(row(tick, [4] if count % 2 == 0 else []) for count, tick in enumerate(ticks))
 
 
 def moment_runs():
@@ -133,11 +234,10 @@ def moment_runs():
 
 def wire_runs():
     """Channels that lead to inputs, and devices."""
-    left = b"left out: %d rows of other devices, %d events of channels without an input\n"
     on = [f"07:00:00 {code} {n}" for code, n in [(82, 16), (90, 8), (102, 4)]]
     yield logged(told(*on), row(1, [16], [8], [4]))
     beyond = [f"07:00:00 {code} {n}" for code, n in [(82, 17), (81, 0), (90, 9), (89, 10), (102, 5), (104, 4294967295)]]
-    yield logged(told(*on, *beyond), row(1, [16], [8], [4]), errors=left % (0, 6))
+    yield logged(told(*on, *beyond), row(1, [16], [8], [4]), errors=LEFT % (0, 6, 0))
     yield from (logged(told(*(f"07:00:00 {it}" for it in events)), log, *words) for words, events, log in [
         (["--vehicle", "17=3"], ["82 17"], row(1, [3])),
         (["--vehicle", "0=1", "--vehicle", "4294967295=2"], ["82 0", "82 4294967295"], row(1, [1, 2])),
@@ -149,23 +249,23 @@ def wire_runs():
          row(1, [], [7, 8], [4])),
         (["--preempt", "5=1", "--vehicle", "5=2"], ["90 5", "82 5", "102 5"], row(1, [2], [5], [1])),
     ])
-    yield logged(told("07:00:00 82 18"), b"", "--vehicle=17=3", errors=left % (0, 1))
+    yield logged(told("07:00:00 82 18"), b"", "--vehicle=17=3", errors=LEFT % (0, 1, 0))
     both = told("07:00:00 82 20", "07:00:00.1 82 21", "07:00:00.2 81 20", "07:00:00.3 81 21")
     yield logged(both, row(1, [5]) + row(4), "--vehicle", "20=5", "--vehicle", "21=5")
     other = b"8,2026-11-22 06:00:00,82,1\n9,2026-11-30 00:00:00,82,1\n"
-    yield logged(CAR[:len(CAR) // 2] + other + CAR[len(CAR) // 2:], CAR_LOG, "--device", "7", errors=left % (2, 0))
-    yield logged(CAR + other, b"", "--device=10", errors=left % (4, 0))
+    yield logged(CAR[:len(CAR) // 2] + other + CAR[len(CAR) // 2:], CAR_LOG, "--device", "7", errors=LEFT % (2, 0, 0))
+    yield logged(CAR + other, b"", "--device=10", errors=LEFT % (4, 0, 0))
     # A device is its bytes, and no number.
-    yield from (logged(CAR, b"", "--device", device, errors=left % (2, 0)) for device in ["07", " 7", "7 ", "+7"])
+    yield from (logged(CAR, b"", "--device", device, errors=LEFT % (2, 0, 0)) for device in ["07", " 7", "7 ", "+7"])
     yield logged(CAR.replace(b"7,2026", b"07,2026"), CAR_LOG, "--device", "07")
-    yield logged(CAR.replace(b"7,2026", b"07,2026"), b"", "--device", "7", errors=left % (2, 0))
+    yield logged(CAR.replace(b"7,2026", b"07,2026"), b"", "--device", "7", errors=LEFT % (2, 0, 0))
     yield logged(CAR.replace(b"7,", b"-7,"), CAR_LOG, "--device=-7")
     yield logged(CAR.replace(b"7,2026", b'"Main, 5th",2026'), CAR_LOG, "--device", "Main, 5th")
     yield logged(CAR.replace(b"7,2026", b",2026"), CAR_LOG)
-    yield logged(CAR + b"8,2026-11-22 07:00:03,82,99\n", CAR_LOG, "--device", "7", errors=left % (1, 0))
-    yield logged(CAR + told(f"{BEHIND} 82 17"), CAR_LOG, errors=left % (0, 1))
+    yield logged(CAR + b"8,2026-11-22 07:00:03,82,99\n", CAR_LOG, "--device", "7", errors=LEFT % (1, 0, 0))
+    yield logged(CAR + told(f"{BEHIND} 82 17"), CAR_LOG, errors=LEFT % (0, 1, 0))
     # Behind the first line a byte order mark is a part of the device.
-    yield logged(CAR + MARK + told("07:00:04 82 1"), CAR_LOG, "--device", "7", errors=left % (1, 0))
+    yield logged(CAR + MARK + told("07:00:04 82 1"), CAR_LOG, "--device", "7", errors=LEFT % (1, 0, 0))
 
 
 def line_faults():
@@ -177,25 +277,31 @@ def line_faults():
     ])
     for code, channel, column, field in [
         (b"82", b"", b"parameter", b""), (b"", b"2", b"code", b""), (b"82", b"x", b"parameter", b"x"),
-        (b"-82", b"2", b"code", b"-82"), (b" 82", b"2", b"code", b" 82"), (b"00000000082", b"2", b"code", b"00000000082"),
+        (b"-82", b"2", b"code", b"-82"), (b"00000000082", b"2", b"code", b"00000000082"),
         (b"82", b"4294967296", b"parameter", b"4294967296"), (b"82", b'x"\x7f\xc3\xa4\t', b"parameter", b"x?????"),
-        (b"82", b"9" * 41, b"parameter", b"9" * 40), (b"82.0", b"", b"code", b"82.0"),
+        (b"82", b"9" * 41, b"parameter", b"9" * 40), (b"82.0", b" ", b"parameter", b""), (b"82.5", b"2", b"code", b"82.5"),
+        (b" 82.0 1", b"2", b"code", b"82.0 1"), (b"82", b"NULL", b"parameter", b"NULL"), (b"104", b"-1", b"parameter", b"-1"),
     ]:
         yield clock + b"," + code + b"," + channel, b'%b: "%b" is no whole number up to 4294967295' % (column, field)
     for time in [
-        b"", b"2026-11-22", b"2026-11-22 07:00", b"2026-11-22 07:00:03.", b"2026-11-22 07:00:03.0000000001",
-        b"2026-11-22 07:00:03Z", b"2026-11-22 07:00:03+01:00", b"2026-11-22t07:00:03", b"11/22/2026 07:00:03",
-        b"2026-02-29 07:00:03", b"2026-04-31 07:00:03", b"2026-13-22 07:00:03", b"2026-11-00 07:00:03",
-        b"2026-11-22 24:00:00", b"2026-11-22 07:60:00", b"2026-11-22 07:00:60", b" 2026-11-22 07:00:03", b"1795330803.2",
+        b"", b"2026-11-22", b"2026-11-22 07:00:03.0000000001", b"2026-11-22t07:00:03", b"11/22/2026 07:00:03",
+        b"22/11/2026 07:00:03", b"03/04/2026 07:00:03", b"2026-02-29 07:00:03", b"2026-04-31 07:00:03",
+        b"2026-13-22 07:00:03", b"2026-11-00 07:00:03", b"2026-11-22 24:00:00", b"2026-11-22 07:60:00",
+        b"2026-11-22 07:00:60", b"2026-11-22 07:00:03,2", b"1795330803.2", b"1795330803200", b"26-11-22 07:00:03",
+        b"2026-11-22 13:00:03 PM", b"2026-11-22 00:00:03 AM", b"2026-11-22 07:00:03 XM", b"2026-11-22 07:00:03Zx",
+        b"2026-11-22 07:00:03+ab", b"2026-11-22 07:00:03-07:xx",
     ]:
-        yield b"7," + time + b",82,2", b'time: "%b" is no time as 2026-11-22 07:00:00.1' % time
+        field = b'"%b"' % time if b"," in time else time
+        yield b"7," + field + b",82,2", b'time: "%b" is no time as 2026-11-22 07:00:00.1' % time
+    for time in [b"2026-11-22 07:00", b"11/22/2026 7:00"]:
+        yield b"7," + time + b",82,2", b'time: "%b" has no seconds (was it opened in a spreadsheet?)' % time
     for time in [b"00:03.2", b"07:00:03"]:
         yield b"7," + time + b",82,2", b'time: "%b" has no day (was it opened in a spreadsheet?)' % time
     yield from ((line, b"a quote is out of place") for line in [
         b'"7,2026-11-22 07:00:03,82,2', clock + b',"82"0,2', clock + b',82,2,"', b'"7 ""x""",2026-11-22 07:00:03,82,2',
         b'"""7""",2026-11-22 07:00:03,82,2', clock + b',82,2,"a ""b"" c"', clock + b',82,2,""""',
     ])
-    yield HEADER[:-1], b"header: it is there again"
+    yield b"SignalID,Timestamp,EventCode", b"header: no column is the parameter"
     yield from ((line, LONG) for line in [b"x" * 1001, b"#" + b"x" * 1000, b"\x00" * 1001])
 
 
@@ -204,12 +310,14 @@ def fault_runs():
     for line, why in line_faults():
         yield refused(CAR + b"\n" + line + b"\n", b"events line 4: " + why + b"\n", CAR_KNOWN)
         yield refused(CAR + line, b"events line 3: " + why + b"\n", CAR_KNOWN, "--device", "7")
-    yield refused(b"Signal,Timestamp,EventCode,EventParam\n" + CAR, b"events line 1: header: no column is the device\n")
+    yield refused(b"Timestamp,EventCode,EventParam\n" + CAR, b"events line 1: header: no column is the device\n", b"",
+                  "--device", "7")
     yield refused(b"SignalID,Timestamp,EventCode\n" + CAR, b"events line 1: header: no column is the parameter\n")
     yield refused(b"SignalID,Code,EventId\n" + CAR, b"events line 1: header: no column is the time\n")
-    yield refused(b"SignalID,Timestamp,Code,Parameter\n" + CAR, b"events line 1: header: no column is the code\n")
+    yield refused(b"SignalID,Timestamp,Kind,Parameter\n" + CAR, b"events line 1: header: no column is the code\n")
     yield refused(HEADER[:-1] + b',"a ""b"""\n' + CAR, b"events line 1: a quote is out of place\n")
-    yield refused(b"\t\n" + CAR, b"events line 1: " + ENDS % b"time" + b"\n")
+    yield refused(HEADER.replace(b",", b";") + CAR.replace(b",", b";"), field_rules.NOTHING)
+    yield refused(b"a text\nthat is no log\n", field_rules.NOTHING)
     yield refused(b"\n# no time\n8,,82,1\n", b'events line 3: time: "" is no time as 2026-11-22 07:00:00.1\n', b"",
                   "--device", "7")
     for text, why in [
@@ -257,7 +365,6 @@ def known_runs():
     """Which rows are known before a fault: those before the tick of the last event of an input."""
     for events, known in [
         # More may come in the last tick. An event of a later one shows that none does, also where it switches nothing.
-        ([], b""),
         (["07:00:01 82 2"], b""),
         (["07:00:01 82 2", "07:00:01.099999999 90 1"], b""),
         (["07:00:01 82 2", "07:00:01.1 82 2"], row(11, [2])),
@@ -515,7 +622,7 @@ def stream_runs():
         yield Run([*words, "more"], 2, stderr=FULL, commands=text)
         yield Run(words, 3, stdin=TORN, stderr=FULL)
         yield Run(words, 0, stdin="/dev/null", stdout="/dev/null")
-    yield Run(LOG, 1, b"", b"events line 1: " + ENDS % b"time" + b"\n", b"x\n" + CAR, stdout=FULL)
+    yield Run(LOG, 1, b"", b"events line 1: " + ENDS % b"parameter" + b"\n", b"7,x,82\n" + CAR, stdout=FULL)
     yield Run(LOG, 1, stderr=FULL, commands=b"x\n")
     yield Run([*LOG, "--device", "8"], 0, stderr=FULL, commands=CAR)
     yield Run(LOG, 1, b"", b"events: too large\n", stdin=ENDLESS)

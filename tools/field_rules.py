@@ -22,12 +22,14 @@ SAID = {signal: code for code, signal in CODES.items()}
 # How many inputs a bench has of each kind, in the order of a row's fields.
 MOST = {"vehicle": 16, "pedestrian": 8, "preempt": 4}
 
-# The names of the four columns, in small letters, in the order that a text without a header has.
+# The names of the four columns, in small letters and without fillers, in the order that a text without a header has.
 NAMES = [
-    {b"signalid", b"deviceid", b"locationidentifier"}, {b"timestamp"}, {b"eventcode", b"eventid"},
-    {b"eventparam", b"parameter"},
+    {b"signalid", b"deviceid", b"locationidentifier", b"locationid", b"intersectionid", b"controllerid"},
+    {b"timestamp", b"datetime", b"eventtime", b"time"},
+    {b"eventcode", b"eventid", b"eventtype", b"eventtypeid", b"code"},
+    {b"eventparam", b"parameter", b"eventparameter", b"param", b"eventvalue"},
 ]
-
+USUAL = [0, 1, 2, 3]
 COLUMNS = [b"device", b"time", b"code", b"parameter"]
 
 # What is told of a line that begins so, of which the whole text is no text with lines of events.
@@ -38,8 +40,21 @@ WHOLE_FAULTS = [
 ]
 
 # What is told of a field.
-NO_DAY, NO_TIME = b" has no day (was it opened in a spreadsheet?)", b" is no time as 2026-11-22 07:00:00.1"
+NO_DAY = b" has no day (was it opened in a spreadsheet?)"
+NO_SECONDS = b" has no seconds (was it opened in a spreadsheet?)"
+TWO_WAYS = b" can be read in two ways: its month or its day first"
 NO_NUMBER = b" is no whole number up to 4294967295"
+
+# What is told of a text without a header and without a row.
+NOTHING = b"events: no header and no row (do commas part its fields?)\n"
+
+# Forms of times: where a day has its year, its month and its day, and a time in each.
+ORDERS = {"year first": (0, 1, 2), "month first": (2, 0, 1), "day first": (2, 1, 0)}
+FORM_TIMES = {
+    "year first": b"2026-11-22 07:00:00.1", "month first": b"11/22/2026 07:00:00.1", "day first": b"22/11/2026 07:00:00.1",
+    "seconds": b"1795330800.1", "milliseconds": b"1795330800100",
+}
+EPOCH = datetime.datetime(1970, 1, 1).toordinal() * 86400
 
 # How many bytes a device has at most that a line can name.
 LONGEST_DEVICE = 900
@@ -53,6 +68,9 @@ INPUTS = {"vehicle": "detector", "pedestrian": "ped detector", "preempt": "preem
 
 HEADER = b"SignalID,Timestamp,EventCode,EventParam\n"
 TIME = re.compile(rb"(\d{4})-(\d\d)-(\d\d)[ T](\d\d):(\d\d):(\d\d)(?:\.(\d{1,9}))?")
+FORM_TIME = re.compile(
+    rb"(\d+)(?:/(\d+)/(\d+)|-(\d+)-(\d+))(?: |T(?!.* ))(\d{1,10}):(\d{1,10}):(\d{1,10})(?:\.(\d{0,9}))?"
+    rb"(?: (|[Aa][Mm]|[Pp][Mm]|[Uu][Tt][Cc]))?(Z|[+-]\d{1,10}(?::\d{0,10})?)?")
 FIELD = re.compile(rb'(?:"([^"]*)"|([^",][^,]*|))(,|\Z)', re.S)
 SHOWN = re.compile(rb"(\d{7}) ([-RYGF]{16}) ([-DCW]{16}) ([-RYGF]{4}) ([0-4]) (?:\d{4}|-{4})")
 
@@ -112,20 +130,106 @@ def number(text):
 
 
 def columns(line):
-    """The places of the four columns that a header names, or None."""
-    found = [field.lower() for field in fields(line) or []]
+    """The places of the columns that a header names, None for a device that it does not name; or None."""
+    found = [re.sub(rb"[ _-]", b"", field.lower()) for field in fields(line) or []]
     places = [[at for at, field in enumerate(found) if field in names] for names in NAMES]
-    return [it[0] for it in places] if all(places) else None
+    return [it[0] if it else None for it in places] if all(places[1:]) else None
+
+
+def in_places(line, places):
+    """The fields of a line in these places, or None where one is missing."""
+    found = fields(line)
+    if found is None or any(place is not None and len(found) <= place for place in places):
+        return None
+    return [b"" if place is None else found[place] for place in places]
 
 
 def row_of(line, places):
-    """Device, moment, code and parameter of a line, or None."""
-    found = fields(line)
-    if found is None or len(found) <= max(places):
+    """Device, moment, code and parameter of a plain row, or None."""
+    found = in_places(line, places)
+    if found is None:
         return None
-    device, time, code, parameter = (found[place] for place in places)
+    device, time, code, parameter = found
     row = device, moment(time), number(code), number(parameter)
     return None if None in row else row
+
+
+def moment_in(form, text):
+    """The moment that a text names in a form, or None."""
+    if form == "seconds":
+        found = re.fullmatch(rb"(\d{1,10})(?:\.(\d{0,9}))?", text)
+        whole, part = (found[1], found[2] or b"") if found else (b"", b"")
+    elif form == "milliseconds":
+        found = re.fullmatch(rb"(\d{1,10})(\d{3})", text)
+        whole, part = (found[1], found[2]) if found else (b"", b"")
+    else:
+        return numbered(form, text)
+    if number(whole) is None:
+        return None
+    return (EPOCH + int(whole)) * SECOND + int(part.ljust(9, b"0"))
+
+
+def numbered(form, text):
+    """The moment of a day by numbers and a clock, whatever its zone, or None."""
+    found = FORM_TIME.fullmatch(text)
+    if not found:
+        return None
+    a, *others, hour, minute, second, part, half, _ = found.groups()
+    day = [a, *(it for it in others if it is not None)]
+    year, month, of_month = (day[at] for at in ORDERS[form])
+    hours = range(1, 13) if half and half.lower() in (b"am", b"pm") else range(24)
+    if len(year) != 4 or int(hour) not in hours:
+        return None
+    if len(hours) == 12:
+        hour = int(hour) % 12 + 12 * (half.lower() == b"pm")
+    try:
+        at = datetime.datetime(int(year), int(month), int(of_month), int(hour), int(minute), int(second))
+    except ValueError:
+        return None
+    seconds = at.toordinal() * 86400 + at.hour * 3600 + at.minute * 60 + at.second
+    return seconds * SECOND + int((part or b"").ljust(9, b"0"))
+
+
+def form_of(text):
+    """The one form in which a text is a time, or None; and whether its month and its day can't be told apart."""
+    is_in = {form: moment_in(form, text) is not None for form in FORM_TIMES}
+    is_open = not is_in["year first"] and is_in["month first"] and is_in["day first"]
+    return None if is_open or not any(is_in.values()) else next(form for form in is_in if is_in[form]), is_open
+
+
+def whole(text):
+    """The number that digits spell, with zeros behind a point or without, or None."""
+    digits, _, zeros = text.partition(b".")
+    return None if zeros.strip(b"0") else number(digits)
+
+
+def wide_row(line, places, form):
+    """Device, form, moment, code and parameter of a row as exports have it; None is a parameter that is no number. None
+    where there is no row."""
+    found = in_places(line, places)
+    if found is None:
+        return None
+    device, time, code, parameter = (field.strip(b" ") for field in found)
+    form = form or form_of(time)[0]
+    row = device, form, form and moment_in(form, time), whole(code)
+    return None if None in row else (*row, whole(parameter))
+
+
+def is_passed(line):
+    """Whether a line that is no row is passed over: one that a database draws, or a header."""
+    return bool(b"-" in line and not line.strip(b"-, +|") or columns(line))
+
+
+def names(line):
+    """Which of the four columns a line names."""
+    found = [re.sub(rb"[ _-]", b"", field.lower()) for field in fields(line) or []]
+    return [any(field in names for field in found) for names in NAMES]
+
+
+def is_preface(line):
+    """Whether a line is one that a maker writes before the header."""
+    is_other = any(re.match(mark, line, re.S) for mark, _ in WHOLE_FAULTS)
+    return not is_other and not any(names(line)[1:3]) and len(fields(line) or [0] * 3) < 3
 
 
 def shown(field):
@@ -133,28 +237,37 @@ def shown(field):
     return b'"' + re.sub(rb'[^ !#-~]', b"?", field[:40]) + b'"'
 
 
-def why(line, places):
+def why(line, places, form):
     """What is told of a line that is no row, behind `events line N: ` or, of a text without lines, behind `events: `."""
     for mark, told in WHOLE_FAULTS:
         if re.match(mark, line, re.S):
             return b": " + told
-    found = fields(line)
-    named = [any(field.lower() in names for field in found or []) for names in NAMES]
+    found, named = fields(line), names(line)
     if named[1] or named[2]:
-        lacks = [COLUMNS[at] for at, is_named in enumerate(named) if not is_named]
-        return b"header: no column is the " + lacks[0] if lacks else b"header: it is there again"
+        return b"header: no column is the " + COLUMNS[1 + named[1:].index(False)]
     if found is None:
         return b"a quote is out of place"
     for column, place in zip(COLUMNS, places):
-        if len(found) <= place:
+        if place is not None and len(found) <= place:
             return column + b": the line ends before it"
-    _, time, code, parameter = (found[place] for place in places)
-    if moment(time) is None:
-        has_no_day = b":" in time and b"-" not in time and b"/" not in time
-        return b"time: " + shown(time) + (NO_DAY if has_no_day else NO_TIME)
-    if number(code) is None:
+    _, time, code, parameter = (field.strip(b" ") for field in in_places(line, places))
+    own, is_open = form_of(time)
+    if moment_in(form or own or "year first", time) is None:
+        return b"time: " + shown(time) + time_fault(time, form, is_open)
+    if whole(code) is None:
         return b"code: " + shown(code) + NO_NUMBER
     return b"parameter: " + shown(parameter) + NO_NUMBER
+
+
+def time_fault(time, form, is_open):
+    """What is wrong with a time."""
+    if is_open and not form:
+        return TWO_WAYS
+    if b":" in time and b"-" not in time and b"/" not in time:
+        return NO_DAY
+    if b":" in time and not time.partition(b":")[2].partition(b":")[2]:
+        return NO_SECONDS
+    return b" is no time as " + FORM_TIMES[form or "year first"]
 
 
 def lines_of(text):
@@ -207,9 +320,9 @@ def known_log(begin, wires, events):
 
 
 def taken(lines, begin, device, wires):
-    """The events that lines tell of inputs, how many rows are of other devices, and how many events are of channels
-    without an input. A fault is raised."""
-    events, last, others, lost, places = [], 0, 0, 0, None
+    """The events that lines tell of inputs, how many rows are of other devices, how many events are of channels without
+    an input, how many lines are passed over, and whether there is a header or a row. A fault is raised."""
+    events, last, others, lost, passed, places, form = [], 0, 0, 0, 0, None, None
 
     def fault(told):
         raise Fault(b"events" + told + b"\n", known_log(begin, wires, events))
@@ -221,15 +334,26 @@ def taken(lines, begin, device, wires):
         if not line.strip(b" ") or line.startswith(b"#"):
             continue
         if places is None:
-            places = columns(line) or [0, 1, 2, 3]
             if columns(line):
+                places = columns(line)
+                if device is not None and places[0] is None:
+                    fault(b" line %d: header: no column is the device" % count)
                 continue
-        row = row_of(line, places)
-        if row is None:
-            told = why(line, places)
+            if is_preface(line):
+                passed += 1
+                continue
+            places = USUAL
+        row = row_of(line, places) if form in (None, "year first") else None
+        if row is None and is_passed(line):
+            passed += 1
+            continue
+        wide = (row[0], "year first", *row[1:]) if row else wide_row(line, places, form)
+        counts = wide and device in (None, wide[0])
+        if wide is None or wide[4] is None and counts and wide[3] in CODES:
+            told = why(line, places, form)
             fault(told if told.startswith(b": ") else b" line %d: %b" % (count, told))
-        of, at, code, channel = row
-        if device is not None and of != device:
+        of, form, at, code, channel = wide
+        if not counts:
             others += 1
             continue
         if at < last:
@@ -242,15 +366,18 @@ def taken(lines, begin, device, wires):
             events.append((at, kind, channel, on))
         elif kind:
             lost += 1
-    return events, others, lost
+    return events, others, lost, passed, places is not None
 
 
 def log(text, begin, device=None, mapped=()):
     """The log that a text of events tells from a moment on, and what standard error has. A fault is raised."""
     wires = wires_of(mapped)
-    events, others, lost = taken(lines_of(text), begin, device, wires)
-    told = f"left out: {others} rows of other devices, {lost} events of channels without an input\n"
-    return log_of_events(begin, wires, events), told.encode() if others or lost else b""
+    events, others, lost, passed, is_found = taken(lines_of(text), begin, device, wires)
+    if passed and not is_found:
+        raise Fault(NOTHING, b"")
+    told = f"left out: {others} rows of other devices, {lost} events of channels without an input, " \
+           f"{passed} lines that are no rows\n"
+    return log_of_events(begin, wires, events), told.encode() if others or lost or passed else b""
 
 
 def begun_log(text, begin, device=None, mapped=()):

@@ -6,8 +6,8 @@
 PROGRAM is that of tsb_field, BENCH that of tsb, which answers the hour of the examples.
 
 Worked runs, of tools/field_cases.py, have the exact bytes and the status that the rules of docs/FIELD.md ask for.
-Behind them come texts at random, the same in each run of this tool: logs go to events and back, events and display
-lines are compared with what tools/field_rules.py makes of them, and so are the bars of diagrams, which are read as XML.
+Behind them come texts at random, the same in each run of this tool: logs go to events and back, events, exports in all
+forms and display lines are compared with what tools/field_rules.py makes of them, and so are the bars of diagrams, which are read as XML.
 So are the sessions of the examples, and their hour of traffic. There are texts of the greatest sizes, too.
 """
 import itertools
@@ -24,7 +24,7 @@ from field_cases import BEGIN, FROM, GIB, MOST_ROWS
 from run_program import EXAMPLES, shown
 
 # How many texts there are of each kind.
-TRIPS, TEXTS = 200, 200
+TRIPS, TEXTS, EXPORTS = 200, 200, 2000
 DEVICES = ["1001", "Main, 5th", "-7", "x y", "#7"]
 KINDS = list(field_rules.MOST)
 
@@ -110,6 +110,75 @@ def logs_of_events(program):
             wanted = 1, fault.known, fault.line
         words = ["log", *FROM, *([f"--device={device}"] if device else []), *sum((words for words, _ in wires), [])]
         yield from difference(f"log of events {count}", answer(program, words, text), wanted)
+
+
+HEADERS = [
+    b"SignalID,Timestamp,EventCode,EventParam", b"signal_id,time_stamp,event_code,event_param", b"Timestamp,Event Type,Parameter",
+    b"x, Device Id, DateTime, Event ID, Param", b'"LocationIdentifier","timestamp","eventCode","eventParam"', b"",
+    b"EventValue,Code,Time,INTERSECTION-ID,",
+]
+FRONTS = [b"", b"", b"Version: 3\n", b"C:\\log.dat\nPhases in use: 1 2 3\n", b"# remark\n\n"]
+SUFFIXES = {"year first": ["", "", "Z", "+00:00", "-0700", " +01"], "month first": ["", "", " UTC"], "day first": ["", "Z"]}
+
+
+def random_time(chance, nanos, form, suffix):
+    """A moment in a form."""
+    if form == "seconds":
+        seconds, part = divmod(nanos - field_rules.EPOCH * field_rules.SECOND, field_rules.SECOND)
+        return f"{seconds}.{part:09}".rstrip("0").rstrip(chance.choice([".", ""]))
+    if form == "milliseconds":
+        return str((nanos - field_rules.EPOCH * field_rules.SECOND) // 10 ** 6)
+    day, clock = field_rules.time_text(nanos).decode().split(" ")
+    year, month, of_month = day.split("-")
+    order = {"year first": [year, month, of_month], "month first": [month, of_month, year], "day first": [of_month, month, year]}
+    hour, rest = clock.split(":", 1)
+    half = ""
+    if not suffix and chance.randrange(2) and form != "year first":
+        half = chance.choice([" AM", " am"]) if int(hour) < 12 else " PM"
+        hour = str((int(hour) + 11) % 12 + 1)
+    mark = "-" if form == "year first" else chance.choice("/-")
+    return f"{mark.join(order[form])} {hour}:{rest}{half}{suffix}"
+
+
+def random_export(chance):
+    """An export in a form at random, with a fault now and then."""
+    header, form = chance.choice(HEADERS), chance.choice(list(field_rules.FORM_TIMES))
+    places = field_rules.columns(header) or field_rules.USUAL
+    width = max(place for place in places if place is not None) + 1 + chance.choice([0, 0, 1])
+    suffix = chance.choice(SUFFIXES.get(form, [""]))
+    space, zeros = chance.choice(["", "", " "]), chance.choice(["", "", ".0", ".00"])
+    day = chance.choice([0, 0, 0, -17 * 86_400, 86_400])
+    now = BEGIN + day * field_rules.SECOND
+    lines = [header] if header else []
+    for _ in range(chance.randrange(30)):
+        now += chance.choice([0, 1, 3, 70]) * 10 ** 8
+        code = chance.choice([82, 81, 90, 89, 102, 104, 1, 150])
+        channel = str(chance.choice([1, 1, 2, 4, 17])) + zeros
+        if chance.randrange(150 if code in field_rules.CODES else 3) == 0:
+            channel = chance.choice(["NULL", "-1", ""])
+        said = [chance.choice(["7", "7", "8"]), random_time(chance, now, form, suffix), f"{code}{zeros}", channel]
+        row = ["x"] * width
+        for place, field in zip(places, said):
+            if place is not None:
+                row[place] = space + field + space
+        lines.append(",".join(row).encode())
+        spoilt = chance.randrange(80)
+        if spoilt < 5:
+            lines.append([b"---,---,---,---", header or b"-", b"x", b"7,07:00:03,82,1", lines[-1][:-3]][spoilt])
+    return chance.choice(FRONTS) + b"".join(line + b"\n" for line in lines)
+
+
+def logs_of_exports(program):
+    """Exports at random of which the program makes another log than the rule."""
+    for count in range(EXPORTS):
+        chance = random.Random(f"export {count}")
+        text, device = random_export(chance), chance.choice([None, None, "7"])
+        try:
+            wanted = 0, *field_rules.log(text, BEGIN, device and device.encode())
+        except field_rules.Fault as fault:
+            wanted = 1, fault.known, fault.line
+        words = ["log", *FROM, *([f"--device={device}"] if device else [])]
+        yield from difference(f"log of export {count}", answer(program, words, text), wanted)
 
 
 def random_display(chance):
@@ -271,7 +340,7 @@ def hour(program, bench):
 def worked_runs():
     """All worked runs."""
     return [
-        *field_cases.form_runs(), *field_cases.moment_runs(), *field_cases.wire_runs(), *field_cases.fault_runs(),
+        *field_cases.form_runs(), *field_cases.wide_runs(), *field_cases.export_runs(), *field_cases.moment_runs(), *field_cases.wire_runs(), *field_cases.fault_runs(),
         *field_cases.event_runs(), *field_cases.record_runs(), *field_cases.record_faults(), *field_cases.word_runs(),
         *field_cases.stream_runs(),
     ]
@@ -290,12 +359,14 @@ def main(words):
         field_cases.fill(folder)
         wrong = [f"{run.words} {run.places or ''}{shown(run.commands)}: {it}" for run in runs
                  for it in run.differences(program, folder)]
-        wrong += [*round_trips(program, folder), *logs_of_events(program), *events_of_displays(program, folder)]
+        wrong += [*round_trips(program, folder), *logs_of_events(program), *logs_of_exports(program)]
+        wrong += events_of_displays(program, folder)
         wrong += [*diagrams(program, folder), *closed_pipes(program), *greatest(program)]
     wrong += hour(program, bench)
     of_sessions, count = sessions(program)
     wrong += of_sessions
-    told = f"{len(runs)} worked runs, {count} sessions, {TRIPS} round trips and {2 * TEXTS} texts at random as expected"
+    told = f"{len(runs)} worked runs, {count} sessions, {TRIPS} round trips, {EXPORTS} exports and {2 * TEXTS} texts " \
+           f"at random as expected"
     print("\n".join(wrong) if wrong else f"tsb_field: {told}")
     return 1 if wrong else 0
 

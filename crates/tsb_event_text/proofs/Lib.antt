@@ -1,5 +1,7 @@
 pub mod FieldLemmas
 pub mod TimeLemmas
+pub mod SplitLemmas
+pub mod TrimLemmas
 pub mod RowLemmas
 pub mod WrittenLemmas
 pub mod EventLemmas

@@ -3,7 +3,7 @@ use Rattle.std.proofs.Common.{◌≡◌, ◌∙◌, ℕ, List, refl, ap, Option,
 use Rattle.std.specs.Prelude.{slice_get}
 use Rattle.tsb_event_text.specs.declared.columns.Column.TheVariants.{Device, Time, Code, Parameter}
 use Rattle.tsb_event_text.specs.declared.columns.Columns.{Columns}
-use Rattle.tsb_event_text.specs.Fields.{fields_of}
+use Rattle.tsb_event_text.specs.Fields.{device_at, fields_of}
 use Rattle.tsb_event_text.specs.Columns.{place_from, columns_at, columns_in, header_of}
 use Rattle.tsb_lines.specs.Words.{number_of}
 use Rattle.tsb_event_text.specs.declared.times.Moment.{Moment}
@@ -23,7 +23,7 @@ pub row-none : (columns : Columns) (asked : Option (List ℕ)) (line : List ℕ)
 unfolding row_of
 row-none columns asked line e = ap (row_in columns asked) e
 
-pub row-with : (columns : Columns) (asked : Option (List ℕ)) (line : List ℕ) (fields : List (List ℕ)) (d t k p : Option (List ℕ)) → fields_of line ≡ Some fields → slice_get fields columns.device ≡ d → slice_get fields columns.time ≡ t
+pub row-with : (columns : Columns) (asked : Option (List ℕ)) (line : List ℕ) (fields : List (List ℕ)) (d t k p : Option (List ℕ)) → fields_of line ≡ Some fields → device_at fields columns.device ≡ d → slice_get fields columns.time ≡ t
     → slice_get fields columns.code ≡ k → slice_get fields columns.parameter ≡ p → row_of columns asked line ≡ row_with asked d t k p
 unfolding row_of
 row-with columns asked line fields d t k p e hd ht hk hp = ap (row_in columns asked) e ∙ rw (hd, ht, hk, hp) refl

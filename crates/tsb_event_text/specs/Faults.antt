@@ -1,17 +1,19 @@
 -- Why a line is no row of events.
-use Rattle.std.specs.Prelude.{ℕ, ◌==◌, ◌&&◌, ◌||◌, not, Bool, true, false, List, [], ◌∷◌, ◌++◌, length, min, take, drop, slice_get, if◌then◌else◌, Option, Some, None, codes}
-use Rattle.tsb_lines.specs.Words.{number_of}
+use Rattle.std.specs.Prelude.{ℕ, ◌==◌, ◌&&◌, ◌||◌, not, Bool, true, false, List, [], ◌∷◌, ◌++◌, length, min, take, drop, if◌then◌else◌, Option, Some, None, codes}
 use Rattle.tsb_event_text.specs.declared.columns.Column.{Column}
 use Rattle.tsb_event_text.specs.declared.columns.Column.TheVariants.{Device, Time, Code, Parameter}
 use Rattle.tsb_event_text.specs.declared.columns.Columns.{Columns}
 use Rattle.tsb_event_text.specs.declared.faults.Shown.{Shown}
 use Rattle.tsb_event_text.specs.declared.faults.RowFault.{RowFault}
-use Rattle.tsb_event_text.specs.declared.faults.RowFault.TheVariants.{Utf16, Zip, Xml, Binary, Lacks, Again, Quote, Missing, NoDay, NoTime, NoNumber}
+use Rattle.tsb_event_text.specs.declared.faults.RowFault.TheVariants.{Utf16, Zip, Xml, Binary, Lacks, Quote, Missing, Ambiguous, NoDay, NoSeconds, NoTime, NoNumber}
 use Rattle.tsb_event_text.specs.declared.times.Moment.{Moment}
 use Rattle.tsb_event_text.specs.Columns.{place_from}
 use Rattle.tsb_event_text.specs.Events.{has_byte}
-use Rattle.tsb_event_text.specs.Fields.{are_there, fields_of}
-use Rattle.tsb_event_text.specs.Times.{moment_of}
+use Rattle.tsb_event_text.specs.Fields.{are_there, device_in, field_in, fields_of}
+use Rattle.tsb_event_text.specs.TimeForms.{behind, is_ambiguous, is_empty, is_there, moment_in}
+use Rattle.tsb_event_text.specs.Wide.{form_by, trimmed, whole_of}
+use Rattle.tsb_event_text.specs.declared.time_forms.TimeForm.{TimeForm}
+use Rattle.tsb_event_text.specs.declared.time_forms.TimeForm.TheVariants.{YearFirst}
 
 -- ## What a text is that has no such lines
 
@@ -50,13 +52,9 @@ is_named_in column (Some fields) = is_place (place_from 0 column fields)
 abbrev pub is_named : Column → List ℕ → Bool
 is_named column line = is_named_in column (fields_of line)
 
--- what is wrong with a line that names columns: the first column that it lacks, or that it is there again
+-- what is wrong with a line that names a time or a code, and is no header: the first column that it lacks
 abbrev pub header_fault : List ℕ → RowFault
-header_fault line =
-    if is_named Device line then
-    (if is_named Time line then
-    (if is_named Code line then
-    (if is_named Parameter line then Again else Lacks Parameter) else Lacks Code) else Lacks Time) else Lacks Device
+header_fault line = if is_named Time line then (if is_named Code line then Lacks Parameter else Lacks Code) else Lacks Time
 
 -- ## Fields of a row
 
@@ -75,43 +73,80 @@ shown_of field = record {
 abbrev pub is_dated : List ℕ → Bool
 is_dated time = has_byte 45 time || has_byte 47 time
 
--- a clock without a day has a colon, and no mark of a day
-abbrev pub time_fault : List ℕ → RowFault
-time_fault time = if has_byte 58 time && not (is_dated time) then NoDay (shown_of time) else NoTime (shown_of time)
+-- it has one colon at most: a clock without seconds
+abbrev pub has_no_second : List ℕ → Bool
+has_no_second time = is_empty (behind 58 (behind 58 time))
 
--- what is wrong with these fields, where this is what they say: with the time, the code, or else the parameter
-abbrev pub said_fault : Option Moment → Option ℕ → List ℕ → List ℕ → List ℕ → RowFault
-said_fault None said time code parameter = time_fault time
-said_fault (Some moment) None time code parameter = NoNumber Code (shown_of code)
-said_fault (Some moment) (Some said) time code parameter = NoNumber Parameter (shown_of parameter)
+-- no form is known
+abbrev pub is_open : Option TimeForm → Bool
+is_open None = true
+is_open (Some form) = false
+
+-- the form that a time should have
+abbrev pub form_or : Option TimeForm → TimeForm
+form_or None = YearFirst
+form_or (Some form) = form
+
+-- what is wrong with a time of this form, or where none is known yet
+abbrev pub time_fault : Option TimeForm → List ℕ → RowFault
+time_fault times time =
+    if is_open times && is_ambiguous time then Ambiguous (shown_of time)
+    else if has_byte 58 time && not (is_dated time) then NoDay (shown_of time)
+    else if has_byte 58 time && has_no_second time then NoSeconds (shown_of time)
+    else NoTime (form_or times) (shown_of time)
+
+-- the moment of a time whose form is known
+abbrev pub moment_by : Option TimeForm → List ℕ → Option Moment
+moment_by None time = None
+moment_by (Some form) time = moment_in form time
+
+-- the moment of a time
+abbrev pub time_at : Option TimeForm → List ℕ → Option Moment
+time_at times time = moment_by (form_by times time) time
+
+-- what is wrong with these fields, of which the first two say this: with the time, the code, or else the parameter
+abbrev pub said_fault : Option TimeForm → Option Moment → Option ℕ → List ℕ → List ℕ → List ℕ → RowFault
+said_fault times None said time code parameter = time_fault times time
+said_fault times (Some moment) None time code parameter = NoNumber Code (shown_of code)
+said_fault times (Some moment) (Some said) time code parameter = NoNumber Parameter (shown_of parameter)
+
+-- what is wrong with three fields without spaces around them
+abbrev pub three_fault : Option TimeForm → List ℕ → List ℕ → List ℕ → RowFault
+three_fault times time code parameter = said_fault times (time_at times time) (whole_of code) time code parameter
 
 -- what is wrong with a row, where these are its fields: the first that is missing, or what one says
-abbrev pub fields_fault : Option (List ℕ) → Option (List ℕ) → Option (List ℕ) → Option (List ℕ) → RowFault
-fields_fault None time code parameter = Missing Device
-fields_fault (Some device) None code parameter = Missing Time
-fields_fault (Some device) (Some time) None parameter = Missing Code
-fields_fault (Some device) (Some time) (Some code) None = Missing Parameter
-fields_fault (Some device) (Some time) (Some code) (Some parameter) = said_fault (moment_of time) (number_of code) time code parameter
-
--- the field in this place
-abbrev pub field_in : Option (List (List ℕ)) → ℕ → Option (List ℕ)
-field_in None place = None
-field_in (Some fields) place = slice_get fields place
+abbrev pub fields_fault : Option TimeForm → Option (List ℕ) → Option (List ℕ) → Option (List ℕ) → Option (List ℕ) → RowFault
+fields_fault times None time code parameter = Missing Device
+fields_fault times (Some device) None code parameter = Missing Time
+fields_fault times (Some device) (Some time) None parameter = Missing Code
+fields_fault times (Some device) (Some time) (Some code) None = Missing Parameter
+fields_fault times (Some device) (Some time) (Some code) (Some parameter) = three_fault times (trimmed time) (trimmed code) (trimmed parameter)
 
 -- what is wrong with a line of a text of lines, with its columns in these places
-abbrev pub line_fault : Columns → List ℕ → RowFault
-line_fault columns line =
+abbrev pub line_fault : Columns → Option TimeForm → List ℕ → RowFault
+line_fault columns times line =
     if is_named Time line || is_named Code line then header_fault line
     else if are_there (fields_of line)
-    then fields_fault (field_in (fields_of line) columns.device) (field_in (fields_of line) columns.time) (field_in (fields_of line) columns.code)
+    then fields_fault times (device_in (fields_of line) columns.device) (field_in (fields_of line) columns.time) (field_in (fields_of line) columns.code)
     (field_in (fields_of line) columns.parameter)
     else Quote
 
--- why a line is no row, with its columns in these places
-unfoldable pub fault_of : Columns → List ℕ → RowFault
-fault_of columns line =
+-- why a line is no row, with its columns in these places and times in this form, or in that of the row's own time
+unfoldable pub fault_of : Columns → Option TimeForm → List ℕ → RowFault
+fault_of columns times line =
     if is_utf16 line then Utf16
     else if is_packed line then Zip
     else if is_xml line then Xml
     else if has_byte 0 line then Binary
-    else line_fault columns line
+    else line_fault columns times line
+
+-- ## Lines before the header
+
+-- a line of another kind of file
+abbrev pub is_other : List ℕ → Bool
+is_other line = is_utf16 line || (is_packed line || (is_xml line || has_byte 0 line))
+
+-- a line that a maker writes before the header: it names no time and no code, and has less than three fields
+unfoldable pub is_preface : List ℕ → Bool
+is_preface line =
+    not (is_other line) && (not (is_named Time line || is_named Code line) && (are_there (fields_of line) && not (is_there (field_in (fields_of line) 2))))

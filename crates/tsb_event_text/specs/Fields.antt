@@ -1,5 +1,5 @@
 -- The fields of a line of CSV, which is a list of bytes without its end.
-use Rattle.std.specs.Prelude.{ℕ, ◌==◌, Bool, true, false, List, [], ◌∷◌, if◌then◌else◌, Option, Some, None}
+use Rattle.std.specs.Prelude.{ℕ, ◌==◌, Bool, true, false, List, [], ◌∷◌, slice_get, if◌then◌else◌, Option, Some, None}
 use Rattle.tsb_lines.specs.Lines.{onto_first}
 
 -- where a byte stands in a line
@@ -51,3 +51,18 @@ are_there (Some fields) = true
 abbrev pub led_by : List ℕ → Option (Option (List (List ℕ))) → Option (List (List ℕ))
 led_by field None = Some (field ∷ [])
 led_by field (Some behind) = with_field field behind
+
+-- the field in this place
+abbrev pub field_in : Option (List (List ℕ)) → ℕ → Option (List ℕ)
+field_in None place = None
+field_in (Some fields) place = slice_get fields place
+
+-- the device of these fields: nothing, where no column has it
+abbrev pub device_at : List (List ℕ) → Option ℕ → Option (List ℕ)
+device_at fields None = Some []
+device_at fields (Some place) = slice_get fields place
+
+-- the device of a line
+abbrev pub device_in : Option (List (List ℕ)) → Option ℕ → Option (List ℕ)
+device_in fields None = Some []
+device_in fields (Some place) = field_in fields place

@@ -4,11 +4,15 @@ pub mod Fields
 pub mod Columns
 -- the moment that a time of a clock without a zone names
 pub mod Times
+-- times in the forms in which exports have them
+pub mod TimeForms
 -- what a row of events says
 pub mod Rows
 -- times as text
 pub mod Written
 -- lines of events, written
 pub mod Events
+-- rows as exports have them
+pub mod Wide
 -- why a line is no row
 pub mod Faults

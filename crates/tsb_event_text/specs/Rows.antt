@@ -5,7 +5,7 @@ use Rattle.tsb_lines.specs.Words.{number_of}
 use Rattle.tsb_event_text.specs.declared.columns.Columns.{Columns}
 use Rattle.tsb_event_text.specs.declared.times.Moment.{Moment}
 use Rattle.tsb_event_text.specs.declared.rows.EventRow.{EventRow}
-use Rattle.tsb_event_text.specs.Fields.{fields_of}
+use Rattle.tsb_event_text.specs.Fields.{device_at, fields_of}
 use Rattle.tsb_event_text.specs.Times.{moment_of}
 
 -- a row of this device counts, where that one is asked for; where none is, each row does
@@ -29,7 +29,7 @@ row_with asked device time code parameter = None
 abbrev pub row_in : Columns → Option (List ℕ) → Option (List (List ℕ)) → Option EventRow
 row_in columns asked None = None
 row_in columns asked (Some fields) =
-    row_with asked (slice_get fields columns.device) (slice_get fields columns.time) (slice_get fields columns.code)
+    row_with asked (device_at fields columns.device) (slice_get fields columns.time) (slice_get fields columns.code)
     (slice_get fields columns.parameter)
 
 -- the row that a line spells, with its columns in these places, where the events of this device are asked for

@@ -1,15 +1,15 @@
 //! Why a line is no row.
-ghost use Rattle.std.specs.Prelude.{◌≡◌, option_map};
-ghost use Rattle.tsb_lines.specs.Words.{number_of};
-ghost use Rattle.tsb_event_text.specs.Fields.{fields_of};
-ghost use Rattle.tsb_event_text.specs.Times.{moment_of};
-ghost use Rattle.tsb_event_text.specs.Faults.{begins, fault_of, field_in, header_fault, is_named, is_packed, is_place, is_utf16, is_xml, line_fault, said_fault, shown_of, time_fault};
+ghost use Rattle.std.specs.Prelude.{◌≡◌};
+ghost use Rattle.tsb_event_text.specs.Fields.{field_in, fields_of};
+ghost use Rattle.tsb_event_text.specs.TimeForms.{is_there};
+ghost use Rattle.tsb_event_text.specs.Faults.{begins, fault_of, form_or, has_no_second, header_fault, is_named, is_open, is_other, is_packed, is_place, is_preface, is_utf16, is_xml, line_fault, shown_of, three_fault, time_at, time_fault};
 
 use crate::columns::{Column, Columns, place};
 use crate::events::has_byte;
-use crate::fields::{field_at, has_fields};
-use crate::times::read_moment;
-use tsb_lines::number;
+use crate::fields::{device_in, field_in, has_fields};
+use crate::time_forms::{TimeForm, is_ambiguous, moment_in, split};
+use crate::times::Moment;
+use crate::wide::{form_by, trimmed, whole};
 
 /// How many bytes of a field a fault shows at most.
 pub const SHOWN: usize = 40;
@@ -34,26 +34,29 @@ pub enum RowFault {
     Xml,
     /// It has a byte 0, which no text has.
     Binary,
-    /// It names columns, and this one is the first that it does not name.
+    /// It names columns, and this one, which has to be named, is the first that it does not name.
     Lacks(Column),
-    /// It names all four columns, behind the line that did so first.
-    Again,
     /// A quote is out of place: nothing closes it, or it closes a field and anything but a comma follows.
     Quote,
     /// It ends before the field of this column.
     Missing(Column),
+    /// Its time has a month and a day, and does not tell which is first.
+    Ambiguous(Shown),
     /// Its time has a clock and no day.
     NoDay(Shown),
-    /// Its time is none.
-    NoTime(Shown),
-    /// Its code or its parameter is no number.
+    /// Its time has a clock without seconds.
+    NoSeconds(Shown),
+    /// Its time is none in this form.
+    NoTime(TimeForm, Shown),
+    /// Its code or its parameter is no whole number.
     NoNumber(Column, Shown),
 }
 
-/// Why a line is no row, with its columns in these places; of a line that is one, its last cause.
+/// Why a line is no row, with its columns in these places; of a line that is one, its last cause. `times` is the form of
+/// times, or `None` where the row's own time says it.
 #[tactic(auto, unfolding(crate::specs::Faults::fault_of))]
-pub fn row_fault(line: &[u8], columns: Columns) -> RowFault
-    ensures { result ≡ fault_of columns line.now }
+pub fn row_fault(line: &[u8], columns: Columns, times: Option<TimeForm>) -> RowFault
+    ensures { result ≡ fault_of columns times line.now }
 {
     if is_utf16(line) {
         return RowFault::Utf16;
@@ -67,12 +70,41 @@ pub fn row_fault(line: &[u8], columns: Columns) -> RowFault
     if has_byte(0, line) {
         return RowFault::Binary;
     }
-    line_fault(line, columns)
+    line_fault(line, columns, times)
+}
+
+/// Whether a line is one that a maker writes before the header: it names no time and no code, has less than three
+/// fields, and is of no other kind of file.
+#[tactic(auto, unfolding(crate::specs::Faults::is_preface))]
+pub fn is_preface(line: &[u8]) -> bool
+    ensures { result ≡ is_preface line.now }
+{
+    !is_other(line)
+        && !(is_named(line, Column::Time) || is_named(line, Column::Code))
+        && has_fields(line)
+        && !has_third(line)
+}
+
+/// Whether a line is of another kind of file.
+fn is_other(line: &[u8]) -> bool
+    ensures { result ≡ is_other line.now }
+{
+    is_utf16(line) || is_packed(line) || is_xml(line) || has_byte(0, line)
+}
+
+/// Whether a line has a third field.
+fn has_third(line: &[u8]) -> bool
+    ensures { result ≡ is_there (field_in (fields_of line.now) 2) }
+{
+    match field_in(line, 2) {
+        Some(_) => true,
+        None => false,
+    }
 }
 
 /// What is wrong with a line of a text of lines.
-fn line_fault(line: &[u8], columns: Columns) -> RowFault
-    ensures { result ≡ line_fault columns line.now }
+fn line_fault(line: &[u8], columns: Columns, times: Option<TimeForm>) -> RowFault
+    ensures { result ≡ line_fault columns times line.now }
 {
     if is_named(line, Column::Time) || is_named(line, Column::Code) {
         return header_fault(line);
@@ -80,62 +112,99 @@ fn line_fault(line: &[u8], columns: Columns) -> RowFault
     if !has_fields(line) {
         return RowFault::Quote;
     }
-    let Some(_) = field(line, columns.device) else {
+    let Some(_) = device_in(line, columns.device) else {
         return RowFault::Missing(Column::Device);
     };
-    let Some(time) = field(line, columns.time) else {
+    let Some(time) = field_in(line, columns.time) else {
         return RowFault::Missing(Column::Time);
     };
-    let Some(code) = field(line, columns.code) else {
+    let Some(code) = field_in(line, columns.code) else {
         return RowFault::Missing(Column::Code);
     };
-    let Some(parameter) = field(line, columns.parameter) else {
+    let Some(parameter) = field_in(line, columns.parameter) else {
         return RowFault::Missing(Column::Parameter);
     };
-    said_fault(time, code, parameter)
+    three_fault(times, trimmed(time), trimmed(code), trimmed(parameter))
 }
 
-/// What is wrong with a line that names columns.
+/// What is wrong with a line that names a time or a code, and is no header.
 fn header_fault(line: &[u8]) -> RowFault
     ensures { result ≡ header_fault line.now }
 {
-    if !is_named(line, Column::Device) {
-        return RowFault::Lacks(Column::Device);
-    }
     if !is_named(line, Column::Time) {
         return RowFault::Lacks(Column::Time);
     }
     if !is_named(line, Column::Code) {
         return RowFault::Lacks(Column::Code);
     }
-    if !is_named(line, Column::Parameter) {
-        return RowFault::Lacks(Column::Parameter);
-    }
-    RowFault::Again
+    RowFault::Lacks(Column::Parameter)
 }
 
-/// What is wrong with the fields of a row.
-fn said_fault(time: &[u8], code: &[u8], parameter: &[u8]) -> RowFault
-    ensures { result ≡ said_fault (moment_of time.now) (number_of code.now) time.now code.now parameter.now }
+/// What is wrong with three fields of a row.
+fn three_fault(times: Option<TimeForm>, time: &[u8], code: &[u8], parameter: &[u8]) -> RowFault
+    ensures { result ≡ three_fault times time.now code.now parameter.now }
 {
-    if read_moment(time).is_none() {
-        return time_fault(time);
-    }
-    if number(code).is_none() {
+    let Some(_) = time_at(times, time) else {
+        return time_fault(times, time);
+    };
+    let Some(_) = whole(code) else {
         return RowFault::NoNumber(Column::Code, front(code));
-    }
+    };
     RowFault::NoNumber(Column::Parameter, front(parameter))
 }
 
-/// What is wrong with a time.
-fn time_fault(time: &[u8]) -> RowFault
-    ensures { result ≡ time_fault time.now }
+/// The moment of a time.
+fn time_at(times: Option<TimeForm>, time: &[u8]) -> Option<Moment>
+    ensures { result ≡ time_at times time.now }
 {
+    let form = form_by(times, time)?;
+    moment_in(form, time)
+}
+
+/// What is wrong with a time.
+fn time_fault(times: Option<TimeForm>, time: &[u8]) -> RowFault
+    ensures { result ≡ time_fault times time.now }
+{
+    if is_open(times) && is_ambiguous(time) {
+        return RowFault::Ambiguous(front(time));
+    }
     let dated = has_byte(b'-', time) || has_byte(b'/', time);
     if has_byte(b':', time) && !dated {
         return RowFault::NoDay(front(time));
     }
-    RowFault::NoTime(front(time))
+    if has_byte(b':', time) && has_no_second(time) {
+        return RowFault::NoSeconds(front(time));
+    }
+    RowFault::NoTime(form_or(times), front(time))
+}
+
+/// Whether no form of times is known.
+fn is_open(times: Option<TimeForm>) -> bool
+    ensures { result ≡ is_open times }
+{
+    match times {
+        Some(_) => false,
+        None => true,
+    }
+}
+
+/// The form that a time should have.
+fn form_or(times: Option<TimeForm>) -> TimeForm
+    ensures { result ≡ form_or times }
+{
+    match times {
+        Some(form) => form,
+        None => TimeForm::YearFirst,
+    }
+}
+
+/// Whether a clock has no seconds.
+fn has_no_second(time: &[u8]) -> bool
+    ensures { result ≡ has_no_second time.now }
+{
+    let (_, rest) = split(b':', time);
+    let (_, rest) = split(b':', rest);
+    rest.is_empty()
 }
 
 /// A field as a fault shows it.
@@ -149,16 +218,6 @@ fn front(field: &[u8]) -> Shown
         bytes,
         count: first.len(),
     }
-}
-
-/// The field in this place, from 0, where the line has fields and so many.
-fn field(line: &[u8], place: usize) -> Option<&[u8]>
-    ensures { option_map (λ field. field.now) result ≡ field_in (fields_of line.now) place }
-{
-    if !has_fields(line) {
-        return None;
-    }
-    field_at(line, place)
 }
 
 /// Whether a field of the line names the column.

@@ -1,6 +1,6 @@
 //! The fields of a line of CSV.
 ghost use Rattle.std.specs.Prelude.{◌≡◌, ◌<◌, List, ℕ, IfSome, MatchOption, Some, None, length, option_map, slice_get};
-ghost use Rattle.tsb_event_text.specs.Fields.{are_there, fields_from, fields_of, led_by};
+ghost use Rattle.tsb_event_text.specs.Fields.{are_there, device_at, device_in, field_in, fields_from, fields_of, led_by};
 ghost use Rattle.tsb_event_text.specs.Fields.{Plain, Quoted};
 
 use memchr::memchr;
@@ -76,5 +76,36 @@ pub(crate) fn field_at(line: &[u8], place: usize) -> Option<&[u8]>
         }
         rest = behind?;
         left -= 1;
+    }
+}
+
+/// The device of a line that has fields: nothing, where no column has it.
+pub(crate) fn device_at(line: &[u8], place: Option<usize>) -> Option<&[u8]>
+    ensures { (fields : List (List ℕ)) → fields_of line.now ≡ Some fields
+        → option_map (λ field. field.now) result ≡ device_at fields place }
+{
+    match place {
+        None => Some(&line[..0]),
+        Some(place) => field_at(line, place),
+    }
+}
+
+/// The field in this place, from 0, where the line has fields and so many.
+pub(crate) fn field_in(line: &[u8], place: usize) -> Option<&[u8]>
+    ensures { option_map (λ field. field.now) result ≡ field_in (fields_of line.now) place }
+{
+    if !has_fields(line) {
+        return None;
+    }
+    field_at(line, place)
+}
+
+/// The device of a line: nothing, where no column has it.
+pub(crate) fn device_in(line: &[u8], place: Option<usize>) -> Option<&[u8]>
+    ensures { option_map (λ field. field.now) result ≡ device_in (fields_of line.now) place }
+{
+    match place {
+        None => Some(&line[..0]),
+        Some(place) => field_in(line, place),
     }
 }

@@ -12,13 +12,17 @@ mod fields;
 pub mod laws;
 mod rows;
 mod texts;
+mod time_forms;
 mod times;
+mod wide;
 mod written;
 
 pub use columns::{Column, Columns, header};
 pub use events::{LONGEST_DEVICE, append_event, can_be_written, event_line};
-pub use faults::{RowFault, SHOWN, Shown, row_fault};
+pub use faults::{RowFault, SHOWN, Shown, is_preface, row_fault};
 pub use rows::{EventRow, event_row};
 pub use texts::TimeText;
+pub use time_forms::{TimeForm, form_of, is_ambiguous, moment_in};
 pub use times::{Moment, read_moment};
+pub use wide::{WideRow, is_passed, wide_row};
 pub use written::{FIRST_DAY, LAST_DAY, is_written, time_text};

@@ -3,7 +3,7 @@ ghost use Rattle.std.specs.Prelude.{◌≡◌, option_map};
 ghost use Rattle.tsb_event_text.specs.Rows.{is_asked, row_of};
 
 use crate::columns::Columns;
-use crate::fields::{field_at, has_fields};
+use crate::fields::{device_at, field_at, has_fields};
 use crate::times::{Moment, read_moment};
 use tsb_lines::number;
 
@@ -31,7 +31,7 @@ pub fn event_row(line: &[u8], columns: Columns, asked: Option<&[u8]>) -> Option<
     if !has_fields(line) {
         return None;
     }
-    let device = field_at(line, columns.device)?;
+    let device = device_at(line, columns.device)?;
     let time = field_at(line, columns.time)?;
     let code = field_at(line, columns.code)?;
     let parameter = field_at(line, columns.parameter)?;
@@ -44,7 +44,7 @@ pub fn event_row(line: &[u8], columns: Columns, asked: Option<&[u8]>) -> Option<
 }
 
 /// Whether events of a device count.
-fn is_asked(asked: Option<&[u8]>, device: &[u8]) -> bool
+pub(crate) fn is_asked(asked: Option<&[u8]>, device: &[u8]) -> bool
     ensures { result ≡ is_asked (option_map (λ asked. asked.now) asked.entry) device.now }
 {
     match asked {

@@ -1,5 +1,5 @@
 //! Times of events.
-ghost use Rattle.std.specs.Prelude.{◌≡◌, ◌≤◌, Some, None, length, if◌then◌else◌};
+ghost use Rattle.std.specs.Prelude.{◌≡◌, ◌≤◌, ◌++◌, Some, None, codes, drop, length, if◌then◌else◌};
 ghost use Rattle.tsb_lines.specs.Words.{number_of};
 ghost use Rattle.tsb_event_text.specs.Times.{day_number, day_of, has_marks, is_day, moment_of, nano_of, second_of};
 
@@ -47,7 +47,7 @@ fn has_marks(text: &[u8]) -> bool
 }
 
 /// The day that digits spell, counted from the first one that the calendar has.
-fn day(year: &[u8], month: &[u8], day: &[u8]) -> Option<u32>
+pub(crate) fn day(year: &[u8], month: &[u8], day: &[u8]) -> Option<u32>
     ensures { result ≡ day_of (number_of year.now) (number_of month.now) (number_of day.now) }
 {
     calendar_day(number(year)?, number(month)?, number(day)?)
@@ -70,9 +70,13 @@ fn calendar_day(year: u32, month: u32, day: u32) -> Option<u32>
 fn second(hour: &[u8], minute: &[u8], second: &[u8]) -> Option<u32>
     ensures { result ≡ second_of (number_of hour.now) (number_of minute.now) (number_of second.now) }
 {
-    let hour = number(hour)?;
-    let minute = number(minute)?;
-    let second = number(second)?;
+    second_at(number(hour)?, number(minute)?, number(second)?)
+}
+
+/// The second of a day, from 0.
+pub(crate) fn second_at(hour: u32, minute: u32, second: u32) -> Option<u32>
+    ensures { result ≡ second_of (Some hour) (Some minute) (Some second) }
+{
     if hour < 24 && minute < 60 && second < 60 {
         Some(hour * 3600 + minute * 60 + second)
     } else {
@@ -91,6 +95,14 @@ fn nano(text: &[u8]) -> Option<u32>
     if text[0] != b'.' || digits.is_empty() || digits.len() > 9 {
         return None;
     }
+    nine_digits(digits)
+}
+
+/// The number of digits with as many zeros behind them as make them nine.
+pub(crate) fn nine_digits(digits: &[u8]) -> Option<u32>
+    requires { length digits.now ≤ 9 }
+    ensures { result ≡ number_of (digits.now ++ drop (length digits.now) (codes "000000000")) }
+{
     let mut all = [b'0'; 9];
     all[..digits.len()].copy_from_slice(digits);
     number(&all)

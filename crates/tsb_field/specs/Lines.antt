@@ -1,5 +1,5 @@
 -- The lines that the program tells, each with its end.
-use Rattle.std.specs.Prelude.{◌≡◌, ◌⊎◌, ℕ, ◌==◌, ◌&&◌, Bool, true, false, List, [], ◌∷◌, ◌++◌, IfSome, Option, Some, codes, decimal}
+use Rattle.std.specs.Prelude.{◌≡◌, ◌⊎◌, ℕ, ◌==◌, ◌&&◌, nat_lt, not, Bool, true, false, List, [], ◌∷◌, ◌++◌, IfSome, Option, Some, codes, decimal}
 use Rattle.tsb_lines.specs.Writes.{AppendsFront}
 use Rattle.tsb_field_streams.specs.declared.error.FilterError.{FilterError}
 use Rattle.tsb_field_streams.specs.declared.error.FilterError.TheVariants as ends
@@ -47,19 +47,29 @@ TellsLate status told tells = (status ≡ 2) × AppendsFront told tells (codes "
 
 -- nothing was left out
 abbrev pub is_nothing : LeftOut → Bool
-is_nothing left_out = left_out.of_other_devices == 0 && left_out.without_input == 0
+is_nothing left_out = left_out.of_other_devices == 0 && (left_out.without_input == 0 && left_out.passed == 0)
 
 -- the line of what was left out
 abbrev pub left_out_line : LeftOut → List ℕ
 left_out_line left_out =
     codes "left out: " ++ (decimal left_out.of_other_devices ++ (codes " rows of other devices, " ++ (decimal left_out.without_input
-    ++ codes " events of channels without an input\n")))
+    ++ (codes " events of channels without an input, " ++ (decimal left_out.passed ++ codes " lines that are no rows\n")))))
 
 -- what was left out is told, where it was something and there is memory for the line
 abbrev pub TellsSome : Bool → LeftOut → ℕ → Option (List ℕ) → Option (List ℕ) → Type 0
 TellsSome true left_out status told tells = (status ≡ 0) × (tells ≡ told)
 TellsSome false left_out status told tells = ((status ≡ 0) × AppendsFront told tells (left_out_line left_out)) ⊎ Fails Memory status told tells
 
--- the program ends with 0, and what was left out is told
+-- lines were passed over, and among them no header and no row was found
+abbrev pub is_lost : LeftOut → Bool
+is_lost left_out = nat_lt 0 left_out.passed && not left_out.found
+
+-- a text without a header and a row is refused; of another the program tells what was left out
+abbrev pub TellsFound : Bool → LeftOut → ℕ → Option (List ℕ) → Option (List ℕ) → Type 0
+TellsFound true left_out status told tells =
+    (status ≡ 1) × AppendsFront told tells (codes "events: no header and no row (do commas part its fields?)\n")
+TellsFound false left_out status told tells = TellsSome (is_nothing left_out) left_out status told tells
+
+-- what was left out is told, or that all was
 abbrev pub TellsLeftOut : LeftOut → ℕ → Option (List ℕ) → Option (List ℕ) → Type 0
-TellsLeftOut left_out status told tells = TellsSome (is_nothing left_out) left_out status told tells
+TellsLeftOut left_out status told tells = TellsFound (is_lost left_out) left_out status told tells

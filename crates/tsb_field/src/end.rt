@@ -19,6 +19,9 @@ const USAGE: &[u8] =
     or tsb_field diagram [--log LOG] [--title TEXT] [--seconds-per-line N]
 ";
 
+/// What is told of a text of events without a header and without a row.
+const NOTHING: &[u8] = b"events: no header and no row (do commas part its fields?)\n";
+
 /// Says why words ask for nothing, and gives the status that the program ends with.
 pub(crate) fn tell_words_fault<E: Write>(errors: &mut E, fault: WordsError) -> u8
     ensures { TellsWords fault result (E.contents errors.old) (E.contents errors.new) }
@@ -73,11 +76,14 @@ pub(crate) fn refuse<E: Write, T: Display + Drop>(alloc: Global, errors: &mut E,
     }
 }
 
-/// Says what a filter left out, where it left something out.
+/// Says what a filter left out, where it left something out, or that it found no header and no row.
 pub(crate) fn tell_left_out<E: Write>(alloc: Global, errors: &mut E, left_out: LeftOut) -> u8
     ensures { TellsLeftOut left_out result (E.contents errors.old) (E.contents errors.new) }
 {
-    if left_out.of_other_devices == 0 && left_out.without_input == 0 {
+    if left_out.passed > 0 && !left_out.found {
+        return tell(errors, Status::Refused, NOTHING);
+    }
+    if left_out.of_other_devices == 0 && left_out.without_input == 0 && left_out.passed == 0 {
         return Status::Done.number();
     }
     match left_out_line(alloc, left_out) {
@@ -92,8 +98,9 @@ fn left_out_line(alloc: Global, left_out: LeftOut) -> Result<String, AllocError>
 {
     let rows = left_out.of_other_devices;
     let events = left_out.without_input;
+    let lines = left_out.passed;
     format!(in alloc;
-        "left out: {rows} rows of other devices, {events} events of channels without an input\n"
+        "left out: {rows} rows of other devices, {events} events of channels without an input, {lines} lines that are no rows\n"
     )
 }
 

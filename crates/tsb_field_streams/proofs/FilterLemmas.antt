@@ -6,6 +6,7 @@ use Rattle.std.proofs.lemmas.Bool.{lt-ltb, le-ltb}
 use Rattle.std.proofs.lemmas.Bool.Decides.{leb_tells}
 use Rattle.tsb_log_text.specs.tsb_types.declared.limits.TheConstants.{TICKS}
 use Rattle.tsb_event_text.specs.declared.rows.EventRow.{EventRow}
+use Rattle.tsb_event_text.specs.declared.time_forms.TimeForm.{TimeForm}
 use Rattle.tsb_field_log.specs.declared.inputs.Wire.{Wire}
 use Rattle.tsb_field_log.specs.declared.inputs.Signal.{Signal}
 use Rattle.tsb_field_log.specs.declared.inputs.InputEvent.{InputEvent}
@@ -51,9 +52,12 @@ stands_later g s f moment at le = record {
   device = at.device;
   wires = at.wires;
   columns = at.columns;
+  times = at.times;
   last = refl;
   others = at.others;
   unwired = at.unwired;
+  passed = at.passed;
+  found = at.found;
   street = at.street;
   behind = let b : last_tick g.from s.events ≤ tick_at g.from s.last = at.behind in
       let t : tick_at g.from s.last ≤ tick_at g.from moment = ticks-follow g.from s.last moment le in
@@ -61,6 +65,32 @@ stands_later g s f moment at le = record {
   rows = at.rows;
   few = at.few;
 }
+
+-- a form of times that is known changes nothing else
+pub stands_formed : (g : Given) (s : Stand) (f : Filter) (form : TimeForm) → StandsAt g s f → StandsAt g (record s { times = Some form }) (record f { times = Some form })
+stands_formed g s f form at = record {
+  device = at.device;
+  wires = at.wires;
+  columns = at.columns;
+  times = refl;
+  last = at.last;
+  others = at.others;
+  unwired = at.unwired;
+  passed = at.passed;
+  found = at.found;
+  street = at.street;
+  behind = at.behind;
+  rows = at.rows;
+  few = at.few;
+}
+
+-- which rows were known before does not hang on it
+pub formed-takes : (g : Given) (s : Stand) (form : TimeForm) (come : Result Stand FilterError) (given : Result Rows FilterError) (f : Filter)
+    → Takes g (record s { times = Some form }) come given f → Takes g s come given f
+formed-takes g s form (Ok t) (Ok rows) f takes = takes
+formed-takes g s form (Ok t) (Err d) f takes = takes
+formed-takes g s form (Err e) (Ok rows) f takes = takes
+formed-takes g s form (Err e) (Err d) f takes = takes
 
 -- ## An event of an input
 

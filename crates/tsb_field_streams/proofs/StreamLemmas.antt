@@ -322,6 +322,8 @@ end-whole g bytes filter last rest left_out a b c d k few whole ok kept same is 
     comes = k.comes;
     others = ap (λ (l : LeftOut). l.of_other_devices) (is ∙ same) ∙ k.stands.others;
     unwired = ap (λ (l : LeftOut). l.without_input) (is ∙ same) ∙ k.stands.unwired;
+    passed = ap (λ (l : LeftOut). l.passed) (is ∙ same) ∙ k.stands.passed;
+    found = ap (λ (l : LeftOut). l.found) (is ∙ same) ∙ k.stands.found;
     log = refl;
     taken = whole-taken g k.stand few;
   },

@@ -4,7 +4,9 @@ use Rattle.tsb_event_text.specs.declared.columns.Column.{Column}
 use Rattle.tsb_event_text.specs.declared.columns.Column.TheVariants.{Device, Time, Code, Parameter}
 use Rattle.tsb_event_text.specs.declared.faults.Shown.{Shown}
 use Rattle.tsb_event_text.specs.declared.faults.RowFault.{RowFault}
-use Rattle.tsb_event_text.specs.declared.faults.RowFault.TheVariants.{Utf16, Zip, Xml, Binary, Lacks, Again, Missing, NoDay, NoTime, NoNumber}
+use Rattle.tsb_event_text.specs.declared.faults.RowFault.TheVariants.{Utf16, Zip, Xml, Binary, Lacks, Quote, Missing, Ambiguous, NoDay, NoSeconds, NoTime, NoNumber}
+use Rattle.tsb_event_text.specs.declared.time_forms.TimeForm.{TimeForm}
+use Rattle.tsb_event_text.specs.declared.time_forms.TimeForm.TheVariants.{YearFirst, MonthFirst, DayFirst, Seconds, Milliseconds}
 use Rattle.tsb_field_streams.specs.declared.error.FilterError.{FilterError}
 use Rattle.tsb_field_streams.specs.declared.error.FilterError.TheVariants.{Memory, Read, Write, TooLarge, LongLine, Malformed, TimeOrder, PastEnd, LogTooLarge}
 
@@ -27,15 +29,32 @@ safe byte = if nat_lt byte 32 || nat_lt 126 byte || byte == 34 then 63 else byte
 abbrev pub field_text : Column → Shown → List ℕ
 field_text column field = column_name column ++ (codes ": \"" ++ (map safe (take (min field.count 40) field.bytes) ++ 34 ∷ []))
 
+-- a time in a form
+abbrev pub example : TimeForm → List ℕ
+example YearFirst = codes "2026-11-22 07:00:00.1"
+example MonthFirst = codes "11/22/2026 07:00:00.1"
+example DayFirst = codes "22/11/2026 07:00:00.1"
+example Seconds = codes "1795330800.1"
+example Milliseconds = codes "1795330800100"
+
+-- a time that is none in its form
+abbrev pub no_time_text : TimeForm → Shown → List ℕ
+no_time_text form time = field_text Time time ++ (codes " is no time as " ++ example form)
+
 -- what is wrong with a line of a text
 abbrev pub why_text : RowFault → List ℕ
 why_text (Lacks column) = codes "header: no column is the " ++ column_name column
-why_text Again = codes "header: it is there again"
 why_text (Missing column) = column_name column ++ codes ": the line ends before it"
 why_text (NoDay time) = field_text Time time ++ codes " has no day (was it opened in a spreadsheet?)"
-why_text (NoTime time) = field_text Time time ++ codes " is no time as 2026-11-22 07:00:00.1"
+why_text (NoSeconds time) = field_text Time time ++ codes " has no seconds (was it opened in a spreadsheet?)"
+why_text (Ambiguous time) = field_text Time time ++ codes " can be read in two ways: its month or its day first"
+why_text (NoTime form time) = no_time_text form time
 why_text (NoNumber column field) = field_text column field ++ codes " is no whole number up to 4294967295"
-why_text why = codes "a quote is out of place"
+why_text Quote = codes "a quote is out of place"
+why_text Utf16 = codes "UTF-16"
+why_text Zip = codes "packed"
+why_text Xml = codes "XML"
+why_text Binary = codes "binary"
 
 -- why this line is no row; what is no text of lines at all is told without a line
 abbrev pub row_fault_text : ℕ → RowFault → List ℕ

@@ -1,6 +1,6 @@
 -- What lines of events come to, one after another: the events of inputs that they tell, what they leave out, or the first
 -- fault.
-use Rattle.std.specs.Prelude.{ℕ, ◌+◌, ◌==◌, min, nat_lt, not, List, [], ◌∷◌, ◌++◌, length, if◌then◌else◌, Option, Some, None, Result, Ok, Err}
+use Rattle.std.specs.Prelude.{ℕ, ◌+◌, ◌==◌, ◌&&◌, min, nat_lt, not, Bool, true, false, List, [], ◌∷◌, ◌++◌, length, if◌then◌else◌, Option, Some, None, Result, Ok, Err}
 use Rattle.tsb_log_text.specs.tsb_types.declared.limits.TheConstants.{TICKS}
 use Rattle.tsb_lines.specs.Lines.{is_skipped}
 use Rattle.tsb_event_text.specs.declared.columns.Columns.{Columns}
@@ -8,7 +8,14 @@ use Rattle.tsb_event_text.specs.declared.rows.EventRow.{EventRow}
 use Rattle.tsb_event_text.specs.Columns.{header_of, usual_columns}
 use Rattle.tsb_event_text.specs.Rows.{row_of}
 use Rattle.tsb_event_text.specs.declared.faults.RowFault.{RowFault}
-use Rattle.tsb_event_text.specs.Faults.{fault_of}
+use Rattle.tsb_event_text.specs.declared.faults.RowFault.TheVariants.{Lacks}
+use Rattle.tsb_event_text.specs.declared.columns.Column.TheVariants.{Device}
+use Rattle.tsb_event_text.specs.declared.time_forms.TimeForm.{TimeForm}
+use Rattle.tsb_event_text.specs.declared.time_forms.TimeForm.TheVariants.{YearFirst}
+use Rattle.tsb_event_text.specs.declared.wide.WideRow.{WideRow}
+use Rattle.tsb_event_text.specs.Faults.{fault_of, is_preface}
+use Rattle.tsb_event_text.specs.TimeForms.{is_there}
+use Rattle.tsb_event_text.specs.Wide.{is_passed, wide_of}
 use Rattle.tsb_field_log.specs.declared.inputs.Signal.{Signal}
 use Rattle.tsb_field_log.specs.declared.inputs.Wire.{Wire}
 use Rattle.tsb_field_log.specs.declared.inputs.InputEvent.{InputEvent}
@@ -26,18 +33,21 @@ pub record Given : Type 0 where
   pub device : Option (List ℕ)
   pub wires : List Wire
 
--- what is known after some lines: where the columns stand, the moment of the last row that counted, how many rows were
--- of other devices and how many events had no wire, and the events of inputs
+-- what is known after some lines: where the columns stand, the form of times, the moment of the last row that counted, how
+-- many rows were of other devices, how many events had no wire and how many lines were passed over, and the events of
+-- inputs
 pub record Stand : Type 0 where
   pub columns : Option Columns
+  pub times : Option TimeForm
   pub last : ℕ
   pub others : ℕ
   pub unwired : ℕ
+  pub passed : ℕ
   pub events : List InputEvent
 
 -- before the first line
 abbrev pub start : Stand
-start = record { columns = None; last = 0; others = 0; unwired = 0; events = [] }
+start = record { columns = None; times = None; last = 0; others = 0; unwired = 0; passed = 0; events = [] }
 
 -- what is counted fits 32 bits: a count stays at the greatest
 abbrev pub one_more : ℕ → ℕ
@@ -67,19 +77,70 @@ with_row g number s row =
     else if nat_lt row.moment.nanos s.last then Err (TimeOrder number)
     else with_signal g (record s { last = row.moment.nanos }) row (signal_of row.code)
 
--- the row of a line, where it spells one, or else this fault
-abbrev pub with_some_row : Given → ℕ → Stand → RowFault → Option EventRow → Result Stand FilterError
-with_some_row g number s why None = Err (Malformed number why)
-with_some_row g number s why (Some row) = with_row g number s row
+-- a row whose time has this form
+abbrev pub with_formed : Given → ℕ → Stand → TimeForm → EventRow → Result Stand FilterError
+with_formed g number s form row = with_row g number (record s { times = Some form }) row
+
+-- a line that is passed over is counted
+abbrev pub with_passed : Stand → Result Stand FilterError
+with_passed s = Ok (record s { passed = one_more s.passed })
+
+-- a parameter that is no number counts as 0, where none is needed
+abbrev pub parameter_or : Bool → Option ℕ → Option ℕ
+parameter_or needed (Some parameter) = Some parameter
+parameter_or true None = None
+parameter_or false None = Some 0
+
+-- the parameter of a row, which is needed where it counts and its code is of an input
+abbrev pub parameter_of : WideRow → Option ℕ
+parameter_of row = parameter_or (row.ours && is_there (signal_of row.code)) row.parameter
+
+-- a row as exports have it, with this parameter
+abbrev pub with_parameter : Given → ℕ → Stand → RowFault → WideRow → Option ℕ → Result Stand FilterError
+with_parameter g number s why row None = Err (Malformed number why)
+with_parameter g number s why row (Some parameter) =
+    with_formed g number s row.form (record { ours = row.ours; moment = row.moment; code = row.code; parameter = parameter })
+
+-- a row as exports have it, where a line spells one, or else this fault
+abbrev pub with_wide : Given → ℕ → Stand → RowFault → Option WideRow → Result Stand FilterError
+with_wide g number s why None = Err (Malformed number why)
+with_wide g number s why (Some row) = with_parameter g number s why row (parameter_of row)
+
+-- a line that is no plain row, with its columns in these places
+abbrev pub with_other_line : Given → ℕ → Stand → Columns → List ℕ → Result Stand FilterError
+with_other_line g number s columns text =
+    if is_passed text then with_passed s
+    else with_wide g number s (fault_of columns s.times text) (wide_of columns s.times g.device text)
+
+-- a plain row, where a line spells one
+abbrev pub with_some_row : Given → ℕ → Stand → Columns → List ℕ → Option EventRow → Result Stand FilterError
+with_some_row g number s columns text None = with_other_line g number s columns text
+with_some_row g number s columns text (Some row) = with_formed g number s YearFirst row
+
+-- times may have the plain form: they do, or no form is known yet
+abbrev pub may_be_plain : Option TimeForm → Bool
+may_be_plain None = true
+may_be_plain (Some YearFirst) = true
+may_be_plain (Some form) = false
 
 -- a line that is a row, with its columns in these places
 abbrev pub with_row_line : Given → ℕ → Stand → Columns → List ℕ → Result Stand FilterError
-with_row_line g number s columns text = with_some_row g number s (fault_of columns text) (row_of columns g.device text)
+with_row_line g number s columns text =
+    if may_be_plain s.times then with_some_row g number s columns text (row_of columns g.device text)
+    else with_other_line g number s columns text
 
--- the first line that is not skipped: a header, or a row with its columns in the usual places
+-- a header, which has a column of the device where one is asked for
+abbrev pub with_header : Given → ℕ → Stand → Columns → Result Stand FilterError
+with_header g number s columns =
+    if is_there g.device && not (is_there columns.device) then Err (Malformed number (Lacks Device))
+    else Ok (record s { columns = Some columns })
+
+-- where no header came: a header, a line before it, or the first row, with its columns in the usual places
 abbrev pub with_first : Given → ℕ → Stand → List ℕ → Option Columns → Result Stand FilterError
-with_first g number s text (Some columns) = Ok (record s { columns = Some columns })
-with_first g number s text None = with_row_line g number (record s { columns = Some usual_columns }) usual_columns text
+with_first g number s text (Some columns) = with_header g number s columns
+with_first g number s text None =
+    if is_preface text then with_passed s
+    else with_row_line g number (record s { columns = Some usual_columns }) usual_columns text
 
 -- a line that is not skipped
 abbrev pub with_text : Given → ℕ → Stand → List ℕ → Option Columns → Result Stand FilterError

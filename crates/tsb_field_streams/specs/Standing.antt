@@ -1,5 +1,6 @@
 -- How far a filter has come by the lines that it has taken.
 use Rattle.std.specs.Prelude.{◌≡◌, ◌≤◌, ◌++◌, length, option_map, Result, Ok, Err}
+use Rattle.tsb_event_text.specs.TimeForms.{is_there}
 use Rattle.tsb_field_log.specs.declared.street.Rows.{Rows}
 use Rattle.tsb_field_log.specs.Streets.{tick_at, rows_in}
 use Rattle.tsb_field_log.specs.Pushed.{last_tick, rows_before}
@@ -19,9 +20,12 @@ pub record StandsAt (g : Given) (s : Stand) (f : Filter) : Type 0 where
   pub device : g.device ≡ option_map (λ d. d.now) f.device
   pub wires : g.wires ≡ f.wires.now
   pub columns : f.columns ≡ s.columns
+  pub times : f.times ≡ s.times
   pub last : f.last ≡ s.last
   pub others : f.left_out.of_other_devices ≡ s.others
   pub unwired : f.left_out.without_input ≡ s.unwired
+  pub passed : f.left_out.passed ≡ s.passed
+  pub found : f.left_out.found ≡ is_there s.columns
   pub street : HasTaken g.from g.wires s.events f.street
   pub behind : last_tick g.from s.events ≤ tick_at g.from s.last
   pub rows : f.rows ≡ length (rows_before g.from g.wires s.events)

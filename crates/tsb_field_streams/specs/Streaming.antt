@@ -2,6 +2,7 @@
 use Rattle.std.specs.Prelude.{◌≡◌, ◌⊎◌, ◌<◌, ◌≤◌, ◌+◌, ℕ, List, ◌++◌, length, Option, Result, Ok, Err}
 use Rattle.std.specs.Io.KnownBytes.{Appends, Consumes, IsAtEnd}
 use Rattle.tsb_lines.specs.Lines.{kept}
+use Rattle.tsb_event_text.specs.TimeForms.{is_there}
 use Rattle.tsb_log_text.specs.Logs.{log_of}
 use Rattle.tsb_field_log.specs.Changes.{rows_of}
 use Rattle.tsb_log_text.specs.LogText.{log_text}
@@ -62,6 +63,8 @@ pub record IsWhole (g : Given) (bytes : List ℕ) (left_out : LeftOut) (written 
   pub comes : filtered g bytes ≡ Ok stand
   pub others : left_out.of_other_devices ≡ stand.others
   pub unwired : left_out.without_input ≡ stand.unwired
+  pub passed : left_out.passed ≡ stand.passed
+  pub found : left_out.found ≡ is_there stand.columns
   pub log : written ≡ whole_log g stand
   pub taken : log_of written ≡ Ok (rows_of (row_in g.from g.wires stand.events))
 

@@ -1,11 +1,11 @@
 //! The line that tells what ended a filter.
 ghost use Rattle.std.specs.Prelude.{◌≡◌, ◌++◌, ◌∷◌, [], map, IfOk, OnOk};
-ghost use Rattle.tsb_field_streams.specs.FaultLines.{column_name, field_text, filter_fault, line_number, row_fault_text, safe, why_text};
+ghost use Rattle.tsb_field_streams.specs.FaultLines.{column_name, example, field_text, filter_fault, line_number, no_time_text, row_fault_text, safe, why_text};
 
 use crate::error::FilterError;
 use itoa::Buffer;
 use std::alloc::{AllocError, Global};
-use tsb_event_text::{Column, RowFault, SHOWN, Shown};
+use tsb_event_text::{Column, RowFault, SHOWN, Shown, TimeForm};
 
 /// The line that tells what ended a filter, with its line feed.
 pub fn fault_line(alloc: Global, fault: FilterError) -> Result<Vec<u8>, AllocError>
@@ -70,7 +70,6 @@ fn append_why(text: &mut Vec<u8>, why: RowFault) -> Result<(), AllocError>
             text.extend_from_slice(b"header: no column is the ")?;
             text.extend_from_slice(column_name(column))
         }
-        RowFault::Again => text.extend_from_slice(b"header: it is there again"),
         RowFault::Missing(column) => {
             text.extend_from_slice(column_name(column))?;
             text.extend_from_slice(b": the line ends before it")
@@ -79,16 +78,34 @@ fn append_why(text: &mut Vec<u8>, why: RowFault) -> Result<(), AllocError>
             append_field(text, Column::Time, &time)?;
             text.extend_from_slice(b" has no day (was it opened in a spreadsheet?)")
         }
-        RowFault::NoTime(time) => {
+        RowFault::NoSeconds(time) => {
             append_field(text, Column::Time, &time)?;
-            text.extend_from_slice(b" is no time as 2026-11-22 07:00:00.1")
+            text.extend_from_slice(b" has no seconds (was it opened in a spreadsheet?)")
         }
+        RowFault::Ambiguous(time) => {
+            append_field(text, Column::Time, &time)?;
+            text.extend_from_slice(b" can be read in two ways: its month or its day first")
+        }
+        RowFault::NoTime(form, time) => append_no_time(text, form, &time),
         RowFault::NoNumber(column, field) => {
             append_field(text, column, &field)?;
             text.extend_from_slice(b" is no whole number up to 4294967295")
         }
-        _ => text.extend_from_slice(b"a quote is out of place"),
+        RowFault::Quote => text.extend_from_slice(b"a quote is out of place"),
+        RowFault::Utf16 => text.extend_from_slice(b"UTF-16"),
+        RowFault::Zip => text.extend_from_slice(b"packed"),
+        RowFault::Xml => text.extend_from_slice(b"XML"),
+        RowFault::Binary => text.extend_from_slice(b"binary"),
     }
+}
+
+/// Adds that a time is none in its form.
+fn append_no_time(text: &mut Vec<u8>, form: TimeForm, time: &Shown) -> Result<(), AllocError>
+    ensures { OnOk result (text.new.items ≡ text.old.items ++ no_time_text form time.now) }
+{
+    append_field(text, Column::Time, time)?;
+    text.extend_from_slice(b" is no time as ")?;
+    text.extend_from_slice(example(form))
 }
 
 /// Adds the name of a column, and what its field has.
@@ -131,6 +148,19 @@ fn append_line(text: &mut Vec<u8>, line: u32) -> Result<(), AllocError>
     text.extend_from_slice(b"events line ")?;
     text.extend_from_slice(buffer.format(line).as_bytes())?;
     Ok(())
+}
+
+/// A time in a form.
+fn example(form: TimeForm) -> &'static [u8]
+    ensures { result.now ≡ example form }
+{
+    match form {
+        TimeForm::YearFirst => b"2026-11-22 07:00:00.1",
+        TimeForm::MonthFirst => b"11/22/2026 07:00:00.1",
+        TimeForm::DayFirst => b"22/11/2026 07:00:00.1",
+        TimeForm::Seconds => b"1795330800.1",
+        TimeForm::Milliseconds => b"1795330800100",
+    }
 }
 
 /// The name of a column.

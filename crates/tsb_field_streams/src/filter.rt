@@ -1,15 +1,19 @@
 //! Lines of events, one after another, and the rows of the log that they make known.
-ghost use Rattle.std.specs.Prelude.{◌≡◌, ◌<◌, ◌≤◌, ◌-◌, ◌++◌, [], nat_le, Some, length, option_map, MatchResult, OnOk};
+ghost use Rattle.std.specs.Prelude.{◌≡◌, ◌<◌, ◌≤◌, ◌-◌, ◌++◌, [], nat_le, Some, None, Ok, length, option_map, MatchResult, OnOk};
+ghost use Rattle.tsb_event_text.specs.TimeForms.{is_there};
 ghost use Rattle.tsb_field_log.specs.Changes.{rows_of};
 ghost use Rattle.tsb_field_log.specs.Streets.{rows_in};
 ghost use Rattle.tsb_field_log.specs.Pushed.{rows_before};
 ghost use Rattle.tsb_field_log.specs.Ticks.{row_in};
 ghost use Rattle.tsb_field_log.specs.Taken.{HasTaken};
-ghost use Rattle.tsb_field_streams.specs.Filtering.{Given, Stand, start, text_of, with_event, with_line, with_row, with_row_line, with_signal, with_text, without_mark};
+ghost use Rattle.tsb_field_streams.specs.Filtering.{Given, Stand, may_be_plain, parameter_of, start, text_of, with_event, with_first, with_formed, with_header, with_line, with_other_line, with_passed, with_row, with_row_line, with_signal, with_text, with_wide, without_mark};
 ghost use Rattle.tsb_field_streams.specs.declared.error.FilterError.TheVariants.{LogTooLarge};
 
 use crate::error::FilterError;
-use tsb_event_text::{Columns, EventRow, event_row, header, row_fault};
+use tsb_event_text::{
+    Column, Columns, EventRow, RowFault, TimeForm, WideRow, event_row, header, is_passed,
+    is_preface, row_fault, wide_row,
+};
 use tsb_field_log::{InputEvent, Rows, Signal, Street, Wire, is_wired};
 use tsb_lines::is_skipped;
 
@@ -26,6 +30,11 @@ pub struct LeftOut {
     pub of_other_devices: u32,
     /// Events of inputs on channels from which no wire leads.
     pub without_input: u32,
+    /// Lines that are no rows and are passed over: those before the header, those that a database draws below it, and
+    /// headers behind it.
+    pub passed: u32,
+    /// Whether a header or a row was found.
+    pub found: bool,
 }
 
 /// What is known after some lines of events.
@@ -37,6 +46,8 @@ pub struct Filter<'a> {
     wires: &'a [Wire],
     /// Where the columns are, known from the first line that is not skipped.
     columns: Option<Columns>,
+    /// The form of times, known from the first row.
+    times: Option<TimeForm>,
     /// The moment of the last row that counted, in nanoseconds, and 0 before any.
     last: u128,
     /// How many rows of the log are known.
@@ -65,11 +76,14 @@ impl<'a> Filter<'a> {
             device,
             wires,
             columns: None,
+            times: None,
             last: 0,
             rows: 0,
             left_out: LeftOut {
                 of_other_devices: 0,
                 without_input: 0,
+                passed: 0,
+                found: false,
             },
             street,
         }
@@ -77,9 +91,11 @@ impl<'a> Filter<'a> {
 
     /// Takes the line with this number, counted from 1, without its end, and gives the rows of the log that it makes known.
     ///
-    /// The first line may begin with a byte order mark. A line that is blank or begins with `#` is skipped; the first that
-    /// is not names the columns, or is a row with its columns in the usual places. Rows of other devices have only to
-    /// be rows; each of the rest is no earlier than the one before it. The errors are `LongLine`, `Malformed`,
+    /// The first line may begin with a byte order mark. A line that is blank or begins with `#` is skipped. Of the rest
+    /// those are passed over that a maker writes before the header (`is_preface`); the next names the columns, or is a row
+    /// with its columns in the usual places. Behind it each is a row, or one that is passed over (`is_passed`). The first
+    /// row says in which form times are. Rows of other devices have only to be rows; each of the rest is no earlier than
+    /// the one before it. The errors are `LongLine`, `Malformed`,
     /// `TimeOrder`, `PastEnd` and `LogTooLarge`; no line is taken after one.
     #[tactic(auto, unfolding(crate::specs::Filtering::with_line))]
     pub fn take_line(&mut self, number: u32, line: &[u8]) -> Result<Rows, FilterError>
@@ -102,16 +118,53 @@ impl<'a> Filter<'a> {
         if let Some(columns) = self.columns {
             return self.take_row_line(number, columns, text);
         }
-        if let Some(columns) = header(text) {
-            self.columns = Some(columns);
-            return Ok(NO_ROWS);
+        match header(text) {
+            Some(columns) => self.take_header(number, columns),
+            None => self.take_first(number, text),
+        }
+    }
+
+    /// Takes a header, which has a column of the device where one is asked for.
+    fn take_header(&mut self, number: u32, columns: Columns) -> Result<Rows, FilterError>
+        ensures takes { (g : Given) (s : Stand) → StandsAt g s self.old → Takes g s (with_header g number s columns) result self.new }
+    {
+        if self.device.is_some() && columns.device.is_none() {
+            return Err(FilterError::Malformed(number, RowFault::Lacks(Column::Device)));
+        }
+        self.know(columns);
+        Ok(NO_ROWS)
+    }
+
+    /// Where the columns are is known from now on.
+    fn know(&mut self, columns: Columns)
+        ensures stands { (g : Given) (s : Stand) → StandsAt g s self.old → StandsAt g (record s { columns = Some columns }) self.new }
+    {
+        self.columns = Some(columns);
+        self.left_out.found = true;
+    }
+
+    /// Takes a line that is no header where none came: one that a maker writes before the header, or the first row.
+    fn take_first(&mut self, number: u32, text: &[u8]) -> Result<Rows, FilterError>
+        ensures takes { (g : Given) (s : Stand) → StandsAt g s self.old → Takes g s (with_first g number s text.now None) result self.new }
+    {
+        if is_preface(text) {
+            return Ok(self.pass());
         }
         let usual = Columns::usual();
-        self.columns = Some(usual);
+        self.know(usual);
         self.take_row_line(number, usual, text)
     }
 
-    /// Takes a line that is a row, with its columns in these places.
+    /// Passes over a line.
+    fn pass(&mut self) -> Rows
+        ensures takes { (g : Given) (s : Stand) → StandsAt g s self.old → Takes g s (with_passed s) (Ok result) self.new }
+    {
+        self.left_out.passed = self.left_out.passed.saturating_add(1);
+        NO_ROWS
+    }
+
+    /// Takes a line behind the header, or the first one, with its columns in these places. Nearly all lines of most
+    /// exports are plain rows, which are read without taking a field apart twice.
     fn take_row_line(
         &mut self,
         number: u32,
@@ -120,10 +173,65 @@ impl<'a> Filter<'a> {
     ) -> Result<Rows, FilterError>
         ensures takes { (g : Given) (s : Stand) → StandsAt g s self.old → Takes g s (with_row_line g number s columns text.now) result self.new }
     {
-        match event_row(text, columns, self.device) {
-            None => Err(FilterError::Malformed(number, row_fault(text, columns))),
-            Some(row) => self.take_row(number, row),
+        if !may_be_plain(self.times) {
+            return self.take_other_line(number, columns, text);
         }
+        match event_row(text, columns, self.device) {
+            Some(row) => self.take_formed(number, TimeForm::YearFirst, row),
+            None => self.take_other_line(number, columns, text),
+        }
+    }
+
+    /// Takes a line that is no plain row: one that is passed over, or a row as exports have it.
+    fn take_other_line(
+        &mut self,
+        number: u32,
+        columns: Columns,
+        text: &[u8],
+    ) -> Result<Rows, FilterError>
+        ensures takes { (g : Given) (s : Stand) → StandsAt g s self.old → Takes g s (with_other_line g number s columns text.now) result self.new }
+    {
+        if is_passed(text) {
+            return Ok(self.pass());
+        }
+        let times = self.times;
+        match wide_row(text, columns, times, self.device) {
+            Some(row) => self.take_wide(number, row, row_fault(text, columns, times)),
+            None => Err(FilterError::Malformed(number, row_fault(text, columns, times))),
+        }
+    }
+
+    /// Takes a row as exports have it; this is its fault where it needs a parameter and has none.
+    fn take_wide(&mut self, number: u32, row: WideRow, why: RowFault) -> Result<Rows, FilterError>
+        ensures takes { (g : Given) (s : Stand) → StandsAt g s self.old → Takes g s (with_wide g number s why (Some row)) result self.new }
+    {
+        let Some(parameter) = parameter_of(row) else {
+            return Err(FilterError::Malformed(number, why));
+        };
+        self.take_formed(
+            number,
+            row.form,
+            EventRow {
+                ours: row.ours,
+                moment: row.moment,
+                code: row.code,
+                parameter,
+            },
+        )
+    }
+
+    /// Takes a row whose time has this form.
+    #[tactic(auto, using(crate::proofs::FilterLemmas::stands_formed))]
+    fn take_formed(
+        &mut self,
+        number: u32,
+        form: TimeForm,
+        row: EventRow,
+    ) -> Result<Rows, FilterError>
+        ensures takes { (g : Given) (s : Stand) → StandsAt g s self.old → Takes g s (with_formed g number s form row) result self.new }
+    {
+        self.times = Some(form);
+        self.take_row(number, row)
     }
 
     /// Takes a row.
@@ -201,10 +309,34 @@ impl<'a> Filter<'a> {
     /// What was left out so far.
     pub fn left_out(&self) -> LeftOut
         ensures counts { result ≡ left_out_of self.now }
-        ensures stands { (g : Given) (s : Stand) → StandsAt g s self.now → result ≡ record { of_other_devices = s.others; without_input = s.unwired } }
+        ensures stands { (g : Given) (s : Stand) → StandsAt g s self.now → result ≡ record { of_other_devices = s.others; without_input = s.unwired; passed = s.passed; found = is_there s.columns } }
     {
         self.left_out
     }
+}
+
+/// Whether lines may be plain rows: times have their form, or no form is known yet.
+fn may_be_plain(times: Option<TimeForm>) -> bool
+    ensures { result ≡ may_be_plain times }
+{
+    match times {
+        None => true,
+        Some(TimeForm::YearFirst) => true,
+        Some(_) => false,
+    }
+}
+
+/// The parameter of a row: 0 where it is no number and its code is passed over. `None` where it is no number and counts.
+fn parameter_of(row: WideRow) -> Option<u32>
+    ensures { result ≡ parameter_of row }
+{
+    if let Some(parameter) = row.parameter {
+        return Some(parameter);
+    }
+    if row.ours && Signal::of_code(row.code).is_some() {
+        return None;
+    }
+    Some(0)
 }
 
 /// How many rows these are.

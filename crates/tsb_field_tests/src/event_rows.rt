@@ -98,7 +98,7 @@ fn names(line: &[u8], wanted: Option<Columns>) -> bool {
 
 /// Whether lines that lack a column or a quotation mark are no headers.
 fn others_are_no_headers() -> bool {
-    names(b"Timestamp,EventCode,EventParam", None)
+    names(b"SignalID,EventCode,EventParam", None)
         && names(b"1001,2026-11-22 07:00:00,82,3", None)
         && names(b"SignalID,Timestamp,EventCode,\"EventParam", None)
 }
@@ -111,7 +111,7 @@ fn headers_name_all_four_columns(rt: HostRuntime) {
             && names(b"locationidentifier,TIMESTAMP,eventid,Parameter", usual)
     );
     let turned = Some(Columns {
-        device: 4,
+        device: Some(4),
         time: 0,
         code: 2,
         parameter: 3,
@@ -154,7 +154,7 @@ fn usual_rows_are_read(usual: Columns) -> bool {
 fn rows_are_read_by_their_columns(rt: HostRuntime) {
     assert!(rt; usual_rows_are_read(Columns::usual()));
     let turned = Columns {
-        device: 3,
+        device: Some(3),
         time: 0,
         code: 2,
         parameter: 1,

@@ -18,6 +18,8 @@ mod event_rows;
 #[cfg(test)]
 mod events_text;
 #[cfg(test)]
+mod export_rows;
+#[cfg(test)]
 mod field_filter;
 #[cfg(test)]
 mod field_rows;

@@ -93,14 +93,18 @@ fn written(
     (text, ended)
 }
 
+/// Whether nothing was left out.
+fn is_whole(left_out: LeftOut) -> bool {
+    left_out.of_other_devices == 0 && left_out.without_input == 0 && left_out.passed == 0
+}
+
 /// Whether a text gives this log, with nothing left out.
 fn gives(alloc: Global, reader: Pieces, wanted: &[u8]) -> bool {
     let (text, ended) = written(alloc, None, &[], reader);
-    let none = LeftOut {
-        of_other_devices: 0,
-        without_input: 0,
-    };
-    text.as_slice() == wanted && ended == Ok(none)
+    match ended {
+        Ok(left_out) => text.as_slice() == wanted && is_whole(left_out),
+        Err(_) => false,
+    }
 }
 
 /// Whether a text ends with this fault, and this much written.
@@ -324,6 +328,8 @@ fn what_is_left_out_is_counted(rt: HostRuntime) {
     let counted = LeftOut {
         of_other_devices: 1,
         without_input: 1,
+        passed: 0,
+        found: true,
     };
     assert!(rt; gives_with_left_out(rt.alloc(), wire, text, log, counted));
 }

@@ -75,6 +75,6 @@ is_usual : header_of (codes "SignalID,Timestamp,EventCode,EventParam") ≡ Some 
 unfolding header_of
 is_usual = refl
 
-would_change_places : header_of (codes "SignalID,Timestamp,EventParam,EventCode") ≡ Some (record { device = 0; time = 1; code = 3; parameter = 2 })
+would_change_places : header_of (codes "SignalID,Timestamp,EventParam,EventCode") ≡ Some (record { device = Some 0; time = 1; code = 3; parameter = 2 })
 unfolding header_of
 would_change_places = refl

@@ -1,7 +1,7 @@
 use Rattle.std.proofs.Common.{◌∙◌, ap, sym, rules}
-use Rattle.tsb_event_text.specs.Faults.{field_in}
+use Rattle.tsb_event_text.specs.Fields.{field_in}
 use Rattle.tsb_event_text.proofs.FieldLemmas.{some-there, none-there}
-use Rattle.tsb_event_text.proofs.faults.field.Goals as goal
+use Rattle.tsb_event_text.proofs.fields.field_in.Goals as goal
 
 pub returns-then-not-has_fields : goal.returns-then-not-has_fields
 returns-then-not-has_fields c =

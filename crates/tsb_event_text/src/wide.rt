@@ -1,0 +1,179 @@
+//! Rows as exports have them: with spaces around fields, numbers with zeros behind a point, times in several forms.
+ghost use Rattle.std.specs.Prelude.{◌≡◌, option_map};
+ghost use Rattle.tsb_event_text.specs.Columns.{header_of};
+ghost use Rattle.tsb_event_text.specs.TimeForms.{is_there};
+ghost use Rattle.tsb_event_text.specs.Wide.{are_marks, are_zeros, form_by, is_mark, is_passed, trimmed, whole_of, wide_fields, wide_of, without_end, without_front};
+
+use crate::columns::{Columns, header};
+use crate::events::has_byte;
+use crate::fields::{device_in, field_in};
+use crate::rows::is_asked;
+use crate::time_forms::{TimeForm, form_of, moment_in, split};
+use crate::times::Moment;
+use tsb_lines::number;
+
+/// What a row of events says, as exports have it.
+#[derive(Clone, Copy, PartialEq, Eq)]
+pub struct WideRow {
+    /// Whether it counts: it is of the device that is asked for, or none is asked for.
+    pub ours: bool,
+    /// The form of its time.
+    pub form: TimeForm,
+    /// When it happened.
+    pub moment: Moment,
+    /// What happened: a number of the Indiana Traffic Signal Hi Resolution Data Logger Enumerations.
+    pub code: u32,
+    /// The channel, phase or the like that it happened to, where it is a number.
+    pub parameter: Option<u32>,
+}
+
+/// The row that a line spells, with its columns in these places, or `None` where a quote is out of place, a column is
+/// missing, or its time or code is none. Spaces around fields don't count, and a number may have zeros behind a point.
+/// `times` is the form of times, or `None` where the row's own time says it. `asked` is as for `event_row`.
+#[tactic(auto, unfolding(crate::specs::Wide::wide_of))]
+pub fn wide_row(
+    line: &[u8],
+    columns: Columns,
+    times: Option<TimeForm>,
+    asked: Option<&[u8]>,
+) -> Option<WideRow>
+    ensures { result ≡ wide_of columns times (option_map (λ device. device.now) asked.entry) line.now }
+{
+    let device = device_in(line, columns.device)?;
+    let time = field_in(line, columns.time)?;
+    let code = field_in(line, columns.code)?;
+    let parameter = field_in(line, columns.parameter)?;
+    wide_fields(
+        asked,
+        times,
+        trimmed(device),
+        trimmed(time),
+        trimmed(code),
+        trimmed(parameter),
+    )
+}
+
+/// The row of four fields without spaces around them.
+fn wide_fields(
+    asked: Option<&[u8]>,
+    times: Option<TimeForm>,
+    device: &[u8],
+    time: &[u8],
+    code: &[u8],
+    parameter: &[u8],
+) -> Option<WideRow>
+    ensures { result ≡ wide_fields (option_map (λ device. device.now) asked.entry) times device.now time.now code.now parameter.now }
+{
+    let form = form_by(times, time)?;
+    let moment = moment_in(form, time)?;
+    let code = whole(code)?;
+    Some(WideRow {
+        ours: is_asked(asked, device),
+        form,
+        moment,
+        code,
+        parameter: whole(parameter),
+    })
+}
+
+/// The form of a time: this one, or else that in which the time itself is one.
+pub(crate) fn form_by(times: Option<TimeForm>, time: &[u8]) -> Option<TimeForm>
+    ensures { result ≡ form_by times time.now }
+{
+    match times {
+        Some(form) => Some(form),
+        None => form_of(time),
+    }
+}
+
+/// The whole number that a field spells, as `82` or `82.0`.
+pub(crate) fn whole(field: &[u8]) -> Option<u32>
+    ensures { result ≡ whole_of field.now }
+{
+    let (digits, zeros) = split(b'.', field);
+    if !are_zeros(zeros) {
+        return None;
+    }
+    number(digits)
+}
+
+/// Whether a text has zeros alone.
+fn are_zeros(text: &[u8]) -> bool
+    ensures { result ≡ are_zeros text.now }
+{
+    for byte in text {
+        if *byte != b'0' {
+            return false;
+        }
+    }
+    true
+}
+
+/// A field without the spaces around it.
+pub(crate) fn trimmed(field: &[u8]) -> &[u8]
+    ensures { result.now ≡ trimmed field.now }
+{
+    without_end(without_front(field))
+}
+
+/// A text without the spaces at its beginning.
+fn without_front(text: &[u8]) -> &[u8]
+    ensures { result.now ≡ without_front text.now }
+{
+    let mut left = text;
+    while let [first, rest @ ..] = left {
+        if *first != b' ' {
+            return left;
+        }
+        left = rest;
+    }
+    left
+}
+
+/// A text without the spaces at its end.
+fn without_end(text: &[u8]) -> &[u8]
+    ensures { result.now ≡ without_end text.now }
+{
+    let mut end = text.len();
+    while end > 0 && text[end - 1] == b' ' {
+        end -= 1;
+    }
+    &text[..end]
+}
+
+/// Whether a line that is no row is passed over: a line that a database draws below a header, or a header.
+#[tactic(auto, unfolding(crate::specs::Wide::is_passed))]
+pub fn is_passed(line: &[u8]) -> bool
+    ensures { result ≡ is_passed line.now }
+{
+    (has_byte(b'-', line) && are_marks(line)) || is_header(line)
+}
+
+/// Whether a line names columns.
+fn is_header(line: &[u8]) -> bool
+    ensures { result ≡ is_there (header_of line.now) }
+{
+    match header(line) {
+        Some(_) => true,
+        None => false,
+    }
+}
+
+/// Whether a text has marks of a drawn line alone.
+fn are_marks(text: &[u8]) -> bool
+    ensures { result ≡ are_marks text.now }
+{
+    for byte in text {
+        if !is_mark(*byte) {
+            return false;
+        }
+    }
+    true
+}
+
+/// Whether a byte is a mark of a drawn line.
+fn is_mark(byte: u8) -> bool
+    ensures { result ≡ is_mark byte }
+{
+    byte == b'-' || byte == b',' || byte == b' ' || byte == b'+' || byte == b'|'
+}
