@@ -1,0 +1,366 @@
+"""A live bench: inputs as they come, and everything that can be taken back."""
+
+import json
+import re
+import tempfile
+from collections.abc import Iterable, Iterator
+from contextlib import contextmanager, suppress
+from os import PathLike, fspath
+from pathlib import Path
+from types import TracebackType
+from typing import Literal, NamedTuple, Self
+
+from tsb import programs
+from tsb.errors import (
+    BadCommand,
+    Error,
+    NoSuchTick,
+    OutOfRange,
+    PlanFault,
+    ProgramDied,
+    Refused,
+)
+from tsb.lines import Display, Event, Lines
+from tsb.plan import Plan
+from tsb.rows import ALL_OFF, PEDESTRIANS, PREEMPTS, ROW, VEHICLES, Log, On, digits
+from tsb.status import Edits, Status
+from tsb.talk import Talk
+from tsb.values import Index, Value, index_of, number_of, object_of
+
+Watch = Literal[
+    "interval", "ped", "call", "output", "alarm", "input", "button", "preempt",
+    "stage", "trip",
+]  # fmt: skip
+
+_EVENT = re.compile(rb"event (\d+) (\d+) (\d+)\n")
+
+
+class Saved(NamedTuple):
+    """What makes a state again: `tsb run PLAN LOG < COMMANDS`, as texts."""
+
+    log: str
+    commands: str
+
+
+class Bench:
+    """A controller that runs a plan, tick by tick: `tsb_live` behind pipes.
+
+    `plan` is a plan or the path of one. With a `log`, its rows act in the ticks;
+    without one, an input that is not named is off. With `events`, the bench keeps the
+    events of the inputs that remain. A refused input raises `Refused` and leaves all
+    as it was; a plan with a fault raises `PlanFault`; `ProgramDied` says how the
+    program ended, if it did.
+    """
+
+    def __init__(
+        self,
+        plan: Plan | str | PathLike[str],
+        log: Log | str | PathLike[str] | None = None,
+        *,
+        events: bool = True,
+    ) -> None:
+        self._log = log if log is None or isinstance(log, Log) else Log.read(log)
+        self._told: list[Event] = []
+        # Of each input that is no tick: its tick, and how many events came before it.
+        self._marks: list[tuple[int, int]] = []
+        self._talk, self._now = _started(plan)
+        self._tells = events and self._begin_events()
+
+    def _begin_events(self) -> bool:
+        with suppress(BadCommand):
+            self._ask("events on")
+            return True
+        return False
+
+    def __enter__(self) -> Self:
+        return self
+
+    def __exit__(
+        self,
+        kind: type[BaseException] | None,
+        fault: BaseException | None,
+        trace: TracebackType | None,
+    ) -> None:
+        self.close()
+
+    def close(self) -> None:
+        """Ends the program."""
+        self._talk.close()
+
+    # What is asked and answered
+
+    def _ask(self, command: str) -> str:
+        """The answer to a line that has just one."""
+        if "\n" in command:
+            raise BadCommand(command)
+        *told, answer = self._talk.ask(command).split("\n")
+        self._told += [Event(*map(int, it.split(" ")[1:])) for it in told]
+        if answer == "bad command":
+            raise BadCommand(command)
+        if answer.startswith("refused"):
+            raise Refused(answer, command)
+        return answer
+
+    def _do(self, command: str) -> str:
+        """The answer to a command that is an input and no tick."""
+        mark = (self._now, len(self._told))
+        answer = self._ask(command)
+        self._marks.append(mark)
+        return answer
+
+    def _block(self, lines: str) -> Lines:
+        """The display lines that answer many lines, sent ahead of them."""
+        text = self._talk.block(lines.encode())
+        refused = re.search(rb"^refused.*$", text, re.M)
+        if self._tells:
+            told = map(Event._make, (map(int, it) for it in _EVENT.findall(text)))
+            self._told += told
+            text = _EVENT.sub(b"", text)
+        if refused is not None:
+            self._keep(Lines(text[: text.index(b"refused")]))
+            raise Refused(refused[0].decode(), "step")
+        shown = Lines(text)
+        if shown:
+            self._now = shown[-1].tick
+        return shown
+
+    def _keep(self, shown: Lines) -> None:
+        """Keeps the ticks before the first that was refused."""
+        self.seek(shown[-1].tick if shown else self._now)
+
+    # Ticks
+
+    @property
+    def now(self) -> int:
+        """The number of the present tick; 0 at power-up."""
+        return self._now
+
+    def tick(
+        self,
+        vehicles: On | None = None,
+        pedestrians: On | None = None,
+        preempts: On | None = None,
+    ) -> Display:
+        """One tick in which these inputs are on: numbers, or a digit for each from
+        the first on. What is not named is as the log has it, off without one."""
+        row = ALL_OFF if self._log is None else self._log.at(self._now + 1)
+        given = [(vehicles, VEHICLES), (pedestrians, PEDESTRIANS), (preempts, PREEMPTS)]
+        if vehicles is not None or pedestrians is not None or preempts is not None:
+            row = " ".join(
+                was if on is None else digits(on, count)
+                for was, (on, count) in zip(row.split(" "), given, strict=True)
+            )
+        return self._shown(self._ask(row))
+
+    def ticks(self, rows: Iterable[str]) -> Lines:
+        """A tick for each row (`tsb.row`), all sent ahead: what the heads showed."""
+        given = list(rows)
+        for row in given:
+            if not ROW.fullmatch(row):
+                raise OutOfRange(f"{row!r} is no row of 16, 8 and 4 digits")
+        return self._block("".join(f"{row}\n" for row in given))
+
+    def step(self, count: int = 1) -> Lines:
+        """So many ticks, with the rows of the log, or without one with the row last
+        given: what the heads showed."""
+        return self._block(self._asked("step", count))
+
+    def changes(self, count: int) -> Lines:
+        """As `step`: the lines in which a head or the preempt changed, and the last."""
+        before = self.show() if self._log is not None else None
+        shown = self._block(self._asked("changes", count))
+        return shown if before is None else Lines.of(_changed(before, shown))
+
+    def _asked(self, word: str, count: int) -> str:
+        """The lines that ask for so many ticks."""
+        if count < 0:
+            raise OutOfRange(f"{word} {count}: a number of ticks is 0 or more")
+        if self._log is None:
+            return f"{word} {count}\n"
+        rows = self._log.stretches(self._now + 1, self._now + count)
+        return "".join(f"{row}\n{word} {ticks - 1}\n" for row, ticks in rows)
+
+    def _shown(self, line: str) -> Display:
+        """The display of a line, whose tick is the present one."""
+        found = Display.of(line)
+        self._now = found.tick
+        return found
+
+    # The way back
+
+    def back(self, count: int) -> Display:
+        """Goes back so many ticks; `NoSuchTick` where there are fewer."""
+        return self._gone_back(f"back {count}")
+
+    def seek(self, tick: int) -> Display:
+        """Goes back to a tick; `NoSuchTick` where it lies ahead."""
+        return self._gone_back(f"seek {tick}")
+
+    def _gone_back(self, command: str) -> Display:
+        answer = self._ask(command)
+        if answer == "nothing":
+            raise NoSuchTick(f"{command}: the bench is at tick {self._now}")
+        found = self._shown(answer)
+        self._forget()
+        return found
+
+    def _forget(self) -> None:
+        """Drops the events and marks of what was taken back with its ticks."""
+        while self._told and self._told[-1].tick > self._now:
+            self._told.pop()
+        while self._marks and self._marks[-1][0] > self._now:
+            self._marks.pop()
+
+    def undo(self) -> str | None:
+        """Takes the newest input back: its kind, as `tick` or `commit`; None where
+        there is none."""
+        answer = self._ask("undo")
+        if answer == "nothing":
+            return None
+        kind = answer.removeprefix("undone ")
+        if kind == "tick":
+            self._now -= 1
+            self._forget()
+        else:
+            _, count = self._marks.pop()
+            del self._told[count:]
+        return kind
+
+    # The operator
+
+    def set_pattern(self, number: int) -> None:
+        """Selects a pattern, 0 for free operation; it acts from the next tick on."""
+        self._do(f"pattern {number}")
+
+    def preempt(self, number: int, on: bool = True) -> None:
+        """Turns the switch of a preempt on or off."""
+        self._do(f"preempt {number} {'on' if on else 'off'}")
+
+    def fault(self, head: str | None, lamp: str = "") -> None:
+        """Lights a lamp in place of a head's own, as `fault("P4", "G")`; with None it
+        is taken away."""
+        self._do("fault none" if head is None else f"fault {head} {lamp}")
+
+    def reset(self) -> None:
+        """Ends a trip, if there is one."""
+        self._do("reset")
+
+    @contextmanager
+    def transaction(self, station: int = 1) -> Iterator["Transaction"]:
+        """A transaction of a station: what is set in the `with` block is verified and
+        committed at its end, and aborted where something is raised. `PlanFault` names
+        the rule that the plan would break."""
+        edits = Transaction(self, station)
+        try:
+            yield edits
+            edits.commit()
+        finally:
+            edits.abort()
+
+    # What is asked
+
+    def show(self) -> Display:
+        """What the heads show."""
+        return self._shown(self._ask("show"))
+
+    def when(self, watch: Watch, number: int | None = None) -> int | None:
+        """The tick at which something changed last, None for never: `when("call", 4)`
+        for a phase, `when("output", 2)` for a detector, `when("stage")`."""
+        words = ["when", watch, *([] if number is None else [str(number)])]
+        answer = self._ask(" ".join(words))
+        return None if answer == "never" else int(answer.removeprefix("tick "))
+
+    @property
+    def status(self) -> Status:
+        """The status of the controller."""
+        return Status.of_line(self._ask("status"))
+
+    @property
+    def plan(self) -> Plan:
+        """The plan in effect."""
+        return Plan.of_text(self._ask("plan"))
+
+    @property
+    def edits(self) -> Edits:
+        """What is open at the desk."""
+        return Edits.of_line(self._ask("edits"))
+
+    @property
+    def events(self) -> list[Event]:
+        """The events of the inputs that remain, in their order."""
+        if not self._tells:
+            raise Error("this bench tells no events")
+        return list(self._told)
+
+    def save(self) -> Saved:
+        """The log and the commands that make this state again by `tsb run`."""
+        return Saved(**json.loads(self._ask("save")))
+
+
+class Transaction:
+    """What a station sets, until the commit: `edits["phaseMaximum1", 2] = 40`."""
+
+    def __init__(self, bench: Bench, station: int) -> None:
+        self._bench, self._station = bench, station
+        self._say("begin")
+        self.is_open = True
+
+    def _say(self, word: str, *more: object) -> str:
+        words = [word, self._station, *more]
+        return self._bench._do(" ".join(map(str, words)))
+
+    def __setitem__(self, place: tuple[str, Index], value: Value) -> None:
+        name, index = place
+        what = object_of(name)
+        number = number_of(what, value)
+        self._say("set", name, index_of(what, index), number)
+
+    def verify(self) -> None:
+        """Judges the plan with the edits; `PlanFault` names the rule it breaks."""
+        answer = self._say("verify")
+        if answer != "ok":
+            raise PlanFault(f"plan: {answer}")
+
+    def commit(self) -> None:
+        """Verifies, and puts all edits into effect, unless the transaction ended."""
+        if self.is_open:
+            self.verify()
+            self._say("commit")
+            self.is_open = False
+
+    def abort(self) -> None:
+        """Drops all edits, unless the transaction ended."""
+        if self.is_open:
+            self.is_open = False
+            # (the way back may have taken the begin back, and the program may be gone)
+            with suppress(Refused, ProgramDied):
+                self._say("abort")
+
+
+def _started(plan: Plan | str | PathLike[str]) -> tuple[Talk, int]:
+    """A live program on a plan, and its first tick number."""
+    with tempfile.NamedTemporaryFile("w", suffix=".json") as file:
+        path = file.name
+        if isinstance(plan, Plan):
+            file.write(plan.text)
+            file.flush()
+        else:
+            path = fspath(plan)
+            Path(path).stat()  # (a file that is not there is told as such)
+        talk = Talk(programs.find("tsb_live"), [path])
+        try:
+            return talk, Display.of(talk.ask("show")).tick
+        except ProgramDied as died:
+            talk.close()
+            line = died.stderr.strip()
+            if died.status == 1 and line.startswith("plan: "):
+                raise PlanFault(line) from None
+            raise
+
+
+def _changed(before: Display, shown: Lines) -> Iterator[Display]:
+    """Those lines in which a head or the preempt is another, and the last."""
+    for place, line in enumerate(shown, 1):
+        if line[1:5] != before[1:5] or place == len(shown):
+            yield line
+        before = line

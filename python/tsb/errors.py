@@ -1,0 +1,124 @@
+"""What can go wrong, each with what the manual says of it.
+
+All are `tsb.Error`. An input that is refused has changed nothing, and the bench is
+as it was before it.
+"""
+
+import re
+
+from tsb.manual import REFUSALS, RULES, Refusal, Rule, plan_fault
+
+
+class Error(Exception):
+    """Whatever goes wrong with a plan, a log, a bench or its programs."""
+
+
+class NoProgram(Error):
+    """A program of the bench was not found. The message says how to build it."""
+
+
+class ProgramDied(Error):
+    """A program ended by itself: `status` is its exit status, less than 0 for a
+    signal, and `stderr` what it said."""
+
+    def __init__(self, program: str, status: int, stderr: str) -> None:
+        how = f"by signal {-status}" if status < 0 else f"with status {status}"
+        said = stderr.strip() or "it said nothing"
+        super().__init__(f"{program} ended {how}: {said}")
+        self.program, self.status, self.stderr = program, status, stderr
+
+
+class Refused(Error):
+    """A refusal E1 to E12, as docs/MANUAL.md has it in chapter 7.
+
+    `number` is 1 to 12, `name` as `NoSuchPattern`; `meaning`, `cause` and `cure` are
+    the manual's. `command` is what was asked, and `line` the answer. `station` is the
+    station that has the desk, of a refusal E4. Nothing has changed.
+    """
+
+    def __init__(self, line: str, command: str, more: str = "") -> None:
+        said = re.fullmatch(r"refused E(\d+) (\w+)(?: (\d+))?", line)
+        if said is None:
+            raise ValueError(f"no refusal: {line}")
+        self.line, self.command = line, command
+        self.refusal: Refusal = REFUSALS[int(said[1])]
+        self.station = None if said[3] is None else int(said[3])
+        parts = [f"{command}: {line}: {self.meaning}", more, f"cure: {self.cure}"]
+        super().__init__("; ".join(filter(None, parts)))
+
+    @property
+    def number(self) -> int:
+        """1 to 12."""
+        return self.refusal.number
+
+    @property
+    def name(self) -> str:
+        """The name, as `NoSuchPattern`."""
+        return self.refusal.name
+
+    @property
+    def meaning(self) -> str:
+        """What the refusal means."""
+        return self.refusal.meaning
+
+    @property
+    def cause(self) -> str:
+        """Its usual cause."""
+        return self.refusal.cause
+
+    @property
+    def cure(self) -> str:
+        """What to do about it."""
+        return self.refusal.cure
+
+
+class PlanFault(Error):
+    """The first fault of a plan, as docs/MANUAL.md has it in chapters 2 and 4.
+
+    `line` is that of `tsb check`, as `plan: rule K8`. `rule` is the rule that the
+    plan breaks, with its cure, and None where the text is no plan.
+    """
+
+    def __init__(self, line: str) -> None:
+        self.line = line
+        self.rule: Rule | None = RULES.get(line.removeprefix("plan: rule "))
+        if self.rule is not None:
+            told = (
+                f"{self.rule.holds} usual cause: {self.rule.cause}; cure: {self.cure}"
+            )
+        else:
+            told = plan_fault(line) or ""
+        super().__init__(f"{line}: {told}" if told else line)
+
+    @property
+    def cure(self) -> str | None:
+        """What to do about a broken rule."""
+        return None if self.rule is None else self.rule.cure
+
+
+class LogFault(Error):
+    """The first fault of a log: `line` as `log line 3: tick order`."""
+
+    def __init__(self, line: str) -> None:
+        self.line = line
+        super().__init__(line)
+
+
+class BadCommand(Error):
+    """The program knows no such command. Nothing has changed."""
+
+    def __init__(self, command: str) -> None:
+        super().__init__(f"{command}: bad command")
+        self.command = command
+
+
+class NoSuchTick(Error):
+    """There is no such tick to go back to: `back` and `seek` only go backwards."""
+
+
+class NoSuchObject(Error, LookupError):
+    """A plan text of this version has no object of the name, or not the index."""
+
+
+class OutOfRange(Error, ValueError):
+    """A value that an object does not take. The message has its range and unit."""

@@ -1,0 +1,112 @@
+"""What docs/MANUAL.md says of objects, rules, faults and refusals.
+
+All of it is read from manual.json, which tools/python_manual.py writes from the
+manual: there is no other list of names, units or ranges in the package.
+"""
+
+import json
+import re
+from collections.abc import Mapping
+from dataclasses import dataclass
+from datetime import timedelta
+from importlib.resources import files
+from typing import Any
+
+TIMES = {
+    "minutes": timedelta(minutes=1),
+    "seconds": timedelta(seconds=1),
+    "tenths of a second": timedelta(milliseconds=100),
+}
+
+
+@dataclass(frozen=True)
+class Object:
+    """An object of a plan: what its index counts, and the range of its values.
+
+    `count` is the greatest index and `greatest` the greatest value of version 2 of
+    plan texts; `count_1` and `greatest_1` are those of version 1, None where it has
+    no such object. `structural` objects can be changed by a commit only while
+    nothing is in service.
+    """
+
+    name: str
+    index: str
+    count: int
+    count_1: int | None
+    greatest: int
+    greatest_1: int | None
+    unit: str
+    structural: bool
+    meaning: str
+
+    def counts(self, version: int) -> int:
+        """The greatest index in plan texts of a version; 0 where it has no object."""
+        return (self.count if version == 2 else self.count_1) or 0
+
+    def most(self, version: int) -> int:
+        """The greatest value in plan texts of a version."""
+        return (self.greatest if version == 2 else self.greatest_1) or 0
+
+    @property
+    def time(self) -> timedelta | None:
+        """How long a value of 1 lasts; None where the object is no time."""
+        return TIMES.get(self.unit.split(",")[0])
+
+    @property
+    def is_list(self) -> bool:
+        """Whether a value is a list of phases: 1 for phase 1, 2 for 2, 4 for 3, .."""
+        return self.unit == "list of phases"
+
+    def range(self, version: int = 2) -> str:
+        """The range with its unit, as `0 to 255 (tenths of a second)`."""
+        return f"0 to {self.most(version)} ({self.unit})"
+
+
+@dataclass(frozen=True)
+class Refusal:
+    """A refusal E1 to E12: what it means, its usual cause and the cure."""
+
+    number: int
+    name: str
+    meaning: str
+    cause: str
+    cure: str
+
+
+@dataclass(frozen=True)
+class Rule:
+    """A rule K1 to K22: what must hold, the usual cause where it does not, the cure."""
+
+    name: str
+    holds: str
+    cause: str
+    cure: str
+
+
+def _read() -> dict[str, Any]:
+    text = files(__package__).joinpath("manual.json").read_text(encoding="utf-8")
+    found: dict[str, Any] = json.loads(text)
+    return found
+
+
+_TOLD = _read()
+
+LAST_TICK: int = _TOLD["ticks"]
+OBJECTS: Mapping[str, Object] = {
+    name: Object(name=name, **said) for name, said in _TOLD["objects"].items()
+}
+REFUSALS: Mapping[int, Refusal] = {
+    int(number): Refusal(number=int(number), **said)
+    for number, said in _TOLD["refusals"].items()
+}
+RULES: Mapping[str, Rule] = {
+    name: Rule(name=name, **said) for name, said in _TOLD["rules"].items()
+}
+PLAN_FAULTS: Mapping[str, str] = _TOLD["plan_faults"]
+
+
+def plan_fault(line: str) -> str | None:
+    """When a fault line of a plan comes that names no rule; None for another line."""
+    shape = re.sub(r"^plan: \w+\.\w+: ", "plan: NAME.INDEX: ", line)
+    shape = re.sub(r"^plan: \w+: ", "plan: NAME: ", shape)
+    return PLAN_FAULTS.get(shape)

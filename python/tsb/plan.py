@@ -1,0 +1,200 @@
+"""Plans: built and changed by the names of objects and their units.
+
+The text of a plan is that of docs/MANUAL.md, chapter 2; names, units and ranges are
+those of chapter 3. Whether a plan breaks a rule, the bench is asked.
+"""
+
+import json
+import tempfile
+from collections.abc import Iterable, Iterator, MutableMapping
+from datetime import timedelta
+from os import PathLike
+from pathlib import Path
+from typing import Any
+
+from tsb.errors import Error, NoSuchObject, OutOfRange, PlanFault
+from tsb.manual import OBJECTS
+from tsb.programs import run
+from tsb.values import Index, Value, index_of, number_of, object_of, phases_of
+
+OK = "plan ok"
+
+
+class Values(MutableMapping[int, int]):
+    """The values of an object by index: those that are not 0.
+
+    A value is a number in the object's own unit, a time (`tsb.seconds(3.5)`), or the
+    phases of a list (`{2, 6}`). What is out of range is refused with the range.
+    """
+
+    def __init__(self, name: str, version: int) -> None:
+        self.object = object_of(name, version)
+        self._version = version
+        self._values: dict[int, int] = {}
+
+    def index(self, index: Index) -> int:
+        """An index as the plan text has it: of (table, phase) or (sequence, ring,
+        place) too."""
+        return index_of(self.object, index, self._version)
+
+    def __getitem__(self, index: Index) -> int:
+        return self._values.get(self.index(index), 0)
+
+    def __setitem__(self, index: Index, value: Value) -> None:
+        place, number = self.index(index), number_of(self.object, value, self._version)
+        self._values.pop(place, None)
+        if number:
+            self._values[place] = number
+
+    def __delitem__(self, index: Index) -> None:
+        self[index] = 0
+
+    def __iter__(self) -> Iterator[int]:
+        return iter(sorted(self._values))
+
+    def __len__(self) -> int:
+        return len(self._values)
+
+    def __repr__(self) -> str:
+        return f"{self.object.name} {dict(self)}"
+
+    def time(self, index: Index) -> timedelta:
+        """A value that is a time."""
+        unit = self.object.time
+        if unit is None:
+            raise OutOfRange(f"{self.object.name} is no time: {self.object.range()}")
+        return self[index] * unit
+
+    def phases(self, index: Index) -> frozenset[int]:
+        """The phases of a value that is a list."""
+        if not self.object.is_list:
+            raise OutOfRange(f"{self.object.name} is no list: {self.object.range()}")
+        return phases_of(self[index])
+
+
+class Plan:
+    """A plan. `plan["phaseYellowChange"][2] = tsb.seconds(4)` changes a value; what
+    is never given is 0. `version` is that of its text, 1 or 2."""
+
+    def __init__(self, version: int = 2) -> None:
+        if version not in (1, 2):
+            raise PlanFault("plan: version")
+        self.version = version
+        self._objects: dict[str, Values] = {}
+
+    @classmethod
+    def of_text(cls, text: str | bytes) -> "Plan":
+        """The plan of a JSON text. `PlanFault`, `NoSuchObject` or `OutOfRange` says
+        what is wrong with it; rules are not judged here (`check`)."""
+        try:
+            told = json.loads(text)
+        except ValueError:
+            raise PlanFault("plan: not JSON") from None
+        if not isinstance(told, dict):
+            raise PlanFault("plan: not a table")
+        version = told.pop("version", None)
+        if type(version) is not int:
+            raise PlanFault("plan: version")
+        plan = cls(version)
+        for name, values in told.items():
+            plan._take(name, values)
+        return plan
+
+    def _take(self, name: str, values: Any) -> None:
+        """Takes the values of an object as a text has them."""
+        taken = self[name]
+        if not isinstance(values, dict):
+            raise PlanFault(f"plan: {name}: not a table")
+        for index, value in values.items():
+            if not index.isdecimal() or str(int(index)) != index:
+                raise NoSuchObject(f"{name}.{index}: an index is a number")
+            if type(value) is not int:
+                raise PlanFault(f"plan: {name}.{index}: not a whole number")
+            taken[int(index)] = value
+
+    @classmethod
+    def read(cls, path: str | PathLike[str]) -> "Plan":
+        """The plan of a file."""
+        return cls.of_text(Path(path).read_bytes())
+
+    def write(self, path: str | PathLike[str]) -> None:
+        """Writes the text to a file."""
+        Path(path).write_text(self.text, encoding="utf-8")
+
+    @property
+    def text(self) -> str:
+        """The JSON text: what is not 0, an object on a line."""
+        lines = [f'"version": {self.version}']
+        for name, values in self.items():
+            told = {str(index): value for index, value in values.items()}
+            lines.append(f'"{name}": {json.dumps(told)}')
+        return "{\n  " + ",\n  ".join(lines) + "\n}\n"
+
+    def items(self) -> Iterator[tuple[str, Values]]:
+        """The objects that are not all zeros, in the order of the manual."""
+        for name in OBJECTS:
+            if values := self._objects.get(name):
+                yield name, values
+
+    def __getitem__(self, name: str) -> Values:
+        if name not in self._objects:
+            self._objects[name] = Values(name, self.version)
+        return self._objects[name]
+
+    def __setitem__(self, name: str, values: "dict[Any, Value]") -> None:
+        taken = Values(name, self.version)
+        for index, value in values.items():
+            taken[index] = value
+        self._objects[name] = taken
+
+    def __eq__(self, other: object) -> bool:
+        return isinstance(other, Plan) and self.text == other.text
+
+    __hash__ = None  # type: ignore[assignment]
+
+    def __repr__(self) -> str:
+        return f"<plan of {sorted(self.phases)}>"
+
+    @property
+    def phases(self) -> frozenset[int]:
+        """The phases that are enabled."""
+        return frozenset(self["phaseEnabled"])
+
+    def sequence(self, number: int, ring: int) -> list[int]:
+        """The phases of a ring in the order of a sequence."""
+        count = 16 if self.version == 2 else 8
+        values = self["sequenceData"]
+        return [it for at in range(count) if (it := values[number, ring, at + 1])]
+
+    def set_sequence(self, number: int, ring: int, phases: Iterable[int]) -> None:
+        """Gives a ring the order of its phases in a sequence."""
+        count = 16 if self.version == 2 else 8
+        order = list(phases)
+        if len(order) > count:
+            raise OutOfRange(f"sequenceData: a sequence has at most {count} places")
+        values = self["sequenceData"]
+        for at, phase in enumerate(order + [0] * (count - len(order)), 1):
+            values[number, ring, at] = phase
+
+    def fault(self) -> PlanFault | None:
+        """The first fault that `tsb check` finds, if any."""
+        with tempfile.NamedTemporaryFile("w", suffix=".json") as file:
+            file.write(self.text)
+            file.flush()
+            done = run("tsb", ["check", file.name], statuses=(0, 1))
+        line = done.stdout.decode().strip()
+        return None if line == OK else PlanFault(line)
+
+    def check(self) -> None:
+        """Asks `tsb check`; raises the `PlanFault` that it finds, if any."""
+        if fault := self.fault():
+            raise fault
+
+
+def plan_of(plan: "Plan | str | PathLike[str]") -> "Plan":
+    """A plan, or that of a file."""
+    if isinstance(plan, Plan):
+        return plan
+    if not isinstance(plan, str | PathLike):
+        raise Error(f"neither a plan nor a file: {plan!r}")
+    return Plan.read(plan)

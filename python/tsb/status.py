@@ -1,0 +1,178 @@
+"""The status of a controller, as docs/LIVE.md has it: by the names of NTCIP 1202.
+
+Sets are of numbers of phases, overlaps or detectors; times are in tenths of a second,
+None where they do not run.
+"""
+
+import json
+import re
+from collections.abc import Mapping
+from dataclasses import dataclass, fields
+from typing import Any, Self
+
+Numbers = frozenset[int]
+
+
+class _Told:
+    """What is told as an object of JSON, with a member for each field."""
+
+    @classmethod
+    def of(cls, told: Mapping[str, Any]) -> Self:
+        """What an object of JSON tells."""
+        values = {_snake(name): value for name, value in told.items()}
+        names = [it.name for it in fields(cls)]
+        return cls(**{it: _plain(values[it]) for it in names})
+
+
+def _snake(name: str) -> str:
+    """`vehCalls` as `veh_calls`."""
+    return re.sub(r"[A-Z]", lambda it: "_" + it[0].lower(), name)
+
+
+def _plain(value: Any) -> Any:
+    return frozenset(value) if isinstance(value, list) else value
+
+
+@dataclass(frozen=True)
+class PhaseStatusGroup(_Told):
+    """phaseStatusGroup: sets of phases."""
+
+    reds: Numbers
+    yellows: Numbers
+    greens: Numbers
+    dont_walks: Numbers
+    ped_clears: Numbers
+    walks: Numbers
+    veh_calls: Numbers
+    ped_calls: Numbers
+    phase_ons: Numbers
+    phase_nexts: Numbers
+
+
+@dataclass(frozen=True)
+class OverlapStatusGroup(_Told):
+    """overlapStatusGroup: sets of overlaps."""
+
+    reds: Numbers
+    yellows: Numbers
+    greens: Numbers
+
+
+@dataclass(frozen=True)
+class VehicleDetectorStatusGroup(_Told):
+    """vehicleDetectorStatusGroup: sets of vehicle detectors. One is active while its
+    output is on."""
+
+    active: Numbers
+    alarms: Numbers
+
+
+@dataclass(frozen=True)
+class RingStatus(_Told):
+    """A ring: `ring_status` is the coded part, as `minimumGreen` or `redRest`."""
+
+    ring_status: str
+    phase: int | None
+    next: int | None
+    initial_left: int | None
+    gap: int | None
+    gap_left: int | None
+    maximum_left: int | None
+    walk_left: int | None
+    clearance_left: int | None
+    yellow_left: int | None
+    red_clearance_left: int | None
+    force_off_in: int | None
+
+
+@dataclass(frozen=True)
+class Wait:
+    """What a phase waits for that is called or in service and not green.
+
+    `cause` is `for` of the line, as `barrier`; `of` is the phase that it waits for,
+    `lack` what that green lacks, `left` what is left of a time.
+    """
+
+    phase: int
+    cause: str
+    of: int | None = None
+    preempt: int | None = None
+    lack: str | None = None
+    left: int | None = None
+
+
+@dataclass(frozen=True)
+class Desk:
+    """The desk: the station that owns it, and how far its transaction is."""
+
+    owner: int | None
+    state: str
+
+
+@dataclass(frozen=True)
+class Edit:
+    """A value that is written down at the desk."""
+
+    object: str
+    index: int
+    value: int
+
+
+@dataclass(frozen=True)
+class Edits:
+    """The desk with its edits, in the order of their first `set`, and the rule that
+    the last check found broken."""
+
+    owner: int | None
+    state: str
+    rule: str | None
+    edits: tuple[Edit, ...]
+
+    @classmethod
+    def of_line(cls, line: str) -> "Edits":
+        """The desk of a line of JSON."""
+        told = json.loads(line)
+        edits = tuple(Edit(**it) for it in told["edits"])
+        return cls(told["owner"], told["state"], told["rule"], edits)
+
+
+@dataclass(frozen=True)
+class Status:
+    """The status of the controller after `tick`."""
+
+    tick: int
+    phases: PhaseStatusGroup
+    overlaps: OverlapStatusGroup
+    detectors: VehicleDetectorStatusGroup
+    preempt_state: tuple[str, ...]
+    coord_pattern_status: int
+    local_free_status: str
+    local_counter: int | None
+    coord_sync_status: int | None
+    unit_flash_status: str
+    desk: Desk
+    rings: tuple[RingStatus, ...]
+    waits: Mapping[int, Wait]
+
+    @classmethod
+    def of_line(cls, line: str) -> "Status":
+        """The status of a line of JSON."""
+        told = json.loads(line)
+        waits = [{**it, "cause": it["for"]} for it in told["waits"]]
+        for it in waits:
+            del it["for"]
+        return cls(
+            tick=told["tick"],
+            phases=PhaseStatusGroup.of(told["phaseStatusGroup"]),
+            overlaps=OverlapStatusGroup.of(told["overlapStatusGroup"]),
+            detectors=VehicleDetectorStatusGroup.of(told["vehicleDetectorStatusGroup"]),
+            preempt_state=tuple(told["preemptState"]),
+            coord_pattern_status=told["coordPatternStatus"],
+            local_free_status=told["localFreeStatus"],
+            local_counter=told["localCounter"],
+            coord_sync_status=told["coordSyncStatus"],
+            unit_flash_status=told["unitFlashStatus"],
+            desk=Desk(**told["desk"]),
+            rings=tuple(RingStatus.of(it) for it in told["rings"]),
+            waits={it["phase"]: Wait(**it) for it in waits},
+        )

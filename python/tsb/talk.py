@@ -1,0 +1,94 @@
+"""A live program at the end of two pipes (docs/LIVE.md)."""
+
+import os
+import select
+import subprocess
+import tempfile
+from collections.abc import Sequence
+from pathlib import Path
+
+from tsb.errors import ProgramDied
+
+PIECE = 1 << 20  # bytes that are read at a time
+# What closes many lines that are asked at once: its answer alone ends with a brace.
+CLOSING, CLOSED = b"edits\n", b"}\n"
+
+
+class Talk:
+    """A running program: lines are written to it, and its answers are read.
+
+    Both ends are read and written as they can be, so that neither waits for the other
+    however many lines are sent ahead. `ProgramDied` says how the program ended, if it
+    did.
+    """
+
+    def __init__(self, program: Path, words: Sequence[str | Path]) -> None:
+        self._name = program.name
+        self._errors = tempfile.TemporaryFile()
+        self._process = subprocess.Popen(
+            [program, *words],
+            stdin=subprocess.PIPE,
+            stdout=subprocess.PIPE,
+            stderr=self._errors,
+            bufsize=0,
+        )
+        assert self._process.stdin is not None and self._process.stdout is not None
+        self._in, self._out = self._process.stdin, self._process.stdout
+        self._to, self._from = self._in.fileno(), self._out.fileno()
+        os.set_blocking(self._to, False)
+
+    @property
+    def process(self) -> int:
+        """The number of the process."""
+        return self._process.pid
+
+    def ask(self, line: str) -> str:
+        """The answer to a line that has one: its last line, behind lines of events."""
+        try:
+            os.write(self._to, line.encode() + b"\n")
+        except BrokenPipeError:
+            raise self.died() from None
+        told = self._more()
+        while not told.endswith(b"\n") or _last(told).startswith(b"event"):
+            told += self._more()
+        return told[:-1].decode()
+
+    def block(self, lines: bytes) -> bytes:
+        """All answers to many lines, which are sent ahead of them."""
+        left, told = memoryview(lines + CLOSING), bytearray()
+        while not told.endswith(CLOSED):
+            writers = [self._to] if left else []
+            ready, free, _ = select.select([self._from], writers, [])
+            if free:
+                try:
+                    left = left[os.write(self._to, left) :]
+                except BrokenPipeError:
+                    raise self.died() from None
+            if ready:
+                told += self._more()
+        return bytes(told[: told.rfind(b"\n", 0, -1) + 1])
+
+    def _more(self) -> bytes:
+        more = os.read(self._from, PIECE)
+        if not more:
+            raise self.died()
+        return more
+
+    def died(self) -> ProgramDied:
+        """How the program ended."""
+        status = self._process.wait()
+        self._errors.seek(0)
+        return ProgramDied(self._name, status, self._errors.read().decode())
+
+    def close(self) -> None:
+        """Ends the program, and waits for it."""
+        if not self._in.closed:
+            self._in.close()
+            self._out.close()
+            self._process.wait()
+            self._errors.close()
+
+
+def _last(told: bytes) -> bytes:
+    """The last whole line."""
+    return told[told.rfind(b"\n", 0, -1) + 1 :]

@@ -1,0 +1,101 @@
+"""Values of objects: numbers, times and lists of phases as an engineer gives them."""
+
+from collections.abc import Iterable
+from datetime import timedelta
+
+from tsb.errors import NoSuchObject, OutOfRange
+from tsb.manual import OBJECTS, Object
+
+#: A number in the object's own unit, a time, or the phases of a list.
+Value = int | timedelta | Iterable[int]
+#: An index; of a split (table, phase); of a sequence (sequence, ring, place).
+Index = int | tuple[int, int] | tuple[int, int, int]
+
+RINGS, TABLES, SEQUENCES = 2, 8, 4
+SPLITS, SEQUENCE = "16 (table", "32 (sequence"
+
+
+def seconds(count: float) -> timedelta:
+    """So many seconds, as the value of any object that is a time."""
+    return timedelta(seconds=count)
+
+
+def object_of(name: str, version: int = 2) -> Object:
+    """An object by its name; `NoSuchObject` where a version has none."""
+    found = OBJECTS.get(name)
+    if found is None or not found.counts(version):
+        raise NoSuchObject(f"version {version} has no object {name}")
+    return found
+
+
+def _place(what: Object, index: Index, parts: dict[str, tuple[int, int]]) -> int:
+    """The index of parts, each with its greatest number and its step."""
+    given = index if isinstance(index, tuple) else ()
+    if len(given) != len(parts):
+        raise NoSuchObject(f"{what.name}: an index is a number or ({', '.join(parts)})")
+    found = 1
+    for part, (name, (most, step)) in zip(given, parts.items(), strict=True):
+        if not 1 <= part <= most:
+            raise NoSuchObject(f"{what.name}: {name} {part}: it is 1 to {most}")
+        found += step * (part - 1)
+    return found
+
+
+def index_of(what: Object, index: Index, version: int = 2) -> int:
+    """An index as a plan text has it; `NoSuchObject` where the object has none."""
+    phases = 16 if version == 2 else 8
+    if not isinstance(index, int):
+        if what.index.startswith(SPLITS):
+            parts = {"table": (TABLES, phases), "phase": (phases, 1)}
+        elif what.index.startswith(SEQUENCE):
+            parts = {
+                "sequence": (SEQUENCES, RINGS * phases),
+                "ring": (RINGS, phases),
+                "place": (phases, 1),
+            }
+        else:
+            raise NoSuchObject(f"{what.name}: an index is a number")
+        return _place(what, index, parts)
+    if not 1 <= index <= what.counts(version):
+        count = what.counts(version)
+        raise NoSuchObject(f"{what.name}.{index}: its indices are 1 to {count}")
+    return index
+
+
+def number_of(what: Object, value: Value, version: int = 2) -> int:
+    """A value as a plan text has it; `OutOfRange` tells the range where it is none."""
+    if isinstance(value, int):
+        found = int(value)
+    elif isinstance(value, timedelta):
+        found = _units(what, value)
+    else:
+        found = _sum(what, value)
+    if not 0 <= found <= what.most(version):
+        raise OutOfRange(f"{what.name}: {found} is not in {what.range(version)}")
+    return found
+
+
+def _units(what: Object, value: timedelta) -> int:
+    """A time in the unit of an object."""
+    if what.time is None:
+        raise OutOfRange(f"{what.name} is no time: {what.range()}")
+    count, rest = divmod(value, what.time)
+    if rest:
+        unit = what.unit.split(",")[0]
+        raise OutOfRange(f"{what.name} takes whole {unit}: {value.total_seconds()} s")
+    return count
+
+
+def _sum(what: Object, phases: Iterable[int]) -> int:
+    """The number of a list of phases."""
+    if not what.is_list:
+        raise OutOfRange(f"{what.name} is no list of phases: {what.range()}")
+    members = set(phases)
+    if wrong := [it for it in members if not 1 <= it <= 16]:
+        raise OutOfRange(f"{what.name}: there is no phase {wrong[0]}")
+    return sum(1 << (it - 1) for it in members)
+
+
+def phases_of(number: int) -> frozenset[int]:
+    """The phases of a list that has this number."""
+    return frozenset(phase for phase in range(1, 17) if number >> (phase - 1) & 1)

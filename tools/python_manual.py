@@ -1,0 +1,75 @@
+#!/usr/bin/env python3
+"""Writes python/tsb/manual.json from the tables of docs/MANUAL.md; run it at the top. With `--check` it only compares.
+
+The package has names, units, ranges, rules and cures from this file alone. The table of objects in the manual is
+written by manual_table.py from the source of tsb_plan, so a name or a range has one home.
+"""
+import json
+import pathlib
+import re
+import sys
+from typing import Any
+
+MANUAL, WRITTEN = pathlib.Path("docs/MANUAL.md"), pathlib.Path("python/tsb/manual.json")
+INDEX = re.compile(r"(?:(.+?),? )?1(?: to (\d+))?(?: \((?:(none)|(\d+))\))?")
+RANGE = re.compile(r"0 to (\d+)(?: \((\d+)\))?")
+
+
+def rows(text: str, first: str, start: str) -> list[list[str]]:
+    """The cells of the table whose head begins with these words, of its rows that begin with a start."""
+    table = text[text.index(f"\n| {first} |"):].split("\n\n")[0]
+    cells = [line.strip("| ").split(" | ") for line in table.splitlines() if line.startswith(f"| {start}")]
+    return [[cell.strip() for cell in row] for row in cells]
+
+
+def an_object(index: str, values: str, unit: str, structural: str, meaning: str) -> dict[str, Any]:
+    """What is said of an object: a count or a greatest value of version 1 is None where it has no such object."""
+    counted, most = INDEX.fullmatch(index), RANGE.fullmatch(values)
+    if counted is None or most is None:
+        sys.exit(f"{MANUAL}: the object of {meaning!r} has an index or a range of another form")
+    what, count, absent, narrow = counted.groups()
+    wide = int(count or 1)
+    return {
+        "index": what or "", "count": wide, "count_1": None if absent else int(narrow or wide),
+        "greatest": int(most[1]), "greatest_1": None if absent else int(most[2] or most[1]),
+        "unit": unit, "structural": structural == "S", "meaning": meaning,
+    }
+
+
+def objects(text: str) -> dict[str, Any]:
+    """The objects by name."""
+    table = text[text.index("<!-- objects"):text.index("<!-- end of objects")]
+    cells = [re.split(r" ?\| ?", line)[1:-1] for line in table.splitlines() if line.startswith("| `")]
+    return {row[0].strip("`"): an_object(*row[1:]) for row in cells}
+
+
+def told(text: str) -> dict[str, Any]:
+    """All that the package has of the manual."""
+    last = [re.split(r", ", limit)[0] for _, limit in rows(text, "What | Limit", "ticks")]
+    refusals = {}
+    for line, *said in rows(text, "Line | What it means | Usual cause | Cure", "`refused"):
+        number, name = re.findall(r"refused E(\d+) (\w+)", line)[0]
+        refusals[number] = dict(zip(["name", "meaning", "cause", "cure"], [name, *said]))
+    rules = {name: dict(zip(["holds", "cause", "cure"], said))
+             for name, *said in rows(text, "Rule | What must hold | Usual cause | Cure", "K")}
+    faults = {line.strip("`"): when for line, when, *_ in rows(text, "Line | When | Example of a plan text", "`plan: ")
+              if "rule" not in line}
+    return {"ticks": int(last[0].replace(",", "")), "objects": objects(text), "rules": rules, "plan_faults": faults,
+            "refusals": refusals}
+
+
+def main(words: list[str]) -> int:
+    """Writes the file, or compares it."""
+    found = json.dumps(told(MANUAL.read_text()), indent=1, ensure_ascii=False) + "\n"
+    if words == ["--check"]:
+        is_same = WRITTEN.is_file() and WRITTEN.read_text() == found
+        print(f"{WRITTEN} is {'as the manual' if is_same else 'another: python3 tools/python_manual.py writes it'}")
+        return 0 if is_same else 1
+    if words:
+        sys.exit("usage: tools/python_manual.py [--check]")
+    WRITTEN.write_text(found)
+    return 0
+
+
+if __name__ == "__main__":
+    sys.exit(main(sys.argv[1:]))
