@@ -1,11 +1,11 @@
 #!/usr/bin/env python3
 """Finds what the documents cite and the repository does not have; run it at the top, or by tools/ready.py.
 
-A path below `crates`, `docs`, `examples` or `tools` has to be there. Each name between backticks has to stand in the
-sources, or as the name of a file. Names that are said to stand in a file, as in "`is_ready` and `may_end` in
-`crates/tsb_phase/specs/Ready.antt`", or in "`Wants.antt` there", have to stand in that file. Code blocks are left out,
-and so is what is no name, such as a line of a display; of the glossary the names of the standards. docs/DEFINITIONS.md,
-which tools/definitions_index.py writes from the source, may be missing and is not looked at.
+A path below `crates`, `docs`, `examples`, `python` or `tools` has to be there. Each name between backticks has to
+stand in the sources, or as the name of a file. Names that are said to stand in a file, as in "`is_ready` and `may_end`
+in `crates/tsb_phase/specs/Ready.antt`", or in "`Wants.antt` there", have to stand in that file. Code blocks are left
+out, and so is what is no name, such as a line of a display; of the glossary the names of the standards.
+docs/DEFINITIONS.md, which tools/definitions_index.py writes from the source, may be missing and is not looked at.
 
 The comment above a law names mistakes and witnesses: each has to be in `specs/` or `proofs/` of the law's crate, or of
 one that is named there. A name that only comments of programs have counts as missing.
@@ -20,9 +20,10 @@ from collections.abc import Iterator
 from laws import Law, laws
 
 DOCUMENTS = ["README.md", "CONTRIBUTING.md", "docs/*.md", "examples/README.md", "crates/*/README.md"]
-SOURCES = ["crates/*/src/**/*.rt", "crates/*/specs/**/*.antt", "crates/*/proofs/**/*.antt", "tools/*.py"]
+SOURCES = ["crates/*/src/**/*.rt", "crates/*/specs/**/*.antt", "crates/*/proofs/**/*.antt", "tools/*.py",
+           "python/tsb/**/*.py", "python/tests/**/*.py", "python/pyproject.toml"]
 
-PATH = re.compile(r"\b(?:crates|docs|examples|tools)/[\w./-]*[\w/]")
+PATH = re.compile(r"\b(?:crates|docs|examples|python|tools)/[\w./-]*[\w/]")
 QUOTED = re.compile(r"`([^`]+)`")
 NAME = re.compile(r"(?:[A-Za-z]\w*::)*[A-Za-z]\w*(?:-\w+)*$")
 
@@ -38,7 +39,7 @@ DEFINITIONS = pathlib.Path("docs/DEFINITIONS.md")
 # Words of the documents that are no names of the sources, and paths that only the build makes, or that are no paths.
 OTHER = {"rattle", "kit", "13f", "uniq", "xargs", "vehicleDetectorStatusGroupActive", "P02"}
 MADE = {"crates/tsb/out/tsb", "crates/tsb_field/out/tsb_field", "crates/tsb_ring/must-fail/name.edit",
-        str(DEFINITIONS)}
+        "python/.venv", "python/.venv/bin/python", str(DEFINITIONS)}
 
 
 def words_of(path: pathlib.Path) -> set[str]:

@@ -1,8 +1,9 @@
 #!/usr/bin/env python3
-"""Writes python/tsb/manual.json from the tables of docs/MANUAL.md; run it at the top. With `--check` it only compares.
+"""Writes python/tsb/manual.json from tables of docs/MANUAL.md and docs/FIELD.md; run it at the top. With `--check` it
+only compares.
 
-The package has names, units, ranges, rules and cures from this file alone. The table of objects in the manual is
-written by manual_table.py from the source of tsb_plan, so a name or a range has one home.
+The package has names, units, ranges, rules, cures and the columns of an export from this file alone. The table of
+objects in the manual is written by manual_table.py from the source of tsb_plan, so a name or a range has one home.
 """
 import json
 import pathlib
@@ -10,7 +11,8 @@ import re
 import sys
 from typing import Any
 
-MANUAL, WRITTEN = pathlib.Path("docs/MANUAL.md"), pathlib.Path("python/tsb/manual.json")
+MANUAL, FIELD = pathlib.Path("docs/MANUAL.md"), pathlib.Path("docs/FIELD.md")
+WRITTEN = pathlib.Path("python/tsb/manual.json")
 INDEX = re.compile(r"(?:(.+?),? )?1(?: to (\d+))?(?: \((?:(none)|(\d+))\))?")
 RANGE = re.compile(r"0 to (\d+)(?: \((\d+)\))?")
 
@@ -43,8 +45,8 @@ def objects(text: str) -> dict[str, Any]:
     return {row[0].strip("`"): an_object(*row[1:]) for row in cells}
 
 
-def told(text: str) -> dict[str, Any]:
-    """All that the package has of the manual."""
+def told(text: str, field: str) -> dict[str, Any]:
+    """All that the package has of the two documents."""
     last = [re.split(r", ", limit)[0] for _, limit in rows(text, "What | Limit", "ticks")]
     refusals = {}
     for line, *said in rows(text, "Line | What it means | Usual cause | Cure", "`refused"):
@@ -54,16 +56,18 @@ def told(text: str) -> dict[str, Any]:
              for name, *said in rows(text, "Rule | What must hold | Usual cause | Cure", "K")}
     faults = {line.strip("`"): when for line, when, *_ in rows(text, "Line | When | Example of a plan text", "`plan: ")
               if "rule" not in line}
+    columns = {what: re.findall(r"`(\w+)`", names) for what, names in rows(field, "Column | Names", "")
+               if what not in ("Column", "---|---")}
     return {"ticks": int(last[0].replace(",", "")), "objects": objects(text), "rules": rules, "plan_faults": faults,
-            "refusals": refusals}
+            "refusals": refusals, "columns": columns}
 
 
 def main(words: list[str]) -> int:
     """Writes the file, or compares it."""
-    found = json.dumps(told(MANUAL.read_text()), indent=1, ensure_ascii=False) + "\n"
+    found = json.dumps(told(MANUAL.read_text(), FIELD.read_text()), indent=1, ensure_ascii=False) + "\n"
     if words == ["--check"]:
         is_same = WRITTEN.is_file() and WRITTEN.read_text() == found
-        print(f"{WRITTEN} is {'as the manual' if is_same else 'another: python3 tools/python_manual.py writes it'}")
+        print(f"{WRITTEN} is {'as the documents' if is_same else 'another: python3 tools/python_manual.py writes it'}")
         return 0 if is_same else 1
     if words:
         sys.exit("usage: tools/python_manual.py [--check]")

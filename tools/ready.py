@@ -18,7 +18,7 @@ def out_of_layout(root):
     """The files that `rt fmt` would change."""
     with tempfile.TemporaryDirectory() as room:
         copy = pathlib.Path(room) / "copy"
-        shutil.copytree(root, copy, ignore=shutil.ignore_patterns("out", ".git", "data"))
+        shutil.copytree(root, copy, ignore=shutil.ignore_patterns("out", ".git", ".venv", "data"))
         for crate in sorted((copy / "crates").iterdir()):
             subprocess.run(["rt", "fmt"], cwd=crate, check=True, stdout=subprocess.DEVNULL, stderr=subprocess.DEVNULL)
         for path in sorted(copy.rglob("*")):

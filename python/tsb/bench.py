@@ -22,6 +22,7 @@ from tsb.errors import (
 )
 from tsb.lines import Display, Event, Lines
 from tsb.plan import Plan
+from tsb.progress import progress
 from tsb.rows import ALL_OFF, PEDESTRIANS, PREEMPTS, ROW, VEHICLES, Log, On, digits
 from tsb.status import Edits, Status
 from tsb.talk import Talk
@@ -31,6 +32,9 @@ Watch = Literal[
     "interval", "ped", "call", "output", "alarm", "input", "button", "preempt",
     "stage", "trip",
 ]  # fmt: skip
+
+# Ticks that are taken at a time, where there are more.
+LONG = 100_000
 
 _EVENT = re.compile(rb"event (\d+) (\d+) (\d+)\n")
 
@@ -63,7 +67,7 @@ class Bench:
         self._told: list[Event] = []
         # Of each input that is no tick: its tick, and how many events came before it.
         self._marks: list[tuple[int, int]] = []
-        self._talk, self._now = _started(plan)
+        self._talk, self._now = _started(plan), 0
         self._tells = events and self._begin_events()
 
     def _begin_events(self) -> bool:
@@ -86,6 +90,11 @@ class Bench:
     def close(self) -> None:
         """Ends the program."""
         self._talk.close()
+
+    @property
+    def process(self) -> int:
+        """The number of the program's process."""
+        return self._talk.process
 
     # What is asked and answered
 
@@ -163,7 +172,11 @@ class Bench:
     def step(self, count: int = 1) -> Lines:
         """So many ticks, with the rows of the log, or without one with the row last
         given: what the heads showed."""
-        return self._block(self._asked("step", count))
+        if count <= LONG:
+            return self._block(self._asked("step", count))
+        pieces = [LONG] * (count // LONG) + [count % LONG]
+        shown = (self.step(it).text for it in progress(pieces, "ticks"))
+        return Lines(b"".join(shown))
 
     def changes(self, count: int) -> Lines:
         """As `step`: the lines in which a head or the preempt changed, and the last."""
@@ -337,25 +350,28 @@ class Transaction:
                 self._say("abort")
 
 
-def _started(plan: Plan | str | PathLike[str]) -> tuple[Talk, int]:
-    """A live program on a plan, and its first tick number."""
+def _started(plan: Plan | str | PathLike[str]) -> Talk:
+    """A live program on a plan; `PlanFault` where it refuses the plan."""
+    if not isinstance(plan, Plan):
+        Path(plan).stat()  # (a file that is not there is told as such)
+        return _answering(fspath(plan))
     with tempfile.NamedTemporaryFile("w", suffix=".json") as file:
-        path = file.name
-        if isinstance(plan, Plan):
-            file.write(plan.text)
-            file.flush()
-        else:
-            path = fspath(plan)
-            Path(path).stat()  # (a file that is not there is told as such)
-        talk = Talk(programs.find("tsb_live"), [path])
-        try:
-            return talk, Display.of(talk.ask("show")).tick
-        except ProgramDied as died:
-            talk.close()
-            line = died.stderr.strip()
-            if died.status == 1 and line.startswith("plan: "):
-                raise PlanFault(line) from None
-            raise
+        file.write(plan.text)
+        file.flush()
+        return _answering(file.name)
+
+
+def _answering(path: str) -> Talk:
+    """A live program on a plan's file, once it has answered: the plan is read."""
+    talk = Talk(programs.find("tsb_live"), [path])
+    try:
+        talk.ask("show")
+    except ProgramDied as died:
+        talk.close()
+        if died.status == 1 and died.stderr.startswith("plan: "):
+            raise PlanFault(died.stderr.strip()) from None
+        raise
+    return talk
 
 
 def _changed(before: Display, shown: Lines) -> Iterator[Display]:

@@ -86,6 +86,9 @@ class Lines(Sequence[Display]):
     def __iter__(self) -> Iterator[Display]:
         return (Display.of(it) for it in self.text.decode().splitlines())
 
+    def __add__(self, other: "Lines") -> "Lines":
+        return Lines(self.text + other.text)
+
     def __eq__(self, other: object) -> bool:
         return isinstance(other, Lines) and self.text == other.text
 

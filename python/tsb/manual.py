@@ -1,7 +1,7 @@
 """What docs/MANUAL.md says of objects, rules, faults and refusals.
 
 All of it is read from manual.json, which tools/python_manual.py writes from the
-manual: there is no other list of names, units or ranges in the package.
+documents: there is no other list of names, units or ranges in the package.
 """
 
 import json
@@ -103,6 +103,8 @@ RULES: Mapping[str, Rule] = {
     name: Rule(name=name, **said) for name, said in _TOLD["rules"].items()
 }
 PLAN_FAULTS: Mapping[str, str] = _TOLD["plan_faults"]
+# The names of an export's columns, by what is in them.
+COLUMNS: Mapping[str, list[str]] = _TOLD["columns"]
 
 
 def plan_fault(line: str) -> str | None:

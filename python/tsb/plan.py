@@ -12,10 +12,18 @@ from os import PathLike
 from pathlib import Path
 from typing import Any
 
-from tsb.errors import Error, NoSuchObject, OutOfRange, PlanFault
+from tsb.errors import NoSuchObject, OutOfRange, PlanFault
 from tsb.manual import OBJECTS
 from tsb.programs import run
-from tsb.values import Index, Value, index_of, number_of, object_of, phases_of
+from tsb.values import (
+    Index,
+    Value,
+    index_of,
+    number_of,
+    object_of,
+    phases_of,
+    wide_index,
+)
 
 OK = "plan ok"
 
@@ -88,7 +96,7 @@ class Plan:
         what is wrong with it; rules are not judged here (`check`)."""
         try:
             told = json.loads(text)
-        except ValueError:
+        except (ValueError, RecursionError):
             raise PlanFault("plan: not JSON") from None
         if not isinstance(told, dict):
             raise PlanFault("plan: not a table")
@@ -176,6 +184,15 @@ class Plan:
         for at, phase in enumerate(order + [0] * (count - len(order)), 1):
             values[number, ring, at] = phase
 
+    def wide(self) -> "Plan":
+        """The same plan in version 2."""
+        plan = Plan()
+        for name, values in self.items():
+            taken = plan[name]
+            for index, value in values.items():
+                taken[wide_index(values.object, index, self.version)] = value
+        return plan
+
     def fault(self) -> PlanFault | None:
         """The first fault that `tsb check` finds, if any."""
         with tempfile.NamedTemporaryFile("w", suffix=".json") as file:
@@ -189,12 +206,3 @@ class Plan:
         """Asks `tsb check`; raises the `PlanFault` that it finds, if any."""
         if fault := self.fault():
             raise fault
-
-
-def plan_of(plan: "Plan | str | PathLike[str]") -> "Plan":
-    """A plan, or that of a file."""
-    if isinstance(plan, Plan):
-        return plan
-    if not isinstance(plan, str | PathLike):
-        raise Error(f"neither a plan nor a file: {plan!r}")
-    return Plan.read(plan)

@@ -28,38 +28,48 @@ def object_of(name: str, version: int = 2) -> Object:
     return found
 
 
-def _place(what: Object, index: Index, parts: dict[str, tuple[int, int]]) -> int:
-    """The index of parts, each with its greatest number and its step."""
-    given = index if isinstance(index, tuple) else ()
-    if len(given) != len(parts):
-        raise NoSuchObject(f"{what.name}: an index is a number or ({', '.join(parts)})")
-    found = 1
-    for part, (name, (most, step)) in zip(given, parts.items(), strict=True):
-        if not 1 <= part <= most:
-            raise NoSuchObject(f"{what.name}: {name} {part}: it is 1 to {most}")
-        found += step * (part - 1)
-    return found
+def parts_of(what: Object, version: int = 2) -> dict[str, tuple[int, int]]:
+    """The parts of an index, each with its greatest number and its step, the last
+    changing fastest: (table, phase) of a split, (sequence, ring, place)."""
+    phases = 16 if version == 2 else 8
+    if what.index.startswith(SPLITS):
+        return {"table": (TABLES, phases), "phase": (phases, 1)}
+    if what.index.startswith(SEQUENCE):
+        return {
+            "sequence": (SEQUENCES, RINGS * phases),
+            "ring": (RINGS, phases),
+            "place": (phases, 1),
+        }
+    return {}
 
 
 def index_of(what: Object, index: Index, version: int = 2) -> int:
     """An index as a plan text has it; `NoSuchObject` where the object has none."""
-    phases = 16 if version == 2 else 8
-    if not isinstance(index, int):
-        if what.index.startswith(SPLITS):
-            parts = {"table": (TABLES, phases), "phase": (phases, 1)}
-        elif what.index.startswith(SEQUENCE):
-            parts = {
-                "sequence": (SEQUENCES, RINGS * phases),
-                "ring": (RINGS, phases),
-                "place": (phases, 1),
-            }
-        else:
-            raise NoSuchObject(f"{what.name}: an index is a number")
-        return _place(what, index, parts)
-    if not 1 <= index <= what.counts(version):
+    if isinstance(index, int):
         count = what.counts(version)
-        raise NoSuchObject(f"{what.name}.{index}: its indices are 1 to {count}")
-    return index
+        if not 1 <= index <= count:
+            raise NoSuchObject(f"{what.name}.{index}: its indices are 1 to {count}")
+        return index
+    parts = parts_of(what, version)
+    if len(index) != len(parts):
+        form = f" or ({', '.join(parts)})" if parts else ""
+        raise NoSuchObject(f"{what.name}: an index is a number{form}")
+    found = 1
+    for number, (name, (most, step)) in zip(index, parts.items(), strict=True):
+        if not 1 <= number <= most:
+            raise NoSuchObject(f"{what.name}: {name} {number}: it is 1 to {most}")
+        found += step * (number - 1)
+    return found
+
+
+def wide_index(what: Object, index: int, version: int) -> int:
+    """The index in version 2 of one in a version."""
+    left, found = index - 1, 1
+    narrow, wide = parts_of(what, version).values(), parts_of(what).values()
+    for (_, step), (_, wide_step) in zip(narrow, wide, strict=True):
+        number, left = divmod(left, step)
+        found += wide_step * number
+    return found + left
 
 
 def number_of(what: Object, value: Value, version: int = 2) -> int:

@@ -1,0 +1,38 @@
+#!/usr/bin/env bash
+# Makes python/.venv, an environment of the system's python3 that sees Debian's packages and the package tsb. It
+# installs what is missing by apt-get, and is quick and quiet where nothing is. It works from any directory.
+#
+#   python/setup.sh && python/.venv/bin/python -m tsb
+set -eu -o pipefail
+
+here=$(cd "$(dirname "${BASH_SOURCE[0]}")" && pwd)
+python=/usr/bin/python3
+packages="python3 python3-numpy python3-pandas python3-tqdm python3-pytest python3-pytest-asyncio python3-dask
+    python3-distributed python3-matplotlib python3-jinja2 python3-aiohttp sumo sumo-tools"
+
+# The packages that are not installed.
+missing() {
+    # shellcheck disable=SC2086
+    { dpkg-query -W -f '${Package} ${Status}\n' $packages 2>&1 || true; } | sed -n \
+        -e 's/^dpkg-query: no packages found matching //p' -e '/ok installed$/!s/ .*//p' | sort -u
+}
+
+absent=$(missing)
+if [[ -n $absent ]]; then
+    echo "installing:" $absent
+    said=$(mktemp)
+    trap 'rm -f "$said"' EXIT
+    # shellcheck disable=SC2086
+    if ! { apt-get update -q && DEBIAN_FRONTEND=noninteractive apt-get install -y -q --no-install-recommends \
+            -o DPkg::Lock::Timeout=600 $absent; } > "$said" 2>&1; then
+        cat "$said" >&2
+        exit 1
+    fi
+fi
+
+if ! "$here/.venv/bin/python" -c 'import pandas, tsb' 2> /dev/null; then
+    rm -rf "$here/.venv"
+    "$python" -m venv --system-site-packages --without-pip "$here/.venv"
+    echo "$here" > "$(echo "$here"/.venv/lib/python3*/site-packages)/tsb.pth"
+    "$here/.venv/bin/python" -c 'import pandas, tsb'
+fi

@@ -1,0 +1,81 @@
+"""What the package has of the documents is what they say."""
+
+import importlib
+import re
+import subprocess
+import sys
+from pathlib import Path
+
+import pytest
+from tsb import OutOfRange, Plan, PlanFault, Refused
+from tsb.manual import LAST_TICK, OBJECTS, REFUSALS, RULES
+
+
+def test_the_file_is_as_the_documents(top: Path) -> None:
+    """tools/python_manual.py would write it as it is."""
+    words = [sys.executable, "tools/python_manual.py", "--check"]
+    done = subprocess.run(words, cwd=top, capture_output=True, text=True, check=False)
+    assert done.returncode == 0, done.stdout
+
+
+def test_objects_are_those_of_the_source(
+    top: Path, monkeypatch: pytest.MonkeyPatch
+) -> None:
+    """Names, ranges and units are those that tools/manual_table.py reads from the
+    source of tsb_plan."""
+    monkeypatch.chdir(top)
+    monkeypatch.syspath_prepend(str(top / "tools"))
+    source = importlib.import_module("manual_table").objects()
+    assert set(source) == set(OBJECTS) and len(OBJECTS) == 61
+    for name, (_, _, values, unit, structural) in source.items():
+        found = OBJECTS[name]
+        assert found.unit == unit and found.structural == (structural == "S")
+        assert values.startswith(f"0 to {found.greatest}")
+
+
+def test_each_refusal_has_its_cure(top: Path) -> None:
+    """The twelve lines of the manual's chapter 7, with their meaning and cure."""
+    text = (top / "docs/MANUAL.md").read_text()
+    assert sorted(REFUSALS) == list(range(1, 13))
+    for number, refusal in REFUSALS.items():
+        station = " 3" if refusal.name == "Busy" else ""
+        fault = Refused(f"refused E{number} {refusal.name}{station}", "what was asked")
+        assert (fault.number, fault.name) == (number, refusal.name)
+        assert fault.station == (3 if station else None)
+        assert f"| {fault.meaning} | {fault.cause} | {fault.cure} |" in text
+        assert fault.cure in str(fault) and "what was asked" in str(fault)
+
+
+def test_each_rule_has_its_cure(top: Path) -> None:
+    """The rules of the manual's chapter 4."""
+    text = (top / "docs/MANUAL.md").read_text()
+    assert list(RULES) == [f"K{it}" for it in range(1, 23)]
+    for name in RULES:
+        fault = PlanFault(f"plan: rule {name}")
+        assert fault.rule is not None
+        row = [name, fault.rule.holds, fault.rule.cause, fault.cure]
+        assert f"| {' | '.join(map(str, row))} |" in text and str(fault.cure) in str(
+            fault
+        )
+
+
+def test_other_faults_say_when_they_come() -> None:
+    """Those of a text that is no plan."""
+    line = "plan: phaseWalk.2: out of range"
+    assert str(PlanFault(line)) == f"{line}: over the greatest value of the object"
+    assert PlanFault("plan: not JSON").rule is None
+
+
+def test_ranges_are_told() -> None:
+    """Each object tells its range where a value is over it."""
+    for name, it in OBJECTS.items():
+        plan = Plan()
+        plan[name][it.count] = it.greatest
+        said = re.escape(f"0 to {it.greatest} ({it.unit})")
+        with pytest.raises(OutOfRange, match=said):
+            plan[name][it.count] = it.greatest + 1
+
+
+def test_the_last_tick() -> None:
+    """As in the manual's chapter 11."""
+    assert LAST_TICK == 6_000_000

@@ -1,0 +1,140 @@
+"""Each measure on a case that was worked by hand."""
+
+from pathlib import Path
+
+import pandas as pd
+import pytest
+from tsb import Event, Plan, frames, measures
+
+
+def table(*events: tuple[int, int, int]) -> pd.DataFrame:
+    """Events of tick, code and parameter."""
+    return frames.of_events(Event(*it) for it in events)
+
+
+def rows(found: pd.DataFrame) -> list[tuple[object, ...]]:
+    """The rows of a table, with None for what is not known."""
+    plain = found.astype(object).where(found.notna(), None)
+    return [tuple(it) for it in plain.itertuples(index=False)]
+
+
+# Phase 2 is green from tick 1, and ends by its gap at 51: yellow to 80, red clearance
+# 81 to 90. Phase 4 then is green from 91 to its maximum at 291, with no red clearance.
+# A preempt ends the second green of phase 2 at 400, which is still yellow at the end.
+TWO = table(
+    (1, 1, 2),
+    (51, 4, 2), (51, 7, 2), (51, 8, 2),
+    (81, 9, 2), (81, 10, 2),
+    (91, 11, 2), (91, 12, 2), (91, 1, 4),
+    (291, 5, 4), (291, 7, 4), (291, 8, 4),
+    (321, 9, 4), (321, 12, 4), (321, 1, 2),
+    (400, 7, 2), (400, 8, 2),
+)  # fmt: skip
+
+
+def test_greens() -> None:
+    """Ticks, seconds and the cause of each green."""
+    assert rows(measures.greens(TWO)) == [
+        (2, 1, 51, 5.0, "gap"),
+        (4, 91, 291, 20.0, "maximum"),
+        (2, 321, 400, 7.9, "other"),
+    ]
+
+
+def test_a_green_that_goes_on_has_no_end() -> None:
+    """It has no length and no cause, and one that began before is left out."""
+    found = measures.greens(table((5, 4, 6), (5, 7, 6), (9, 1, 2)))
+    assert rows(found) == [(2, 9, None, None, None)]
+
+
+def test_splits() -> None:
+    """Green, yellow and red clearance add up to the split."""
+    assert rows(measures.splits(TWO)) == [
+        (2, 1, 91, 5.0, 3.0, 1.0, 9.0),
+        (4, 91, 321, 20.0, 3.0, 0.0, 23.0),
+        (2, 321, None, 7.9, None, None, None),
+    ]
+
+
+def test_terminations() -> None:
+    """A row for a phase, a column for a cause; what goes on is not counted."""
+    found = measures.terminations(TWO)
+    assert list(found.columns) == ["gap", "maximum", "force-off", "other"]
+    assert found.loc[2].to_list() == [1, 0, 0, 1]
+    assert found.loc[4].to_list() == [0, 1, 0, 0]
+
+
+def test_waits() -> None:
+    """From the call to the green. The call of 10 went at 30 unserved; that of 40 is
+    served at 91, as code 44 says in the same tick; that of 300 waits still."""
+    events = table(
+        (10, 43, 4), (30, 44, 4), (40, 43, 4), (91, 1, 4), (91, 44, 4), (300, 43, 4)
+    )  # fmt: skip
+    assert rows(measures.waits(events)) == [
+        (4, 40, 91, 5.1),
+        (4, 300, None, None),
+    ]
+
+
+def test_walk_waits() -> None:
+    """From the button to the walk; a second press before it counts for nothing."""
+    events = table((70, 45, 4), (70, 90, 1), (73, 89, 1), (415, 21, 4), (500, 22, 4))
+    assert rows(measures.walk_waits(events)) == [(4, 70, 415, 34.5)]
+
+
+def test_arrivals() -> None:
+    """Phase 2 is green from 1 to 50, yellow from 51 to 80. Cars on detector 12 come
+    at 1, 50, 51, 80 and 81: two, two and one. Detector 3 calls no phase."""
+    cars = [(tick, 82, 12) for tick in (1, 50, 51, 80, 81)]
+    events = table((1, 1, 2), (51, 7, 2), (51, 8, 2), (81, 9, 2), (20, 82, 3), *cars)
+    found = measures.arrivals(events, {12: 2, 3: 0})
+    assert rows(found.reset_index()) == [(2, 2, 2, 1, 5, 0.4)]
+
+
+def test_preempts() -> None:
+    """The worst moment of docs/FIELD.md, with the input of the train at tick 172:
+    both rings had to go on to phases 4 and 8, and phase 7 is green 16.3 s later."""
+    plan = Plan()
+    plan["preemptTrackPhase"][1] = {4, 7}
+    plan["preemptDwellPhase"][1] = {2, 6}
+    events = table(
+        (1, 1, 2), (1, 1, 6),
+        (171, 7, 2), (171, 7, 6),
+        (172, 102, 1), (172, 105, 1), (172, 106, 1),
+        (229, 1, 4), (229, 1, 8), (279, 7, 8), (335, 1, 7),
+        (400, 107, 1), (450, 104, 1), (450, 111, 1),
+    )  # fmt: skip
+    found = measures.preempts(events, plan)
+    assert rows(found) == [(1, 172, 172, 172, 335, 400, 450, 16.3)]
+
+
+def test_preempts_of_a_switch_have_no_request() -> None:
+    """Without track phases the green is that of the dwell, here lit already."""
+    plan = Plan()
+    plan["preemptDwellPhase"][2] = {2}
+    found = measures.preempts(table((1, 1, 2), (60, 105, 2), (60, 107, 2)), plan)
+    assert rows(found) == [(2, None, 60, None, 60, 60, None, None)]
+
+
+def test_no_events() -> None:
+    """A run in which nothing was told has empty tables."""
+    for name, measure in measures.MEASURES.items():
+        assert len(measure(table(), Plan())) == 0, name
+
+
+@pytest.mark.parametrize("name", ["quad", "main_and_oak"])
+def test_terminations_are_those_of_the_document(top: Path, name: str) -> None:
+    """The counts of docs/FIELD.md for an hour of traffic, by the same programs."""
+    from tsb import Bench
+
+    with Bench(
+        top / f"examples/{name}.json", top / "examples/hour_of_traffic.log"
+    ) as it:
+        it.step(36000)
+        found = measures.terminations(frames.of_events(it.events))
+    said = (
+        (top / "docs/FIELD.md").read_text().split(f"\n{name}: phase, gap, maximum")[1]
+    )
+    for line in said.splitlines()[1:9]:
+        phase, *counts = map(int, line.split())
+        assert found.loc[phase].to_list()[:3] == counts

@@ -1,0 +1,156 @@
+"""Plans: by names and units, to the text and back, and as `tsb check` judges them."""
+
+from datetime import timedelta
+from pathlib import Path
+
+import pytest
+import tsb
+from tsb import Plan, seconds
+
+PLANS = ["two", "first_plan", "quad", "main_and_oak", "tee", "one_way_pair", "railroad"]
+
+
+@pytest.mark.parametrize("name", PLANS)
+def test_a_text_and_back(examples: Path, name: str) -> None:
+    """An example is read, passes, and its text gives the same plan."""
+    plan = Plan.read(examples / f"{name}.json")
+    plan.check()
+    again = Plan.of_text(plan.text)
+    assert again == plan and again.version == plan.version
+
+
+@pytest.mark.parametrize("name", PLANS)
+def test_the_bench_has_the_same_plan(examples: Path, name: str) -> None:
+    """The plan in effect is the plan that was given, in version 2."""
+    plan = Plan.read(examples / f"{name}.json")
+    with tsb.Bench(plan) as bench:
+        assert bench.plan == plan.wide()
+    with tsb.Bench(examples / f"{name}.json") as bench:
+        assert bench.plan == plan.wide()
+
+
+def test_written_and_read(examples: Path, tmp_path: Path) -> None:
+    """A file of a plan."""
+    plan = Plan.read(examples / "tee.json")
+    plan.write(tmp_path / "tee.json")
+    assert Plan.read(tmp_path / "tee.json") == plan
+
+
+def first_plan() -> Plan:
+    """The manual's first plan, by names and units."""
+    plan = Plan()
+    for phase, side, maximum in [(2, 1, 20), (4, 2, 15)]:
+        plan["phaseEnabled"][phase] = True
+        plan["phaseRing"][phase] = 1
+        plan["phaseSide"][phase] = side
+        plan["phaseMinimumGreen"][phase] = seconds(5)
+        plan["phaseMaximum1"][phase] = plan["phaseMaximum2"][phase] = maximum
+        plan["phasePassage"][phase] = plan["phaseMinimumGap"][phase] = seconds(2.0)
+        plan["phaseYellowChange"][phase] = seconds(3.0)
+        plan["phaseRedClear"][phase] = seconds(1.0)
+    plan.set_sequence(1, 1, [2, 4])
+    plan["phaseMinRecall"] = {2: 1}
+    plan["vehicleDetectorCallPhase"][1] = 4
+    return plan
+
+
+def test_built_by_names_and_units(examples: Path) -> None:
+    """It is the manual's text."""
+    plan = first_plan()
+    assert plan == Plan.read(examples / "first_plan.json")
+    assert plan.phases == {2, 4} and plan.sequence(1, 1) == [2, 4]
+    assert plan["phaseYellowChange"].time(2) == timedelta(seconds=3)
+    assert plan["phaseYellowChange"][2] == 30
+
+
+def test_lists_and_tables(examples: Path) -> None:
+    """Lists are given as phases; splits and sequences by what their index counts."""
+    plan = Plan.read(examples / "main_and_oak.json")
+    assert plan["phaseConcurrency"].phases(2) == {5, 6}
+    plan["overlapIncludedPhases"][1] = {1, 4}
+    assert plan["overlapIncludedPhases"][1] == 9
+    plan["splitTime"][2, 6] = seconds(25)
+    assert plan["splitTime"][22] == 25
+    plan.set_sequence(2, 2, [5, 6, 7, 8])
+    assert dict(plan["sequenceData"])[32 + 16 + 1] == 5
+    old = Plan.read(examples / "quad.json")
+    assert old.version == 1 and old.sequence(1, 2) == [5, 6, 7, 8]
+    assert old["sequenceData"][1, 2, 1] == old["sequenceData"][9] == 5
+
+
+def test_values_out_of_range_are_told_at_once() -> None:
+    """With the range and the unit."""
+    plan = Plan()
+    with pytest.raises(
+        tsb.OutOfRange, match=r"phaseWalk: 256 is not in 0 to 255 \(sec"
+    ):
+        plan["phaseWalk"][2] = 256
+    with pytest.raises(tsb.OutOfRange, match="phaseWalk: -1 is not in"):
+        plan["phaseWalk"][2] = -1
+    with pytest.raises(tsb.OutOfRange, match="takes whole seconds: 4.5 s"):
+        plan["phaseWalk"][2] = seconds(4.5)
+    with pytest.raises(tsb.OutOfRange, match="phaseRing is no time: 0 to 2"):
+        plan["phaseRing"][2] = seconds(1)
+    with pytest.raises(tsb.OutOfRange, match="phaseWalk is no list of phases"):
+        plan["phaseWalk"][2] = {1, 2}
+    with pytest.raises(tsb.OutOfRange, match="there is no phase 17"):
+        plan["phaseConcurrency"][2] = {17}
+    with pytest.raises(tsb.OutOfRange, match=r"0 to 2 \(1 to 4, 0 for none\)"):
+        Plan(1)["phaseSide"][2] = 3
+    assert "phaseWalk" not in plan.text
+
+
+def test_names_and_indices_that_there_are_not() -> None:
+    """Each says what there is."""
+    plan = Plan()
+    with pytest.raises(tsb.NoSuchObject, match="version 2 has no object Walk"):
+        plan["Walk"]
+    with pytest.raises(tsb.NoSuchObject, match="version 1 has no object overlapType"):
+        Plan(1)["overlapType"]
+    with pytest.raises(tsb.NoSuchObject, match="phaseWalk.17: its indices are 1 to 16"):
+        plan["phaseWalk"][17] = 1
+    with pytest.raises(tsb.NoSuchObject, match="splitTime: table 9: it is 1 to 8"):
+        plan["splitTime"][9, 1] = 1
+    with pytest.raises(tsb.NoSuchObject, match="phaseWalk: an index is a number"):
+        plan["phaseWalk"][1, 2] = 1
+
+
+TEXTS = {
+    "": tsb.PlanFault,
+    "[]": tsb.PlanFault,
+    "{}": tsb.PlanFault,
+    '{"version":3}': tsb.PlanFault,
+    '{"version":1,"Walk":{}}': tsb.NoSuchObject,
+    '{"version":1,"phaseWalk":5}': tsb.PlanFault,
+    '{"version":1,"phaseWalk":{"02":1}}': tsb.NoSuchObject,
+    '{"version":1,"phaseWalk":{"9":1}}': tsb.NoSuchObject,
+    '{"version":1,"phaseWalk":{"2":30.0}}': tsb.PlanFault,
+    '{"version":1,"phaseWalk":{"2":true}}': tsb.PlanFault,
+    '{"version":1,"phaseWalk":{"2":256}}': tsb.OutOfRange,
+    '{"version":1,"phaseWalk":{"2":-1}}': tsb.OutOfRange,
+}
+
+
+@pytest.mark.parametrize("text", TEXTS)
+def test_texts_that_are_no_plan(tmp_path: Path, text: str) -> None:
+    """The package refuses what the bench refuses."""
+    with pytest.raises(TEXTS[text]):
+        Plan.of_text(text)
+    path = tmp_path / "plan.json"
+    path.write_text(text)
+    with pytest.raises(tsb.PlanFault) as told:
+        tsb.Bench(path)
+    assert "rule" not in told.value.line
+
+
+def test_rules_are_judged_by_the_bench(examples: Path) -> None:
+    """The rule is told with its cure, by `check` and where a bench is to run it."""
+    plan = Plan.read(examples / "two_short_yellow.json")
+    fault = plan.fault()
+    assert fault is not None and fault.rule is not None and fault.rule.name == "K8"
+    assert fault.cure == "give tenths: 40 for 4.0 s"
+    with pytest.raises(tsb.PlanFault, match="plan: rule K8"):
+        plan.check()
+    with pytest.raises(tsb.PlanFault, match="plan: rule K8"):
+        tsb.Bench(plan)
+    assert Plan.read(examples / "two.json").fault() is None

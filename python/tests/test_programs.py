@@ -1,0 +1,69 @@
+"""How programs are found, and how it is told that they are not there or have died."""
+
+import os
+import signal
+import subprocess
+import sys
+from pathlib import Path
+
+import pytest
+import tsb
+from tsb import programs
+
+
+def a_program(folder: Path, name: str = "tsb") -> Path:
+    """A file that can be run."""
+    folder.mkdir(parents=True)
+    path = folder / name
+    path.write_text("#!/bin/sh\nexit 0\n")
+    path.chmod(0o755)
+    return path
+
+
+def test_the_first_folder_that_has_it(
+    tmp_path: Path, monkeypatch: pytest.MonkeyPatch
+) -> None:
+    """TSB_BIN comes before what the repository built, and that before PATH."""
+    named = a_program(tmp_path / "named")
+    built = a_program(tmp_path / "crates/tsb/out")
+    on_path = a_program(tmp_path / "path")
+    monkeypatch.setattr(programs, "REPOSITORY", tmp_path)
+    monkeypatch.setenv("PATH", str(on_path.parent))
+    monkeypatch.setenv("TSB_BIN", f"{tmp_path / 'none'}{os.pathsep}{named.parent}")
+    assert programs.find("tsb") == named
+    monkeypatch.delenv("TSB_BIN")
+    assert programs.find("tsb") == built
+    built.unlink()
+    assert programs.find("tsb") == on_path
+    on_path.unlink()
+    with pytest.raises(tsb.NoProgram, match="`tools/build tsb`") as told:
+        programs.find("tsb")
+    assert "\n" not in str(told.value)
+
+
+def test_a_program_that_ends_badly() -> None:
+    """Its status and what it said are told."""
+    with pytest.raises(tsb.ProgramDied) as told:
+        programs.run("tsb", ["walk"])
+    assert told.value.status == 2 and "usage: tsb check PLAN" in told.value.stderr
+    assert str(told.value).startswith("tsb ended with status 2: usage")
+
+
+def test_a_program_that_is_killed(examples: Path) -> None:
+    """The next question says so, and the bench can still be closed."""
+    with tsb.Bench(examples / "quad.json") as bench:
+        bench.step(3)
+        os.kill(bench.process, signal.SIGKILL)
+        with pytest.raises(tsb.ProgramDied, match="tsb_live ended by signal 9"):
+            bench.tick()
+        with pytest.raises(tsb.ProgramDied):
+            bench.step(100)
+
+
+def test_the_list_of_what_there_is(tmp_path: Path) -> None:
+    """`python3 -m tsb` names each program and where it is, or how it is built."""
+    words = [sys.executable, "-m", "tsb"]
+    done = subprocess.run(words, capture_output=True, text=True, check=True)
+    assert all(str(programs.find(it)) in done.stdout for it in programs.PROGRAMS)
+    bad = subprocess.run([*words, "walk"], capture_output=True, text=True, check=False)
+    assert bad.returncode == 2 and "no command walk" in bad.stderr

@@ -1,0 +1,58 @@
+"""`python3 -m tsb` lists what there is; `python3 -m tsb WORD ..` does it."""
+
+import ast
+import importlib
+import importlib.util
+import sys
+from collections.abc import Iterator
+from pathlib import Path
+
+from tsb import programs
+from tsb.errors import Error, NoProgram
+
+# Modules with a function `main(words)`, which gives the status to end with.
+COMMANDS = ("sumo", "sweep", "panel", "report")
+
+
+def commands() -> Iterator[tuple[str, str]]:
+    """The commands that there are, each with the first line of what it says of
+    itself."""
+    for name in COMMANDS:
+        found = importlib.util.find_spec(f"tsb.{name}")
+        if found is not None and found.origin is not None:
+            text = Path(found.origin).read_text(encoding="utf-8")
+            said = ast.get_docstring(ast.parse(text)) or ""
+            yield name, said.partition("\n")[0]
+
+
+def listed() -> Iterator[str]:
+    """What there is."""
+    yield "programs:"
+    for name in programs.PROGRAMS:
+        try:
+            yield f"  {name:9} {programs.find(name)}"
+        except NoProgram as missing:
+            yield f"  {name:9} {missing}"
+    yield "commands: python3 -m tsb COMMAND .."
+    yield from (f"  {name:9} {said}" for name, said in commands())
+
+
+def main(words: list[str]) -> int:
+    """Runs a command, and gives the status to end with."""
+    if not words:
+        print("\n".join(listed()))
+        return 0
+    name, *more = words
+    if name not in dict(commands()):
+        print(f"there is no command {name}; python3 -m tsb lists them", file=sys.stderr)
+        return 2
+    try:
+        status: int = importlib.import_module(f"tsb.{name}").main(more)
+    except Error as fault:
+        print(fault, file=sys.stderr)
+        return 1
+    return status
+
+
+if __name__ == "__main__":
+    sys.exit(main(sys.argv[1:]))
