@@ -3,7 +3,9 @@
 import json
 import random
 import re
+import signal
 import subprocess
+import threading
 import time
 from pathlib import Path
 
@@ -395,6 +397,33 @@ def test_a_state_is_saved(examples: Path, tmp_path: Path) -> None:
     (tmp_path / "log").write_text(saved.log)
     again = run(["run", plan, tmp_path / "log"], saved.commands + "show\n")
     assert again.splitlines()[-1] == shown.line
+
+
+def test_an_interrupt_keeps_the_ticks_so_far(quad: Path) -> None:
+    """Ctrl-C stops a long step between two ticks, and a loop of single ones."""
+    log = a_log("interrupt", 4000)
+    with Bench(quad, log) as bench, Bench(quad, log) as other:
+        for run in (long_step, forever):
+            timer = threading.Timer(0.3, signal.raise_signal, [signal.SIGINT])
+            timer.start()
+            with pytest.raises(KeyboardInterrupt):
+                run(bench)
+            assert 0 < bench.now < 3_000_000
+            other.step(bench.now - other.now)
+            assert bench.show() == other.show() and bench.events == other.events
+            bench.back(1)
+            other.back(1)
+
+
+def long_step(bench: Bench) -> None:
+    """More ticks than a third of a second has."""
+    bench.step(3_000_000)
+
+
+def forever(bench: Bench) -> None:
+    """Single ticks without an end."""
+    while True:
+        bench.tick()
 
 
 def test_a_plan_that_is_not_there(tmp_path: Path) -> None:

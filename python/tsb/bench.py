@@ -20,6 +20,7 @@ from tsb.errors import (
     ProgramDied,
     Refused,
 )
+from tsb.hold import Hold, whole
 from tsb.lines import Display, Event, Lines
 from tsb.plan import Plan
 from tsb.progress import progress
@@ -68,6 +69,7 @@ class Bench:
         # Of each input that is no tick: its tick, and how many events came before it.
         self._marks: list[tuple[int, int]] = []
         self._talk, self._now = _started(plan), 0
+        self._hold = Hold(self._talk.kill)
         self._tells = events and self._begin_events()
 
     def _begin_events(self) -> bool:
@@ -110,6 +112,7 @@ class Bench:
             raise Refused(answer, command)
         return answer
 
+    @whole
     def _do(self, command: str) -> str:
         """The answer to a command that is an input and no tick."""
         mark = (self._now, len(self._told))
@@ -119,7 +122,7 @@ class Bench:
 
     def _block(self, lines: str) -> Lines:
         """The display lines that answer many lines, sent ahead of them."""
-        text = self._talk.block(lines.encode())
+        text = self._talk.block(lines.encode(), lambda: self._hold.is_asked)
         refused = re.search(rb"^refused.*$", text, re.M)
         if self._tells:
             told = map(Event._make, (map(int, it) for it in _EVENT.findall(text)))
@@ -144,6 +147,7 @@ class Bench:
         """The number of the present tick; 0 at power-up."""
         return self._now
 
+    @whole
     def tick(
         self,
         vehicles: On | None = None,
@@ -161,6 +165,7 @@ class Bench:
             )
         return self._shown(self._ask(row))
 
+    @whole
     def ticks(self, rows: Iterable[str]) -> Lines:
         """A tick for each row (`tsb.row`), all sent ahead: what the heads showed."""
         given = list(rows)
@@ -169,15 +174,21 @@ class Bench:
                 raise OutOfRange(f"{row!r} is no row of 16, 8 and 4 digits")
         return self._block("".join(f"{row}\n" for row in given))
 
+    @whole
     def step(self, count: int = 1) -> Lines:
         """So many ticks, with the rows of the log, or without one with the row last
         given: what the heads showed."""
         if count <= LONG:
             return self._block(self._asked("step", count))
         pieces = [LONG] * (count // LONG) + [count % LONG]
-        shown = (self.step(it).text for it in progress(pieces, "ticks"))
+        shown = []
+        for it in progress(pieces, "ticks"):
+            shown.append(self.step(it).text)
+            if self._hold.is_asked:
+                break
         return Lines(b"".join(shown))
 
+    @whole
     def changes(self, count: int) -> Lines:
         """As `step`: the lines in which a head or the preempt changed, and the last."""
         before = self.show() if self._log is not None else None
@@ -201,10 +212,12 @@ class Bench:
 
     # The way back
 
+    @whole
     def back(self, count: int) -> Display:
         """Goes back so many ticks; `NoSuchTick` where there are fewer."""
         return self._gone_back(f"back {count}")
 
+    @whole
     def seek(self, tick: int) -> Display:
         """Goes back to a tick; `NoSuchTick` where it lies ahead."""
         return self._gone_back(f"seek {tick}")
@@ -224,6 +237,7 @@ class Bench:
         while self._marks and self._marks[-1][0] > self._now:
             self._marks.pop()
 
+    @whole
     def undo(self) -> str | None:
         """Takes the newest input back: its kind, as `tick` or `commit`; None where
         there is none."""
@@ -272,10 +286,12 @@ class Bench:
 
     # What is asked
 
+    @whole
     def show(self) -> Display:
         """What the heads show."""
         return self._shown(self._ask("show"))
 
+    @whole
     def when(self, watch: Watch, number: int | None = None) -> int | None:
         """The tick at which something changed last, None for never: `when("call", 4)`
         for a phase, `when("output", 2)` for a detector, `when("stage")`."""
@@ -284,16 +300,19 @@ class Bench:
         return None if answer == "never" else int(answer.removeprefix("tick "))
 
     @property
+    @whole
     def status(self) -> Status:
         """The status of the controller."""
         return Status.of_line(self._ask("status"))
 
     @property
+    @whole
     def plan(self) -> Plan:
         """The plan in effect."""
         return Plan.of_text(self._ask("plan"))
 
     @property
+    @whole
     def edits(self) -> Edits:
         """What is open at the desk."""
         return Edits.of_line(self._ask("edits"))
@@ -305,6 +324,7 @@ class Bench:
             raise Error("this bench tells no events")
         return list(self._told)
 
+    @whole
     def save(self) -> Saved:
         """The log and the commands that make this state again by `tsb run`."""
         return Saved(**json.loads(self._ask("save")))

@@ -4,7 +4,7 @@ import os
 import select
 import subprocess
 import tempfile
-from collections.abc import Sequence
+from collections.abc import Callable, Sequence
 from pathlib import Path
 
 from tsb.errors import ProgramDied
@@ -25,12 +25,14 @@ class Talk:
     def __init__(self, program: Path, words: Sequence[str | Path]) -> None:
         self._name = program.name
         self._errors = tempfile.TemporaryFile()
+        # (a session of its own: Ctrl-C at a terminal is for the caller alone)
         self._process = subprocess.Popen(
             [program, *words],
             stdin=subprocess.PIPE,
             stdout=subprocess.PIPE,
             stderr=self._errors,
             bufsize=0,
+            start_new_session=True,
         )
         assert self._process.stdin is not None and self._process.stdout is not None
         self._in, self._out = self._process.stdin, self._process.stdout
@@ -53,12 +55,12 @@ class Talk:
             told += self._more()
         return told[:-1].decode()
 
-    def block(self, lines: bytes) -> bytes:
-        """All answers to many lines, which are sent ahead of them."""
+    def block(self, lines: bytes, stops: Callable[[], bool]) -> bytes:
+        """All answers to many lines, which are sent ahead of them. Once `stops` says
+        so, no more lines are sent, and the answers are those to the lines before."""
         left, told = memoryview(lines + CLOSING), bytearray()
         while not told.endswith(CLOSED):
-            writers = [self._to] if left else []
-            ready, free, _ = select.select([self._from], writers, [])
+            ready, free, _ = select.select([self._from], [self._to] if left else [], [])
             if free:
                 try:
                     left = left[os.write(self._to, left) :]
@@ -66,6 +68,9 @@ class Talk:
                     raise self.died() from None
             if ready:
                 told += self._more()
+            if len(left) > len(CLOSING) and stops():
+                line, end, _ = bytes(left).partition(b"\n")
+                left = memoryview(line + end + CLOSING)
         return bytes(told[: told.rfind(b"\n", 0, -1) + 1])
 
     def _more(self) -> bytes:
@@ -79,6 +84,10 @@ class Talk:
         status = self._process.wait()
         self._errors.seek(0)
         return ProgramDied(self._name, status, self._errors.read().decode())
+
+    def kill(self) -> None:
+        """Ends the program at once, in the middle of whatever it does."""
+        self._process.kill()
 
     def close(self) -> None:
         """Ends the program, and waits for it."""

@@ -1,0 +1,70 @@
+"""Ctrl-C, held back while a question and its answer are on the way."""
+
+import functools
+import signal
+import threading
+from collections.abc import Callable
+from types import FrameType, TracebackType
+from typing import Concatenate, ParamSpec, Protocol, TypeVar
+
+
+class Hold:
+    """A `with` block that is done as a whole: Ctrl-C in it is raised at its end, so
+    that no answer is left half read. A second Ctrl-C is raised at once, behind `end`.
+    """
+
+    def __init__(self, end: Callable[[], None]) -> None:
+        self._end, self._depth, self._holds = end, 0, False
+        self.is_asked = False
+
+    def __enter__(self) -> None:
+        self._depth += 1
+        if self._depth == 1 and threading.current_thread() is threading.main_thread():
+            # (a caller who has another handler keeps it)
+            if signal.getsignal(signal.SIGINT) is signal.default_int_handler:
+                signal.signal(signal.SIGINT, self._ask)
+                self._holds = True
+
+    def __exit__(
+        self,
+        kind: type[BaseException] | None,
+        fault: BaseException | None,
+        trace: TracebackType | None,
+    ) -> None:
+        self._depth -= 1
+        if self._depth == 0 and self._holds:
+            signal.signal(signal.SIGINT, signal.default_int_handler)
+            self._holds = False
+            if self.is_asked:
+                self.is_asked = False
+                raise KeyboardInterrupt
+
+    def _ask(self, number: int, frame: FrameType | None) -> None:
+        if self.is_asked:
+            self._end()
+            raise KeyboardInterrupt
+        self.is_asked = True
+
+
+class Holder(Protocol):
+    """What has a `Hold`."""
+
+    _hold: Hold
+
+
+Self = TypeVar("Self", bound=Holder)
+Given = ParamSpec("Given")
+Answer = TypeVar("Answer")
+
+
+def whole(
+    method: Callable[Concatenate[Self, Given], Answer]
+) -> Callable[Concatenate[Self, Given], Answer]:
+    """A method that is done as a whole."""
+
+    @functools.wraps(method)
+    def held(self: Self, /, *args: Given.args, **words: Given.kwargs) -> Answer:
+        with self._hold:
+            return method(self, *args, **words)
+
+    return held
