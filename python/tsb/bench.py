@@ -123,15 +123,16 @@ class Bench:
     def _block(self, lines: str) -> Lines:
         """The display lines that answer many lines, sent ahead of them."""
         text = self._talk.block(lines.encode(), lambda: self._hold.is_asked)
-        refused = re.search(rb"^refused.*$", text, re.M)
         if self._tells:
-            told = map(Event._make, (map(int, it) for it in _EVENT.findall(text)))
-            self._told += told
+            told = (map(int, it) for it in _EVENT.findall(text))
+            self._told += map(Event._make, told)
             text = _EVENT.sub(b"", text)
-        if refused is not None:
-            self._keep(Lines(text[: text.index(b"refused")]))
-            raise Refused(refused[0].decode(), "step")
-        shown = Lines(text)
+        end = text.find(b"refused")
+        shown = Lines(text if end < 0 else text[:end])
+        if end >= 0:
+            self._keep(shown)
+            line = text[end:].partition(b"\n")[0]
+            raise Refused(line.decode(), "step")
         if shown:
             self._now = shown[-1].tick
         return shown
