@@ -5,7 +5,6 @@ python/setup.sh first makes the environment that they run in. The last line is `
 """
 import os
 import pathlib
-import shutil
 import subprocess
 import sys
 import tempfile
@@ -39,10 +38,11 @@ def tested(programs: list[str]) -> tuple[int, int]:
 
 
 def typed() -> tuple[int, int]:
-    """Whether types are right by mypy: nothing is counted where that is not there."""
-    if shutil.which("mypy") is None:
+    """Whether types are right by mypy: nothing is counted where the environment has none."""
+    python = ".venv/bin/python"
+    if subprocess.run([python, "-c", "import mypy"], cwd=PYTHON, stderr=subprocess.DEVNULL).returncode:
         return 0, 0
-    words = ["mypy", "--config-file", "pyproject.toml", "--cache-dir", os.devnull, "tsb", "tests"]
+    words = [python, "-m", "mypy", "--config-file", "pyproject.toml", "--cache-dir", os.devnull, "tsb", "tests"]
     done = subprocess.run(words, cwd=PYTHON, stdin=subprocess.DEVNULL)
     return (0, 1) if done.returncode else (1, 0)
 
