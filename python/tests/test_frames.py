@@ -131,6 +131,16 @@ def test_parquet(tmp_path: Path) -> None:
         ]
 
 
+def test_a_table_from_elsewhere() -> None:
+    """Its columns are taken by name; clocks lose their zone."""
+    times = pd.to_datetime([START]).tz_localize("Europe/Berlin")
+    table = pd.DataFrame({"Parameter": [2], "EVENTID": ["82"], "Timestamp": times})
+    with pytest.raises(Error, match="no column SignalID or DeviceId"):
+        frames.export_of_table(table)
+    found = frames.export_of_table(table.assign(DeviceId=7, note="x"))
+    assert found.iloc[0].to_list() == ["7", pd.Timestamp(START), 82, 2]
+
+
 def test_events_of_exports(tmp_path: Path) -> None:
     """Events become an export and events again; times have the digits they need."""
     events = frames.of_events([Event(1, 1, 2), Event(33, 82, 4), Event(864000, 7, 2)])

@@ -132,7 +132,7 @@ class Bench:
         if end >= 0:
             self._keep(shown)
             line = text[end:].partition(b"\n")[0]
-            raise Refused(line.decode(), "step")
+            raise Refused(line.decode(), "a tick")
         if shown:
             self._now = shown[-1].tick
         return shown

@@ -140,11 +140,13 @@ def read_export(path: AnyPath) -> pd.DataFrame:
     """A controller's event log as a table: CSV with or without a header, or Parquet
     where pyarrow is there. Columns have the names of docs/FIELD.md, in any case."""
     if Path(path).suffix == ".parquet":
-        return _export(_read_parquet(path))
+        return export_of_table(_read_parquet(path))
     lines = Path(path).read_text(encoding="utf-8-sig").splitlines(keepends=True)
     text = "".join(it for it in lines if it.strip() and not it.startswith("#"))
     if not text:
-        return _export(pd.DataFrame(columns=[names[0] for names in COLUMNS.values()]))
+        return export_of_table(
+            pd.DataFrame(columns=[names[0] for names in COLUMNS.values()])
+        )
     try:
         found = pd.read_csv(
             io.StringIO(text), header=None, dtype=str, keep_default_na=False
@@ -152,9 +154,9 @@ def read_export(path: AnyPath) -> pd.DataFrame:
     except ValueError as fault:
         raise Error(f"{path}: {fault}") from None
     if _places(found.iloc[0]):
-        return _export(found.iloc[1:].set_axis(found.iloc[0], axis=1))
+        return export_of_table(found.iloc[1:].set_axis(found.iloc[0], axis=1))
     names = [names[0] for names in COLUMNS.values()][: len(found.columns)]
-    return _export(found.iloc[:, : len(names)].set_axis(names, axis=1))
+    return export_of_table(found.iloc[:, : len(names)].set_axis(names, axis=1))
 
 
 def _read_parquet(path: AnyPath) -> pd.DataFrame:
@@ -175,13 +177,16 @@ def _places(names: Iterable[str]) -> dict[str, int]:
     return found
 
 
-def _export(table: pd.DataFrame) -> pd.DataFrame:
-    """The four columns of an export, by what is in them."""
+def export_of_table(table: pd.DataFrame) -> pd.DataFrame:
+    """The export of a table from elsewhere, as a database: columns have the names of
+    docs/FIELD.md, in any case and order, and others are left out."""
     places = _places(table.columns)
     if missing := [names for what, names in COLUMNS.items() if what not in places]:
         raise Error(f"the export has no column {' or '.join(missing[0])}")
     device, time, code, parameter = (table.iloc[:, places[it]] for it in COLUMNS)
     clock = time if time.dtype.kind == "M" else pd.Series(_times(time), time.index)
+    if clock.dt.tz is not None:
+        clock = clock.dt.tz_localize(None)  # (clocks of a log have no zone)
     found = {
         "device": device.astype(str),
         "time": clock.astype("datetime64[ns]"),
