@@ -16,14 +16,18 @@ class Hold:
     def __init__(self, end: Callable[[], None]) -> None:
         self._end, self._depth, self._holds = end, 0, False
         self.is_asked = False
+        # (a handler that is not Python's could not be put back)
+        self._may = signal.getsignal(signal.SIGINT) is not None
 
     def __enter__(self) -> None:
         self._depth += 1
-        if self._depth == 1 and threading.current_thread() is threading.main_thread():
-            # (a caller who has another handler keeps it)
-            if signal.getsignal(signal.SIGINT) is signal.default_int_handler:
-                signal.signal(signal.SIGINT, self._ask)
-                self._holds = True
+        if self._depth > 1 or not self._may:
+            return
+        if threading.current_thread() is threading.main_thread():
+            before = signal.signal(signal.SIGINT, self._ask)
+            self._holds = before is signal.default_int_handler
+            if not self._holds:  # (a caller who has another handler keeps it)
+                signal.signal(signal.SIGINT, before)
 
     def __exit__(
         self,
