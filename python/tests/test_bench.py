@@ -403,8 +403,8 @@ def test_an_interrupt_keeps_the_ticks_so_far(quad: Path) -> None:
     """Ctrl-C stops a long step between two ticks, and a loop of single ones."""
     log = a_log("interrupt", 4000)
     with Bench(quad, log) as bench, Bench(quad, log) as other:
-        for run in (long_step, forever):
-            timer = threading.Timer(0.3, signal.raise_signal, [signal.SIGINT])
+        for run in (long_step, *[forever] * 20):
+            timer = threading.Timer(0.1, signal.raise_signal, [signal.SIGINT])
             timer.start()
             with pytest.raises(KeyboardInterrupt):
                 run(bench)
@@ -416,7 +416,7 @@ def test_an_interrupt_keeps_the_ticks_so_far(quad: Path) -> None:
 
 
 def long_step(bench: Bench) -> None:
-    """More ticks than a third of a second has."""
+    """More ticks than a tenth of a second has."""
     bench.step(3_000_000)
 
 

@@ -20,14 +20,13 @@ class Hold:
         self._may = signal.getsignal(signal.SIGINT) is not None
 
     def __enter__(self) -> None:
-        self._depth += 1
-        if self._depth > 1 or not self._may:
-            return
-        if threading.current_thread() is threading.main_thread():
+        is_main = threading.current_thread() is threading.main_thread()
+        if self._depth == 0 and self._may and is_main:
             before = signal.signal(signal.SIGINT, self._ask)
             self._holds = before is signal.default_int_handler
             if not self._holds:  # (a caller who has another handler keeps it)
                 signal.signal(signal.SIGINT, before)
+        self._depth += 1
 
     def __exit__(
         self,
@@ -37,8 +36,8 @@ class Hold:
     ) -> None:
         self._depth -= 1
         if self._depth == 0 and self._holds:
-            signal.signal(signal.SIGINT, signal.default_int_handler)
             self._holds = False
+            signal.signal(signal.SIGINT, signal.default_int_handler)
             if self.is_asked:
                 self.is_asked = False
                 raise KeyboardInterrupt

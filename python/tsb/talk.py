@@ -7,7 +7,7 @@ import tempfile
 from collections.abc import Callable, Sequence
 from pathlib import Path
 
-from tsb.errors import ProgramDied
+from tsb.errors import Error, ProgramDied
 
 PIECE = 1 << 20  # bytes that are read at a time
 # What closes many lines that are asked at once: its answer alone ends with a brace.
@@ -38,6 +38,7 @@ class Talk:
         self._in, self._out = self._process.stdin, self._process.stdout
         self._to, self._from = self._in.fileno(), self._out.fileno()
         os.set_blocking(self._to, False)
+        self._is_asked = False
 
     @property
     def process(self) -> int:
@@ -46,6 +47,7 @@ class Talk:
 
     def ask(self, line: str) -> str:
         """The answer to a line that has one: its last line, behind lines of events."""
+        self._begin()
         try:
             os.write(self._to, line.encode() + b"\n")
         except BrokenPipeError:
@@ -53,11 +55,13 @@ class Talk:
         told = self._more()
         while not told.endswith(b"\n") or _last(told).startswith(b"event"):
             told += self._more()
+        self._is_asked = False
         return told[:-1].decode()
 
     def block(self, lines: bytes, stops: Callable[[], bool]) -> bytes:
         """All answers to many lines, which are sent ahead of them. Once `stops` says
         so, no more lines are sent, and the answers are those to the lines before."""
+        self._begin()
         left, told = memoryview(lines + CLOSING), bytearray()
         while not told.endswith(CLOSED):
             ready, free, _ = select.select([self._from], [self._to] if left else [], [])
@@ -71,7 +75,15 @@ class Talk:
             if len(left) > len(CLOSING) and stops():
                 line, end, _ = bytes(left).partition(b"\n")
                 left = memoryview(line + end + CLOSING)
+        self._is_asked = False
         return bytes(told[: told.rfind(b"\n", 0, -1) + 1])
+
+    def _begin(self) -> None:
+        """Nothing is asked while an answer is on its way, as that would be taken for
+        the next one's."""
+        if self._is_asked and self._process.poll() is None:
+            raise Error("an answer of this bench was interrupted: it cannot go on")
+        self._is_asked = True
 
     def _more(self) -> bytes:
         more = os.read(self._from, PIECE)
