@@ -1,10 +1,10 @@
 """A bench with the real program: ticks, the way back, transactions, refusals."""
 
 import json
+import os
 import random
 import re
 import signal
-import subprocess
 import threading
 import time
 from pathlib import Path
@@ -438,8 +438,24 @@ def test_a_bench_leaves_nothing_behind(quad: Path) -> None:
         bench.step(3)
         number = bench.process
     bench.close()
-    shown = subprocess.run(["ps", "-p", str(number)], capture_output=True, check=False)
-    assert shown.returncode != 0
+    with pytest.raises(ProcessLookupError):
+        os.kill(number, 0)
+    with pytest.raises(tsb.Error, match="this bench is closed"):
+        bench.tick()
+    with pytest.raises(tsb.Error, match="this bench is closed"):
+        bench.step(5)
+
+
+def test_a_bench_that_a_fork_has_too(quad: Path) -> None:
+    """It can be closed while the other process lives."""
+    with Bench(quad) as bench:
+        bench.step(3)
+        child = os.fork()
+        if child == 0:
+            time.sleep(30)
+            os._exit(0)
+    os.kill(child, signal.SIGKILL)
+    os.waitpid(child, 0)
 
 
 LOGS = {

@@ -5,6 +5,7 @@ import select
 import subprocess
 import tempfile
 from collections.abc import Callable, Sequence
+from contextlib import suppress
 from pathlib import Path
 
 from tsb.errors import Error, ProgramDied
@@ -79,8 +80,10 @@ class Talk:
         return bytes(told[: told.rfind(b"\n", 0, -1) + 1])
 
     def _begin(self) -> None:
-        """Nothing is asked while an answer is on its way, as that would be taken for
-        the next one's."""
+        """Nothing is asked of a bench that is closed, nor while an answer is on its
+        way, as that would be taken for the next one's."""
+        if self._in.closed:
+            raise Error("this bench is closed")
         if self._is_asked and self._process.poll() is None:
             raise Error("an answer of this bench was interrupted: it cannot go on")
         self._is_asked = True
@@ -104,6 +107,11 @@ class Talk:
     def close(self) -> None:
         """Ends the program, and waits for it."""
         if not self._in.closed:
+            if self._is_asked:
+                self.kill()
+            # (where a forked process holds the pipe too, its end would not come)
+            with suppress(BrokenPipeError):
+                os.write(self._to, b"quit\n")
             self._in.close()
             self._out.close()
             self._process.wait()
