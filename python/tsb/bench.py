@@ -322,7 +322,7 @@ class Bench:
     def events(self) -> list[Event]:
         """The events of the inputs that remain, in their order."""
         if not self._tells:
-            raise Error("this bench tells no events")
+            raise Error("this bench tells no events: open it with events=True")
         return list(self._told)
 
     @whole
