@@ -1,0 +1,552 @@
+"""Tests of tsb.sumo on simulations of SUMO, with the programs of the bench."""
+
+import contextlib
+import io
+import json
+import re
+import subprocess
+from collections.abc import Callable
+from dataclasses import replace
+from pathlib import Path
+from typing import Any
+
+import pytest
+
+from tsb import Display, Error, NoSuchTick, Plan, programs, seconds
+from tsb.sumo import (
+    Diverged,
+    Intersection,
+    Loop,
+    Mapping,
+    MappingFault,
+    NetFault,
+    SumoFailed,
+    crossroads,
+    peers,
+    propose,
+    read_nema,
+    read_trips,
+    summary,
+)
+from tsb.sumo.command import log_of, main
+from tsb.sumo.nema import NemaFault, nema_of
+from tsb.sumo.net import light
+from tsb.sumo.propose import zones
+from tsb.sumo.simulation import binary
+
+SECONDS = 200
+
+
+@pytest.fixture(scope="session")
+def cars(tmp_path_factory: pytest.TempPathFactory) -> Path:
+    """An intersection for cars, with medium traffic of 200 s."""
+    folder = tmp_path_factory.mktemp("cars")
+    crossroads.build(folder)
+    crossroads.demand(folder / "routes.xml", "medium", 1, SECONDS)
+    return folder
+
+
+@pytest.fixture(scope="session")
+def walks(tmp_path_factory: pytest.TempPathFactory) -> Path:
+    """The same with crossings, with light traffic and people."""
+    folder = tmp_path_factory.mktemp("walks")
+    crossroads.build(folder, pedestrians=True)
+    crossroads.demand(folder / "routes.xml", "light", 1, SECONDS, pedestrians=True)
+    return folder
+
+
+def loop_of(folder: Path, plan: Plan | None = None, **more: object) -> Loop:
+    """A loop on a folder, with the free plan."""
+    plan = crossroads.plan() if plan is None else plan
+    at = Intersection.of(folder / "net.xml", "C", folder / "mapping.json", plan)
+    words: Any = {"additional": folder / "detectors.xml", "seed": 1, **more}
+    return Loop(folder / "net.xml", folder / "routes.xml", at, **words)
+
+
+def trips_of(path: Path) -> str:
+    """SUMO's file of trips without what it says of when it was made."""
+    return re.sub(r"<!--.*?-->", "", path.read_text(), flags=re.S)
+
+
+# Mappings
+
+
+def test_a_mapping_reads_what_it_wrote(cars: Path) -> None:
+    mapping = Mapping.read(cars / "mapping.json")
+    mapping.write(cars / "again.json")
+    assert Mapping.read(cars / "again.json") == mapping
+    assert json.loads(mapping.text)["phases"]["2"] == [10, 11, 12]
+
+
+@pytest.mark.parametrize(
+    "said, fault",
+    [
+        ([], "a mapping is an object"),
+        ({"phases": {}}, "a mapping is an object"),
+        ({"tls": "C", "phase": {}}, "phase: a mapping has no such member"),
+        ({"tls": "C", "phases": {"17": [1]}}, "phases.17: 1 to 16"),
+        ({"tls": "C", "phases": {"2": "1"}}, "phases.2: not a list of numbers"),
+        ({"tls": "C", "channels": {"2": [1]}}, "channels.2: not a list of names"),
+        ({"tls": "C", "preempts": {"1": {}}}, 'preempts.1: an object with "classes"'),
+    ],
+)
+def test_a_mapping_names_its_fault(said: object, fault: str) -> None:
+    with pytest.raises(MappingFault, match=re.escape(fault)):
+        Mapping.of(said)
+
+
+Change = Callable[[Mapping], Mapping]
+
+
+@pytest.mark.parametrize(
+    "change, fault",
+    [
+        (lambda it: replace(it, tls="D"), "the mapping is of D, not of C"),
+        (lambda it: replace(it, phases={2: (99,)}), "there is no link 99"),
+        (lambda it: replace(it, free=(), phases={2: (10,)}), "link 0 has no head"),
+        (lambda it: replace(it, overlaps={1: (10,)}), "link 10 is of phases.2"),
+        (lambda it: replace(it, buttons={1: (":C_c9",)}), "no crossing :C_c9"),
+        (lambda it: replace(it, permissive={9: (10,)}), "phases.9: the plan does not"),
+        (lambda it: replace(it, pedestrians={2: ()}), "the plan gives it no walk"),
+    ],
+)
+def test_a_mapping_has_to_fit(cars: Path, change: Change, fault: str) -> None:
+    mapping = change(Mapping.read(cars / "mapping.json"))
+    with pytest.raises(MappingFault, match=fault):
+        Intersection.of(cars / "net.xml", "C", mapping, crossroads.plan())
+
+
+def test_a_net_without_the_light_names_those_it_has(cars: Path) -> None:
+    with pytest.raises(NetFault, match="no traffic light X; it has C"):
+        light(cars / "net.xml", "X")
+
+
+def test_a_detector_that_is_not_there_is_named(cars: Path) -> None:
+    mapping = replace(Mapping.read(cars / "mapping.json"), channels={2: ("W9",)})
+    at = Intersection.of(cars / "net.xml", "C", mapping, crossroads.plan())
+    with pytest.raises(MappingFault, match="channels.2: there is no detector W9"):
+        Loop(cars / "net.xml", cars / "routes.xml", at)
+
+
+def test_sumo_that_does_not_start_says_why(cars: Path) -> None:
+    at = Intersection.of(cars / "net.xml", "C", cars / "mapping.json")
+    words = cars / "net.xml", cars / "no_routes.xml", at
+    with pytest.raises(SumoFailed, match="no_routes.xml' is not accessible"):
+        Loop(*words, api="libsumo")
+    with pytest.raises(SumoFailed, match="SUMO did not start"):
+        Loop(*words, api="traci")
+
+
+def test_states_by_hand(walks: Path) -> None:
+    at = Intersection.of(walks / "net.xml", "C", walks / "mapping.json")
+    # right turns of 8, 6, 4, 2 are links 0, 3, 7, 10 and yield; crossings are 14 to 17,
+    # of phases 6, 4, 2, 8
+    shown = Display.of("0000001 RGRRRGRR-------- -W-D-C-D-------- ---- 0 ----")
+    assert at.state(shown) == "rrrgGGrrrrgGGrrrGr"
+    shown = Display.of("0000001 RRRYGRRG-------- -D-D-D-W-------- ---- 0 ----")
+    assert at.state(shown) == "gGrrrrryyrrrrGrrrG"
+    shown = Display.of("0000001 FFFFFFFF-------- ---------------- ---- 0 ----")
+    assert at.state(shown) == "ssssssssssssssrrrr"
+
+
+def test_a_link_with_several_heads_by_hand(cars: Path) -> None:
+    """(link 6 is protected by phase 1 and goes beside phase 2; link 10 is of overlap 1,
+    and link 3 is free)"""
+    mapping = Mapping.read(cars / "mapping.json")
+    phases = dict(mapping.phases) | {2: (11, 12), 6: (4, 5)}
+    changed = replace(
+        mapping, phases=phases, permissive={2: (6,)}, overlaps={1: (10,)}, free=(3,)
+    )
+    at = Intersection.of(cars / "net.xml", "C", changed)
+    shown = "0000001 {} ---------------- {}--- 0 ----"
+    for heads, overlap, wanted in (
+        ("GRRRRRRR", "Y", "rrrgrrGrrryrrr"),
+        ("RGRRRGRR", "G", "rrrgGGgrrrGGGr"),
+        ("YGRRRGRR", "R", "rrrgGGgrrrrGGr"),
+        ("RYRRRGRR", "R", "rrrgGGyrrrryyr"),
+    ):
+        display = Display.of(shown.format(f"{heads}--------", overlap))
+        assert at.state(display) == wanted
+
+
+def test_trips_by_hand(tmp_path: Path) -> None:
+    (tmp_path / "trips.xml").write_text(
+        """<tripinfos>
+        <tripinfo id="a" vType="car" depart="10.0" departDelay="2.5" departLane="W_far_1"
+          arrival="70.0" arrivalLane="E_out_0" duration="60.0" waitingTime="7.0"
+          timeLoss="20.0" routeLength="900.0"/>
+        <tripinfo id="b" vType="car" depart="50.0" departDelay="0.0" departLane="W_far_0"
+          arrival="-1.0" arrivalLane="" duration="9.0" waitingTime="0.0" timeLoss="1.0"
+          routeLength="90.0"/>
+        <personinfo id="c"><walk depart="5.0" arrival="65.0" duration="60.0"
+          routeLength="80.0" timeLoss="9.0"/></personinfo>
+        <personinfo id="d"><walk depart="-1.0" arrival="-1.0" duration="-1.0"
+          routeLength="-1.0" timeLoss="-1.0"/></personinfo></tripinfos>"""
+    )
+    trips = read_trips(tmp_path / "trips.xml").set_index("trip")
+    assert list(trips.index) == ["a", "b", "c"]
+    assert trips.loc["a", "lost"] == 22.5 and trips.loc["a", "from"] == "W_far"
+    assert trips.loc["a", "to"] == "E_out" and trips.loc["b", "to"] == ""
+    told = summary(trips.reset_index())
+    assert list(told.loc["car", ["ended", "under_way", "lost"]]) == [1, 1, 22.5]
+    assert told.loc["person", "waiting"] == 9.0
+    assert list(summary(trips.reset_index(), begin=6).index) == ["car"]
+
+
+# The loop
+
+
+def test_a_loop_is_a_session_on_its_rows(cars: Path, tmp_path: Path) -> None:
+    with loop_of(cars) as loop:
+        shown = [loop.step()["C"].line for _ in range(1500)]
+        log_of(loop.rows("C")).write(tmp_path / "rows.log")
+        states, at = loop.states("C"), loop.intersections[0]
+    crossroads.plan().write(tmp_path / "plan.json")
+    words = ["run", str(tmp_path / "plan.json"), str(tmp_path / "rows.log")]
+    done = programs.run("tsb", words, b"step 1500\n")
+    assert done.stdout.decode().splitlines() == shown
+    assert [at.heads(it) for it in states] == [it[8:16] for it in shown]
+    assert len(set(states)) > 5
+
+
+def test_trips_are_the_same_after_going_back(cars: Path, tmp_path: Path) -> None:
+    def run(name: str, *ways: tuple[str, int]) -> tuple[list[str], list[str], str]:
+        trips = tmp_path / f"{name}.xml"
+        with loop_of(cars, trips=trips) as loop:
+            for way, ticks in ways:
+                loop.checkpoint() if way == "keep" else getattr(loop, way)(ticks)
+            assert loop.tick == 1400
+            told = loop.rows("C"), loop.states("C")
+        return *told, trips_of(trips)
+
+    straight = run("straight", ("run", 1400))
+    assert straight[2].count("<tripinfo ") > 30
+    # a checkpoint that is gone back to three times, over a later one that is lost
+    kept = [("run", 500), ("keep", 0), ("run", 400), ("keep", 0), ("run", 300)]
+    kept += [("back", 500), ("run", 500), ("back", 600), ("run", 500)]
+    assert run("forks", *kept, ("seek", 500), ("run", 900)) == straight
+    # and without one, where SUMO is run again from the start
+    assert run("again", ("run", 700), ("back", 300), ("run", 1000)) == straight
+
+
+def test_back_with_another_plan(cars: Path) -> None:
+    with loop_of(cars) as loop:
+        loop.run(600)
+        loop.checkpoint()
+        loop.run(800)
+        before = loop.rows("C"), loop.states("C")
+        loop.back(800)
+        with loop.benches["C"].transaction() as edits:
+            edits["phaseMaximum1", 2] = edits["phaseMaximum1", 6] = seconds(12)
+        loop.run(800)
+        after = loop.rows("C"), loop.states("C")
+        assert after[0][:600] == before[0][:600] and after[1][:600] == before[1][:600]
+        assert after[1] != before[1] and after[0] != before[0]
+        loop.seek(600)
+        assert loop.benches["C"].undo() == "commit"
+        for _ in range(4):  # verify, two sets, begin
+            loop.benches["C"].undo()
+        loop.run(800)
+        assert (loop.rows("C"), loop.states("C")) == before
+        with pytest.raises(NoSuchTick):
+            loop.back(1401)
+
+
+def test_a_run_again_that_parts_says_so(cars: Path) -> None:
+    with loop_of(cars) as loop:
+        loop.run(300)
+        for it in loop.call("vehicle.getIDList"):
+            loop.call("vehicle.setMaxSpeed", it, 3.0)
+        loop.run(700)
+        with pytest.raises(Diverged, match="after step"):
+            loop.back(100)
+
+
+def test_traci_reads_what_libsumo_reads(cars: Path) -> None:
+    told = []
+    for api in ("libsumo", "traci"):
+        with loop_of(cars, api=api) as loop:
+            loop.run(500)
+            told.append((loop.rows("C"), loop.states("C")))
+            if api == "traci":
+                assert loop.checkpoint() == 500  # (nothing is kept)
+                loop.back(200)
+                loop.run(200)
+                assert (loop.rows("C"), loop.states("C")) == told[-1]
+    assert told[0] == told[1] and len(set(told[0][0])) > 5
+
+
+def test_people_press_and_walk(walks: Path, tmp_path: Path) -> None:
+    plan = crossroads.with_pedestrians(crossroads.plan())
+    with loop_of(walks, plan, trips=tmp_path / "trips.xml") as loop:
+        shown = [loop.step()["C"] for _ in range(10 * SECONDS)]
+        rows, states = loop.rows("C"), loop.states("C")
+    pressed = {it for row in rows for it in (2, 4, 6, 8) if row[16 + it] == "1"}
+    walked = {
+        it for at in shown for it in (2, 4, 6, 8) if at.pedestrians[it - 1] == "W"
+    }
+    assert pressed == walked == {2, 4, 6, 8}
+    # the crossing of phase 4 is link 15: it is green for the 7 s of its walk
+    walk = [it.pedestrians[3] == "W" for it in shown]
+    assert [it[15] == "G" for it in states] == walk and sum(walk) % 70 == 0
+    trips = read_trips(tmp_path / "trips.xml")
+    done = trips[(trips["kind"] == "person") & (trips["arrival"] >= 0)]
+    assert len(done) >= 4 and (done["waiting"] > 0).any()
+
+
+def test_a_fire_engine_preempts(cars: Path, tmp_path: Path) -> None:
+    crossroads.demand(tmp_path / "fire.xml", "medium", 1, SECONDS, engines=60)
+    at = Intersection.of(
+        cars / "net.xml", "C", cars / "mapping.json", crossroads.plan()
+    )
+    with Loop(
+        cars / "net.xml", tmp_path / "fire.xml", at,
+        additional=cars / "detectors.xml", seed=1,
+    ) as loop:  # fmt: skip
+        shown = [loop.step()["C"] for _ in range(1300)]
+        rows = loop.rows("C")
+    asked = [row[26] == "1" for row in rows]
+    begun = asked.index(True)
+    assert 600 <= begun <= 603  # (the first engine comes after 60 s)
+    assert shown[begun].preempt == 1
+    greens = {it.vehicles[3] + it.vehicles[6] for it in shown if it.preempt == 1}
+    assert "GG" in greens  # phases 4 and 7, where it comes from
+    assert not all(asked[begun:])
+
+
+def test_two_intersections_in_one_loop(tmp_path: Path) -> None:
+    """(of a net that SUMO made, with the plans that were proposed)"""
+    words = "--grid --grid.x-number 2 --grid.y-number 1 --grid.attach-length 200 -L 2"
+    words += " --grid.length 250 --turn-lanes 1 --default-junction-type traffic_light"
+    words += " --no-turnarounds true -o net.xml"
+    subprocess.run(
+        [binary("netgenerate"), *words.split()],
+        cwd=tmp_path, check=True, capture_output=True,
+    )  # fmt: skip
+    net, at, files = tmp_path / "net.xml", [], []
+    for tls in ("A0", "B0"):
+        draft = propose(net, tls)
+        at.append(Intersection.of(net, tls, draft.mapping, draft.plan))
+        files.append(tmp_path / f"{tls}.xml")
+        files[-1].write_text(zones(net, tls))
+    flows = [("left0A0", "B0right0"), ("bottom0A0", "A0top0"), ("top1B0", "A0left0")]
+    (tmp_path / "routes.xml").write_text(
+        "<routes>"
+        + "".join(
+            f'<flow id="{number}" from="{start}" to="{to}" vehsPerHour="600"'
+            ' begin="0" end="100" departSpeed="max"/>'
+            for number, (start, to) in enumerate(flows)
+        )
+        + "</routes>"
+    )
+    with Loop(net, tmp_path / "routes.xml", at, additional=files, seed=1) as loop:
+        loop.run(500)
+        loop.checkpoint()
+        loop.run(300)
+        told = [(loop.rows(it), loop.states(it)) for it in ("A0", "B0")]
+        assert loop.states("A0") != loop.states("B0")
+        assert all(len(set(states)) > 4 for _, states in told)
+        loop.back(250)
+        loop.run(250)
+        assert [(loop.rows(it), loop.states(it)) for it in ("A0", "B0")] == told
+        loop.benches["B0"].tick()
+        with pytest.raises(Error, match="B0: the bench was at 801"):
+            loop.step()
+
+
+def test_a_row_can_be_changed_before_the_bench_has_it(cars: Path) -> None:
+    """(detector 2 has failed, and is on)"""
+
+    def failed(tick: int, tls: str, row: str) -> str:
+        return f"{row[0]}1{row[2:]}" if tick > 50 else row
+
+    with loop_of(cars, change=failed) as loop:
+        loop.run(200)
+        loop.back(50)
+        loop.run(50)
+        rows = loop.rows("C")
+    assert all(row[1] == "1" for row in rows[50:])
+    assert any(row[1] == "0" for row in rows[:50])
+
+
+def test_lead_and_lag(cars: Path) -> None:
+    with loop_of(cars, crossroads.lagging()) as loop:
+        greens = [it.greens for it in (loop.step()["C"] for _ in range(1600))]
+    # in ring 1 the left turn 1 follows 2, in ring 2 the left turn 5 leads 6
+    begun = [
+        (tick, phase)
+        for tick, (a, b) in enumerate(zip(greens, greens[1:], strict=False), 1)
+        for phase in b - a
+    ]
+    order = {ring: [p for _, p in begun if (p > 4) == (ring == 2)] for ring in (1, 2)}
+    assert {1, 2, 5, 6} <= {phase for _, phase in begun}
+    assert all(order[1][at - 1] == 2 for at, p in enumerate(order[1]) if p == 1 and at)
+    assert all(order[2][at + 1] == 6 for at, p in enumerate(order[2][:-1]) if p == 5)
+
+
+def test_volume_density(cars: Path) -> None:
+    with loop_of(cars, crossroads.density()) as loop:
+        loop.run(1600)
+        rows, states = loop.rows("C"), loop.states("C")
+        at = loop.intersections[0]
+    assert any(row[8] == "1" for row in rows)  # (the loops before the bay)
+    heads = [at.heads(it) for it in states]
+    found = list(peers.greens(rows, heads, crossroads.plan()))
+    # an initial green by the cars that came is longer than the least one of 7 s
+    assert max(it.ticks for it in found if it.phase in (4, 8)) > 70
+
+
+# Drafts
+
+
+def test_a_proposal_is_what_a_hand_made(walks: Path) -> None:
+    draft = propose(walks / "net.xml", "C", walks / "detectors.xml")
+    made = Mapping.read(walks / "mapping.json")
+    advance = {it for at in range(9, 13) for it in made.channels[at]}
+    stop_line = {at: set(it) for at, it in made.channels.items() if at < 9}
+    assert draft.plan.fault() is None
+    assert {at: set(it) for at, it in draft.mapping.channels.items()} == stop_line
+    for table in ("phases", "permissive", "pedestrians", "buttons"):
+        assert getattr(draft.mapping, table) == getattr(made, table)
+    left = next(it for it in draft.notes if "at no stop line" in it)
+    assert all(it in left for it in advance)
+    assert "guessed: the main street is W_near and E_near" in draft.notes
+
+
+def test_a_proposal_runs_with_zones_of_its_own(walks: Path, tmp_path: Path) -> None:
+    draft = propose(walks / "net.xml", "C")
+    (tmp_path / "zones.xml").write_text(zones(walks / "net.xml", "C"))
+    at = Intersection.of(walks / "net.xml", "C", draft.mapping, draft.plan)
+    with Loop(
+        walks / "net.xml", walks / "routes.xml", at, additional=tmp_path / "zones.xml"
+    ) as loop:
+        loop.run(600)
+        assert len(set(loop.states("C"))) > 3
+
+
+def test_a_proposal_for_a_net_with_three_legs(tmp_path: Path) -> None:
+    words = "--grid --grid.x-number 3 --grid.y-number 2 --grid.length 200 -L 2"
+    words += " --turn-lanes 1 --default-junction-type traffic_light -o net.xml"
+    words += " --no-turnarounds true --sidewalks.guess --crossings.guess"
+    subprocess.run(
+        [binary("netgenerate"), *words.split()],
+        cwd=tmp_path, check=True, capture_output=True,
+    )  # fmt: skip
+    draft = propose(tmp_path / "net.xml", "B0")
+    assert draft.plan.fault() is None
+    # the street from the west (2) to the east (6), and the one from the north (4),
+    # which turns left with its through phase: it has none that faces it
+    found = {at: set(it) for at, it in draft.mapping.phases.items()}
+    assert found == {2: {6, 7}, 4: {2}, 5: {8}, 6: {4, 5}}
+    assert draft.mapping.permissive == {4: (0, 1), 6: (3,)}
+    # nobody turns right over the crossing of the east leg
+    assert draft.mapping.pedestrians == {4: (":B0_c2",), 6: (":B0_c0",)}
+    assert "crossing :B0_c1: its phase could not be told" in draft.notes
+
+
+def test_a_program_of_type_nema_is_read_back(cars: Path, tmp_path: Path) -> None:
+    at = Intersection.of(cars / "net.xml", "C", cars / "mapping.json")
+    for pattern in (0, 1):
+        plan = crossroads.plan(pattern=bool(pattern))
+        (tmp_path / "nema.xml").write_text(nema_of(plan, at, pattern=pattern))
+        draft = read_nema(cars / "net.xml", tmp_path / "nema.xml", "C")
+        assert draft.plan.fault() is None
+        # what SUMO does not have, and in a pattern its maximums are those of splits
+        lacking = {"preemptDwellPhase", "preemptExitPhase", "preemptMinimumGreen"}
+        lacking |= {"phaseMaximum1", "phaseMaximum2"} if pattern else set()
+        mine = {name: dict(it) for name, it in plan.items() if name not in lacking}
+        read = {name: dict(it) for name, it in draft.plan.items()}
+        assert {name: it for name, it in read.items() if name not in lacking} == mine
+        assert draft.mapping.phases == at.mapping.phases
+    with pytest.raises(NemaFault, match="no tlLogic of type NEMA for X"):
+        read_nema(cars / "net.xml", tmp_path / "nema.xml", "X")
+
+
+# SUMO's own controller
+
+
+def test_sumos_controller_shows_the_same_on_its_rows(
+    cars: Path, tmp_path: Path
+) -> None:
+    """(docs/PEERS.md has longer ones; what parts them there comes later)"""
+    plan = crossroads.plan(latched=True)
+    at = Intersection.of(cars / "net.xml", "C", cars / "mapping.json")
+    (tmp_path / "nema.xml").write_text(nema_of(plan, at))
+    with Loop(
+        cars / "net.xml", cars / "routes.xml", at,
+        additional=[cars / "detectors.xml", tmp_path / "nema.xml"], seed=1,
+    ) as loop:  # fmt: skip
+        loop.run(10 * SECONDS)
+        heads = [at.heads(it) for it in loop.states("C")]
+        rows = ["1000100000000000 00000000 0000", *loop.rows("C")[1:]]
+    assert peers.spells(heads, peers.answers(rows, plan)) == []
+    assert len(set(heads)) > 10
+
+
+def test_spells_by_hand() -> None:
+    theirs = ["RGRRRGRR"] * 5 + ["RYRRRYRR"] * 4 + ["RRRGRRRG"] * 3
+    ours = ["RGRRRGRR"] * 4 + ["RYRRRYRR"] * 5 + ["RRRGRRGR"] * 3
+    later, *more = peers.spells(theirs, ours)
+    assert later == peers.Spell(5, 4, "later", "stays", "2Y 6Y") and more == []
+    theirs, ours = theirs[5:], ours[5:]
+    assert [it.cause for it in peers.spells(theirs, ours)] == ["choice"]
+    rows = ["0100000000000000"] * 2 + ["0000000000000000"] * 10
+    plan = Plan()
+    plan["phasePassage"][2] = 3
+    found = list(peers.greens(rows, ["RGRRRRRR"] * 6 + ["RRRRRRRR"] * 6, plan))
+    assert found == [peers.Green(2, 1, 6, True)]
+    assert peers.longest_without(["RGRRRRRR"] + ["RRRRRRRR"] * 6, (2, 6)) == 6
+
+
+# The document and the command
+
+BLOCK = re.compile(
+    r"^```python\n(.*?)^```\n\nIt prints\n\n```\n(.*?)^```\n", re.M | re.S
+)
+
+
+def test_the_document_prints_what_it_says(
+    top: Path, tmp_path: Path, monkeypatch: pytest.MonkeyPatch
+) -> None:
+    monkeypatch.chdir(tmp_path)
+    blocks = BLOCK.findall((top / "docs/SUMO.md").read_text())
+    assert len(blocks) == 2
+    names: dict[str, Any] = {}
+    for code, wanted in blocks:
+        told = io.StringIO()
+        with contextlib.redirect_stdout(told):
+            exec(code, names)
+        assert told.getvalue() == wanted, code
+
+
+def test_the_command_runs_a_plan(
+    cars: Path, tmp_path: Path, capsys: pytest.CaptureFixture[str]
+) -> None:
+    crossroads.plan(pattern=True).write(tmp_path / "plan.json")
+    words = [str(cars / "net.xml"), str(cars / "routes.xml"), "--plan"]
+    words += [str(tmp_path / "plan.json"), "--mapping", str(cars / "mapping.json")]
+    words += ["--additional", str(cars / "detectors.xml"), "--seed", "1"]
+    words += ["--seconds", "90", "--pattern", "1", "--out", str(tmp_path / "out")]
+    assert main(words) == 0
+    told = json.loads((tmp_path / "out" / "summary.json").read_text())
+    assert told["seconds"] == 90 and told["trips"]["car"]["ended"] > 5
+    assert "90 s; of the trips" in capsys.readouterr().out
+    events = (tmp_path / "out" / "C.events.csv").read_text()
+    assert "2000-01-01 00:00:00.0,131,1\n" in events  # (the pattern)
+    trips = read_trips(tmp_path / "out" / "trips.xml")
+    assert len(trips) == len((tmp_path / "out" / "trips.csv").open().readlines()) - 1
+    assert summary(trips).loc["car", "ended"] == told["trips"]["car"]["ended"]
+
+
+def test_the_other_commands(tmp_path: Path, capsys: pytest.CaptureFixture[str]) -> None:
+    folder = tmp_path / "example"
+    assert main(["example", str(folder), "--pedestrians", "--seconds", "60"]) == 0
+    assert Plan.read(folder / "plan.json").fault() is None
+    net = str(folder / "net.xml")
+    assert main(["propose", net]) == 0
+    assert capsys.readouterr().out.endswith("\nC\n")
+    assert main(["propose", net, "C", "--out", str(tmp_path)]) == 0
+    assert (tmp_path / "C.zones.xml").exists()
+    assert Plan.read(tmp_path / "C.plan.json").fault() is None
+    assert main(["propose", net, "D", "--out", str(tmp_path)]) == 1
+    assert "no traffic light D; it has C" in capsys.readouterr().err

@@ -1,0 +1,224 @@
+"""The commands `python3 -m tsb sumo ..`."""
+
+import argparse
+import json
+import sys
+from collections.abc import Sequence
+from pathlib import Path
+from typing import Any
+
+from tsb.errors import Error
+from tsb.programs import run
+from tsb.progress import progress
+from tsb.rows import Log
+from tsb.sumo import crossroads
+from tsb.sumo.draft import Draft
+from tsb.sumo.intersection import Intersection
+from tsb.sumo.loop import Loop
+from tsb.sumo.mapping import Mapping
+from tsb.sumo.nema import read_nema
+from tsb.sumo.propose import propose, zones
+from tsb.sumo.trips import read_trips, summary
+
+PROGRAM = "python3 -m tsb sumo"
+SOME = 100  # ticks, after which it is asked whether trips are left
+FROM = "2000-01-01 00:00:00"  # of the events, where no other time is given
+
+
+def main(words: Sequence[str]) -> int:
+    """Carries out a command; its status."""
+    others = {"propose": _propose, "nema": _nema, "example": _example}
+    command = others.get(words[0]) if words else None
+    try:
+        return _run(words) if command is None else command(words[1:])
+    except (Error, OSError) as fault:
+        print(f"{PROGRAM}: {fault}", file=sys.stderr)
+        return 1
+
+
+# A run
+
+
+def _run(words: Sequence[str]) -> int:
+    given = _words().parse_args(words)
+    out: Path = given.out
+    out.mkdir(parents=True, exist_ok=True)
+    if len(given.plan) != len(given.mapping):
+        raise Error("as many --plan as --mapping: one of each for an intersection")
+    at = [
+        Intersection.of(given.net, None, mapping, plan)
+        for plan, mapping in zip(given.plan, given.mapping, strict=True)
+    ]
+    with Loop(
+        given.net, given.routes.split(","), at,
+        additional=given.additional.split(",") if given.additional else (),
+        seed=given.seed,
+        trips=out / "trips.xml",
+        program="sumo-gui" if given.gui else "sumo",
+        api=given.api,
+    ) as loop:  # fmt: skip
+        if given.pattern:
+            for bench in loop.benches.values():
+                bench.set_pattern(given.pattern)
+        ticks = _ticks(loop, 10 * given.seconds)
+        logs = {it.tls: log_of(loop.rows(it.tls)) for it in at}
+    for it, plan in zip(at, given.plan, strict=True):
+        _events(out, it.tls, plan, logs[it.tls], given.pattern, ticks, given.begin)
+    _summary(out, given, ticks)
+    return 0
+
+
+def _words() -> argparse.ArgumentParser:
+    words = argparse.ArgumentParser(
+        prog=PROGRAM,
+        description="Runs plans on traffic of SUMO that reacts to them.",
+        epilog="Other commands: propose, nema, example; each has --help.",
+    )
+    words.add_argument("net", help="SUMO's net")
+    words.add_argument("routes", help="SUMO's routes, several with commas between")
+    words.add_argument("--plan", action="append", required=True)
+    words.add_argument("--mapping", action="append", required=True)
+    words.add_argument("--additional", default="", help="files with the detectors")
+    words.add_argument("--seconds", type=int, default=3600)
+    words.add_argument("--seed", type=int)
+    words.add_argument("--pattern", type=int, default=0)
+    words.add_argument("--out", type=Path, default=Path("sumo_out"), metavar="FOLDER")
+    words.add_argument("--from", dest="begin", default=FROM, metavar="TIME")
+    words.add_argument("--api", choices=["libsumo", "traci"])
+    words.add_argument("--gui", action="store_true", help="show it in sumo-gui")
+    return words
+
+
+def _ticks(loop: Loop, most: int) -> int:
+    """Runs so long, or until all trips have ended: how many ticks that were."""
+    for _ in progress(range(0, most, SOME), "sumo"):
+        if not loop.call("simulation.getMinExpectedNumber"):
+            break
+        loop.run(min(SOME, most - loop.tick))
+    return loop.tick
+
+
+def log_of(rows: list[str]) -> Log:
+    """The log of rows from tick 1 on: a row where it changes."""
+    before = [None, *rows]
+    return Log.of(
+        (tick, row) for tick, row in enumerate(rows, 1) if row != before[tick - 1]
+    )
+
+
+def _events(
+    out: Path, tls: str, plan: str, log: Log, pattern: int, ticks: int, begin: str
+) -> None:
+    """Writes the log of an intersection, and the events of a run on it."""
+    path = out / f"{tls}.log"
+    log.write(path)
+    commands = f"pattern {pattern}\n" if pattern else ""
+    words = ["record", f"--from={begin}", f"--device={tls}", plan, str(path)]
+    done = run("tsb_field", words, f"{commands}step {ticks}\n".encode())
+    (out / f"{tls}.events.csv").write_bytes(done.stdout)
+
+
+def _summary(out: Path, given: argparse.Namespace, ticks: int) -> None:
+    """Writes trips and summary, and shows the summary."""
+    trips = read_trips(out / "trips.xml")
+    trips.to_csv(out / "trips.csv", index=False)
+    table = summary(trips)
+    told: dict[str, Any] = {
+        "net": given.net,
+        "routes": given.routes,
+        "plans": given.plan,
+        "pattern": given.pattern,
+        "seed": given.seed,
+        "seconds": ticks / 10,
+        "trips": table.to_dict(orient="index"),
+    }
+    (out / "summary.json").write_text(json.dumps(told, indent=1) + "\n")
+    print(f"{ticks / 10:.0f} s; of the trips, by kind, in seconds:")
+    print(table.to_string())
+    print(f"{out}: trips.csv, summary.json, and of each light .log and .events.csv")
+
+
+# Drafts
+
+
+def _propose(words: Sequence[str]) -> int:
+    of = argparse.ArgumentParser(
+        prog=f"{PROGRAM} propose",
+        description="Begins a plan and a mapping for a traffic light of a net, by the"
+        " directions of its links, and says what was guessed.",
+    )
+    of.add_argument("net")
+    of.add_argument("tls", nargs="?", help="its name; without it all are listed")
+    of.add_argument("--additional", default="", help="files with the detectors")
+    of.add_argument("--out", type=Path, default=Path(), metavar="FOLDER")
+    given = of.parse_args(words)
+    if given.tls is None:
+        from tsb.sumo.net import read_net
+
+        print(*(it.getID() for it in read_net(given.net).getTrafficLights()), sep="\n")
+        return 0
+    files = given.additional.split(",") if given.additional else []
+    draft = propose(given.net, given.tls, files)
+    _write(given.out, given.tls, draft)
+    if not files:
+        path = given.out / f"{given.tls}.zones.xml"
+        path.write_text(zones(given.net, given.tls))
+        print(f"wrote {path}, a zone at each stop line")
+    return 0
+
+
+def _nema(words: Sequence[str]) -> int:
+    of = argparse.ArgumentParser(
+        prog=f"{PROGRAM} nema",
+        description="Makes a plan and a mapping of a tlLogic of type NEMA.",
+    )
+    of.add_argument("net")
+    of.add_argument("program", help="the file that has the tlLogic")
+    of.add_argument("tls")
+    of.add_argument("--out", type=Path, default=Path(), metavar="FOLDER")
+    given = of.parse_args(words)
+    _write(given.out, given.tls, read_nema(given.net, given.program, given.tls))
+    return 0
+
+
+def _write(out: Path, tls: str, draft: Draft) -> None:
+    """Writes a draft, and says what to look at."""
+    out.mkdir(parents=True, exist_ok=True)
+    draft.plan.write(out / f"{tls}.plan.json")
+    draft.mapping.write(out / f"{tls}.mapping.json")
+    print(f"wrote {out / tls}.plan.json and {out / tls}.mapping.json; look at this:")
+    fault = draft.plan.fault()
+    for note in [*draft.notes, *([] if fault is None else [str(fault)])]:
+        print(f"- {note}")
+
+
+def _example(words: Sequence[str]) -> int:
+    of = argparse.ArgumentParser(
+        prog=f"{PROGRAM} example",
+        description="Writes an intersection with its traffic, to try things on.",
+    )
+    of.add_argument("folder", type=Path)
+    of.add_argument("--level", choices=crossroads.LEVELS, default="medium")
+    of.add_argument("--seed", type=int, default=1)
+    of.add_argument("--seconds", type=int, default=3600)
+    of.add_argument("--pedestrians", action="store_true")
+    of.add_argument("--engines", type=int, default=0, metavar="SECONDS")
+    given = of.parse_args(words)
+    folder: Path = given.folder
+    crossroads.build(folder, given.pedestrians)
+    crossroads.demand(
+        folder / "routes.xml", given.level, given.seed, given.seconds,
+        given.pedestrians, given.engines,
+    )  # fmt: skip
+    plan = crossroads.plan(pattern=True)
+    if given.pedestrians:
+        crossroads.with_pedestrians(plan)
+    plan.write(folder / "plan.json")
+    mapping = Mapping.read(folder / "mapping.json")
+    print(f"{folder}: net.xml, detectors.xml, routes.xml, plan.json, mapping.json")
+    print(f"of the light {mapping.tls}; its pattern 1 is a cycle of 110 s. Run it:")
+    print(
+        f"{PROGRAM} {folder}/net.xml {folder}/routes.xml --plan {folder}/plan.json"
+        f" --mapping {folder}/mapping.json --additional {folder}/detectors.xml --seed 1"
+    )
+    return 0
