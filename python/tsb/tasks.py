@@ -1,0 +1,213 @@
+"""The runs of a sweep: tasks that read files, and write one file of a table."""
+
+import hashlib
+import json
+import os
+import re
+import tempfile
+import uuid
+from collections.abc import Callable, Iterator, Sequence
+from dataclasses import dataclass
+from functools import lru_cache
+from os import PathLike
+from pathlib import Path
+
+import pandas as pd
+
+from tsb import programs
+from tsb.errors import Error
+from tsb.frames import events_of_export, log_of_export, read_export
+from tsb.measures import MEASURES
+from tsb.plan import Plan
+from tsb.rows import Log
+
+AnyPath = str | PathLike[str]
+#: A measure by its name in `tsb.measures`, or a function of events and their plan.
+Measure = str | Callable[[pd.DataFrame, Plan], pd.DataFrame]
+
+POWER_UP = "2000-01-01 00:00:00"  # when tick 1 begins, where no day says it
+DATE = re.compile(r"\d{4}-\d{2}-\d{2}")
+TRIPS = "trips"  # the measure of trips, which traffic alone has
+
+
+@dataclass(frozen=True)
+class Day:
+    """A run of a plan on a day: an event log of a street's controller (CSV, or Parquet
+    where pyarrow is there), or a log of inputs (`.log`).
+
+    `begin` is the time at which tick 1 begins; without a date, the day is the file's
+    name, as `2026-11-22.csv`. A log of inputs begins with its tick 1.
+    """
+
+    plan: str
+    source: str
+    begin: str
+    seconds: int
+    device: str | None
+    pattern: int
+
+    @property
+    def reads(self) -> list[str]:
+        """The files that it reads."""
+        return [self.plan, self.source]
+
+    @property
+    def name(self) -> str:
+        """The name of the day."""
+        return Path(self.source).stem
+
+    @property
+    def asked(self) -> list[object]:
+        """What is asked beside the files."""
+        return [self.begin, self.seconds, self.device, self.pattern]
+
+    def tables(self, measures: Sequence[Measure]) -> Iterator[tuple[str, pd.DataFrame]]:
+        """The table of each measure."""
+        log = self._log()
+        return _measured(self.plan, log, self.seconds, self.pattern, measures)
+
+    def _log(self) -> Log:
+        if Path(self.source).suffix == ".log":
+            return Log.read(self.source)
+        start = self._start()
+        return log_of_export(read_export(self.source), start, self.device)
+
+    def _start(self) -> str:
+        if DATE.match(self.begin):
+            return self.begin
+        if not DATE.fullmatch(self.name):
+            raise Error(f"{self.source}: name it by its day, or begin with a date")
+        return f"{self.name} {self.begin}"
+
+
+@dataclass(frozen=True)
+class Traffic:
+    """Traffic of SUMO for a sweep: the same net, routes and mapping with many seeds.
+    `{seed}` in `routes` and `additional` (files with commas between) is the seed."""
+
+    net: str
+    routes: str
+    mapping: str
+    additional: str = ""
+
+
+@dataclass(frozen=True)
+class Seed:
+    """A run of a plan on traffic of SUMO with a seed."""
+
+    plan: str
+    traffic: Traffic
+    seed: int
+    seconds: int
+    pattern: int
+
+    def _files(self, names: str) -> list[str]:
+        return [it.format(seed=self.seed) for it in names.split(",") if it]
+
+    @property
+    def reads(self) -> list[str]:
+        """The files that it reads."""
+        of = self.traffic
+        files = [*self._files(of.routes), *self._files(of.additional)]
+        return [self.plan, of.net, of.mapping, *files]
+
+    @property
+    def name(self) -> str:
+        """The name of the seed."""
+        return f"seed{self.seed}"
+
+    @property
+    def asked(self) -> list[object]:
+        """What is asked beside the files."""
+        return [self.seed, self.seconds, self.pattern]
+
+    def tables(self, measures: Sequence[Measure]) -> Iterator[tuple[str, pd.DataFrame]]:
+        """The table of each measure, of which `trips` is that of the trips."""
+        from tsb.sumo import Intersection, Loop, read_trips, summary
+        from tsb.sumo.command import log_of
+
+        of = self.traffic
+        at = Intersection.of(of.net, None, of.mapping, self.plan)
+        with tempfile.TemporaryDirectory() as folder:
+            trips = Path(folder) / "trips.xml"
+            with Loop(
+                of.net, self._files(of.routes), at,
+                additional=self._files(of.additional), seed=self.seed, trips=trips,
+            ) as loop:  # fmt: skip
+                if self.pattern:
+                    loop.benches[at.tls].set_pattern(self.pattern)
+                loop.run(10 * self.seconds)
+                log = log_of(loop.rows(at.tls))
+            if TRIPS in measures:
+                table = summary(read_trips(trips))
+                yield TRIPS, table.rename_axis("kind").reset_index()
+        others = [it for it in measures if it != TRIPS]
+        yield from _measured(self.plan, log, self.seconds, self.pattern, others)
+
+
+Task = Day | Seed
+
+
+def _measured(
+    plan: str, log: Log, seconds: int, pattern: int, measures: Sequence[Measure]
+) -> Iterator[tuple[str, pd.DataFrame]]:
+    """The measures of the events of a plan on a log."""
+    if not measures:
+        return
+    events, read = record(plan, log, seconds, pattern), Plan.read(plan)
+    for it in measures:
+        found = (MEASURES[it] if isinstance(it, str) else it)(events, read)
+        named = any(name is not None for name in found.index.names)
+        yield name_of(it), found.reset_index() if named else found
+
+
+def record(plan: AnyPath, log: Log, seconds: int, pattern: int = 0) -> pd.DataFrame:
+    """The events of a plan that runs for so long on a log, from power-up on."""
+    with tempfile.TemporaryDirectory() as folder:
+        path = Path(folder) / "inputs.log"
+        log.write(path)
+        words = ["record", f"--from={POWER_UP}", "--device=1", str(plan), str(path)]
+        commands = [f"pattern {pattern}"] if pattern else []
+        text = "\n".join([*commands, f"step {10 * seconds}", ""])
+        done = programs.run("tsb_field", words, text.encode())
+        events = Path(folder) / "events.csv"
+        events.write_bytes(done.stdout)
+        if done.stderr:
+            raise Error(f"{plan}: {done.stderr.decode().strip()}")
+        return events_of_export(read_export(events), POWER_UP)
+
+
+def name_of(measure: Measure) -> str:
+    """The name of a measure."""
+    return measure if isinstance(measure, str) else measure.__name__
+
+
+def one_run(task: Task, path: str, measures: Sequence[Measure]) -> str:
+    """Runs a task, and writes its table to a file, which is there once it is whole."""
+    tables = [
+        table.assign(plan=Path(task.plan).stem, day=task.name, measure=name)
+        for name, table in task.tables(measures)
+    ]
+    first = ["plan", "day", "measure"]
+    table = pd.concat(tables, ignore_index=True)
+    table = table[first + [it for it in table.columns if it not in first]]
+    part = Path(path).with_name(f".{uuid.uuid4().hex}{Path(path).suffix}")
+    table.to_csv(part, index=False)
+    os.replace(part, path)
+    return path
+
+
+@lru_cache(maxsize=None)
+def _sum(path: str, changed: int) -> str:
+    return hashlib.sha256(Path(path).read_bytes()).hexdigest()
+
+
+def key_of(task: Task, measures: Sequence[Measure]) -> str:
+    """What tells a run from one with another plan, day or question: a sum of all of
+    them. (A measure counts by its name.)"""
+    missing = [it for it in task.reads if not Path(it).is_file()]
+    if missing:
+        raise Error(f"{missing[0]}: there is no such file")
+    sums = [_sum(it, Path(it).stat().st_mtime_ns) for it in task.reads]
+    asked = [sums, task.asked, sorted(map(name_of, measures))]
+    return hashlib.sha256(json.dumps(asked).encode()).hexdigest()[:10]
