@@ -1,10 +1,11 @@
 -- Answers are said one after another, and go out in any pieces.
-use Rattle.std.proofs.Common.{◌≡◌, ℕ, ◌+◌, ◌-◌, ◌<◌, ◌≤◌, List, [], ◌∷◌, ◌++◌, length, take, drop, get_or, refl, sym, ap, ◌∙◌, append_assoc, arith, subst, zero, suc, take_all, length-drop}
+use Rattle.std.proofs.Common.{◌≡◌, ℕ, ◌+◌, ◌-◌, ◌<◌, ◌≤◌, List, [], ◌∷◌, ◌++◌, length, take, drop, get_or, refl, sym, ap, ◌∙◌, append_assoc, arith, subst, zero, suc, take_all, length-drop, OnOk, OnErr, Ok, Err}
 use Rattle.std.proofs.lemmas.List.{append-nil, take-append-drop, drop-drop}
 use Rattle.std.specs.declared.option.Option.{Option}
+use Rattle.std.specs.declared.result.Result.{Result}
 use Rattle.std.specs.Io.KnownBytes.{Appends, Keeps}
 use Rattle.tsb_lines.proofs.StreamLemmas.{appends-kept, appends-more, appends-nothing, front-more}
-use Rattle.tsb_dialog.specs.Said.{Said, Wrote}
+use Rattle.tsb_dialog.specs.Said.{IsCutShort, Said, SaidUntilFault, Wrote}
 
 pub said-nothing : (a : Option (List ℕ)) (w : List ℕ) → Said a a w w []
 said-nothing a w = record { gone = []; grown = appends-nothing a; kept = append-nil w }
@@ -56,4 +57,34 @@ said-front a b c w v u text i s r = record {
   text = take i text ++ [];
   said = said-more a b c w v u (take i text) [] s r;
   so = (drop i text, sym (take-append-drop i text) ∙ ap (λ (l : List ℕ). l ++ drop i text) (sym (append-nil (take i text))));
+}
+
+-- ## Texts that a fault may cut short
+
+-- a line was said, or nothing of it
+pub until-line : {T E : Type 0} (r : Result T E) (a b : Option (List ℕ)) (p q text : List ℕ) → OnOk r (Said a b p q text) → OnErr r (Said a b p q []) → SaidUntilFault r a b p q text
+until-line (Ok t) a b p q text ok fault = ok
+until-line (Err e) a b p q text ok fault = record { text = []; said = fault; so = (text, refl) }
+
+-- a text was said, or a first part of it
+pub until-part : {T E : Type 0} (r : Result T E) (a b : Option (List ℕ)) (p q text : List ℕ) → OnOk r (Said a b p q text)
+    → IsCutShort a b p q text → SaidUntilFault r a b p q text
+until-part (Ok t) a b p q text ok front = ok
+until-part (Err e) a b p q text ok front = front
+
+-- a text after one that was said
+pub until-more : {T E : Type 0} (r : Result T E) (a b c : Option (List ℕ)) (w v u text x : List ℕ) → Said a b w v text → SaidUntilFault r b c v u x → SaidUntilFault r a c w u (text ++ x)
+until-more (Ok t) a b c w v u text x said more = said-more a b c w v u text x said more
+until-more (Err e) a b c w v u text x said more = record {
+  text = text ++ more.text;
+  said = said-more a b c w v u text more.text said more.said;
+  so = (more.so.0, ap (λ (l : List ℕ). text ++ l) more.so.1 ∙ sym (append_assoc text more.text more.so.0));
+}
+
+-- no more was said after a fault
+pub still-cut : (a b : Option (List ℕ)) (w v text x : List ℕ) → IsCutShort a b w v text → IsCutShort a b w v (text ++ x)
+still-cut a b w v text x cut = record {
+  text = cut.text;
+  said = cut.said;
+  so = (cut.so.0 ++ x, ap (λ (l : List ℕ). l ++ x) cut.so.1 ∙ append_assoc cut.text cut.so.0 x);
 }

@@ -1,5 +1,5 @@
 -- Answers on their way out. They are put together before they are written, so a writer may lag behind what was said.
-use Rattle.std.specs.Prelude.{◌≡◌, ℕ, List, [], ◌∷◌, ◌++◌, Option}
+use Rattle.std.specs.Prelude.{◌≡◌, ℕ, List, [], ◌∷◌, ◌++◌, Option, Result, Ok, Err}
 use Rattle.std.specs.Io.KnownBytes.{Appends}
 
 -- a line with its end
@@ -17,3 +17,12 @@ pub record Wrote (old new : Option (List ℕ)) (waited waits : List ℕ) (P : Li
   pub text : List ℕ
   pub said : Said old new waited waits text
   pub so : P text
+
+-- a first part of a text was said, after which a fault came
+abbrev pub IsCutShort : Option (List ℕ) → Option (List ℕ) → List ℕ → List ℕ → List ℕ → Type 0
+IsCutShort old new waited waits text = Wrote old new waited waits (λ said. (rest : List ℕ) × (text ≡ said ++ rest))
+
+-- a text was said; or a fault came within it
+abbrev pub SaidUntilFault : {T E : Type 0} → Result T E → Option (List ℕ) → Option (List ℕ) → List ℕ → List ℕ → List ℕ → Type 0
+SaidUntilFault (Ok t) old new waited waits text = Said old new waited waits text
+SaidUntilFault (Err e) old new waited waits text = IsCutShort old new waited waits text
