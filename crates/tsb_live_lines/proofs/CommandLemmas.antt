@@ -4,13 +4,16 @@ use Rattle.std.specs.Prelude.{bytes_eq}
 use Rattle.std.specs.Option.{option_map}
 use Rattle.std.proofs.lemmas.Slice.Eq.{bytes_eq-Decides}
 use Rattle.tsb_lines.specs.Words.{words_of, onto_word, number_of}
-use Rattle.tsb_command_text.specs.Commands.{command_in, command_of_one, command_of_two, command_of_three, command_of_five, on_or_off}
+use Rattle.tsb_command_text.specs.Commands.{command_in, command_of_one, command_of_two, command_of_three, command_of_five, on_or_off, watch_of_two}
 use Rattle.tsb_command_text.specs.declared.command.Command.{Command}
+use Rattle.tsb_command_text.specs.declared.command.Command.TheVariants as session
+use Rattle.tsb_kept.specs.declared.changed.RowInput.{RowInput}
+use Rattle.tsb_kept.specs.declared.changed.RowInput.TheVariants.{Vehicle, Pedestrian, Preempt}
 use Rattle.tsb_log_text.specs.tsb_types.declared.row.Row.{Row}
 use Rattle.tsb_log_text.specs.Rows.{inputs_of}
-use Rattle.tsb_live_lines.specs.LiveCommands.{own_in, own_of_one, own_of_two}
+use Rattle.tsb_live_lines.specs.LiveCommands.{input_of_two, number_to, own_in, own_of_one, own_of_three, own_of_two}
 use Rattle.tsb_live_lines.specs.declared.command.LiveCommand.{LiveCommand}
-use Rattle.tsb_live_lines.specs.declared.command.LiveCommand.TheVariants.{Session, Changes, Events, Echo}
+use Rattle.tsb_live_lines.specs.declared.command.LiveCommand.TheVariants.{Session, Changes, Events, Echo, When}
 use Rattle.tsb_live_lines.proofs.RowLemmas.{IsNone, first-digit}
 
 -- it is asked live alone
@@ -32,6 +35,10 @@ AreApart None None c = Unit {0}
 mapped : {A : Type 0} → (f : A → LiveCommand) → ((a : A) → IsOwn (f a)) → (o : Option A) → AreApart None (option_map f o) None
 mapped f own None = tt
 mapped f own (Some a) = own a
+
+of-input : (f : ℕ → RowInput) (o : Option ℕ) → AreApart None (option_map When (option_map f o)) None
+of-input f None = tt
+of-input f (Some n) = tt
 
 -- a word is one of these, or another
 named : (w name : List ℕ) → (w ≡ name) ⊎ (bytes_eq w name ≡ false)
@@ -70,17 +77,41 @@ two-apart w x = elim (named w (codes "changes")) [
   ]
 ]
 
+-- ticks at which an input of rows changed, and a value of the controller
+watches-apart : (x y : List ℕ) → AreApart None (option_map When (input_of_two x y)) (option_map session.When (watch_of_two x y))
+watches-apart x y = elim (named x (codes "input")) [
+  | inl is ↦ subst (λ (v : List ℕ). AreApart None (option_map When (input_of_two v y)) (option_map session.When (watch_of_two v y))) (sym is)
+      (of-input Vehicle (number_to 16 y))
+  | inr no-input ↦ elim (named x (codes "button")) [
+    | inl is ↦ subst (λ (v : List ℕ). AreApart None (option_map When (input_of_two v y)) (option_map session.When (watch_of_two v y))) (sym is)
+        (of-input Pedestrian (number_to 8 y))
+    | inr no-button ↦ elim (named x (codes "preempt")) [
+      | inl is ↦ subst (λ (v : List ℕ). AreApart None (option_map When (input_of_two v y)) (option_map session.When (watch_of_two v y))) (sym is)
+          (of-input Preempt (number_to 4 y))
+      | inr no-preempt ↦ rw (no-input, no-button, no-preempt) tt
+    ]
+  ]
+]
+
+three-apart : (w x y : List ℕ) → AreApart None (own_of_three w x y) (command_of_three w x y)
+unfolding own_of_three command_of_three
+three-apart w x y = elim (named w (codes "when")) [
+  | inl is ↦ subst (λ (v : List ℕ). AreApart None (own_of_three v x y) (command_of_three v x y)) (sym is) (watches-apart x y)
+  | inr no-when ↦ rw no-when tt
+]
+
 words-apart : (ws : List (List ℕ)) → AreApart None (own_in ws) (command_in ws)
 words-apart [] = tt
 words-apart (w ∷ []) = one-apart w
 words-apart (w ∷ x ∷ []) = two-apart w x
-words-apart (w ∷ x ∷ y ∷ ws) = tt
+words-apart (w ∷ x ∷ y ∷ []) = three-apart w x y
+words-apart (w ∷ x ∷ y ∷ z ∷ ws) = tt
 
 -- ## Rows
 
 -- words of which the first begins with a digit
 row-48 : (r : Row) (w : List ℕ) (ws : List (List ℕ)) → AreApart (Some r) (own_in ((48 ∷ w) ∷ ws)) (command_in ((48 ∷ w) ∷ ws))
-unfolding own_of_one own_of_two command_of_one command_of_two command_of_three command_of_five
+unfolding own_of_one own_of_two own_of_three command_of_one command_of_two command_of_three command_of_five
 row-48 r w [] = tt
 row-48 r w (x ∷ []) = tt
 row-48 r w (x ∷ y ∷ []) = tt
@@ -89,7 +120,7 @@ row-48 r w (x ∷ y ∷ z ∷ v ∷ []) = tt
 row-48 r w (x ∷ y ∷ z ∷ v ∷ u ∷ ws) = tt
 
 row-49 : (r : Row) (w : List ℕ) (ws : List (List ℕ)) → AreApart (Some r) (own_in ((49 ∷ w) ∷ ws)) (command_in ((49 ∷ w) ∷ ws))
-unfolding own_of_one own_of_two command_of_one command_of_two command_of_three command_of_five
+unfolding own_of_one own_of_two own_of_three command_of_one command_of_two command_of_three command_of_five
 row-49 r w [] = tt
 row-49 r w (x ∷ []) = tt
 row-49 r w (x ∷ y ∷ []) = tt

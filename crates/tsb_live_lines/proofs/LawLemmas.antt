@@ -12,7 +12,7 @@ use Rattle.tsb_command_text.specs.declared.command.Reading.TheVariants as sessio
 use Rattle.tsb_log_text.specs.tsb_types.declared.row.Row.{Row}
 use Rattle.tsb_log_text.specs.Rows.{inputs_of, row_of, row_with}
 use Rattle.tsb_log_text.specs.declared.log.LogRow.{LogRow}
-use Rattle.tsb_live_lines.specs.LiveCommands.{live_command_in, own_of_one, own_of_two}
+use Rattle.tsb_live_lines.specs.LiveCommands.{live_command_in, own_of_one, own_of_three, own_of_two}
 use Rattle.tsb_live_lines.specs.LiveReadings.{live_reading, row_or}
 use Rattle.tsb_live_lines.specs.Laws.{AreRowsOfLogs, AskTheSame, SkipTheSame, AreNoCommands, AreNew, TakeTheSameNumber, AreBadWhereLong, AskByTheirFirstBytes}
 use Rattle.tsb_live_lines.specs.declared.command.LiveCommand.TheVariants.{Changes}
@@ -77,7 +77,7 @@ does-steps (session.Do (Step m)) n e = ap (λ (o : Option ℕ). session.Do (Step
 does-steps x n e = absurd (subst IsNone e tt)
 
 words-same : (ws : List (List ℕ)) → changes_asked (row_or None (live_command_in (codes "changes" ∷ ws))) ≡ steps_read (reading_in (command_in (codes "step" ∷ ws)))
-unfolding own_of_one own_of_two command_of_one command_of_two command_of_three command_of_five
+unfolding own_of_one own_of_two own_of_three command_of_one command_of_two command_of_three command_of_five
 words-same [] = refl
 words-same (x ∷ []) = number (number_of x)
   where

@@ -1,6 +1,7 @@
 //! The commands of a live session.
 
 use tsb_command_text::Command;
+use tsb_kept::RowInput;
 use tsb_types::Row;
 
 /// What a live session can be told to do, beside a tick with inputs of its own.
@@ -18,6 +19,8 @@ pub enum LiveCommand {
     Edits,
     /// `events on` and `events off`: whether ticks and commands tell their events (`true`) or not.
     Events(bool),
+    /// `when input D`, `when button D` and `when preempt N`: tells the tick at which an input of the rows changed last.
+    When(RowInput),
     /// `echo on` and `echo off`: whether answers stand behind their command (`true`) or not.
     Echo(bool),
     /// `save`: tells the log and the commands by which `tsb run` comes to the present state.

@@ -4,7 +4,7 @@ use Rattle.tsb_command_text.specs.Commands.{command_of_one, command_of_two, comm
 use Rattle.tsb_command_text.specs.declared.command.Command.TheVariants as commands
 use Rattle.tsb_log_text.specs.tsb_types.Sets.{set_of_list}
 use Rattle.tsb_log_text.specs.Rows.{inputs_of}
-use Rattle.tsb_live_lines.specs.LiveCommands.{own_of_one, own_of_two}
+use Rattle.tsb_live_lines.specs.LiveCommands.{own_of_one, own_of_three, own_of_two}
 use Rattle.tsb_live_lines.specs.LiveReadings.{live_reading}
 use Rattle.tsb_live_lines.specs.declared.command.LiveCommand.TheVariants.{Session, Status, Changes, Plan, Edits, Events, Echo, Save}
 use Rattle.tsb_live_lines.specs.declared.command.LiveReading.TheVariants.{Skip, Bad, Tick, Ask}
@@ -17,15 +17,15 @@ unfolding live_reading inputs_of
 row = refl
 
 no-third-list : live_reading (codes "1000000000000001 00000001 001") ≡ Bad
-unfolding live_reading inputs_of command_of_three
+unfolding live_reading inputs_of own_of_three command_of_three
 no-third-list = refl
 
 other-digit : live_reading (codes "1000000000000002 00000001 0010") ≡ Bad
-unfolding live_reading inputs_of command_of_three
+unfolding live_reading inputs_of own_of_three command_of_three
 other-digit = refl
 
 two-spaces : live_reading (codes "1000000000000001  0000001 0010") ≡ Bad
-unfolding live_reading inputs_of command_of_three
+unfolding live_reading inputs_of own_of_three command_of_three
 two-spaces = refl
 
 -- a row of a log is none of a live session

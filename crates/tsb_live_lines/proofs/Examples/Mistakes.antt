@@ -12,7 +12,7 @@ use Rattle.tsb_command_text.specs.declared.command.Reading.TheVariants as sessio
 use Rattle.tsb_log_text.specs.tsb_types.Sets.{set_of_list, all_off}
 use Rattle.tsb_log_text.specs.tsb_types.declared.row.Row.{Row}
 use Rattle.tsb_log_text.specs.Rows.{inputs_of, inputs_with, row_of, field, has_space}
-use Rattle.tsb_live_lines.specs.LiveCommands.{live_command_in, own_in, own_of_one, own_of_two}
+use Rattle.tsb_live_lines.specs.LiveCommands.{live_command_in, own_in, own_of_one, own_of_three, own_of_two}
 use Rattle.tsb_live_lines.specs.LiveReadings.{live_reading, row_or}
 use Rattle.tsb_live_lines.specs.declared.command.LiveCommand.{LiveCommand}
 use Rattle.tsb_live_lines.specs.declared.command.LiveCommand.TheVariants.{Session, Status, Changes}
@@ -49,7 +49,7 @@ reading_trimmed line =
     if is_skipped line then Skip else row_or (inputs_of (past_spaces line)) (live_command_in (words_of line))
 
 is_bad : live_reading (32 ∷ on_line) ≡ Bad
-unfolding live_reading inputs_of command_of_three
+unfolding live_reading inputs_of own_of_three command_of_three
 is_bad = refl
 
 is_malformed : row_of (codes "0000001" ++ 32 ∷ 32 ∷ on_line) ≡ None
