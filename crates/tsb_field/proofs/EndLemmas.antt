@@ -12,7 +12,7 @@ use Rattle.tsb_event_text.specs.declared.times.Moment.{Moment}
 use Rattle.tsb_log_text.specs.declared.error.LogError.{LogError}
 use Rattle.tsb_log_text.specs.declared.log.LogRow.{LogRow}
 use Rattle.tsb_field_display.specs.declared.shown.Shown.{Shown}
-use Rattle.tsb_record.specs.declared.faults.OnFault.{OnFault}
+use Rattle.tsb_text.specs.declared.faults.OnFault.{OnFault}
 use Rattle.tsb_field_events.specs.Merge.{session_events}
 use Rattle.tsb_field_events.specs.Texts.{IsLog}
 use Rattle.tsb_field.specs.Ends.{IsEvents, LogNamed, NoRun, Pictured, Recorded, Stops, TellsNoLog, TellsNoPlan}

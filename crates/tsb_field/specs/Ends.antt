@@ -23,8 +23,8 @@ use Rattle.tsb_field_events.specs.Texts.{IsLog}
 use Rattle.tsb_field_events.specs.Ticks.{AreWritten}
 use Rattle.tsb_field_log.specs.Mapping.{wires_of}
 use Rattle.tsb_record.specs.Ended as recorded
-use Rattle.tsb_record.specs.declared.faults.OnFault.{OnFault}
-use Rattle.tsb_record.specs.declared.faults.OnFault.TheVariants.{GoOn, Stop}
+use Rattle.tsb_text.specs.declared.faults.OnFault.{OnFault}
+use Rattle.tsb_text.specs.declared.faults.OnFault.TheVariants.{GoOn, Stop}
 use Rattle.tsb_record.specs.declared.recording.Outcome.{Outcome}
 use Rattle.tsb_record.specs.declared.recording.Outcome.TheVariants as outcomes
 use Rattle.tsb_record.specs.tsb_types.declared.event.Event.{Event}

@@ -1,5 +1,5 @@
 -- What lines come to, from what was told of each.
-use Rattle.std.proofs.Common.{zero, suc, ◌≡◌, ◌∙◌, ℕ, ◌+◌, ◌<◌, ◌≤◌, nat_lt, Bool, true, false, Some, None, List, [], ◌∷◌, ◌++◌, length, map, take, take_all, append_assoc, refl, sym, ap, subst, arith, rules, inl, inr}
+use Rattle.std.proofs.Common.{codes, zero, suc, ◌≡◌, ◌∙◌, ℕ, ◌+◌, ◌<◌, ◌≤◌, nat_lt, Bool, true, false, Some, None, List, [], ◌∷◌, ◌++◌, length, map, take, take_all, append_assoc, refl, sym, ap, subst, arith, rules, inl, inr}
 use Rattle.std.proofs.lemmas.Bool.{cases_lt}
 use Rattle.std.proofs.lemmas.List.{append-nil, length-take-le, take-take}
 use Rattle.std.specs.declared.option.Option.{Option}
@@ -15,10 +15,12 @@ use Rattle.tsb_dialog.specs.declared.answers.Flow.TheVariants.{On, Over}
 use Rattle.tsb_dialog.specs.Heard.{HaveNoFeed, Heard, IsAnswered, IsOver, Runs, asked, fed}
 use Rattle.tsb_text.specs.Answers.{Setup}
 use Rattle.tsb_record.specs.declared.faults.FaultyLine.{FaultyLine}
-use Rattle.tsb_record.specs.declared.faults.LineFault.{LineFault}
-use Rattle.tsb_record.specs.declared.faults.OnFault.{OnFault}
+use Rattle.tsb_text.specs.declared.faults.LineFault.{LineFault}
+use Rattle.tsb_text.specs.declared.faults.OnFault.{OnFault}
 use Rattle.tsb_record.specs.Ended.{Carries, TellsWhole}
-use Rattle.tsb_record.specs.Faults.{fault_text, numbered, reason, shown, shown_byte}
+use Rattle.std.specs.Fmt.{decimal}
+use Rattle.tsb_text.specs.Faults.{fault_words, shown, shown_byte}
+use Rattle.tsb_record.specs.Faults.{fault_text}
 use Rattle.tsb_record.specs.Leaves.{Come, Does, End, Ends, Follows, flow_after, quits, stop_at}
 use Rattle.tsb_record.specs.Lines.{Course, TellsLine, says}
 
@@ -59,7 +61,7 @@ line-shown line = elim (cases_lt (length line) 202) [
 
 text-same : (n : ℕ) (line other : List ℕ) (fault : Option LineFault) → shown line ≡ shown other → fault_text n line fault ≡ fault_text n other fault
 text-same n line other None same = refl
-text-same n line other (Some fault) same = ap (λ (v : List ℕ). numbered n ++ (v ++ reason fault)) same
+text-same n line other (Some fault) same = ap (λ (v : List ℕ). codes "command " ++ (decimal n ++ (codes ": " ++ (v ++ (codes ": " ++ (fault_words fault ++ 10 ∷ [])))))) same
 
 -- so what is told of what is kept is told of the line
 tells-same : (w : OnFault) (given : Setup) (is : List Input) (n : ℕ) (line other text : List ℕ) (flow : Flow) (new : End) → reading line ≡ reading other → shown line ≡ shown other

@@ -17,8 +17,8 @@ use Rattle.tsb_dialog.specs.declared.answers.Flow.{Flow}
 use Rattle.tsb_dialog.specs.declared.answers.Flow.TheVariants.{On, Over}
 use Rattle.tsb_text.specs.Answers.{Setup, next_tick}
 use Rattle.tsb_record.specs.declared.faults.FaultyLine.{FaultyLine}
-use Rattle.tsb_record.specs.declared.faults.LineFault.{LineFault}
-use Rattle.tsb_record.specs.declared.faults.OnFault.{OnFault}
+use Rattle.tsb_text.specs.declared.faults.LineFault.{LineFault}
+use Rattle.tsb_text.specs.declared.faults.OnFault.{OnFault}
 use Rattle.tsb_record.specs.Leaves.{Asked, Come, Does, End, Ends, Follows, Leaves, Steps, flow_after, quits, stop_at}
 
 -- commands with right answers lead from some inputs to others

@@ -7,7 +7,7 @@ use Rattle.tsb_command_text.specs.Readings.{reading}
 use Rattle.tsb_dialog.specs.declared.answers.Flow.{Flow}
 use Rattle.tsb_dialog.specs.Said.{Wrote}
 use Rattle.tsb_record.specs.declared.faults.FaultyLine.{FaultyLine}
-use Rattle.tsb_record.specs.declared.faults.LineFault.{LineFault}
+use Rattle.tsb_text.specs.declared.faults.LineFault.{LineFault}
 use Rattle.tsb_record.specs.Faults.{fault_text}
 use Rattle.tsb_record.specs.Leaves.{Does, flow_after, quits, stop_at}
 use Rattle.tsb_record.specs.Lines.{Course, says}

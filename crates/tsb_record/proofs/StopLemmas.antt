@@ -6,8 +6,8 @@ use Rattle.tsb_step.specs.declared.inputs.Input.{Input}
 use Rattle.tsb_command_text.specs.Readings.{reading}
 use Rattle.tsb_text.specs.Answers.{Setup}
 use Rattle.tsb_record.specs.declared.faults.FaultyLine.{FaultyLine}
-use Rattle.tsb_record.specs.declared.faults.LineFault.{LineFault}
-use Rattle.tsb_record.specs.declared.faults.OnFault.TheVariants.{GoOn, Stop}
+use Rattle.tsb_text.specs.declared.faults.LineFault.{LineFault}
+use Rattle.tsb_text.specs.declared.faults.OnFault.TheVariants.{GoOn, Stop}
 use Rattle.tsb_record.specs.Faults.{fault_line, fault_text}
 use Rattle.tsb_record.specs.Laws.{StoppedSo}
 use Rattle.tsb_record.specs.Leaves.{Come, Does, End, Ends, Follows, flow_after, quits, stop_at}

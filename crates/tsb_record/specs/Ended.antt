@@ -6,7 +6,7 @@ use Rattle.tsb_lines.specs.Lines.{HasNoFeed, lines_of}
 use Rattle.tsb_text.specs.Answers.{Setup}
 use Rattle.tsb_text.specs.declared.error.SessionError.{SessionError}
 use Rattle.tsb_text.specs.declared.error.SessionError.TheVariants.{Memory, Read, TooLarge}
-use Rattle.tsb_record.specs.declared.faults.OnFault.{OnFault}
+use Rattle.tsb_text.specs.declared.faults.OnFault.{OnFault}
 use Rattle.tsb_record.specs.declared.recording.Outcome.{Outcome}
 use Rattle.tsb_record.specs.declared.recording.Outcome.TheVariants.{Events, Stopped}
 use Rattle.tsb_record.specs.Along.{told_along}

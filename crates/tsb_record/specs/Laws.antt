@@ -11,8 +11,8 @@ use Rattle.tsb_step.specs.State.{State}
 use Rattle.tsb_step.specs.Step.{step}
 use Rattle.tsb_command_text.specs.Readings.{reading}
 use Rattle.tsb_text.specs.Answers.{Setup}
-use Rattle.tsb_record.specs.declared.faults.OnFault.{OnFault}
-use Rattle.tsb_record.specs.declared.faults.OnFault.TheVariants.{GoOn, Stop}
+use Rattle.tsb_text.specs.declared.faults.OnFault.{OnFault}
+use Rattle.tsb_text.specs.declared.faults.OnFault.TheVariants.{GoOn, Stop}
 use Rattle.tsb_record.specs.declared.faults.FaultyLine.{FaultyLine}
 use Rattle.tsb_record.specs.Faults.{fault_line}
 use Rattle.tsb_record.specs.Leaves.{Come, Does, End, quits}

@@ -16,10 +16,10 @@ use Rattle.tsb_command_text.specs.Readings.{reading}
 use Rattle.tsb_dialog.specs.declared.answers.Flow.{Flow}
 use Rattle.tsb_dialog.specs.declared.answers.Flow.TheVariants.{On, Over}
 use Rattle.tsb_text.specs.Answers.{Setup, next_tick}
-use Rattle.tsb_record.specs.declared.faults.OnFault.{OnFault}
-use Rattle.tsb_record.specs.declared.faults.OnFault.TheVariants.{Stop}
-use Rattle.tsb_record.specs.declared.faults.LineFault.{LineFault}
-use Rattle.tsb_record.specs.declared.faults.LineFault.TheVariants as faults
+use Rattle.tsb_text.specs.declared.faults.OnFault.{OnFault}
+use Rattle.tsb_text.specs.declared.faults.OnFault.TheVariants.{Stop}
+use Rattle.tsb_text.specs.declared.faults.LineFault.{LineFault}
+use Rattle.tsb_text.specs.declared.faults.LineFault.TheVariants as faults
 use Rattle.tsb_record.specs.declared.faults.FaultyLine.{FaultyLine}
 use Rattle.tsb_record.specs.Faults.{fault_text}
 

@@ -5,8 +5,8 @@ use Rattle.tsb_command_text.specs.Readings.{reading}
 use Rattle.tsb_dialog.specs.declared.answers.Flow.{Flow}
 use Rattle.tsb_dialog.specs.Says.{Saying}
 use Rattle.tsb_text.specs.Answers.{Setup}
-use Rattle.tsb_record.specs.declared.faults.OnFault.{OnFault}
-use Rattle.tsb_record.specs.declared.faults.LineFault.{LineFault}
+use Rattle.tsb_text.specs.declared.faults.OnFault.{OnFault}
+use Rattle.tsb_text.specs.declared.faults.LineFault.{LineFault}
 use Rattle.tsb_record.specs.Faults.{fault_text}
 use Rattle.tsb_record.specs.Leaves.{Does, End, flow_after, quits, stop_at}
 

@@ -7,6 +7,7 @@ mod recorder;
 mod recording;
 mod told;
 
-pub use faults::{FaultyLine, LineFault, OnFault};
+pub use faults::FaultyLine;
 pub use recording::{Outcome, record};
 pub use told::{Mark, Told};
+pub use tsb_text::{LineFault, OnFault};

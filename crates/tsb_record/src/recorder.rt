@@ -13,7 +13,6 @@ ghost use Rattle.tsb_record.specs.Told.{gone_back, nothing_told};
 ghost use Rattle.tsb_record.specs.declared.told.Mark.{Mark};
 ghost use Rattle.tsb_record.specs.Recording.{AreOfLog, Done, GoesBack, IsNoTick, IsWanting, Stands, Took, row_in_force};
 
-use crate::faults::LineFault;
 use crate::told::Told;
 use std::alloc::Global;
 use tsb_bench::{Answer, Bench, Kind, answer};
@@ -21,6 +20,7 @@ use tsb_command_text::{Command, Reading};
 use tsb_events::Events;
 use tsb_log_text::Log;
 use tsb_step::{Cmd, Input};
+use tsb_text::LineFault;
 use tsb_types::{Event, Refusal, Row};
 
 /// A bench, with what the inputs that remain have told.

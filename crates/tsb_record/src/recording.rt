@@ -8,7 +8,7 @@ ghost use Rattle.tsb_record.specs.Faults.{fault_text};
 ghost use Rattle.tsb_record.specs.Leaves.{flow_after, quits};
 ghost use Rattle.tsb_record.specs.Recording.{IsOutcome, session_fault};
 
-use crate::faults::{FaultyLine, LineFault, OnFault, fault_line, stop_at};
+use crate::faults::{FaultyLine, fault_line, stop_at};
 use crate::recorder::Recorder;
 use std::alloc::Global;
 use std::io::{Read, Write};
@@ -17,7 +17,7 @@ use tsb_command_text::{Command, Reading, reading_of};
 use tsb_dialog::{Answers, DialogError, Flow, Pending, WriteError, converse};
 use tsb_log_text::Log;
 use tsb_objects::Checked;
-use tsb_text::{COMMANDS, SessionError};
+use tsb_text::{COMMANDS, LineFault, OnFault, SessionError};
 use tsb_types::Event;
 
 /// What came of the commands of a record.

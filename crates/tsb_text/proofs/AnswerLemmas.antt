@@ -1,203 +1,279 @@
 -- What is said of an answer, where a bench has come from power-up by some inputs.
-use Rattle.std.proofs.Common.{◌≡◌, ℕ, ◌+◌, List, [], ◌∷◌, ◌++◌, None, refl, sym, ap, ◌∙◌, append_assoc, Ok, Err, subst, suc, OnOk, OnErr, inl, inr}
+use Rattle.std.proofs.Common.{◌≡◌, ℕ, ◌+◌, List, [], ◌∷◌, ◌++◌, None, Some, refl, sym, ap, ◌∙◌, append_assoc, Ok, Err, subst, suc, inl, inr, OnOk, OnErr}
+use Rattle.std.proofs.lemmas.List.{append-nil}
 use Rattle.std.specs.declared.option.Option.{Option}
 use Rattle.std.specs.declared.result.Result.{Result}
-use Rattle.tsb_objects.specs.tsb_plan.Plan.{Plan}
 use Rattle.tsb_objects.specs.tsb_types.declared.refusal.Refusal.{Refusal}
+use Rattle.tsb_objects.specs.tsb_types.declared.row.Row.{Row}
 use Rattle.tsb_bench.specs.tsb_machine.declared.commands.Command.TheVariants.{Apply}
 use Rattle.tsb_bench.specs.tsb_machine.declared.commands.Answer.{Answer}
-use Rattle.tsb_bench.specs.tsb_machine.declared.commands.Answer.TheVariants.{Took, Refused}
-use Rattle.tsb_bench.specs.tsb_machine.Play as play
-use Rattle.tsb_bench.specs.tsb_machine.Play.{IsRefusal}
-use Rattle.tsb_bench.proofs.tsb_machine.PlayLemmas as past
+use Rattle.tsb_bench.specs.tsb_machine.declared.commands.Answer.TheVariants as answers
+use Rattle.tsb_bench.specs.tsb_machine.declared.commands.Answer.TheVariants.{Refused}
 use Rattle.tsb_bench.specs.tsb_step.declared.inputs.Input.{Input}
 use Rattle.tsb_bench.specs.tsb_step.declared.inputs.Input.TheVariants.{Tick}
-use Rattle.tsb_bench.specs.tsb_step.State.{State, start}
-use Rattle.tsb_bench.specs.tsb_step.Past.{Whole, controller, record_of, earlier}
-use Rattle.tsb_bench.specs.tsb_step.Play.{Cmd, IsRight, remaining_after, Follows}
+use Rattle.tsb_bench.specs.tsb_step.State.{State}
+use Rattle.tsb_bench.specs.tsb_step.Play.{Cmd, IsRight, remaining_after}
 use Rattle.tsb_bench.specs.tsb_step.Runs.{replay}
-use Rattle.tsb_bench.specs.tsb_step.Step.{step, verdict}
-use Rattle.tsb_bench.specs.tsb_step.Watches.{watched}
 use Rattle.tsb_bench.specs.Held.{Held, state_of, whole}
-use Rattle.tsb_command_text.specs.declared.command.Command.TheVariants.{Show, Quit}
+use Rattle.tsb_dialog.specs.Said.{IsCutShort, Said, SaidUntilFault, Wrote, with_feed}
+use Rattle.tsb_dialog.proofs.SaidLemmas.{said-nothing, said-more, until-line, until-more}
+use Rattle.tsb_lines.specs.declared.writes.WriteError.{WriteError}
 use Rattle.tsb_log_text.specs.declared.log.LogRow.{LogRow}
 use Rattle.tsb_log_text.specs.Logs.{row_at}
-use Rattle.tsb_objects.specs.tsb_types.declared.row.Row.{Row}
-use Rattle.std.proofs.lemmas.List.{append-nil}
-use Rattle.tsb_lines.specs.declared.writes.WriteError.{WriteError}
-use Rattle.tsb_text.specs.Answers.{Setup, Asked, Steps, Answers, next_tick, told, refused_line, display_line}
-use Rattle.tsb_text.specs.Obeyed.{Stands, Done}
-use Rattle.tsb_text.proofs.TextLemmas.{some-steps}
-use Rattle.tsb_dialog.specs.Said.{Said, Wrote, with_feed}
-use Rattle.tsb_dialog.proofs.SaidLemmas.{said-nothing, said-more}
+use Rattle.tsb_text.specs.declared.course.Mode.{Mode}
+use Rattle.tsb_text.specs.declared.task.Task.TheVariants.{Show, Quit}
+use Rattle.tsb_text.specs.Answers.{Setup, next_tick, told, refused_line, display_line}
+use Rattle.tsb_text.specs.Obeyed.{Answered, Done, OnCourse, Stands, Took, news_in, tells_in}
+use Rattle.tsb_text.specs.Obeys.{AsksOnce, Besides, Obeys, TakesTicks, before_line, news, news_of, refusal_in}
+use Rattle.tsb_text.proofs.CourseLemmas.{follows-state, told-alike}
+use Rattle.tsb_text.proofs.ObeyLemmas.{some-ticks}
 
-pub follows-state : (plan : Plan) (w : Whole) (is : List Input) → Follows plan w is → w.state ≡ replay plan is
-follows-state plan w is f = past.follows-state controller (start plan) w is f
+-- ## Texts
 
--- a line that is an answer was said, or a fault came before it
-pub done-said : (r : Result (Unit {0}) WriteError) (given : Setup) (log : List LogRow) (bench : Whole) (P : List ℕ → List Input → Type 0) (a b : Option (List ℕ)) (p q line : List ℕ) (left : List Input)
-    → OnOk r (Said a b p q (with_feed line)) → OnErr r (Said a b p q []) → Stands given log bench left → P (with_feed line) left → Done r given log bench P a b p q
-done-said (Ok u) given log bench P a b p q line left ok err stands so = (left, stands, record { text = with_feed line; said = ok; so = so })
-done-said (Err e) given log bench P a b p q line left ok err stands so = record { text = []; said = err; so = (with_feed line, left, so) }
+-- a text was said, and then a line, or a fault came before it
+pub pair-said : (r : Result (Unit {0}) WriteError) (a b c : Option (List ℕ)) (p q u text line wanted : List ℕ) → line ≡ wanted → Said a b p q text → OnOk r (Said b c q u (with_feed line)) → OnErr r (Said b c q u [])
+    → SaidUntilFault r a c p u (text ++ with_feed wanted)
+pair-said r a b c p q u text line wanted is said ok fault =
+    subst (λ (l : List ℕ). SaidUntilFault r a c p u (text ++ with_feed l)) is (until-more r a b c p q u text (with_feed line) said (until-line r b c q u (with_feed line) ok fault))
 
--- the bench was asked
-pub ask-done : (r : Result (Unit {0}) WriteError) (given : Setup) (log : List LogRow) (is : List Input) (cmd : Cmd) (old new : Held) (result answer : Answer) (a b : Option (List ℕ)) (p q line : List ℕ)
-    → Stands given log (whole old) is → ((plan : Plan) → play.Answers controller (start plan) watched (whole old) cmd result (whole new)) → result ≡ answer → line ≡ told cmd answer (state_of new)
-    → OnOk r (Said a b p q (with_feed line)) → OnErr r (Said a b p q []) → Done r given log (whole new) (Asked given is cmd) a b p q
-ask-done r given log is cmd old new result answer a b p q line stands answers same tells ok err =
-    let right : IsRight given.plan is cmd answer × Follows given.plan (whole new) (remaining_after given.plan is cmd answer) =
-    subst (λ (x : Answer). IsRight given.plan is cmd x × Follows given.plan (whole new) (remaining_after given.plan is cmd x)) same (answers given.plan is stands.follows) in
-    let state : state_of new ≡ replay given.plan (remaining_after given.plan is cmd answer) = follows-state given.plan (whole new) (remaining_after given.plan is cmd answer) right.1 in
-    done-said r given log (whole new) (Asked given is cmd) a b p q line (remaining_after given.plan is cmd answer) ok err
-    (record { same = stands.same; follows = right.1 })
-    (record { answer = answer; right = right.0; left = refl; line = ap with_feed (tells ∙ ap (told cmd answer) state) })
+-- ## What the bench is asked once
 
--- the display line of now
-pub show-done : (r : Result (Unit {0}) WriteError) (given : Setup) (log : List LogRow) (is : List Input) (bench : Held) (a b : Option (List ℕ)) (p q line : List ℕ)
-    → Stands given log (whole bench) is → line ≡ display_line (state_of bench)
-    → OnOk r (Said a b p q (with_feed line)) → OnErr r (Said a b p q []) → Done r given log (whole bench) (Answers given is Show) a b p q
-show-done r given log is bench a b p q line stands tells ok err =
-    let state : state_of bench ≡ replay given.plan is = follows-state given.plan (whole bench) is stands.follows in
-    done-said r given log (whole bench) (Answers given is Show) a b p q line is ok err stands (ap with_feed (tells ∙ ap display_line state), refl)
+-- the line of an answer, told of this bench
+pub answer-said : (r : Result (Unit {0}) WriteError) (cmd : Cmd) (a : Answer) (bench there : Held) (p q : Option (List ℕ)) (u v : List ℕ) → bench ≡ there
+    → SaidUntilFault r p q u v (with_feed (told cmd a (state_of bench))) → SaidUntilFault r p q u v (with_feed (told cmd a (state_of there)))
+answer-said r cmd a bench there p q u v same said = subst (λ (b : Held). SaidUntilFault r p q u v (with_feed (told cmd a (state_of b)))) same said
 
-pub quit-done : (given : Setup) (log : List LogRow) (is : List Input) (bench : Whole) (a : Option (List ℕ)) (p : List ℕ) → Stands given log bench is → Done (Ok tt) given log bench (Answers given is Quit) a a p p
-quit-done given log is bench a p stands = (is, stands, record { text = []; said = said-nothing a p; so = (refl, refl) })
+-- what stands before the line of an answer is so of what the newest input told
+before-same : (echo : List ℕ) (a : Answer) (here told : List ℕ) → (a ≡ answers.Took → here ≡ told) → before_line echo a here ≡ before_line echo a told
+before-same echo answers.Took here told same = ap (λ (t : List ℕ). echo ++ t) (same refl)
+before-same echo answers.Moved here told same = refl
+before-same echo a here told same = refl
+
+-- what is said of the answer
+answer-line : (given : Setup) (log : List LogRow) (is : List Input) (cmd : Cmd) (a : Answer) (course : OnCourse) (echo : List ℕ) → Answered given log course is cmd a
+    → before_line echo a (news_in course) ++ with_feed (told cmd a (state_of course.bench))
+    ≡ before_line echo a (news_of (tells_in course.mode) given is cmd) ++ with_feed (told cmd a (replay given.plan (remaining_after given.plan is cmd a)))
+answer-line given log is cmd a course echo s =
+    let state : state_of course.bench ≡ replay given.plan (remaining_after given.plan is cmd a) = follows-state given.plan (whole course.bench) (remaining_after given.plan is cmd a) s.stands.follows in
+    (λ j. before-same echo a (news_in course) (news_of (tells_in course.mode) given is cmd) s.tells j ++ with_feed (told cmd a (state j)))
+
+pub ask-done : (given : Setup) (log : List LogRow) (is : List Input) (cmd : Cmd) (a : Answer) (course : OnCourse) (mode : Mode) (echo : List ℕ) (refusal : Option Refusal) (p q : Option (List ℕ)) (u v : List ℕ)
+    → course.mode ≡ mode → Answered given log course is cmd a → refusal ≡ refusal_in a → Said p q u v (before_line echo a (news_in course) ++ with_feed (told cmd a (state_of course.bench)))
+    → Done (Ok refusal) given log course (AsksOnce given (record { tells = tells_in mode; echo = echo }) is cmd) p q u v
+ask-done given log is cmd a course mode echo refusal p q u v same s why said = (
+  remaining_after given.plan is cmd a,
+  s.stands,
+  record {
+    text = before_line echo a (news_in course) ++ with_feed (told cmd a (state_of course.bench));
+    said = said;
+    so = subst (λ (m : Mode). AsksOnce given (record { tells = tells_in m; echo = echo }) is cmd (before_line echo a (news_in course) ++ with_feed (told cmd a (state_of course.bench))) refusal (remaining_after given.plan is cmd a)) same
+        (record { answer = a; right = s.right; left = refl; line = answer-line given log is cmd a course echo s; refused = why });
+  },
+)
+
+pub ask-fault : (e : WriteError) (given : Setup) (log : List LogRow) (is : List Input) (cmd : Cmd) (a : Answer) (course : OnCourse) (mode : Mode) (echo : List ℕ) (p q : Option (List ℕ)) (u v : List ℕ)
+    → course.mode ≡ mode → Answered given log course is cmd a → IsCutShort p q u v (before_line echo a (news_in course) ++ with_feed (told cmd a (state_of course.bench)))
+    → Done (Err e) given log course (AsksOnce given (record { tells = tells_in mode; echo = echo }) is cmd) p q u v
+ask-fault e given log is cmd a course mode echo p q u v same s cut = record {
+  text = cut.text;
+  said = cut.said;
+  so = (
+    cut.so.0,
+    refusal_in a,
+    remaining_after given.plan is cmd a,
+    subst (λ (m : Mode). AsksOnce given (record { tells = tells_in m; echo = echo }) is cmd (cut.text ++ cut.so.0) (refusal_in a) (remaining_after given.plan is cmd a)) same
+        (record { answer = a; right = s.right; left = refl; line = sym cut.so.1 ∙ answer-line given log is cmd a course echo s; refused = refl }),
+  );
+}
+
+-- ## The display, and the end
+
+pub show-done : (given : Setup) (log : List LogRow) (besides : Besides) (is : List Input) (course : OnCourse) (p q : Option (List ℕ)) (u v line : List ℕ)
+    → Stands given log course is → line ≡ display_line (state_of course.bench) → Said p q u v (with_feed line) → Done (Ok None) given log course (Obeys given besides is Show) p q u v
+show-done given log besides is course p q u v line stands tells said =
+    let state : state_of course.bench ≡ replay given.plan is = follows-state given.plan (whole course.bench) is stands.follows in
+    (is, stands, record { text = with_feed line; said = said; so = (ap with_feed (tells ∙ ap display_line state), refl, refl) })
+
+pub show-fault : (e : WriteError) (given : Setup) (log : List LogRow) (besides : Besides) (is : List Input) (course : OnCourse) (p q : Option (List ℕ)) (u v line : List ℕ)
+    → Stands given log course is → line ≡ display_line (state_of course.bench) → Said p q u v [] → Done (Err e) given log course (Obeys given besides is Show) p q u v
+show-fault e given log besides is course p q u v line stands tells said =
+    let state : state_of course.bench ≡ replay given.plan is = follows-state given.plan (whole course.bench) is stands.follows in
+    record { text = []; said = said; so = (with_feed line, None, is, (ap with_feed (tells ∙ ap display_line state), refl, refl)) }
+
+pub quit-done : (given : Setup) (log : List LogRow) (besides : Besides) (is : List Input) (course : OnCourse) (p : Option (List ℕ)) (u : List ℕ) → Stands given log course is
+    → Done (Ok None) given log course (Obeys given besides is Quit) p p u u
+quit-done given log besides is course p u stands = (is, stands, record { text = []; said = said-nothing p u; so = (refl, refl, refl) })
 
 -- ## Ticks
 
--- what is right of an input that the bench takes, and of one that it refuses
-pub took-right : (old new : Held) (i : Input) → verdict (state_of old) i ≡ None → state_of new ≡ step (state_of old) i
-    → new.records ≡ record_of i (state_of old) (state_of new) ∷ old.records → earlier (whole new) 1 ≡ whole old
-    → (plan : Plan) (inputs : List Input) → Follows plan (whole old) inputs → IsRight plan inputs (Apply i) Took × Follows plan (whole new) (i ∷ inputs)
-took-right old new i allowed steps told back plan = past.answers-took controller (start plan) watched (whole old) (whole new) i allowed steps told back
-
-pub refused-right : (old new : Held) (i : Input) (e : Refusal) → IsRefusal (verdict (state_of old) i) e → new ≡ old
-    → (plan : Plan) (inputs : List Input) → Follows plan (whole old) inputs → IsRight plan inputs (Apply i) (Refused e) × Follows plan (whole new) inputs
-refused-right old new i e refused same plan = past.answers-refused controller (start plan) watched (whole old) (whole new) i e refused (ap whole same)
-
 -- so many ticks are answered by this, and then by what answers k ticks from these inputs on
-abbrev pub StepsOn : Setup → List Input → ℕ → List Input → ℕ → List ℕ → Type 0
-StepsOn given inputs n now k said =
-    (text : List ℕ) (last : List Input) → Steps given now k text last → Steps given inputs n (said ++ text) last
+abbrev pub TicksOn : Setup → Besides → List Input → ℕ → List Input → ℕ → List ℕ → Type 0
+TicksOn given besides inputs n now k said =
+    (text : List ℕ) (refusal : Option Refusal) (last : List Input) → TakesTicks given besides now k text refusal last → TakesTicks given besides inputs n (said ++ text) refusal last
 
 -- so far: the ticks that are to come answer the rest
-pub record Stepping (given : Setup) (log : List LogRow) (is : List Input) (n : ℕ) (bench : Whole) (k : ℕ) (a b : Option (List ℕ)) (p q : List ℕ) : Type 0 where
+pub record Stepping (given : Setup) (log : List LogRow) (besides : Besides) (is : List Input) (n : ℕ) (course : OnCourse) (k : ℕ) (p q : Option (List ℕ)) (u v : List ℕ) : Type 0 where
   pub now : List Input
-  pub stands : Stands given log bench now
-  pub wrote : Wrote a b p q (StepsOn given is n now k)
+  pub stands : Stands given log course now
+  pub wrote : Wrote p q u v (TicksOn given besides is n now k)
 
 -- the rows of a log stay the same
 pub row-still : (log rows : List LogRow) (row : Row) (t : ℕ) → row ≡ row_at rows t → rows ≡ log → row ≡ row_at log t
 row-still log rows row t is same = is ∙ ap (λ (v : List LogRow). row_at v t) same
 
-pub steps-start : (given : Setup) (log : List LogRow) (is : List Input) (n k : ℕ) (bench : Whole) (a : Option (List ℕ)) (p : List ℕ) → k ≡ n → Stands given log bench is → Stepping given log is n bench k a a p p
-steps-start given log is n k bench a p all stands = record {
+pub steps-start : (given : Setup) (log : List LogRow) (besides : Besides) (is : List Input) (n k : ℕ) (course : OnCourse) (p : Option (List ℕ)) (u : List ℕ) → k ≡ n → Stands given log course is
+    → Stepping given log besides is n course k p p u u
+steps-start given log besides is n k course p u all stands = record {
   now = is;
   stands = stands;
-  wrote = record { text = []; said = said-nothing a p; so = λ text last s. subst (λ (m : ℕ). Steps given is m text last) all s };
+  wrote = record { text = []; said = said-nothing p u; so = λ text refusal last s. subst (λ (m : ℕ). TakesTicks given besides is m text refusal last) all s };
 }
 
 -- the tick that the bench takes is the next one, with the log's row
-tick-next : (given : Setup) (log : List LogRow) (now : List Input) (bench : Held) (row : Row) (t : ℕ) → Stands given log (whole bench) now → row ≡ row_at log t → t ≡ bench.tick + 1 → Tick row ≡ next_tick given now
-tick-next given log now bench row t stands is at =
-    let state : bench.tick ≡ (replay given.plan now).now = ap (λ (s : State). s.now) (follows-state given.plan (whole bench) now stands.follows) in
+tick-next : (given : Setup) (log : List LogRow) (now : List Input) (course : OnCourse) (row : Row) (t : ℕ) → Stands given log course now → row ≡ row_at log t → t ≡ course.bench.tick + 1 → Tick row ≡ next_tick given now
+tick-next given log now course row t stands is at =
+    let state : course.bench.tick ≡ (replay given.plan now).now = ap (λ (s : State). s.now) (follows-state given.plan (whole course.bench) now stands.follows) in
     ap Tick (is ∙ ap (row_at log) (at ∙ ap (λ (n : ℕ). n + 1) state) ∙ ap (λ (l : List LogRow). row_at l ((replay given.plan now).now + 1)) (sym stands.same))
 
+-- what a tick says that was taken
+abbrev tick_text : OnCourse → List ℕ
+tick_text course = news_in course ++ with_feed (display_line (state_of course.bench))
+
+tick-line : (given : Setup) (log : List LogRow) (now : List Input) (course : OnCourse) (i : Input) → Took (Ok tt) given log course now i
+    → tick_text course ≡ news (tells_in course.mode) given now i ++ with_feed (display_line (replay given.plan (i ∷ now)))
+tick-line given log now course i t =
+    let state : state_of course.bench ≡ replay given.plan (i ∷ now) = follows-state given.plan (whole course.bench) (i ∷ now) t.1.follows in
+    (λ j. told-alike (tells_in course.mode) course.news _ t.2 j ++ with_feed (display_line (state j)))
+
 -- a tick was taken, where these steps are left
-step-on : (given : Setup) (is : List Input) (n : ℕ) (now : List Input) (k left : ℕ) (said line : List ℕ) → left ≡ suc k → StepsOn given is n now left said → IsRight given.plan now (Apply (next_tick given now)) Took
-    → line ≡ display_line (replay given.plan (next_tick given now ∷ now)) → StepsOn given is n (next_tick given now ∷ now) k (said ++ with_feed line)
-step-on given is n now k left said line one on right tells = λ text last steps.
-    subst (λ (v : List ℕ). Steps given is n v last) (sym (append_assoc said (with_feed line) text))
-    (on (with_feed line ++ text) last (subst (λ (m : ℕ). Steps given now m (with_feed line ++ text) last) (sym one)
-    (inl (text, record { right = right; line = ap (λ (v : List ℕ). with_feed v ++ text) tells }, steps))))
+step-on : (given : Setup) (besides : Besides) (is : List Input) (n : ℕ) (now : List Input) (k left : ℕ) (said line : List ℕ) → left ≡ suc k → TicksOn given besides is n now left said
+    → IsRight given.plan now (Apply (next_tick given now)) answers.Took
+    → line ≡ news besides.tells given now (next_tick given now) ++ with_feed (display_line (replay given.plan (next_tick given now ∷ now)))
+    → TicksOn given besides is n (next_tick given now ∷ now) k (said ++ line)
+step-on given besides is n now k left said line one on right tells = λ text refusal last steps.
+    subst (λ (v : List ℕ). TakesTicks given besides is n v refusal last) (sym (append_assoc said line text))
+    (on (line ++ text) refusal last (subst (λ (m : ℕ). TakesTicks given besides now m (line ++ text) refusal last) (sym one)
+    (inl (text, record { right = right; line = ap (λ (v : List ℕ). v ++ text) tells }, steps))))
 
--- what a taken tick tells of the bench
-record Taken (given : Setup) (log : List LogRow) (now : List Input) (new : Held) (line : List ℕ) : Type 0 where
-  right : IsRight given.plan now (Apply (next_tick given now)) Took
-  stands : Stands given log (whole new) (next_tick given now ∷ now)
-  tells : line ≡ display_line (replay given.plan (next_tick given now ∷ now))
+-- what a taken tick makes of the steps
+record Taken (given : Setup) (log : List LogRow) (besides : Besides) (is : List Input) (n : ℕ) (now : List Input) (new : OnCourse) (k : ℕ) (said : List ℕ) : Type 0 where
+  stands : Stands given log new (next_tick given now ∷ now)
+  on : TicksOn given besides is n (next_tick given now ∷ now) k (said ++ tick_text new)
 
-taken : (given : Setup) (log : List LogRow) (now : List Input) (old new : Held) (row : Row) (t : ℕ) (line : List ℕ) → Stands given log (whole old) now → row ≡ row_at log t → t ≡ old.tick + 1
-    → ((plan : Plan) (inputs : List Input) → Follows plan (whole old) inputs → IsRight plan inputs (Apply (Tick row)) Took × Follows plan (whole new) (Tick row ∷ inputs))
-    → line ≡ display_line (state_of new) → Taken given log now new line
-taken given log now old new row t line stands is at took tells =
-    let same : Tick row ≡ next_tick given now = tick-next given log now old row t stands is at in
-    let both : IsRight given.plan now (Apply (next_tick given now)) Took × Follows given.plan (whole new) (next_tick given now ∷ now) =
-    subst (λ (i : Input). IsRight given.plan now (Apply i) Took × Follows given.plan (whole new) (i ∷ now)) same (took given.plan now stands.follows) in
-    record {
-      right = both.0;
-      stands = record { same = stands.same; follows = both.1 };
-      tells = tells ∙ ap display_line (follows-state given.plan (whole new) (next_tick given now ∷ now) both.1);
-    }
+taken : (given : Setup) (log : List LogRow) (besides : Besides) (is : List Input) (n : ℕ) (now : List Input) (old new : OnCourse) (k left : ℕ) (row : Row) (t : ℕ) (said : List ℕ)
+    → Stands given log old now → left ≡ suc k → row ≡ row_at log t → t ≡ old.bench.tick + 1 → tells_in new.mode ≡ besides.tells → Took (Ok tt) given log new now (Tick row)
+    → TicksOn given besides is n now left said → Taken given log besides is n now new k said
+taken given log besides is n now old new k left row t said stands one is-row at tells took on =
+    let same : Tick row ≡ next_tick given now = tick-next given log now old row t stands is-row at in
+    let all : Took (Ok tt) given log new now (next_tick given now) = subst (λ (i : Input). Took (Ok tt) given log new now i) same took in
+    let line : tick_text new ≡ news besides.tells given now (next_tick given now) ++ with_feed (display_line (replay given.plan (next_tick given now ∷ now))) =
+    tick-line given log now new (next_tick given now) all
+    ∙ ap (λ (b : _). news b given now (next_tick given now) ++ with_feed (display_line (replay given.plan (next_tick given now ∷ now)))) tells in
+    record { stands = all.1; on = step-on given besides is n now k left said (tick_text new) one on all.0 line }
 
-pub steps-more : (given : Setup) (log : List LogRow) (is : List Input) (n : ℕ) (old new : Held) (left k : ℕ) (row : Row) (t : ℕ) (a b c : Option (List ℕ)) (p q r line : List ℕ) → Stepping given log is n (whole old) left a b p q
-    → left ≡ suc k → row ≡ row_at log t → t ≡ old.tick + 1
-    → ((plan : Plan) (inputs : List Input) → Follows plan (whole old) inputs → IsRight plan inputs (Apply (Tick row)) Took × Follows plan (whole new) (Tick row ∷ inputs))
-    → line ≡ display_line (state_of new) → Said b c q r (with_feed line) → Stepping given log is n (whole new) k a c p r
-steps-more given log is n old new left k row t a b c p q r line s one is-row at took tells said =
-    let x : Taken given log s.now new line = taken given log s.now old new row t line s.stands is-row at took tells in
+pub steps-more : (given : Setup) (log : List LogRow) (besides : Besides) (is : List Input) (n : ℕ) (old new : OnCourse) (left k : ℕ) (row : Row) (t : ℕ) (a b c : Option (List ℕ)) (p q r : List ℕ)
+    → Stepping given log besides is n old left a b p q → left ≡ suc k → row ≡ row_at log t → t ≡ old.bench.tick + 1 → tells_in new.mode ≡ besides.tells
+    → ((given : Setup) (log : List LogRow) (inputs : List Input) → Stands given log old inputs → Took (Ok tt) given log new inputs (Tick row))
+    → Said b c q r (tick_text new) → Stepping given log besides is n new k a c p r
+steps-more given log besides is n old new left k row t a b c p q r s one is-row at tells took said =
+    let x : Taken given log besides is n s.now new k s.wrote.text = taken given log besides is n s.now old new k left row t s.wrote.text s.stands one is-row at tells (took given log s.now s.stands) s.wrote.so in
     record {
       now = next_tick given s.now ∷ s.now;
       stands = x.stands;
-      wrote = record {
-        text = s.wrote.text ++ with_feed line;
-        said = said-more a b c p q r s.wrote.text (with_feed line) s.wrote.said said;
-        so = step-on given is n s.now k left s.wrote.text line one s.wrote.so x.right x.tells;
-      };
+      wrote = record { text = s.wrote.text ++ tick_text new; said = said-more a b c p q r s.wrote.text (tick_text new) s.wrote.said said; so = x.on };
     }
 
-pub steps-fault : (given : Setup) (log : List LogRow) (is : List Input) (n : ℕ) (old new : Held) (left k : ℕ) (row : Row) (t : ℕ) (a b c : Option (List ℕ)) (p q r line : List ℕ) (e : WriteError) → Stepping given log is n (whole old) left a b p q
-    → left ≡ suc k → row ≡ row_at log t → t ≡ old.tick + 1
-    → ((plan : Plan) (inputs : List Input) → Follows plan (whole old) inputs → IsRight plan inputs (Apply (Tick row)) Took × Follows plan (whole new) (Tick row ∷ inputs))
-    → line ≡ display_line (state_of new) → Said b c q r [] → Done (Err e) given log (whole new) (Steps given is n) a c p r
-steps-fault given log is n old new left k row t a b c p q r line e s one is-row at took tells said =
-    let x : Taken given log s.now new line = taken given log s.now old new row t line s.stands is-row at took tells in
-    let rest : (text : List ℕ) × (last : List Input) × Steps given (next_tick given s.now ∷ s.now) k text last = some-steps given k (next_tick given s.now ∷ s.now) in
-    let on : StepsOn given is n (next_tick given s.now ∷ s.now) k (s.wrote.text ++ with_feed line) = step-on given is n s.now k left s.wrote.text line one s.wrote.so x.right x.tells in
+pub steps-fault : (given : Setup) (log : List LogRow) (besides : Besides) (is : List Input) (n : ℕ) (old new : OnCourse) (left k : ℕ) (row : Row) (t : ℕ) (a b c : Option (List ℕ)) (p q r : List ℕ) (e : WriteError)
+    → Stepping given log besides is n old left a b p q → left ≡ suc k → row ≡ row_at log t → t ≡ old.bench.tick + 1 → tells_in new.mode ≡ besides.tells
+    → ((given : Setup) (log : List LogRow) (inputs : List Input) → Stands given log old inputs → Took (Ok tt) given log new inputs (Tick row))
+    → IsCutShort b c q r (tick_text new) → Done (Err e) given log new (TakesTicks given besides is n) a c p r
+steps-fault given log besides is n old new left k row t a b c p q r e s one is-row at tells took cut =
+    let x : Taken given log besides is n s.now new k s.wrote.text = taken given log besides is n s.now old new k left row t s.wrote.text s.stands one is-row at tells (took given log s.now s.stands) s.wrote.so in
+    let rest : (text : List ℕ) × (refusal : Option Refusal) × (last : List Input) × TakesTicks given besides (next_tick given s.now ∷ s.now) k text refusal last = some-ticks given besides k (next_tick given s.now ∷ s.now) in
     record {
-      text = s.wrote.text ++ [];
-      said = said-more a b c p q r s.wrote.text [] s.wrote.said said;
+      text = s.wrote.text ++ cut.text;
+      said = said-more a b c p q r s.wrote.text cut.text s.wrote.said cut.said;
       so = (
-        with_feed line ++ rest.0,
+        cut.so.0 ++ rest.0,
         rest.1,
-        subst (λ (v : List ℕ). Steps given is n v rest.1) (append_assoc s.wrote.text (with_feed line) rest.0 ∙ sym (append_assoc s.wrote.text [] (with_feed line ++ rest.0))) (on rest.0 rest.1 rest.2),
+        rest.2,
+        subst (λ (v : List ℕ). TakesTicks given besides is n v rest.1 rest.2)
+            (ap (λ (v : List ℕ). (s.wrote.text ++ v) ++ rest.0) cut.so.1 ∙ append_assoc s.wrote.text (cut.text ++ cut.so.0) rest.0
+            ∙ ap (λ (v : List ℕ). s.wrote.text ++ v) (append_assoc cut.text cut.so.0 rest.0) ∙ sym (append_assoc s.wrote.text cut.text (cut.so.0 ++ rest.0)))
+            (x.on rest.0 rest.1 rest.2 rest.3),
       );
     }
 
-pub steps-refused : (given : Setup) (log : List LogRow) (is : List Input) (n : ℕ) (old new : Held) (left k : ℕ) (row : Row) (t : ℕ) (a b c : Option (List ℕ)) (p q r line : List ℕ) (refusal : Refusal) (result : Result (Unit {0}) WriteError)
-    → Stepping given log is n (whole old) left a b p q → left ≡ suc k → row ≡ row_at log t → t ≡ old.tick + 1
-    → ((plan : Plan) (inputs : List Input) → Follows plan (whole old) inputs → IsRight plan inputs (Apply (Tick row)) (Refused refusal) × Follows plan (whole new) inputs)
-    → line ≡ refused_line refusal → OnOk result (Said b c q r (with_feed line)) → OnErr result (Said b c q r []) → Done result given log (whole new) (Steps given is n) a c p r
-steps-refused given log is n old new left k row t a b c p q r line refusal result s one is-row at refused tells ok err = ended result ok err
-  where
-    same : Tick row ≡ next_tick given s.now
-    same = tick-next given log s.now old row t s.stands is-row at
+-- what a refused tick makes of the steps
+record Ends (given : Setup) (log : List LogRow) (besides : Besides) (is : List Input) (n : ℕ) (now : List Input) (new : OnCourse) (said line : List ℕ) (e : Refusal) : Type 0 where
+  stands : Stands given log new now
+  all : TakesTicks given besides is n (said ++ line) (Some e) now
 
-    both : IsRight given.plan s.now (Apply (next_tick given s.now)) (Refused refusal) × Follows given.plan (whole new) s.now
-    both = subst (λ (i : Input). IsRight given.plan s.now (Apply i) (Refused refusal) × Follows given.plan (whole new) s.now) same (refused given.plan s.now s.stands.follows)
-
-    steps : Steps given is n (s.wrote.text ++ with_feed line) s.now
-    steps = s.wrote.so (with_feed line) s.now (subst (λ (m : ℕ). Steps given s.now m (with_feed line) s.now) (sym one) (inr (record { refusal = refusal; right = both.0; line = ap with_feed tells; left = refl })))
-
-    ended : (result : Result (Unit {0}) WriteError) → OnOk result (Said b c q r (with_feed line)) → OnErr result (Said b c q r []) → Done result given log (whole new) (Steps given is n) a c p r
-    ended (Ok u) ok err = (
-      s.now,
-      record { same = s.stands.same; follows = both.1 },
-      record { text = s.wrote.text ++ with_feed line; said = said-more a b c p q r s.wrote.text (with_feed line) s.wrote.said ok; so = steps },
-    )
-    ended (Err e) ok err = record {
-      text = s.wrote.text ++ [];
-      said = said-more a b c p q r s.wrote.text [] s.wrote.said err;
-      so = (with_feed line, s.now, subst (λ (v : List ℕ). Steps given is n v s.now) (sym (append_assoc s.wrote.text [] (with_feed line))) steps);
+stopped : (given : Setup) (log : List LogRow) (besides : Besides) (is : List Input) (n : ℕ) (now : List Input) (old new : OnCourse) (k left : ℕ) (row : Row) (t : ℕ) (said : List ℕ) (e : Refusal)
+    → Stands given log old now → left ≡ suc k → row ≡ row_at log t → t ≡ old.bench.tick + 1 → Took (Err e) given log new now (Tick row) → TicksOn given besides is n now left said
+    → Ends given log besides is n now new said (besides.echo ++ with_feed (refused_line e)) e
+stopped given log besides is n now old new k left row t said e stands one is-row at took on =
+    let same : Tick row ≡ next_tick given now = tick-next given log now old row t stands is-row at in
+    let all : Took (Err e) given log new now (next_tick given now) = subst (λ (i : Input). Took (Err e) given log new now i) same took in
+    record {
+      stands = all.1;
+      all = on (besides.echo ++ with_feed (refused_line e)) (Some e) now (subst (λ (m : ℕ). TakesTicks given besides now m (besides.echo ++ with_feed (refused_line e)) (Some e) now) (sym one)
+          (inr (record { why = e; right = all.0; line = refl; refused = refl; left = refl })));
     }
 
-pub steps-end : (given : Setup) (log : List LogRow) (is : List Input) (n : ℕ) (bench : Whole) (k : ℕ) (a b : Option (List ℕ)) (p q : List ℕ) → Stepping given log is n bench k a b p q → k ≡ 0 → Done (Ok tt) given log bench (Steps given is n) a b p q
-steps-end given log is n bench k a b p q s none = (
+pub steps-refused : (given : Setup) (log : List LogRow) (besides : Besides) (is : List Input) (n : ℕ) (old new : OnCourse) (left k : ℕ) (row : Row) (t : ℕ) (a b c : Option (List ℕ)) (p q r : List ℕ) (e : Refusal)
+    → Stepping given log besides is n old left a b p q → left ≡ suc k → row ≡ row_at log t → t ≡ old.bench.tick + 1
+    → ((given : Setup) (log : List LogRow) (inputs : List Input) → Stands given log old inputs → Took (Err e) given log new inputs (Tick row))
+    → Said b c q r (besides.echo ++ with_feed (refused_line e)) → Done (Ok (Some e)) given log new (TakesTicks given besides is n) a c p r
+steps-refused given log besides is n old new left k row t a b c p q r e s one is-row at took said =
+    let x : Ends given log besides is n s.now new s.wrote.text (besides.echo ++ with_feed (refused_line e)) e =
+    stopped given log besides is n s.now old new k left row t s.wrote.text e s.stands one is-row at (took given log s.now s.stands) s.wrote.so in (
+      s.now,
+      x.stands,
+      record {
+        text = s.wrote.text ++ (besides.echo ++ with_feed (refused_line e));
+        said = said-more a b c p q r s.wrote.text (besides.echo ++ with_feed (refused_line e)) s.wrote.said said;
+        so = x.all;
+      },
+    )
+
+pub steps-refused-fault : (given : Setup) (log : List LogRow) (besides : Besides) (is : List Input) (n : ℕ) (old new : OnCourse) (left k : ℕ) (row : Row) (t : ℕ) (a b c : Option (List ℕ)) (p q r : List ℕ) (e : Refusal) (f : WriteError)
+    → Stepping given log besides is n old left a b p q → left ≡ suc k → row ≡ row_at log t → t ≡ old.bench.tick + 1
+    → ((given : Setup) (log : List LogRow) (inputs : List Input) → Stands given log old inputs → Took (Err e) given log new inputs (Tick row))
+    → IsCutShort b c q r (besides.echo ++ with_feed (refused_line e)) → Done (Err f) given log new (TakesTicks given besides is n) a c p r
+steps-refused-fault given log besides is n old new left k row t a b c p q r e f s one is-row at took cut =
+    let x : Ends given log besides is n s.now new s.wrote.text (besides.echo ++ with_feed (refused_line e)) e =
+    stopped given log besides is n s.now old new k left row t s.wrote.text e s.stands one is-row at (took given log s.now s.stands) s.wrote.so in
+    record {
+      text = s.wrote.text ++ cut.text;
+      said = said-more a b c p q r s.wrote.text cut.text s.wrote.said cut.said;
+      so = (
+        cut.so.0,
+        Some e,
+        s.now,
+        subst (λ (v : List ℕ). TakesTicks given besides is n v (Some e) s.now)
+            (ap (λ (v : List ℕ). s.wrote.text ++ v) cut.so.1 ∙ sym (append_assoc s.wrote.text cut.text cut.so.0)) x.all,
+      );
+    }
+
+pub steps-stop : (r : Result (Option Refusal) WriteError) (given : Setup) (log : List LogRow) (besides : Besides) (is : List Input) (n : ℕ) (old new : OnCourse) (left k : ℕ) (row : Row) (t : ℕ) (a b c : Option (List ℕ)) (p q r' : List ℕ) (e : Refusal)
+    → Stepping given log besides is n old left a b p q → left ≡ suc k → row ≡ row_at log t → t ≡ old.bench.tick + 1
+    → ((given : Setup) (log : List LogRow) (inputs : List Input) → Stands given log old inputs → Took (Err e) given log new inputs (Tick row))
+    → OnOk r (r ≡ Ok (Some e)) → SaidUntilFault r b c q r' (besides.echo ++ with_feed (refused_line e)) → Done r given log new (TakesTicks given besides is n) a c p r'
+steps-stop (Ok refusal) given log besides is n old new left k row t a b c p q r' e s one is-row at took why said =
+    subst (λ (x : Result (Option Refusal) WriteError). Done x given log new (TakesTicks given besides is n) a c p r') (sym why) (steps-refused given log besides is n old new left k row t a b c p q r' e s one is-row at took said)
+steps-stop (Err f) given log besides is n old new left k row t a b c p q r' e s one is-row at took why said =
+    steps-refused-fault given log besides is n old new left k row t a b c p q r' e f s one is-row at took said
+
+pub steps-end : (given : Setup) (log : List LogRow) (besides : Besides) (is : List Input) (n : ℕ) (course : OnCourse) (k : ℕ) (a b : Option (List ℕ)) (p q : List ℕ) → Stepping given log besides is n course k a b p q → k ≡ 0
+    → Done (Ok None) given log course (TakesTicks given besides is n) a b p q
+steps-end given log besides is n course k a b p q s none = (
   s.now,
   s.stands,
   record {
     text = s.wrote.text;
     said = s.wrote.said;
-    so = subst (λ (v : List ℕ). Steps given is n v s.now) (append-nil s.wrote.text) (s.wrote.so [] s.now (subst (λ (m : ℕ). Steps given s.now m [] s.now) (sym none) (refl, refl)));
+    so = subst (λ (v : List ℕ). TakesTicks given besides is n v None s.now) (append-nil s.wrote.text)
+        (s.wrote.so [] None s.now (subst (λ (m : ℕ). TakesTicks given besides s.now m [] None s.now) (sym none) (refl, refl, refl)));
   },
 )

@@ -1,5 +1,8 @@
 pub mod WatchLemmas
 pub mod TextLemmas
+pub mod ObeyLemmas
+pub mod EventLemmas
+pub mod CourseLemmas
 pub mod AnswerLemmas
 pub mod ReplyLemmas
 pub mod HeardLemmas

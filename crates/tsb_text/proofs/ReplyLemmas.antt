@@ -3,7 +3,6 @@ use Rattle.std.proofs.Common.{◌≡◌, ℕ, List, [], ◌++◌, refl, sym, ap,
 use Rattle.std.proofs.lemmas.List.{append-nil}
 use Rattle.std.specs.declared.option.Option.{Option}
 use Rattle.tsb_bench.specs.tsb_step.declared.inputs.Input.{Input}
-use Rattle.tsb_bench.specs.tsb_step.Past.{Whole}
 use Rattle.tsb_command_text.specs.declared.command.Command.{Command}
 use Rattle.tsb_command_text.specs.declared.command.Command.TheVariants.{Quit}
 use Rattle.tsb_command_text.specs.declared.command.Reading.{Reading}
@@ -14,8 +13,13 @@ use Rattle.tsb_command_text.specs.Readings.{reading}
 use Rattle.tsb_dialog.specs.Said.{Said, Wrote, with_feed}
 use Rattle.tsb_lines.specs.declared.writes.WriteError.{WriteError}
 use Rattle.tsb_log_text.specs.declared.log.LogRow.{LogRow}
-use Rattle.tsb_text.specs.Answers.{Answers}
-use Rattle.tsb_text.specs.Obeyed.{Done, Stands}
+use Rattle.tsb_objects.specs.tsb_types.declared.refusal.Refusal.{Refusal}
+use Rattle.tsb_text.specs.declared.course.Mode.{Mode}
+use Rattle.tsb_text.specs.declared.course.Mode.TheVariants.{Plain}
+use Rattle.tsb_text.specs.Obeyed.{Done, OnCourse, StandsPlain, besides_of, tells_in}
+use Rattle.tsb_text.specs.Obeys.{Besides, Obeys, nothing_besides}
+use Rattle.tsb_text.specs.Tasks.{task_of}
+use Rattle.tsb_text.proofs.ObeyLemmas.{plain-answers}
 use Rattle.tsb_text.specs.Replies.{Stand, Replies, flow_after, says}
 use Rattle.tsb_text.specs.Text.{GoesOn, Says}
 
@@ -80,28 +84,43 @@ bad-fault stand n line r a b p q reads bad said = record {
   );
 }
 
-pub done-said : (stand : Stand) (n : ℕ) (line : List ℕ) (r : Reading) (c : Command) (flow : Flow) (old new : List LogRow) (bench : Whole) (a b : Option (List ℕ)) (p q : List ℕ)
-    → r ≡ reading line → r ≡ Do c → flow ≡ flow_after c → new ≡ old → Done (Ok tt) stand.given old bench (Answers stand.given stand.inputs c) a b p q
-    → (left : Stand) × Stands left.given new bench left.inputs × Wrote a b p q (λ text. says stand n line text flow left)
-done-said stand n line r c flow old new bench a b p q reads asks after rows done = (
+-- a session says nothing besides
+plain-besides : (course : OnCourse) → course.mode ≡ Plain → besides_of course [] ≡ nothing_besides
+plain-besides course plain = ap (λ (m : Mode). let b : Besides = record { tells = tells_in m; echo = [] } in b) plain
+
+pub done-said : (stand : Stand) (n : ℕ) (line : List ℕ) (r : Reading) (c : Command) (flow : Flow) (log kept : List LogRow) (old new : OnCourse) (refusal : Option Refusal) (a b : Option (List ℕ)) (p q : List ℕ)
+    → r ≡ reading line → r ≡ Do c → flow ≡ flow_after c → kept ≡ log → old.mode ≡ Plain → new.mode ≡ old.mode
+    → Done (Ok refusal) stand.given log new (Obeys stand.given (besides_of old []) stand.inputs (task_of c)) a b p q
+    → (left : Stand) × StandsPlain left.given kept new left.inputs × Wrote a b p q (λ text. says stand n line text flow left)
+done-said stand n line r c flow log kept old new refusal a b p q reads asks after rows plain mode done = (
   record { given = stand.given; inputs = done.0 },
-  record { same = done.1.same ∙ sym rows; follows = done.1.follows },
+  (record { same = done.1.same ∙ sym rows; follows = done.1.follows; keeps = done.1.keeps }, mode ∙ plain),
   record {
     text = done.2.text;
     said = done.2.said;
-    so = subst (λ (x : Reading). Replies stand x done.2.text flow (record { given = stand.given; inputs = done.0 })) (sym asks ∙ reads) (done.2.so, after, refl);
+    so = subst (λ (x : Reading). Replies stand x done.2.text flow (record { given = stand.given; inputs = done.0 })) (sym asks ∙ reads) (
+      plain-answers stand.given stand.inputs c done.2.text refusal done.0
+          (subst (λ (x : Besides). Obeys stand.given x stand.inputs (task_of c) done.2.text refusal done.0) (plain-besides old plain) done.2.so),
+      after,
+      refl,
+    );
   },
 )
 
-pub done-fault : (stand : Stand) (n : ℕ) (line : List ℕ) (r : Reading) (c : Command) (e : WriteError) (log : List LogRow) (bench : Whole) (a b : Option (List ℕ)) (p q : List ℕ)
-    → r ≡ reading line → r ≡ Do c → Done (Err e) stand.given log bench (Answers stand.given stand.inputs c) a b p q → Wrote a b p q (Begins stand n line)
-done-fault stand n line r c e log bench a b p q reads asks done = record {
+pub done-fault : (stand : Stand) (n : ℕ) (line : List ℕ) (r : Reading) (c : Command) (e : WriteError) (log : List LogRow) (old new : OnCourse) (a b : Option (List ℕ)) (p q : List ℕ)
+    → r ≡ reading line → r ≡ Do c → old.mode ≡ Plain → Done (Err e) stand.given log new (Obeys stand.given (besides_of old []) stand.inputs (task_of c)) a b p q → Wrote a b p q (Begins stand n line)
+done-fault stand n line r c e log old new a b p q reads asks plain done = record {
   text = done.text;
   said = done.said;
   so = (
     done.so.0,
     flow_after c,
-    record { given = stand.given; inputs = done.so.1 },
-    subst (λ (x : Reading). Replies stand x (done.text ++ done.so.0) (flow_after c) (record { given = stand.given; inputs = done.so.1 })) (sym asks ∙ reads) (done.so.2, refl, refl),
+    record { given = stand.given; inputs = done.so.2 },
+    subst (λ (x : Reading). Replies stand x (done.text ++ done.so.0) (flow_after c) (record { given = stand.given; inputs = done.so.2 })) (sym asks ∙ reads) (
+      plain-answers stand.given stand.inputs c (done.text ++ done.so.0) done.so.1 done.so.2
+          (subst (λ (x : Besides). Obeys stand.given x stand.inputs (task_of c) (done.text ++ done.so.0) done.so.1 done.so.2) (plain-besides old plain) done.so.3),
+      refl,
+      refl,
+    ),
   );
 }

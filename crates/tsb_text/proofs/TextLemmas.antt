@@ -27,7 +27,7 @@ use Rattle.tsb_text.proofs.WatchLemmas.{some-change}
 
 -- ## There is an answer to each command: one that does not run out of memory
 
-right-input : (given : Setup) (is : List Input) (i : Input) → IsRight given.plan is (asks.Apply i) Took ⊎ ((e : Refusal) × IsRight given.plan is (asks.Apply i) (Refused e))
+pub right-input : (given : Setup) (is : List Input) (i : Input) → IsRight given.plan is (asks.Apply i) Took ⊎ ((e : Refusal) × IsRight given.plan is (asks.Apply i) (Refused e))
 right-input given is i = at (verdict (replay given.plan is) i) refl
   where
     at : (found : Option Refusal) → verdict (replay given.plan is) i ≡ found → IsRight given.plan is (asks.Apply i) Took ⊎ ((e : Refusal) × IsRight given.plan is (asks.Apply i) (Refused e))

@@ -2,6 +2,12 @@
 pub mod Rows
 -- what is answered to each command
 pub mod Answers
+-- what is told of a line that is no command, or that is refused
+pub mod Faults
+-- what a command asks
+pub mod Tasks
+-- what a command comes to where more may be said
+pub mod Obeys
 -- what has become of a bench and of a writer once a command was carried out
 pub mod Obeyed
 -- what a session says to a line

@@ -1,80 +1,78 @@
 //! Answers to commands.
 
-ghost use Rattle.std.specs.Prelude.{◌≡◌, ◌+◌, [], List, OnErr, OnOk};
-ghost use Rattle.tsb_bench.specs.tsb_machine.declared.commands.Command.TheVariants.{Apply};
+ghost use Rattle.std.specs.Prelude.{◌≡◌, ◌+◌, ◌++◌, List, Ok, OnOk, Some};
 ghost use Rattle.tsb_bench.specs.tsb_step.declared.inputs.Input.{Input as InputValue};
-ghost use Rattle.tsb_bench.specs.Held.{whole};
+ghost use Rattle.tsb_bench.specs.Held.{state_of};
 ghost use Rattle.tsb_log_text.specs.declared.log.LogRow.{LogRow};
-ghost use Rattle.tsb_text.specs.Answers.{Setup, Answers, Asked, Steps, when_line};
-ghost use Rattle.tsb_text.specs.Obeyed.{Stands, Done};
+ghost use Rattle.tsb_text.specs.Answers.{Setup, display_line, refused_line, told};
+ghost use Rattle.tsb_text.specs.Obeyed.{Done, Stands, besides_of, news_in};
+ghost use Rattle.tsb_text.specs.Obeys.{AsksOnce, Obeys, TakesTicks, before_line, refusal_in};
 ghost use Rattle.tsb_text.specs.Rows.{rows_in};
+ghost use Rattle.tsb_text.specs.Tasks.{task_of};
 ghost use Rattle.tsb_dialog.specs.Pended.{AfterWrites, IsWell};
-ghost use Rattle.tsb_dialog.specs.Said.{Said, with_feed};
+ghost use Rattle.tsb_dialog.specs.Said.{SaidUntilFault, with_feed};
 
-use crate::lines::{line_bytes, refused_line, taken_line, tick_line, undone_line};
+use crate::course::Course;
+use crate::lines::{line_bytes, refused_line, taken_line, undone_line, when_line};
 use crate::rows::Rows;
+use crate::task::{Task, task_of};
 use std::io::Write;
-use tsb_bench::{Answer, Bench, Cmd, Input, answer};
+use tsb_bench::{Answer, Bench, Cmd, Input};
 use tsb_command_text::Command;
 use tsb_dialog::{Pending, WriteError};
+use tsb_objects::Refusal;
 
-/// Carries out a command, and says its answer. Ticks take their rows from `rows`. At an error the command may have been
-/// carried out, and a first part of its answer was said.
+/// Carries out a command, says its answer, and tells why it was refused, if it was. Ticks take their rows from `rows`;
+/// `echo` is said before an answer that is no display line. At an error the command may have been carried out, and a
+/// first part of its answer was said.
 pub fn obey<W: Write>(
-    bench: &mut Bench,
+    course: &mut Course,
     rows: &mut Rows,
     command: Command,
+    echo: &[u8],
     pending: &mut Pending,
     writer: &mut W,
-) -> Result<(), WriteError>
-    ensures done { (given : Setup) (inputs : List InputValue) → Stands given (rows_in rows.old) (whole bench.old) inputs
-        → Done result given (rows_in rows.old) (whole bench.new) (Answers given inputs command) (W.contents writer.old) (W.contents writer.new) pending.old.waits pending.new.waits }
+) -> Result<Option<Refusal>, WriteError>
+    ensures done { (given : Setup) (inputs : List InputValue) → Stands given (rows_in rows.old) course.old inputs
+        → Done result given (rows_in rows.old) course.new (Obeys given (besides_of course.old echo.now) inputs (task_of command)) (W.contents writer.old) (W.contents writer.new) pending.old.waits pending.new.waits }
     ensures rows { rows_in rows.new ≡ rows_in rows.old }
+    ensures mode { course.new.mode ≡ course.old.mode }
     ensures blame { IsWell pending.old → AfterWrites result pending.new }
 {
-    match command {
-        Command::Step(ticks) => step(bench, rows, ticks, pending, writer),
-        Command::Show => pending.say(writer, &line_bytes(bench)),
-        Command::Quit => Ok(()),
-        Command::Back(ticks) => ask(bench, Cmd::Back(ticks), pending, writer),
-        Command::Seek(tick) => ask(bench, Cmd::Seek(tick), pending, writer),
-        Command::Undo => ask(bench, Cmd::Undo, pending, writer),
-        Command::When(watch) => ask(bench, Cmd::When(watch), pending, writer),
-        Command::Begin(station) => apply(bench, Input::Begin(station), pending, writer),
-        Command::Set(station, id, value) => {
-            apply(bench, Input::Set(station, id, value), pending, writer)
+    match task_of(command) {
+        Task::Ticks(ticks) => step(course, rows, ticks, echo, pending, writer),
+        Task::Show => {
+            pending.say(writer, &line_bytes(course.bench()))?;
+            Ok(None)
         }
-        Command::Verify(station) => apply(bench, Input::Verify(station), pending, writer),
-        Command::Commit(station) => apply(bench, Input::Commit(station), pending, writer),
-        Command::Abort(station) => apply(bench, Input::Abort(station), pending, writer),
-        Command::Pattern(number) => apply(bench, Input::Pattern(number), pending, writer),
-        Command::Preempt(number, on) => apply(bench, Input::Switch(number, on), pending, writer),
-        Command::Fault(lamp) => apply(bench, Input::Fault(lamp), pending, writer),
-        Command::Reset => apply(bench, Input::Reset, pending, writer),
+        Task::Quit => Ok(None),
+        Task::Ask(command) => ask(course, command, echo, pending, writer),
     }
 }
 
 /// So many ticks, with a display line after each, up to one that is refused.
 fn step<W: Write>(
-    bench: &mut Bench,
+    course: &mut Course,
     rows: &mut Rows,
     ticks: u32,
+    echo: &[u8],
     pending: &mut Pending,
     writer: &mut W,
-) -> Result<(), WriteError>
-    ensures done { (given : Setup) (inputs : List InputValue) → Stands given (rows_in rows.old) (whole bench.old) inputs
-        → Done result given (rows_in rows.old) (whole bench.new) (Steps given inputs ticks) (W.contents writer.old) (W.contents writer.new) pending.old.waits pending.new.waits }
+) -> Result<Option<Refusal>, WriteError>
+    ensures done { (given : Setup) (inputs : List InputValue) → Stands given (rows_in rows.old) course.old inputs
+        → Done result given (rows_in rows.old) course.new (TakesTicks given (besides_of course.old echo.now) inputs ticks) (W.contents writer.old) (W.contents writer.new) pending.old.waits pending.new.waits }
     ensures rows { rows_in rows.new ≡ rows_in rows.old }
+    ensures mode { course.new.mode ≡ course.old.mode }
     ensures blame { IsWell pending.old → AfterWrites result pending.new }
 {
     for _i in 0..ticks {
-        let row = rows.row(next_tick(bench));
-        match bench.apply(Input::Tick(row)) {
-            Ok(()) => pending.say(writer, &line_bytes(bench))?,
-            Err(refusal) => return pending.say(writer, refused_line(refusal)),
+        let row = rows.row(next_tick(course.bench()));
+        match course.take(Input::Tick(row)) {
+            Ok(()) => say_tick(course, pending, writer)?,
+            Err(refusal) => return say_refusal(&refusal, echo, pending, writer),
         }
     }
-    Ok(())
+    Ok(None)
 }
 
 /// The number of the next tick.
@@ -84,53 +82,102 @@ fn next_tick(bench: &Bench) -> u32
     bench.now() + 1
 }
 
-/// Applies an input, and says the line of the answer.
-fn apply<W: Write>(
-    bench: &mut Bench,
-    input: Input,
+/// Says what a tick has told, and the display line after it.
+pub fn say_tick<W: Write>(
+    course: &Course,
     pending: &mut Pending,
     writer: &mut W,
 ) -> Result<(), WriteError>
-    ensures done { (given : Setup) (log : List LogRow) (inputs : List InputValue) → Stands given log (whole bench.old) inputs
-        → Done result given log (whole bench.new) (Asked given inputs (Apply input)) (W.contents writer.old) (W.contents writer.new) pending.old.waits pending.new.waits }
+    ensures said { SaidUntilFault result (W.contents writer.old) (W.contents writer.new) pending.old.waits pending.new.waits (news_in course.now ++ with_feed (display_line (state_of course.now.bench))) }
     ensures blame { IsWell pending.old → AfterWrites result pending.new }
 {
-    ask(bench, Cmd::Apply(input), pending, writer)
+    course.say_news(pending, writer)?;
+    pending.say(writer, &line_bytes(course.bench()))
 }
 
-/// Asks the bench, and says the line of its answer.
+/// Says that something was refused, and tells why.
+pub fn say_refusal<W: Write>(
+    refusal: &Refusal,
+    echo: &[u8],
+    pending: &mut Pending,
+    writer: &mut W,
+) -> Result<Option<Refusal>, WriteError>
+    ensures said { SaidUntilFault result (W.contents writer.old) (W.contents writer.new) pending.old.waits pending.new.waits (echo.now ++ with_feed (refused_line refusal.now)) }
+    ensures told { OnOk result (result ≡ Ok (Some refusal.now)) }
+    ensures blame { IsWell pending.old → AfterWrites result pending.new }
+{
+    pending.add(writer, echo)?;
+    pending.say(writer, refused_line(*refusal))?;
+    Ok(Some(*refusal))
+}
+
+/// Asks the bench, says its answer, and tells why it refused an input, if it did.
 fn ask<W: Write>(
-    bench: &mut Bench,
+    course: &mut Course,
     command: Cmd,
+    echo: &[u8],
+    pending: &mut Pending,
+    writer: &mut W,
+) -> Result<Option<Refusal>, WriteError>
+    ensures done { (given : Setup) (log : List LogRow) (inputs : List InputValue) → Stands given log course.old inputs
+        → Done result given log course.new (AsksOnce given (besides_of course.old echo.now) inputs command) (W.contents writer.old) (W.contents writer.new) pending.old.waits pending.new.waits }
+    ensures mode { course.new.mode ≡ course.old.mode }
+    ensures blame { IsWell pending.old → AfterWrites result pending.new }
+{
+    let answer = course.answer(command);
+    say_before(course, &answer, echo, pending, writer)?;
+    say_answer(course.bench(), &command, &answer, pending, writer)?;
+    Ok(refusal_in(&answer))
+}
+
+/// Says what stands before the line of an answer.
+fn say_before<W: Write>(
+    course: &Course,
+    answer: &Answer,
+    echo: &[u8],
     pending: &mut Pending,
     writer: &mut W,
 ) -> Result<(), WriteError>
-    ensures done { (given : Setup) (log : List LogRow) (inputs : List InputValue) → Stands given log (whole bench.old) inputs
-        → Done result given log (whole bench.new) (Asked given inputs command) (W.contents writer.old) (W.contents writer.new) pending.old.waits pending.new.waits }
+    ensures said { SaidUntilFault result (W.contents writer.old) (W.contents writer.new) pending.old.waits pending.new.waits (before_line echo.now answer.now (news_in course.now)) }
     ensures blame { IsWell pending.old → AfterWrites result pending.new }
 {
-    match answer(bench, command) {
-        Answer::Took => pending.say(writer, taken_line(&command, bench)),
+    match *answer {
+        Answer::Took => {
+            pending.add(writer, echo)?;
+            course.say_news(pending, writer)
+        }
+        Answer::Moved => Ok(()),
+        _ => pending.add(writer, echo),
+    }
+}
+
+/// Says the line of an answer of the bench to this command.
+fn say_answer<W: Write>(
+    bench: &Bench,
+    command: &Cmd,
+    answer: &Answer,
+    pending: &mut Pending,
+    writer: &mut W,
+) -> Result<(), WriteError>
+    ensures said { SaidUntilFault result (W.contents writer.old) (W.contents writer.new) pending.old.waits pending.new.waits (with_feed (told command.now answer.now (state_of bench.now))) }
+    ensures blame { IsWell pending.old → AfterWrites result pending.new }
+{
+    match *answer {
+        Answer::Took => pending.say(writer, taken_line(command, bench)),
         Answer::Refused(refusal) => pending.say(writer, refused_line(refusal)),
         Answer::Undone(kind) => pending.say(writer, undone_line(kind)),
         Answer::Moved => pending.say(writer, &line_bytes(bench)),
         Answer::Nothing => pending.say(writer, b"nothing"),
-        Answer::Changed(tick) => say_change(tick, pending, writer),
+        Answer::Changed(tick) => pending.say(writer, &when_line(tick)),
     }
 }
 
-/// Says the tick number of a last change.
-fn say_change<W: Write>(
-    tick: Option<u32>,
-    pending: &mut Pending,
-    writer: &mut W,
-) -> Result<(), WriteError>
-    ensures ok { OnOk result (Said (W.contents writer.old) (W.contents writer.new) pending.old.waits pending.new.waits (with_feed (when_line tick))) }
-    ensures fault { OnErr result (Said (W.contents writer.old) (W.contents writer.new) pending.old.waits pending.new.waits []) }
-    ensures blame { IsWell pending.old → AfterWrites result pending.new }
+/// Why the bench refused an input, if it did.
+fn refusal_in(answer: &Answer) -> Option<Refusal>
+    ensures { result ≡ refusal_in answer.now }
 {
-    match tick {
-        Some(tick) => pending.say(writer, &tick_line(tick)),
-        None => pending.say(writer, b"never"),
+    match *answer {
+        Answer::Refused(refusal) => Some(refusal),
+        _ => None,
     }
 }

@@ -4,16 +4,23 @@
 #![tactic(auto)]
 
 mod answers;
+mod course;
 mod error;
+mod events;
+pub mod faults;
 mod lines;
 mod rows;
 mod run;
+mod task;
 
-pub use answers::obey;
+pub use answers::{obey, say_refusal, say_tick};
+pub use course::{Course, Mode};
 pub use error::SessionError;
-pub use lines::{line, line_bytes, refused_line};
+pub use faults::{LineFault, OnFault, fault_line, fault_words};
+pub use lines::{line, line_bytes, refused_line, when_line};
 pub use rows::Rows;
 pub use run::{COMMANDS, session};
+pub use task::{Task, task_of};
 pub use tsb_bench::{Bench, Kind};
 pub use tsb_command_text::{Command, read_command};
 pub use tsb_log_text::{LIMIT as LOG_LIMIT, Log, LogError, read_log};

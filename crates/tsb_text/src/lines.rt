@@ -1,11 +1,10 @@
 //! The lines of answers, without their line feeds.
 
-ghost use Rattle.std.specs.Prelude.{◌≡◌, ◌≤◌, ◌++◌, codes, length};
-ghost use Rattle.tsb_display_text.specs.Line.{tick_field};
-ghost use Rattle.tsb_text.specs.Answers.{busy_line, display_line, refused_line, taken_line, undone_line, verified_line};
+ghost use Rattle.std.specs.Prelude.{◌≡◌, ◌≤◌, length};
+ghost use Rattle.tsb_text.specs.Answers.{busy_line, display_line, refused_line, taken_line, undone_line, verified_line, when_line};
 ghost use Rattle.tsb_bench.specs.Held.{state_of};
 
-use arrayvec::ArrayString;
+use arrayvec::{ArrayString, ArrayVec};
 use tsb_bench::{Bench, Cmd, Input, Kind};
 use tsb_display_text::LineBytes;
 use tsb_lines::seven_digits;
@@ -73,11 +72,18 @@ fn verified_line(found: Option<Rule>) -> &'static [u8]
 }
 
 /// The line that gives the tick number of the last change.
-pub(crate) fn tick_line(tick: u32) -> [u8; 12]
-    ensures { result ≡ codes "tick " ++ tick_field tick }
+pub fn when_line(tick: Option<u32>) -> ArrayVec<u8, 12>
+    ensures line { result.items ≡ when_line tick }
+    ensures short { length result.items ≤ 12 }
 {
-    let [a, b, c, d, e, f, g] = seven_digits(tick);
-    [b't', b'i', b'c', b'k', b' ', a, b, c, d, e, f, g]
+    let mut line = ArrayVec::new();
+    let Some(tick) = tick else {
+        let _ = line.try_extend_from_slice(b"never");
+        return line;
+    };
+    let _ = line.try_extend_from_slice(b"tick ");
+    let _ = line.try_extend_from_slice(&seven_digits(tick));
+    line
 }
 
 /// The line of a refusal, with its number, E1 to E12, and its name. It has at most 63 bytes.

@@ -6,6 +6,7 @@ ghost use Rattle.tsb_text.specs.Ended.{Ended};
 ghost use Rattle.tsb_text.specs.Replies.{fault_of, flow_after};
 
 use crate::answers::obey;
+use crate::course::{Course, Mode};
 use crate::error::SessionError;
 use crate::rows::Rows;
 use std::alloc::Global;
@@ -25,19 +26,18 @@ const _: () = prove!(KEPT == LINE + 2);
 /// A bench that does what lines ask.
 #[derive(Drop)]
 struct Machine<'a> {
-    bench: Bench,
+    course: Course,
     rows: Rows<'a>,
 }
 
 impl Answers for Machine<'_> {
-    ghost use Rattle.tsb_bench.specs.Held.{whole};
-    ghost use Rattle.tsb_text.specs.Obeyed.{Stands};
+    ghost use Rattle.tsb_text.specs.Obeyed.{StandsPlain};
     ghost use Rattle.tsb_text.specs.Replies.{Stand, says};
     ghost use Rattle.tsb_text.specs.Rows.{rows_in};
 
     ghost State = { Stand };
 
-    ghost stands = { λ machine stand. Stands stand.given (rows_in machine.rows) (whole machine.bench) stand.inputs };
+    ghost stands = { λ machine stand. StandsPlain stand.given (rows_in machine.rows) machine.course stand.inputs };
 
     ghost says = { says };
 
@@ -56,7 +56,14 @@ impl Answers for Machine<'_> {
             }
             Reading::Do(command) => {
                 let flow = flow_after(&command);
-                obey(&mut self.bench, &mut self.rows, command, pending, writer)?;
+                obey(
+                    &mut self.course,
+                    &mut self.rows,
+                    command,
+                    b"",
+                    pending,
+                    writer,
+                )?;
                 Ok(flow)
             }
         }
@@ -103,8 +110,9 @@ pub fn session<R: Read, W: Write>(
     let Ok(bench) = Bench::power_up(alloc, plan) else {
         return Err(SessionError::Memory);
     };
+    let course = Course::new(alloc, bench, Mode::Plain);
     let rows = Rows::OfLog { log, place: 0 };
-    let mut machine = Machine { bench, rows };
+    let mut machine = Machine { course, rows };
     match converse(&mut machine, COMMANDS, reader, writer) {
         Ok(()) => Ok(()),
         Err(fault) => Err(fault_of(fault)),

@@ -12,12 +12,13 @@ use Rattle.std.specs.declared.option.Option.{Option}
 use Rattle.tsb_step.specs.declared.inputs.Input.{Input}
 use Rattle.tsb_command_text.specs.Readings.{reading}
 use Rattle.tsb_text.specs.Answers.{Setup, next_tick}
-use Rattle.tsb_record.specs.declared.faults.LineFault.{LineFault}
-use Rattle.tsb_record.specs.declared.faults.LineFault.TheVariants.{BadCommand}
-use Rattle.tsb_record.specs.declared.faults.OnFault.{OnFault}
-use Rattle.tsb_record.specs.declared.faults.OnFault.TheVariants.{GoOn, Stop}
+use Rattle.tsb_text.specs.declared.faults.LineFault.{LineFault}
+use Rattle.tsb_text.specs.declared.faults.LineFault.TheVariants.{BadCommand}
+use Rattle.tsb_text.specs.declared.faults.OnFault.{OnFault}
+use Rattle.tsb_text.specs.declared.faults.OnFault.TheVariants.{GoOn, Stop}
 use Rattle.tsb_record.specs.Ended.{BeginsLast}
-use Rattle.tsb_record.specs.Faults.{fault_line, fault_text, shown}
+use Rattle.tsb_text.specs.Faults.{shown}
+use Rattle.tsb_record.specs.Faults.{fault_line, fault_text}
 use Rattle.tsb_record.specs.Laws.{StoppedSo}
 use Rattle.tsb_record.specs.Leaves.{Come, Does, End, Ends, Follows, flow_after, quits, stop_at}
 use Rattle.tsb_record.proofs.StopLemmas.{no_line_stops_others}

@@ -1,28 +1,27 @@
-use Rattle.std.proofs.Common.{refl}
-use Rattle.tsb_bench.specs.tsb_machine.declared.commands.Answer.TheVariants.{Took, Refused, Undone, Moved, Nothing, Changed}
-use Rattle.tsb_text.proofs.AnswerLemmas.{ask-done}
+use Rattle.std.proofs.Common.{Ok, Err}
+use Rattle.std.proofs.lemmas.Result.{err_from_is_err_and}
+use Rattle.tsb_bench.specs.Held.{state_of}
+use Rattle.tsb_dialog.specs.Said.{with_feed}
+use Rattle.tsb_dialog.proofs.SaidLemmas.{said-more, still-cut, until-more}
+use Rattle.tsb_text.specs.Answers.{told}
+use Rattle.tsb_text.specs.Obeyed.{news_in}
+use Rattle.tsb_text.specs.Obeys.{before_line}
+use Rattle.tsb_text.proofs.AnswerLemmas.{answer-said, ask-done, ask-fault}
 use Rattle.tsb_text.proofs.answers.ask.Goals as goal
 
-pub returns-in-Took-clause-done : goal.returns-in-Took-clause-done
-returns-in-Took-clause-done g c given log is s =
-    ask-done _ given log is c.args.command c.args.bench.now c.answer.new.bench c.answer.result Took _ _ _ _ _ s c.answer.ensures.right c.in-Took.is c.taken_line.ensures.line c.say.ensures.ok c.say.ensures.fault
+pub returns-in_err-say_before-clause-done : goal.returns-in_err-say_before-clause-done
+returns-in_err-say_before-clause-done g c given log is s = let p = err_from_is_err_and c.from_residual.result c.from_residual.ensures.1 in
+    rw p.1 (ask-fault p.0 given log is c.args.command c.answer-answer.result c.answer-answer.new.self c.args.course.now.mode c.args.echo.now _ _ _ _ c.answer-answer.ensures.mode (c.answer-answer.ensures.right given log is s)
+    (still-cut _ _ _ _ (before_line c.args.echo.now c.answer-answer.result (news_in c.answer-answer.new.self)) (with_feed (told c.args.command c.answer-answer.result (state_of c.answer-answer.new.self.bench))) c.in_err-say_before.ensures.said))
 
-pub returns-in-Refused-clause-done : goal.returns-in-Refused-clause-done
-returns-in-Refused-clause-done g c given log is s =
-    ask-done _ given log is c.args.command c.args.bench.now c.answer.new.bench c.answer.result (Refused c.in-Refused.refusal) _ _ _ _ _ s c.answer.ensures.right c.in-Refused.is c.refused_line.ensures.line c.say-in-Refused.ensures.ok c.say-in-Refused.ensures.fault
+pub returns-in_err-say_answer-clause-done : goal.returns-in_err-say_answer-clause-done
+returns-in_err-say_answer-clause-done g c given log is s = let p = err_from_is_err_and c.from_residual-in_err-say_answer.result c.from_residual-in_err-say_answer.ensures.1 in
+    rw p.1 (ask-fault p.0 given log is c.args.command c.answer-answer.result c.answer-answer.new.self c.args.course.now.mode c.args.echo.now _ _ _ _ c.answer-answer.ensures.mode (c.answer-answer.ensures.right given log is s)
+    (until-more {T = Unit {0}} (Err p.0) _ _ _ _ _ _ (before_line c.args.echo.now c.answer-answer.result (news_in c.answer-answer.new.self)) (with_feed (told c.args.command c.answer-answer.result (state_of c.answer-answer.new.self.bench))) c.in_ok-say_before.ensures.said
+    (answer-said (Err p.0) c.args.command c.answer-answer.result c.bench.result.now c.answer-answer.new.self.bench _ _ _ _ c.bench.ensures c.in_err-say_answer.ensures.said)))
 
-pub returns-in-Undone-clause-done : goal.returns-in-Undone-clause-done
-returns-in-Undone-clause-done g c given log is s =
-    ask-done _ given log is c.args.command c.args.bench.now c.answer.new.bench c.answer.result (Undone c.in-Undone.kind) _ _ _ _ _ s c.answer.ensures.right c.in-Undone.is c.undone_line.ensures.line c.say-in-Undone.ensures.ok c.say-in-Undone.ensures.fault
-
-pub returns-in-Moved-clause-done : goal.returns-in-Moved-clause-done
-returns-in-Moved-clause-done g c given log is s =
-    ask-done _ given log is c.args.command c.args.bench.now c.answer.new.bench c.answer.result Moved _ _ _ _ _ s c.answer.ensures.right c.in-Moved.is c.line_bytes.ensures c.say-in-Moved.ensures.ok c.say-in-Moved.ensures.fault
-
-pub returns-in-Nothing-clause-done : goal.returns-in-Nothing-clause-done
-returns-in-Nothing-clause-done g c given log is s =
-    ask-done _ given log is c.args.command c.args.bench.now c.answer.new.bench c.answer.result Nothing _ _ _ _ _ s c.answer.ensures.right c.in-Nothing.is refl c.say-in-Nothing.ensures.ok c.say-in-Nothing.ensures.fault
-
-pub returns-in-Changed-clause-done : goal.returns-in-Changed-clause-done
-returns-in-Changed-clause-done g c given log is s =
-    ask-done _ given log is c.args.command c.args.bench.now c.answer.new.bench c.answer.result (Changed c.in-Changed.tick) _ _ _ _ _ s c.answer.ensures.right c.in-Changed.is refl c.say_change.ensures.ok c.say_change.ensures.fault
+pub returns-clause-done : goal.returns-clause-done
+returns-clause-done g c given log is s =
+    (ask-done given log is c.args.command c.answer-answer.result c.answer-answer.new.self c.args.course.now.mode c.args.echo.now c.refusal_in.result _ _ _ _ c.answer-answer.ensures.mode (c.answer-answer.ensures.right given log is s) c.refusal_in.ensures
+    (said-more _ _ _ _ _ _ (before_line c.args.echo.now c.answer-answer.result (news_in c.answer-answer.new.self)) (with_feed (told c.args.command c.answer-answer.result (state_of c.answer-answer.new.self.bench))) c.in_ok-say_before.ensures.said
+    (answer-said (Ok tt) c.args.command c.answer-answer.result c.bench.result.now c.answer-answer.new.self.bench _ _ _ _ c.bench.ensures c.in_ok-say_answer.ensures.said)))

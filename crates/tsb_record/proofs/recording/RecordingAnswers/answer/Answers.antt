@@ -1,7 +1,7 @@
 use Rattle.std.proofs.Common.{◌∙◌, ap, refl}
 use Rattle.std.proofs.lemmas.Result.{err_from_is_err_and}
 use Rattle.tsb_bench.specs.Held.{whole}
-use Rattle.tsb_record.specs.declared.faults.OnFault.{OnFault}
+use Rattle.tsb_text.specs.declared.faults.OnFault.{OnFault}
 use Rattle.tsb_record.specs.Faults.{fault_text}
 use Rattle.tsb_record.specs.Leaves.{Does, flow_after, stop_at}
 use Rattle.tsb_record.specs.Recording.{Done}

@@ -1,7 +1,7 @@
 use Rattle.std.proofs.Common.{◌≡◌, ◌∙◌, ◌≤◌, ℕ, List, ap, arith, length, map, min, take, take_all}
 use Rattle.std.proofs.lemmas.List.{take_min}
-use Rattle.tsb_record.specs.Faults.{shown_byte}
-use Rattle.tsb_record.proofs.faults.shown.Goals as goal
+use Rattle.tsb_text.specs.Faults.{shown_byte}
+use Rattle.tsb_text.proofs.faults.shown.Goals as goal
 
 pub returns-clause-text : goal.returns-clause-text
 returns-clause-text c =

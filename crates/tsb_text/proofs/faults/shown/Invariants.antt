@@ -1,6 +1,6 @@
 use Rattle.std.proofs.Common.{◌≡◌, length, map, take}
-use Rattle.tsb_record.specs.Faults.{shown_byte}
-use Rattle.tsb_record.proofs.faults.shown.Given as goal
+use Rattle.tsb_text.specs.Faults.{shown_byte}
+use Rattle.tsb_text.proofs.faults.shown.Given as goal
 
 abbrev pub invariant-loop-byte : goal.invariant-loop-byte
 invariant-loop-byte l = record {

@@ -1,0 +1,45 @@
+//! The lines of events.
+ghost use Rattle.std.specs.Prelude.{◌≡◌, ◌≤◌, length};
+ghost use Rattle.tsb_dialog.specs.Pended.{AfterWrites, IsWell};
+ghost use Rattle.tsb_dialog.specs.Said.{SaidUntilFault};
+ghost use Rattle.tsb_text.specs.Obeys.{event_line, events_text};
+
+use arrayvec::ArrayVec;
+use itoa::Buffer;
+use std::io::Write;
+use tsb_dialog::{Pending, WriteError};
+use tsb_lines::seven_digits;
+use tsb_types::Event;
+
+/// The greatest length of the line of an event, without its line feed, in bytes.
+const LINE: usize = 63;
+
+/// Says the lines of events.
+pub(crate) fn say_events<W: Write>(
+    events: &[Event],
+    pending: &mut Pending,
+    writer: &mut W,
+) -> Result<(), WriteError>
+    ensures said { SaidUntilFault result (W.contents writer.old) (W.contents writer.new) pending.old.waits pending.new.waits (events_text events.now) }
+    ensures blame { IsWell pending.old → AfterWrites result pending.new }
+{
+    for event in events {
+        pending.say(writer, &event_line(event))?;
+    }
+    Ok(())
+}
+
+/// The line of an event, without its line feed: its tick in seven digits, its code and its parameter.
+fn event_line(event: &Event) -> ArrayVec<u8, LINE>
+    ensures { result.items ≡ event_line event.now }
+{
+    let mut digits = Buffer::new();
+    let mut line = ArrayVec::new();
+    let _ = line.try_extend_from_slice(b"event ");
+    let _ = line.try_extend_from_slice(&seven_digits(event.tick));
+    let _ = line.try_extend_from_slice(b" ");
+    let _ = line.try_extend_from_slice(digits.format(event.code).as_bytes());
+    let _ = line.try_extend_from_slice(b" ");
+    let _ = line.try_extend_from_slice(digits.format(event.parameter).as_bytes());
+    line
+}
