@@ -10,4 +10,4 @@ use Rattle.tsb_program.specs.declared.failure.Failure.TheVariants.{Memory}
 abbrev pub TellsWords : WordsError → ℕ → Option (List ℕ) → Option (List ℕ) → Type 0
 TellsWords words.Memory status told tells = Fails Memory status told tells
 TellsWords words.Bad status told tells =
-    (status ≡ 2) × AppendsFront told tells (codes "usage: tsb_live PLAN\n")
+    (status ≡ 2) × AppendsFront told tells (codes "usage: tsb_live [--strict] PLAN\n")

@@ -6,22 +6,23 @@ ghost use Rattle.tsb_words.specs.declared.error.WordsError.{WordsError};
 ghost use Rattle.tsb_words.specs.LiveWords.{Spells};
 ghost use Rattle.tsb_text.specs.tsb_objects.Checked.{checked_plan};
 ghost use Rattle.tsb_live.specs.Lines.{TellsWords};
-ghost use Rattle.tsb_live.specs.Ends.{Did, Ran, Talked};
+ghost use Rattle.tsb_live.specs.Ends.{Did, Ran, Talked, after_fault};
 
 use std::alloc::Global;
 use std::convert::AsStr;
 use std::io::{Read, Write};
 use tsb_live_text::live;
 use tsb_program::{Failure, Files, Status, fail, plan_of, refuse, tell, tell_end};
-use tsb_text::Checked;
+use tsb_text::{Checked, OnFault, fault_line};
 use tsb_words::WordsError;
 use tsb_words::live::read_words;
 
 /// Does what the words ask for, the first of which is the program's name, and gives the status that the program ends
 /// with: 0 where all was done, 1 for a refused plan, 2 for bad words, 3 where a read, a write or memory failed, or where
-/// the lines are too large.
+/// the lines are too large, 4 where a line ended a strict run.
 ///
-/// What is answered goes to `output`. The fault that ends a run goes to `errors`, and so do bad words and failures.
+/// What is answered goes to `output`. The fault that ends a run goes to `errors`, and so do the line that ends a strict
+/// one, bad words and failures.
 pub fn run_words<S: AsStr, F: Files, R: Read, W: Write, E: Write>(
     alloc: Global,
     words: &[S],
@@ -35,10 +36,8 @@ pub fn run_words<S: AsStr, F: Files, R: Read, W: Write, E: Write>(
 {
     match read_words(alloc, words) {
         Ok(asked) => {
-            if asked.is_strict {
-                return tell_words_fault(errors, WordsError::Bad);
-            }
-            run(alloc, asked.plan, files, input, output, errors)
+            let on_fault = after_fault(asked.is_strict);
+            run(alloc, asked.plan, on_fault, files, input, output, errors)
         }
         Err(fault) => tell_words_fault(errors, fault),
     }
@@ -50,7 +49,22 @@ pub fn tell_words_fault<E: Write>(errors: &mut E, fault: WordsError) -> u8
 {
     match fault {
         WordsError::Memory => fail(errors, Failure::Memory),
-        WordsError::Bad => tell(errors, Status::BadWords, b"usage: tsb_live PLAN\n"),
+        WordsError::Bad => tell(
+            errors,
+            Status::BadWords,
+            b"usage: tsb_live [--strict] PLAN\n",
+        ),
+    }
+}
+
+/// What a run does after a line with which something is wrong.
+fn after_fault(is_strict: bool) -> OnFault
+    ensures { result ≡ after_fault is_strict }
+{
+    if is_strict {
+        OnFault::Stop
+    } else {
+        OnFault::GoOn
     }
 }
 
@@ -58,16 +72,17 @@ pub fn tell_words_fault<E: Write>(errors: &mut E, fault: WordsError) -> u8
 fn run<F: Files, R: Read, W: Write, E: Write>(
     alloc: Global,
     path: &str,
+    on_fault: OnFault,
     files: &F,
     input: &mut R,
     output: &mut W,
     errors: &mut E,
 ) -> u8
-    ensures { Ran result (F.bytes files.now path.now) (R.remaining input.old) (R.remaining input.new)
+    ensures { Ran result on_fault (F.bytes files.now path.now) (R.remaining input.old) (R.remaining input.new)
         (W.contents output.old) (W.contents output.new) (E.contents errors.old) (E.contents errors.new) }
 {
     match plan_of(alloc, files, path) {
-        Ok(plan) => talk(alloc, plan, input, output, errors),
+        Ok(plan) => talk(alloc, plan, on_fault, input, output, errors),
         Err(fault) => refuse(alloc, errors, fault),
     }
 }
@@ -76,15 +91,20 @@ fn run<F: Files, R: Read, W: Write, E: Write>(
 fn talk<R: Read, W: Write, E: Write>(
     alloc: Global,
     plan: Checked,
+    on_fault: OnFault,
     input: &mut R,
     output: &mut W,
     errors: &mut E,
 ) -> u8
-    ensures { Talked result (checked_plan plan) (R.remaining input.old) (R.remaining input.new)
+    ensures { Talked result on_fault (checked_plan plan) (R.remaining input.old) (R.remaining input.new)
         (W.contents output.old) (W.contents output.new) (E.contents errors.old) (E.contents errors.new) }
 {
-    match live(alloc, plan, input, output) {
-        Ok(()) => Status::Done.number(),
+    match live(alloc, plan, on_fault, input, output) {
+        Ok(None) => Status::Done.number(),
+        Ok(Some(stop)) => {
+            let line = fault_line(b"line ", stop.number, &stop.line, stop.fault);
+            tell(errors, Status::Stopped, &line)
+        }
         Err(fault) => tell_end(errors, fault),
     }
 }

@@ -1,22 +1,35 @@
 -- What is said of a line of a live run.
-use Rattle.std.proofs.Common.{◌≡◌, ℕ, List, [], ◌∷◌, ◌++◌, refl, sym, ap, ◌∙◌, append_assoc, Ok, Err, subst, OnOk, OnErr, inl, inr, ◌⊎◌, false}
+use Rattle.std.proofs.Common.{◌≡◌, ℕ, List, [], ◌∷◌, ◌++◌, Bool, true, false, None, Some, refl, sym, ap, ◌∙◌, Ok, Err, subst, inl, inr}
 use Rattle.std.specs.declared.option.Option.{Option}
 use Rattle.std.specs.declared.result.Result.{Result}
 use Rattle.tsb_bench.specs.Held.{Held, state_of, whole}
-use Rattle.tsb_bench.proofs.tsb_machine.PlayLemmas as past
 use Rattle.tsb_command_text.specs.declared.command.Command.{Command}
+use Rattle.tsb_kept.specs.Kept.{Keeping, kept_of, nothing_kept}
 use Rattle.tsb_lines.specs.declared.writes.WriteError.{WriteError}
-use Rattle.tsb_log_text.specs.declared.log.LogRow.{LogRow}
+use Rattle.tsb_plan_line.specs.PlanLine.{plan_text}
 use Rattle.tsb_step.specs.declared.inputs.Input.{Input}
-use Rattle.tsb_step.specs.Past.{controller}
-use Rattle.tsb_step.specs.State.{State, start}
+use Rattle.tsb_step.specs.Play.{Follows}
+use Rattle.tsb_step.specs.State.{State}
+use Rattle.tsb_step.specs.tsb_plan.Plan.{Plan}
+use Rattle.tsb_types.specs.Sets.{all_off}
+use Rattle.tsb_types.specs.declared.refusal.Refusal.{Refusal}
+use Rattle.tsb_types.specs.declared.refusal.Refusal.TheVariants.{Memory}
 use Rattle.tsb_types.specs.declared.row.Row.{Row}
 use Rattle.tsb_dialog.specs.declared.answers.Flow.{Flow}
-use Rattle.tsb_dialog.specs.Said.{Said, Wrote, with_feed}
+use Rattle.tsb_dialog.specs.Said.{IsCutShort, Said, SaidUntilFault, with_feed}
 use Rattle.tsb_dialog.specs.Says.{Answered}
-use Rattle.tsb_dialog.proofs.SaidLemmas.{said-more, said-nothing}
-use Rattle.tsb_text.specs.Answers.{Answers, display_line}
-use Rattle.tsb_text.specs.Obeyed.{Done, Stands}
+use Rattle.tsb_dialog.proofs.SaidLemmas.{said-nothing, until-more}
+use Rattle.tsb_text.specs.Answers.{display_line, refused_line}
+use Rattle.tsb_text.specs.declared.course.Mode.{Mode}
+use Rattle.tsb_text.specs.declared.course.Mode.TheVariants.{Plain, Keeping as KeepsInputs, Telling}
+use Rattle.tsb_text.specs.declared.faults.LineFault.{LineFault}
+use Rattle.tsb_text.specs.declared.faults.LineFault.TheVariants as faults
+use Rattle.tsb_text.specs.declared.faults.OnFault.{OnFault}
+use Rattle.tsb_text.specs.Obeyed.{Done, IsKept, Keeps, OnCourse, Stands, besides_of, mode_with, tells_in}
+use Rattle.tsb_text.specs.Obeys as session
+use Rattle.tsb_text.specs.Obeys.{Besides}
+use Rattle.tsb_text.specs.Tasks.{task_of}
+use Rattle.tsb_text.proofs.CourseLemmas.{course-begins, follows-state, is-kept}
 use Rattle.tsb_text.specs.declared.rows.Rows.TheVariants.{Held as HeldRow}
 use Rattle.tsb_text.specs.Rows.{rows_in}
 use Rattle.tsb_live_lines.specs.declared.command.LiveCommand.{LiveCommand}
@@ -25,111 +38,278 @@ use Rattle.tsb_live_lines.specs.declared.command.LiveReading.{LiveReading}
 use Rattle.tsb_live_lines.specs.declared.command.LiveReading.TheVariants.{Skip}
 use Rattle.tsb_live_lines.specs.LiveReadings.{live_reading}
 use Rattle.tsb_live_text.specs.Changes.{Changes}
-use Rattle.tsb_live_text.specs.Live.{AsksLive, Live, Obeys, Reads, Says, Tells, flow_in, present, setup, with_inputs}
-use Rattle.tsb_live_text.specs.Standing.{Does, SaysEither, SaysLine, StandsLive}
-use Rattle.tsb_live_text.specs.Ticked.{Ticked}
+use Rattle.tsb_live_text.specs.Live.{AsksLive, Leaves, Live, Reads, Says, Stopped, Tells, besides, echo_of, fault_by, flow_in, present, begun, setup, stop_in, stopped_at, with_echo, with_events, with_inputs, with_row, with_stop}
+use Rattle.tsb_live_text.specs.Standing.{Does, StandsLive, TellsOnce, TellsPlan}
 use Rattle.tsb_live_text.specs.declared.run.LiveRun.{LiveRun}
 
 -- ## Where a run stands
 
-pub present-state : (bench : Held) (row : Row) (s : Live) → StandsLive bench row s → state_of bench ≡ present s
-present-state bench row s stands = past.follows-state controller (start s.plan) (whole bench) s.inputs stands.follows
+pub present-state : (run : LiveRun) (s : Live) → StandsLive run s → state_of run.course.bench ≡ present s
+present-state run s stands = follows-state s.plan (whole run.course.bench) s.inputs stands.stands.follows
 
--- a session in which each tick has the row last given
-pub session-stands : (bench : Held) (row : Row) (s : Live) → StandsLive bench row s → Stands (setup s) (rows_in (HeldRow row)) (whole bench) s.inputs
-session-stands bench row s stands = record { same = ap (λ (r : Row). rows_in (HeldRow r)) (sym stands.given); follows = stands.follows }
+pub present-kept : (run : LiveRun) (s : Live) → StandsLive run s → run.course.kept ≡ kept_of s.plan s.inputs
+present-kept run s stands = is-kept run.course.mode run.course.kept s.plan s.inputs stands.keeps stands.stands.keeps
 
--- ## Commands of sessions
-
-pub does-obeyed : (r : Result (Unit {0}) WriteError) (s : Live) (row : Row) (bench : Held) (log : List LogRow) (c : Command) (a b : Option (List ℕ)) (p q : List ℕ) → row ≡ s.row
-    → Done r (setup s) log (whole bench) (Answers (setup s) s.inputs c) a b p q → Does r bench row (Obeys s c) a b p q
-does-obeyed (Ok u) s row bench log c a b p q given d =
-    (with_inputs d.0 s, record { follows = d.1.follows; given = given }, record { text = d.2.text; said = d.2.said; so = (d.0, d.2.so, refl) })
-does-obeyed (Err e) s row bench log c a b p q given d = record { text = d.text; said = d.said; so = (d.so.0, with_inputs d.so.1 s, (d.so.1, d.so.2, refl)) }
-
--- ## Ticks of which the changes are told
-
-pub does-changes : (r : Result (Unit {0}) WriteError) (s : Live) (row : Row) (old new : Held) (n : ℕ) (a b : Option (List ℕ)) (p q : List ℕ) → StandsLive old row s
-    → Ticked r s.plan (whole new) (Changes s.plan row s.inputs (display_line (state_of old)) false n) a b p q → Does r new row (AsksLive s (asks.Changes n)) a b p q
-does-changes r s row old new n a b p q stands t = at r t
+-- what is said besides
+pub same-besides : (run : LiveRun) (s : Live) (line echo : List ℕ) → StandsLive run s → echo ≡ echo_of run.echoes line → besides_of run.course echo ≡ besides s line
+same-besides run s line echo stands is = (λ j. let b : Besides = record { tells = stands.tells j; echo = same j } in b)
   where
-    as-live : (text : List ℕ) (left : List Input) → Changes s.plan row s.inputs (display_line (state_of old)) false n text left → Changes s.plan s.row s.inputs (display_line (present s)) false n text left
-    as-live text left c =
-        subst (λ (v : Row). Changes s.plan v s.inputs (display_line (present s)) false n text left) stands.given
-        (subst (λ (v : State). Changes s.plan row s.inputs (display_line v) false n text left) (present-state old row s stands) c)
+    same : echo ≡ echo_of s.echoes line
+    same = is ∙ ap (λ (b : Bool). echo_of b line) stands.echoes
 
-    at : (r : Result (Unit {0}) WriteError) → Ticked r s.plan (whole new) (Changes s.plan row s.inputs (display_line (state_of old)) false n) a b p q → Does r new row (AsksLive s (asks.Changes n)) a b p q
-    at (Ok u) t = (with_inputs t.0 s, record { follows = t.1; given = stands.given }, record { text = t.2.text; said = t.2.said; so = (t.0, as-live t.2.text t.0 t.2.so, refl) })
-    at (Err e) t = record { text = t.text; said = t.said; so = (t.so.0, with_inputs t.so.1 s, (t.so.1, as-live (t.text ++ t.so.0) t.so.1 t.so.2, refl)) }
+pub same-echo : (run : LiveRun) (s : Live) (line echo : List ℕ) → StandsLive run s → echo ≡ echo_of run.echoes line → echo ≡ echo_of s.echoes line
+same-echo run s line echo stands is = is ∙ ap (λ (b : Bool). echo_of b line) stands.echoes
 
--- ## Lines
+-- the mode stays one in which inputs are kept
+keeps-on : (old new : Mode) → new ≡ old → Keeps old → Keeps new
+keeps-on old new same k = subst Keeps (sym same) k
 
--- a line was said whole, or not at all
-pub says-line : (r : Result (Unit {0}) WriteError) (line : List ℕ) (a b : Option (List ℕ)) (p q : List ℕ) → OnOk r (Said a b p q (with_feed line)) → OnErr r (Said a b p q []) → SaysLine r line a b p q
-says-line (Ok u) line a b p q ok err = ok
-says-line (Err e) line a b p q ok err = record { text = []; said = err; so = (with_feed line, refl) }
-
--- the line was said, and now its end, or a first part of it
-pub says-end : (r : Result (Unit {0}) WriteError) (line end : List ℕ) (a b c : Option (List ℕ)) (p q w : List ℕ) → end ≡ 10 ∷ [] → Said a b p q line → OnOk r (Said b c q w end)
-    → Wrote b c q w (λ said. (rest : List ℕ) × (end ≡ said ++ rest)) → SaysLine r line a c p w
-says-end (Ok u) line end a b c p q w is said ok front = subst (λ (v : List ℕ). Said a c p w (line ++ v)) is (said-more a b c p q w line end said ok)
-says-end (Err e) line end a b c p q w is said ok front = record {
-  text = line ++ front.text;
-  said = said-more a b c p q w line front.text said front.said;
-  so = (front.so.0, ap (λ (v : List ℕ). line ++ v) (sym is ∙ front.so.1) ∙ sym (append_assoc line front.text front.so.0));
+-- the run after a command that left these inputs
+pub stands-on : (run new : LiveRun) (s : Live) (left : List Input) → StandsLive run s → Stands (setup s) (rows_in (HeldRow s.row)) new.course left → new.course.mode ≡ run.course.mode
+    → new.row ≡ run.row → new.echoes ≡ run.echoes → new.on_fault ≡ run.on_fault → new.stop ≡ run.stop → StandsLive new (with_inputs left s)
+stands-on run new s left stands course mode row echoes on_fault stop = record {
+  stands = course;
+  keeps = keeps-on run.course.mode new.course.mode mode stands.keeps;
+  row = row ∙ stands.row;
+  tells = ap tells_in mode ∙ stands.tells;
+  echoes = echoes ∙ stands.echoes;
+  on_fault = on_fault ∙ stands.on_fault;
+  stop = ap stop_in stop ∙ stands.stop;
 }
 
--- a first part of the line was said
-pub says-front : (e : WriteError) (line : List ℕ) (a b : Option (List ℕ)) (p q : List ℕ) → Wrote a b p q (λ said. (rest : List ℕ) × (line ≡ said ++ rest)) → SaysLine (Err e) line a b p q
-says-front e line a b p q front = record {
-  text = front.text;
-  said = front.said;
-  so = (front.so.0 ++ 10 ∷ [], ap with_feed front.so.1 ∙ append_assoc front.text front.so.0 (10 ∷ []));
+-- a row was given
+pub row-stands : (run new : LiveRun) (s : Live) (row : Row) → StandsLive run s → new.course ≡ run.course → new.row ≡ row → new.echoes ≡ run.echoes → new.on_fault ≡ run.on_fault → new.stop ≡ run.stop → StandsLive new (with_row row s)
+row-stands run new s row stands course given echoes on_fault stop = record {
+  stands = subst (λ (x : OnCourse). Stands (setup (with_row row s)) (rows_in (HeldRow row)) x s.inputs) (sym course) (record { same = refl; follows = stands.stands.follows; keeps = stands.stands.keeps });
+  keeps = subst (λ (x : OnCourse). Keeps x.mode) (sym course) stands.keeps;
+  row = given;
+  tells = ap (λ (x : OnCourse). tells_in x.mode) course ∙ stands.tells;
+  echoes = echoes ∙ stands.echoes;
+  on_fault = on_fault ∙ stands.on_fault;
+  stop = ap stop_in stop ∙ stands.stop;
 }
 
-pub does-tell : (r : Result (Unit {0}) WriteError) (s : Live) (row : Row) (bench : Held) (line wanted : List ℕ) (a b : Option (List ℕ)) (p q : List ℕ) → StandsLive bench row s → line ≡ wanted
-    → SaysLine r line a b p q → Does r bench row (Tells s wanted) a b p q
-does-tell (Ok u) s row bench line wanted a b p q stands is said = (s, stands, record { text = with_feed line; said = said; so = (ap with_feed is, refl) })
-does-tell (Err e) s row bench line wanted a b p q stands is wrote = record { text = wrote.text; said = wrote.said; so = (wrote.so.0, s, (sym wrote.so.1 ∙ ap with_feed is, refl)) }
+-- inputs tell their events from now on, or not
+mode-keeps : (on : Bool) (m : Mode) → Keeps m → Keeps (mode_with on m)
+mode-keeps on Plain k = absurd k
+mode-keeps true KeepsInputs k = tt
+mode-keeps false KeepsInputs k = tt
+mode-keeps true Telling k = tt
+mode-keeps false Telling k = tt
 
--- the plan, or that there is no memory for it
-pub does-plan : (r : Result (Unit {0}) WriteError) (s : Live) (row : Row) (bench : Held) (line other wanted : List ℕ) (a b : Option (List ℕ)) (p q : List ℕ) → StandsLive bench row s → line ≡ wanted
-    → SaysEither r line other a b p q → Does r bench row (λ text t. Tells s wanted text t ⊎ Tells s other text t) a b p q
-does-plan (Ok u) s row bench line other wanted a b p q stands is (inl said) = (s, stands, record { text = with_feed line; said = said; so = inl (ap with_feed is, refl) })
-does-plan (Ok u) s row bench line other wanted a b p q stands is (inr said) = (s, stands, record { text = with_feed other; said = said; so = inr (refl, refl) })
-does-plan (Err e) s row bench line other wanted a b p q stands is (inl wrote) = record { text = wrote.text; said = wrote.said; so = (wrote.so.0, s, inl (sym wrote.so.1 ∙ ap with_feed is, refl)) }
-does-plan (Err e) s row bench line other wanted a b p q stands is (inr wrote) = record { text = wrote.text; said = wrote.said; so = (wrote.so.0, s, inr (sym wrote.so.1, refl)) }
+mode-tells : (on : Bool) (m : Mode) → Keeps m → tells_in (mode_with on m) ≡ on
+mode-tells on Plain k = absurd k
+mode-tells true KeepsInputs k = refl
+mode-tells false KeepsInputs k = refl
+mode-tells true Telling k = refl
+mode-tells false Telling k = refl
+
+mode-kept : (on : Bool) (m : Mode) (kept : Keeping) (plan : Plan) (is : List Input) → Keeps m → IsKept m kept plan is → IsKept (mode_with on m) kept plan is
+mode-kept on Plain kept plan is k same = absurd k
+mode-kept true KeepsInputs kept plan is k same = same
+mode-kept false KeepsInputs kept plan is k same = same
+mode-kept true Telling kept plan is k same = same
+mode-kept false Telling kept plan is k same = same
+
+pub events-stands : (run new : LiveRun) (s : Live) (on : Bool) → StandsLive run s → new.course.mode ≡ mode_with on run.course.mode → new.course.bench ≡ run.course.bench → new.course.kept ≡ run.course.kept
+    → new.row ≡ run.row → new.echoes ≡ run.echoes → new.on_fault ≡ run.on_fault → new.stop ≡ run.stop → StandsLive new (with_events on s)
+events-stands run new s on stands mode bench kept row echoes on_fault stop = record {
+  stands = record {
+    same = stands.stands.same;
+    follows = subst (λ (b : Held). Follows s.plan (whole b) s.inputs) (sym bench) stands.stands.follows;
+    keeps = subst (λ (m : Mode). IsKept m new.course.kept s.plan s.inputs) (sym mode)
+        (subst (λ (k : Keeping). IsKept (mode_with on run.course.mode) k s.plan s.inputs) (sym kept) (mode-kept on run.course.mode run.course.kept s.plan s.inputs stands.keeps stands.stands.keeps));
+  };
+  keeps = subst Keeps (sym mode) (mode-keeps on run.course.mode stands.keeps);
+  row = row ∙ stands.row;
+  tells = ap tells_in mode ∙ mode-tells on run.course.mode stands.keeps;
+  echoes = echoes ∙ stands.echoes;
+  on_fault = on_fault ∙ stands.on_fault;
+  stop = ap stop_in stop ∙ stands.stop;
+}
+
+-- answers stand after their command from now on, or not
+pub echo-stands : (run new : LiveRun) (s : Live) (on : Bool) → StandsLive run s → new.course ≡ run.course → new.row ≡ run.row → new.echoes ≡ on → new.on_fault ≡ run.on_fault → new.stop ≡ run.stop → StandsLive new (with_echo on s)
+echo-stands run new s on stands course row echoes on_fault stop = record {
+  stands = subst (λ (x : OnCourse). Stands (setup s) (rows_in (HeldRow s.row)) x s.inputs) (sym course) stands.stands;
+  keeps = subst (λ (x : OnCourse). Keeps x.mode) (sym course) stands.keeps;
+  row = row ∙ stands.row;
+  tells = ap (λ (x : OnCourse). tells_in x.mode) course ∙ stands.tells;
+  echoes = echoes;
+  on_fault = on_fault ∙ stands.on_fault;
+  stop = ap stop_in stop ∙ stands.stop;
+}
+
+-- at power-up
+pub run-begins : (on_fault : OnFault) (plan : Plan) (run : LiveRun) → run.course.mode ≡ KeepsInputs → run.on_fault ≡ on_fault → Follows plan (whole run.course.bench) [] → run.course.kept ≡ nothing_kept → run.row ≡ all_off
+    → run.echoes ≡ false → run.stop ≡ None → StandsLive run (begun on_fault plan)
+run-begins on_fault plan run mode strict follows kept row echoes stop = record {
+  stands = course-begins (setup (begun on_fault plan)) (rows_in (HeldRow all_off)) run.course refl follows kept;
+  keeps = subst Keeps (sym mode) tt;
+  row = row;
+  tells = ap tells_in mode;
+  echoes = echoes;
+  on_fault = strict;
+  stop = ap stop_in stop;
+}
+
+-- ## Answers that may be that something was refused
+
+-- what is said of an answer of the bench is an answer of the run
+abbrev Carries : (List ℕ → Option Refusal → List Input → Type 0) → (List ℕ → Option Refusal → List Input → Type 0) → Type 0
+Carries P Q = (text : List ℕ) (refusal : Option Refusal) (left : List Input) → P text refusal left → Q text refusal left
+
+pub does-leave : (P Q : List ℕ → Option Refusal → List Input → Type 0) (refusal : Option Refusal) (fault : Option LineFault) (run new : LiveRun) (s : Live) (a b : Option (List ℕ)) (p q : List ℕ)
+    → StandsLive run s → new.course.mode ≡ run.course.mode → new.row ≡ run.row → new.echoes ≡ run.echoes → new.on_fault ≡ run.on_fault → new.stop ≡ run.stop
+    → Carries P Q → fault ≡ fault_by refusal → Done (Ok refusal) (setup s) (rows_in (HeldRow s.row)) new.course P a b p q → Does (Ok fault) new (Leaves s Q) a b p q
+does-leave P Q refusal fault run new s a b p q stands mode row echoes on_fault stop carries faults d = (
+  with_inputs d.0 s,
+  stands-on run new s d.0 stands d.1 mode row echoes on_fault stop,
+  record { text = d.2.text; said = d.2.said; so = (refusal, d.0, carries d.2.text refusal d.0 d.2.so, faults, refl) },
+)
+
+pub does-break : (P Q : List ℕ → Option Refusal → List Input → Type 0) (e : WriteError) (new : LiveRun) (s : Live) (a b : Option (List ℕ)) (p q : List ℕ)
+    → Carries P Q → Done (Err e) (setup s) (rows_in (HeldRow s.row)) new.course P a b p q → Does (Err e) new (Leaves s Q) a b p q
+does-break P Q e new s a b p q carries d = record {
+  text = d.text;
+  said = d.said;
+  so = (d.so.0, fault_by d.so.1, with_inputs d.so.2 s, (d.so.1, d.so.2, carries (d.text ++ d.so.0) d.so.1 d.so.2 d.so.3, refl, refl));
+}
+
+-- of a command of a session
+pub obeys-so : (run : LiveRun) (s : Live) (line echo : List ℕ) (c : Command) → StandsLive run s → echo ≡ echo_of run.echoes line
+    → Carries (session.Obeys (setup s) (besides_of run.course echo) s.inputs (task_of c)) (session.Obeys (setup s) (besides s line) s.inputs (task_of c))
+obeys-so run s line echo c stands is = λ text refusal left o. subst (λ (x : Besides). session.Obeys (setup s) x s.inputs (task_of c) text refusal left) (same-besides run s line echo stands is) o
+
+-- of ticks of which the changes are told
+pub changes-so : (run : LiveRun) (s : Live) (line echo : List ℕ) (n : ℕ) → StandsLive run s → echo ≡ echo_of run.echoes line
+    → Carries (Changes s.plan (besides_of run.course echo) run.row s.inputs (display_line (state_of run.course.bench)) false n)
+    (Changes s.plan (besides s line) s.row s.inputs (display_line (present s)) false n)
+changes-so run s line echo n stands is = λ text refusal left o.
+    subst (λ (x : Besides). Changes s.plan x s.row s.inputs (display_line (present s)) false n text refusal left) (same-besides run s line echo stands is)
+    (subst (λ (r : Row). Changes s.plan (besides_of run.course echo) r s.inputs (display_line (present s)) false n text refusal left) stands.row
+    (subst (λ (v : State). Changes s.plan (besides_of run.course echo) run.row s.inputs (display_line v) false n text refusal left) (present-state run s stands) o))
+
+-- the rows of a run are those of the row last given
+pub held-stands : (run : LiveRun) (s : Live) → StandsLive run s → Stands (setup s) (rows_in (HeldRow run.row)) run.course s.inputs
+held-stands run s stands = subst (λ (r : Row). Stands (setup s) (rows_in (HeldRow r)) run.course s.inputs) (sym stands.row) stands.stands
+
+pub held-done : (r : Result (Option Refusal) WriteError) (run : LiveRun) (course : OnCourse) (s : Live) (P : List ℕ → Option Refusal → List Input → Type 0) (a b : Option (List ℕ)) (p q : List ℕ)
+    → StandsLive run s → Done r (setup s) (rows_in (HeldRow run.row)) course P a b p q → Done r (setup s) (rows_in (HeldRow s.row)) course P a b p q
+held-done r run course s P a b p q stands d = subst (λ (x : Row). Done r (setup s) (rows_in (HeldRow x)) course P a b p q) stands.row d
+
+pub held-obeyed : (r : Result (Option Refusal) WriteError) (run : LiveRun) (course : OnCourse) (s : Live) (echo : List ℕ) (c : Command) (a b : Option (List ℕ)) (p q : List ℕ) → StandsLive run s
+    → Done r (setup s) (rows_in (HeldRow run.row)) course (session.Obeys (setup s) (besides_of run.course echo) s.inputs (task_of c)) a b p q
+    → Done r (setup s) (rows_in (HeldRow s.row)) course (session.Obeys (setup s) (besides_of run.course echo) s.inputs (task_of c)) a b p q
+held-obeyed r run course s echo c a b p q stands d = held-done r run course s (session.Obeys (setup s) (besides_of run.course echo) s.inputs (task_of c)) a b p q stands d
+
+-- ## Answers of one line
+
+-- echo, line and line feed, one after another
+pub told-end : (r : Result (Unit {0}) WriteError) (a b c d : Option (List ℕ)) (p q u v echo line feed : List ℕ) → feed ≡ 10 ∷ [] → Said a b p q echo → Said b c q u line → SaidUntilFault r c d u v feed
+    → SaidUntilFault r a d p v (echo ++ with_feed line)
+told-end r a b c d p q u v echo line feed is one two three =
+    subst (λ (x : List ℕ). SaidUntilFault r a d p v (echo ++ (line ++ x))) is (until-more r a b d p q v echo (line ++ feed) one (until-more r b c d q u v line feed two three))
+
+-- a first part of a text, after one that was said
+pub cut-more : (a b c : Option (List ℕ)) (p q u text x : List ℕ) → Said a b p q text → IsCutShort b c q u x → IsCutShort a c p u (text ++ x)
+cut-more a b c p q u text x said cut = until-more {T = Unit {0}} {E = Unit {0}} (Err tt) a b c p q u text x said cut
+
+-- the same line, told in another way
+pub cut-same : (a b : Option (List ℕ)) (p q echo line other : List ℕ) → line ≡ other → IsCutShort a b p q (echo ++ with_feed line) → IsCutShort a b p q (echo ++ with_feed other)
+cut-same a b p q echo line other same cut = subst (λ (l : List ℕ). IsCutShort a b p q (echo ++ with_feed l)) same cut
+
+pub said-same : (a b : Option (List ℕ)) (p q echo line other : List ℕ) → line ≡ other → Said a b p q (echo ++ with_feed line) → Said a b p q (echo ++ with_feed other)
+said-same a b p q echo line other same said = subst (λ (l : List ℕ). Said a b p q (echo ++ with_feed l)) same said
+
+-- a text was said, and this is what it says
+pub does-tell : (r : Result (Option LineFault) WriteError) (why : Option LineFault) (new : LiveRun) (s left : Live) (line echo answer wanted : List ℕ) (a b : Option (List ℕ)) (p q : List ℕ)
+    → StandsLive new left → echo ≡ echo_of s.echoes line → answer ≡ wanted → TellsOnce r why (echo ++ with_feed answer) a b p q
+    → Does r new (λ text fault t. Tells s line wanted why text fault left t) a b p q
+does-tell (Ok fault) why new s left line echo answer wanted a b p q stands is same t =
+    (left, stands, record { text = echo ++ with_feed answer; said = t.1; so = ((λ j. is j ++ with_feed (same j)), t.0, refl) })
+does-tell (Err e) why new s left line echo answer wanted a b p q stands is same t = record {
+  text = t.text;
+  said = t.said;
+  so = (t.so.0, why, left, (sym t.so.1 ∙ (λ j. is j ++ with_feed (same j)), refl, refl));
+}
+
+-- the line of the plan, or that there is no memory for it
+pub does-plan : (r : Result (Option LineFault) WriteError) (new : LiveRun) (s : Live) (line echo : List ℕ) (a b : Option (List ℕ)) (p q : List ℕ)
+    → StandsLive new s → echo ≡ echo_of s.echoes line → TellsPlan r (state_of new.course.bench).plan echo a b p q → Does r new (AsksLive s line asks.Plan) a b p q
+does-plan r new s line echo a b p q stands is (inl t) =
+    first r (does-tell r None new s s line echo (plan_text (state_of new.course.bench).plan) (plan_text (present s).plan) a b p q stands is
+    (ap (λ (v : State). plan_text v.plan) (present-state new s stands)) t)
+  where
+    first : (r : Result (Option LineFault) WriteError) → Does r new (λ text fault t. Tells s line (plan_text (present s).plan) None text fault s t) a b p q → Does r new (AsksLive s line asks.Plan) a b p q
+    first (Ok fault) d = (d.0, d.1, record { text = d.2.text; said = d.2.said; so = inl d.2.so })
+    first (Err e) d = record { text = d.text; said = d.said; so = (d.so.0, d.so.1, d.so.2, inl d.so.3) }
+does-plan r new s line echo a b p q stands is (inr t) =
+    second r (does-tell r (Some (faults.Refused Memory)) new s s line echo (refused_line Memory) (refused_line Memory) a b p q stands is refl t)
+  where
+    second : (r : Result (Option LineFault) WriteError) → Does r new (λ text fault t. Tells s line (refused_line Memory) (Some (faults.Refused Memory)) text fault s t) a b p q
+        → Does r new (AsksLive s line asks.Plan) a b p q
+    second (Ok fault) d = (d.0, d.1, record { text = d.2.text; said = d.2.said; so = inr d.2.so })
+    second (Err e) d = record { text = d.text; said = d.said; so = (d.so.0, d.so.1, d.so.2, inr d.so.3) }
+
+-- what was read is this
+pub does-read : (r : Result (Option LineFault) WriteError) (s : Live) (new : LiveRun) (line : List ℕ) (asked c : LiveReading) (a b : Option (List ℕ)) (p q : List ℕ) → asked ≡ c
+    → Does r new (Reads s line c) a b p q → Does r new (Reads s line asked) a b p q
+does-read r s new line asked c a b p q is d = subst (λ (x : LiveReading). Does r new (Reads s line x) a b p q) (sym is) d
 
 -- what was asked is this command
-pub does-as : (r : Result (Unit {0}) WriteError) (s : Live) (row : Row) (bench : Held) (asked c : LiveCommand) (a b : Option (List ℕ)) (p q : List ℕ) → asked ≡ c
-    → Does r bench row (AsksLive s c) a b p q → Does r bench row (AsksLive s asked) a b p q
-does-as r s row bench asked c a b p q is d = subst (λ (x : LiveCommand). Does r bench row (AsksLive s x) a b p q) (sym is) d
+pub does-as : (r : Result (Option LineFault) WriteError) (s : Live) (new : LiveRun) (line : List ℕ) (asked c : LiveCommand) (a b : Option (List ℕ)) (p q : List ℕ) → asked ≡ c
+    → Does r new (AsksLive s line c) a b p q → Does r new (AsksLive s line asked) a b p q
+does-as r s new line asked c a b p q is d = subst (λ (x : LiveCommand). Does r new (AsksLive s line x) a b p q) (sym is) d
 
 -- ## A line that was read
 
-abbrev pub StandsIn : LiveRun → Live → Type 0
-StandsIn run s = StandsLive run.bench run.row s
+-- it is noted that a line ended the run
+with-stop-stands : (run new : LiveRun) (s : Live) (stopped : Option Stopped) → StandsLive run s → new.course ≡ run.course → new.row ≡ run.row → new.echoes ≡ run.echoes → new.on_fault ≡ run.on_fault
+    → stop_in new.stop ≡ stopped → StandsLive new (with_stop stopped s)
+with-stop-stands run new s stopped stands course row echoes on_fault stop = record {
+  stands = subst (λ (x : OnCourse). Stands (setup s) (rows_in (HeldRow s.row)) x s.inputs) (sym course) stands.stands;
+  keeps = subst (λ (x : OnCourse). Keeps x.mode) (sym course) stands.keeps;
+  row = row ∙ stands.row;
+  tells = ap (λ (x : OnCourse). tells_in x.mode) course ∙ stands.tells;
+  echoes = echoes ∙ stands.echoes;
+  on_fault = on_fault ∙ stands.on_fault;
+  stop = stop;
+}
 
-pub answered-ok : (flow : Flow) (asked : LiveReading) (s : Live) (n : ℕ) (line : List ℕ) (run : LiveRun) (a b : Option (List ℕ)) (p q : List ℕ) → asked ≡ live_reading line → flow ≡ flow_in asked
-    → Does (Ok tt) run.bench run.row (Reads s asked) a b p q → Answered StandsIn (Says s n line) (Ok flow) run a b p q
-answered-ok flow asked s n line run a b p q reads flows d = (
-  d.0,
-  d.1,
-  record {
-    text = d.2.text;
-    said = d.2.said;
-    so = (subst (λ (x : LiveReading). Reads s x d.2.text d.0) reads d.2.so, flows ∙ ap flow_in reads);
-  },
-)
+pub answered-ok : (flow : Flow) (asked : LiveReading) (fault : Option LineFault) (s : Live) (n : ℕ) (line : List ℕ) (old run new : LiveRun) (a b : Option (List ℕ)) (p q : List ℕ) → StandsLive old s → asked ≡ live_reading line
+    → run.on_fault ≡ old.on_fault → Does (Ok fault) run (Reads s line asked) a b p q → new.course ≡ run.course → new.row ≡ run.row → new.echoes ≡ run.echoes → new.on_fault ≡ run.on_fault
+    → stop_in new.stop ≡ stopped_at run.on_fault n line fault → flow ≡ flow_in asked (stop_in new.stop) → Answered StandsLive (Says s n line) (Ok flow) new a b p q
+answered-ok flow asked fault s n line old run new a b p q stands reads kept d course row echoes on_fault stop flows =
+    let stopped : stop_in new.stop ≡ stopped_at s.on_fault n line fault = stop ∙ ap (λ (o : OnFault). stopped_at o n line fault) (kept ∙ stands.on_fault) in (
+      with_stop (stopped_at s.on_fault n line fault) d.0,
+      with-stop-stands run new d.0 (stopped_at s.on_fault n line fault) d.1 course row echoes on_fault stopped,
+      record {
+        text = d.2.text;
+        said = d.2.said;
+        so = record {
+          fault = fault;
+          left = d.0;
+          reads = subst (λ (x : LiveReading). Reads s line x d.2.text fault d.0) reads d.2.so;
+          stops = refl;
+          goes = flows ∙ (λ j. flow_in (reads j) (stopped j));
+        };
+      },
+    )
 
 pub answered-fault : (e : WriteError) (asked : LiveReading) (s : Live) (n : ℕ) (line : List ℕ) (run : LiveRun) (a b : Option (List ℕ)) (p q : List ℕ) → asked ≡ live_reading line
-    → Does (Err e) run.bench run.row (Reads s asked) a b p q → Answered StandsIn (Says s n line) (Err e) run a b p q
+    → Does (Err e) run (Reads s line asked) a b p q → Answered StandsLive (Says s n line) (Err e) run a b p q
 answered-fault e asked s n line run a b p q reads d = record {
   text = d.text;
   said = d.said;
-  so = (d.so.0, flow_in (live_reading line), d.so.1, (subst (λ (x : LiveReading). Reads s x (d.text ++ d.so.0) d.so.1) reads d.so.2, refl));
+  so = (
+    d.so.0,
+    flow_in (live_reading line) (stopped_at s.on_fault n line d.so.1),
+    with_stop (stopped_at s.on_fault n line d.so.1) d.so.2,
+    record { fault = d.so.1; left = d.so.2; reads = subst (λ (x : LiveReading). Reads s line x (d.text ++ d.so.0) d.so.1 d.so.2) reads d.so.3; stops = refl; goes = refl },
+  );
 }
 
 -- nothing was asked, and nothing was said
-pub does-skip : (s : Live) (row : Row) (bench : Held) (a : Option (List ℕ)) (p : List ℕ) → StandsLive bench row s → Does (Ok tt) bench row (Reads s Skip) a a p p
-does-skip s row bench a p stands = (s, stands, record { text = []; said = said-nothing a p; so = (refl, refl) })
+pub does-skip : (s : Live) (run : LiveRun) (line : List ℕ) (a : Option (List ℕ)) (p : List ℕ) → StandsLive run s → Does (Ok None) run (Reads s line Skip) a a p p
+does-skip s run line a p stands = (s, stands, record { text = []; said = said-nothing a p; so = (refl, refl, refl) })

@@ -1,16 +1,19 @@
 -- Ticks of which only the changes are told: what `changes N` answers.
-use Rattle.std.specs.Prelude.{◌≡◌, ◌⊎◌, ℕ, zero, suc, List, [], ◌∷◌, ◌++◌, Bool, true, false, bytes_eq, drop, take, not}
+use Rattle.std.specs.Prelude.{◌≡◌, ◌⊎◌, ℕ, zero, suc, List, [], ◌∷◌, ◌++◌, Bool, true, false, bytes_eq, drop, take, not, Option, Some, None}
 use Rattle.tsb_bench.specs.tsb_machine.declared.commands.Command.TheVariants.{Apply}
 use Rattle.tsb_bench.specs.tsb_machine.declared.commands.Answer.TheVariants.{Took, Refused}
+use Rattle.tsb_kept.specs.Kept.{last_row}
 use Rattle.tsb_step.specs.declared.inputs.Input.{Input}
 use Rattle.tsb_step.specs.declared.inputs.Input.TheVariants.{Tick}
 use Rattle.tsb_step.specs.tsb_plan.Plan.{Plan}
+use Rattle.tsb_step.specs.Events.{events_of}
 use Rattle.tsb_step.specs.Play.{IsRight}
 use Rattle.tsb_step.specs.Runs.{replay}
 use Rattle.tsb_types.specs.declared.refusal.Refusal.{Refusal}
 use Rattle.tsb_types.specs.declared.row.Row.{Row}
 use Rattle.tsb_dialog.specs.Said.{with_feed}
 use Rattle.tsb_text.specs.Answers.{display_line, refused_line}
+use Rattle.tsb_text.specs.Obeys.{Besides, if_told}
 
 -- the heads and the preempt of a display line: it without its tick number and without its local counter
 abbrev pub shown : List ℕ → List ℕ
@@ -29,17 +32,26 @@ owed false line = []
 abbrev pub line_after : Plan → List Input → List ℕ
 line_after plan is = display_line (replay plan is)
 
+-- what a tick tells that is taken: its events, where they are told, and the display line, if it shows another head or
+-- preempt than the line before
+abbrev pub tick_text : Plan → Besides → Row → List Input → List ℕ → List ℕ
+tick_text plan besides row is before = if_told besides.tells (events_of (last_row is) (replay plan is) (Tick row))
+    ++ owed (not (shows_same (line_after plan (Tick row ∷ is)) before)) (line_after plan (Tick row ∷ is))
+
 -- the tick is refused: the line before it is told, if it is owed, and the refusal
-abbrev pub Stopped : Plan → Row → List Input → List ℕ → Bool → List ℕ → List Input → Type 0
-Stopped plan row is before is_owed text new = (refusal : Refusal) × IsRight plan is (Apply (Tick row)) (Refused refusal)
-    × (text ≡ owed is_owed before ++ with_feed (refused_line refusal)) × (new ≡ is)
+pub record Stopped (plan : Plan) (besides : Besides) (row : Row) (is : List Input) (before : List ℕ) (is_owed : Bool) (text : List ℕ) (refusal : Option Refusal) (new : List Input) : Type 0 where
+  pub why : Refusal
+  pub right : IsRight plan is (Apply (Tick row)) (Refused why)
+  pub line : text ≡ owed is_owed before ++ (besides.echo ++ with_feed (refused_line why))
+  pub refused : refusal ≡ Some why
+  pub left : new ≡ is
 
 -- so many ticks with these inputs, up to one that is refused, after this display line, which is owed where it was not told.
 -- Each display line is told that shows another head or preempt than the line before, and the last.
-abbrev pub Changes : Plan → Row → List Input → List ℕ → Bool → ℕ → List ℕ → List Input → Type 0
-Changes plan row is before is_owed zero text new = (text ≡ owed is_owed before) × (new ≡ is)
-Changes plan row is before is_owed (suc n) text new =
+abbrev pub Changes : Plan → Besides → Row → List Input → List ℕ → Bool → ℕ → List ℕ → Option Refusal → List Input → Type 0
+Changes plan besides row is before is_owed zero text refusal new = (text ≡ owed is_owed before) × (refusal ≡ None) × (new ≡ is)
+Changes plan besides row is before is_owed (suc n) text refusal new =
     (IsRight plan is (Apply (Tick row)) Took × (rest : List ℕ)
-    × (text ≡ owed (not (shows_same (line_after plan (Tick row ∷ is)) before)) (line_after plan (Tick row ∷ is)) ++ rest)
-    × Changes plan row (Tick row ∷ is) (line_after plan (Tick row ∷ is)) (shows_same (line_after plan (Tick row ∷ is)) before) n rest new)
-    ⊎ Stopped plan row is before is_owed text new
+    × (text ≡ tick_text plan besides row is before ++ rest)
+    × Changes plan besides row (Tick row ∷ is) (line_after plan (Tick row ∷ is)) (shows_same (line_after plan (Tick row ∷ is)) before) n rest refusal new)
+    ⊎ Stopped plan besides row is before is_owed text refusal new

@@ -1,6 +1,9 @@
 -- What a live run has come to, and what it answers to each line.
-use Rattle.std.specs.Prelude.{◌≡◌, ◌⊎◌, ℕ, List, [], codes, false}
+use Rattle.std.specs.Prelude.{◌≡◌, ◌⊎◌, ℕ, List, [], ◌++◌, Bool, true, false, take, Option, Some, None, codes, option_map}
+use Rattle.tsb_kept.specs.Changed.{last_change, value_of}
+use Rattle.tsb_kept.specs.Kept.{kept_of}
 use Rattle.tsb_types.specs.Sets.{all_off}
+use Rattle.tsb_types.specs.declared.refusal.Refusal.{Refusal}
 use Rattle.tsb_types.specs.declared.refusal.Refusal.TheVariants.{Memory}
 use Rattle.tsb_types.specs.declared.row.Row.{Row}
 use Rattle.tsb_step.specs.declared.inputs.Input.{Input}
@@ -20,21 +23,42 @@ use Rattle.tsb_live_lines.specs.declared.command.LiveReading.TheVariants.{Skip, 
 use Rattle.tsb_live_lines.specs.LiveReadings.{live_reading}
 use Rattle.tsb_plan_line.specs.EditsLine.{edits_text}
 use Rattle.tsb_plan_line.specs.PlanLine.{plan_text}
+use Rattle.tsb_saved.specs.Saved.{saved_text}
 use Rattle.tsb_status_text.specs.StatusText.{status_text}
-use Rattle.tsb_text.specs.Answers.{Answers, Setup, display_line, refused_line}
+use Rattle.tsb_text.specs.Answers.{Setup, display_line, refused_line, when_line}
 use Rattle.tsb_text.specs.declared.rows.Rows.TheVariants.{Held}
+use Rattle.tsb_text.specs.Obeys as session
+use Rattle.tsb_text.specs.Obeys.{Besides}
 use Rattle.tsb_text.specs.Rows.{rows_in}
+use Rattle.tsb_text.specs.Tasks.{task_of}
+use Rattle.tsb_text.specs.declared.faults.LineFault.{LineFault}
+use Rattle.tsb_text.specs.declared.faults.LineFault.TheVariants as faults
+use Rattle.tsb_text.specs.declared.faults.OnFault.{OnFault}
+use Rattle.tsb_text.specs.declared.faults.OnFault.TheVariants.{Stop}
+use Rattle.tsb_live_text.specs.declared.stop.Stop as stop
 use Rattle.tsb_live_text.specs.Changes.{Changes}
+
+-- the line that ended a run: its number from 1 on, its first 200 bytes, and what was fault with it
+pub record Stopped : Type 0 where
+  pub number : ℕ
+  pub line : List ℕ
+  pub fault : LineFault
 
 -- the plan that the run began with, the inputs that remain, the newest first, and the row last given
 pub record Live : Type 0 where
   pub plan : Plan
   pub inputs : List Input
   pub row : Row
+  -- whether inputs tell their events, and whether answers that are no display lines stand after their command
+  pub tells : Bool
+  pub echoes : Bool
+  -- what the run does after a line with which something is wrong, and the line that ended it
+  pub on_fault : OnFault
+  pub stopped : Option Stopped
 
 -- at power-up; before the first row all inputs are off
-abbrev pub begun : Plan → Live
-begun plan = record { plan = plan; inputs = []; row = all_off }
+abbrev pub begun : OnFault → Plan → Live
+begun on_fault plan = record { plan = plan; inputs = []; row = all_off; tells = false; echoes = false; on_fault = on_fault; stopped = None }
 
 -- the state of the controller
 abbrev pub present : Live → State
@@ -42,46 +66,101 @@ present s = replay s.plan s.inputs
 
 -- a row was given
 abbrev pub with_row : Row → Live → Live
-with_row row s = record { plan = s.plan; inputs = s.inputs; row = row }
+with_row row s = record s { row = row }
 
 -- other inputs remain
 abbrev pub with_inputs : List Input → Live → Live
-with_inputs is s = record { plan = s.plan; inputs = is; row = s.row }
+with_inputs is s = record s { inputs = is }
+
+-- inputs tell their events from now on, or not
+abbrev pub with_events : Bool → Live → Live
+with_events on s = record s { tells = on }
+
+-- answers stand after their command from now on, or not
+abbrev pub with_echo : Bool → Live → Live
+with_echo on s = record s { echoes = on }
 
 -- a session in which each tick has the row last given
 abbrev pub setup : Live → Setup
 setup s = record { plan = s.plan; log = rows_in (Held s.row) }
 
+-- ## Answers
+
+-- what stands before an answer that is no display line: of the command the first 200 bytes
+abbrev pub echo_of : Bool → List ℕ → List ℕ
+echo_of true line = codes "> " ++ with_feed (take 200 line)
+echo_of false line = []
+
+-- what is said besides the answers of a session to this line
+abbrev pub besides : Live → List ℕ → Besides
+besides s line = record { tells = s.tells; echo = echo_of s.echoes line }
+
+-- what is fault with a line that is refused
+abbrev pub fault_by : Option Refusal → Option LineFault
+fault_by refusal = option_map faults.Refused refusal
+
+-- an answer that may be that something was refused, and the inputs that remain then
+abbrev pub Leaves : Live → (List ℕ → Option Refusal → List Input → Type 0) → List ℕ → Option LineFault → Live → Type 0
+Leaves s IsAnswer text fault t = (refusal : Option Refusal) × (left : List Input) × IsAnswer text refusal left × (fault ≡ fault_by refusal) × (t ≡ with_inputs left s)
+
 -- a command of `tsb run` is answered as in that session
-abbrev pub Obeys : Live → Command → List ℕ → Live → Type 0
-Obeys s c text t = (left : List Input) × Answers (setup s) s.inputs c text left × (t ≡ with_inputs left s)
+abbrev pub Obeys : Live → List ℕ → Command → List ℕ → Option LineFault → Live → Type 0
+Obeys s line c text fault t = Leaves s (session.Obeys (setup s) (besides s line) s.inputs (task_of c)) text fault t
 
--- a line is told, and nothing changes
-abbrev pub Tells : Live → List ℕ → List ℕ → Live → Type 0
-Tells s line text t = (text ≡ with_feed line) × (t ≡ s)
+-- ticks of which only the changes are told
+abbrev pub TellsChanges : Live → List ℕ → ℕ → List ℕ → Option LineFault → Live → Type 0
+TellsChanges s line n text fault t = Leaves s (Changes s.plan (besides s line) s.row s.inputs (display_line (present s)) false n) text fault t
 
--- a command that is asked live alone
-abbrev pub AsksLive : Live → LiveCommand → List ℕ → Live → Type 0
-AsksLive s (asks.Session c) text t = Obeys s c text t
-AsksLive s asks.Status text t = Tells s (status_text (status (present s))) text t
-AsksLive s (asks.Changes n) text t = (left : List Input) × Changes s.plan s.row s.inputs (display_line (present s)) false n text left × (t ≡ with_inputs left s)
+-- this is answered, and nothing else than this has become of it
+abbrev pub Tells : Live → List ℕ → List ℕ → Option LineFault → List ℕ → Option LineFault → Live → Live → Type 0
+Tells s line answer why text fault left t = (text ≡ echo_of s.echoes line ++ with_feed answer) × (fault ≡ why) × (t ≡ left)
+
+-- a command
+abbrev pub AsksLive : Live → List ℕ → LiveCommand → List ℕ → Option LineFault → Live → Type 0
+AsksLive s line (asks.Session c) text fault t = Obeys s line c text fault t
+AsksLive s line asks.Status text fault t = Tells s line (status_text (status (present s))) None text fault s t
+AsksLive s line (asks.Changes n) text fault t = TellsChanges s line n text fault t
 -- where there is no memory for the line of the plan, that is told
-AsksLive s asks.Plan text t = Tells s (plan_text (present s).plan) text t ⊎ Tells s (refused_line Memory) text t
-AsksLive s asks.Edits text t = Tells s (edits_text (present s).desk) text t
-AsksLive s c text t = Tells s (codes "bad command") text t
+AsksLive s line asks.Plan text fault t = Tells s line (plan_text (present s).plan) None text fault s t
+    ⊎ Tells s line (refused_line Memory) (Some (faults.Refused Memory)) text fault s t
+AsksLive s line asks.Edits text fault t = Tells s line (edits_text (present s).desk) None text fault s t
+AsksLive s line (asks.Events on) text fault t = Tells s line (codes "ok") None text fault (with_events on s) t
+AsksLive s line (asks.Echo on) text fault t = Tells s line (codes "ok") None text fault (with_echo on s) t
+AsksLive s line (asks.When which) text fault t = Tells s line (when_line (last_change (value_of which) s.plan s.inputs)) None text fault s t
+AsksLive s line asks.Save text fault t = Tells s line (saved_text (kept_of s.plan s.inputs) (present s).now) None text fault s t
 
--- whether a run goes on after a line
-abbrev pub flow_in : LiveReading → Flow
-flow_in (Ask (asks.Session Quit)) = Over
-flow_in asked = On
+-- what is answered to what a line asks, and what is fault with it, if something is
+abbrev pub Reads : Live → List ℕ → LiveReading → List ℕ → Option LineFault → Live → Type 0
+Reads s line Skip text fault t = (text ≡ []) × (fault ≡ None) × (t ≡ s)
+Reads s line Bad text fault t = Tells s line (codes "bad command") (Some faults.BadCommand) text fault s t
+Reads s line (Tick row) text fault t = Obeys (with_row row s) line (Step 1) text fault t
+Reads s line (Ask c) text fault t = AsksLive s line c text fault t
 
--- what is answered to what a line asks
-abbrev pub Reads : Live → LiveReading → List ℕ → Live → Type 0
-Reads s Skip text t = (text ≡ []) × (t ≡ s)
-Reads s Bad text t = Tells s (codes "bad command") text t
-Reads s (Tick row) text t = Obeys (with_row row s) (Step 1) text t
-Reads s (Ask c) text t = AsksLive s c text t
+-- ## The end
 
--- what may be said to a line, whatever its number
-abbrev pub Says : Live → ℕ → List ℕ → List ℕ → Flow → Live → Type 0
-Says s n line text flow t = Reads s (live_reading line) text t × (flow ≡ flow_in (live_reading line))
+-- a line with which something is wrong ends a strict run
+abbrev pub stopped_at : OnFault → ℕ → List ℕ → Option LineFault → Option Stopped
+stopped_at Stop number line (Some fault) = Some (record { number = number; line = take 200 line; fault = fault })
+stopped_at on_fault number line fault = None
+
+-- the line that a call gave
+abbrev pub stop_in : Option stop.Stop → Option Stopped
+stop_in s = option_map (λ (x : stop.Stop). record { number = x.number; line = x.line.items; fault = x.fault }) s
+
+-- it is noted
+abbrev pub with_stop : Option Stopped → Live → Live
+with_stop stopped s = record s { stopped = stopped }
+
+-- whether a run goes on after what a line asked, where this ended it
+abbrev pub flow_in : LiveReading → Option Stopped → Flow
+flow_in asked (Some stopped) = Over
+flow_in (Ask (asks.Session Quit)) None = Over
+flow_in asked None = On
+
+-- what may be said to a line
+pub record Says (s : Live) (number : ℕ) (line text : List ℕ) (flow : Flow) (t : Live) : Type 0 where
+  pub fault : Option LineFault
+  pub left : Live
+  pub reads : Reads s line (live_reading line) text fault left
+  pub stops : t ≡ with_stop (stopped_at s.on_fault number line fault) left
+  pub goes : flow ≡ flow_in (live_reading line) (stopped_at s.on_fault number line fault)

@@ -7,21 +7,27 @@ use Rattle.tsb_dialog.specs.Ended.{Ended}
 use Rattle.tsb_step.specs.tsb_plan.Plan.{Plan}
 use Rattle.tsb_text.specs.declared.error.SessionError.{SessionError}
 use Rattle.tsb_text.specs.declared.error.SessionError.TheVariants.{Memory, Read, Write, TooLarge}
+use Rattle.tsb_text.specs.declared.faults.OnFault.{OnFault}
 use Rattle.tsb_live_text.specs.declared.run.TheConstants.{BYTES}
-use Rattle.tsb_live_text.specs.Live.{Live, Says, begun}
+use Rattle.tsb_live_text.specs.declared.stop.Stop.{Stop}
+use Rattle.tsb_live_text.specs.Live.{Live, Says, Stopped, begun, stop_in}
 
--- it is known of no machine where it stands
-abbrev pub Somewhere : Unit {0} → Live → Type 0
-Somewhere u s = Unit {0}
+-- it is known of the run which line ended it, if one did
+abbrev pub HasStopped : Option Stopped → Live → Type 0
+HasStopped stopped s = stopped ≡ s.stopped
 
--- a dialog whose lines are answered live, which began at power-up, ended so
-abbrev pub EndedAs : Result (Unit {0}) DialogError → Plan → Option (List ℕ) → Option (List ℕ) → Option (List ℕ) → Option (List ℕ) → Type 0
-EndedAs result plan input left old new = Ended KEPT BYTES Somewhere Says (begun plan) result tt input left old new
+-- a dialog whose lines are answered live, which began at power-up, ended so; this line ended it, if one did
+abbrev pub EndedAs : Result (Unit {0}) DialogError → Option Stopped → OnFault → Plan → Option (List ℕ) → Option (List ℕ) → Option (List ℕ) → Option (List ℕ) → Type 0
+EndedAs result stopped on_fault plan input left old new = Ended KEPT BYTES HasStopped Says (begun on_fault plan) result stopped input left old new
+
+-- after a fault it is not known which line ended the run
+abbrev pub EndedBy : DialogError → OnFault → Plan → Option (List ℕ) → Option (List ℕ) → Option (List ℕ) → Option (List ℕ) → Type 0
+EndedBy fault on_fault plan input left old new = (stopped : Option Stopped) × EndedAs (Err fault) stopped on_fault plan input left old new
 
 -- a live run ended as its dialog did. With no memory to begin with nothing was read and nothing was written.
-abbrev pub LiveEnded : Result (Unit {0}) SessionError → Plan → Option (List ℕ) → Option (List ℕ) → Option (List ℕ) → Option (List ℕ) → Type 0
-LiveEnded (Ok u) plan input left old new = EndedAs (Ok u) plan input left old new
-LiveEnded (Err Memory) plan input left old new = (left ≡ input) × (new ≡ old)
-LiveEnded (Err Read) plan input left old new = EndedAs (Err ends.Read) plan input left old new
-LiveEnded (Err Write) plan input left old new = EndedAs (Err ends.Write) plan input left old new
-LiveEnded (Err TooLarge) plan input left old new = EndedAs (Err ends.TooLarge) plan input left old new
+abbrev pub LiveEnded : Result (Option Stop) SessionError → OnFault → Plan → Option (List ℕ) → Option (List ℕ) → Option (List ℕ) → Option (List ℕ) → Type 0
+LiveEnded (Ok stop) on_fault plan input left old new = EndedAs (Ok tt) (stop_in stop) on_fault plan input left old new
+LiveEnded (Err Memory) on_fault plan input left old new = (left ≡ input) × (new ≡ old)
+LiveEnded (Err Read) on_fault plan input left old new = EndedBy ends.Read on_fault plan input left old new
+LiveEnded (Err Write) on_fault plan input left old new = EndedBy ends.Write on_fault plan input left old new
+LiveEnded (Err TooLarge) on_fault plan input left old new = EndedBy ends.TooLarge on_fault plan input left old new

@@ -1,27 +1,41 @@
 -- What calls of a live run tell one another.
-use Rattle.std.specs.Prelude.{◌≡◌, ◌⊎◌, List, ◌++◌, Option, Result, Ok, Err, ℕ}
+use Rattle.std.specs.Prelude.{◌≡◌, ◌⊎◌, List, ◌++◌, Option, Some, None, Result, Ok, Err, ℕ}
 use Rattle.tsb_lines.specs.declared.writes.WriteError.{WriteError}
-use Rattle.tsb_types.specs.declared.row.Row.{Row}
-use Rattle.tsb_step.specs.Play.{Follows}
-use Rattle.tsb_bench.specs.Held.{Held, whole}
-use Rattle.tsb_dialog.specs.Said.{Said, Wrote, with_feed}
-use Rattle.tsb_live_text.specs.Live.{Live}
+use Rattle.tsb_types.specs.declared.refusal.Refusal.TheVariants.{Memory}
+use Rattle.tsb_step.specs.tsb_plan.Plan.{Plan}
+use Rattle.tsb_dialog.specs.Said.{IsCutShort, Said, Wrote, with_feed}
+use Rattle.tsb_plan_line.specs.PlanLine.{plan_text}
+use Rattle.tsb_text.specs.Answers.{refused_line}
+use Rattle.tsb_text.specs.declared.faults.LineFault.{LineFault}
+use Rattle.tsb_text.specs.declared.faults.LineFault.TheVariants.{Refused}
+use Rattle.tsb_text.specs.declared.rows.Rows.TheVariants.{Held}
+use Rattle.tsb_text.specs.Obeyed.{Keeps, Stands, tells_in}
+use Rattle.tsb_text.specs.Rows.{rows_in}
+use Rattle.tsb_live_text.specs.declared.run.LiveRun.{LiveRun}
+use Rattle.tsb_live_text.specs.Live.{Live, setup, stop_in}
 
--- a bench has come to this live run, in which this row was given last
-pub record StandsLive (bench : Held) (row : Row) (s : Live) : Type 0 where
-  pub follows : Follows s.plan (whole bench) s.inputs
-  pub given : row ≡ s.row
+-- a run has come to this
+pub record StandsLive (run : LiveRun) (s : Live) : Type 0 where
+  pub stands : Stands (setup s) (rows_in (Held s.row)) run.course s.inputs
+  pub keeps : Keeps run.course.mode
+  pub row : run.row ≡ s.row
+  pub tells : tells_in run.course.mode ≡ s.tells
+  pub echoes : run.echoes ≡ s.echoes
+  pub on_fault : run.on_fault ≡ s.on_fault
+  pub stop : stop_in run.stop ≡ s.stopped
 
 -- an answer was said, which leaves this; or a fault came within it
-abbrev pub Does : Result (Unit {0}) WriteError → Held → Row → (List ℕ → Live → Type 0) → Option (List ℕ) → Option (List ℕ) → List ℕ → List ℕ → Type 0
-Does (Ok u) bench row IsAnswer old new waited waits = (left : Live) × StandsLive bench row left × Wrote old new waited waits (λ text. IsAnswer text left)
-Does (Err e) bench row IsAnswer old new waited waits = Wrote old new waited waits (λ text. (rest : List ℕ) × (left : Live) × IsAnswer (text ++ rest) left)
+abbrev pub Does : Result (Option LineFault) WriteError → LiveRun → (List ℕ → Option LineFault → Live → Type 0) → Option (List ℕ) → Option (List ℕ) → List ℕ → List ℕ → Type 0
+Does (Ok fault) run IsAnswer old new waited waits = (left : Live) × StandsLive run left × Wrote old new waited waits (λ text. IsAnswer text fault left)
+Does (Err e) run IsAnswer old new waited waits = Wrote old new waited waits (λ text. (rest : List ℕ) × (fault : Option LineFault) × (left : Live) × IsAnswer (text ++ rest) fault left)
 
--- a line was said, with its end; or a fault came within it
-abbrev pub SaysLine : Result (Unit {0}) WriteError → List ℕ → Option (List ℕ) → Option (List ℕ) → List ℕ → List ℕ → Type 0
-SaysLine (Ok u) line old new waited waits = Said old new waited waits (with_feed line)
-SaysLine (Err e) line old new waited waits = Wrote old new waited waits (λ text. (rest : List ℕ) × (with_feed line ≡ text ++ rest))
+-- a text was said to a line with which this is wrong; or a fault came within it
+abbrev pub TellsOnce : Result (Option LineFault) WriteError → Option LineFault → List ℕ → Option (List ℕ) → Option (List ℕ) → List ℕ → List ℕ → Type 0
+TellsOnce (Ok fault) why text old new waited waits = (fault ≡ why) × Said old new waited waits text
+TellsOnce (Err e) why text old new waited waits = IsCutShort old new waited waits text
 
--- one of two lines
-abbrev pub SaysEither : Result (Unit {0}) WriteError → List ℕ → List ℕ → Option (List ℕ) → Option (List ℕ) → List ℕ → List ℕ → Type 0
-SaysEither result line other old new waited waits = SaysLine result line old new waited waits ⊎ SaysLine result other old new waited waits
+-- the line of a plan was said; or that there is no memory for it
+abbrev pub TellsPlan : Result (Option LineFault) WriteError → Plan → List ℕ → Option (List ℕ) → Option (List ℕ) → List ℕ → List ℕ → Type 0
+TellsPlan result plan echo old new waited waits =
+    TellsOnce result None (echo ++ with_feed (plan_text plan)) old new waited waits
+    ⊎ TellsOnce result (Some (Refused Memory)) (echo ++ with_feed (refused_line Memory)) old new waited waits

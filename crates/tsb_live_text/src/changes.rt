@@ -1,20 +1,20 @@
 //! Ticks of which only the changes are told.
-ghost use Rattle.std.specs.Prelude.{◌≡◌, [], false, List, OnErr, OnOk};
-ghost use Rattle.tsb_bench.specs.Held.{state_of, whole};
-ghost use Rattle.tsb_dialog.specs.Said.{Said};
+ghost use Rattle.std.specs.Prelude.{◌≡◌, ◌++◌, List, Ok, OnOk, Some, false};
+ghost use Rattle.tsb_bench.specs.Held.{state_of};
+ghost use Rattle.tsb_dialog.specs.Said.{SaidUntilFault, with_feed};
 ghost use Rattle.tsb_dialog.specs.Pended.{AfterWrites, IsWell};
 ghost use Rattle.tsb_live_text.specs.Changes.{Changes, owed, shows_same};
-ghost use Rattle.tsb_live_text.specs.Ticked.{Ticked};
-ghost use Rattle.tsb_step.specs.Play.{Follows};
+ghost use Rattle.tsb_log_text.specs.declared.log.LogRow.{LogRow};
 ghost use Rattle.tsb_step.specs.declared.inputs.Input.{Input as InputValue};
-ghost use Rattle.tsb_step.specs.tsb_plan.Plan.{Plan};
-ghost use Rattle.tsb_text.specs.Answers.{display_line};
+ghost use Rattle.tsb_text.specs.Answers.{Setup, display_line, refused_line};
+ghost use Rattle.tsb_text.specs.Obeyed.{Done, Stands, besides_of, news_in};
 
 use std::io::Write;
-use tsb_bench::{Bench, Input};
+use tsb_bench::Input;
 use tsb_dialog::{Pending, WriteError};
 use tsb_display_text::LineBytes;
-use tsb_text::{line_bytes, refused_line};
+use tsb_objects::Refusal;
+use tsb_text::{Course, line_bytes, say_refusal};
 use tsb_types::Row;
 
 /// Where the fields of a display line begin that tell heads and the preempt.
@@ -23,35 +23,67 @@ const SHOWN: usize = 8;
 /// Where those fields end.
 const SHOWN_END: usize = 48;
 
-/// So many ticks with these inputs, up to one that is refused. It says each display line that shows another head or
-/// preempt than the line before, and the last; and a refusal.
+/// So many ticks with these inputs, up to one that is refused, and why it was. It says what each tick tells, each
+/// display line that shows another head or preempt than the line before, and the last; and a refusal, behind `echo`.
 pub(crate) fn changes<W: Write>(
-    bench: &mut Bench,
+    course: &mut Course,
     row: Row,
     ticks: u32,
+    echo: &[u8],
+    pending: &mut Pending,
+    writer: &mut W,
+) -> Result<Option<Refusal>, WriteError>
+    ensures done { (given : Setup) (log : List LogRow) (inputs : List InputValue) → Stands given log course.old inputs
+        → Done result given log course.new (Changes given.plan (besides_of course.old echo.now) row inputs (display_line (state_of course.old.bench)) false ticks) (W.contents writer.old) (W.contents writer.new) pending.old.waits pending.new.waits }
+    ensures mode { course.new.mode ≡ course.old.mode }
+    ensures blame { IsWell pending.old → AfterWrites result pending.new }
+{
+    let mut before = line_bytes(course.bench());
+    let mut is_owed = false;
+    for _i in 0..ticks {
+        if let Err(refusal) = course.take(Input::Tick(row)) {
+            return say_stop(&before, is_owed, &refusal, echo, pending, writer);
+        }
+        let now = line_bytes(course.bench());
+        is_owed = shows_same(&now, &before);
+        say_tick(course, &now, !is_owed, pending, writer)?;
+        before = now;
+    }
+    say_owed(&before, is_owed, pending, writer)?;
+    Ok(None)
+}
+
+/// Says what a tick tells, and its display line, if it is owed.
+fn say_tick<W: Write>(
+    course: &Course,
+    line: &LineBytes,
+    is_owed: bool,
     pending: &mut Pending,
     writer: &mut W,
 ) -> Result<(), WriteError>
-    ensures done { (plan : Plan) (inputs : List InputValue) → Follows plan (whole bench.old) inputs
-        → Ticked result plan (whole bench.new) (Changes plan row inputs (display_line (state_of bench.old)) false ticks) (W.contents writer.old) (W.contents writer.new) pending.old.waits pending.new.waits }
+    ensures said { SaidUntilFault result (W.contents writer.old) (W.contents writer.new) pending.old.waits pending.new.waits (news_in course.now ++ owed is_owed line.now) }
     ensures blame { IsWell pending.old → AfterWrites result pending.new }
 {
-    let mut before = line_bytes(bench);
-    let mut is_owed = false;
-    for _i in 0..ticks {
-        match bench.apply(Input::Tick(row)) {
-            Ok(()) => {}
-            Err(refusal) => {
-                say_owed(&before, is_owed, pending, writer)?;
-                return pending.say(writer, refused_line(refusal));
-            }
-        }
-        let now = line_bytes(bench);
-        is_owed = shows_same(&now, &before);
-        say_owed(&now, !is_owed, pending, writer)?;
-        before = now;
-    }
-    say_owed(&before, is_owed, pending, writer)
+    course.say_news(pending, writer)?;
+    say_owed(line, is_owed, pending, writer)
+}
+
+/// Says the display line before a tick that was refused, if it is owed, and the refusal, behind `echo`; and tells why it
+/// was refused.
+fn say_stop<W: Write>(
+    line: &LineBytes,
+    is_owed: bool,
+    refusal: &Refusal,
+    echo: &[u8],
+    pending: &mut Pending,
+    writer: &mut W,
+) -> Result<Option<Refusal>, WriteError>
+    ensures said { SaidUntilFault result (W.contents writer.old) (W.contents writer.new) pending.old.waits pending.new.waits (owed is_owed line.now ++ (echo.now ++ with_feed (refused_line refusal.now))) }
+    ensures told { OnOk result (result ≡ Ok (Some refusal.now)) }
+    ensures blame { IsWell pending.old → AfterWrites result pending.new }
+{
+    say_owed(line, is_owed, pending, writer)?;
+    say_refusal(refusal, echo, pending, writer)
 }
 
 /// Says a display line, if it is owed.
@@ -61,8 +93,7 @@ fn say_owed<W: Write>(
     pending: &mut Pending,
     writer: &mut W,
 ) -> Result<(), WriteError>
-    ensures ok { OnOk result (Said (W.contents writer.old) (W.contents writer.new) pending.old.waits pending.new.waits (owed is_owed line.now)) }
-    ensures fault { OnErr result (Said (W.contents writer.old) (W.contents writer.new) pending.old.waits pending.new.waits []) }
+    ensures said { SaidUntilFault result (W.contents writer.old) (W.contents writer.new) pending.old.waits pending.new.waits (owed is_owed line.now) }
     ensures blame { IsWell pending.old → AfterWrites result pending.new }
 {
     if is_owed {

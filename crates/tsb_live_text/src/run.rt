@@ -1,17 +1,19 @@
 //! A live run, line by line.
-ghost use Rattle.std.specs.Prelude.{◌≡◌};
+ghost use Rattle.std.specs.Prelude.{◌≡◌, ◌++◌, None, Some};
 ghost use Rattle.tsb_bench.specs.Held.{state_of};
 ghost use Rattle.tsb_dialog.specs.Pended.{AfterWrites, IsWell};
+ghost use Rattle.tsb_dialog.specs.Said.{with_feed};
 ghost use Rattle.tsb_objects.specs.Checked.{checked_plan};
-ghost use Rattle.tsb_plan_line.specs.PlanLine.{plan_text};
-ghost use Rattle.tsb_types.specs.declared.refusal.Refusal.TheVariants.{Memory};
-ghost use Rattle.tsb_text.specs.Answers.{refused_line};
-ghost use Rattle.tsb_live_lines.specs.declared.command.LiveReading.TheVariants.{Ask};
-ghost use Rattle.tsb_live_text.specs.Live.{AsksLive, Live as LiveState, Obeys, flow_in};
+ghost use Rattle.tsb_live_lines.specs.declared.command.LiveCommand.TheVariants as asks;
+ghost use Rattle.tsb_text.specs.Faults.{fault_words};
+ghost use Rattle.tsb_saved.specs.Saved.{saved_text};
+ghost use Rattle.tsb_live_text.specs.Live.{AsksLive, Live as LiveState, Obeys, Reads, echo_of, fault_by, flow_in, stop_in};
 ghost use Rattle.tsb_live_text.specs.LiveEnded.{LiveEnded};
-ghost use Rattle.tsb_live_text.specs.Standing.{Does, SaysEither, SaysLine, StandsLive};
+ghost use Rattle.tsb_live_text.specs.Standing.{Does, StandsLive, TellsOnce, TellsPlan};
 
 use crate::changes::changes;
+use crate::stop::{Stop, front_of, stop_at};
+use arrayvec::ArrayVec;
 use std::alloc::Global;
 use std::io::{Read, Write};
 use tsb_bench::Bench;
@@ -20,19 +22,33 @@ use tsb_dialog::{Answers, DialogError, Flow, Pending, WriteError, converse};
 use tsb_live_lines::{LiveCommand, LiveReading, live_reading_of};
 use tsb_objects::{Checked, Refusal};
 use tsb_plan_line::{edits_line, plan_line};
+use tsb_saved::say_saved;
 use tsb_status_text::status_line;
-use tsb_text::{Rows, SessionError, obey, refused_line};
+use tsb_text::{
+    Course, LineFault, Mode, OnFault, Rows, SessionError, fault_words, obey, when_line,
+};
 use tsb_types::Row;
 
 /// The greatest length of the lines of a live run, in bytes: 1 GiB.
 pub const BYTES: usize = 1_073_741_824;
 
-/// A live run between two lines: its bench, and the row last given. All inputs are off before the first.
+/// The greatest length of what stands before an answer: `> `, 200 bytes of a line and a line feed.
+const ECHO: usize = 203;
+
+/// A live run between two lines.
 #[derive(Drop)]
 struct LiveRun {
     alloc: Global,
-    bench: Bench,
+    /// The bench, with what is kept of its inputs.
+    course: Course,
+    /// The row last given. All inputs are off before the first.
     row: Row,
+    /// Whether answers that are no display lines stand after their command.
+    echoes: bool,
+    /// What the run does after a line with which something is wrong.
+    on_fault: OnFault,
+    /// The line that ended it.
+    stop: Option<Stop>,
 }
 
 impl Answers for LiveRun {
@@ -41,111 +57,235 @@ impl Answers for LiveRun {
 
     ghost State = { Live };
 
-    ghost stands = { λ live s. StandsLive live.bench live.row s };
+    ghost stands = { StandsLive };
 
     ghost says = { Says };
 
     fn answer<W: Write>(
         &mut self,
-        _number: u32,
+        number: u32,
         line: &[u8],
         pending: &mut Pending,
         writer: &mut W,
     ) -> Result<Flow, WriteError> {
-        match live_reading_of(line) {
-            LiveReading::Skip => Ok(Flow::On),
-            LiveReading::Bad => {
-                pending.say(writer, b"bad command")?;
-                Ok(Flow::On)
-            }
-            LiveReading::Tick(row) => {
-                self.row = row;
-                self.obey(Command::Step(1), pending, writer)?;
-                Ok(Flow::On)
-            }
-            LiveReading::Ask(command) => {
-                let flow = flow_after(&command);
-                self.ask(command, pending, writer)?;
-                Ok(flow)
-            }
-        }
+        let reading = live_reading_of(line);
+        let fault = self.read(&reading, line, pending, writer)?;
+        self.stop = stop_at(self.on_fault, number, line, fault);
+        Ok(flow_after(&reading, &self.stop))
     }
 }
 
 impl LiveRun {
+    /// Answers what a line asks, and tells what is wrong with it, if something is.
+    fn read<W: Write>(
+        &mut self,
+        reading: &LiveReading,
+        line: &[u8],
+        pending: &mut Pending,
+        writer: &mut W,
+    ) -> Result<Option<LineFault>, WriteError>
+        ensures done { (s : LiveState) → StandsLive self.old s
+            → Does result self.new (Reads s line.now reading.now) (W.contents writer.old) (W.contents writer.new) pending.old.waits pending.new.waits }
+        ensures strict { self.new.on_fault ≡ self.old.on_fault }
+        ensures blame { IsWell pending.old → AfterWrites result pending.new }
+    {
+        match *reading {
+            LiveReading::Skip => Ok(None),
+            LiveReading::Bad => {
+                let echo = self.echo(line);
+                tell_fault(&echo, &LineFault::BadCommand, pending, writer)
+            }
+            LiveReading::Tick(row) => {
+                self.row = row;
+                self.obey(Command::Step(1), line, pending, writer)
+            }
+            LiveReading::Ask(command) => self.ask(command, line, pending, writer),
+        }
+    }
+
+    /// What stands before an answer to this line that is no display line.
+    fn echo(&self, line: &[u8]) -> ArrayVec<u8, ECHO>
+        ensures { result.items ≡ echo_of self.now.echoes line.now }
+    {
+        let mut echo = ArrayVec::new();
+        if self.echoes {
+            let _ = echo.try_extend_from_slice(b"> ");
+            let _ = echo.try_extend_from_slice(&front_of(line));
+            echo.push(b'\n');
+        }
+        echo
+    }
+
     /// Carries out a command of `tsb run`. Its ticks have the row last given.
     fn obey<W: Write>(
         &mut self,
         command: Command,
+        line: &[u8],
         pending: &mut Pending,
         writer: &mut W,
-    ) -> Result<(), WriteError>
-        ensures done { (s : LiveState) → StandsLive self.old.bench self.old.row s
-            → Does result self.new.bench self.new.row (Obeys s command) (W.contents writer.old) (W.contents writer.new) pending.old.waits pending.new.waits }
+    ) -> Result<Option<LineFault>, WriteError>
+        ensures done { (s : LiveState) → StandsLive self.old s
+            → Does result self.new (Obeys s line.now command) (W.contents writer.old) (W.contents writer.new) pending.old.waits pending.new.waits }
+        ensures strict { self.new.on_fault ≡ self.old.on_fault }
         ensures blame { IsWell pending.old → AfterWrites result pending.new }
     {
+        let echo = self.echo(line);
         let mut rows = Rows::Held(self.row);
-        obey(&mut self.bench, &mut rows, command, pending, writer)
+        let refusal = obey(&mut self.course, &mut rows, command, &echo, pending, writer)?;
+        Ok(fault_by(refusal))
     }
 
     /// Carries out a command.
     fn ask<W: Write>(
         &mut self,
         command: LiveCommand,
+        line: &[u8],
         pending: &mut Pending,
         writer: &mut W,
-    ) -> Result<(), WriteError>
-        ensures done { (s : LiveState) → StandsLive self.old.bench self.old.row s
-            → Does result self.new.bench self.new.row (AsksLive s command) (W.contents writer.old) (W.contents writer.new) pending.old.waits pending.new.waits }
+    ) -> Result<Option<LineFault>, WriteError>
+        ensures done { (s : LiveState) → StandsLive self.old s
+            → Does result self.new (AsksLive s line.now command) (W.contents writer.old) (W.contents writer.new) pending.old.waits pending.new.waits }
+        ensures strict { self.new.on_fault ≡ self.old.on_fault }
         ensures blame { IsWell pending.old → AfterWrites result pending.new }
     {
+        let echo = self.echo(line);
         match command {
-            LiveCommand::Session(command) => self.obey(command, pending, writer),
-            LiveCommand::Status => tell(&status_line(&self.bench.status()), pending, writer),
-            LiveCommand::Changes(ticks) => {
-                changes(&mut self.bench, self.row, ticks, pending, writer)
+            LiveCommand::Session(command) => self.obey(command, line, pending, writer),
+            LiveCommand::Changes(ticks) => self.changes(ticks, line, pending, writer),
+            LiveCommand::Plan => self.tell_plan(&echo, pending, writer),
+            LiveCommand::Status => {
+                let status = status_line(&self.course.bench().status());
+                tell(&echo, &status, None, pending, writer)
             }
-            LiveCommand::Plan => self.tell_plan(pending, writer),
-            LiveCommand::Edits => tell(&edits_line(self.bench.desk()), pending, writer),
-            LiveCommand::Events(_) => pending.say(writer, b"bad command"),
-            LiveCommand::Echo(_) => pending.say(writer, b"bad command"),
-            LiveCommand::Save => pending.say(writer, b"bad command"),
+            LiveCommand::Edits => {
+                let edits = edits_line(self.course.bench().desk());
+                tell(&echo, &edits, None, pending, writer)
+            }
+            LiveCommand::When(which) => {
+                let change = when_line(self.course.kept().last_change(which));
+                tell(&echo, &change, None, pending, writer)
+            }
+            LiveCommand::Events(on) => {
+                self.course.tell(on);
+                tell(&echo, b"ok", None, pending, writer)
+            }
+            LiveCommand::Echo(on) => {
+                self.echoes = on;
+                tell(&echo, b"ok", None, pending, writer)
+            }
+            LiveCommand::Save => self.tell_saved(&echo, pending, writer),
         }
     }
 
-    /// Says the plan in effect.
-    fn tell_plan<W: Write>(&self, pending: &mut Pending, writer: &mut W) -> Result<(), WriteError>
-        ensures told { SaysEither result (plan_text (state_of self.now.bench).plan) (refused_line Memory) (W.contents writer.old) (W.contents writer.new) pending.old.waits pending.new.waits }
+    /// Takes so many ticks with the row last given, and tells the changes.
+    fn changes<W: Write>(
+        &mut self,
+        ticks: u32,
+        line: &[u8],
+        pending: &mut Pending,
+        writer: &mut W,
+    ) -> Result<Option<LineFault>, WriteError>
+        ensures done { (s : LiveState) → StandsLive self.old s
+            → Does result self.new (AsksLive s line.now (asks.Changes ticks)) (W.contents writer.old) (W.contents writer.new) pending.old.waits pending.new.waits }
+        ensures strict { self.new.on_fault ≡ self.old.on_fault }
         ensures blame { IsWell pending.old → AfterWrites result pending.new }
     {
-        match plan_line(self.alloc, self.bench.plan()) {
-            Ok(line) => tell(&line, pending, writer),
-            Err(_) => pending.say(writer, refused_line(Refusal::Memory)),
+        let echo = self.echo(line);
+        let refusal = changes(&mut self.course, self.row, ticks, &echo, pending, writer)?;
+        Ok(fault_by(refusal))
+    }
+
+    /// Tells the plan in effect. Where there is no memory for its line, that is told.
+    fn tell_plan<W: Write>(
+        &self,
+        echo: &[u8],
+        pending: &mut Pending,
+        writer: &mut W,
+    ) -> Result<Option<LineFault>, WriteError>
+        ensures told { TellsPlan result (state_of self.now.course.bench).plan echo.now (W.contents writer.old) (W.contents writer.new) pending.old.waits pending.new.waits }
+        ensures blame { IsWell pending.old → AfterWrites result pending.new }
+    {
+        match plan_line(self.alloc, self.course.bench().plan()) {
+            Ok(plan) => tell(echo, &plan, None, pending, writer),
+            Err(_) => {
+                let fault = LineFault::Refused(Refusal::Memory);
+                tell_fault(echo, &fault, pending, writer)
+            }
         }
+    }
+
+    /// Tells the log and the commands by which `tsb run` comes to the present state.
+    fn tell_saved<W: Write>(
+        &self,
+        echo: &[u8],
+        pending: &mut Pending,
+        writer: &mut W,
+    ) -> Result<Option<LineFault>, WriteError>
+        ensures told { TellsOnce result None (echo.now ++ with_feed (saved_text self.now.course.kept self.now.course.bench.tick)) (W.contents writer.old) (W.contents writer.new) pending.old.waits pending.new.waits }
+        ensures blame { IsWell pending.old → AfterWrites result pending.new }
+    {
+        pending.add(writer, echo)?;
+        say_saved(
+            self.course.kept(),
+            self.course.bench().now(),
+            pending,
+            writer,
+        )?;
+        Ok(None)
     }
 }
 
-/// Says a line of any length, and its line feed.
-fn tell<W: Write>(line: &[u8], pending: &mut Pending, writer: &mut W) -> Result<(), WriteError>
-    ensures told { SaysLine result line.now (W.contents writer.old) (W.contents writer.new) pending.old.waits pending.new.waits }
+/// Says what is wrong with a line, behind `echo`.
+fn tell_fault<W: Write>(
+    echo: &[u8],
+    fault: &LineFault,
+    pending: &mut Pending,
+    writer: &mut W,
+) -> Result<Option<LineFault>, WriteError>
+    ensures told { TellsOnce result (Some fault.now) (echo.now ++ with_feed (fault_words fault.now)) (W.contents writer.old) (W.contents writer.new) pending.old.waits pending.new.waits }
     ensures blame { IsWell pending.old → AfterWrites result pending.new }
 {
-    pending.add(writer, line)?;
-    pending.add(writer, b"\n")
+    tell(echo, fault_words(*fault), Some(*fault), pending, writer)
 }
 
-/// Whether a run goes on after a command.
-fn flow_after(command: &LiveCommand) -> Flow
-    ensures { result ≡ flow_in (Ask command.now) }
+/// Says an answer of one line, behind `echo`, to a line with which this is wrong.
+fn tell<W: Write>(
+    echo: &[u8],
+    line: &[u8],
+    fault: Option<LineFault>,
+    pending: &mut Pending,
+    writer: &mut W,
+) -> Result<Option<LineFault>, WriteError>
+    ensures told { TellsOnce result fault (echo.now ++ with_feed line.now) (W.contents writer.old) (W.contents writer.new) pending.old.waits pending.new.waits }
+    ensures blame { IsWell pending.old → AfterWrites result pending.new }
 {
-    match command {
-        LiveCommand::Session(Command::Quit) => Flow::Over,
+    pending.add(writer, echo)?;
+    pending.add(writer, line)?;
+    pending.add(writer, b"\n")?;
+    Ok(fault)
+}
+
+/// What is wrong with a line that is refused, if it is.
+fn fault_by(refusal: Option<Refusal>) -> Option<LineFault>
+    ensures { result ≡ fault_by refusal }
+{
+    Some(LineFault::Refused(refusal?))
+}
+
+/// Whether a run goes on after what a line asked, where this ended it.
+fn flow_after(reading: &LiveReading, stop: &Option<Stop>) -> Flow
+    ensures { result ≡ flow_in reading.now (stop_in stop.now) }
+{
+    match (stop, reading) {
+        (Some(_), _) => Flow::Over,
+        (None, LiveReading::Ask(LiveCommand::Session(Command::Quit))) => Flow::Over,
         _ => Flow::On,
     }
 }
 
 /// Runs a plan live: reads rows of inputs and commands, and writes their answers, up to a line `quit` or the end of what
-/// is read. The bench begins at power-up with the plan, at tick 0, and each row of inputs takes one tick, 0.1 s.
+/// is read. The bench begins at power-up with the plan, at tick 0, and each row of inputs takes one tick, 0.1 s. A strict
+/// run ends as well at the first line that is no command or that is refused, once it was answered, and gives that line.
 ///
 /// What was answered goes out before each read. A fault ends the run; what was written until then is the beginning of
 /// what may be said. `TooLarge` comes where there is a byte after the first `BYTES`, once the whole lines within them
@@ -154,21 +294,25 @@ fn flow_after(command: &LiveCommand) -> Flow
 pub fn live<R: Read, W: Write>(
     alloc: Global,
     plan: Checked,
+    on_fault: OnFault,
     reader: &mut R,
     writer: &mut W,
-) -> Result<(), SessionError>
-    ensures { LiveEnded result (checked_plan plan) (R.remaining reader.old) (R.remaining reader.new) (W.contents writer.old) (W.contents writer.new) }
+) -> Result<Option<Stop>, SessionError>
+    ensures { LiveEnded result on_fault (checked_plan plan) (R.remaining reader.old) (R.remaining reader.new) (W.contents writer.old) (W.contents writer.new) }
 {
     let Ok(bench) = Bench::power_up(alloc, plan) else {
         return Err(SessionError::Memory);
     };
     let mut run = LiveRun {
         alloc,
-        bench,
+        course: Course::new(alloc, bench, Mode::Keeping),
         row: Row::all_off(),
+        echoes: false,
+        on_fault,
+        stop: None,
     };
     match converse(&mut run, BYTES, reader, writer) {
-        Ok(()) => Ok(()),
+        Ok(()) => Ok(run.stop),
         Err(DialogError::Read) => Err(SessionError::Read),
         Err(DialogError::Write) => Err(SessionError::Write),
         Err(DialogError::TooLarge) => Err(SessionError::TooLarge),

@@ -1,51 +1,66 @@
-use Rattle.std.proofs.Common.{◌≡◌, ◌∙◌, ap, refl, rules, subst, codes}
+use Rattle.std.proofs.Common.{◌≡◌, ◌∙◌, ap, refl, rules, subst, codes, None}
+use Rattle.tsb_bench.specs.Held.{state_of}
+use Rattle.tsb_kept.specs.Changed.{last_change, value_of}
+use Rattle.tsb_kept.specs.Kept.{kept_of}
+use Rattle.tsb_plan_line.specs.EditsLine.{edits_text}
+use Rattle.tsb_saved.specs.Saved.{saved_text}
 use Rattle.tsb_step.specs.State.{State}
 use Rattle.tsb_step.specs.Status.{status}
 use Rattle.tsb_status.specs.Alike.{Alike}
 use Rattle.tsb_status.specs.Plain.{status_of}
-use Rattle.tsb_plan_line.specs.EditsLine.{edits_text}
-use Rattle.tsb_plan_line.specs.PlanLine.{plan_text}
-use Rattle.tsb_live_lines.specs.declared.command.LiveCommand.TheVariants.{Changes, Edits, Plan, Status}
-use Rattle.tsb_live_text.specs.Live.{present}
-use Rattle.tsb_live_text.proofs.LiveLemmas.{does-as, does-changes, does-plan, does-tell, present-state, says-line}
+use Rattle.tsb_status_text.specs.StatusText.{status_text}
+use Rattle.tsb_text.specs.Answers.{when_line}
+use Rattle.tsb_live_lines.specs.declared.command.LiveCommand.TheVariants as asks
+use Rattle.tsb_live_text.specs.Live.{present, with_echo, with_events}
+use Rattle.tsb_live_text.proofs.LiveLemmas.{does-as, does-plan, does-tell, echo-stands, events-stands, present-kept, present-state, same-echo}
 use Rattle.tsb_live_text.proofs.run.LiveRun.ask.Goals as goal
 
-pub returns-in-Status-clause-done : goal.returns-in-Status-clause-done
-returns-in-Status-clause-done g c s stands =
-    let same : c.deref.result.now ≡ c.status_line.result.items = search rules in
-    does-as c.tell.result s c.args.self.now.row c.args.self.now.bench c.args.command Status _ _ _ _ c.in-Status.is
-    (does-tell c.tell.result s c.args.self.now.row c.args.self.now.bench c.deref.result.now _ _ _ _ _ stands
-    (same ∙ c.status_line.ensures.alike (status (present s)) (subst (λ (v : State). Alike (status_of c.status.result) (status v)) (present-state c.args.self.now.bench c.args.self.now.row s stands) c.status.ensures)) c.tell.ensures.told)
+pub returns-in-Session-clause-done : goal.returns-in-Session-clause-done
+returns-in-Session-clause-done g c s stands = does-as c.obey.result s _ c.args.line.now c.args.command (asks.Session c.in-Session.command) _ _ _ _ c.in-Session.is (c.obey.ensures.done s stands)
 
 pub returns-in-Changes-clause-done : goal.returns-in-Changes-clause-done
-returns-in-Changes-clause-done g c s stands =
-    does-as c.changes.result s c.args.self.now.row c.changes.new.bench c.args.command (Changes c.in-Changes.ticks) _ _ _ _ c.in-Changes.is
-    (does-changes c.changes.result s c.args.self.now.row c.args.self.now.bench c.changes.new.bench c.in-Changes.ticks _ _ _ _ stands (c.changes.ensures.done s.plan s.inputs stands.follows))
+returns-in-Changes-clause-done g c s stands = does-as c.changes.result s _ c.args.line.now c.args.command (asks.Changes c.in-Changes.ticks) _ _ _ _ c.in-Changes.is (c.changes.ensures.done s stands)
 
 pub returns-in-Plan-clause-done : goal.returns-in-Plan-clause-done
 returns-in-Plan-clause-done g c s stands =
-    does-as c.tell_plan.result s c.args.self.now.row c.args.self.now.bench c.args.command Plan _ _ _ _ c.in-Plan.is
-    (does-plan c.tell_plan.result s c.args.self.now.row c.args.self.now.bench _ _ _ _ _ _ _ stands
-    (ap (λ (v : State). plan_text v.plan) (present-state c.args.self.now.bench c.args.self.now.row s stands)) c.tell_plan.ensures.told)
+    does-as c.tell_plan.result s _ c.args.line.now c.args.command asks.Plan _ _ _ _ c.in-Plan.is
+    (does-plan c.tell_plan.result _ s c.args.line.now c.deref.result.now _ _ _ _ stands (same-echo c.args.self.now s c.args.line.now c.deref.result.now stands (c.deref.ensures.0 ∙ c.echo-echo.ensures)) c.tell_plan.ensures.told)
+
+pub returns-in-Status-clause-done : goal.returns-in-Status-clause-done
+returns-in-Status-clause-done g c s stands =
+    does-as c.tell.result s _ c.args.line.now c.args.command asks.Status _ _ _ _ c.in-Status.is
+    (does-tell c.tell.result None _ s s c.args.line.now c.deref-in-Status.result.now c.deref-in-Status-2.result.now (status_text (status (present s))) _ _ _ _ stands
+    (same-echo c.args.self.now s c.args.line.now c.deref-in-Status.result.now stands (c.deref-in-Status.ensures.0 ∙ c.echo-echo.ensures)) (let same : c.deref-in-Status-2.result.now ≡ c.status_line-status.result.items = search rules in
+    same ∙ c.status_line-status.ensures.alike (status (present s)) (subst (λ (v : State). Alike (status_of c.status.result) (status v)) (ap state_of c.bench.ensures ∙ present-state c.args.self.now s stands) c.status.ensures)) c.tell.ensures.told)
 
 pub returns-in-Edits-clause-done : goal.returns-in-Edits-clause-done
 returns-in-Edits-clause-done g c s stands =
-    let same : c.deref-in-Edits.result.now ≡ c.edits_line.result.items = search rules in
-    does-as c.tell-in-Edits.result s c.args.self.now.row c.args.self.now.bench c.args.command Edits _ _ _ _ c.in-Edits.is
-    (does-tell c.tell-in-Edits.result s c.args.self.now.row c.args.self.now.bench c.deref-in-Edits.result.now _ _ _ _ _ stands
-    (same ∙ c.edits_line.ensures ∙ ap edits_text c.desk.ensures ∙ ap (λ (v : State). edits_text v.desk) (present-state c.args.self.now.bench c.args.self.now.row s stands)) c.tell-in-Edits.ensures.told)
+    does-as c.tell-in-Edits.result s _ c.args.line.now c.args.command asks.Edits _ _ _ _ c.in-Edits.is
+    (does-tell c.tell-in-Edits.result None _ s s c.args.line.now c.deref-in-Edits.result.now c.deref-in-Edits-2.result.now (edits_text (present s).desk) _ _ _ _ stands
+    (same-echo c.args.self.now s c.args.line.now c.deref-in-Edits.result.now stands (c.deref-in-Edits.ensures.0 ∙ c.echo-echo.ensures)) (let same : c.deref-in-Edits-2.result.now ≡ c.edits_line-edits.result.items = search rules in
+    same ∙ c.edits_line-edits.ensures ∙ ap edits_text c.desk.ensures ∙ ap (λ (v : State). edits_text v.desk) (ap state_of c.bench-in-Edits.ensures ∙ present-state c.args.self.now s stands)) c.tell-in-Edits.ensures.told)
+
+pub returns-in-When-clause-done : goal.returns-in-When-clause-done
+returns-in-When-clause-done g c s stands =
+    does-as c.tell-in-When.result s _ c.args.line.now c.args.command (asks.When c.in-When.which) _ _ _ _ c.in-When.is
+    (does-tell c.tell-in-When.result None _ s s c.args.line.now c.deref-in-When.result.now c.deref-in-When-2.result.now (when_line (last_change (value_of c.in-When.which) s.plan s.inputs)) _ _ _ _ stands
+    (same-echo c.args.self.now s c.args.line.now c.deref-in-When.result.now stands (c.deref-in-When.ensures.0 ∙ c.echo-echo.ensures)) (let same : c.deref-in-When-2.result.now ≡ c.when_line-change.result.items = search rules in
+    same ∙ c.when_line-change.ensures.line ∙ ap when_line (c.last_change.ensures s.plan s.inputs (c.kept.ensures ∙ present-kept c.args.self.now s stands))) c.tell-in-When.ensures.told)
 
 pub returns-in-Events-clause-done : goal.returns-in-Events-clause-done
 returns-in-Events-clause-done g c s stands =
-    does-as c.say.result s c.args.self.now.row c.args.self.now.bench c.args.command _ _ _ _ _ c.in-Events.is
-    (does-tell c.say.result s c.args.self.now.row c.args.self.now.bench (codes "bad command") _ _ _ _ _ stands refl (says-line c.say.result (codes "bad command") _ _ _ _ c.say.ensures.ok c.say.ensures.fault))
+    does-as c.tell-in-Events-2.result s _ c.args.line.now c.args.command (asks.Events c.in-Events.on) _ _ _ _ c.in-Events.is
+    (does-tell c.tell-in-Events-2.result None _ s (with_events c.in-Events.on s) c.args.line.now c.deref-in-Events.result.now (codes "ok") (codes "ok") _ _ _ _ (events-stands c.args.self.now _ s c.in-Events.on stands c.tell-in-Events.ensures.mode c.tell-in-Events.ensures.bench c.tell-in-Events.ensures.kept refl refl refl refl)
+    (same-echo c.args.self.now s c.args.line.now c.deref-in-Events.result.now stands (c.deref-in-Events.ensures.0 ∙ c.echo-echo.ensures)) (refl) c.tell-in-Events-2.ensures.told)
 
 pub returns-in-Echo-clause-done : goal.returns-in-Echo-clause-done
 returns-in-Echo-clause-done g c s stands =
-    does-as c.say-in-Echo.result s c.args.self.now.row c.args.self.now.bench c.args.command _ _ _ _ _ c.in-Echo.is
-    (does-tell c.say-in-Echo.result s c.args.self.now.row c.args.self.now.bench (codes "bad command") _ _ _ _ _ stands refl (says-line c.say-in-Echo.result (codes "bad command") _ _ _ _ c.say-in-Echo.ensures.ok c.say-in-Echo.ensures.fault))
+    does-as c.tell-in-Echo.result s _ c.args.line.now c.args.command (asks.Echo c.in-Echo.on) _ _ _ _ c.in-Echo.is
+    (does-tell c.tell-in-Echo.result None _ s (with_echo c.in-Echo.on s) c.args.line.now c.deref-in-Echo.result.now (codes "ok") (codes "ok") _ _ _ _ (echo-stands c.args.self.now _ s c.in-Echo.on stands refl refl refl refl refl)
+    (same-echo c.args.self.now s c.args.line.now c.deref-in-Echo.result.now stands (c.deref-in-Echo.ensures.0 ∙ c.echo-echo.ensures)) (refl) c.tell-in-Echo.ensures.told)
 
 pub returns-in-Save-clause-done : goal.returns-in-Save-clause-done
 returns-in-Save-clause-done g c s stands =
-    does-as c.say-in-Save.result s c.args.self.now.row c.args.self.now.bench c.args.command _ _ _ _ _ c.in-Save.is
-    (does-tell c.say-in-Save.result s c.args.self.now.row c.args.self.now.bench (codes "bad command") _ _ _ _ _ stands refl (says-line c.say-in-Save.result (codes "bad command") _ _ _ _ c.say-in-Save.ensures.ok c.say-in-Save.ensures.fault))
+    does-as c.tell_saved.result s _ c.args.line.now c.args.command asks.Save _ _ _ _ c.in-Save.is
+    (does-tell c.tell_saved.result None _ s s c.args.line.now c.deref-in-Save.result.now (saved_text c.args.self.now.course.kept c.args.self.now.course.bench.tick) (saved_text (kept_of s.plan s.inputs) (present s).now) _ _ _ _ stands
+    (same-echo c.args.self.now s c.args.line.now c.deref-in-Save.result.now stands (c.deref-in-Save.ensures.0 ∙ c.echo-echo.ensures)) (λ j. saved_text (present-kept c.args.self.now s stands j) (ap (λ (v : State). v.now) (present-state c.args.self.now s stands) j)) c.tell_saved.ensures.told)
