@@ -1,3 +1,5 @@
 pub mod ChangeLemmas
 pub mod LiveLemmas
 pub mod EndLemmas
+pub mod LawLemmas
+pub mod Examples

@@ -2,9 +2,9 @@
 pub mod Live
 -- ticks of which only the changes are told
 pub mod Changes
--- what has become of a bench once they were taken
-pub mod Ticked
 -- what a live run has written where it ends
 pub mod LiveEnded
 -- what private functions of a live run promise each other
 pub mod Standing
+-- what holds of all live runs
+pub mod Laws

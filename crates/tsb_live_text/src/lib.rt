@@ -4,6 +4,9 @@
 #![tactic(auto)]
 
 mod changes;
+pub mod laws;
 mod run;
+pub mod stop;
 
 pub use run::{BYTES, live};
+pub use stop::Stop;

@@ -1,0 +1,2 @@
+-- Live runs that meet what the laws need, and mistakes that they refuse.
+pub mod LiveExamples

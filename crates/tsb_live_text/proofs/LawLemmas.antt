@@ -1,0 +1,295 @@
+-- Live runs leave what remains of right answers, and are answered as sessions are.
+use Rattle.std.proofs.Common.{zero, suc, ◌≡◌, ◌∙◌, ℕ, ◌+◌, Bool, false, List, [], ◌∷◌, ◌++◌, length, ap, refl, sym, subst, inl, inr, nat_le, arith}
+use Rattle.std.proofs.lemmas.Bool.{cases_Bool}
+use Rattle.std.proofs.lemmas.Bool.Decides.{nat_tests}
+use Rattle.std.specs.declared.option.Option.{Option}
+use Rattle.tsb_types.specs.declared.refusal.Refusal.{Refusal}
+use Rattle.tsb_types.specs.declared.row.Row.{Row}
+use Rattle.tsb_bench.specs.tsb_machine.declared.commands.Answer.{Answer}
+use Rattle.tsb_bench.specs.tsb_machine.declared.commands.Answer.TheVariants.{Took, Refused}
+use Rattle.tsb_bench.specs.tsb_machine.declared.commands.Command.TheVariants as asks
+use Rattle.tsb_step.specs.tsb_plan.Plan.{Plan}
+use Rattle.tsb_step.specs.declared.inputs.Input.{Input}
+use Rattle.tsb_step.specs.declared.inputs.Input.TheVariants.{Tick as TakesTick}
+use Rattle.tsb_step.specs.Play.{AreRightFrom, Cmd, IsRight, remaining_after, remaining_from}
+use Rattle.tsb_step.specs.Runs.{AreTaken, replay}
+use Rattle.tsb_step.proofs.RemainLemmas.{remaining_taken}
+use Rattle.tsb_command_text.specs.declared.command.Command.{Command}
+use Rattle.tsb_command_text.specs.declared.command.Command.TheVariants.{Step}
+use Rattle.tsb_dialog.specs.Heard.{Runs}
+use Rattle.tsb_dialog.specs.declared.answers.Flow.{Flow}
+use Rattle.tsb_dialog.specs.declared.answers.Flow.TheVariants.{On}
+use Rattle.tsb_live_lines.specs.declared.command.LiveCommand.{LiveCommand}
+use Rattle.tsb_live_lines.specs.declared.command.LiveCommand.TheVariants as live
+use Rattle.tsb_live_lines.specs.declared.command.LiveReading.{LiveReading}
+use Rattle.tsb_live_lines.specs.declared.command.LiveReading.TheVariants.{Skip, Bad, Tick, Ask}
+use Rattle.tsb_live_lines.specs.LiveReadings.{live_reading}
+use Rattle.tsb_log_text.specs.Logs.{row_at}
+use Rattle.tsb_text.specs.Answers.{Answers, Setup, Steps, Ticked, display_line, next_tick}
+use Rattle.tsb_text.specs.declared.faults.LineFault.{LineFault}
+use Rattle.tsb_text.specs.declared.faults.OnFault.{OnFault}
+use Rattle.tsb_text.specs.declared.task.Task.{Task}
+use Rattle.tsb_text.specs.declared.task.Task.TheVariants as tasks
+use Rattle.tsb_text.specs.Obeys as session
+use Rattle.tsb_text.specs.Obeys.{AsksOnce, Besides, TakesTicks, nothing_besides}
+use Rattle.tsb_text.specs.declared.rows.Rows.TheVariants.{Held}
+use Rattle.tsb_text.specs.Rows.{rows_in}
+use Rattle.tsb_dialog.specs.Said.{with_feed}
+use Rattle.tsb_text.specs.Tasks.{task_of}
+use Rattle.tsb_text.proofs.ObeyLemmas.{plain-answers}
+use Rattle.tsb_live_text.specs.Changes.{Changes}
+use Rattle.tsb_live_text.specs.Laws.{AreOf, AsksAsThere, RunsAsThere, TakesNoTick, stand}
+use Rattle.tsb_text.specs.Replies.{Replies, flow_after, says}
+use Rattle.tsb_command_text.specs.Readings.{reading}
+use Rattle.tsb_command_text.specs.declared.command.Reading.{Reading}
+use Rattle.tsb_command_text.specs.declared.command.Command.TheVariants.{Quit, Show}
+use Rattle.tsb_text.specs.Answers.{Asked, told}
+use Rattle.tsb_live_text.specs.Live.{Stopped, flow_in}
+use Rattle.tsb_dialog.specs.Heard.{asked}
+use Rattle.tsb_text.specs.declared.faults.OnFault.TheVariants.{GoOn}
+use Rattle.std.specs.Prelude.{codes}
+use Rattle.std.proofs.Common.{Some, None, length}
+use Rattle.tsb_live_text.specs.Live.{AsksLive, Leaves, Live, Obeys, Reads, Says, begun, besides, echo_of, present, setup, stopped_at, with_inputs, with_row, with_stop}
+
+-- ## What remains
+
+-- commands with right answers lead from some inputs to others
+record Leads (plan : Plan) (is new : List Input) : Type 0 where
+  cs : List Cmd
+  ans : List Answer
+  right : AreRightFrom plan is cs ans
+  left : new ≡ remaining_from plan is cs ans
+
+stay : (plan : Plan) (is new : List Input) → new ≡ is → Leads plan is new
+stay plan is new same = record { cs = []; ans = []; right = tt; left = same }
+
+one : (plan : Plan) (is new : List Input) (c : Cmd) (a : Answer) → IsRight plan is c a → new ≡ remaining_after plan is c a → Leads plan is new
+one plan is new c a right left = record { cs = c ∷ []; ans = a ∷ []; right = (right, tt); left = left }
+
+onto : (plan : Plan) (is last : List Input) (c : Cmd) (a : Answer) → IsRight plan is c a → Leads plan (remaining_after plan is c a) last → Leads plan is last
+onto plan is last c a right rest = record { cs = c ∷ rest.cs; ans = a ∷ rest.ans; right = (right, rest.right); left = rest.left }
+
+both : (plan : Plan) (is new last : List Input) (cs : List Cmd) (ans : List Answer) → AreRightFrom plan is cs ans → new ≡ remaining_from plan is cs ans → Leads plan new last → Leads plan is last
+both plan is new last [] [] right left rest = subst (λ (x : List Input). Leads plan x last) left rest
+both plan is new last [] (a ∷ ans) right left rest = absurd right
+both plan is new last (c ∷ cs) [] right left rest = absurd right
+both plan is new last (c ∷ cs) (a ∷ ans) right left rest =
+    onto plan is last c a right.0 (both plan (remaining_after plan is c a) new last cs ans right.1 left rest)
+
+then : (plan : Plan) (is new last : List Input) → Leads plan is new → Leads plan new last → Leads plan is last
+then plan is new last first rest = both plan is new last first.cs first.ans first.right first.left rest
+
+by-ticks : (given : Setup) (b : Besides) (n : ℕ) (is : List Input) (text : List ℕ) (refusal : Option Refusal) (new : List Input) → TakesTicks given b is n text refusal new → Leads given.plan is new
+by-ticks given b zero is text refusal new t = stay given.plan is new t.2
+by-ticks given b (suc n) is text refusal new (inl t) =
+    onto given.plan is new (asks.Apply (next_tick given is)) Took t.1.right (by-ticks given b n (next_tick given is ∷ is) t.0 refusal new t.2)
+by-ticks given b (suc n) is text refusal new (inr t) = one given.plan is new (asks.Apply (next_tick given is)) (Refused t.why) t.right t.left
+
+by-task : (given : Setup) (b : Besides) (is : List Input) (task : Task) (text : List ℕ) (refusal : Option Refusal) (new : List Input) → session.Obeys given b is task text refusal new → Leads given.plan is new
+by-task given b is (tasks.Ticks n) text refusal new o = by-ticks given b n is text refusal new o
+by-task given b is tasks.Show text refusal new o = stay given.plan is new o.2
+by-task given b is tasks.Quit text refusal new o = stay given.plan is new o.2
+by-task given b is (tasks.Ask cmd) text refusal new o = one given.plan is new cmd o.answer o.right o.left
+
+by-changes : (plan : Plan) (b : Besides) (row : Row) (n : ℕ) (is : List Input) (before : List ℕ) (is_owed : Bool) (text : List ℕ) (refusal : Option Refusal) (new : List Input)
+    → Changes plan b row is before is_owed n text refusal new → Leads plan is new
+by-changes plan b row zero is before is_owed text refusal new c = stay plan is new c.2
+by-changes plan b row (suc n) is before is_owed text refusal new (inl c) = onto plan is new (asks.Apply (TakesTick row)) Took c.0 (by-changes plan b row n (TakesTick row ∷ is) _ _ c.1 refusal new c.3)
+by-changes plan b row (suc n) is before is_owed text refusal new (inr c) = one plan is new (asks.Apply (TakesTick row)) (Refused c.why) c.right c.left
+
+-- a run goes on to inputs that so remain, on the same plan
+record Goes (s t : Live) : Type 0 where
+  leads : Leads s.plan s.inputs t.inputs
+  same : t.plan ≡ s.plan
+
+goes-to : (s t u : Live) → t ≡ u → Goes s u → Goes s t
+goes-to s t u same goes = subst (λ (x : Live). Goes s x) (sym same) goes
+
+quiet : (s t : Live) → t.inputs ≡ s.inputs → t.plan ≡ s.plan → Goes s t
+quiet s t inputs plan = record { leads = stay s.plan s.inputs t.inputs inputs; same = plan }
+
+by-leaves : (s t : Live) (P : List ℕ → Option Refusal → List Input → Type 0) (text : List ℕ) (fault : Option LineFault)
+    → ((text : List ℕ) (refusal : Option Refusal) (left : List Input) → P text refusal left → Leads s.plan s.inputs left) → Leaves s P text fault t → Goes s t
+by-leaves s t P text fault leads l = goes-to s t (with_inputs l.1 s) l.4 (record { leads = leads text l.0 l.1 l.2; same = refl })
+
+by-asks : (s t : Live) (line : List ℕ) (c : LiveCommand) (text : List ℕ) (fault : Option LineFault) → AsksLive s line c text fault t → Goes s t
+by-asks s t line (live.Session c) text fault a = by-leaves s t _ text fault (λ text refusal left o. by-task (setup s) (besides s line) s.inputs (task_of c) text refusal left o) a
+by-asks s t line (live.Changes n) text fault a = by-leaves s t (Changes s.plan (besides s line) s.row s.inputs (display_line (present s)) false n) text fault
+    (λ text refusal left o. by-changes s.plan (besides s line) s.row n s.inputs (display_line (present s)) false text refusal left o) a
+by-asks s t line live.Status text fault a = goes-to s t s a.2 (quiet s s refl refl)
+by-asks s t line live.Plan text fault (inl a) = goes-to s t s a.2 (quiet s s refl refl)
+by-asks s t line live.Plan text fault (inr a) = goes-to s t s a.2 (quiet s s refl refl)
+by-asks s t line live.Edits text fault a = goes-to s t s a.2 (quiet s s refl refl)
+by-asks s t line (live.Events on) text fault a = goes-to s t _ a.2 (quiet s _ refl refl)
+by-asks s t line (live.Echo on) text fault a = goes-to s t _ a.2 (quiet s _ refl refl)
+by-asks s t line (live.When which) text fault a = goes-to s t s a.2 (quiet s s refl refl)
+by-asks s t line live.Save text fault a = goes-to s t s a.2 (quiet s s refl refl)
+
+by-reads : (s t : Live) (line : List ℕ) (r : LiveReading) (text : List ℕ) (fault : Option LineFault) → Reads s line r text fault t → Goes s t
+by-reads s t line Skip text fault a = goes-to s t s a.2 (quiet s s refl refl)
+by-reads s t line Bad text fault a = goes-to s t s a.2 (quiet s s refl refl)
+by-reads s t line (Tick row) text fault a =
+    goes-to s t (with_inputs a.1 (with_row row s)) a.4 (record { leads = by-task (setup (with_row row s)) (besides (with_row row s) line) s.inputs (tasks.Ticks 1) text a.0 a.1 a.2; same = refl })
+by-reads s t line (Ask c) text fault a = by-asks s t line c text fault a
+
+by-says : (s t : Live) (n : ℕ) (line text : List ℕ) (flow : Flow) → Says s n line text flow t → Goes s t
+by-says s t n line text flow a = goes-to s t (with_stop (stopped_at s.on_fault n line a.fault) a.left) a.stops (stopped (by-reads s a.left line (live_reading line) text a.fault a.reads))
+  where
+    stopped : Goes s a.left → Goes s (with_stop (stopped_at s.on_fault n line a.fault) a.left)
+    stopped goes = record { leads = goes.leads; same = goes.same }
+
+further : (s t u : Live) → Goes s t → Goes t u → Goes s u
+further s t u first last = record {
+  leads = then s.plan s.inputs t.inputs u.inputs first.leads (subst (λ (p : Plan). Leads p t.inputs u.inputs) first.same last.leads);
+  same = last.same ∙ first.same;
+}
+
+by-runs : (most : ℕ) (from now : Live) (lines : List (List ℕ)) (text : List ℕ) → Runs most Says from lines text now → Goes from now
+by-runs most from now [] text r = goes-to from now from r.1 (quiet from from refl refl)
+by-runs most from now (line ∷ lines) text r = further from r.2 now (by-runs most from r.2 lines r.0 r.3) (by-says r.2 now (suc (length lines)) _ r.1 On r.4)
+
+-- commands with right answers leave inputs that were taken
+are-of : (on_fault : OnFault) (plan : Plan) (now : Live) → Goes (begun on_fault plan) now → AreOf plan now
+are-of on_fault plan now goes = record {
+  taken = subst (λ (is : List Input). AreTaken plan is) (sym goes.leads.left) (remaining_taken plan goes.leads.cs goes.leads.ans goes.leads.right);
+  same = goes.same;
+}
+
+pub lines-leave : (most : ℕ) (on_fault : OnFault) (plan : Plan) (lines : List (List ℕ)) (text : List ℕ) (now : Live) → Runs most Says (begun on_fault plan) lines text now → AreOf plan now
+lines-leave most on_fault plan lines text now r = are-of on_fault plan now (by-runs most (begun on_fault plan) now lines text r)
+
+pub last-leaves : (most number : ℕ) (on_fault : OnFault) (plan : Plan) (lines : List (List ℕ)) (last before answer : List ℕ) (flow : Flow) (now end : Live)
+    → Runs most Says (begun on_fault plan) lines before now → Says now number last answer flow end → AreOf plan end
+last-leaves most number on_fault plan lines last before answer flow now end r a =
+    are-of on_fault plan end (further (begun on_fault plan) now end (by-runs most (begun on_fault plan) now lines before r) (by-says now end number last answer flow a))
+
+-- ## Answers
+
+quiet-besides : (s : Live) (line : List ℕ) → s.tells ≡ false → s.echoes ≡ false → besides s line ≡ nothing_besides
+quiet-besides s line tells echoes = (λ j. let b : Besides = record { tells = tells j; echo = echo_of (echoes j) line } in b)
+
+pub answered-as : (s t : Live) (line text : List ℕ) (c : Command) (fault : Option LineFault) → s.tells ≡ false → s.echoes ≡ false → Obeys s line c text fault t → Answers (setup s) s.inputs c text t.inputs
+answered-as s t line text c fault tells echoes o =
+    subst (λ (x : Live). Answers (setup s) s.inputs c text x.inputs) (sym o.4)
+    (plain-answers (setup s) s.inputs c text o.0 o.1 (subst (λ (b : Besides). session.Obeys (setup s) b s.inputs (task_of c) text o.0 o.1) (quiet-besides s line tells echoes) o.2))
+
+-- a row that is held is in force at each tick
+held-row : (row : Row) (n : ℕ) → row_at (rows_in (Held row)) (n + 1) ≡ row
+held-row row n = elim (cases_Bool (nat_le 1 (n + 1))) [
+  | inl is ↦ rw is refl
+  | inr isnt ↦ absurd (grind (arith, nat_tests, isnt))
+]
+
+ticked-as : (given other : Setup) (is : List Input) (text rest : List ℕ) → other.plan ≡ given.plan → next_tick other is ≡ next_tick given is → Ticked given is text rest → Ticked other is text rest
+ticked-as given other is text rest p e t = record {
+  right = subst (λ (x : Input). IsRight other.plan is (asks.Apply x) Took) (sym e) (subst (λ (q : Plan). IsRight q is (asks.Apply (next_tick given is)) Took) (sym p) t.right);
+  line = subst (λ (x : Input). text ≡ with_feed (display_line (replay other.plan (x ∷ is))) ++ rest) (sym e) (subst (λ (q : Plan). text ≡ with_feed (display_line (replay q (next_tick given is ∷ is))) ++ rest) (sym p) t.line);
+}
+
+one-step : (given other : Setup) (is : List Input) (text : List ℕ) (new : List Input) → other.plan ≡ given.plan → next_tick other is ≡ next_tick given is → Steps given is 1 text new → Steps other is 1 text new
+one-step given other is text new p e (inl s) = inl (s.0, ticked-as given other is text s.0 p e s.1, (s.2.0, subst (λ (x : Input). new ≡ x ∷ is) (sym e) s.2.1))
+one-step given other is text new p e (inr s) = inr (record {
+  refusal = s.refusal;
+  right = subst (λ (x : Input). IsRight other.plan is (asks.Apply x) (Refused s.refusal)) (sym e) (subst (λ (q : Plan). IsRight q is (asks.Apply (next_tick given is)) (Refused s.refusal)) (sym p) s.right);
+  line = s.line;
+  left = s.left;
+})
+
+pub rows-as : (given : Setup) (s t : Live) (line text : List ℕ) (row : Row) (fault : Option LineFault) → s.tells ≡ false → s.echoes ≡ false → given.plan ≡ s.plan → row ≡ row_at given.log ((present s).now + 1)
+    → Reads s line (Tick row) text fault t → Answers given s.inputs (Step 1) text t.inputs
+rows-as given s t line text row fault tells echoes plan e o =
+    one-step (setup (with_row row s)) given s.inputs text t.inputs plan
+    (ap (λ (p : Plan). TakesTick (row_at given.log ((replay p s.inputs).now + 1))) plan ∙ ap TakesTick (sym e ∙ sym (held-row row (present s).now)))
+    (answered-as (with_row row s) t line text (Step 1) fault tells echoes o)
+
+-- ## Whole runs
+
+asked-as : (given other : Setup) (is : List Input) (cmd : Cmd) (text : List ℕ) (new : List Input) → other.plan ≡ given.plan → Asked given is cmd text new → Asked other is cmd text new
+asked-as given other is cmd text new p a = record {
+  answer = a.answer;
+  right = subst (λ (q : Plan). IsRight q is cmd a.answer) (sym p) a.right;
+  left = subst (λ (q : Plan). new ≡ remaining_after q is cmd a.answer) (sym p) a.left;
+  line = subst (λ (q : Plan). text ≡ with_feed (told cmd a.answer (replay q new))) (sym p) a.line;
+}
+
+-- what takes no tick is answered alike on each log
+other-log : (given other : Setup) (is : List Input) (c : Command) (text : List ℕ) (new : List Input) → other.plan ≡ given.plan → TakesNoTick c → Answers given is c text new → Answers other is c text new
+other-log given other is (Step n) text new p none a = absurd none
+other-log given other is Show text new p none a = (subst (λ (q : Plan). text ≡ with_feed (display_line (replay q is))) (sym p) a.0, a.1)
+other-log given other is Quit text new p none a = a
+other-log given other is c text new p none a = asked-as given other is _ text new p a
+
+-- where a live run goes on after a command, a session does
+goes-on : (c : Command) (x : Option Stopped) → On ≡ flow_in (Ask (live.Session c)) x → On ≡ flow_after c
+goes-on Quit (Some x) e = e
+goes-on Quit None e = e
+goes-on c x e = refl
+
+-- events and echo are off, and the plan is that of a session
+record Alike (given : Setup) (s : Live) : Type 0 where
+  plan : given.plan ≡ s.plan
+  tells : s.tells ≡ false
+  echoes : s.echoes ≡ false
+
+replied : (given : Setup) (s t : Live) (line text : List ℕ) (asks : LiveReading) (there : Reading) (fault : Option LineFault) (x : Option Stopped) → Alike given s → AsksAsThere given s asks there
+    → Reads s line asks text fault t → On ≡ flow_in asks x → Replies (stand given s.inputs) there text On (stand given t.inputs)
+replied given s t line text Skip there fault x same asks a on = subst (λ (r : Reading). Replies (stand given s.inputs) r text On (stand given t.inputs)) (sym asks) (a.0, refl, ap (λ (u : Live). stand given u.inputs) a.2)
+replied given s t line text Bad there fault x same asks a on =
+    subst (λ (r : Reading). Replies (stand given s.inputs) r text On (stand given t.inputs)) (sym asks)
+    (a.0 ∙ ap (λ (b : Bool). echo_of b line ++ with_feed (codes "bad command")) same.echoes, refl, ap (λ (u : Live). stand given u.inputs) a.2)
+replied given s t line text (Tick row) there fault x same asks a on =
+    subst (λ (r : Reading). Replies (stand given s.inputs) r text On (stand given t.inputs)) (sym asks.1)
+    (rows-as given s t line text row fault same.tells same.echoes same.plan asks.0 a, refl, refl)
+replied given s t line text (Ask (live.Session c)) there fault x same asks a on =
+    subst (λ (r : Reading). Replies (stand given s.inputs) r text On (stand given t.inputs)) (sym asks.1)
+    (other-log (setup s) given s.inputs c text t.inputs same.plan asks.0 (answered-as s t line text c fault same.tells same.echoes a), goes-on c x on, refl)
+replied given s t line text (Ask c) there fault x same asks a on = absurd asks
+
+-- they stay off
+same-off : (given : Setup) (s t : Live) (line text : List ℕ) (asks : LiveReading) (there : Reading) (fault : Option LineFault) → AsksAsThere given s asks there → Reads s line asks text fault t →
+    (t.tells ≡ s.tells) × (t.echoes ≡ s.echoes)
+same-off given s t line text Skip there fault asks a = (ap (λ (u : Live). u.tells) a.2, ap (λ (u : Live). u.echoes) a.2)
+same-off given s t line text Bad there fault asks a = (ap (λ (u : Live). u.tells) a.2, ap (λ (u : Live). u.echoes) a.2)
+same-off given s t line text (Tick row) there fault asks a = (ap (λ (u : Live). u.tells) a.4, ap (λ (u : Live). u.echoes) a.4)
+same-off given s t line text (Ask (live.Session c)) there fault asks a = (ap (λ (u : Live). u.tells) a.4, ap (λ (u : Live). u.echoes) a.4)
+same-off given s t line text (Ask c) there fault asks a = absurd asks
+
+still-alike : (given : Setup) (s now : Live) (n : ℕ) (line text : List ℕ) (there : Reading) → Alike given s → AsksAsThere given s (live_reading line) there → Says s n line text On now → Alike given now
+still-alike given s now n line text there same asks a =
+    let off : (a.left.tells ≡ s.tells) × (a.left.echoes ≡ s.echoes) = same-off given s a.left line text (live_reading line) there a.fault asks a.reads in
+    record {
+      plan = same.plan ∙ sym (by-says s now n line text On a).same;
+      tells = ap (λ (u : Live). u.tells) a.stops ∙ (off.0 ∙ same.tells);
+      echoes = ap (λ (u : Live). u.echoes) a.stops ∙ (off.1 ∙ same.echoes);
+    }
+
+-- a session to which the other lines are given has come as far
+record AsFar (given : Setup) (others : List (List ℕ)) (text : List ℕ) (now : Live) : Type 0 where
+  runs : Runs 202 says (stand given []) others text (stand given now.inputs)
+  same : Alike given now
+
+as-far : (given : Setup) (lines others : List (List ℕ)) (text : List ℕ) (now : Live) → RunsAsThere given (begun GoOn given.plan) lines others text now → AsFar given others text now
+as-far given [] [] text now r = record {
+  runs = (r.0, ap (λ (u : Live). stand given u.inputs) r.1);
+  same = subst (λ (u : Live). Alike given u) (sym r.1) (record { plan = refl; tells = refl; echoes = refl });
+}
+as-far given [] (other ∷ others) text now r = absurd r
+as-far given (line ∷ lines) [] text now r = absurd r
+as-far given (line ∷ lines) (other ∷ others) text now r =
+    let before : AsFar given others r.0 r.2 = as-far given lines others r.0 r.2 r.3 in
+    record {
+      runs = (
+        r.0,
+        r.1,
+        stand given r.2.inputs,
+        before.runs,
+        subst (λ (u : Live). Replies (stand given r.2.inputs) (reading (asked 202 other)) r.1 On (stand given u.inputs)) (sym r.4.stops)
+            (replied given r.2 r.4.left (asked 202 line) r.1 (live_reading (asked 202 line)) (reading (asked 202 other)) r.4.fault (stopped_at r.2.on_fault (suc (length lines)) (asked 202 line) r.4.fault) before.same r.5 r.4.reads r.4.goes),
+        r.6,
+      );
+      same = still-alike given r.2 now (suc (length lines)) (asked 202 line) r.1 (reading (asked 202 other)) before.same r.5 r.4;
+    }
+
+pub runs-as : (given : Setup) (lines others : List (List ℕ)) (text : List ℕ) (now : Live) → RunsAsThere given (begun GoOn given.plan) lines others text now →
+    Runs 202 says (stand given []) others text (stand given now.inputs)
+runs-as given lines others text now r = (as-far given lines others text now r).runs
