@@ -3,4 +3,5 @@ pub mod PartLemmas
 pub mod TextLemmas
 pub mod PlainLemmas
 pub mod ThereLemmas
+pub mod LiveLemmas
 pub mod Examples

@@ -30,5 +30,7 @@ pub mod Versions
 pub mod Texts
 -- that a session has one text, but for memory
 pub mod OneText
+-- that a live run has one answer to each line, but for memory
+pub mod OneAnswer
 -- what the events of runs tell
 pub mod Told

@@ -1,4 +1,5 @@
-//! What holds of the texts of sessions, each law the contract of a function that does nothing.
+//! What holds of the texts of sessions and live runs, each law the contract of a function that does nothing.
+ghost use Rattle.tsb_laws.specs.OneAnswer.{LinesHaveOneAnswer, LiveRunsWriteOneText};
 ghost use Rattle.tsb_laws.specs.OneText.{OneText, SessionsWriteOneText, SomeTextIsUntold, TextsPartAtMemory};
 
 /// Texts of a session are equal but for memory. Two texts that a session may write for the same bytes are equal, or
@@ -25,4 +26,15 @@ pub fn texts_are_equal_but_for_memory()
 /// Witness: `session` of Witness.
 pub fn sessions_write_one_text()
     ensures { SessionsWriteOneText }
+{}
+
+/// Live runs write one text, but for memory. To each line a live run has one answer, and it comes to one state by it,
+/// where the line is not refused for want of memory. So it has written one text to all lines that it has read.
+///
+/// Not said: when memory runs out.
+/// Mistake: an undo that may be answered by `nothing` whatever remains, `IsLoose` (`would_be_right`, `is_not_right`).
+/// Witness: `row_was_said`, `row_was_read` of LiveExamples of tsb_live_text.
+pub fn live_runs_write_one_text()
+    ensures lines { LinesHaveOneAnswer }
+    ensures runs { LiveRunsWriteOneText }
 {}

@@ -1,0 +1,207 @@
+-- Two answers of a live run to one line are the same, or one of them is that memory ran out.
+use Rattle.std.proofs.Common.{◌≡◌, ◌⊎◌, ℕ, zero, suc, Bool, false, List, [], ◌∷◌, ◌++◌, Option, Some, refl, sym, ap, subst, ◌∙◌, inl, inr}
+use Rattle.tsb_dialog.specs.Heard.{Runs}
+use Rattle.tsb_dialog.specs.Said.{with_feed}
+use Rattle.tsb_dialog.specs.declared.answers.Flow.{Flow}
+use Rattle.tsb_live_lines.specs.LiveReadings.{live_reading}
+use Rattle.tsb_live_lines.specs.declared.command.LiveCommand.{LiveCommand}
+use Rattle.tsb_live_lines.specs.declared.command.LiveCommand.TheVariants as live
+use Rattle.tsb_live_lines.specs.declared.command.LiveReading.{LiveReading}
+use Rattle.tsb_live_lines.specs.declared.command.LiveReading.TheVariants.{Skip, Bad, Tick, Ask}
+use Rattle.tsb_live_text.specs.Changes.{Changes, line_after, owed, shows_same, tick_text}
+use Rattle.tsb_live_text.specs.Live.{AsksLive, Leaves, Live, Reads, Says, Tells, besides, fault_by, flow_in, present, setup, stopped_at, with_inputs, with_row, with_stop}
+use Rattle.tsb_step.specs.Play.{Cmd, IsRight, remaining_after}
+use Rattle.tsb_step.specs.Runs.{replay}
+use Rattle.tsb_step.specs.declared.inputs.Input.{Input}
+use Rattle.tsb_step.specs.declared.inputs.Input.TheVariants as inputs
+use Rattle.tsb_step.specs.tsb_machine.declared.commands.Answer.{Answer}
+use Rattle.tsb_step.specs.tsb_machine.declared.commands.Answer.TheVariants as answers
+use Rattle.tsb_step.specs.tsb_machine.declared.commands.Command.TheVariants.{Apply}
+use Rattle.tsb_step.specs.tsb_plan.Plan.{Plan}
+use Rattle.tsb_step.specs.tsb_types.declared.refusal.Refusal.{Refusal}
+use Rattle.tsb_step.specs.tsb_types.declared.refusal.Refusal.TheVariants.{Memory}
+use Rattle.tsb_text.specs.Answers.{Setup, display_line, next_tick, refused_line, told}
+use Rattle.tsb_text.specs.Obeys as session
+use Rattle.tsb_text.specs.Obeys.{AsksOnce, Besides, TakesTicks, before_line, news, news_of, refusal_in}
+use Rattle.tsb_text.specs.Tasks.{task_of}
+use Rattle.tsb_text.specs.declared.faults.LineFault.{LineFault}
+use Rattle.tsb_text.specs.declared.task.Task.{Task}
+use Rattle.tsb_text.specs.declared.task.Task.TheVariants as tasks
+use Rattle.tsb_types.specs.declared.row.Row.{Row}
+use Rattle.tsb_laws.specs.OneAnswer.{RanOut, RunsOut}
+use Rattle.tsb_laws.proofs.one_text.AnswerLemmas.{answers-alike, refused-same, took-refused}
+
+-- ## What a session asks
+
+-- both are the same, or one is refused since memory ran out
+abbrev Same : (text other : List ℕ) (why whys : Option Refusal) (new left : List Input) → Type 0
+Same text other why whys new left = ((text ≡ other) × (why ≡ whys) × (new ≡ left)) ⊎ ((why ≡ Some Memory) ⊎ (whys ≡ Some Memory))
+
+once-text : Setup → Besides → List Input → Cmd → Answer → List Input → List ℕ
+once-text given b is cmd a new = before_line b.echo a (news_of b.tells given is cmd) ++ with_feed (told cmd a (replay given.plan new))
+
+once-left : (given : Setup) (b : Besides) (is : List Input) (cmd : Cmd) (text other : List ℕ) (why whys : Option Refusal) (new left : List Input)
+    → (x : AsksOnce given b is cmd text why new) → (y : AsksOnce given b is cmd other whys left) → x.answer ≡ y.answer → new ≡ left
+once-left given b is cmd text other why whys new left x y e = x.left ∙ ap (λ (a : Answer). remaining_after given.plan is cmd a) e ∙ sym y.left
+
+once-same : (given : Setup) (b : Besides) (is : List Input) (cmd : Cmd) (text other : List ℕ) (why whys : Option Refusal) (new left : List Input)
+    → AsksOnce given b is cmd text why new → AsksOnce given b is cmd other whys left → Same text other why whys new left
+unfolding once-text
+once-same given b is cmd text other why whys new left x y = elim (answers-alike given.plan is cmd x.answer y.answer x.right y.right) [
+  | inl e ↦ inl (
+    x.line ∙ ap (λ (a : Answer). once-text given b is cmd a new) e ∙ ap (λ (l : List Input). once-text given b is cmd y.answer l) (once-left given b is cmd text other why whys new left x y e) ∙ sym y.line,
+    x.refused ∙ ap refusal_in e ∙ sym y.refused,
+    once-left given b is cmd text other why whys new left x y e,
+  )
+  | inr memory ↦ elim memory [
+    | inl m ↦ inr (inl (x.refused ∙ ap refusal_in m))
+    | inr m ↦ inr (inr (y.refused ∙ ap refusal_in m))
+  ]
+]
+
+-- a tick is taken, and it is refused: only since memory ran out
+took-apart : (plan : Plan) (is : List Input) (cmd : Cmd) (why : Refusal) → IsRight plan is cmd answers.Took → IsRight plan is cmd (answers.Refused why) → why ≡ Memory
+took-apart plan is cmd why x y = elim (answers-alike plan is cmd answers.Took (answers.Refused why) x y) [
+  | inl e ↦ absurd (took-refused why e)
+  | inr memory ↦ elim memory [
+    | inl m ↦ absurd (took-refused Memory m)
+    | inr m ↦ refused-same why Memory m
+  ]
+]
+
+-- it is refused twice
+refused-apart : (plan : Plan) (is : List Input) (cmd : Cmd) (why whys : Refusal) → IsRight plan is cmd (answers.Refused why) → IsRight plan is cmd (answers.Refused whys) → (why ≡ whys) ⊎ ((why ≡ Memory) ⊎ (whys ≡ Memory))
+refused-apart plan is cmd why whys x y = elim (answers-alike plan is cmd (answers.Refused why) (answers.Refused whys) x y) [
+  | inl e ↦ inl (refused-same why whys e)
+  | inr memory ↦ elim memory [
+    | inl m ↦ inr (inl (refused-same why Memory m))
+    | inr m ↦ inr (inr (refused-same whys Memory m))
+  ]
+]
+
+-- two refusals, each told by its line after the same bytes
+refusals-same : (before : List ℕ) (is : List Input) (text other : List ℕ) (r q : Option Refusal) (new left : List Input) (why whys : Refusal) → (why ≡ whys) ⊎ ((why ≡ Memory) ⊎ (whys ≡ Memory))
+    → text ≡ before ++ with_feed (refused_line why) → other ≡ before ++ with_feed (refused_line whys) → r ≡ Some why → q ≡ Some whys → new ≡ is → left ≡ is → Same text other r q new left
+refusals-same before is text other r q new left why whys (inl e) a b c d f g = inl (a ∙ ap (λ (w : Refusal). before ++ with_feed (refused_line w)) e ∙ sym b, c ∙ ap Some e ∙ sym d, f ∙ sym g)
+refusals-same before is text other r q new left why whys (inr (inl m)) a b c d f g = inr (inl (c ∙ ap Some m))
+refusals-same before is text other r q new left why whys (inr (inr m)) a b c d f g = inr (inr (d ∙ ap Some m))
+
+-- the same line before both
+more-same : (before rest more text other : List ℕ) (why whys : Option Refusal) (new left : List Input) → text ≡ before ++ rest → other ≡ before ++ more → Same rest more why whys new left → Same text other why whys new left
+more-same before rest more text other why whys new left a b (inl e) = inl (a ∙ ap (λ (l : List ℕ). before ++ l) e.0 ∙ sym b, e.1, e.2)
+more-same before rest more text other why whys new left a b (inr m) = inr m
+
+ticks-same : (given : Setup) (b : Besides) (n : ℕ) (is : List Input) (text other : List ℕ) (why whys : Option Refusal) (new left : List Input)
+    → TakesTicks given b is n text why new → TakesTicks given b is n other whys left → Same text other why whys new left
+ticks-same given b zero is text other why whys new left x y = inl (x.0 ∙ sym y.0, x.1 ∙ sym y.1, x.2 ∙ sym y.2)
+ticks-same given b (suc n) is text other why whys new left (inl x) (inl y) =
+    more-same (news b.tells given is (next_tick given is) ++ with_feed (display_line (replay given.plan (next_tick given is ∷ is)))) x.0 y.0 text other why whys new left x.1.line y.1.line
+    (ticks-same given b n (next_tick given is ∷ is) x.0 y.0 why whys new left x.2 y.2)
+ticks-same given b (suc n) is text other why whys new left (inl x) (inr y) = inr (inr (y.refused ∙ ap Some (took-apart given.plan is (Apply (next_tick given is)) y.why x.1.right y.right)))
+ticks-same given b (suc n) is text other why whys new left (inr x) (inl y) = inr (inl (x.refused ∙ ap Some (took-apart given.plan is (Apply (next_tick given is)) x.why y.1.right x.right)))
+ticks-same given b (suc n) is text other why whys new left (inr x) (inr y) =
+    refusals-same b.echo is text other why whys new left x.why y.why (refused-apart given.plan is (Apply (next_tick given is)) x.why y.why x.right y.right) x.line y.line x.refused y.refused x.left y.left
+
+task-same : (given : Setup) (b : Besides) (is : List Input) (task : Task) (text other : List ℕ) (why whys : Option Refusal) (new left : List Input)
+    → session.Obeys given b is task text why new → session.Obeys given b is task other whys left → Same text other why whys new left
+task-same given b is (tasks.Ticks n) text other why whys new left x y = ticks-same given b n is text other why whys new left x y
+task-same given b is tasks.Show text other why whys new left x y = inl (x.0 ∙ sym y.0, x.1 ∙ sym y.1, x.2 ∙ sym y.2)
+task-same given b is tasks.Quit text other why whys new left x y = inl (x.0 ∙ sym y.0, x.1 ∙ sym y.1, x.2 ∙ sym y.2)
+task-same given b is (tasks.Ask cmd) text other why whys new left x y = once-same given b is cmd text other why whys new left x y
+
+-- ## Ticks of which only the changes are told
+
+changes-same : (plan : Plan) (b : Besides) (row : Row) (n : ℕ) (is : List Input) (before : List ℕ) (is_owed : Bool) (text other : List ℕ) (why whys : Option Refusal) (new left : List Input)
+    → Changes plan b row is before is_owed n text why new → Changes plan b row is before is_owed n other whys left → Same text other why whys new left
+changes-same plan b row zero is before is_owed text other why whys new left x y = inl (x.0 ∙ sym y.0, x.1 ∙ sym y.1, x.2 ∙ sym y.2)
+changes-same plan b row (suc n) is before is_owed text other why whys new left (inl x) (inl y) =
+    more-same (tick_text plan b row is before) x.1 y.1 text other why whys new left x.2 y.2
+    (changes-same plan b row n (inputs.Tick row ∷ is) (line_after plan (inputs.Tick row ∷ is)) (shows_same (line_after plan (inputs.Tick row ∷ is)) before) x.1 y.1 why whys new left x.3 y.3)
+changes-same plan b row (suc n) is before is_owed text other why whys new left (inl x) (inr y) = inr (inr (y.refused ∙ ap Some (took-apart plan is (Apply (inputs.Tick row)) y.why x.0 y.right)))
+changes-same plan b row (suc n) is before is_owed text other why whys new left (inr x) (inl y) = inr (inl (x.refused ∙ ap Some (took-apart plan is (Apply (inputs.Tick row)) x.why y.0 x.right)))
+changes-same plan b row (suc n) is before is_owed text other why whys new left (inr x) (inr y) =
+    more-same (owed is_owed before) (b.echo ++ with_feed (refused_line x.why)) (b.echo ++ with_feed (refused_line y.why)) text other why whys new left x.line y.line
+    (refusals-same b.echo is (b.echo ++ with_feed (refused_line x.why)) (b.echo ++ with_feed (refused_line y.why)) why whys new left x.why y.why (refused-apart plan is (Apply (inputs.Tick row)) x.why y.why x.right y.right) refl refl x.refused y.refused x.left y.left)
+
+-- ## Lines
+
+-- both answers are the same, or one is that memory ran out
+abbrev One : (text other : List ℕ) (fault faults : Option LineFault) (t u : Live) → Type 0
+One text other fault faults t u = ((text ≡ other) × (fault ≡ faults) × (t ≡ u)) ⊎ (RanOut fault ⊎ RanOut faults)
+
+leaves-one : (s t u : Live) (P : List ℕ → Option Refusal → List Input → Type 0) (text other : List ℕ) (fault faults : Option LineFault)
+    → ((why whys : Option Refusal) (new left : List Input) → P text why new → P other whys left → Same text other why whys new left)
+    → Leaves s P text fault t → Leaves s P other faults u → One text other fault faults t u
+leaves-one s t u P text other fault faults same a b = elim (same a.0 b.0 a.1 b.1 a.2 b.2) [
+  | inl e ↦ inl (e.0, a.3 ∙ ap fault_by e.1 ∙ sym b.3, a.4 ∙ ap (λ (l : List Input). with_inputs l s) e.2 ∙ sym b.4)
+  | inr memory ↦ elim memory [
+    | inl m ↦ inr (inl (a.3 ∙ ap fault_by m))
+    | inr m ↦ inr (inr (b.3 ∙ ap fault_by m))
+  ]
+]
+
+tells-one : (s t u left : Live) (line answer text other : List ℕ) (why fault faults : Option LineFault) → Tells s line answer why text fault left t → Tells s line answer why other faults left u → One text other fault faults t u
+tells-one s t u left line answer text other why fault faults a b = inl (a.0 ∙ sym b.0, a.1 ∙ sym b.1, a.2 ∙ sym b.2)
+
+obeys-one : (s t u : Live) (line : List ℕ) (task : Task) (text other : List ℕ) (fault faults : Option LineFault)
+    → Leaves s (session.Obeys (setup s) (besides s line) s.inputs task) text fault t → Leaves s (session.Obeys (setup s) (besides s line) s.inputs task) other faults u → One text other fault faults t u
+obeys-one s t u line task text other fault faults a b =
+    leaves-one s t u (session.Obeys (setup s) (besides s line) s.inputs task) text other fault faults
+    (λ why whys new left x y. task-same (setup s) (besides s line) s.inputs task text other why whys new left x y) a b
+
+asks-one : (s t u : Live) (line : List ℕ) (c : LiveCommand) (text other : List ℕ) (fault faults : Option LineFault) → AsksLive s line c text fault t → AsksLive s line c other faults u → One text other fault faults t u
+asks-one s t u line (live.Session c) text other fault faults a b = obeys-one s t u line (task_of c) text other fault faults a b
+asks-one s t u line (live.Changes n) text other fault faults a b =
+    leaves-one s t u (Changes s.plan (besides s line) s.row s.inputs (display_line (present s)) false n) text other fault faults
+    (λ why whys new left x y. changes-same s.plan (besides s line) s.row n s.inputs (display_line (present s)) false text other why whys new left x y) a b
+asks-one s t u line live.Plan text other fault faults (inl a) (inl b) = inl (a.0 ∙ sym b.0, a.1 ∙ sym b.1, a.2 ∙ sym b.2)
+asks-one s t u line live.Plan text other fault faults (inl a) (inr b) = inr (inr b.1)
+asks-one s t u line live.Plan text other fault faults (inr a) b = inr (inl a.1)
+asks-one s t u line live.Status text other fault faults a b = inl (a.0 ∙ sym b.0, a.1 ∙ sym b.1, a.2 ∙ sym b.2)
+asks-one s t u line live.Edits text other fault faults a b = inl (a.0 ∙ sym b.0, a.1 ∙ sym b.1, a.2 ∙ sym b.2)
+asks-one s t u line (live.Events on) text other fault faults a b = inl (a.0 ∙ sym b.0, a.1 ∙ sym b.1, a.2 ∙ sym b.2)
+asks-one s t u line (live.Echo on) text other fault faults a b = inl (a.0 ∙ sym b.0, a.1 ∙ sym b.1, a.2 ∙ sym b.2)
+asks-one s t u line (live.When which) text other fault faults a b = inl (a.0 ∙ sym b.0, a.1 ∙ sym b.1, a.2 ∙ sym b.2)
+asks-one s t u line live.Save text other fault faults a b = inl (a.0 ∙ sym b.0, a.1 ∙ sym b.1, a.2 ∙ sym b.2)
+
+reads-one : (s t u : Live) (line : List ℕ) (r : LiveReading) (text other : List ℕ) (fault faults : Option LineFault) → Reads s line r text fault t → Reads s line r other faults u → One text other fault faults t u
+reads-one s t u line Skip text other fault faults a b = inl (a.0 ∙ sym b.0, a.1 ∙ sym b.1, a.2 ∙ sym b.2)
+reads-one s t u line Bad text other fault faults a b = inl (a.0 ∙ sym b.0, a.1 ∙ sym b.1, a.2 ∙ sym b.2)
+reads-one s t u line (Tick row) text other fault faults a b = obeys-one (with_row row s) t u line (tasks.Ticks 1) text other fault faults a b
+reads-one s t u line (Ask c) text other fault faults a b = asks-one s t u line c text other fault faults a b
+
+pub lines-one : (s t u : Live) (number : ℕ) (line text other : List ℕ) (flow after : Flow) (a : Says s number line text flow t) (b : Says s number line other after u) →
+    ((text ≡ other) × (flow ≡ after) × (t ≡ u)) ⊎ (RanOut a.fault ⊎ RanOut b.fault)
+lines-one s t u number line text other flow after a b = elim (reads-one s a.left b.left line (live_reading line) text other a.fault b.fault a.reads b.reads) [
+  | inl e ↦ inl (
+    e.0,
+    a.goes ∙ ap (λ (f : Option LineFault). flow_in (live_reading line) (stopped_at s.on_fault number line f)) e.1 ∙ sym b.goes,
+    a.stops ∙ ap (λ (f : Option LineFault). with_stop (stopped_at s.on_fault number line f) a.left) e.1 ∙ ap (λ (l : Live). with_stop (stopped_at s.on_fault number line b.fault) l) e.2 ∙ sym b.stops,
+  )
+  | inr m ↦ inr m
+]
+
+-- ## Runs
+
+-- the same line is answered where both have come to the same
+line-after : (s v t u : Live) (number : ℕ) (line text other : List ℕ) (flow after : Flow) → s ≡ v → (a : Says s number line text flow t) (b : Says v number line other after u) →
+    ((text ≡ other) × (flow ≡ after) × (t ≡ u)) ⊎ (RanOut a.fault ⊎ RanOut b.fault)
+line-after s v t u number line text other flow after e a =
+    subst (λ (w : Live). (b : Says w number line other after u) → ((text ≡ other) × (flow ≡ after) × (t ≡ u)) ⊎ (RanOut a.fault ⊎ RanOut b.fault)) e (lines-one s t u number line text other flow after a)
+
+pub runs-one : (most : ℕ) (from now then : Live) (lines : List (List ℕ)) (text other : List ℕ) (r : Runs most Says from lines text now) (q : Runs most Says from lines other then) →
+    ((text ≡ other) × (now ≡ then)) ⊎ (RunsOut most from lines text now r ⊎ RunsOut most from lines other then q)
+runs-one most from now then [] text other r q = inl (r.0 ∙ sym q.0, r.1 ∙ sym q.1)
+runs-one most from now then (line ∷ lines) text other r q = elim (runs-one most from r.2 q.2 lines r.0 q.0 r.3 q.3) [
+  | inl e ↦ elim (line-after r.2 q.2 now then _ _ r.1 q.1 _ _ e.1 r.4 q.4) [
+    | inl d ↦ inl (r.5 ∙ ap (λ (l : List ℕ). l ++ r.1) e.0 ∙ ap (λ (l : List ℕ). q.0 ++ l) d.0 ∙ sym q.5, d.2)
+    | inr m ↦ elim m [
+      | inl x ↦ inr (inl (inr x))
+      | inr y ↦ inr (inr (inr y))
+    ]
+  ]
+  | inr m ↦ elim m [
+    | inl x ↦ inr (inl (inl x))
+    | inr y ↦ inr (inr (inl y))
+  ]
+]
