@@ -20,7 +20,7 @@ import threading
 
 EXAMPLES = pathlib.Path("examples")
 USAGE = b"usage: tsb check PLAN or tsb run PLAN LOG\n"
-LIVE_USAGE = b"usage: tsb_live PLAN\n"
+LIVE_USAGE = b"usage: tsb_live [--strict] PLAN\n"
 READ, WRITE = b"read fault\n", b"write fault\n"
 OK, RULE = b"plan ok\n", b"plan: rule K8\n"
 LONGEST_PLAN, LONGEST_COMMANDS = 1 << 20, 16 << 20
@@ -182,13 +182,13 @@ def live_runs():
         ["two.json", "empty.log"], ["--help"], ["-h"], ["two.json", "--help"], ["--version"], ["-s", "two.json"],
         ["--strict=true", "two.json"], ["--stric", "two.json"], ["--strict", "two.json", "--strict"],
         ["--strict", "--strict", "two.json"], ["--"], ["--", "two.json", "--"], ["--", "two.json", "--strict"],
-        ["--strict", "--"], [b"\xff"], ["two.json", b"\xc3"], ["--strict", "two.json"], ["two.json", "--strict"],
-        ["--strict", "--", "two.json"], ["two.json", "--strict", "--"], ["--strict", "--", "--help"],
+        ["--strict", "--"], [b"\xff"], ["two.json", b"\xc3"],
     ]:
         yield Run(words, 3 if words == [""] else 2, b"", READ if words == [""] else LIVE_USAGE, commands)
     for words in [
         ["two.json"], ["--", "two.json"], ["two.json", "--"], ["--", "--help"], ["./two.json"],
-        ["with spaces/two.json"], [TWELVE], ["check"],
+        ["with spaces/two.json"], [TWELVE], ["check"], ["--strict", "two.json"], ["two.json", "--strict"],
+        ["--strict", "--", "two.json"], ["two.json", "--strict", "--"], ["--strict", "--", "--help"],
     ]:
         yield Run(words, 0, session, b"", commands)
     for path in ["none.json", "folder", "two.json/none", TORN, "help"]:
