@@ -7,6 +7,7 @@ import re
 import signal
 import threading
 import time
+from collections.abc import Iterator
 from pathlib import Path
 
 import pytest
@@ -399,6 +400,15 @@ def test_a_state_is_saved(examples: Path, tmp_path: Path) -> None:
     assert again.splitlines()[-1] == shown.line
 
 
+@pytest.fixture
+def ctrl_c() -> Iterator[None]:
+    """Ctrl-C as Python has it, also where whatever started the tests passes it over."""
+    before = signal.signal(signal.SIGINT, signal.default_int_handler)
+    yield
+    signal.signal(signal.SIGINT, before)
+
+
+@pytest.mark.usefixtures("ctrl_c")
 def test_an_interrupt_keeps_the_ticks_so_far(quad: Path) -> None:
     """Ctrl-C stops a long step between two ticks, and a loop of single ones."""
     log = a_log("interrupt", 4000)

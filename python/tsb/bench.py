@@ -70,13 +70,9 @@ class Bench:
         self._marks: list[tuple[int, int]] = []
         self._talk, self._now = _started(plan), 0
         self._hold = Hold(self._talk.kill)
-        self._tells = events and self._begin_events()
-
-    def _begin_events(self) -> bool:
-        with suppress(BadCommand):
+        self._tells = events
+        if events:
             self._ask("events on")
-            return True
-        return False
 
     def __enter__(self) -> Self:
         return self
