@@ -4,4 +4,5 @@ pub mod TextLemmas
 pub mod PlainLemmas
 pub mod ThereLemmas
 pub mod LiveLemmas
+pub mod SavedLemmas
 pub mod Examples

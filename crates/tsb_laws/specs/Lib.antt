@@ -32,5 +32,7 @@ pub mod Texts
 pub mod OneText
 -- that a live run has one answer to each line, but for memory
 pub mod OneAnswer
+-- that what is saved of a live run is a session which ends alike
+pub mod SavedRuns
 -- what the events of runs tell
 pub mod Told

@@ -1,5 +1,6 @@
 //! What holds of the texts of sessions and live runs, each law the contract of a function that does nothing.
 ghost use Rattle.tsb_laws.specs.OneAnswer.{LinesHaveOneAnswer, LiveRunsWriteOneText};
+ghost use Rattle.tsb_laws.specs.SavedRuns.{SavedRunsAreSessions};
 ghost use Rattle.tsb_laws.specs.OneText.{OneText, SessionsWriteOneText, SomeTextIsUntold, TextsPartAtMemory};
 
 /// Texts of a session are equal but for memory. Two texts that a session may write for the same bytes are equal, or
@@ -37,4 +38,16 @@ pub fn sessions_write_one_text()
 pub fn live_runs_write_one_text()
     ensures lines { LinesHaveOneAnswer }
     ensures runs { LiveRunsWriteOneText }
+{}
+
+/// What is saved of a live run is a session that ends alike. On the saved log a session may answer the saved commands so
+/// that the same inputs remain, and so the same state, plan and history.
+///
+/// Needs: that each of the inputs was taken, as those of a live run were (`live_inputs_are_taken`).
+/// Not said: that memory suffices for them again; that the saved texts are read as this log and these commands, which
+/// laws of tsb_saved say.
+/// Mistake: ticks come before the inputs that came first, `takes_the_tick_first` of tsb_saved (`would_come_last`).
+/// Witness: `takes_both` of Mistakes of tsb_saved, a reset and a tick from power-up.
+pub fn saved_runs_are_sessions()
+    ensures { SavedRunsAreSessions }
 {}
