@@ -32,3 +32,8 @@ def crates(top: pathlib.Path) -> dict[str, Any]:
     """The crates of a repository by name, each after those that it uses."""
     found = kit().rtlib.crates_below(str(top))
     return {it.name: it for it in sorted(found, key=lambda it: len(it.below()))}
+
+
+def is_refusal(said: Any) -> bool:
+    """Whether this is what the kit says of an edit that the prover refuses: some kits answer yes, others a word."""
+    return bool(said == getattr(kit(), "REFUSED", True))

@@ -273,9 +273,9 @@ def tried_alone(crate: Any, edit: Edit, kept: str | None) -> Verdict:
     if goal:
         return Verdict(True, f"must-fail {crate.name}/{edit.file.name}: refused, as it must be, alone: {goal[:160]}")
     said, line = kit.kit().must_fail(crate, str(edit.file), ["--jobs", "1"], kept)
-    if said != kit.kit().REFUSED and kept:
+    if not kit.is_refusal(said) and kept:
         said, line = kit.kit().must_fail(crate, str(edit.file), ["--jobs", "1"])
-    return Verdict(said == kit.kit().REFUSED, line)
+    return Verdict(kit.is_refusal(said), line)
 
 
 def tried(crate: Any, group: list[Edit], kept: str | None) -> list[Verdict]:
