@@ -37,7 +37,7 @@ GLOSSARY = pathlib.Path("docs/GLOSSARY.md")
 DEFINITIONS = pathlib.Path("docs/DEFINITIONS.md")
 
 # Words of the documents that are no names of the sources, and paths that only the build makes, or that are no paths.
-OTHER = {"rattle", "kit", "13f", "uniq", "xargs", "vehicleDetectorStatusGroupActive", "P02"}
+OTHER = {"rattle", "kit", "13b", "uniq", "xargs", "vehicleDetectorStatusGroupActive", "P02"}
 MADE = {"crates/tsb/out/tsb", "crates/tsb_field/out/tsb_field", "crates/tsb_ring/must-fail/name.edit",
         "python/.venv", "python/.venv/bin/python", str(DEFINITIONS)}
 
