@@ -4,6 +4,7 @@ import pathlib
 import random
 import re
 import select
+import signal
 import subprocess
 import threading
 from types import TracebackType
@@ -158,14 +159,22 @@ def streams(live: pathlib.Path) -> list[str]:
     wrong = []
     for name, given, taken, wanted in [
         ("a read that fails", TORN, None, (3, READ)), ("a write that fails", COMMANDS, FULL, (3, WRITE)),
-        ("input without an end", ENDLESS, None, (3, TOO_LARGE)), ("no input", os.devnull, None, (0, b"")),
+        ("no input", os.devnull, None, (0, b"")),
     ]:
         with open(given, "rb") as source, open(taken or os.devnull, "wb") as target:
             output = target if taken else subprocess.PIPE
             done = subprocess.run([live, PLAN], stdin=source, stdout=output, stderr=subprocess.PIPE, timeout=SECONDS)
         found = done.returncode, done.stderr
         wrong += [] if found == wanted and not done.stdout else [f"{name}: {found} {done.stdout!r}, not {wanted}"]
-    return wrong + closed_output(live)
+    return wrong + endless(live) + closed_output(live) + killed(live) + killed_caller(live)
+
+
+def endless(live: pathlib.Path) -> list[str]:
+    """Rows, and then a line without an end: they are answered, and 1 GiB is too large."""
+    rows = b"".join(rows_of(3))
+    ended = ran(["sh", "-c", 'cat - "$0" | "$1" "$2"', ENDLESS, live, PLAN], rows)
+    wanted = 3, b"".join(answers_of(live, rows)), TOO_LARGE
+    return [] if ended == wanted else [f"input without an end: {ended}, not {wanted}"]
 
 
 def closed_output(live: pathlib.Path) -> list[str]:
@@ -180,6 +189,36 @@ def closed_output(live: pathlib.Path) -> list[str]:
         assert talk.process.stderr is not None
         found = talk.process.wait(), talk.process.stderr.read()
     return [] if found == (3, WRITE) else [f"an output that is closed: {found}"]
+
+
+def killed(live: pathlib.Path) -> list[str]:
+    """The program is killed: what it has answered by then is the beginning of its answers."""
+    rows = rows_of(AHEAD)
+    with Talk(live) as talk:
+        talk.say(b"".join(rows))
+        first = talk.line()
+        talk.process.kill()
+        status, more, errors = talk.ended()
+    wanted, found = b"".join(answers_of(live, b"".join(rows))), first + more
+    is_well = (status, errors) == (-signal.SIGKILL, b"") and first and wanted.startswith(found)
+    return [] if is_well else [f"a program that is killed: {status}, {found!r}, {errors!r}"]
+
+
+def killed_caller(live: pathlib.Path) -> list[str]:
+    """Who writes to the program is killed within a line: what there is of it is the last line."""
+    row, other = rows_of(2)
+    pipe = subprocess.PIPE
+    with subprocess.Popen(["cat"], stdin=pipe, stdout=pipe, bufsize=0) as caller:
+        assert caller.stdin is not None and caller.stdout is not None
+        with subprocess.Popen([live, PLAN], stdin=caller.stdout, stdout=pipe, stderr=pipe, bufsize=0) as process:
+            caller.stdout.close()
+            caller.stdin.write(row + other[:9])
+            assert process.stdout is not None
+            line = process.stdout.readline()
+            caller.kill()
+            more, errors = process.communicate(timeout=SECONDS)
+    found, wanted = (process.returncode, line + more, errors), (0, answers_of(live, row)[0] + b"bad command\n", b"")
+    return [] if found == wanted else [f"a caller that is killed: {found}, not {wanted}"]
 
 
 def plans(live: pathlib.Path, tsb: pathlib.Path) -> list[str]:

@@ -5,6 +5,7 @@ import pathlib
 import random
 import re
 
+from live_from_log import live_of
 from live_kit import a_command, a_row, an_edit, difference, ran_on
 from live_worked import PLANS, plan_of, text_of
 
@@ -84,21 +85,31 @@ def after(rng: random.Random) -> list[str]:
     return ["show", *rng.choice(ways), "show", "when trip", "when interval 6", "undo", "show"]
 
 
+# More than a session has inputs: with so many `undo` all are taken back.
+ALL = 3000
+STATE = ["plan", "edits", "status", "save"]
+
+
 def saved(live: pathlib.Path, tsb: pathlib.Path) -> list[str]:
-    """A saved log with its commands leads `tsb run` to the same state, and as far back."""
+    """A saved log with its commands leads `tsb run` to the same state, and as far back; and a live session with the same
+    rows to the same plan, desk and status, and to the same saved texts."""
     wrong = []
     for number in range(SAVED):
         rng = random.Random(f"saved {number}")
         plan = plan_of(PLANS[number % len(PLANS)])
-        lines, more = lines_at_random(rng, rng.randint(1, 30), goes_back=True), after(rng)
+        lines, more = lines_at_random(rng, rng.randint(1, 30), goes_back=True), after(rng) + ["undo"] * ALL
         log, commands = saved_of(live, plan, lines)
         _, answers, _ = ran_on(live, [], [plan], text_of([*lines, *more]))
         before = ran_on(live, [], [plan], text_of(lines))[1]
         ended = ran_on(tsb, ["run"], [plan, log], commands + text_of(more))
         alone = ran_on(tsb, ["run"], [plan, log], commands)[1]
-        if b"refused" in alone or b"bad command" in alone:
-            wrong.append(f"saved {number}: a command of it is refused")
+        if b"refused" in alone or b"bad command" in alone or not answers.endswith(b"nothing\n"):
+            wrong.append(f"saved {number}: a command of it is refused, or it has more than {ALL} inputs")
         wrong += difference(f"saved {number}", (ended[0], ended[1][len(alone):], ended[2]), answers[len(before):])
+        again, said = live_of(rng, log, commands, alone)
+        state = ran_on(live, [], [plan], again + text_of(STATE))
+        wanted = ran_on(live, [], [plan], text_of([*lines, *STATE]))[1][len(before):]
+        wrong += difference(f"saved {number}, again", state, said + wanted)
     return wrong
 
 

@@ -40,9 +40,13 @@ HEAD = """\
 KINDS = ["even", "late", "aimed", "tripped"]
 STEP = re.compile(rb" *step +([0-9]{1,9}) *")
 # Ticks that the steps of a session have at most, and those that one line takes.
-TICKS, AT_ONCE = 300, 60
-ASKED = [b"status", b"plan", b"edits", b"changes 0", b"  status ", b"edits  ", b"changes 007", b"show", b"step 2"]
+TICKS, AT_ONCE = 150, 40
+ASKED = [b"status", b"plan", b"edits", b"save", b"changes 0", b"  status ", b"edits  ", b"changes 007", b"show", b"step 2",
+         b"events on", b"events on", b"events off", b"echo on", b"echo off", b"when input 1", b"when  input 4 ",
+         b"when input 16", b"when button 2", b"when button 8", b"when preempt 1", b"when preempt 4"]
 MANGLED = [b"changes", b"changes 1 1", b"changes x", b"changes 4294967296", b"status now", b"plan 1", b"Edits",
+           b"save 1", b"events", b"events of", b"echo on on", b"when input 0", b"when input 17", b"when button 9",
+           b"when preempt 5", b"when inputs 1", b"when input 1 1",
            b"statu", b"10000000000000000 00000000 0000", b"0000000000000000 00000000 000",
            b"0000000000000000  00000000 0000", b"0000000000000000 00000002 0000",
            b" 0000000000000000 00000000 0000", b"0000000000000000 00000000 0000 ",
