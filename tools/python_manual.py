@@ -56,7 +56,7 @@ def told(text: str, field: str) -> dict[str, Any]:
              for name, *said in rows(text, "Rule | What must hold | Usual cause | Cure", "K")}
     faults = {line.strip("`"): when for line, when, *_ in rows(text, "Line | When | Example of a plan text", "`plan: ")
               if "rule" not in line}
-    columns = {what: re.findall(r"`(\w+)`", names) for what, names in rows(field, "Column | Names", "")
+    columns = {what: [it.strip("` ") for it in re.split("[,;]", names)] for what, names in rows(field, "Column | Names", "")
                if what not in ("Column", "---|---")}
     return {"ticks": int(last[0].replace(",", "")), "objects": objects(text), "rules": rules, "plan_faults": faults,
             "refusals": refusals, "columns": columns}

@@ -135,10 +135,12 @@ def test_a_table_from_elsewhere() -> None:
     """Its columns are taken by name; clocks lose their zone."""
     times = pd.to_datetime([START]).tz_localize("Europe/Berlin")
     table = pd.DataFrame({"Parameter": [2], "EVENTID": ["82"], "Timestamp": times})
-    with pytest.raises(Error, match="no column SignalID or DeviceId"):
-        frames.export_of_table(table)
+    with pytest.raises(Error, match="no column EventCode or EventId"):
+        frames.export_of_table(table.drop(columns="EVENTID"))
     found = frames.export_of_table(table.assign(DeviceId=7, note="x"))
     assert found.iloc[0].to_list() == ["7", pd.Timestamp(START), 82, 2]
+    # (the device alone may be missing)
+    assert frames.export_of_table(table)["device"].to_list() == [""]
 
 
 def test_events_of_exports(tmp_path: Path) -> None:
@@ -180,6 +182,22 @@ def test_log_of_an_export(examples: Path) -> None:
         UserWarning, match=f"left out: {len(export)} rows of other devices"
     ):
         assert frames.log_of_export(export, START, "8") == Log()
+
+
+def test_log_of_a_file(examples: Path, tmp_path: Path) -> None:
+    """A file is read by the program itself, and a table of it gives the same log; rows
+    may stand in any order."""
+    found = [Event(33, 82, 4), Event(41, 81, 4), Event(50, 90, 2)]
+    export = frames.export_of_events(frames.of_events(found), START, "7")
+    wanted = frames.log_of_export(export, START, "7")
+    assert wanted.ticks == (33, 41, 50)
+    path = tmp_path / "export.csv"
+    for rows in (export, export.iloc[::-1]):
+        frames.write_export(rows, path)
+        assert frames.log_of_export(path, START, "7") == wanted
+    with pytest.raises(Error, match="events line 2: time: "):
+        path.write_text(path.read_text().replace("2026-11-22 ", ""))
+        frames.log_of_export(path, START)
 
 
 def test_channels_lead_to_inputs() -> None:

@@ -2,19 +2,22 @@
 
 | Table | Index | Columns |
 |---|---|---|
-| display lines | `tick` | `P1` to `P16`, `W1` to `W16`, `O1` to `O4` (letters), `preempt`, `local` (tenths of a second, NA in free operation) |
+| display lines | `tick` | `P1` to `P16`, `W1` to `W16`, `O1` to `O4`, and two more |
 | events | none | `tick`, `code`, `parameter` |
-| log | `tick` | `V1` to `V16`, `B1` to `B8`, `I1` to `I4`: vehicle detectors, buttons, preempt inputs, true for on |
-| export | none | `device` (text), `time`, `code`, `parameter` |
+| log | `tick` | `V1` to `V16`, `B1` to `B8`, `I1` to `I4`, true for on |
+| export | none | `device` (text), `time` (a moment), `code`, `parameter` |
 
-Tick t begins (t - 1) tenths of a second after the start that is given.
+Display lines have letters of heads, `preempt`, 0 for none, and `local`, the counter of
+the pattern in tenths of a second, NA in free operation. A log has vehicle detectors,
+buttons and preempt inputs. Ticks are tenths of a second: tick t begins (t - 1) tenths
+after the start that is given.
 """
 
-import io
 import warnings
 from collections.abc import Iterable, Mapping
 from os import PathLike
 from pathlib import Path
+from subprocess import CompletedProcess
 from typing import Any
 
 import numpy as np
@@ -23,6 +26,7 @@ import pandas as pd
 
 from tsb import programs
 from tsb.errors import Error, ProgramDied
+from tsb.forms import INPUTS, columns_of, moments_of, numbers_of, places_of
 from tsb.lines import WIDTH, Event, Lines
 from tsb.manual import COLUMNS
 from tsb.rows import PEDESTRIANS, PREEMPTS, VEHICLES, Log
@@ -138,67 +142,49 @@ def to_log(table: pd.DataFrame) -> Log:
 
 def read_export(path: AnyPath) -> pd.DataFrame:
     """A controller's event log as a table: CSV with or without a header, or Parquet
-    where pyarrow is there. Columns have the names of docs/FIELD.md, in any case."""
-    if Path(path).suffix == ".parquet":
-        return export_of_table(_read_parquet(path))
-    lines = Path(path).read_text(encoding="utf-8-sig").splitlines(keepends=True)
-    text = "".join(it for it in lines if it.strip() and not it.startswith("#"))
-    if not text:
-        return export_of_table(
-            pd.DataFrame(columns=[names[0] for names in COLUMNS.values()])
-        )
+    where pyarrow is there. Columns have the names of docs/FIELD.md, and times one of
+    its forms; `Error` says what is neither."""
     try:
-        found = pd.read_csv(
-            io.StringIO(text), header=None, dtype=str, keep_default_na=False
-        )
-    except ValueError as fault:
+        if Path(path).suffix == ".parquet":
+            return export_of_table(_read_parquet(path))
+        text = Path(path).read_bytes()
+        if b"\0" in text:
+            raise Error("it has a byte 0, as no CSV has: convert it, or export as CSV")
+        return export_of_table(columns_of(text.decode("utf-8-sig", "replace")))
+    except Error as fault:
         raise Error(f"{path}: {fault}") from None
-    if _places(found.iloc[0]):
-        return export_of_table(found.iloc[1:].set_axis(found.iloc[0], axis=1))
-    names = [names[0] for names in COLUMNS.values()][: len(found.columns)]
-    return export_of_table(found.iloc[:, : len(names)].set_axis(names, axis=1))
 
 
 def _read_parquet(path: AnyPath) -> pd.DataFrame:
     try:
         return pd.read_parquet(path)
     except ImportError:
-        raise Error(f"{path}: Parquet needs pyarrow: pip install pyarrow") from None
-
-
-def _places(names: Iterable[str]) -> dict[str, int]:
-    """Where each column of an export stands among names: the first of each."""
-    lower = [str(it).lower() for it in names]
-    found = {}
-    for what, known in COLUMNS.items():
-        places = [lower.index(it.lower()) for it in known if it.lower() in lower]
-        if places:
-            found[what] = min(places)
-    return found
+        raise Error("Parquet needs pyarrow: pip install pyarrow") from None
 
 
 def export_of_table(table: pd.DataFrame) -> pd.DataFrame:
     """The export of a table from elsewhere, as a database: columns have the names of
-    docs/FIELD.md, in any case and order, and others are left out."""
-    places = _places(table.columns)
-    if missing := [names for what, names in COLUMNS.items() if what not in places]:
-        raise Error(f"the export has no column {' or '.join(missing[0])}")
-    device, time, code, parameter = (table.iloc[:, places[it]] for it in COLUMNS)
-    clock = time if time.dtype.kind == "M" else pd.Series(_times(time), time.index)
-    if clock.dt.tz is not None:
-        clock = clock.dt.tz_localize(None)  # (clocks of a log have no zone)
-    found = {
-        "device": device.astype(str),
-        "time": clock.astype("datetime64[ns]"),
-        "code": code.astype(np.int64),
-        "parameter": parameter.astype(np.int64),
-    }
-    return pd.DataFrame(found).reset_index(drop=True)
-
-
-def _times(texts: "pd.Series[str]") -> Cells:
-    """The times of texts as `2026-11-22 07:00:00.1`."""
-    return np.array(texts.to_list(), dtype="datetime64[ns]")
+    docs/FIELD.md, in any order, and others are left out. Times are moments, or texts
+    in one of its forms. A row whose parameter is no number is left out, as NULL; of
+    an input it is an `Error`. Without a column of devices all are the same one, ""."""
+    places = places_of(table.columns)
+    time, code, parameter = (
+        table.iloc[:, places[it]] for it in ("time", "code", "parameter")
+    )
+    codes, parameters = numbers_of(code), numbers_of(parameter)
+    needed = parameters.notna() | ~codes.isin(INPUTS)
+    for name, of, fine in (
+        ("code", code, codes.notna()), ("parameter", parameter, needed)
+    ):  # fmt: skip
+        if not fine.all():
+            at = int((~fine).to_numpy().argmax())
+            what = f"{name} {of.iloc[at]!r} is no whole number"
+            raise Error(f"line {of.index[at]}: {what}")
+    device = table.iloc[:, places["device"]].astype(str) if "device" in places else ""
+    said = {"time": moments_of(time), "code": codes, "parameter": parameters}
+    found = pd.DataFrame({"device": device, **said}, table.index)
+    found = found[parameters.notna()].reset_index(drop=True)
+    return found.astype({"code": np.int64, "parameter": np.int64})
 
 
 def write_export(table: pd.DataFrame, path: AnyPath) -> None:
@@ -245,7 +231,7 @@ def events_of_export(
 
 
 def log_of_export(
-    export: pd.DataFrame,
+    export: pd.DataFrame | AnyPath,
     start: str,
     device: str | None = None,
     *,
@@ -254,20 +240,37 @@ def log_of_export(
     preempts: Mapping[int, int] | None = None,
 ) -> Log:
     """The log of inputs that an export makes, by `tsb_field log`: its tick 1 begins
-    at the start. The mappings lead channels of the controller to inputs of the bench,
-    as `vehicles={21: 2, 22: 2}`; others lead to their own numbers. What is left out
-    is told as a warning."""
+    at the start. `export` is a table, or a file of docs/FIELD.md's forms; its rows may
+    stand in any order. The mappings lead channels of the controller to inputs of the
+    bench, as `vehicles={21: 2, 22: 2}`; others lead to their own numbers. What is left
+    out is told as a warning."""
     words = ["log", f"--from={start}"]
     words += [] if device is None else [f"--device={device}"]
     for name, leads in [
         ("vehicle", vehicles), ("pedestrian", pedestrians), ("preempt", preempts)
     ]:  # fmt: skip
         words += [f"--{name}={channel}={to}" for channel, to in (leads or {}).items()]
-    ordered = export.sort_values("time", kind="stable")
     try:
-        done = programs.run("tsb_field", words, _csv(ordered))
+        done = _logged(words, export)
     except ProgramDied as died:
         raise Error(died.stderr.strip()) from None
     if left_out := done.stderr.decode().strip():
         warnings.warn(left_out, stacklevel=2)
     return Log.of_text(done.stdout)
+
+
+def _logged(
+    words: list[str], export: pd.DataFrame | AnyPath
+) -> CompletedProcess[bytes]:
+    """The run of `tsb_field log` on an export: on the bytes of a file as they are,
+    unless it is Parquet or its rows are not in the order of time."""
+    if not isinstance(export, pd.DataFrame):
+        if Path(export).suffix != ".parquet":
+            try:
+                return programs.run("tsb_field", words, Path(export).read_bytes())
+            except ProgramDied as died:
+                if ": time order: " not in died.stderr:
+                    raise
+        export = read_export(export)
+    ordered = export.sort_values("time", kind="stable")
+    return programs.run("tsb_field", words, _csv(ordered))

@@ -36,7 +36,8 @@ class Day:
     where pyarrow is there), or a log of inputs (`.log`).
 
     `begin` is the time at which tick 1 begins; without a date, the day is the file's
-    name, as `2026-11-22.csv`. A log of inputs begins with its tick 1.
+    name, as `2026-11-22.csv`. A log of inputs begins with its tick 1. The run takes
+    `seconds`, in `pattern` (0 is free), on the rows of `device`, or of all.
     """
 
     plan: str
@@ -69,8 +70,7 @@ class Day:
     def _log(self) -> Log:
         if Path(self.source).suffix == ".log":
             return Log.read(self.source)
-        start = self._start()
-        return log_of_export(read_export(self.source), start, self.device)
+        return log_of_export(self.source, self._start(), self.device)
 
     def _start(self) -> str:
         if DATE.match(self.begin):
@@ -93,7 +93,8 @@ class Traffic:
 
 @dataclass(frozen=True)
 class Seed:
-    """A run of a plan on traffic of SUMO with a seed."""
+    """A run of a plan on traffic of SUMO with a seed, for so many seconds, in a pattern
+    (0 is free)."""
 
     plan: str
     traffic: Traffic

@@ -1,0 +1,103 @@
+"""Exports in the forms that docs/FIELD.md has: as `tsb_field log` reads them."""
+
+import importlib
+import random
+from pathlib import Path
+
+import pandas as pd
+import pytest
+from tsb import Error, Log, frames
+
+START = "2026-11-22 07:00:00"
+# The files of tools/exports that are read, by the letters and numbers of their names.
+READ = """a01 a02 a05 a06 a07 a08 a09 a10 a11 a12 a13 a14 a15 a17 a18 a20 a21 a22 a23 a24
+    a25 a28 a30 a36 a37""".split()
+RANDOM = 60
+
+
+def logs_of(path: Path) -> tuple[Log | None, Log | None]:
+    """The logs of a file: by the program alone, and by a table; None where refused."""
+    found: list[Log | None] = []
+    for read in (lambda it: it, frames.read_export):
+        try:
+            found.append(frames.log_of_export(read(path), START))
+        except Error:
+            found.append(None)
+    return found[0], found[1]
+
+
+@pytest.mark.filterwarnings("ignore:left out")
+def test_each_form_is_read_as_the_program_reads_it(top: Path) -> None:
+    """Those of controllers, agencies and spreadsheets; what cannot be read says why."""
+    read = []
+    for path in sorted((top / "tools/exports").glob("*.csv")):
+        program, table = logs_of(path)
+        if table is not None:
+            assert table == program, path.name
+            read.append(path.name[:3])
+    assert set(READ) <= set(read)
+
+
+@pytest.mark.filterwarnings("ignore:left out")
+def test_exports_at_random(
+    top: Path, tmp_path: Path, monkeypatch: pytest.MonkeyPatch
+) -> None:
+    """Where a table is made of one, its log is that of the program."""
+    monkeypatch.chdir(top)
+    monkeypatch.syspath_prepend(str(top / "tools"))
+    export_of = importlib.import_module("run_field").random_export
+    path, both = tmp_path / "export.csv", 0
+    for number in range(RANDOM):
+        path.write_bytes(export_of(random.Random(f"export {number}")))
+        program, table = logs_of(path)
+        assert program is None or table == program, number
+        both += program is not None
+    assert both > RANDOM / 3
+
+
+TIMES = {
+    "2026-11-22 07:00:03.2": "2026-11-22 07:00:03.2",
+    "2026/11/22 7:00:03": "2026-11-22 07:00:03",
+    "2026-11-22T07:00:03.2Z": "2026-11-22 07:00:03.2",
+    "2026-11-22 07:00:03.2-07:00": "2026-11-22 07:00:03.2",
+    "11/22/2026 12:00:03.25 AM": "2026-11-22 00:00:03.25",
+    "11-22-2026 12:00:03 PM": "2026-11-22 12:00:03",
+    "22/11/2026 07:00:03": "2026-11-22 07:00:03",
+    "1795330803.2": "2026-11-22 07:00:03.2",
+    "1795330803200": "2026-11-22 07:00:03.2",
+}
+
+
+@pytest.mark.parametrize("text", TIMES)
+def test_times_by_hand(text: str) -> None:
+    """One of each form."""
+    table = pd.DataFrame({"Time": [text], "Code": ["82.0"], "Param": ["4"]})
+    found = frames.export_of_table(table)
+    assert found["time"][0] == pd.Timestamp(TIMES[text]) and found["code"][0] == 82
+
+
+FAULTS = {
+    "03/04/2026 07:00:03,82,4": "line 2: time .* its month or its day first",
+    "00:03.2,82,4": "line 2: time '00:03.2' is no time as 2026-11-22 07:00:00.1",
+    "2026-11-22 07:00:03,82,4\n11/23/2026 07:00:03,82,4": "line 3: time .* of the form",
+    "2026-11-31 07:00:03,82,4": "line 2: time '2026-11-31 07:00:03' is no time",
+    "2026-11-22 07:00:03,82.5,4": "line 2: code '82.5' is no whole number",
+    "2026-11-22 07:00:03,82,NULL": "line 2: parameter 'NULL' is no whole number",
+}
+
+
+@pytest.mark.parametrize("rows", FAULTS)
+def test_what_is_no_row_names_its_line(tmp_path: Path, rows: str) -> None:
+    """And the file."""
+    path = tmp_path / "export.csv"
+    path.write_text(f"Time,Code,Param\n{rows}\n")
+    with pytest.raises(Error, match=f"export.csv: {FAULTS[rows]}"):
+        frames.read_export(path)
+
+
+def test_a_parameter_that_tells_nothing_is_left_out() -> None:
+    """Of codes that are no inputs."""
+    time = "2026-11-22 07:00:03"
+    rows = [(time, 150, -1), (time, 82, 4), (time, 131, 2)]
+    table = pd.DataFrame(rows, columns=["Time", "Code", "Param"])
+    assert frames.export_of_table(table)["code"].to_list() == [82, 131]
