@@ -169,6 +169,13 @@ def test_what_is_wrong_is_told_first(plans: list[Path], days: list[Path]) -> Non
         sweep(plans, days, ["wait"])
     with pytest.raises(Error, match="the same run comes twice"):
         sweep([plans[0], plans[0]], days)
+    with pytest.raises(Error, match="trips: a day has none"):
+        sweep(plans, days, ["trips"])
+    words = [str(plans[0]), "--out", str(plans[0].parent)]
+    with pytest.raises(Error, match="nothing to run: name --days"):
+        main(words)
+    with pytest.raises(Error, match="--sumo needs --routes as well"):
+        main([*words, "--sumo", "net.xml"])
     with pytest.raises(Error, match="name it by its day"):
         task = Day(str(plans[0]), str(plans[0]), "07:00:00", 60, None, 0)
         list(task.tables(["greens"]))
@@ -223,6 +230,18 @@ def test_the_command(
     assert capsys.readouterr().out.startswith("2 runs done, 0 of them now, 0 failed\n")
     table = pd.read_csv(tmp_path / "out" / "all_runs.txt")
     assert set(table["plan"]) == {"quad"} and set(table["measure"]) == {"terminations"}
+
+
+def test_the_command_on_a_cluster_that_runs_already(
+    cluster: Any, plans: list[Path], days: list[Path], tmp_path: Path
+) -> None:
+    """Its workers do the runs, and it is there afterwards."""
+    words = [str(plans[0]), "--days", str(days[0]), "--out", str(tmp_path)]
+    words += ["--begin", "07:00:00", "--seconds", "60", "--device", "7"]
+    assert main([*words, "--scheduler", cluster.scheduler.address]) == 0
+    table = pd.read_csv(tmp_path / "all_runs.txt")
+    assert set(table["day"]) == {days[0].stem} and len(table) > 0
+    assert cluster.submit(os.getpid).result() != os.getpid()
 
 
 def test_a_run_is_safe_to_run_twice(

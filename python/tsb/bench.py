@@ -48,7 +48,8 @@ class Saved(NamedTuple):
 
 
 class Bench:
-    """A controller that runs a plan, tick by tick: `tsb_live` behind pipes.
+    """A controller that runs a plan, tick by tick: `tsb_live` behind pipes. A tick is a
+    tenth of a second.
 
     `plan` is a plan or the path of one. With a `log`, its rows act in the ticks;
     without one, an input that is not named is off. With `events`, the bench keeps the

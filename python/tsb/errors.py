@@ -105,10 +105,14 @@ class LogFault(Error):
 
 
 class BadCommand(Error):
-    """The program knows no such command. Nothing has changed."""
+    """The program knows no such command, or not with such a number. Nothing has
+    changed."""
 
     def __init__(self, command: str) -> None:
-        super().__init__(f"{command}: bad command")
+        super().__init__(
+            f"{command}: bad command: docs/MANUAL.md, chapter 6, has the commands with"
+            " their ranges, and docs/LIVE.md those of a live run"
+        )
         self.command = command
 
 

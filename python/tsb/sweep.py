@@ -163,6 +163,8 @@ class Runs:
             raise Error(
                 f"there is no measure {wrong[0]}: {', '.join(MEASURES)}, {TRIPS}"
             )
+        if unknown and any(isinstance(it, Day) for it in tasks):
+            raise Error(f"{TRIPS}: a day has none, but traffic of SUMO alone")
         folder.mkdir(parents=True, exist_ok=True)
         self._measures = list(measures)
         self.paths: dict[str, Task] = {}
@@ -204,13 +206,13 @@ class Runs:
 def main(words: Sequence[str]) -> int:
     """Carries out `python3 -m tsb sweep ..`; its status is 1 where a run failed."""
     given = _words().parse_args(words)
-    traffic = None
-    if given.sumo:
-        traffic = Traffic(given.sumo, given.routes, given.mapping, given.additional)
+    traffic = _traffic(given)
     tasks = tasks_of(
         given.plans, given.days, begin=given.begin, seconds=given.seconds,
         device=given.device, pattern=given.pattern, traffic=traffic, seeds=given.seeds,
     )  # fmt: skip
+    if not tasks:
+        raise Error("there is nothing to run: name --days, or --sumo and --seeds")
     measures = given.measure or ([TRIPS] if traffic else ["terminations"])
     found = Runs(tasks, measures, given.out)
     new = len(found.missing)
@@ -226,6 +228,16 @@ def main(words: Sequence[str]) -> int:
         print(f"{name}: {said}", file=sys.stderr)
     print(f"all tables: {given.out / SUMMARY}")
     return 1 if failed else 0
+
+
+def _traffic(given: argparse.Namespace) -> Traffic | None:
+    """The traffic that the words name, if they name some."""
+    if not given.sumo:
+        return None
+    for word in ("routes", "mapping", "seeds"):
+        if not getattr(given, word):
+            raise Error(f"--sumo needs --{word} as well")
+    return Traffic(given.sumo, given.routes, given.mapping, given.additional)
 
 
 def _words() -> argparse.ArgumentParser:

@@ -52,6 +52,8 @@ SHARES = {"W": (0.15, 0.10), "E": (0.15, 0.10), "S": (0.20, 0.15), "N": (0.20, 0
 ZONE, ADVANCE = 20, 10  # metres: of a zone, and of a loop before the bay
 WALKERS = 60  # pedestrians an hour over each crossing
 
+PHASES = range(1, 9)
+
 Values = dict[Any, Value]  # of an object of a plan, by index
 
 
@@ -236,35 +238,21 @@ def _walker(name: str, time: float, leg: str) -> str:
 def plan(pattern: bool = False, latched: bool = False, **more: Table[int, int]) -> Plan:
     """The plan of the intersection: free, or with pattern 1 of a cycle of 110 s.
     `latched`: a phase that gapped out stays so (`phaseSimGapDisable`). `more` are
-    objects that are other."""
-    phases = range(1, 9)
-
-    def by(left: int, main: int, side: int) -> Values:
-        each: Values = {at: left if at % 2 else side for at in phases}
-        return {**each, 2: main, 6: main}
-
+    objects that are other, by their own units."""
     made = Plan(2)
-    made["phaseEnabled"] = _all(phases, 1)
-    made["phaseRing"] = {at: 1 + (at > 4) for at in phases}
-    made["phaseSide"] = {at: 1 + (at in (3, 4, 7, 8)) for at in phases}
+    made["phaseEnabled"] = _all(PHASES, 1)
+    made["phaseRing"] = {at: 1 + (at > 4) for at in PHASES}
+    made["phaseSide"] = {at: 1 + (at in (3, 4, 7, 8)) for at in PHASES}
     made["phaseConcurrency"] = {
         1: 48, 2: 48, 3: 192, 4: 192, 5: 3, 6: 3, 7: 12, 8: 12
     }  # fmt: skip
     made.set_sequence(1, 1, [1, 2, 3, 4])
     made.set_sequence(1, 2, [5, 6, 7, 8])
-    made["phaseMinimumGreen"] = by(5, 10, 7)
-    for name in ("phaseMaximum1", "phaseMaximum2"):
-        made[name] = by(20, 45, 30)
-    # the bench's gap counts from the first tick without an output, that of SUMO from
-    # the last one with it: 2.0, 3.0 and 2.5 s there
-    for name in ("phasePassage", "phaseMinimumGap"):
-        made[name] = by(19, 29, 24)
-    made["phaseYellowChange"] = _all(phases, 40)
-    made["phaseRedClear"] = _all(phases, 15)
+    _times(made)
     made["phaseMinRecall"] = {2: 1, 6: 1}
     made["phaseDualEntry"] = {2: 1, 4: 1, 6: 1, 8: 1}
-    made["phaseNonLock"] = _all(phases, 1)
-    made["vehicleDetectorCallPhase"] = {at: at for at in phases}
+    made["phaseNonLock"] = _all(PHASES, 1)
+    made["vehicleDetectorCallPhase"] = {at: at for at in PHASES}
     made["preemptDwellPhase"] = {1: 72}
     made["preemptExitPhase"] = {1: 34}
     made["preemptMinimumGreen"] = {1: 5}
@@ -274,12 +262,31 @@ def plan(pattern: bool = False, latched: bool = False, **more: Table[int, int]) 
         made["patternSequenceNumber"] = {1: 1}
         made["patternOffsetTime"] = {1: 44}
         made["splitCoordPhase"] = {2: 1, 6: 1}
-        made["splitTime"] = by(18, 44, 30)
+        made["splitTime"] = _by(18, 44, 30)
     if latched:
-        made["phaseSimGapDisable"] = _all(phases, 1)
+        made["phaseSimGapDisable"] = _all(PHASES, 1)
     for name, values in more.items():
         made[name] = {at: it for at, it in values.items()}
     return made
+
+
+def _times(made: Plan) -> None:
+    """Gives the plan its times."""
+    made["phaseMinimumGreen"] = _by(5, 10, 7)
+    for name in ("phaseMaximum1", "phaseMaximum2"):
+        made[name] = _by(20, 45, 30)
+    # the bench's gap counts from the first tick without an output, that of SUMO from
+    # the last one with it: 2.0, 3.0 and 2.5 s there
+    for name in ("phasePassage", "phaseMinimumGap"):
+        made[name] = _by(19, 29, 24)
+    made["phaseYellowChange"] = _all(PHASES, 40)
+    made["phaseRedClear"] = _all(PHASES, 15)
+
+
+def _by(left: int, main: int, side: int) -> Values:
+    """The values of left turns, of the main street and of the side street."""
+    each: Values = {at: left if at % 2 else side for at in PHASES}
+    return {**each, 2: main, 6: main}
 
 
 def _all(phases: Iterable[int], value: int) -> Values:

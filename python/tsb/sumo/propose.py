@@ -247,20 +247,8 @@ class _Proposal:
         used = sorted({*self.phases, *self.permissive})
         speeds = {it.through: it.edge.getSpeed() for it in approaches}
         for phase in used:
-            kind = "left" if phase % 2 else "main" if phase in (2, 6) else "side"
             through = next(it for it in THROUGH if phase in (it, LEFT[it]))
-            plan["phaseEnabled"][phase] = 1
-            plan["phaseRing"][phase] = 1 + (phase > 4)
-            plan["phaseSide"][phase] = 1 + (phase in (3, 4, 7, 8))
-            plan["phaseMinimumGreen"][phase] = MINIMUM[kind]
-            plan["phaseMaximum1"][phase] = plan["phaseMaximum2"][phase] = MAXIMUM[kind]
-            plan["phasePassage"][phase] = plan["phaseMinimumGap"][phase] = GAP[kind]
-            plan["phaseYellowChange"][phase] = _yellow(speeds[through])
-            plan["phaseRedClear"][phase] = 15
-            if kind != "left":
-                plan["phaseDualEntry"][phase] = 1
-            if kind == "main":
-                plan["phaseMinRecall"][phase] = 1
+            _give(plan, phase, speeds[through])
             if phase in channels:
                 plan["vehicleDetectorCallPhase"][phase] = phase
         for ring, phases in ((1, (1, 2, 3, 4)), (2, (5, 6, 7, 8))):
@@ -280,6 +268,21 @@ class _Proposal:
                 plan["pedestrianDetectorCallPhase"][phase] = phase
         self.notes.append("guessed: all times of the plan, by the speeds of the edges")
         return plan
+
+
+def _give(plan: Plan, phase: int, speed: float) -> None:
+    """Enables a phase with the usual ring, side and times for a speed in m/s."""
+    kind = "left" if phase % 2 else "main" if phase in (2, 6) else "side"
+    plan["phaseEnabled"][phase] = 1
+    plan["phaseRing"][phase] = 1 + (phase > 4)
+    plan["phaseSide"][phase] = 1 + (phase in (3, 4, 7, 8))
+    plan["phaseMinimumGreen"][phase] = MINIMUM[kind]
+    plan["phaseMaximum1"][phase] = plan["phaseMaximum2"][phase] = MAXIMUM[kind]
+    plan["phasePassage"][phase] = plan["phaseMinimumGap"][phase] = GAP[kind]
+    plan["phaseYellowChange"][phase] = _yellow(speed)
+    plan["phaseRedClear"][phase] = 15
+    plan["phaseDualEntry"][phase] = int(kind != "left")
+    plan["phaseMinRecall"][phase] = int(kind == "main")
 
 
 def _sorted(table: dict[int, list[Any]]) -> dict[int, tuple[Any, ...]]:

@@ -9,6 +9,7 @@ import contextlib
 import os
 import shutil
 import subprocess
+import sys
 from collections.abc import Sequence
 from typing import Any, Protocol
 
@@ -141,11 +142,14 @@ class Traci:
 
 
 def binary(name: str) -> str:
-    """The path of a program of SUMO."""
+    """The path of a program of SUMO: of `SUMO_HOME`, beside Python (where pip puts it),
+    or on `PATH`."""
     home = os.environ.get("SUMO_HOME", "/usr/share/sumo")
-    found = shutil.which(
-        name, path=os.pathsep.join([f"{home}/bin", os.environ["PATH"]])
-    )
+    beside = os.path.dirname(sys.executable)
+    folders = [f"{home}/bin", beside, os.environ.get("PATH", os.defpath)]
+    found = shutil.which(name, path=os.pathsep.join(folders))
     if found is None:
-        raise SumoFailed(f"there is no program {name}: install Debian's sumo, or pip's")
+        raise SumoFailed(
+            f"there is no program {name}: install Debian's sumo, or pip's eclipse-sumo"
+        )
     return found

@@ -141,6 +141,7 @@ class Worker:
             return False, SumoFailed(f"{word}: {type(fault).__name__}: {fault}")
 
     def start(self, options: list[str], at: list[Intersection]) -> list[str]:
+        """Starts SUMO at time 0: the first rows."""
         import libsumo
 
         self._api = libsumo
@@ -150,17 +151,21 @@ class Worker:
 
     @property
     def eyes(self) -> Eyes:
+        """What steps SUMO; `SumoFailed` before it was started."""
         if self._eyes is None:
             raise SumoFailed("SUMO was not started")
         return self._eyes
 
     def step(self, states: States) -> tuple[list[str], list[str]]:
+        """One step: the rows after it, and the states in it."""
         return self.eyes.step(states)
 
     def replay(self, states: Sequence[States]) -> list[list[str]]:
+        """So many steps: the rows after each."""
         return [self.eyes.step(it)[0] for it in states]
 
     def call(self, name: str, *words: Any) -> Any:
+        """A call of SUMO's Python interface."""
         return self.eyes.call(name, *words)
 
     def checkpoint(self) -> int:
@@ -184,6 +189,7 @@ class Worker:
         os._exit(0)
 
     def close(self) -> None:
+        """Ends SUMO, which writes its files to the end."""
         if self._eyes is not None:
             self._api.close()
 
