@@ -24,6 +24,10 @@ LINES = [ROW, "changes 1", *INPUTS, "status", OTHER, "edits", "plan"]
 # Each line comes first once, as the first that asks for memory, or behind one that asks for less.
 FIRST = [LINES[place:] + LINES[:place] for place in range(len(LINES))]
 SESSIONS = [*FIRST, *BEHIND, *LATE]
+# Inputs that tell their events, and answers behind their commands; of a line each answer but those of `save` is short.
+ALONE = [it for it in INPUTS if not it.startswith("step")]
+TOLD = ["events on", "echo on", ROW, *ALONE, OTHER, "when input 2", "save", "events off", ROW, "save"]
+STRICT = ["--strict", PLAN]
 KINDS = ["row", "step", "changes", "plan", "pattern", "preempt", "fault", "reset", "begin", "set", "verify", "commit",
          "abort"]
 
@@ -57,6 +61,46 @@ def within_a_session(program: Program, wrong: Differences, lines: list[str], fir
         wrong.compare(what, ended, (0, text_of(wanted), b""))
 
 
+def within_told_inputs(program: Program, wrong: Differences, first: int) -> int:
+    """Where memory is refused to an input that would tell its events, it tells none, and all goes on as if it had not
+    been given; how often that was."""
+    count, starts = 0, [answers_to(program, TOLD[:place]) for place in range(len(TOLD))]
+    for number, ended in program.sweep(WORDS, text_of(TOLD), first=first):
+        answers = ended.output.decode().splitlines()
+        if answers.count(REFUSED) != 1:
+            wrong.append(f"told inputs, request {number}: {answers.count(REFUSED)} lines are refused, not one")
+            continue
+        place = answers.index(REFUSED)
+        line = max(at for at, start in enumerate(starts) if len(start) <= place - answers[place - 1].startswith("> "))
+        is_row = TOLD[line][0].isdigit()
+        others = TOLD[:line] + [TOLD[line], "undo"] * is_row + TOLD[line + 1:]
+        given = answers_to(program, TOLD[:line] + [TOLD[line], "undo"] * is_row)
+        wanted = starts[line] + [f"> {TOLD[line]}"] * ("echo on" in TOLD[:line]) + [REFUSED]
+        wanted += answers_to(program, others)[len(given):]
+        wrong.compare(f"told inputs, request {number}", ended, (0, text_of(wanted), b""))
+        count += 1
+    return count
+
+
+def answers_to(program: Program, lines: list[str]) -> list[str]:
+    """The answers to lines."""
+    output: bytes = program.run(WORDS, text_of(lines)).output
+    return output.decode().splitlines()
+
+
+def within_a_strict_run(program: Program, wrong: Differences, first: int) -> int:
+    """Where memory is refused in a strict run, that line ends it, which is told; how often that was."""
+    count, whole = 0, program.run(STRICT, text_of(LINES)).output.decode().splitlines()
+    for number, ended in program.sweep(STRICT, text_of(LINES), first=first):
+        answers = ended.output.decode().splitlines()
+        place = len(answers) - 1
+        line, at = next((it, at) for at, it in enumerate(LINES, 1) if place < sum(map(answers_of, LINES[:at])))
+        wanted = 4, text_of(whole[:place] + [REFUSED]), f"line {at}: {line}: {REFUSED}\n".encode()
+        wrong.compare(f"a strict run, request {number}", ended, wanted)
+        count += 1
+    return count
+
+
 def usage_of(program: Program) -> bytes:
     """The line that tells of bad words, which run_live.py compares."""
     usage: bytes = program.run(BAD[0]).errors
@@ -70,7 +114,9 @@ def memory(program: Program, wrong: Differences) -> str:
     first = program.calls(WORDS) + 1
     for lines in SESSIONS:
         within_a_session(program, wrong, lines + WAY_BACK, first, found)
-    wrong += [f"memory was refused to no {kind}" for kind in KINDS if not found[kind]]
+    found["told input"] = within_told_inputs(program, wrong, first)
+    found["strict run"] = within_a_strict_run(program, wrong, program.calls(STRICT) + 1)
+    wrong += [f"memory was refused to no {kind}" for kind in [*KINDS, "told input", "strict run"] if not found[kind]]
     return ", ".join(f"{kind} {count}" for kind, count in sorted(found.items()))
 
 
@@ -81,7 +127,7 @@ def main(words: list[str]) -> int:
     path = pathlib.Path(words[0]).resolve()
     if not path.is_file():
         sys.exit(f"there is no {path}")
-    wrong, lines = Differences(), LINES + WAY_BACK
+    wrong, lines = Differences(), LINES + TOLD + WAY_BACK
     with tempfile.TemporaryDirectory() as folder:
         program = Program(path, built(folder))
         found = memory(program, wrong)
