@@ -1,13 +1,14 @@
 """What the package has of the documents is what they say."""
 
 import importlib
+import pickle
 import re
 import subprocess
 import sys
 from pathlib import Path
 
 import pytest
-from tsb import OutOfRange, Plan, PlanFault, Refused
+from tsb import OutOfRange, Plan, PlanFault, ProgramDied, Refused
 from tsb.manual import LAST_TICK, OBJECTS, REFUSALS, RULES
 
 
@@ -64,6 +65,19 @@ def test_other_faults_say_when_they_come() -> None:
     line = "plan: phaseWalk.2: out of range"
     assert str(PlanFault(line)) == f"{line}: over the greatest value of the object"
     assert PlanFault("plan: not JSON").rule is None
+
+
+def test_errors_are_told_to_other_processes() -> None:
+    """With all that they have."""
+    faults = [
+        Refused("refused E4 Busy 3", "begin 1"),
+        PlanFault("plan: rule K8"),
+        ProgramDied("tsb", 3, "memory"),
+    ]
+    for fault in faults:
+        again = pickle.loads(pickle.dumps(fault))
+        assert type(again) is type(fault) and str(again) == str(fault)
+        assert vars(again) == vars(fault) and again.args == fault.args
 
 
 def test_ranges_are_told() -> None:

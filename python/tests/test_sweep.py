@@ -225,7 +225,8 @@ def test_the_command(
     assert main([str(plans[0]), str(bad), *words]) == 1
     told = capsys.readouterr()
     assert told.out.startswith("2 runs done, 2 of them now, 2 failed\n")
-    assert "plan: rule K1" in told.err and told.err.count("bad.2026-11-2") == 2
+    assert told.err.count("PlanFault: plan: rule K1: ") == 2
+    assert told.err.count("bad.2026-11-2") == 2 and "cure: " in told.err
     assert main([str(plans[0]), *words]) == 0
     assert capsys.readouterr().out.startswith("2 runs done, 0 of them now, 0 failed\n")
     table = pd.read_csv(tmp_path / "out" / "all_runs.txt")

@@ -5,12 +5,26 @@ as it was before it.
 """
 
 import re
+from typing import Any
 
 from tsb.manual import REFUSALS, RULES, Refusal, Rule, plan_fault
 
 
 class Error(Exception):
     """Whatever goes wrong with a plan, a log, a bench or its programs."""
+
+    def __reduce__(self) -> tuple[Any, ...]:
+        """As it is, also where another process is told of it."""
+        return _told_again, (type(self), self.args, self.__dict__)
+
+
+def _told_again(
+    kind: type[Error], words: tuple[object, ...], more: dict[str, Any]
+) -> Error:
+    """The error with what it has, whatever it was made from."""
+    again = kind.__new__(kind, *words)
+    again.__dict__.update(more)
+    return again
 
 
 class NoProgram(Error):

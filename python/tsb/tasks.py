@@ -15,7 +15,7 @@ from pathlib import Path
 import pandas as pd
 
 from tsb import programs
-from tsb.errors import Error
+from tsb.errors import Error, PlanFault, ProgramDied
 from tsb.frames import events_of_export, log_of_export, read_export
 from tsb.measures import MEASURES
 from tsb.plan import Plan
@@ -170,7 +170,12 @@ def record(plan: AnyPath, log: Log, seconds: int, pattern: int = 0) -> pd.DataFr
         words = ["record", f"--from={POWER_UP}", "--device=1", str(plan), str(path)]
         commands = [f"pattern {pattern}"] if pattern else []
         text = "\n".join([*commands, f"step {10 * seconds}", ""])
-        done = programs.run("tsb_field", words, text.encode())
+        try:
+            done = programs.run("tsb_field", words, text.encode())
+        except ProgramDied as died:
+            if died.stderr.startswith("plan: "):
+                raise PlanFault(died.stderr.strip()) from None
+            raise
         events = Path(folder) / "events.csv"
         events.write_bytes(done.stdout)
         if done.stderr:
