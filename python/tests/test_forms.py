@@ -83,6 +83,7 @@ FAULTS = {
     "2026-11-31 07:00:03,82,4": "line 2: time '2026-11-31 07:00:03' is no time",
     "2026-11-22 07:00:03,82.5,4": "line 2: code '82.5' is no whole number",
     "2026-11-22 07:00:03,82,NULL": "line 2: parameter 'NULL' is no whole number",
+    '2026-11-22 07:00:03,"82,4\n2026-11-22 07:00:04,81",4': "a quote is out of place",
 }
 
 
@@ -91,7 +92,7 @@ def test_what_is_no_row_names_its_line(tmp_path: Path, rows: str) -> None:
     """And the file."""
     path = tmp_path / "export.csv"
     path.write_text(f"Time,Code,Param\n{rows}\n")
-    with pytest.raises(Error, match=f"export.csv: {FAULTS[rows]}"):
+    with pytest.raises(Error, match=f"export.csv: .*{FAULTS[rows]}"):
         frames.read_export(path)
 
 

@@ -45,7 +45,7 @@ def columns_of(text: str) -> pd.DataFrame:
     ones, and by the numbers of its lines. Without rows it is empty."""
     lines = {
         number: line
-        for number, line in enumerate(text.splitlines(), 1)
+        for number, line in enumerate(text.replace("\r\n", "\n").split("\n"), 1)
         if line and line[0] != "#" and not line.isspace()
     }
     usual = [names[0] for names in COLUMNS.values()]
@@ -78,10 +78,12 @@ def _fields(rows: dict[int, str]) -> pd.DataFrame:
         table = pd.read_csv(
             io.StringIO("\n".join(rows.values())),
             header=None, names=list(range(most)), dtype=str, na_filter=False,
-            skipinitialspace=True,
+            skipinitialspace=True, lineterminator="\n",
         )  # fmt: skip
     except ValueError as fault:
         raise Error(f"the export is no CSV: {fault}") from None
+    if len(table) < len(rows):
+        raise Error("the export is no CSV: a quote is out of place")
     return table.fillna("").set_index(pd.Index(rows)).apply(lambda it: it.str.strip())
 
 

@@ -193,11 +193,13 @@ class Runs:
                 self.failures[name] = f"{type(fault).__name__}: {fault}"
 
     def table(self) -> pd.DataFrame:
-        """The tables of all that is done, as one."""
+        """The tables of all that is done, as one: whole numbers stay whole where a
+        measure has no such column."""
         there = [it for it in self.paths if Path(it).exists()]
         if not there:
             return pd.DataFrame(columns=["plan", "day", "measure"])
-        return pd.concat([pd.read_csv(it) for it in there], ignore_index=True)
+        found = pd.concat([pd.read_csv(it) for it in there], ignore_index=True)
+        return found.convert_dtypes()
 
 
 # The command
