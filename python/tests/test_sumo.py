@@ -4,7 +4,10 @@ import contextlib
 import io
 import json
 import re
+import signal
 import subprocess
+import sys
+import time
 from collections.abc import Callable
 from dataclasses import replace
 from pathlib import Path
@@ -536,6 +539,27 @@ def test_the_command_runs_a_plan(
     trips = read_trips(tmp_path / "out" / "trips.xml")
     assert len(trips) == len((tmp_path / "out" / "trips.csv").open().readlines()) - 1
     assert summary(trips).loc["car", "ended"] == told["trips"]["car"]["ended"]
+
+
+def test_a_run_that_is_stopped(cars: Path, tmp_path: Path) -> None:
+    """Ctrl-C ends a command with one line."""
+    crossroads.plan().write(tmp_path / "plan.json")
+    words = [sys.executable, "-m", "tsb", "sumo", str(cars / "net.xml")]
+    words += [str(cars / "routes.xml"), "--plan", str(tmp_path / "plan.json")]
+    words += ["--mapping", str(cars / "mapping.json"), "--out", str(tmp_path / "out")]
+    words += ["--additional", str(cars / "detectors.xml")]
+    with subprocess.Popen(
+        words,
+        stderr=subprocess.PIPE,
+        text=True,
+        preexec_fn=lambda: signal.signal(signal.SIGINT, signal.SIG_DFL),
+    ) as process:
+        while not (tmp_path / "out/trips.xml").exists():
+            assert process.poll() is None
+            time.sleep(0.05)
+        process.send_signal(signal.SIGINT)
+        _, told = process.communicate(timeout=60)
+    assert (process.returncode, told) == (130, "stopped\n")
 
 
 def test_the_other_commands(tmp_path: Path, capsys: pytest.CaptureFixture[str]) -> None:

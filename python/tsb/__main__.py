@@ -51,6 +51,9 @@ def main(words: list[str]) -> int:
     except Error as fault:
         print(fault, file=sys.stderr)
         return 1
+    except KeyboardInterrupt:
+        print("stopped", file=sys.stderr)
+        return 130
     return status
 
 

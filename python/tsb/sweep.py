@@ -132,13 +132,16 @@ def _whole(traffic: Traffic) -> Traffic:
 
 @contextmanager
 def local(workers: int | None = None) -> Iterator[Any]:
-    """A client of so many processes of this machine, one for each processor."""
+    """A client of so many processes of this machine, one for each processor. They have
+    a folder of their own for a while, since a machine may have several users."""
     dask = _dask()
     with (
+        tempfile.TemporaryDirectory(prefix="tsb-sweep-") as room,
         dask.LocalCluster(
             n_workers=workers or os.cpu_count(),
             threads_per_worker=1,
             processes=True,
+            local_directory=room,
             dashboard_address="127.0.0.1:0",
             silence_logs=50,
         ) as cluster,
