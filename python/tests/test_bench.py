@@ -7,7 +7,7 @@ import re
 import signal
 import threading
 import time
-from collections.abc import Iterator
+from collections.abc import Callable, Iterator
 from pathlib import Path
 
 import pytest
@@ -150,6 +150,11 @@ def test_the_way_back(quad: Path) -> None:
             bench.seek(51)
         with pytest.raises(tsb.NoSuchTick):
             bench.back(51)
+        ways: list[Callable[[int], object]]
+        ways = [bench.back, bench.seek, bench.step, bench.changes]
+        for way in ways:
+            with pytest.raises(tsb.OutOfRange, match="-1: a number of ticks is 0"):
+                way(-1)
         assert bench.undo() == "tick" and bench.now == 49
         assert bench.seek(0).tick == 0
 

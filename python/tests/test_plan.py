@@ -3,6 +3,7 @@
 from datetime import timedelta
 from pathlib import Path
 
+import pandas as pd
 import pytest
 import tsb
 from tsb import Plan, seconds
@@ -97,7 +98,24 @@ def test_values_out_of_range_are_told_at_once() -> None:
         plan["phaseConcurrency"][2] = {17}
     with pytest.raises(tsb.OutOfRange, match=r"0 to 2 \(1 to 4, 0 for none\)"):
         Plan(1)["phaseSide"][2] = 3
+    with pytest.raises(tsb.OutOfRange, match=r"4.5 is no .*; seconds are tsb.seconds"):
+        plan["phaseYellowChange"][2] = 4.5  # type: ignore[assignment]
+    with pytest.raises(
+        tsb.OutOfRange, match=r"phaseRing: 1.0 is no whole .*for none\)$"
+    ):
+        plan["phaseRing"][2] = 1.0  # type: ignore[assignment]
     assert "phaseWalk" not in plan.text
+
+
+def test_numbers_of_tables_are_values() -> None:
+    """Those of numpy and pandas too."""
+    plan, table = Plan(), pd.DataFrame({"phase": [2, 4], "yellow": [40, 35]})
+    for phase, yellow in zip(table["phase"], table["yellow"], strict=True):
+        plan["phaseYellowChange"][phase] = yellow
+    plan["phaseConcurrency"][2] = table["phase"].to_numpy()
+    assert dict(plan["phaseYellowChange"]) == {2: 40, 4: 35}
+    assert plan["phaseConcurrency"][2] == 10
+    assert Plan.of_text(plan.text) == plan
 
 
 def test_names_and_indices_that_there_are_not() -> None:

@@ -195,8 +195,7 @@ class Bench:
 
     def _asked(self, word: str, count: int) -> str:
         """The lines that ask for so many ticks."""
-        if count < 0:
-            raise OutOfRange(f"{word} {count}: a number of ticks is 0 or more")
+        _counted(word, count)
         if self._log is None:
             return f"{word} {count}\n"
         rows = self._log.stretches(self._now + 1, self._now + count)
@@ -213,14 +212,15 @@ class Bench:
     @whole
     def back(self, count: int) -> Display:
         """Goes back so many ticks; `NoSuchTick` where there are fewer."""
-        return self._gone_back(f"back {count}")
+        return self._gone_back("back", count)
 
     @whole
     def seek(self, tick: int) -> Display:
         """Goes back to a tick; `NoSuchTick` where it lies ahead."""
-        return self._gone_back(f"seek {tick}")
+        return self._gone_back("seek", tick)
 
-    def _gone_back(self, command: str) -> Display:
+    def _gone_back(self, word: str, count: int) -> Display:
+        command = f"{word} {_counted(word, count)}"
         answer = self._ask(command)
         if answer == "nothing":
             raise NoSuchTick(f"{command}: the bench is at tick {self._now}")
@@ -390,6 +390,13 @@ def _answering(path: str) -> Talk:
             raise PlanFault(died.stderr.strip()) from None
         raise
     return talk
+
+
+def _counted(word: str, count: int) -> int:
+    """A number of ticks, or of one."""
+    if count < 0:
+        raise OutOfRange(f"{word} {count}: a number of ticks is 0 or more")
+    return count
 
 
 def _changed(before: Display, shown: Lines) -> Iterator[Display]:

@@ -2,6 +2,7 @@
 
 from collections.abc import Iterable
 from datetime import timedelta
+from numbers import Integral, Real
 
 from tsb.errors import NoSuchObject, OutOfRange
 from tsb.manual import OBJECTS, Object
@@ -45,11 +46,11 @@ def parts_of(what: Object, version: int = 2) -> dict[str, tuple[int, int]]:
 
 def index_of(what: Object, index: Index, version: int = 2) -> int:
     """An index as a plan text has it; `NoSuchObject` where the object has none."""
-    if isinstance(index, int):
-        count = what.counts(version)
-        if not 1 <= index <= count:
-            raise NoSuchObject(f"{what.name}.{index}: its indices are 1 to {count}")
-        return index
+    if isinstance(index, int | Integral):
+        number, count = int(index), what.counts(version)
+        if not 1 <= number <= count:
+            raise NoSuchObject(f"{what.name}.{number}: its indices are 1 to {count}")
+        return number
     parts = parts_of(what, version)
     if len(index) != len(parts):
         form = f" or ({', '.join(parts)})" if parts else ""
@@ -74,8 +75,11 @@ def wide_index(what: Object, index: int, version: int) -> int:
 
 def number_of(what: Object, value: Value, version: int = 2) -> int:
     """A value as a plan text has it; `OutOfRange` tells the range where it is none."""
-    if isinstance(value, int):
+    if isinstance(value, int | Integral):
         found = int(value)
+    elif isinstance(value, float | Real):
+        told = f"{what.name}: {value} is no whole number: {what.range(version)}"
+        raise OutOfRange(told + f"; seconds are tsb.seconds({value})" * bool(what.time))
     elif isinstance(value, timedelta):
         found = _units(what, value)
     else:
@@ -100,7 +104,7 @@ def _sum(what: Object, phases: Iterable[int]) -> int:
     """The number of a list of phases."""
     if not what.is_list:
         raise OutOfRange(f"{what.name} is no list of phases: {what.range()}")
-    members = set(phases)
+    members = set(map(int, phases))
     if wrong := [it for it in members if not 1 <= it <= 16]:
         raise OutOfRange(f"{what.name}: there is no phase {wrong[0]}")
     return sum(1 << (it - 1) for it in members)
