@@ -131,6 +131,12 @@ def test_a_detector_that_is_not_there_is_named(cars: Path) -> None:
         Loop(cars / "net.xml", cars / "routes.xml", at)
 
 
+@pytest.mark.parametrize("api", ["libsumo", "traci"])
+def test_a_step_is_a_tick(cars: Path, api: str) -> None:
+    with pytest.raises(MappingFault, match="a step of SUMO is 1.0 s: a tick is 0.1 s"):
+        loop_of(cars, options=["--step-length", "1"], api=api)
+
+
 def test_sumo_that_does_not_start_says_why(cars: Path) -> None:
     at = Intersection.of(cars / "net.xml", "C", cars / "mapping.json")
     words = cars / "net.xml", cars / "no_routes.xml", at

@@ -11,6 +11,8 @@ from tsb.rows import PEDESTRIANS, PREEMPTS, VEHICLES
 from tsb.sumo.intersection import Intersection
 from tsb.sumo.mapping import MappingFault
 
+TICK = 0.1  # seconds
+
 Test = Callable[[], bool]
 Names = Callable[[], Iterable[str]]
 
@@ -172,7 +174,9 @@ class _Subscribed:
 
 
 def _check_simulation(api: Any, at: Intersection) -> None:
-    """The simulation has what the mapping names."""
+    """The simulation has what the mapping names, and steps of a tick."""
+    if abs((step := api.simulation.getDeltaT()) - TICK) > 1e-6:
+        raise MappingFault(f"a step of SUMO is {step} s: a tick is {TICK} s")
     detectors = {*api.lanearea.getIDList(), *api.inductionloop.getIDList()}
     edges = set(api.edge.getIDList())
     if at.tls not in api.trafficlight.getIDList():
