@@ -1,4 +1,5 @@
 """What a live session tells besides its answers: events, its commands, where it ended, and how to come to its state."""
+import concurrent.futures
 import csv
 import json
 import pathlib
@@ -93,24 +94,28 @@ STATE = ["plan", "edits", "status", "save"]
 def saved(live: pathlib.Path, tsb: pathlib.Path) -> list[str]:
     """A saved log with its commands leads `tsb run` to the same state, and as far back; and a live session with the same
     rows to the same plan, desk and status, and to the same saved texts."""
-    wrong = []
-    for number in range(SAVED):
-        rng = random.Random(f"saved {number}")
-        plan = plan_of(PLANS[number % len(PLANS)])
-        lines, more = lines_at_random(rng, rng.randint(1, 30), goes_back=True), after(rng) + ["undo"] * ALL
-        log, commands = saved_of(live, plan, lines)
-        _, answers, _ = ran_on(live, [], [plan], text_of([*lines, *more]))
-        before = ran_on(live, [], [plan], text_of(lines))[1]
-        ended = ran_on(tsb, ["run"], [plan, log], commands + text_of(more))
-        alone = ran_on(tsb, ["run"], [plan, log], commands)[1]
-        if b"refused" in alone or b"bad command" in alone or not answers.endswith(b"nothing\n"):
-            wrong.append(f"saved {number}: a command of it is refused, or it has more than {ALL} inputs")
-        wrong += difference(f"saved {number}", (ended[0], ended[1][len(alone):], ended[2]), answers[len(before):])
-        again, said = live_of(rng, log, commands, alone)
-        state = ran_on(live, [], [plan], again + text_of(STATE))
-        wanted = ran_on(live, [], [plan], text_of([*lines, *STATE]))[1][len(before):]
-        wrong += difference(f"saved {number}, again", state, said + wanted)
-    return wrong
+    with concurrent.futures.ThreadPoolExecutor() as pool:
+        found = pool.map(lambda number: saved_once(live, tsb, number), range(SAVED))
+        return [it for wrong in found for it in wrong]
+
+
+def saved_once(live: pathlib.Path, tsb: pathlib.Path, number: int) -> list[str]:
+    """What differs of one random session that is saved."""
+    rng, name = random.Random(f"saved {number}"), f"saved {number}"
+    plan = plan_of(PLANS[number % len(PLANS)])
+    lines, more = lines_at_random(rng, rng.randint(1, 30), goes_back=True), after(rng) + ["undo"] * ALL
+    log, commands = saved_of(live, plan, lines)
+    _, answers, _ = ran_on(live, [], [plan], text_of([*lines, *more]))
+    before = len(ran_on(live, [], [plan], text_of(lines))[1])
+    ended = ran_on(tsb, ["run"], [plan, log], commands + text_of(more))
+    alone = ran_on(tsb, ["run"], [plan, log], commands)[1]
+    wrong = difference(name, (ended[0], ended[1][len(alone):], ended[2]), answers[before:])
+    if b"refused" in alone or b"bad command" in alone or not answers.endswith(b"nothing\n"):
+        wrong.append(f"{name}: a command of it is refused, or it has more than {ALL} inputs")
+    again, said = live_of(rng, log, commands, alone)
+    state = ran_on(live, [], [plan], again + text_of(STATE))
+    wanted = said + ran_on(live, [], [plan], text_of([*lines, *STATE]))[1][before:]
+    return wrong + difference(f"{name}, again", state, wanted)
 
 
 # --- Commands repeated ---
