@@ -506,3 +506,32 @@ def test_logs_that_are_read(examples: Path) -> None:
     assert list(log.stretches(6, 7)) == [(row([2]), 2)] and not list(
         log.stretches(6, 5)
     )
+
+
+def test_a_log_that_takes_the_place_of_another(quad: Path) -> None:
+    """It acts from the next tick on."""
+    with Bench(quad) as bench:
+        bench.step(4)
+        bench.follow(Log.of([(2, row([4])), (6, row([8]))]))
+        bench.step(1)
+        assert bench.status.detectors.active == {4}
+        bench.changes(5)
+        assert bench.status.detectors.active == {8}
+        bench.follow(None)
+        bench.step(1)
+        assert bench.status.detectors.active == {8}
+
+
+def test_inputs_as_commands(quad: Path) -> None:
+    """Each answers as the manual has it, and no other command is one."""
+    with Bench(quad) as bench:
+        bench.step(3)
+        assert [bench.give(it) for it in ["begin 1", "verify 1"]] == ["ok", "ok"]
+        assert bench.give("set 1 phaseYellowChange 2 20") == "ok"
+        assert bench.give("verify 1") == "rule K8"
+        with pytest.raises(tsb.Refused, match="E7 NotVerified"):
+            bench.give("commit 1")
+        for wrong in ["step 3", "undo", "quit", "", "abort 1\nquit"]:
+            with pytest.raises(tsb.BadCommand):
+                bench.give(wrong)
+        assert [bench.undo() for _ in range(4)] == ["verify", "set", "verify", "begin"]

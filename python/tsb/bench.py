@@ -36,6 +36,10 @@ Watch = Literal[
 
 # Ticks that are taken at a time, where there are more.
 LONG = 100_000
+# The first words of commands that are inputs and no ticks.
+INPUTS = frozenset(
+    "pattern preempt fault reset begin set verify commit abort".split()
+)
 
 _EVENT = re.compile(rb"event (\d+) (\d+) (\d+)\n")
 
@@ -139,6 +143,11 @@ class Bench:
         self.seek(shown[-1].tick if shown else self._now)
 
     # Ticks
+
+    def follow(self, log: Log | None) -> None:
+        """From the next tick on the rows of this log act; with None the row last
+        given is held."""
+        self._log = log
 
     @property
     def now(self) -> int:
@@ -269,6 +278,13 @@ class Bench:
     def reset(self) -> None:
         """Ends a trip, if there is one."""
         self._do("reset")
+
+    def give(self, command: str) -> str:
+        """Gives an input that is no tick as a command of docs/MANUAL.md, chapter 6:
+        its answer, `ok` or of a `verify` the rule that the plan would break."""
+        if command.partition(" ")[0] not in INPUTS:
+            raise BadCommand(command)
+        return self._do(command)
 
     @contextmanager
     def transaction(self, station: int = 1) -> Iterator["Transaction"]:
