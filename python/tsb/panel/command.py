@@ -1,0 +1,86 @@
+"""The command `python3 -m tsb panel`."""
+
+import argparse
+import asyncio
+import signal
+import webbrowser
+from collections.abc import Coroutine, Sequence
+from contextlib import suppress
+from pathlib import Path
+
+from tsb.errors import Error
+from tsb.panel.keep import Keep, Source
+from tsb.panel.layout import Layout
+
+PROGRAM = "python3 -m tsb panel"
+
+
+def _words() -> argparse.ArgumentParser:
+    words = argparse.ArgumentParser(
+        prog=PROGRAM,
+        description="Shows a bench in the browser: open the address that is printed.",
+    )
+    words.add_argument("plan", type=Path, metavar="PLAN")
+    words.add_argument("log", type=Path, nargs="?", metavar="LOG")
+    words.add_argument(
+        "--layout", type=Path, metavar="FILE", help="where phases are (docs/PANEL.md)"
+    )
+    words.add_argument(
+        "--runs",
+        type=Path,
+        metavar="FOLDER",
+        default=Path("panel_runs"),
+        help="where runs are kept; panel_runs without it",
+    )
+    words.add_argument("--port", type=int, default=0, help="0 for any that is free")
+    words.add_argument("--open", action="store_true", help="open it in the browser")
+    return words
+
+
+def main(words: Sequence[str]) -> int:
+    """Serves a panel until it is interrupted; the status to end with."""
+    given = _words().parse_args(words)
+    try:
+        source = Source.read(given.plan, given.log)
+        layout = None if given.layout is None else Layout.read(given.layout)
+        source.open().close()
+        return asyncio.run(_serve(source, Keep(given.runs.resolve()), layout, given))
+    except OSError as fault:
+        raise Error(f"{fault.filename or 'panel'}: {fault.strerror}") from None
+
+
+async def _serve(
+    source: Source, keep: Keep, layout: Layout | None, given: argparse.Namespace
+) -> int:
+    try:
+        from aiohttp import web
+
+        from tsb.panel.server import HOST, Panel
+    except ImportError as missing:
+        raise Error(f"a panel needs aiohttp: python/setup.sh ({missing})") from None
+    panel = Panel(source, keep, layout)
+    runner = web.AppRunner(panel.app(), access_log=None)
+    await runner.setup()
+    try:
+        await web.TCPSite(runner, HOST, given.port).start()
+        panel.port = runner.addresses[0][1]
+        print(f"{source.name}: {panel.address}", flush=True)
+        if given.open:
+            webbrowser.open(panel.address)
+        await _interrupted(panel.watch())
+    finally:
+        await panel.close()
+        await runner.cleanup()
+    return 0
+
+
+async def _interrupted(work: Coroutine[object, object, None]) -> None:
+    """Works until Ctrl-C, or until the process is asked to end."""
+    ended = asyncio.Event()
+    for it in (signal.SIGINT, signal.SIGTERM):
+        asyncio.get_running_loop().add_signal_handler(it, ended.set)
+    task = asyncio.create_task(work)
+    await ended.wait()
+    task.cancel()
+    with suppress(asyncio.CancelledError):
+        await task

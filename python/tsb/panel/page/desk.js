@@ -1,0 +1,54 @@
+// The desk: a station's transaction, by the names, units and ranges of the manual.
+
+import { byId, el, mark, say } from "./dom.js";
+
+export class Desk {
+  constructor(ask) {
+    this.ask = ask;
+    const station = () => Number(byId("station").value);
+    for (const word of ["begin", "verify", "commit", "abort"]) {
+      byId(word).addEventListener("click", () => ask({ do: word, station: station() }));
+    }
+    byId("set-form").addEventListener("submit", (event) => {
+      event.preventDefault();
+      const [name, index, value] = ["object", "index", "value"].map((id) => byId(id).value);
+      ask({ do: "set", station: station(), name, index: Number(index), value: Number(value) });
+    });
+    for (const id of ["object", "index"]) byId(id).addEventListener("input", () => this.describe());
+  }
+
+  /** The objects that there are. */
+  objects(objects) {
+    this.all = objects;
+    byId("object").replaceChildren(...Object.keys(objects).map((it) => el("option", { value: it }, it)));
+    byId("object").value = "phaseMaximum1";
+  }
+
+  /** A plan's values are those in effect. */
+  draw(plan) {
+    this.plan = plan;
+    this.describe();
+  }
+
+  describe() {
+    const name = byId("object").value, it = this.all[name];
+    if (!it) return;
+    say(byId("index-name"), it.index);
+    byId("index").max = it.count;
+    byId("value").max = it.greatest;
+    const now = this.plan?.values[name]?.[byId("index").value] ?? 0;
+    const rest = it.structural ? " A commit changes it only while nothing is in service." : "";
+    say(byId("object-says"), `${it.meaning}. Index 1 to ${it.count}, value ${it.range}; now ${now}.${rest}`);
+    if (document.activeElement !== byId("value")) byId("value").value = now;
+  }
+
+  show(state) {
+    const { owner, says, rule, edits } = state.desk;
+    say(byId("desk-state"), owner === null ? says : `station ${owner}: ${says}`);
+    const rows = edits.map((it) => el("tr", {},
+      el("td", {}, it.object), el("td", {}, `[${it.index}]`), el("td", {}, String(it.value)), el("td", {}, it.unit)));
+    byId("edits").tBodies[0].replaceChildren(...rows);
+    say(byId("rule"), rule === null ? "" : `Rule ${rule.name}: ${rule.holds} Usual cause: ${rule.cause}. Cure: ${rule.cure}.`);
+    mark(byId("rule"), "warned", rule !== null);
+  }
+}

@@ -1,0 +1,117 @@
+"""What a page is told of a bench: its status in words and numbers."""
+
+from typing import Any
+
+from tsb.manual import OBJECTS, RULES
+from tsb.panel import words
+from tsb.panel.layout import Layout, layout_of
+from tsb.panel.run import Run, is_tripped
+from tsb.status import Edits, Status
+
+GIVEN_SHOWN = 100  # inputs that a page lists, the newest
+SEQUENCES, RINGS = 4, 2
+
+
+def state_of(run: Run) -> dict[str, Any]:
+    """All that a page shows, but for pictures and the plan."""
+    bench, tape, now = run.bench, run.tape, run.now
+    hands, given, lamp = tape.hands(now), tape.before(now), tape.lamp(now)
+    ahead = tape.end - now
+    return {
+        "now": now,
+        "end": tape.end,
+        "line": bench.show().line,
+        "row": tape.row(now + 1) if ahead else next(tape.next_rows(now, 1))[0],
+        "hands": {where: hand.at(now + 1) for where, hand in sorted(hands.items())},
+        "switches": sorted(tape.switches(now)),
+        "lamp": None if lamp is None else f"{lamp.head} {lamp.lamp}",
+        "given": [
+            {"tick": it.tick, "line": it.what.line} for it in given[-GIVEN_SHOWN:]
+        ],
+        "given_count": len(given),
+        "source": run.source.name,
+        "saved": run.is_saved,
+        **_told(bench.status),
+        "desk": _desk(bench.edits),
+    }
+
+
+def _told(status: Status) -> dict[str, Any]:
+    """The status of the controller."""
+    phases = status.phases
+    return {
+        "on": sorted(phases.phase_ons),
+        "next": sorted(phases.phase_nexts),
+        "vehicle_calls": sorted(phases.veh_calls),
+        "pedestrian_calls": sorted(phases.ped_calls),
+        "active": sorted(status.detectors.active),
+        "alarms": sorted(status.detectors.alarms),
+        "rings": [
+            {
+                "says": words.ring(it),
+                "phase": it.phase,
+                "next": it.next,
+                "gap": it.gap,
+                "left": words.left_of(it),
+            }
+            for it in status.rings
+        ],
+        "waits": [
+            {"phase": it.phase, "says": words.wait(it)}
+            for it in status.waits.values()
+        ],
+        "preempts": [words.PREEMPTS.get(it, it) for it in status.preempt_state],
+        "pattern": words.pattern(status),
+        "local": status.local_counter,
+        "sync": status.coord_sync_status,
+        "tripped": is_tripped(status),
+        "flash": words.flash(status),
+    }
+
+
+def _desk(edits: Edits) -> dict[str, Any]:
+    rule = None if edits.rule is None else RULES.get(edits.rule)
+    return {
+        "owner": edits.owner,
+        "state": edits.state,
+        "says": words.DESK.get(edits.state, edits.state),
+        "rule": None if rule is None else vars(rule),
+        "edits": [{**vars(it), "unit": OBJECTS[it.object].unit} for it in edits.edits],
+    }
+
+
+def plan_told(run: Run, layout: Layout | None) -> dict[str, Any]:
+    """What a page draws of a plan, and its values by object and index."""
+    plan = run.plan
+    return {
+        "serial": run.serial,
+        "phases": sorted(plan.phases),
+        "sides": {it: plan["phaseSide"][it] for it in sorted(plan.phases)},
+        "sequences": {
+            number: [plan.sequence(number, ring + 1) for ring in range(RINGS)]
+            for number in range(1, SEQUENCES + 1)
+        },
+        "sequence_of": dict(plan["patternSequenceNumber"]),
+        "layout": layout_of(plan, layout).told(),
+        "detectors": dict(plan["vehicleDetectorCallPhase"]),
+        "buttons": dict(plan["pedestrianDetectorCallPhase"]),
+        "preempts": sorted(plan["preemptDwellPhase"]),
+        "patterns": sorted(plan["patternCycleTime"]),
+        "values": {name: dict(values) for name, values in plan.items()},
+    }
+
+
+def objects_told() -> dict[str, Any]:
+    """What the manual says of each object, for the desk."""
+    return {
+        name: {
+            "index": it.index,
+            "count": it.count,
+            "range": it.range(),
+            "greatest": it.greatest,
+            "unit": it.unit,
+            "structural": it.structural,
+            "meaning": it.meaning,
+        }
+        for name, it in OBJECTS.items()
+    }
