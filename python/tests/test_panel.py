@@ -1,0 +1,712 @@
+"""The panel in a real browser, driven as a person would, and its server by hand."""
+
+import http.client
+import json
+import os
+import resource
+import signal
+import subprocess
+import sys
+import threading
+import time
+from collections.abc import Callable, Iterator
+from dataclasses import dataclass
+from pathlib import Path
+from statistics import median
+from typing import Any
+
+import pytest
+import tsb
+from tsb import programs
+from tsb.panel.server import BENCHES_MOST, BODY_MOST
+
+# (its types are not all told)
+webdriver = pytest.importorskip("selenium.webdriver")
+Service = pytest.importorskip("selenium.webdriver.chrome.service").Service
+By = pytest.importorskip("selenium.webdriver.common.by").By
+Keys = pytest.importorskip("selenium.webdriver.common.keys").Keys
+Select = pytest.importorskip("selenium.webdriver.support.select").Select
+
+Browser = Any
+PATIENCE = 20  # seconds
+DAY = 864_000
+
+
+@dataclass
+class Server:
+    """A panel that runs, and its address."""
+
+    process: "subprocess.Popen[str]"
+    port: int
+    token: str
+    runs: Path
+
+    @property
+    def address(self) -> str:
+        return f"http://127.0.0.1:{self.port}/{self.token}/"
+
+    def post(
+        self,
+        path: str,
+        told: Any,
+        *,
+        token: str | None = None,
+        text: bytes | None = None,
+        **headers: str,
+    ) -> tuple[int, Any]:
+        """The status and the answer to a request that is sent by hand."""
+        link = http.client.HTTPConnection("127.0.0.1", self.port, timeout=PATIENCE)
+        sent = {
+            "Host": f"127.0.0.1:{self.port}",
+            "Origin": f"http://127.0.0.1:{self.port}",
+            "Content-Type": "application/json",
+            **{name.replace("_", "-"): value for name, value in headers.items()},
+        }
+        where = f"/{self.token if token is None else token}/{path}"
+        body = json.dumps(told).encode() if text is None else text
+        link.request("POST", where, body, {k: v for k, v in sent.items() if v})
+        answer = link.getresponse()
+        found = answer.read()
+        link.close()
+        is_json = answer.headers.get_content_type() == "application/json"
+        return answer.status, json.loads(found) if is_json else found
+
+    def opened(self) -> "Asker":
+        """A page of one's own, without a browser."""
+        before = self.benches()
+        status, found = self.post("open", {"session": None})
+        assert status == 200
+        new = self.benches() - before
+        return Asker(self, found["page"], found["session"], new.pop())
+
+    def benches(self) -> set[int]:
+        """The processes of the benches."""
+        words = ["ps", "-o", "pid=,comm=", "--ppid", str(self.process.pid)]
+        told = subprocess.run(words, capture_output=True, text=True, check=False)
+        rows = [it.split() for it in told.stdout.splitlines()]
+        return {int(pid) for pid, name in rows if name == "tsb_live"}
+
+
+@dataclass
+class Asker:
+    """A page that is no browser."""
+
+    server: Server
+    page: str
+    session: str
+    bench: int
+
+    def ask(self, do: str, **more: Any) -> tuple[int, Any]:
+        """The status and the answer to a request of this page."""
+        return self.server.post("ask", {"do": do, "page": self.page, **more})
+
+    def go(self, tick: int) -> Any:
+        """Goes to a tick, in as many requests as it takes."""
+        while True:
+            status, found = self.ask("go", tick=tick)
+            assert status == 200 and not found["fault"], found
+            if found["state"]["now"] == tick:
+                return found["state"]
+
+
+def started(folder: Path, *words: str | Path) -> Iterator[Server]:
+    """A panel on a plan, until the test is over."""
+    command = [sys.executable, "-m", "tsb", "panel", *words, "--runs", folder]
+    with subprocess.Popen(command, stdout=subprocess.PIPE, text=True) as process:
+        assert process.stdout is not None
+        try:
+            address = process.stdout.readline().split()[-1]
+            _, _, host, token, _ = address.split("/")
+            yield Server(process, int(host.partition(":")[2]), token, folder)
+            process.send_signal(signal.SIGINT)
+            assert process.wait(PATIENCE) == 0
+        finally:
+            process.kill()
+
+
+@pytest.fixture(scope="module")
+def server(tmp_path_factory: pytest.TempPathFactory) -> Iterator[Server]:
+    """A panel on the plan of eight phases."""
+    top = Path(__file__).resolve().parents[2]
+    folder = tmp_path_factory.mktemp("panel") / "runs"
+    yield from started(folder, top / "examples/quad.json")
+
+
+@pytest.fixture(scope="module")
+def browser() -> Iterator[Browser]:
+    """A headless Chromium."""
+    options = webdriver.ChromeOptions()
+    for word in ["--headless=new", "--no-sandbox", "--disable-dev-shm-usage"]:
+        options.add_argument(word)
+    options.add_argument("--window-size=1500,1250")
+    found = webdriver.Chrome(service=Service("/usr/bin/chromedriver"), options=options)
+    yield found
+    found.quit()
+
+
+class Page:
+    """A page of the panel in a tab of its own."""
+
+    def __init__(self, browser: Browser, address: str) -> None:
+        self.browser = browser
+        browser.switch_to.new_window("tab")
+        self.tab = browser.current_window_handle
+        browser.get(address)
+        self.settle()
+
+    def wait(self, holds: Callable[[], Any], what: str = "") -> None:
+        """Waits until something holds."""
+        end = time.monotonic() + PATIENCE
+        while not holds():
+            assert time.monotonic() < end, f"{what}: {self.text('message')}"
+            time.sleep(0.02)
+
+    def settle(self) -> None:
+        """Waits until nothing is asked any more."""
+        idle = "return document.querySelector('main:not([aria-busy])') !== null"
+        self.wait(lambda: self.text("source") or self.shows("message"), "it opens")
+        self.wait(lambda: self.browser.execute_script(idle), "it is idle")
+
+    def find(self, name: str) -> Any:
+        return self.browser.find_element(By.ID, name)
+
+    def text(self, name: str) -> str:
+        return str(self.find(name).text)
+
+    def shows(self, name: str) -> bool:
+        return bool(self.find(name).is_displayed())
+
+    def click(self, name: str) -> None:
+        self.find(name).click()
+        self.settle()
+
+    def fill(self, name: str, value: object) -> None:
+        box = self.find(name)
+        box.clear()
+        box.send_keys(str(value))
+
+    def choose(self, name: str, value: str) -> None:
+        Select(self.find(name)).select_by_value(value)
+
+    def keys(self, *keys: str) -> None:
+        webdriver.ActionChains(self.browser).send_keys(*keys).perform()
+        self.settle()
+
+    def go(self, tick: int) -> None:
+        self.fill("go", tick)
+        self.click("go-there")
+        self.wait(lambda: self.tick == tick, f"tick {tick}")
+        self.settle()
+
+    @property
+    def tick(self) -> int:
+        return int(self.text("tick"))
+
+    def lit(self, head: str) -> str:
+        """The lenses of a head that are lit."""
+        lenses = self.find(f"head-{head}").find_elements(By.CSS_SELECTOR, ".lens.lit")
+        return "".join(str(it.text) for it in lenses)
+
+    def is_on(self, name: str) -> bool:
+        return str(self.find(name).get_attribute("aria-pressed")) == "true"
+
+    def has(self, name: str, word: str) -> bool:
+        return word in (self.find(name).get_attribute("class") or "").split()
+
+    def set(self, name: str, index: int, value: int) -> None:
+        """Sets a value at the desk."""
+        self.choose("object", name)
+        self.fill("index", index)
+        self.fill("value", value)
+        self.click("set")
+
+
+@pytest.fixture
+def page(browser: Browser, server: Server) -> Iterator[Page]:
+    """A page with a bench of its own."""
+    found = Page(browser, server.address)
+    yield found
+    for tab in browser.window_handles[1:]:
+        browser.switch_to.window(tab)
+        browser.close()
+    browser.switch_to.window(browser.window_handles[0])
+
+
+# As a person would
+
+
+def test_a_call_is_clicked_and_green_comes(page: Page) -> None:
+    """Phase 2 keeps its 5 s, is yellow for 3 s and clears for 1 s: green at 91."""
+    assert page.tick == 0 and page.lit("P4") == "R"
+    page.click("vehicle-4")
+    page.go(40)
+    assert "V" in page.text("phase-4") and page.has("phase-2", "on")
+    assert page.text("wait-4") == "Phase 4 waits for the barrier, which phase 2 keeps"
+    assert page.text("ring-1-1") == "1.1 s"
+    page.go(91)
+    assert page.lit("P4") == "G" and page.has("phase-4", "G")
+    page.click("tick-back")
+    assert page.tick == 90 and page.lit("P4") == "R"
+    assert "it starts in the next tick" in page.text("wait-4")
+    page.click("tick-on")
+    assert page.tick == 91 and page.lit("P4") == "G" and page.lit("P2") == "R"
+
+
+def test_the_scrubber_goes_all_over_the_run(page: Page) -> None:
+    """By the keyboard: to the start, and to the end again."""
+    page.click("vehicle-4")
+    page.go(95)
+    line = page.text("line")
+    page.find("scrubber").send_keys(Keys.HOME)
+    page.settle()
+    page.wait(lambda: page.tick == 0, "tick 0")
+    assert "95 ticks lie ahead" in page.text("ahead")
+    page.find("scrubber").send_keys(Keys.END)
+    page.wait(lambda: page.tick == 95, "tick 95")
+    assert page.text("line") == line and page.text("ahead") == ""
+    page.find("scrubber").send_keys(Keys.ARROW_LEFT)
+    page.wait(lambda: page.tick == 94, "tick 94")
+
+
+def test_a_change_at_an_earlier_tick(page: Page) -> None:
+    """What lay ahead is dropped, and another run goes on from there."""
+    page.click("vehicle-4")
+    page.go(120)
+    page.go(40)
+    page.click("begin")
+    assert page.text("ahead") == "" and page.text("given").startswith("tick 40 begin 1")
+    page.set("phaseMinimumGreen", 2, 8)
+    page.set("phaseYellowChange", 2, 40)
+    assert "phaseMinimumGreen" in page.text("edits")
+    page.click("verify")
+    assert "can be committed" in page.text("desk-state")
+    page.click("commit")
+    assert "nobody's" in page.text("desk-state") and page.text("edits") == ""
+    page.go(80)
+    assert page.lit("P2") == "G"
+    page.click("tick-on")
+    assert page.lit("P2") == "Y"
+    page.go(130)
+    assert page.lit("P4") == "R"
+    page.click("tick-on")
+    assert page.lit("P4") == "G"
+
+
+def test_refusals_in_words_with_their_cures(page: Page) -> None:
+    """A commit before its time, an edit out of range, and one of a broken rule."""
+    page.go(10)
+    page.click("commit")
+    assert page.text("message-title") == "commit 1: refused E6 NotOpen"
+    assert page.text("message-cure") == "Cure: begin first."
+    page.click("begin")
+    assert not page.shows("message")
+    page.set("phaseYellowChange", 2, 20)
+    page.click("commit")
+    assert "refused E7 NotVerified" in page.text("message-title")
+    page.click("verify")
+    assert "rule K8 would be broken" in page.text("said")
+    assert "at least 30, that is 3.0 s" in page.text("rule")
+    page.set("phaseYellowChange", 2, 300)
+    assert "refused E3 OutOfRange" in page.text("message-title")
+    page.set("phaseYellowChange", 2, 30)
+    page.set("phaseConcurrency", 1, 0)
+    page.set("phaseConcurrency", 5, 2)
+    page.set("phaseConcurrency", 6, 2)
+    page.click("verify")
+    page.click("commit")
+    assert "refused E12 InService" in page.text("message-title")
+    assert "it would change what is in service now" in page.text("message-text")
+    page.click("abort")
+    assert not page.shows("message") and page.text("edits") == ""
+
+
+def test_a_preempt(page: Page) -> None:
+    """Its switch brings phases 3 and 8 at tick 71, as the README has it."""
+    page.go(30)
+    page.click("switch-1")
+    assert page.find("switch-1").get_attribute("aria-checked") == "true"
+    page.go(70)
+    assert page.lit("P3") == "R" and "1: dwell stage" in page.text("preempts")
+    page.click("tick-on")
+    assert page.lit("P3") == page.lit("P8") == "G"
+    page.go(30)
+    page.click("undo")
+    assert page.text("said") == "undone switch"
+    assert page.find("switch-1").get_attribute("aria-checked") == "false"
+
+
+def test_a_trip_and_a_reset(page: Page) -> None:
+    """A green lamp that conflicts trips the monitor."""
+    page.go(60)
+    page.choose("head", "P4")
+    page.choose("lamp-letter", "G")
+    page.click("light")
+    assert page.shows("trip") and page.lit("P2") == "F"
+    assert "P4 G is lit" in page.text("lamp")
+    page.click("reset")
+    assert not page.shows("trip") and page.text("lamp") == "none is lit"
+    assert page.lit("P2") == "R"
+
+
+def test_a_pattern_is_selected(page: Page) -> None:
+    """It runs from the next tick on, with its counter."""
+    page.choose("patterns", "1")
+    page.click("select-pattern")
+    page.go(5)
+    assert page.text("pattern").startswith("pattern 1, local counter 0.5 s")
+
+
+def test_hands_by_keyboard(page: Page) -> None:
+    """Latch, pulse, and give back; and time by its keys."""
+    page.browser.execute_script("document.getElementById('vehicle-4').focus()")
+    page.keys("l")
+    assert page.is_on("vehicle-4") and page.has("vehicle-4", "held")
+    page.keys(".")
+    assert page.tick == 1 and page.has("vehicle-4", "active")
+    page.keys("l")
+    assert not page.is_on("vehicle-4") and page.has("vehicle-4", "held")
+    page.keys("g")
+    assert not page.has("vehicle-4", "held")
+    page.keys("p")
+    assert page.is_on("vehicle-4")
+    page.keys(*"......")
+    assert page.tick == 7 and not page.is_on("vehicle-4")
+    page.keys(",")
+    assert page.tick == 6
+
+
+def test_play_and_pause(page: Page) -> None:
+    """At ten times the pace of the street, then as fast as it goes."""
+    page.find("play10").click()
+    page.wait(lambda: page.tick >= 20, "it plays")
+    page.click("pause")
+    was = page.tick
+    assert was < 600
+    page.find("playfast").click()
+    page.wait(lambda: page.tick > was + 20_000, "it is fast")
+    page.click("pause")
+    was = page.tick
+    time.sleep(0.2)
+    assert page.tick == was
+
+
+def test_marks_at_each_change(page: Page) -> None:
+    """Of a value that is watched."""
+    page.click("vehicle-4")
+    page.go(95)
+    page.choose("watch", "interval")
+    page.fill("watch-number", 2)
+    page.click("mark")
+    # (green at 1, yellow at 51, red clearance at 81, red at 91)
+    assert "1: interval 2, 4 changes" in page.text("marks")
+    page.go(60)
+    page.go(95)
+    assert "1: interval 2, 4 changes" in page.text("marks")
+    page.go(60)
+    page.click("vehicle-3")
+    assert "1: interval 2, 2 changes" in page.text("marks")
+
+
+def test_a_run_is_saved_and_tsb_run_replays_it(page: Page, server: Server) -> None:
+    """The same lines at all ticks that are looked at, and the same run when loaded."""
+    page.click("vehicle-4")
+    page.go(70)
+    page.click("switch-2")
+    page.go(200)
+    lines = {200: page.text("line")}
+    page.fill("name", "a-day")
+    page.click("save")
+    folder = server.runs / "a-day"
+    assert page.text("said") == f"saved up to tick 200: {folder}"
+    words: list[str | Path] = ["run", folder / "plan.json", folder / "run.log"]
+    commands = (folder / "run.commands").read_bytes()
+    told = programs.run("tsb", words, commands).stdout.decode().splitlines()
+    shown = [it for it in told if it[:7].isdigit()]
+    assert len(shown) == 200
+    for tick in [150, 71, 91, 1]:
+        page.go(tick)
+        lines[tick] = page.text("line")
+    assert all(shown[tick - 1] == line for tick, line in lines.items())
+    page.click("save")
+    assert "there is a run a-day already" in page.text("message-text")
+    page.click("tick-on")
+    page.choose("runs", "a-day")
+    page.click("load")
+    if page.tick != 200:
+        page.browser.switch_to.alert.accept()
+        page.settle()
+    assert page.tick == 200 and page.text("line") == lines[200]
+    page.go(91)
+    assert page.text("line") == lines[91]
+
+
+def test_two_pages_have_two_benches(page: Page, server: Server) -> None:
+    """What one does the other does not see."""
+    page.go(50)
+    other = Page(page.browser, server.address)
+    assert other.tick == 0
+    other.click("vehicle-4")
+    other.go(91)
+    assert other.lit("P4") == "G"
+    page.browser.switch_to.window(page.tab)
+    assert page.tick == 50
+    page.go(91)
+    assert page.lit("P4") == "R"
+
+
+def test_a_page_is_reloaded(page: Page) -> None:
+    """The bench goes on where it was."""
+    page.click("vehicle-4")
+    page.go(91)
+    page.browser.refresh()
+    page.settle()
+    assert page.text("said") == "reloaded: the bench goes on at tick 91"
+    assert page.tick == 91 and page.lit("P4") == "G"
+
+
+def test_a_killed_bench(browser: Browser, server: Server) -> None:
+    """The message says so, and the run is taken again."""
+    others = server.benches()
+    page = Page(browser, server.address)
+    page.click("vehicle-4")
+    page.go(91)
+    line = page.text("line")
+    os.kill((server.benches() - others).pop(), signal.SIGKILL)
+    page.click("tick-on")
+    assert page.text("message-title") == "the bench has ended"
+    assert "tsb_live ended by signal 9" in page.text("message-text")
+    page.click("tick-on")
+    assert page.text("message-title") == "the bench has ended" and page.tick == 91
+    page.click("again")
+    assert "took the run up to tick 91" in page.text("said")
+    assert not page.shows("message") and page.text("line") == line
+    page.click("tick-back")
+    assert page.tick == 90 and page.lit("P4") == "R"
+
+
+def test_a_full_disk(page: Page, server: Server) -> None:
+    """A run that cannot be written is told, and what was saved stays."""
+    page.go(20)
+    page.fill("name", "before")
+    page.click("save")
+    was = {it: it.read_bytes() for it in (server.runs / "before").iterdir()}
+    limits = resource.prlimit(server.process.pid, resource.RLIMIT_FSIZE)
+    none = (0, limits[1])
+    resource.prlimit(server.process.pid, resource.RLIMIT_FSIZE, none)
+    try:
+        page.fill("name", "after")
+        page.click("save")
+        assert "File too large" in page.text("message-text")
+        assert "what was saved before is as it was" in page.text("message-cure")
+    finally:
+        resource.prlimit(server.process.pid, resource.RLIMIT_FSIZE, limits)
+    assert {it: it.read_bytes() for it in was} == was
+    assert not [it for it in server.runs.iterdir() if it.name.startswith(".")]
+    page.click("save")
+    assert (server.runs / "after/plan.json").is_file() and not page.shows("message")
+
+
+def test_nothing_is_fetched_from_elsewhere(page: Page) -> None:
+    """Nor is anything of the page refused by its own policy."""
+    names = "return performance.getEntriesByType('resource').map(it => it.name)"
+    fetched = page.browser.execute_script(names)
+    assert fetched and all("://127.0.0.1:" in it for it in fetched)
+    severe = [it for it in page.browser.get_log("browser") if it["level"] == "SEVERE"]
+    assert severe == []
+
+
+# By hand
+
+
+@pytest.mark.parametrize(
+    ("status", "how"),
+    [
+        (404, {"token": "guess"}),
+        (404, {"token": ""}),
+        (403, {"Host": "panel.example"}),
+        (403, {"Host": "127.0.0.1"}),
+        (403, {"Origin": "http://panel.example"}),
+        (403, {"Origin": "null"}),
+        (403, {"Origin": ""}),
+        (403, {"Sec_Fetch_Site": "cross-site"}),
+        (415, {"Content_Type": "text/plain"}),
+        (400, {"text": b"{"}),
+        (400, {"text": b"[]"}),
+        (413, {"text": b"x" * (BODY_MOST + 1)}),
+    ],
+)
+def test_who_is_not_answered(server: Server, status: int, how: Any) -> None:
+    """A wrong address, another page, and what is no request of a page."""
+    count = len(server.benches())
+    found, told = server.post("open", {"session": None}, **how)
+    assert found == status and told["fault"]["title"]
+    assert len(server.benches()) == count
+
+
+def test_the_page_says_what_it_may_load(server: Server) -> None:
+    """Its own parts alone; and no other page may show it or read it."""
+    link = http.client.HTTPConnection("127.0.0.1", server.port, timeout=PATIENCE)
+    link.request("GET", f"/{server.token}/")
+    answer = link.getresponse()
+    text = answer.read().decode()
+    assert answer.status == 200 and "<title>tsb panel</title>" in text
+    assert "://" not in text
+    policy = answer.headers["Content-Security-Policy"]
+    assert "default-src 'none'" in policy and "frame-ancestors 'none'" in policy
+    for name, status in [("panel.js", 200), ("secret.js", 404), ("../server.py", 404)]:
+        link.request("GET", f"/{server.token}/{name}")
+        answer = link.getresponse()
+        answer.read()
+        assert answer.status == status, name
+    link.request("GET", "/guess/")
+    assert link.getresponse().status == 404
+
+
+def test_requests_that_are_none_reach_no_bench(server: Server) -> None:
+    """Each is told, and the bench is as it was."""
+    asker = server.opened()
+    before = asker.ask("look")[1]["state"]
+    for wrong in [
+        {"do": "fly"},
+        {"do": "advance", "ticks": 1_000_000},
+        {"do": "pattern", "number": "1\nundo"},
+        {"do": "look", "view": {"first": 0, "last": 9, "columns": 5000}},
+        {"do": "save", "name": "../../etc"},
+    ]:
+        status, told = asker.ask(**wrong)  # type: ignore[arg-type]
+        assert status == 400 and told["fault"]["title"], wrong
+    assert asker.ask("look")[1]["state"] == before
+    status, told = server.post("ask", {"do": "look", "page": "another"})
+    assert status == 410 and told["fault"]["cure"] == "reload the page"
+
+
+def test_a_page_that_is_open_twice(server: Server) -> None:
+    """The later one has the bench, and the earlier one is told."""
+    asker = server.opened()
+    asker.go(7)
+    status, found = server.post("open", {"session": asker.session})
+    assert status == 200 and found["state"]["now"] == 7
+    assert asker.ask("look")[0] == 410
+
+
+def test_a_second_request_while_one_runs(server: Server) -> None:
+    """It is refused, and the first is carried out."""
+    asker = server.opened()
+    os.kill(asker.bench, signal.SIGSTOP)
+    found: list[Any] = []
+    first = threading.Thread(target=lambda: found.append(asker.ask("go", tick=5)))
+    first.start()
+    try:
+        status = 200
+        told: Any = None
+        end = time.monotonic() + PATIENCE
+        while status == 200 and time.monotonic() < end:
+            time.sleep(0.05)
+            status, told = asker.ask("go", tick=9)
+        assert status == 409 and "busy with an earlier request: go" in told["fault"]["text"]
+    finally:
+        os.kill(asker.bench, signal.SIGCONT)
+    first.join(PATIENCE)
+    assert found[0][0] == 200 and found[0][1]["state"]["now"] == 5
+    assert asker.ask("look")[1]["state"]["now"] == 5
+
+
+def test_exports_are_those_of_the_programs(server: Server, tmp_path: Path) -> None:
+    """Events as `tsb_field record` writes them, the diagram as it draws it."""
+    asker = server.opened()
+    asker.ask("hold", kind="vehicle", number=4, on=True)
+    asker.go(400)
+    asker.ask("save", name="exported")
+    folder = server.runs / "exported"
+    files = [folder / "plan.json", folder / "run.log"]
+    commands = (folder / "run.commands").read_bytes()
+    begin = "2026-11-22 07:00:00"
+    more: dict[str, Any] = {"page": asker.page, "begin": begin, "device": "7"}
+    status, events = server.post("events.csv", more)
+    words: list[str | Path] = ["record", f"--from={begin}", "--device=7", *files]
+    assert status == 200
+    assert events == programs.run("tsb_field", words, commands).stdout
+    status, drawn = server.post("diagram.svg", {"page": asker.page, "seconds": 60})
+    lines = programs.run("tsb", ["run", *files], commands).stdout
+    words = ["diagram", f"--log={files[1]}", "--title=Phase diagram"]
+    wanted = programs.run("tsb_field", [*words, "--seconds-per-line=60"], lines)
+    assert status == 200 and drawn == wanted.stdout
+    wrongs: list[dict[str, Any]] = [{"begin": "now"}, {"device": "a b"}, {"device": 7}]
+    for wrong in wrongs:
+        assert server.post("events.csv", {**more, **wrong})[0] == 400
+    assert server.post("diagram.svg", {"page": asker.page, "seconds": 0})[0] == 400
+
+
+def test_a_log_acts_until_a_hand_takes_over(examples: Path, tmp_path: Path) -> None:
+    """An input of the log, taken over and given back; and a layout with streets."""
+    layout = tmp_path / "layout.json"
+    layout.write_text('{"streets": {"west": "Main Street"}}')
+    log = tmp_path / "log"
+    log.write_text("0000010 0001000000000000 00000000 0000\n")
+    words: list[str | Path] = [examples / "quad.json", log, "--layout", layout]
+    for server in started(tmp_path / "runs", *words):
+        asker = server.opened()
+        found = server.post("open", {"session": asker.session})[1]
+        asker.page = found["page"]
+        assert found["plan"]["layout"]["streets"] == {"west": "Main Street"}
+        assert asker.go(9)["row"][3] == "1"
+        asker.ask("hold", kind="vehicle", number=4, on=False)
+        state = asker.go(20)
+        assert state["active"] == [] and state["hands"] == {"3": False}
+        asker.ask("free", kind="vehicle", number=4)
+        assert asker.go(21)["active"] == [4]
+
+
+def test_too_many_pages(examples: Path, tmp_path: Path) -> None:
+    """The last one is told, and the others go on."""
+    for server in started(tmp_path / "runs", examples / "two.json"):
+        askers = [server.opened() for _ in range(BENCHES_MOST)]
+        status, told = server.post("open", {"session": None})
+        assert status == 503 and "pages have benches" in told["fault"]["text"]
+        assert askers[0].go(3)["now"] == 3
+
+
+@pytest.mark.parametrize(
+    ("words", "said"),
+    [
+        (["two_short_yellow.json"], "plan: rule K8: .*cure: give tenths: 40 for 4.0 s"),
+        (["blank.json"], "plan: not JSON"),
+        (["none.json"], "none.json: No such file"),
+        (["quad.json", "tick_zero.log"], "log line 1: malformed"),
+        (["quad.json", "--layout", "quad.json"], "quad.json: the layout: version"),
+    ],
+)
+def test_what_no_panel_begins_with(
+    examples: Path, tmp_path: Path, words: list[str], said: str
+) -> None:
+    """A plan, a log or a layout that is refused is told, and nothing is served."""
+    files = [it if it.startswith("--") else str(examples / it) for it in words]
+    command = [sys.executable, "-m", "tsb", "panel", *files]
+    done = subprocess.run(
+        command, capture_output=True, text=True, check=False, cwd=tmp_path
+    )
+    assert done.returncode == 1 and done.stdout == ""
+    with pytest.raises(tsb.Error, match=said):
+        raise tsb.Error(done.stderr)
+
+
+def test_a_day_is_scrubbed_at_once(server: Server, examples: Path) -> None:
+    """A seek in a day's run takes less than 0.1 s beside the bench's own time."""
+    log = tsb.Log()
+    with tsb.Bench(examples / "quad.json", log, events=False) as bench:
+        bench.changes(DAY)
+        begun = time.monotonic()
+        bench.seek(1000)
+        own = time.monotonic() - begun
+    asker = server.opened()
+    asker.go(DAY)
+    more: dict[str, Any] = {"view": {"first": 0, "last": 1200, "columns": 1200}}
+    more["overview"] = 1200
+    times = []
+    for tick in range(800_000, 0, -40_000):
+        begun = time.monotonic()
+        status, found = asker.ask("go", tick=tick, **more)
+        times.append(time.monotonic() - begun)
+        assert status == 200 and found["state"]["now"] == tick
+        assert found["state"]["end"] == DAY
+    assert median(times) < own + 0.1

@@ -1,0 +1,455 @@
+"""What a panel is made of, with the real programs and no browser."""
+
+import random
+from collections.abc import Iterator
+from pathlib import Path
+from typing import Any
+
+import pytest
+import tsb
+from tsb import Log, Plan, programs
+from tsb.lines import Lines
+from tsb.panel import keep as kept
+from tsb.panel.keep import Keep, NotKept, Source
+from tsb.panel.layout import Lane, Layout, LayoutFault, layout_of
+from tsb.panel.requests import (
+    COLUMNS_MOST,
+    BadRequest,
+    Free,
+    Hold,
+    Lamp,
+    Mark,
+    Pattern,
+    Pulse,
+    Reset,
+    View,
+    given_of,
+    request_of,
+    view_of,
+)
+from tsb.panel.run import Run
+from tsb.panel.session import Session
+from tsb.rows import ALL_OFF, row
+
+TICKS = 1200
+
+
+@pytest.fixture
+def source(examples: Path) -> Source:
+    """The plan of eight phases, without a log."""
+    return Source.read(examples / "quad.json", None)
+
+
+@pytest.fixture
+def run(source: Source) -> Iterator[Run]:
+    """A run on it."""
+    found = Run(source)
+    yield found
+    found.close()
+
+
+# What a page may ask
+
+
+@pytest.mark.parametrize(
+    "told",
+    [
+        None,
+        [],
+        {},
+        {"do": "quit"},
+        {"do": ["look"]},
+        {"do": "look", "more": 1},
+        {"do": "advance"},
+        {"do": "advance", "ticks": 0},
+        {"do": "advance", "ticks": 100_001},
+        {"do": "advance", "ticks": 1.0},
+        {"do": "advance", "ticks": True},
+        {"do": "advance", "ticks": "1"},
+        {"do": "go", "tick": -1},
+        {"do": "go", "tick": 6_000_001},
+        {"do": "hold", "kind": "vehicle", "number": 17, "on": True},
+        {"do": "hold", "kind": "pedestrian", "number": 9, "on": True},
+        {"do": "hold", "kind": "preempt", "number": 5, "on": True},
+        {"do": "hold", "kind": "train", "number": 1, "on": True},
+        {"do": "hold", "kind": "vehicle", "number": 1, "on": 1},
+        {"do": "pulse", "kind": "vehicle", "number": 1, "ticks": 36_001},
+        {"do": "pattern", "number": 17},
+        {"do": "switch", "number": 1, "to": "on\nquit"},
+        {"do": "lamp", "head": "P17", "lamp": "G"},
+        {"do": "lamp", "head": "P4", "lamp": "GY"},
+        {"do": "begin", "station": 5},
+        {"do": "set", "station": 1, "name": "undo", "index": 1, "value": 1},
+        {"do": "set", "station": 1, "name": "phaseWalk", "index": 1, "value": 1 << 32},
+        {"do": "mark", "watch": "call", "number": 0, "on": True},
+        {"do": "mark", "watch": "stage", "number": 1, "on": True},
+        {"do": "save", "name": "../away"},
+        {"do": "save", "name": ".hidden"},
+        {"do": "save", "name": "a" * 41},
+        {"do": "save", "name": "run\n"},
+        {"do": "load", "name": ""},
+    ],
+)
+def test_requests_that_are_none(told: Any) -> None:
+    """Nothing of them reaches a bench."""
+    with pytest.raises(BadRequest):
+        request_of(told)
+
+
+def test_requests_and_the_commands_that_they_are() -> None:
+    """Each input that is no tick is read back from its command."""
+    told: list[dict[str, Any]] = [
+        {"do": "pattern", "number": 16},
+        {"do": "switch", "number": 4, "to": "off"},
+        {"do": "lamp", "head": "W16", "lamp": "C"},
+        {"do": "nolamp"},
+        {"do": "reset"},
+        {"do": "begin", "station": 4},
+        {"do": "set", "station": 1, "name": "phaseWalk", "index": 0, "value": 999},
+        {"do": "verify", "station": 1},
+        {"do": "commit", "station": 2},
+        {"do": "abort", "station": 3},
+    ]
+    lines = [
+        "pattern 16",
+        "preempt 4 off",
+        "fault W16 C",
+        "fault none",
+        "reset",
+        "begin 4",
+        "set 1 phaseWalk 0 999",
+        "verify 1",
+        "commit 2",
+        "abort 3",
+    ]
+    for it, line in zip(told, lines, strict=True):
+        assert request_of(it) == given_of(line) and given_of(line).line == line
+    for wrong in ["", "step 3", "undo", "pattern 17", "fault none now", "quit"]:
+        with pytest.raises(BadRequest):
+            given_of(wrong)
+
+
+def test_views_are_bounded() -> None:
+    """No page asks for more columns than a screen has."""
+    assert view_of(None) is None
+    assert view_of({"first": 0, "last": 9, "columns": 10}) == View(0, 9, 10)
+    for wrong in [
+        [],
+        {"first": 0, "last": 9},
+        {"first": 9, "last": 0, "columns": 10},
+        {"first": 0, "last": 9, "columns": COLUMNS_MOST + 1},
+        {"first": -1, "last": 9, "columns": 10},
+    ]:
+        with pytest.raises(BadRequest):
+            view_of(wrong)
+
+
+# Where phases are
+
+
+def test_the_usual_places(examples: Path) -> None:
+    """2 and 6 on one street, 4 and 8 on the other, left turns beside 6, 8, 2, 4."""
+    found = layout_of(Plan.read(examples / "main_and_oak.json"))
+    assert {it: lane.leg for it, lane in found.lanes.items()} == {
+        2: "west", 5: "west", 6: "east", 1: "east",
+        4: "north", 7: "north", 8: "south", 3: "south",
+    }  # fmt: skip
+    assert {it.turn for at, it in found.lanes.items() if at % 2} == {"left"}
+    # (the fire station is on the approach of 4 and 7; overlap 1 turns right from it)
+    assert found.overlaps == {1: Lane("north", "right")}
+    assert found.crossings == {2: "south", 4: "west", 6: "north", 8: "east"}
+
+
+def test_other_plans_have_places_too(examples: Path) -> None:
+    """A T-junction, and a phase for pedestrians alone."""
+    tee = layout_of(Plan.read(examples / "tee.json"))
+    assert tee.lanes[1] == Lane("east", "left") and tee.crossings == {4: "west"}
+    pair = layout_of(Plan.read(examples / "one_way_pair.json"))
+    assert pair.crossings == {9: "all"} and pair.lanes[9].leg == "beside"
+
+
+def test_through_phases_of_one_side_are_a_street() -> None:
+    """Where 2 and 4 share a side, they come from opposite legs."""
+    plan = Plan()
+    for phase, ring, side in [(2, 1, 1), (4, 2, 1), (6, 1, 2), (10, 1, 3), (11, 2, 3)]:
+        plan["phaseEnabled"][phase] = 1
+        plan["phaseRing"][phase] = ring
+        plan["phaseSide"][phase] = side
+    legs = {it: lane.leg for it, lane in layout_of(plan).lanes.items()}
+    assert legs == {2: "west", 4: "east", 6: "north", 10: "beside", 11: "beside"}
+
+
+def test_a_layout_file(examples: Path, tmp_path: Path) -> None:
+    """What it names takes the place of the usual; the rest stays."""
+    path = tmp_path / "layout.json"
+    path.write_text(
+        '{"streets": {"west": "Main Street"}, "crossings": {"4": "east"},'
+        ' "phases": {"1": {"leg": "south", "turn": "right"}},'
+        ' "overlaps": {"1": {"leg": "east", "turn": "right"}}}'
+    )
+    plan = Plan.read(examples / "main_and_oak.json")
+    found = layout_of(plan, Layout.read(path))
+    assert found.lanes[1] == Lane("south", "right") and found.lanes[2].leg == "west"
+    assert found.crossings[4] == "east" and found.overlaps[1].leg == "east"
+    assert found.told()["streets"] == {"west": "Main Street"}
+
+
+@pytest.mark.parametrize(
+    ("text", "said"),
+    [
+        ("", "not JSON"),
+        ("[]", "the layout: no object"),
+        ('{"lanes": {}}', "lanes: not in"),
+        ('{"phases": {"17": {"leg": "west"}}}', "phases.17: not 1 to 16"),
+        ('{"phases": {"2": {"leg": "up"}}}', "phases.2.leg: none of west"),
+        ('{"phases": {"2": {}}}', "phases.2.leg: none of west"),
+        ('{"phases": {"2": {"leg": "west", "turn": "back"}}}', "phases.2.turn"),
+        ('{"crossings": {"2": "middle"}}', "crossings.2: none of"),
+        ('{"overlaps": {"5": {"leg": "west"}}}', "overlaps.5: not 1 to 4"),
+        ('{"streets": {"west": 1}}', "streets.west: no name"),
+    ],
+)
+def test_layouts_that_are_none(tmp_path: Path, text: str, said: str) -> None:
+    """The message says where."""
+    path = tmp_path / "layout.json"
+    path.write_text(text)
+    with pytest.raises(LayoutFault, match=f"layout.json: .*{said}"):
+        Layout.read(path)
+
+
+# A run
+
+
+def to(run: Run, tick: int) -> None:
+    """Goes to a tick, however many requests it takes."""
+    run.go(tick)
+    while run.now != tick:
+        run.go(tick)
+
+
+def letters(run: Run, tick: int) -> list[str]:
+    """What the track has of a tick: a letter for each head that is ever lit."""
+    picture = run.track.picture(View(tick, tick, 10))
+    drawn = [(it["head"], it["bands"][0][1]) for it in picture["heads"]]
+    return [f"{head}{letter}" for head, letter in drawn if head != "preempt"]
+
+
+def heads(line: str) -> list[str]:
+    """The same of a display line."""
+    shown = tsb.Display.of(line)
+    names = [f"P{it}" for it in range(1, 17)] + [f"W{it}" for it in range(1, 17)]
+    names += [f"O{it}" for it in range(1, 5)]
+    return [f"{it}{shown.head(it)}" for it in names if shown.head(it) != "-"]
+
+
+def replayed(run: Run, tmp_path: Path) -> Lines:
+    """The display lines that `tsb run` gives of what is saved."""
+    plan, saved = run.source.plan, run.bench.save()
+    kept.write(tmp_path, plan, saved)
+    words = ["run", str(tmp_path / kept.PLAN), str(tmp_path / kept.LOG)]
+    done = programs.run("tsb", words, saved.commands.encode())
+    lines = [it for it in done.stdout.splitlines(True) if it[:7].isdigit()]
+    return Lines(b"".join(lines))
+
+
+def test_hands_and_a_pulse(run: Run) -> None:
+    """A hand holds an input, a pulse ends by itself, and both can be let go."""
+    to(run, 3)
+    run.grasp(Hold("vehicle", 4, True))
+    run.grasp(Pulse("vehicle", 8, 2))
+    to(run, 10)
+    assert [run.tape.row(it) for it in (3, 4, 6)] == [
+        ALL_OFF, row([4, 8]), row([4])
+    ]  # fmt: skip
+    assert run.bench.when("input", 8) == 6
+    run.grasp(Hold("vehicle", 4, False))
+    run.grasp(Free("vehicle", 8))
+    to(run, 11)
+    assert run.tape.row(11) == ALL_OFF and len(run.tape.hands(run.now)) == 1
+
+
+def test_a_log_acts_until_a_hand_takes_over(examples: Path) -> None:
+    """And again once it is let go."""
+    log = Log.of([(2, row([4])), (6, row([4, 7])), (9, row([2]))])
+    source = Source("quad", (examples / "quad.json").read_bytes(), log)
+    run = Run(source)
+    to(run, 3)
+    run.grasp(Hold("vehicle", 4, False))
+    to(run, 7)
+    assert run.tape.row(7) == row([7])
+    run.grasp(Free("vehicle", 4))
+    to(run, 8)
+    assert run.tape.row(8) == row([4, 7])
+    to(run, 12)
+    assert [run.tape.row(it) for it in (1, 2, 9)] == [ALL_OFF, row([4]), row([2])]
+    run.close()
+
+
+def test_what_lies_ahead_is_taken_again(run: Run, tmp_path: Path) -> None:
+    """There and back: the same lines, the same plan, the same history."""
+    rng = random.Random("ahead")
+    for tick in range(60, TICKS, 60):
+        to(run, tick)
+        run.grasp(Hold("vehicle", rng.randint(1, 8), rng.random() < 0.6))
+        if tick % 300 == 0:
+            for line in ["begin 1", f"set 1 phaseMaximum1 2 {30 + tick // 60}"]:
+                run.give(given_of(line))
+            run.give(given_of("verify 1"))
+            run.give(given_of("commit 1"))
+        if tick == 600:
+            run.give(given_of("preempt 1 on"))
+        if tick == 720:
+            run.give(given_of("preempt 1 off"))
+    to(run, TICKS)
+    line, saved, plan = run.bench.show().line, run.bench.save(), run.plan
+    lines = replayed(run, tmp_path)
+    assert len(lines) == TICKS and lines[-1].line == line
+    for tick in [0, *rng.sample(range(TICKS), 25), TICKS]:
+        to(run, tick)
+        shown = run.bench.show().line
+        assert shown == (lines[tick - 1].line if tick else shown)
+        assert letters(run, tick) == heads(shown)
+    assert run.bench.save() == saved and run.plan == plan
+
+
+def test_a_change_drops_what_lies_ahead(run: Run) -> None:
+    """And the track ends there."""
+    to(run, 200)
+    to(run, 50)
+    assert (run.tape.end, run.track.end) == (200, 200)
+    run.give(Pattern(1))
+    assert (run.tape.end, run.track.end) == (50, 50)
+    to(run, 90)
+    to(run, 60)
+    run.grasp(Hold("vehicle", 4, True))
+    assert (run.tape.end, run.track.end) == (60, 60)
+
+
+def test_a_refusal_drops_nothing(run: Run) -> None:
+    """What is refused is no input."""
+    to(run, 200)
+    to(run, 50)
+    with pytest.raises(tsb.Refused, match="E9 NoSuchPattern"):
+        run.give(Pattern(9))
+    assert (run.tape.end, run.track.end, run.tape.given) == (200, 200, [])
+
+
+def test_undo(run: Run) -> None:
+    """Takes commands and ticks back, and what they showed."""
+    to(run, 60)
+    before = run.bench.show().line
+    run.give(Lamp("P4", "G"))
+    assert run.bench.show().vehicles.startswith("FF") and run.tape.lamp(60)
+    assert letters(run, 60)[0] == "P1F"
+    run.give(Reset())
+    assert run.tape.lamp(60) is None
+    assert [run.undo(), run.undo()] == ["reset", "fault"]
+    assert run.bench.show().line == before and letters(run, 60) == heads(before)
+    assert run.undo() == "tick" and run.now == 59 and run.tape.end == 60
+    to(run, 60)
+    assert run.bench.show().line == before
+    to(run, 0)
+    with pytest.raises(tsb.NoSuchTick):
+        run.undo()
+
+
+def test_switches_are_those_that_were_given(run: Run) -> None:
+    """At each tick."""
+    run.give(given_of("preempt 1 on"))
+    to(run, 5)
+    run.give(given_of("preempt 2 on"))
+    run.give(given_of("preempt 1 off"))
+    assert run.tape.switches(5) == {2} and run.tape.switches(4) == {1}
+
+
+def test_marks_are_all_changes(run: Run, tmp_path: Path) -> None:
+    """Found as ticks pass, and of a run that has passed: those that the lines show."""
+    early = run.mark(Mark("interval", 2, True))
+    assert early == "interval 2: 0 changes up to tick 0"
+    for tick in range(100, TICKS + 1, 100):
+        run.grasp(Pulse("vehicle", 4 if tick % 300 else 3, 5))
+        to(run, tick)
+    run.mark(Mark("call", 4, True))
+    run.mark(Mark("ped", 2, True))
+    passing, late = run.watched[0].ticks, run.watched[1].ticks
+    run.mark(Mark("interval", 2, False))
+    run.mark(Mark("interval", 2, True))
+    assert run.watched[-1].ticks == passing and run.now == TICKS
+    lines = replayed(run, tmp_path)
+    pairs = list(zip([run.bench.seek(0), *lines], lines, strict=False))
+    shown = [it.tick for was, it in pairs if was.vehicles[1] != it.vehicles[1]]
+    # (from red clearance to red is a change that no line shows)
+    assert set(shown) < set(passing) and len(passing) <= 2 * len(shown)
+    assert late[0] == 1 and len(late) > 8
+    to(run, 640)
+    run.give(Pattern(1))
+    assert all(max(it.ticks, default=0) <= 640 for it in run.watched)
+
+
+def test_a_watch_is_bounded(run: Run) -> None:
+    """No more than eight at a time."""
+    for number in range(1, 9):
+        run.mark(Mark("call", number, True))
+    with pytest.raises(BadRequest, match="8 values"):
+        run.mark(Mark("stage", 0, True))
+
+
+def test_a_column_tells_the_share_of_green(run: Run, tmp_path: Path) -> None:
+    """Where a picture has more bands than columns."""
+    run.grasp(Hold("vehicle", 4, True))
+    to(run, 4000)
+    picture = run.track.picture(View(0, 3999, 20))
+    found = {it["head"]: it["shares"] for it in picture["heads"] if "shares" in it}
+    lines = replayed(run, tmp_path)
+    for phase in (2, 4):
+        for at, share in enumerate(found[f"P{phase}"]):
+            ticks = range(200 * at, 200 * at + 200)
+            green = sum(phase in lines[it - 1].greens for it in ticks if it)
+            assert abs(share - green / 2) <= 1
+
+
+# Keeping
+
+
+def test_a_run_is_saved_and_loaded(run: Run, tmp_path: Path) -> None:
+    """The files give the same lines by `tsb run`, and the same state here."""
+    keep = Keep(tmp_path / "runs")
+    run.grasp(Hold("vehicle", 3, True))
+    to(run, 300)
+    run.give(given_of("preempt 1 on"))
+    to(run, 500)
+    path = keep.save("first", run.source.plan, run.bench.save())
+    assert keep.names() == ["first"]
+    assert {it.name for it in path.iterdir()} == {"plan.json", "run.log", "run.commands"}
+    again = Run(keep.load("first"))
+    assert again.bench.status == run.bench.status and again.now == 500
+    assert again.bench.save() == run.bench.save()
+    assert replayed(again, tmp_path) == replayed(run, tmp_path)
+    again.close()
+    with pytest.raises(NotKept, match="there is a run first already"):
+        keep.save("first", b"", run.bench.save())
+    assert (path / "plan.json").read_bytes() == run.source.plan
+
+
+def test_runs_that_cannot_be_loaded(source: Source, tmp_path: Path) -> None:
+    """The session goes on with its own run."""
+    keep = Keep(tmp_path)
+    session = Session(source, keep, None)
+    session.do(request_of({"do": "advance", "ticks": 5}))
+    path = keep.save("good", source.plan, session.run.bench.save())
+    for name, text, said in [
+        ("run.commands", "step 3\nfly 2\n", "line 2: fly 2"),
+        ("run.commands", "pattern 9\n", "E9 NoSuchPattern"),
+        ("run.log", "0000001 000\n", "log line 1: malformed"),
+        ("plan.json", "{}", "plan: version"),
+    ]:
+        was = (path / name).read_bytes()
+        (path / name).write_text(text)
+        with pytest.raises(tsb.Error, match=said):
+            session.do(request_of({"do": "load", "name": "good"}))
+        (path / name).write_bytes(was)
+        assert session.run.now == 5
+    with pytest.raises(NotKept, match="No such file"):
+        session.do(request_of({"do": "load", "name": "none"}))
+    assert session.do(request_of({"do": "load", "name": "good"})).endswith("tick 5")
+    session.close()
