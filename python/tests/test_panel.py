@@ -180,6 +180,10 @@ class Page:
         self.find(name).click()
         self.settle()
 
+    def says(self, text: str) -> None:
+        """Waits until the page says something."""
+        self.wait(lambda: self.text("said") == text, text)
+
     def fill(self, name: str, value: object) -> None:
         box = self.find(name)
         box.clear()
@@ -429,6 +433,9 @@ def test_a_run_is_saved_and_tsb_run_replays_it(page: Page, server: Server) -> No
     assert all(shown[tick - 1] == line for tick, line in lines.items())
     page.click("save")
     assert "there is a run a-day already" in page.text("message-text")
+    for name, file in [("events", "events.csv"), ("diagram", "diagram.svg")]:
+        page.click(name)
+        page.says(f"{file}: made up to tick 1")
     page.click("tick-on")
     page.choose("runs", "a-day")
     page.click("load")

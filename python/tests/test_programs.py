@@ -65,5 +65,6 @@ def test_the_list_of_what_there_is(tmp_path: Path) -> None:
     words = [sys.executable, "-m", "tsb"]
     done = subprocess.run(words, capture_output=True, text=True, check=True)
     assert all(str(programs.find(it)) in done.stdout for it in programs.PROGRAMS)
+    assert all(f"  {it} " in done.stdout for it in ("panel", "sumo", "sweep"))
     bad = subprocess.run([*words, "walk"], capture_output=True, text=True, check=False)
     assert bad.returncode == 2 and "no command walk" in bad.stderr

@@ -149,11 +149,13 @@ class Panel:
         hosts = {f"{name}:{self.port}" for name in (HOST, "localhost")}
         if request.headers.get("Host") not in hosts:
             raise Stopped(403, "wrong host", f"this panel is at {HOST}:{self.port}")
-        token = request.path.split("/")[1]
-        if not hmac.compare_digest(token.encode(), self.token.encode()):
+        token = request.path.split("/")[1].encode(errors="replace")
+        if not hmac.compare_digest(token, self.token.encode()):
             text = "the address has another token"
             raise Stopped(404, "wrong address", text, "use the address it printed")
-        if request.headers.get("Sec-Fetch-Site", "none") not in ("none", "same-origin"):
+        site = request.headers.get("Sec-Fetch-Site", "none")
+        is_opened = request.headers.get("Sec-Fetch-Dest") == "document"
+        if site not in ("none", "same-origin") and not is_opened:
             raise Stopped(403, "wrong page", "another page has asked")
         if request.method == "POST":
             if request.headers.get("Origin") not in {f"http://{it}" for it in hosts}:

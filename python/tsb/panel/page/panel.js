@@ -47,7 +47,7 @@ class Page {
     this.controller = new Controller(ask);
     this.desk = new Desk(ask);
     this.detail = new Diagram("detail", 13);
-    this.overview = new Diagram("overview", 9);
+    this.overview = new Diagram("overview", 10);
     this.listen();
   }
 
