@@ -192,6 +192,10 @@ class Page:
     def choose(self, name: str, value: str) -> None:
         Select(self.find(name)).select_by_value(value)
 
+    def choose_mode(self, mode: str) -> None:
+        """How a click on an input acts."""
+        self.browser.find_element(By.CSS_SELECTOR, f"input[value={mode}]").click()
+
     def keys(self, *keys: str) -> None:
         webdriver.ActionChains(self.browser).send_keys(*keys).perform()
         self.settle()
@@ -377,6 +381,36 @@ def test_hands_by_keyboard(page: Page) -> None:
     assert page.tick == 7 and not page.is_on("vehicle-4")
     page.keys(",")
     assert page.tick == 6
+
+
+def test_hands_by_mouse(page: Page) -> None:
+    """A press that is held, a latch, a pulse, and all let go."""
+    detector = page.find("vehicle-4")
+    page.find("play10").click()
+    webdriver.ActionChains(page.browser).click_and_hold(detector).perform()
+    page.wait(lambda: page.is_on("vehicle-4"), "it is on")
+    was = page.tick
+    page.wait(lambda: page.tick > was + 10, "it plays on")
+    assert page.is_on("vehicle-4") and page.has("vehicle-4", "active")
+    webdriver.ActionChains(page.browser).release(detector).perform()
+    page.wait(lambda: not page.is_on("vehicle-4"), "it is off")
+    page.click("pause")
+    page.choose_mode("latch")
+    page.click("pedestrian-2")
+    page.click("tick-on")
+    page.click("tick-on")
+    assert page.is_on("pedestrian-2") and "P" in page.text("phase-2")
+    page.click("pedestrian-2")
+    assert not page.is_on("pedestrian-2")
+    page.choose_mode("pulse")
+    page.fill("pulse", "0.2")
+    page.click("preempt-1")
+    for is_on in [True, True, False]:
+        assert page.is_on("preempt-1") == is_on
+        page.click("tick-on")
+    page.click("free-all")
+    names = ["vehicle-4", "pedestrian-2", "preempt-1"]
+    assert not any(page.has(it, "held") for it in names)
 
 
 def test_play_and_pause(page: Page) -> None:

@@ -1,7 +1,7 @@
 """What a panel is made of, with the real programs and no browser."""
 
 import random
-from collections.abc import Iterator
+from collections.abc import Callable, Iterator
 from pathlib import Path
 from typing import Any
 
@@ -16,6 +16,7 @@ from tsb.panel.requests import (
     COLUMNS_MOST,
     BadRequest,
     Free,
+    Given,
     Hold,
     Lamp,
     Mark,
@@ -231,7 +232,8 @@ def letters(run: Run, tick: int) -> list[str]:
     """What the track has of a tick: a letter for each head that is ever lit."""
     picture = run.track.picture(View(tick, tick, 10))
     drawn = [(it["head"], it["bands"][0][1]) for it in picture["heads"]]
-    return [f"{head}{letter}" for head, letter in drawn if head != "preempt"]
+    lit = [it for it in drawn if it[0] != "preempt" and it[1] != "-"]
+    return [f"{head}{letter}" for head, letter in lit]
 
 
 def heads(line: str) -> list[str]:
@@ -453,3 +455,87 @@ def test_runs_that_cannot_be_loaded(source: Source, tmp_path: Path) -> None:
         session.do(request_of({"do": "load", "name": "none"}))
     assert session.do(request_of({"do": "load", "name": "good"})).endswith("tick 5")
     session.close()
+
+
+# Anything after anything
+
+
+def acted(run: Run, rng: random.Random) -> None:
+    """Does one thing, at random; a refusal or a bound counts as one too."""
+    station, phase = rng.randint(1, 2), rng.randint(1, 8)
+    lines = [
+        f"pattern {rng.randint(0, 3)}",
+        f"preempt {rng.randint(1, 3)} {rng.choice(['on', 'off'])}",
+        f"fault P{phase} {rng.choice('GYR')}",
+        "fault none",
+        "reset",
+        f"begin {station}",
+        f"set {station} phaseMaximum1 {phase} {rng.randint(15, 60)}",
+        f"set {station} phaseYellowChange {phase} {rng.choice([29, 30, 40])}",
+        f"verify {station}",
+        f"commit {station}",
+        f"abort {station}",
+    ]
+    watch: Any = rng.choice(["interval", "call", "output", "ped"])
+    acts: list[Callable[[], object]] = [
+        lambda: to(run, run.now + rng.choice([1, 1, 7, 60, 300])),
+        lambda: to(run, run.now + rng.choice([1, 7, 60])),
+        lambda: to(run, rng.randint(0, run.tape.end)),
+        lambda: run.undo(),
+        lambda: run.grasp(Hold("vehicle", phase, rng.random() < 0.7)),
+        lambda: run.grasp(Pulse("pedestrian", 2, rng.randint(1, 30))),
+        lambda: run.grasp(Free("vehicle", phase)),
+        lambda: run.give(given_of(rng.choice(lines))),
+        lambda: run.give(given_of(rng.choice(lines))),
+        lambda: run.mark(Mark(watch, phase, rng.random() < 0.8)),
+    ]
+    try:
+        rng.choice(acts)()
+    except (tsb.Refused, tsb.NoSuchTick, BadRequest):
+        pass
+
+
+def marked_anew(run: Run) -> list[list[int]]:
+    """The marks up to now, found on a bench that takes the saved run again."""
+    saved, found = run.bench.save(), []
+    for it in run.watched:
+        other = Run(Source("", run.source.plan, Log.of_text(saved.log), *inputs(saved)))
+        other.mark(Mark(it.watch, it.number, True))
+        found.append(other.watched[0].ticks)
+        other.close()
+    return found
+
+
+def inputs(saved: tsb.Saved) -> tuple[tuple[tuple[int, Given], ...], int]:
+    """The inputs of a saved run, and its last tick."""
+    given, end = [], 0
+    for line in saved.commands.splitlines():
+        if line.startswith("step "):
+            end += int(line[5:])
+        else:
+            given.append((end, given_of(line)))
+    return tuple(given), end
+
+
+@pytest.mark.parametrize("seed", range(3))
+def test_anything_after_anything(examples: Path, tmp_path: Path, seed: int) -> None:
+    """The run is always what `tsb run` makes of what is saved, with the same marks."""
+    rng = random.Random(seed)
+    log = Log.of((it, row([rng.randint(1, 8)])) for it in range(5, 4000, 37))
+    source = Source("quad", (examples / "quad.json").read_bytes(), log)
+    run = Run(source)
+    for _ in range(6):
+        for _ in range(25):
+            acted(run, rng)
+            shown = run.bench.show().line
+            assert letters(run, run.now) == heads(shown)
+            assert run.track.end == run.tape.end >= run.now
+            assert run.plan == run.bench.plan
+        lines = replayed(run, tmp_path)
+        assert not lines or lines[-1].tick == run.now
+        marks = [[tick for tick in it.ticks if tick <= run.now] for it in run.watched]
+        assert marks == marked_anew(run)
+        for tick in rng.sample(range(1, run.now + 1), min(9, run.now)):
+            if not run.tape.given_at(tick):
+                assert letters(run, tick) == heads(lines[tick - 1].line)
+    run.close()

@@ -137,6 +137,10 @@ class Panel:
             answer = _fault(400, told_of(fault))
         except Error as fault:
             answer = _fault(422, told_of(fault))
+        except OSError as fault:
+            text = f"{fault.filename or 'a file'}: {fault.strerror}"
+            cure = "what was saved is as it was; make room on the disk"
+            answer = _fault(507, told("a file could not be written", text, cure))
         except web.HTTPRequestEntityTooLarge:
             text = f"a request has at most {BODY_MOST} bytes"
             answer = _fault(413, told("too much at a time", text))

@@ -2,6 +2,13 @@
 
 import { byId, el, mark, say } from "./dom.js";
 
+/** A value with its unit; a list of phases by their numbers too. */
+function inUnit(value, unit) {
+  if (unit !== "list of phases") return `${value} (${unit})`;
+  const phases = Array.from({ length: 16 }, (_, at) => at + 1).filter((it) => (value >> (it - 1)) & 1);
+  return `${value} (phases ${phases.join(", ") || "none"})`;
+}
+
 export class Desk {
   constructor(ask) {
     this.ask = ask;
@@ -38,7 +45,7 @@ export class Desk {
     byId("value").max = it.greatest;
     const now = this.plan?.values[name]?.[byId("index").value] ?? 0;
     const rest = it.structural ? " A commit changes it only while nothing is in service." : "";
-    say(byId("object-says"), `${it.meaning}. Index 1 to ${it.count}, value ${it.range}; now ${now}.${rest}`);
+    say(byId("object-says"), `${it.meaning}. Index 1 to ${it.count}, value ${it.range}; in effect: ${inUnit(now, it.unit)}.${rest}`);
     if (document.activeElement !== byId("value")) byId("value").value = now;
   }
 
@@ -46,7 +53,7 @@ export class Desk {
     const { owner, says, rule, edits } = state.desk;
     say(byId("desk-state"), owner === null ? says : `station ${owner}: ${says}`);
     const rows = edits.map((it) => el("tr", {},
-      el("td", {}, it.object), el("td", {}, `[${it.index}]`), el("td", {}, String(it.value)), el("td", {}, it.unit)));
+      el("td", {}, it.object), el("td", {}, String(it.index)), el("td", {}, inUnit(it.value, it.unit))));
     byId("edits").tBodies[0].replaceChildren(...rows);
     say(byId("rule"), rule === null ? "" : `Rule ${rule.name}: ${rule.holds} Usual cause: ${rule.cause}. Cure: ${rule.cure}.`);
     mark(byId("rule"), "warned", rule !== null);

@@ -29,8 +29,9 @@ async function post(path, body) {
   } catch {
     throw new Fault({ title: "the panel does not answer", text: "its program may have ended", cause: "", cure: "start it again, and open the address that it prints; runs that were saved are as they were" });
   }
-  if (!answer.ok) throw new Fault((await answer.json()).fault);
-  return answer;
+  if (answer.ok) return answer;
+  const none = { title: "the panel has a fault", text: `it answered ${answer.status}`, cause: "", cure: "look at what its program has written" };
+  throw new Fault((await answer.json().catch(() => ({}))).fault ?? none);
 }
 
 class Page {
