@@ -12,7 +12,7 @@ import xml.etree.ElementTree
 
 TOP = pathlib.Path(__file__).resolve().parent.parent
 PYTHON = TOP / "python"
-# The seconds that all tests have at most; they take some 120.
+# The seconds that all tests have at most; they take some 150.
 SECONDS = 600
 
 

@@ -115,7 +115,9 @@ def started(folder: Path, *words: str | Path) -> Iterator[Server]:
     with subprocess.Popen(command, stdout=subprocess.PIPE, text=True) as process:
         assert process.stdout is not None
         try:
-            address = process.stdout.readline().split()[-1]
+            line = process.stdout.readline()
+            assert line, "no panel was served"
+            address = line.split()[-1]
             _, _, host, token, _ = address.split("/")
             yield Server(process, int(host.partition(":")[2]), token, folder)
             process.send_signal(signal.SIGINT)
