@@ -646,7 +646,8 @@ def test_a_second_request_while_one_runs(server: Server) -> None:
         while status == 200 and time.monotonic() < end:
             time.sleep(0.05)
             status, told = asker.ask("go", tick=9)
-        assert status == 409 and "busy with an earlier request: go" in told["fault"]["text"]
+        text = "the bench is busy with an earlier request: go"
+        assert (status, told["fault"]["text"]) == (409, text)
     finally:
         os.kill(asker.bench, signal.SIGCONT)
     first.join(PATIENCE)

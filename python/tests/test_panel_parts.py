@@ -422,7 +422,8 @@ def test_a_run_is_saved_and_loaded(run: Run, tmp_path: Path) -> None:
     to(run, 500)
     path = keep.save("first", run.source.plan, run.bench.save())
     assert keep.names() == ["first"]
-    assert {it.name for it in path.iterdir()} == {"plan.json", "run.log", "run.commands"}
+    files = sorted(it.name for it in path.iterdir())
+    assert files == ["plan.json", "run.commands", "run.log"]
     again = Run(keep.load("first"))
     assert again.bench.status == run.bench.status and again.now == 500
     assert again.bench.save() == run.bench.save()

@@ -37,9 +37,7 @@ Watch = Literal[
 # Ticks that are taken at a time, where there are more.
 LONG = 100_000
 # The first words of commands that are inputs and no ticks.
-INPUTS = frozenset(
-    "pattern preempt fault reset begin set verify commit abort".split()
-)
+INPUTS = frozenset("pattern preempt fault reset begin set verify commit abort".split())
 
 _EVENT = re.compile(rb"event (\d+) (\d+) (\d+)\n")
 

@@ -190,9 +190,7 @@ class Abort(_Given):
     station: int = _number(1, STATIONS)
 
 
-Given = (
-    Pattern | Switch | Lamp | NoLamp | Reset | Begin | Set | Verify | Commit | Abort
-)
+Given = Pattern | Switch | Lamp | NoLamp | Reset | Begin | Set | Verify | Commit | Abort
 
 
 # What else a page asks
@@ -277,7 +275,18 @@ class Again:
 
 
 Request = (
-    Given | Look | Advance | Go | Undo | Hold | Pulse | Free | Mark | Save | Load | Again
+    Given
+    | Look
+    | Advance
+    | Go
+    | Undo
+    | Hold
+    | Pulse
+    | Free
+    | Mark
+    | Save
+    | Load
+    | Again
 )
 
 GIVEN: Mapping[str, type[Given]] = {

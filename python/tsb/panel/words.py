@@ -71,7 +71,8 @@ def wait(told: Wait) -> str:
         case "next":
             return f"{of}, to which its ring is committed"
         case "crossing":
-            return f"the rings to cross, until {of} has cleared" if of else "the rings to cross"
+            until = f", until {of} has cleared" if of else ""
+            return f"the rings to cross{until}"
         case "barrier":
             return f"the barrier, which {of} keeps" if of else "the barrier"
         case "green":
