@@ -30,7 +30,7 @@ from tsb.panel.requests import (
 )
 from tsb.panel.run import Run
 from tsb.panel.session import Session
-from tsb.rows import ALL_OFF, row
+from tsb.rows import ALL_OFF, numbers, row
 
 TICKS = 1200
 
@@ -234,6 +234,19 @@ def letters(run: Run, tick: int) -> list[str]:
     drawn = [(it["head"], it["bands"][0][1]) for it in picture["heads"]]
     lit = [it for it in drawn if it[0] != "preempt" and it[1] != "-"]
     return [f"{head}{letter}" for head, letter in lit]
+
+
+def inputs_on(run: Run, tick: int) -> list[str]:
+    """The inputs that the track has on in a tick."""
+    picture = run.track.picture(View(tick, tick, 10), inputs=True)
+    drawn = [(it["head"], it["bands"][0][1]) for it in picture["heads"]]
+    return [head for head, digit in drawn if head[0] in "DBI" and digit == "1"]
+
+
+def on(row: str) -> list[str]:
+    """The same of a row."""
+    kinds = zip("DBI", row.split(" "), strict=True)
+    return [f"{kind}{it}" for kind, part in kinds for it in sorted(numbers(part))]
 
 
 def heads(line: str) -> list[str]:
@@ -539,4 +552,5 @@ def test_anything_after_anything(examples: Path, tmp_path: Path, seed: int) -> N
         for tick in rng.sample(range(1, run.now + 1), min(9, run.now)):
             if not run.tape.given_at(tick):
                 assert letters(run, tick) == heads(lines[tick - 1].line)
+            assert inputs_on(run, tick) == on(run.tape.row(tick))
     run.close()

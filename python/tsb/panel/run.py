@@ -30,6 +30,7 @@ class Run:
         try:
             self.track = Track(self.bench.show())
             self.plan, self.serial = self.bench.plan, next(_serials)
+            self._plan_text = self.plan.text
             self.tape = Tape(source.log)
             self.watched: list[Watched] = []
             for tick, given in parted(source):
@@ -82,8 +83,10 @@ class Run:
         begun, rows = self.now, list(self.tape.next_rows(self.now, count))
         ends = itertools.accumulate((held for _, held in rows), initial=begun + 1)
         ticks = tuple(ends)[:-1]
-        self._run(Log(ticks, tuple(row for row, _ in rows)), count)
+        log = Log(ticks, tuple(row for row, _ in rows))
+        self._run(log, count)
         self.tape.take(rows)
+        self.track.take(log)
         self.is_saved = False
         self._find_marks(begun)
 
@@ -169,8 +172,9 @@ class Run:
     def _see_plan(self) -> None:
         """Sees whether another plan is in effect."""
         plan = self.bench.plan
-        if plan != self.plan:
+        if plan.text != self._plan_text:
             self.plan, self.serial = plan, next(_serials)
+            self._plan_text = plan.text
 
     # Marks
 

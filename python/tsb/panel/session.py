@@ -117,10 +117,10 @@ class Session:
         if a page has another."""
         whole = None
         if overview is not None:
-            whole = self._picture(View(0, max(self.run.tape.end, 1), overview))
+            whole = self._picture(View(0, max(self.run.tape.end, 1), overview), False)
         found: dict[str, Any] = {
             "state": self._told_state(),
-            "view": None if view is None else self._picture(view),
+            "view": None if view is None else self._picture(view, True),
             "overview": whole,
         }
         if serial != self.run.serial:
@@ -137,8 +137,8 @@ class Session:
         told = None if self.died is None else str(self.died)
         return {**self._state, "died": told}
 
-    def _picture(self, view: View) -> dict[str, Any]:
-        drawn = self.run.track.picture(view)
+    def _picture(self, view: View, inputs: bool) -> dict[str, Any]:
+        drawn = self.run.track.picture(view, inputs)
         return {**drawn, "marks": [it.told(view) for it in self.run.watched]}
 
 

@@ -1,4 +1,5 @@
 """What each head showed over a run: bands of one letter, from the bench's own lines.
+Inputs have bands of digits, from the rows that were given.
 
 A page gets no more of it than it can draw: the bands in view, or where there are more
 of them than columns, for how much of each column a head was not red.
@@ -13,6 +14,7 @@ import numpy as np
 
 from tsb.lines import Display
 from tsb.panel.requests import View
+from tsb.rows import ALL_OFF, PEDESTRIANS, PREEMPTS, VEHICLES, Log
 
 NAMES = [
     *(f"P{it}" for it in range(1, 17)),
@@ -20,9 +22,14 @@ NAMES = [
     *(f"O{it}" for it in range(1, 5)),
     "preempt",
 ]
-# The letters of which a column tells the share: right of way, and a preempt.
+INPUTS = [
+    *(f"D{it}" for it in range(1, VEHICLES + 1)),
+    *(f"B{it}" for it in range(1, PEDESTRIANS + 1)),
+    *(f"I{it}" for it in range(1, PREEMPTS + 1)),
+]
+# The letters of which a column tells the share: right of way, a preempt, an input.
 SHARED = frozenset(b"GWC1234")
-# What shows nothing: no head, and no preempt.
+# What shows nothing: no head, and no preempt or input.
 DARK, NONE = ord("-"), ord("0")
 
 
@@ -30,6 +37,11 @@ def letters(display: Display) -> str:
     """The letter of each of `NAMES` in a display: of the preempt its number."""
     heads = display.vehicles + display.pedestrians + display.overlaps
     return heads + str(display.preempt)
+
+
+def digits(row: str) -> str:
+    """The digits of a row, one for each of `INPUTS`."""
+    return row.replace(" ", "")
 
 
 class Band:
@@ -77,48 +89,52 @@ class Band:
         times = np.append(ticks, max(end + 1, self.ticks[-1]))
         found = np.interp(edges, times, before)
         width = np.maximum(np.diff(edges), 1e-9)
-        return [int(it) for it in np.rint(100 * np.diff(found) / width)]
+        told: list[int] = np.rint(100 * np.diff(found) / width).astype(int).tolist()
+        return told
 
 
 class Track:
-    """The bands of all heads, up to the tick `end`."""
+    """The bands of all heads and inputs, up to the tick `end`."""
 
     def __init__(self, display: Display) -> None:
         self.end = display.tick
-        self._last = letters(display)
+        self._last, self._row = letters(display), digits(ALL_OFF)
         self._bands = [Band(ord(it)) for it in self._last]
+        self._inputs = [Band(ord(it)) for it in self._row]
 
     def add(self, displays: Iterable[Display], end: int) -> None:
         """Takes the displays in which something changed up to the tick `end`, as far
         as they are not known."""
         for it in displays:
             if it.tick >= self.end:
-                self._put(it.tick, letters(it))
+                self._last = _put(self._bands, self._last, it.tick, letters(it))
         self.end = max(self.end, end)
 
-    def _put(self, tick: int, shown: str) -> None:
-        if shown == self._last:
-            return
-        for band, was, letter in zip(self._bands, self._last, shown):
-            if was != letter:
-                band.put(tick, ord(letter))
-        self._last = shown
+    def take(self, rows: Log) -> None:
+        """Takes the rows of the newest ticks."""
+        for tick, row in zip(rows.ticks, rows.rows, strict=True):
+            self._row = _put(self._inputs, self._row, tick, digits(row))
 
     def cut(self, tick: int) -> None:
         """Drops what lies ahead of a tick."""
         if tick < self.end:
-            for band in self._bands:
+            for band in [*self._bands, *self._inputs]:
                 band.cut(tick)
             self._last = "".join(chr(it.letters[-1]) for it in self._bands)
+            self._row = "".join(chr(it.letters[-1]) for it in self._inputs)
             self.end = tick
 
-    def picture(self, view: View) -> dict[str, Any]:
+    def picture(self, view: View, inputs: bool = False) -> dict[str, Any]:
         """What a page draws: for each head that is ever lit its bands as
-        `[tick, letter]`, or where they are too many the share of each column."""
+        `[tick, letter]`, or where they are too many the share of each column. With
+        `inputs` likewise for each input that is ever on."""
         last = min(view.last, self.end)
+        bands = [*zip(NAMES, self._bands, strict=True)]
+        if inputs:
+            bands += zip(INPUTS, self._inputs, strict=True)
         heads = [
             {"head": name, **_drawn(band, view, last)}
-            for name, band in zip(NAMES, self._bands)
+            for name, band in bands
             if not band.is_dark()
         ]
         return {
@@ -128,6 +144,15 @@ class Track:
             "columns": view.columns,
             "heads": heads,
         }
+
+
+def _put(bands: list[Band], was: str, tick: int, now: str) -> str:
+    """Puts the letters that are others from a tick on: those of now."""
+    if was != now:
+        for band, before, letter in zip(bands, was, now, strict=True):
+            if before != letter:
+                band.put(tick, ord(letter))
+    return now
 
 
 def _drawn(band: Band, view: View, last: int) -> dict[str, Any]:

@@ -11,8 +11,11 @@ const AHEAD = 0.35;
 function label(head) {
   if (head === "preempt") return "preempt";
   const number = head.slice(1);
-  return { P: number, W: `${number} ped`, O: `overlap ${number}` }[head[0]];
+  return { P: number, W: `${number} ped`, O: `overlap ${number}` }[head[0]] ?? head;
 }
+
+/** Detectors, buttons and preempt inputs have lower rows. */
+const isInput = (head) => /^[DBI]\d/.test(head);
 
 /** A pattern of slanted stripes, so that yellow is told without its colour. */
 function striped(context, colour) {
@@ -62,7 +65,8 @@ export class Diagram {
   draw(picture, now) {
     this.seen = picture;
     const axis = 18;
-    const height = Math.max(1, picture.heads.length) * this.row + axis;
+    const rows = picture.heads.map((it) => (isInput(it.head) ? this.row - 2 : this.row));
+    const height = rows.reduce((sum, it) => sum + it, 0) + axis;
     const scale = window.devicePixelRatio || 1;
     const width = this.canvas.clientWidth;
     this.canvas.style.height = `${height}px`;
@@ -71,7 +75,11 @@ export class Diagram {
     const pen = this.context;
     pen.setTransform(scale, 0, 0, scale, 0, 0);
     pen.clearRect(0, 0, width, height);
-    picture.heads.forEach((head, at) => this.head(head, at * this.row, picture, now));
+    let y = 0;
+    picture.heads.forEach((head, at) => {
+      this.head(head, y, rows[at] - 2, picture, now);
+      y += rows[at];
+    });
     this.axis(height - axis, picture);
     this.marks(picture, height - axis);
     const x = Math.round(this.x(now)) + 0.5;
@@ -83,11 +91,11 @@ export class Diagram {
     pen.stroke();
   }
 
-  head(head, y, picture, now) {
-    const pen = this.context, high = this.row - 2;
+  head(head, y, high, picture, now) {
+    const pen = this.context;
     if (this.row >= 9) {
       pen.fillStyle = "#000";
-      pen.font = `${Math.min(12, this.row)}px system-ui, sans-serif`;
+      pen.font = `${Math.min(12, high + 2)}px system-ui, sans-serif`;
       pen.textBaseline = "middle";
       pen.textAlign = "right";
       pen.fillText(label(head.head), GUTTER - 6, y + high / 2 + 1);
@@ -95,7 +103,8 @@ export class Diagram {
     if (head.shares) return this.shares(head, y, high, picture, now);
     head.bands.forEach(([tick, letter], at) => {
       const end = at + 1 < head.bands.length ? head.bands[at + 1][0] : picture.known + 1;
-      this.band(letter, tick, end, y, high, now);
+      if (isInput(head.head)) this.band(letter, tick, end, y + high / 4, high / 2, now);
+      else this.band(letter, tick, end, y, high, now);
     });
   }
 
@@ -129,7 +138,7 @@ export class Diagram {
   shares(head, y, high, picture, now) {
     const pen = this.context, column = this.columns / picture.columns;
     const until = this.x(now + 1);
-    pen.fillStyle = head.head === "preempt" ? "#222" : INK.G;
+    pen.fillStyle = head.head === "preempt" || isInput(head.head) ? "#222" : INK.G;
     head.shares.forEach((share, at) => {
       if (!share) return;
       const x = GUTTER + at * column, tall = Math.max(1, (high * share) / 100);
