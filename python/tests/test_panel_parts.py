@@ -300,6 +300,21 @@ def test_a_log_acts_until_a_hand_takes_over(examples: Path) -> None:
     run.close()
 
 
+def test_a_log_alone_makes_a_session_on_it(examples: Path) -> None:
+    """The lines are those of `tsb run` on the plan and the log."""
+    plan, log = examples / "main_and_oak.json", examples / "main_and_oak.log"
+    said = programs.run("tsb", ["run", plan, log], b"step 1100\n").stdout
+    lines = Lines(said)
+    run = Run(Source.read(plan, log))
+    to(run, 1100)
+    for tick in range(1, 1101):
+        assert letters(run, tick) == heads(lines[tick - 1].line)
+    for tick in [1100, 987, 415, 1]:
+        to(run, tick)
+        assert run.bench.show() == lines[tick - 1]
+    run.close()
+
+
 def test_what_lies_ahead_is_taken_again(run: Run, tmp_path: Path) -> None:
     """There and back: the same lines, the same plan, the same history."""
     rng = random.Random("ahead")
