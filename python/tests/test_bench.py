@@ -447,6 +447,15 @@ def test_a_plan_that_is_not_there(tmp_path: Path) -> None:
         Bench(tmp_path / "none.json")
 
 
+def test_a_bench_is_killed_from_another_thread(quad: Path) -> None:
+    """Who waits for an answer is told."""
+    with Bench(quad) as bench:
+        threading.Timer(0.1, bench.kill).start()
+        with pytest.raises(tsb.ProgramDied, match="tsb_live ended by signal 9"):
+            while True:
+                bench.changes(10_000)
+
+
 def test_a_bench_leaves_nothing_behind(quad: Path) -> None:
     """Its program ends with it, and closing it twice does nothing more."""
     with Bench(quad) as bench:

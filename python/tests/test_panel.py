@@ -701,6 +701,19 @@ def test_a_log_acts_until_a_hand_takes_over(examples: Path, tmp_path: Path) -> N
         assert asker.go(21)["active"] == [4]
 
 
+def test_a_panel_is_ended_while_a_bench_is_busy(examples: Path, tmp_path: Path) -> None:
+    """The request is told that its bench has ended, and the program ends well."""
+    found: list[Any] = []
+    for server in started(tmp_path / "runs", examples / "quad.json"):
+        asker = server.opened()
+        os.kill(asker.bench, signal.SIGSTOP)
+        asking = threading.Thread(target=lambda: found.append(asker.ask("go", tick=9)))
+        asking.start()
+        time.sleep(0.3)
+    asking.join(PATIENCE)
+    assert found[0][1]["fault"]["title"] == "the bench has ended"
+
+
 def test_too_many_pages(examples: Path, tmp_path: Path) -> None:
     """The last one is told, and the others go on."""
     for server in started(tmp_path / "runs", examples / "two.json"):

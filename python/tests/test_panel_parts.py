@@ -10,6 +10,7 @@ import tsb
 from tsb import Log, Plan, programs
 from tsb.lines import Lines
 from tsb.panel import keep as kept
+from tsb.panel import words
 from tsb.panel.keep import Keep, NotKept, Source
 from tsb.panel.layout import Lane, Layout, LayoutFault, layout_of
 from tsb.panel.requests import (
@@ -31,6 +32,7 @@ from tsb.panel.requests import (
 from tsb.panel.run import Run
 from tsb.panel.session import Session
 from tsb.rows import ALL_OFF, numbers, row
+from tsb.status import Wait
 
 TICKS = 1200
 
@@ -436,6 +438,24 @@ def test_a_column_tells_the_share_of_green(run: Run, tmp_path: Path) -> None:
             ticks = range(200 * at, 200 * at + 200)
             green = sum(phase in lines[it - 1].greens for it in ticks if it)
             assert abs(share - green / 2) <= 1
+
+
+# Words
+
+
+def test_every_state_has_its_words() -> None:
+    """No name of the status line is shown as it is."""
+    causes = (
+        "flash due clears redRevert across beside omitted preempted next crossing"
+        " barrier green conflict turn"
+    ).split()
+    told = [words.wait(Wait(4, it, of=2, preempt=1, left=13)) for it in causes]
+    assert len(set(told)) == len(causes) and not set(told) & set(causes)
+    assert told[2] == "phase 2 to clear: 1.3 s left"
+    lacks = [words.wait(Wait(4, "green", 2, lack=it)) for it in words.LACKS]
+    assert lacks[0] == "the green of phase 2, which lacks its walk"
+    assert words.wait(Wait(4, "crossing")) == "the rings to cross"
+    assert words.seconds(0) == "0.0 s" and words.seconds(6005) == "600.5 s"
 
 
 # Keeping

@@ -92,6 +92,11 @@ class Bench:
         """Ends the program."""
         self._talk.close()
 
+    def kill(self) -> None:
+        """Ends the program in the middle of whatever it does, from any thread: who
+        waits for an answer gets `ProgramDied`."""
+        self._talk.kill()
+
     @property
     def process(self) -> int:
         """The number of the program's process."""

@@ -40,6 +40,8 @@ BENCHES_MOST = 16  # benches at a time
 SILENT, GONE = 180, 3600
 # Seconds that a page may take to be reloaded before its bench is given to another.
 LEFT = 5
+# Seconds that a page that is reloaded waits for an earlier request to end.
+BUSY = 5
 PAGES = {
     "": ("index.html", "text/html"),
     "panel.css": ("panel.css", "text/css"),
@@ -112,10 +114,13 @@ class Panel:
         return app
 
     async def close(self) -> None:
-        """Ends all benches."""
-        for it in [*self._held.values()]:
-            it.session.close()
-        self._held.clear()
+        """Ends all benches, and what they are doing."""
+        held, self._held = self._held, {}
+        for it in held.values():
+            if it.lock.locked():
+                it.session.stop()
+            async with it.lock:
+                it.session.close()
 
     async def watch(self) -> None:
         """Closes the benches of pages that are gone, for ever."""
@@ -191,10 +196,17 @@ class Panel:
             is_again = True
         held.page, held.heard = secrets.token_urlsafe(16), time.monotonic()
         held.has_left = False
-        async with held.lock:
+        try:
+            async with asyncio.timeout(BUSY):
+                await held.lock.acquire()
+        except TimeoutError:
+            raise _busy(held) from None
+        try:
             session = held.session
             found = await asyncio.to_thread(session.told, None, None, 0)
             opened = await asyncio.to_thread(session.opened)
+        finally:
+            held.lock.release()
         if is_again:
             said = f"reloaded: the bench goes on at tick {found['state']['now']}"
         mine = {"session": name, "page": held.page, "said": said}
@@ -234,10 +246,9 @@ class Panel:
         if held is None:
             text = "this page was silent for long, or is open elsewhere"
             raise Stopped(410, "this page has no bench", text, RELOAD)
-        held.heard = time.monotonic()
+        held.heard, held.has_left = time.monotonic(), False
         if held.lock.locked():
-            text = f"the bench is busy with an earlier request: {held.doing}"
-            raise Stopped(409, "one at a time", text, "ask again")
+            raise _busy(held)
         return held
 
     async def _leave(self, request: web.Request) -> web.Response:
@@ -296,6 +307,12 @@ class Panel:
         async with held.lock:
             held.doing = "save"
             return await asyncio.to_thread(held.session.saved)
+
+
+def _busy(held: Held) -> Stopped:
+    """What a page is told whose bench does something else."""
+    text = f"the bench is busy with an earlier request: {held.doing}"
+    return Stopped(409, "one at a time", text, "ask again")
 
 
 async def _body(request: web.Request) -> dict[str, Any]:

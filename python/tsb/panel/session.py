@@ -43,6 +43,10 @@ class Session:
         """Ends the bench."""
         self.run.close()
 
+    def stop(self) -> None:
+        """Ends the request that is being carried out, and the bench with it."""
+        self.run.bench.kill()
+
     def do(self, asked: Request) -> str:
         """Carries out a request: what is said of it. What is raised has changed
         nothing, but where the bench died."""
