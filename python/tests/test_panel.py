@@ -138,7 +138,12 @@ def server(tmp_path_factory: pytest.TempPathFactory) -> Iterator[Server]:
 def browser() -> Iterator[Browser]:
     """A headless Chromium."""
     options = webdriver.ChromeOptions()
-    for word in ["--headless=new", "--no-sandbox", "--disable-dev-shm-usage"]:
+    for word in [
+        "--headless=new",
+        "--no-sandbox",
+        "--disable-dev-shm-usage",
+        "--disable-gpu",
+    ]:
         options.add_argument(word)
     options.add_argument("--window-size=1500,1250")
     found = webdriver.Chrome(service=Service("/usr/bin/chromedriver"), options=options)
@@ -187,9 +192,7 @@ class Page:
         self.wait(lambda: self.text("said") == text, text)
 
     def fill(self, name: str, value: object) -> None:
-        box = self.find(name)
-        box.clear()
-        box.send_keys(str(value))
+        self.find(name).send_keys(Keys.CONTROL, "a", Keys.NULL, str(value))
 
     def choose(self, name: str, value: str) -> None:
         Select(self.find(name)).select_by_value(value)
