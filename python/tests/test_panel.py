@@ -361,6 +361,20 @@ def test_a_trip_and_a_reset(page: Page) -> None:
     assert page.lit("P2") == "R"
 
 
+def test_an_alarm(page: Page) -> None:
+    """A detector that stays on for more than its minute."""
+    page.click("begin")
+    page.set("vehicleDetectorMaxPresence", 3, 1)
+    page.click("verify")
+    page.click("commit")
+    page.choose_mode("latch")
+    page.click("vehicle-3")
+    page.go(590)
+    assert page.text("alarms") == "none" and not page.has("vehicle-3", "alarm")
+    page.go(620)
+    assert page.text("alarms") == "detectors 3" and page.has("vehicle-3", "alarm")
+
+
 def test_a_pattern_is_selected(page: Page) -> None:
     """It runs from the next tick on, with its counter."""
     page.choose("patterns", "1")

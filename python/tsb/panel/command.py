@@ -13,6 +13,7 @@ from tsb.panel.keep import Keep, Source
 from tsb.panel.layout import Layout
 
 PROGRAM = "python3 -m tsb panel"
+PORTS = 65_535  # the greatest port
 
 
 def _words() -> argparse.ArgumentParser:
@@ -32,9 +33,17 @@ def _words() -> argparse.ArgumentParser:
         default=Path("panel_runs"),
         help="where runs are kept; panel_runs without it",
     )
-    words.add_argument("--port", type=int, default=0, help="0 for any that is free")
+    words.add_argument("--port", type=port, default=0, help="0 for any that is free")
     words.add_argument("--open", action="store_true", help="open it in the browser")
     return words
+
+
+def port(text: str) -> int:
+    """A port of a server; `ValueError` where it is none."""
+    number = int(text)
+    if not 0 <= number <= PORTS:
+        raise ValueError
+    return number
 
 
 def main(words: Sequence[str]) -> int:

@@ -38,7 +38,7 @@ Hands = Mapping[int, Hand]  # by the place of the input in a row
 
 
 @dataclass(frozen=True)
-class Given_:
+class Entry:
     """An input that is no tick: when it was given, and whether it ended a trip."""
 
     tick: int
@@ -55,7 +55,7 @@ class Tape:
 
     log: Log = field(default_factory=Log)
     end: int = 0
-    given: list[Given_] = field(default_factory=list)
+    given: list[Entry] = field(default_factory=list)
     _ticks: list[int] = field(default_factory=list)
     _rows: list[str] = field(default_factory=list)
     _hands: list[tuple[int, Hands]] = field(default_factory=lambda: [(0, {})])
@@ -110,9 +110,9 @@ class Tape:
     def give(self, now: int, what: Given, ended_trip: bool) -> None:
         """Takes an input at a tick. What lay ahead is dropped."""
         self.cut(now)
-        self.given.append(Given_(now, what, ended_trip))
+        self.given.append(Entry(now, what, ended_trip))
 
-    def before(self, now: int) -> list[Given_]:
+    def before(self, now: int) -> list[Entry]:
         """What was given up to a tick, with it."""
         return self.given[: bisect_right(self.given, now, key=lambda it: it.tick)]
 
@@ -121,7 +121,7 @@ class Tape:
         at = bisect_right(self.given, now, key=lambda it: it.tick)
         return self.given[at].tick if at < len(self.given) else None
 
-    def given_at(self, tick: int) -> list[Given_]:
+    def given_at(self, tick: int) -> list[Entry]:
         """What was given at a tick."""
         return [it for it in self.before(tick) if it.tick == tick]
 
