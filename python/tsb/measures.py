@@ -6,42 +6,68 @@ tenths of a second; times in seconds end with `_s`. What begins before the first
 or does not end by the last is not known: its ticks and seconds are NA.
 """
 
-from collections.abc import Callable, Iterable, Iterator, Mapping
-from typing import Any
+from collections.abc import Callable, Mapping
 
+import numpy as np
 import pandas as pd
 
+from tsb.cycles import cycles, greens_a_cycle, in_cycle, patterns
 from tsb.plan import Plan
+from tsb.spread import percentile, spread
+from tsb.told import (
+    ALARM_GOES,
+    ALARMS,
+    CALL,
+    CALL_GOES,
+    CAUSES,
+    DETECTOR_ON,
+    DWELL,
+    EXIT,
+    GREEN,
+    GREEN_ENDS,
+    OTHER,
+    OVER,
+    PEDESTRIAN_CALL,
+    PREEMPT_OFF,
+    PREEMPT_ON,
+    RED_CLEARANCE,
+    SERVICE,
+    TRACK,
+    WALK,
+    YELLOW_ENDS,
+    Row,
+    by_tick,
+    ordered,
+    seconds,
+    table_of,
+)
 
-GREEN, GREEN_ENDS, YELLOW, YELLOW_ENDS = 1, 7, 8, 9
-RED_CLEARANCE, RED_CLEARANCE_ENDS, OVER = 10, 11, 12
-CAUSES = {4: "gap", 5: "maximum", 6: "force-off"}
-# How a green ended that has none of these: a preempt or the monitor ended it.
-OTHER = "other"
-WALK, CALL, CALL_GOES, PEDESTRIAN_CALL = 21, 43, 44, 45
-DETECTOR_ON, PREEMPT_ON, PREEMPT_OFF = 82, 102, 104
-SERVICE, TRACK, DWELL, EXIT = 105, 106, 107, 111
-
-Row = dict[str, Any]
-
-
-def _ordered(events: pd.DataFrame) -> Iterator[tuple[int, int, int]]:
-    """Tick, code and parameter of events, by tick, then by code."""
-    found = events.sort_values(["tick", "code", "parameter"], kind="stable")
-    columns = (found[name].tolist() for name in ("tick", "code", "parameter"))
-    return zip(*columns, strict=True)
-
-
-def _table(rows: Iterable[Row], ticks: Iterable[str], words: Iterable[str]) -> Any:
-    """The table of rows: whole numbers, NA where there is none, and words."""
-    names = [*ticks, *words]
-    found = pd.DataFrame(list(rows), columns=names)
-    return found.astype({name: "Int64" for name in ticks})
+__all__ = [
+    "MEASURES",
+    "alarms",
+    "arrivals",
+    "arriving",
+    "counted",
+    "cycles",
+    "greens",
+    "greens_a_cycle",
+    "greens_of",
+    "in_cycle",
+    "patterns",
+    "percentile",
+    "preempts",
+    "services",
+    "splits",
+    "splits_of",
+    "spread",
+    "terminations",
+    "waits",
+    "walk_waits",
+]
 
 
-def _seconds(later: "pd.Series[int]", earlier: "pd.Series[int]") -> "pd.Series[float]":
-    """The seconds between ticks."""
-    return (later - earlier).astype("Float64") / 10
+# What a phase shows from the tick of such an event on.
+SHOWN = {GREEN: "green", GREEN_ENDS: "yellow", YELLOW_ENDS: "red"}
 
 
 def services(events: pd.DataFrame) -> pd.DataFrame:
@@ -53,7 +79,8 @@ def services(events: pd.DataFrame) -> pd.DataFrame:
     rows: list[Row] = []
     on: dict[int, Row] = {}
     ends = {RED_CLEARANCE: "red_clearance", OVER: "over"}
-    for tick, code, phase in _ordered(events):
+    codes = {GREEN, *CAUSES, GREEN_ENDS, *ends}
+    for tick, code, phase in ordered(events, codes):
         if code == GREEN:
             on[phase] = {"phase": phase, "green": tick}
             rows.append(on[phase])
@@ -65,32 +92,44 @@ def services(events: pd.DataFrame) -> pd.DataFrame:
         elif code in ends and phase in on:
             on[phase][ends[code]] = tick
     names = ["phase", "green", "yellow", "red_clearance", "over"]
-    found: pd.DataFrame = _table(rows, names, ["cause"])
+    found: pd.DataFrame = table_of(rows, names, ["cause"])
     return found
 
 
 def greens(events: pd.DataFrame) -> pd.DataFrame:
     """Each green: `phase`, the ticks at which it began and ended, its length
     `green_s`, and its `cause` (`services`)."""
-    found = services(events)
-    ended = {"phase": found["phase"], "begin": found["green"], "end": found["yellow"]}
-    length = _seconds(found["yellow"], found["green"])
-    return pd.DataFrame({**ended, "green_s": length, "cause": found["cause"]})
+    return greens_of(services(events))
+
+
+def greens_of(served: pd.DataFrame) -> pd.DataFrame:
+    """The `greens` of services."""
+    ended = {
+        "phase": served["phase"],
+        "begin": served["green"],
+        "end": served["yellow"],
+    }
+    length = seconds(served["yellow"], served["green"])
+    return pd.DataFrame({**ended, "green_s": length, "cause": served["cause"]})
 
 
 def splits(events: pd.DataFrame) -> pd.DataFrame:
     """The split of each service: `phase`, the ticks at which it began and was over,
     and the seconds of green, of yellow, of red clearance and of all, `split_s`."""
-    found = services(events)
-    red = found["red_clearance"].fillna(found["over"])
+    return splits_of(services(events))
+
+
+def splits_of(served: pd.DataFrame) -> pd.DataFrame:
+    """The `splits` of services."""
+    red = served["red_clearance"].fillna(served["over"])
     parts = {
-        "phase": found["phase"],
-        "begin": found["green"],
-        "over": found["over"],
-        "green_s": _seconds(found["yellow"], found["green"]),
-        "yellow_s": _seconds(red, found["yellow"]),
-        "red_clearance_s": _seconds(found["over"], red),
-        "split_s": _seconds(found["over"], found["green"]),
+        "phase": served["phase"],
+        "begin": served["green"],
+        "over": served["over"],
+        "green_s": seconds(served["yellow"], served["green"]),
+        "yellow_s": seconds(red, served["yellow"]),
+        "red_clearance_s": seconds(served["over"], red),
+        "split_s": seconds(served["over"], served["green"]),
     }
     return pd.DataFrame(parts)
 
@@ -108,7 +147,7 @@ def _waits(events: pd.DataFrame, begins: int, goes: int, served: int) -> pd.Data
     """Each wait of a phase from a call to what serves it, if the call stays."""
     rows: list[Row] = []
     called: dict[int, int] = {}
-    for tick, code, phase in _ordered(events):
+    for tick, code, phase in ordered(events, {begins, goes, served}):
         if code == begins:
             called.setdefault(phase, tick)
         elif code == served and phase in called:
@@ -116,8 +155,8 @@ def _waits(events: pd.DataFrame, begins: int, goes: int, served: int) -> pd.Data
         elif code == goes:
             called.pop(phase, None)
     rows += [{"phase": phase, "call": tick} for phase, tick in called.items()]
-    found: pd.DataFrame = _table(rows, ["phase", "call", "served"], [])
-    return found.assign(wait_s=_seconds(found["served"], found["call"]))
+    found: pd.DataFrame = table_of(rows, ["phase", "call", "served"], [])
+    return found.assign(wait_s=seconds(found["served"], found["call"]))
 
 
 def waits(events: pd.DataFrame) -> pd.DataFrame:
@@ -134,26 +173,49 @@ def walk_waits(events: pd.DataFrame) -> pd.DataFrame:
     return _waits(events, PEDESTRIAN_CALL, -1, WALK)
 
 
-def arrivals(events: pd.DataFrame, phases: Mapping[int, int]) -> pd.DataFrame:
-    """How many cars came while their phase was green, yellow and red: a row for a
-    phase, with `on_green`, `on_yellow`, `on_red`, `arrivals` and the share `green`.
+def arriving(events: pd.DataFrame, phases: Mapping[int, int]) -> pd.DataFrame:
+    """Each car that comes: its `phase`, `detector` and `tick`, and what its phase
+    `shows` then: green, yellow or red.
 
     A car comes where the input of its detector goes on. `phases` has the phase of
     each detector that counts cars, as `plan["vehicleDetectorCallPhase"]` has it.
     """
-    names = {GREEN: "on_green", GREEN_ENDS: "on_yellow", YELLOW_ENDS: "on_red"}
-    shown: dict[int, str] = {}
-    counts = {it: dict.fromkeys(names.values(), 0) for it in phases.values() if it}
-    for _, code, number in _ordered(events):
-        if code in names:
-            shown[number] = names[code]
-        elif code == DETECTOR_ON and (phase := phases.get(number, 0)):
-            counts[phase][shown.get(phase, "on_red")] += 1
-    columns = list(names.values())
-    found = pd.DataFrame.from_dict(counts, "index", columns=columns).sort_index()
-    found.index.name = "phase"
+    leads = {detector: phase for detector, phase in phases.items() if phase}
+    cars = events[(events["code"] == DETECTOR_ON) & events["parameter"].isin(leads)]
+    cars = cars.sort_values(["tick", "parameter"], kind="stable")
+    found = pd.DataFrame(
+        {
+            "phase": cars["parameter"].map(leads),
+            "detector": cars["parameter"],
+            "tick": cars["tick"],
+        }
+    ).astype("Int64")
+    found = found.reset_index(drop=True).assign(shows="red")
+    shown = events[events["code"].isin(SHOWN)].sort_values(["tick", "code"])
+    for phase, of in shown.groupby("parameter"):
+        after = found.loc[found["phase"] == phase, "tick"].astype("int64")
+        letters = np.array(["red", *of["code"].map(SHOWN)], dtype=object)
+        place = np.searchsorted(of["tick"], after, side="right")
+        found.loc[after.index, "shows"] = letters[place]
+    return found
+
+
+def arrivals(events: pd.DataFrame, phases: Mapping[int, int]) -> pd.DataFrame:
+    """How many cars came (`arriving`) while their phase was green, yellow and red: a
+    row for a phase, with `on_green`, `on_yellow`, `on_red`, `arrivals` and the share
+    `green`."""
+    return counted(arriving(events, phases), phases)
+
+
+def counted(came: pd.DataFrame, phases: Mapping[int, int]) -> pd.DataFrame:
+    """The `arrivals` of cars that came (`arriving`)."""
+    columns = {"green": "on_green", "yellow": "on_yellow", "red": "on_red"}
+    counts = pd.crosstab(came["phase"], came["shows"]).rename(columns=columns)
+    known = pd.Index(sorted({it for it in phases.values() if it}), name="phase")
+    found = counts.reindex(index=known, columns=list(columns.values()), fill_value=0)
+    found.columns.name = None
     all_of = found.sum(axis=1)
-    share = (found["on_green"] / all_of).astype("Float64")
+    share = (found["on_green"] / all_of.where(all_of > 0)).astype("Float64")
     return found.assign(arrivals=all_of, green=share)
 
 
@@ -168,7 +230,8 @@ def preempts(events: pd.DataFrame, plan: Plan) -> pd.DataFrame:
     stages = {TRACK: "track", DWELL: "dwell", EXIT: "exit"}
     last: Row = {}
     wanted: frozenset[int] = frozenset()
-    for tick, moment in _by_tick(events):
+    codes = {GREEN, GREEN_ENDS, PREEMPT_ON, PREEMPT_OFF, SERVICE, *stages}
+    for tick, moment in by_tick(events, codes):
         for code, number in moment:
             if code == GREEN:
                 shown.add(number)
@@ -191,8 +254,8 @@ def preempts(events: pd.DataFrame, plan: Plan) -> pd.DataFrame:
         if last and "green" not in last and wanted and wanted <= shown:
             last["green"] = tick
     ticks = ["preempt", "request", "service", "track", "green", "dwell", "exit"]
-    found: pd.DataFrame = _table(rows, ticks, [])
-    return found.assign(wait_s=_seconds(found["green"], found["request"]))
+    found: pd.DataFrame = table_of(rows, ticks, [])
+    return found.assign(wait_s=seconds(found["green"], found["request"]))
 
 
 def _wanted(plan: Plan, preempt: int) -> frozenset[int]:
@@ -201,20 +264,20 @@ def _wanted(plan: Plan, preempt: int) -> frozenset[int]:
     return track or plan["preemptDwellPhase"].phases(preempt)
 
 
-def _by_tick(
-    events: pd.DataFrame,
-) -> Iterator[tuple[int, list[tuple[int, int]]]]:
-    """The events of each tick that has some: their codes and parameters."""
-    last = 0
-    moment: list[tuple[int, int]] = []
-    for tick, code, parameter in _ordered(events):
-        if tick != last and moment:
-            yield last, moment
-            moment = []
-        last = tick
-        moment.append((code, parameter))
-    if moment:
-        yield last, moment
+def alarms(events: pd.DataFrame) -> pd.DataFrame:
+    """Each alarm of a detector: `detector`, the ticks at which it comes and goes,
+    `alarm_s`, and the `code` that it came with, 84 to 88. What comes while an alarm
+    of the detector stands belongs to that."""
+    rows: list[Row] = []
+    on: dict[int, Row] = {}
+    for tick, code, detector in ordered(events, {ALARM_GOES, *ALARMS}):
+        if code == ALARM_GOES:
+            on.pop(detector, {})["goes"] = tick
+        elif detector not in on:
+            on[detector] = {"detector": detector, "comes": tick, "code": code}
+            rows.append(on[detector])
+    found: pd.DataFrame = table_of(rows, ["detector", "comes", "goes", "code"], [])
+    return found.assign(alarm_s=seconds(found["goes"], found["comes"]))
 
 
 #: Each measure by its name, of events and the plan that they ran on.
@@ -226,4 +289,7 @@ MEASURES: Mapping[str, Callable[[pd.DataFrame, Plan], pd.DataFrame]] = {
     "walk_waits": lambda events, _: walk_waits(events),
     "arrivals": lambda events, plan: arrivals(events, plan["vehicleDetectorCallPhase"]),
     "preempts": preempts,
+    "alarms": lambda events, _: alarms(events),
+    "cycles": lambda events, _: cycles(events),
+    "greens_a_cycle": lambda events, _: greens_a_cycle(events),
 }
