@@ -1,6 +1,7 @@
 """The runs of a sweep: tasks that read files, and write one file of a table."""
 
 import hashlib
+import io
 import json
 import os
 import re
@@ -12,11 +13,12 @@ from functools import lru_cache
 from os import PathLike
 from pathlib import Path
 
+import numpy as np
 import pandas as pd
 
 from tsb import programs
 from tsb.errors import Error, PlanFault, ProgramDied
-from tsb.frames import events_of_export, log_of_export, read_export
+from tsb.frames import events_of_export, log_of_export
 from tsb.measures import MEASURES
 from tsb.plan import Plan
 from tsb.rows import Log
@@ -164,23 +166,35 @@ def _measured(
 
 def record(plan: AnyPath, log: Log, seconds: int, pattern: int = 0) -> pd.DataFrame:
     """The events of a plan that runs for so long on a log, from power-up on."""
+    selected = f"pattern {pattern}\n" if pattern else ""
+    return recorded(plan, log, f"{selected}step {10 * seconds}\n")
+
+
+def recorded(plan: AnyPath, log: Log, commands: str) -> pd.DataFrame:
+    """The events of a session of a plan on a log, by `tsb_field record`: `tick`,
+    `code`, `parameter`. `PlanFault` is a plan that is refused, `ProgramDied` a command
+    that is."""
     with tempfile.TemporaryDirectory() as folder:
         path = Path(folder) / "inputs.log"
         log.write(path)
         words = ["record", f"--from={POWER_UP}", "--device=1", str(plan), str(path)]
-        commands = [f"pattern {pattern}"] if pattern else []
-        text = "\n".join([*commands, f"step {10 * seconds}", ""])
         try:
-            done = programs.run("tsb_field", words, text.encode())
+            done = programs.run("tsb_field", words, commands.encode())
         except ProgramDied as died:
             if died.stderr.startswith("plan: "):
                 raise PlanFault(died.stderr.strip()) from None
             raise
-        events = Path(folder) / "events.csv"
-        events.write_bytes(done.stdout)
         if done.stderr:
             raise Error(f"{plan}: {done.stderr.decode().strip()}")
-        return events_of_export(read_export(events), POWER_UP)
+        return events_of_record(done.stdout)
+
+
+def events_of_record(text: bytes, start: str = POWER_UP) -> pd.DataFrame:
+    """The events of the text of a record, whose tick 1 begins at the start: `tick`,
+    `code`, `parameter`. A day of it has 300,000 rows, so it is read as what it is."""
+    names = {"device": str, "time": str, "code": np.int64, "parameter": np.int64}
+    rows = pd.read_csv(io.BytesIO(text), skiprows=1, names=list(names), dtype=names)
+    return events_of_export(rows.assign(time=pd.to_datetime(rows["time"])), start)
 
 
 def name_of(measure: Measure) -> str:
