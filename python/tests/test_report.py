@@ -1,0 +1,524 @@
+"""Reports of the real programs' runs: the page, its words, its faults, and how a
+browser shows it."""
+
+import re
+import shutil
+import subprocess
+import sys
+from collections.abc import Iterator, Sequence
+from html.parser import HTMLParser
+from pathlib import Path
+
+import pandas as pd
+import pytest
+
+from tsb import Bench, Log, Plan, frames, measures, programs
+from tsb.report.command import main
+from tsb.report.words import PROGRAM
+from tsb.tasks import events_of_record
+
+START = "2026-11-22 07:00:00"
+TOP = Path(__file__).resolve().parents[2]
+EXAMPLES, FIELD = TOP / "examples", TOP / "docs/FIELD.md"
+PLANS = {"A": "quad", "B": "main_and_oak"}
+VOID = {"meta", "br", "hr", "img", "input", "link"}
+
+
+class Page(HTMLParser):
+    """The tables, headings and words of a page, which has to be well formed."""
+
+    def __init__(self, text: str) -> None:
+        super().__init__()
+        self.open: list[str] = []
+        self.tags: list[str] = []
+        self.outside: list[str] = []
+        self.ids: list[str] = []
+        self.heads: list[str] = []
+        self.sections: list[str] = []
+        self.tables: dict[str, list[list[str]]] = {}
+        self._cells: list[list[str]] = []
+        self._caption = ""
+        self.feed(text)
+        self.close()
+        assert self.open == [], "all that is opened is closed"
+
+    def handle_starttag(self, tag: str, attrs: list[tuple[str, str | None]]) -> None:
+        self.tags.append(tag)
+        told = {name: value or "" for name, value in attrs}
+        self.ids += [told["id"]] if "id" in told else []
+        links = [told.get(it, "") for it in ("href", "src", "xlink:href", "action")]
+        self.outside += [
+            it for it in links if it and it[0] != "#" and it[:5] != "data:"
+        ]
+        if tag == "section":
+            self.sections.append(told["id"])
+        if tag == "tr":
+            self._cells.append([])
+        elif tag in ("td", "th"):
+            self._cells[-1].append("")
+        elif tag == "table":
+            self._cells, self._caption = [], ""
+        if tag not in VOID:
+            self.open.append(tag)
+
+    def handle_startendtag(self, tag: str, attrs: list[tuple[str, str | None]]) -> None:
+        self.handle_starttag(tag, attrs)
+        if tag not in VOID:
+            self.handle_endtag(tag)
+
+    def handle_endtag(self, tag: str) -> None:
+        assert self.open and self.open.pop() == tag, f"</{tag}> closes what is open"
+        if tag == "table":
+            section = self.sections[-1] if self.sections else ""
+            self.tables[f"{section}: {self._caption}"] = self._cells
+
+    def handle_data(self, data: str) -> None:
+        last = self.open[-1] if self.open else ""
+        if last in ("td", "th"):
+            self._cells[-1][-1] += data
+        elif last == "caption":
+            self._caption += data
+        elif last in ("h1", "h2"):
+            self.heads.append(data)
+
+
+@pytest.fixture(scope="session")
+def days(tmp_path_factory: pytest.TempPathFactory) -> Path:
+    """A folder with records of two plans on the hour of traffic."""
+    folder = tmp_path_factory.mktemp("report")
+    for plan, before in (("quad", ""), ("main_and_oak", "pattern 1\n")):
+        words = ["record", f"--from={START}", "--device=1001"]
+        words += [str(EXAMPLES / f"{plan}.json")]
+        words += [str(EXAMPLES / "hour_of_traffic.log")]
+        done = programs.run("tsb_field", words, f"{before}step 36000\n".encode())
+        (folder / f"{plan}.csv").write_bytes(done.stdout)
+    return folder
+
+
+@pytest.fixture(scope="session")
+def two(tmp_path_factory: pytest.TempPathFactory) -> Path:
+    """The report of docs/FIELD.md, made by its words: two plans on the hour of
+    traffic, the second one with a pattern."""
+    folder = tmp_path_factory.mktemp("document")
+    for name in ("examples", "python"):
+        (folder / name).symlink_to(TOP / name)
+    blocks = re.findall("^```sh\n(.*?)^```", FIELD.read_text(), re.M | re.S)
+    (words,) = (it for it in blocks if "tsb report" in it)
+    subprocess.run(["bash", "-euc", words], cwd=folder, check=True)
+    return folder / "report.html"
+
+
+def made(words: Sequence[object], out: Path) -> Page:
+    """The page that the words make."""
+    assert main([*map(str, words), "--out", str(out)]) == 0
+    return Page(out.read_text())
+
+
+ALL = [
+    "unlike", "glance", "terminations", "splits", "cycles", "waits", "walks",
+    "arrivals", "preempts", "alarms",
+]  # fmt: skip
+
+
+def test_a_page_stands_alone(two: Path) -> None:
+    """It is well formed, and nothing of it comes from elsewhere."""
+    text = two.read_text()
+    page = Page(text)
+    assert page.outside == []
+    assert not re.search(r"https?:|@import|url\((?!#)", text)
+    assert {"script", "link", "iframe", "object", "img"} & set(page.tags) == set()
+    assert len(page.ids) == len(set(page.ids)), "a name stands once"
+    assert page.sections == ALL
+    assert page.tags.count("svg") == page.tags.count("figure") == 9
+    assert page.tags.count("details") == 9 + 1, "behind each chart its numbers"
+
+
+def test_the_numbers_are_those_of_the_measures(two: Path, days: Path) -> None:
+    """Why greens ended, also by time of day, and the longest waits, of both runs."""
+    tables = Page(two.read_text()).tables
+    causes = ["gap", "maximum", "force-off", "other"]
+    for run, plan in PLANS.items():
+        export = frames.read_export(days / f"{plan}.csv")
+        events = frames.events_of_export(export, START)
+        wanted = measures.terminations(events)[causes]
+        ended = of_run(tables["terminations: Greens that ended"], run)
+        assert [it[2:6] for it in ended] == [list(map(str, it)) for it in wanted.values]
+        label = f"B: {plan}, pattern 1" if run == "B" else f"A: {plan}"
+        parts = tables[f"terminations: {label}: greens that ended, each 5 minutes"]
+        assert [it[0] for it in parts[1:]][:: len(parts) - 2] == [
+            "07:00:00",
+            "07:55:00",
+        ]
+        for place, cause in enumerate(causes, 2):
+            found = sum(int(it[place]) for it in parts[1:])
+            assert found == wanted[cause].sum()
+        longest = measures.waits(events).groupby("phase")["wait_s"].max()
+        waits = of_run(tables["waits: Waits, in seconds"], run)
+        assert {it[0]: it[7] for it in waits} == {
+            str(phase): f"{most:.1f}" for phase, most in longest.items()
+        }
+
+
+def of_run(table: list[list[str]], run: str) -> list[list[str]]:
+    """The rows of a run."""
+    assert table[0][:2] == ["phase", "run"]
+    return [it for it in table[1:] if it[1] == run]
+
+
+def test_a_record_is_read_as_an_export_is(days: Path) -> None:
+    """At once, as its form is known; also one without events."""
+    path = days / "quad.csv"
+    events = frames.events_of_export(frames.read_export(path), START)
+    pd.testing.assert_frame_equal(events_of_record(path.read_bytes(), START), events)
+    header = path.read_bytes().splitlines(keepends=True)[0]
+    none = events_of_record(header)
+    assert none.empty and (none.dtypes == events.dtypes).all()
+
+
+def test_the_most_telling_comes_first(two: Path) -> None:
+    """By standard errors, which fall."""
+    tables = Page(two.read_text()).tables
+    rows = tables["unlike: "]
+    assert rows[0][2:4] == ["A: quad", "B: main_and_oak, pattern 1"]
+    errors = [float(it[5]) for it in rows[1:]]
+    assert errors == sorted(errors, reverse=True) and len(errors) > 5
+
+
+def test_places_in_the_cycle_are_the_local_counter(examples: Path) -> None:
+    """The bench shows the same in its lines, also where the pattern changes."""
+    plan, log = examples / "main_and_oak.json", examples / "hour_of_traffic.log"
+    with Bench(plan, log) as bench:
+        parts = []
+        for pattern, steps in ((0, 300), (1, 2500), (0, 200), (1, 1500)):
+            bench.set_pattern(pattern)
+            parts.append(frames.of_lines(bench.step(steps)))
+        events = frames.of_events(bench.events)
+    shown = pd.concat(parts)["local"]
+    ticks = pd.Series(shown.index)
+    found = measures.in_cycle(events, ticks)
+    known = ticks.to_numpy() < events["tick"].max()
+    wanted = (shown.reset_index(drop=True).astype("Float64") / 10)[known]
+    # (a pattern acts from the tick after that in which it was selected)
+    changes = measures.patterns(events)["begin"]
+    same = ~ticks[known].isin(changes)
+    pd.testing.assert_series_equal(found[known][same], wanted[same], check_names=False)
+    assert len(measures.cycles(events).dropna()) >= 3
+
+
+def test_arrivals_and_greens_are_what_lines_show(examples: Path) -> None:
+    """Where the input of a detector goes on, its phase's letter; and how long each
+    phase shows a green that ends."""
+    plan, log = examples / "quad.json", examples / "hour_of_traffic.log"
+    with Bench(plan, log) as bench:
+        lines = frames.of_lines(bench.step(9000))
+        events = frames.of_events(bench.events)
+    inputs = frames.of_log(Log.read(log)).reindex(lines.index, method="ffill")
+    inputs = inputs.fillna(False).astype(bool)
+    rises = inputs & ~inputs.shift(1, fill_value=False)
+    phases = Plan.read(plan)["vehicleDetectorCallPhase"]
+    came = measures.arrivals(events, phases)
+    greens = measures.greens(events).dropna(subset=["end"])
+    for detector, phase in phases.items():
+        letters = lines.loc[rises[f"V{detector}"], f"P{phase}"].value_counts()
+        found = came.loc[phase, ["on_green", "on_yellow", "on_red"]].to_list()
+        assert found == [letters[it] for it in "GYR"]
+        lit = lines[f"P{phase}"] == "G"
+        ended = lit & ~lit[::-1].cummin()[::-1]  # (not of a green that goes on)
+        of = greens[greens["phase"] == phase]
+        assert (of["end"] - of["begin"]).sum() == ended.sum() > 100
+
+
+def test_two_plans_on_a_log(
+    examples: Path, tmp_path: Path, capfd: pytest.CaptureFixture[str]
+) -> None:
+    """The runs are those of the bench; in free operation no diagram is drawn. Names
+    may be odd: nothing is told of them."""
+    names = "_quad", "<b> 交差点 $x$"
+    for name, plan in zip(names, ("quad", "railroad"), strict=True):
+        shutil.copy(examples / f"{plan}.json", tmp_path / f"{name}.json")
+    plans = [tmp_path / f"{name}.json" for name in names]
+    page = made(
+        [
+            "--plan-a", plans[0], "--plan-b", plans[1], "--seconds", 300,
+            "--log", examples / "hour_of_traffic.log", "--title", 'Oak & Main <"1">',
+        ],
+        tmp_path / "page.html",
+    )  # fmt: skip
+    assert capfd.readouterr() == ("", "")
+    assert page.heads[0] == 'Oak & Main <"1">' and page.sections == ALL
+    glance = page.tables["glance: "]
+    assert glance[0] == ["", "A: _quad", "B: <b> 交差点 $x$"]
+    assert "No pattern ran" in (tmp_path / "page.html").read_text()
+    facts = page.tables[": "]
+    assert facts[1][2:4] == ["2000-01-01 00:00:00.0", "2000-01-01 00:05:00.0"]
+
+
+def test_one_run_by_commands(examples: Path, tmp_path: Path) -> None:
+    """A session of its own, of one plan: nothing is compared."""
+    commands = tmp_path / "commands"
+    commands.write_text("pattern 1\nstep 1000\npreempt 1 on\nstep 600\n")
+    page = made(
+        [
+            "--plan-a", examples / "main_and_oak.json", "--commands", commands,
+            "--log", examples / "empty.log", "--from", START,
+        ],
+        tmp_path / "page.html",
+    )  # fmt: skip
+    assert page.sections == ALL[1:]
+    services = page.tables[
+        "preempts: main_and_oak: services, with seconds from one moment to another"
+    ]
+    assert len(services) == 2 and services[1][1] == "–", "a switch has no request"
+    assert page.tables[": "][1][5] == "pattern 1 (cycle 90 s, offset 40 s)"
+
+
+def test_a_street_beside_the_bench(examples: Path, days: Path, tmp_path: Path) -> None:
+    """The street's run is its export; the bench has its cars. Here the street is a
+    bench too, so that nothing differs."""
+    page = made(
+        [
+            "--street", "--plan-a", examples / "quad.json", "--from", START,
+            "--export", days / "quad.csv", "--device", "1001", "--seconds", 600,
+        ],
+        tmp_path / "page.html",
+    )  # fmt: skip
+    assert page.tables["glance: "][0] == ["", "A: street", "B: quad"]
+    assert page.tables.get("unlike: ") is None
+    assert "Nothing differs." in (tmp_path / "page.html").read_text()
+
+
+def test_channels_of_a_street(
+    examples: Path, days: Path, tmp_path: Path, capsys: pytest.CaptureFixture[str]
+) -> None:
+    """Both runs have the inputs as they are led; what is left out is told."""
+    export = tmp_path / "street.csv"
+    table = frames.read_export(days / "quad.csv").query("code != 45")
+    of_two = table["code"].isin([81, 82]) & (table["parameter"] == 2)
+    table.loc[of_two, "parameter"] = 21
+    other = table.iloc[[0]].assign(code=82, parameter=30)
+    frames.write_export(pd.concat([other, table]), export)
+    words = ["--street", "--plan-a", examples / "quad.json", "--from", START]
+    words += ["--export", export, "--vehicle", "21=2"]
+    page = made(words, tmp_path / "page.html")
+    cars = {it[1]: it[2] for it in page.tables["arrivals: Cars"] if it[0] == "2"}
+    assert cars == {"A": "386", "B": "386"}
+    left_out = (
+        "left out: 0 rows of other devices, 1 events of channels without an input,"
+        " 0 lines that are no rows"
+    )
+    assert capsys.readouterr().err == f"{PROGRAM}: {left_out}\n"
+    assert left_out in (tmp_path / "page.html").read_text()
+
+
+def test_events_without_a_plan(days: Path, tmp_path: Path) -> None:
+    """Greens and waits need none; which phase a detector counts for is not known."""
+    page = made(["--events-a", days / "quad.csv"], tmp_path / "page.html")
+    text = (tmp_path / "page.html").read_text()
+    assert "give it with --plan-a" in text and page.sections == ALL[1:]
+
+
+def test_a_run_in_which_nothing_happens(examples: Path, tmp_path: Path) -> None:
+    """Of no tick, and of one: each section says that there is nothing."""
+    commands = tmp_path / "none"
+    for text in ("", "step 1\n"):
+        commands.write_text(text)
+        page = made(
+            [
+                "--plan-a", examples / "quad.json", "--log", examples / "empty.log",
+                "--plan-b", examples / "quad.json", "--commands", commands,
+            ],
+            tmp_path / "page.html",
+        )  # fmt: skip
+        assert page.tags.count("svg") == 0 and page.sections == ALL
+        assert "No green ended." in (tmp_path / "page.html").read_text()
+
+
+FAULTS = [
+    (["--events-a", "none.csv"], "none.csv: No such file or directory"),
+    (["--events-a", "empty.csv"], "empty.csv: no events"),
+    (["--events-a", "quad.csv", "--device", "7"], "quad.csv: no events"),
+    (
+        ["--events-a", "quad.csv", "--from", "2026-11-23"],
+        "quad.csv: no events from 2026-11-23 on",
+    ),
+    (
+        ["--events-a", "quad.csv", "--from", "seven"],
+        "--from: 'seven' is no time as 2026-11-22 07:00:00",
+    ),
+    (["--plan-a", "none.json", "--log", "a.log"], "none.json: read fault"),
+    (["--plan-a", "quad.json", "--log", "bad.log"], "bad.log: log line 1: malformed"),
+    (
+        ["--plan-a", "quad.json", "--log", "empty.log"],
+        "empty.log: it has no last row: say how long by --seconds",
+    ),
+    (
+        ["--plan-a", "quad.json", "--log", "a.log", "--pattern-a", "3"],
+        "quad.json: command 1: pattern 3: refused E9 NoSuchPattern",
+    ),
+    (
+        ["--plan-a", "quad.json", "--export", "empty.csv", "--from", START],
+        "empty.csv: no events",
+    ),
+    (
+        ["--events-a", "two.csv"],
+        "two.csv: rows of 2 devices: name one by --device",
+    ),
+]
+
+
+@pytest.fixture
+def room(
+    examples: Path, days: Path, tmp_path: Path, monkeypatch: pytest.MonkeyPatch
+) -> Path:
+    """A folder with good and bad files."""
+    shutil.copy(days / "quad.csv", tmp_path)
+    shutil.copy(examples / "quad.json", tmp_path)
+    shutil.copy(examples / "first_plan.log", tmp_path / "a.log")
+    shutil.copy(examples / "empty.log", tmp_path)
+    (tmp_path / "empty.csv").write_text("")
+    (tmp_path / "two.csv").write_text(f"1,{START},1,2\n2,{START},1,2\n")
+    (tmp_path / "binary.csv").write_bytes(b"\xff\xfe\x00\x01\n")
+    (tmp_path / "words.csv").write_text(f"SignalID,Time,EventCode\n7,{START},1\n")
+    (tmp_path / "bad.json").write_text('{"version": 2}\n')
+    (tmp_path / "bad.log").write_text("no log\n")
+    monkeypatch.chdir(tmp_path)
+    return tmp_path
+
+
+@pytest.mark.parametrize(("words", "fault"), FAULTS)
+def test_faults(
+    room: Path, words: list[str], fault: str, capsys: pytest.CaptureFixture[str]
+) -> None:
+    """One line, status 1, and what was there stays."""
+    (room / "page.html").write_text("kept")
+    assert main([*words, "--out", "page.html"]) == 1
+    assert capsys.readouterr().err == f"{PROGRAM}: {fault}\n"
+    assert (room / "page.html").read_text() == "kept"
+
+
+#: Files that are none, and how the line that says so begins.
+BAD_FILES = [
+    (["--events-a", "binary.csv"], "binary.csv: it "),
+    (["--events-a", "words.csv"], "words.csv: the export has no column EventParam"),
+    (["--plan-a", "bad.json", "--log", "a.log"], "bad.json: plan: rule K1: "),
+    (["--events-a", "quad.csv", "--plan-a", "a.log"], "a.log: plan: not JSON: "),
+    (["--events-a", "quad.json"], "quad.json: "),
+]
+
+
+@pytest.mark.parametrize(("words", "fault"), BAD_FILES)
+def test_bad_files(
+    room: Path, words: list[str], fault: str, capsys: pytest.CaptureFixture[str]
+) -> None:
+    """Likewise one line, which says what is wrong with the file."""
+    assert main([*words, "--out", "page.html"]) == 1
+    told = capsys.readouterr().err
+    assert told.startswith(f"{PROGRAM}: {fault}") and told.count("\n") == 1
+    assert not (room / "page.html").exists()
+
+
+BAD_WORDS = [
+    ([], "give --plan-a or --events-a"),
+    (["--plan-a", "quad.json"], "give --log or --export"),
+    (["--plan-a", "quad.json", "--export", "quad.csv"], "--export needs --from"),
+    (
+        ["--plan-a", "quad.json", "--export", "quad.csv", "--log", "a.log"],
+        "give --log or --export, not both",
+    ),
+    (
+        ["--plan-a", "quad.json", "--log", "a.log", "--street"],
+        "--street needs --export",
+    ),
+    (
+        ["--events-a", "quad.csv", "--log", "a.log", "--street"],
+        "--events-a has its events: leave --log, --street out",
+    ),
+    (
+        ["--plan-a", "quad.json", "--log", "a.log", "--events-b", "b"],
+        "--events-b needs --events-a",
+    ),
+    (["--events-a", "quad.csv", "--plan-b", "quad.json"], "--plan-b needs --events-b"),
+    (
+        ["--plan-a", "a", "--log", "b", "--seconds", "-1"],
+        "argument --seconds: invalid whole number above 0 value: '-1'",
+    ),
+    (
+        ["--plan-a", "a", "--export", "b", "--from", START, "--vehicle", "21"],
+        "argument --vehicle: invalid CHANNEL=INPUT value: '21'",
+    ),
+]
+
+
+@pytest.mark.parametrize(("words", "fault"), BAD_WORDS)
+def test_bad_words(
+    room: Path, words: list[str], fault: str, capsys: pytest.CaptureFixture[str]
+) -> None:
+    """The usage and what is wrong, status 2, and nothing is written."""
+    with pytest.raises(SystemExit) as ended:
+        main([*words, "--out", "page.html"])
+    assert ended.value.code == 2
+    assert capsys.readouterr().err.endswith(f"\n{PROGRAM}: error: {fault}\n")
+    assert not (room / "page.html").exists()
+
+
+def test_a_full_disk(room: Path, capsys: pytest.CaptureFixture[str]) -> None:
+    """It is told, and so is a folder that is not there."""
+    words = ["--events-a", "quad.csv", "--seconds", "60", "--out"]
+    assert main([*words, "/dev/full"]) == 1
+    assert capsys.readouterr().err == f"{PROGRAM}: /dev/full: No space left on device\n"
+    assert Path("/dev/full").is_char_device()
+    assert main([*words, "no/page.html"]) == 1
+    told = capsys.readouterr().err
+    assert told == f"{PROGRAM}: no/page.html: No such file or directory\n"
+    assert not [it for it in room.iterdir() if it.suffix == ".part"]
+
+
+def test_the_command_is_listed() -> None:
+    """With what it says of itself."""
+    python = [sys.executable, "-m", "tsb"]
+    listed = subprocess.run(python, capture_output=True, text=True, check=True)
+    assert "  report    A page of charts and tables of one run or two" in listed.stdout
+
+
+def test_the_same_words_give_the_same_bytes(days: Path, tmp_path: Path) -> None:
+    """Nothing tells when a page was made."""
+    words = ["--events-a", days / "quad.csv", "--seconds", 60]
+    texts = []
+    for name in ("one.html", "other.html"):
+        made(words, tmp_path / name)
+        texts.append((tmp_path / name).read_bytes())
+    assert texts[0] == texts[1]
+
+
+@pytest.fixture
+def browser() -> Iterator[str]:
+    """Chromium."""
+    found = shutil.which("chromium")
+    assert found is not None, "python/setup.sh installs it"
+    yield found
+
+
+def test_a_browser_shows_it(browser: str, two: Path, tmp_path: Path) -> None:
+    """It draws the charts and opens no other file: the network is not there."""
+    picture = tmp_path / "page.png"
+    done = subprocess.run(
+        [
+            browser, "--headless", "--no-sandbox", "--disable-gpu",
+            f"--user-data-dir={tmp_path / 'profile'}", "--window-size=1100,4000",
+            f"--screenshot={picture}", "--dump-dom", two.as_uri(),
+        ],
+        capture_output=True, text=True, timeout=60, check=True,
+    )  # fmt: skip
+    import matplotlib.image
+
+    pixels = matplotlib.image.imread(picture)[:, :, :3]
+    colors = {
+        "green of gaps": (0x5F, 0xA7, 0x77),
+        "blue of force-offs": (0x2D, 0x6C, 0xB5),
+        "blue of run A": (0x24, 0x55, 0x7D),
+        "orange of run B": (0xE3, 0x9A, 0x3B),
+    }
+    for what, color in colors.items():
+        near = abs(pixels * 255 - color).max(axis=2) < 4
+        assert near.sum() > 500, what
+    assert done.stdout.count("<svg") == 9

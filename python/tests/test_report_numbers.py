@@ -1,0 +1,237 @@
+"""The numbers of a report, each on a case that was worked by hand."""
+
+from dataclasses import replace
+from math import sqrt
+
+import numpy as np
+import pandas as pd
+import pytest
+
+from tsb import Event, Plan, frames
+from tsb.report.charts import greens_in_cycles
+from tsb.report.differences import (
+    Difference,
+    differences,
+    of_counts,
+    of_means,
+    of_shares,
+)
+from tsb.report.numbers import Numbers, period_of
+from tsb.report.page import glance
+from tsb.report.runs import Run, whole_minutes
+
+START = np.datetime64("2026-11-22T07:00:00", "ns")
+
+
+def plan() -> Plan:
+    """Phase 2 is coordinated by table 3; detectors 2 and 12 call it, 4 calls 4."""
+    found = Plan()
+    found["vehicleDetectorCallPhase"] = {2: 2, 12: 2, 4: 4, 5: 0}
+    found["patternSplitNumber"] = {1: 3}
+    found["splitCoordPhase"] = {(3, 2): 1, (1, 6): 1}
+    found["preemptTrackPhase"] = {1: {4}}
+    return found
+
+
+def numbers(
+    *events: tuple[int, int, int], ticks: int = 1000, place: int = 0, of: int = 1
+) -> Numbers:
+    """The numbers of events of tick, code and parameter."""
+    table = frames.of_events(Event(*it) for it in events)
+    return Numbers(Run("hand", table, START, ticks, plan()), place, of)
+
+
+def rows(found: pd.DataFrame) -> list[tuple[object, ...]]:
+    """The rows of a table with its index, and None for what is not known."""
+    named = found.reset_index()
+    plain = named.astype(object).where(named.notna(), None)
+    return [tuple(it) for it in plain.itertuples(index=False)]
+
+
+# Two greens of phase 2 in the first minute, of which one ends at tick 600 and so in
+# that minute, and one that ends by its maximum at 601.
+GREENS = [
+    (1, 1, 2), (100, 4, 2), (100, 7, 2), (300, 1, 2), (600, 7, 2),
+    (600, 1, 4), (601, 5, 4), (601, 7, 4), (700, 1, 4),
+]  # fmt: skip
+
+
+def test_why_greens_ended() -> None:
+    """Gap, maximum, force-off, other, all; the last green goes on."""
+    of = numbers(*GREENS)
+    assert rows(of.ended) == [(2, 1, 0, 0, 1, 2), (4, 0, 1, 0, 0, 1)]
+
+
+def test_why_greens_ended_by_time() -> None:
+    """Minutes, as the run is short: tick 600 is the last of the first one."""
+    of = numbers(*GREENS)
+    assert rows(of.ended_by_time) == [(0, 2, 1, 0, 0, 1, 2), (1, 4, 0, 1, 0, 0, 1)]
+
+
+@pytest.mark.parametrize(
+    ("hours", "minutes"), [(0.1, 1), (0.4, 1), (1, 5), (2, 5), (6, 15), (24, 60)]
+)
+def test_periods(hours: float, minutes: int) -> None:
+    """There are 24 of them at most."""
+    assert period_of(int(36000 * hours)) == 600 * minutes
+
+
+def test_a_run_has_whole_minutes() -> None:
+    """It lasts to the end of the minute that has its last row."""
+    assert [whole_minutes(it) for it in (1, 600, 601, 35994)] == [600, 600, 1200, 36000]
+
+
+def test_splits() -> None:
+    """Services of 9, 12 and 30 s; the split of phase 2 was 40 s and is 35 s now."""
+    told = [(1, 134 + 1, 40), (1, 134 + 3, 0), (2, 134 + 1, 35)]
+    services = [
+        (begin + more, code, 2)
+        for begin, length in ((100, 90), (300, 120), (500, 300))
+        for more, code in ((0, 1), (length - 40, 7), (length - 10, 10), (length, 12))
+    ]
+    found = numbers(*told, *services).splits
+    assert rows(found) == [(2, 3, 17.0, 9.0, 12.0, 30.0, 30.0, 35.0)]
+
+
+def test_waits() -> None:
+    """Waits of 5 and 8 s for phase 4; calls of 400 and 900 wait at the end, 1000."""
+    found = numbers(
+        (10, 43, 4), (60, 1, 4), (60, 44, 4), (120, 43, 4), (200, 1, 4), (200, 44, 4),
+        (400, 43, 4), (900, 43, 6),
+    ).waits  # fmt: skip
+    assert rows(found) == [
+        (4, 2, 6.5, 5.0, 5.0, 8.0, 8.0, 1, 60.0),
+        (6, 0, None, None, None, None, None, 1, 10.0),
+    ]
+
+
+def test_walks() -> None:
+    """A wait of 34.5 s."""
+    found = numbers((70, 45, 4), (415, 21, 4)).walks
+    assert rows(found) == [(4, 1, 34.5, 34.5, 34.5, 34.5, 34.5, 0, None)]
+
+
+# A pattern of 20 s with local zero at 100, 300, 500 ..: phase 2 is green from 250 to
+# 350, and from 400 to 950, which is over three zeros. Cars come at 255, 360, 400, 490.
+PATTERN = [
+    (1, 131, 1), (1, 132, 20), (1, 133, 10),
+    (250, 1, 2), (350, 7, 2), (350, 8, 2), (380, 9, 2), (400, 1, 2), (950, 7, 2),
+    (255, 82, 2), (360, 82, 12), (399, 82, 2), (490, 82, 12), (495, 82, 5),
+]  # fmt: skip
+
+
+def test_arrivals() -> None:
+    """Two of four cars on green, which 650 of 1000 ticks are: a ratio of 0.77."""
+    (found,) = rows(numbers(*PATTERN).arrivals)
+    assert found[:7] == (2, 2, 1, 1, 4, 0.5, 0.65)
+    assert found[7] == pytest.approx(0.5 / 0.65)
+
+
+def test_arrivals_over_the_cycle() -> None:
+    """15.5, 6, 9.9 and 19 s behind local zero, in parts of a second: 16, 7, 10, 20."""
+    of = numbers(*PATTERN)
+    assert of.arriving["in_cycle_s"].to_list() == [15.5, 6.0, 9.9, 19.0]
+    assert rows(of.folded) == [
+        (2, 7, 0, 1, 0), (2, 10, 0, 0, 1), (2, 16, 1, 0, 0), (2, 20, 1, 0, 0),
+    ]  # fmt: skip
+    assert of.coordinated == [2]
+
+
+def test_greens_over_the_cycle() -> None:
+    """Each is cut where a cycle ends; what reaches out of the last whole one is not
+    shown, that is from 900 on."""
+    begin, low, end, high = greens_in_cycles(numbers(*PATTERN), 2)
+    assert [*zip(begin, low, end, high, strict=True)] == [
+        (250, 150, 300, 200), (300, 0, 350, 50),
+        (400, 100, 500, 200), (500, 0, 700, 200), (700, 0, 900, 200),
+    ]  # fmt: skip
+
+
+def test_no_cycle_of_a_pattern() -> None:
+    """Without one nothing is folded and no phase is coordinated."""
+    of = numbers(*GREENS)
+    assert not len(of.folded) and of.coordinated == []
+
+
+def test_preempts() -> None:
+    """A request at 100, service 3 s later, the track green at 160, dwell at 300, exit
+    at 420. The second is a switch: its request is not known."""
+    found = numbers(
+        (100, 102, 1), (130, 105, 1), (130, 106, 1), (160, 1, 4), (290, 7, 4),
+        (300, 107, 1), (420, 104, 1), (420, 111, 1),
+        (600, 105, 1), (600, 106, 1), (650, 1, 4), (660, 107, 1),
+    ).preempts  # fmt: skip
+    spans = ["wait_s", "delay_s", "to_dwell_s", "dwell_s", "service_s"]
+    assert rows(found[spans]) == [
+        (0, 6.0, 3.0, 20.0, 12.0, 29.0),
+        (1, None, None, None, None, None),
+    ]
+
+
+def test_at_a_glance() -> None:
+    """All phases together: three greens; calls of 3 and 5 s, of which one waits on;
+    a walk after 2 s; one of four cars on green; whole cycles of 30 and 40 s."""
+    of = numbers(
+        *GREENS, (100, 31, 1), (400, 31, 1), (800, 31, 1), (850, 84, 9),
+        (570, 43, 4), (650, 43, 2), (650, 43, 4), (40, 45, 2), (60, 21, 2),
+        (90, 82, 2), (400, 82, 4), (610, 82, 12), (620, 82, 4), (630, 82, 5),
+    )  # fmt: skip
+    assert {name: told for name, told in glance([of]).rows} == {
+        "greens": "3",
+        "of them by gap": "33.3 %",
+        "of them by maximum": "33.3 %",
+        "of them by force-off": "0.0 %",
+        "of them by other": "33.3 %",
+        "whole cycles": "2",
+        "cycle, mean (s)": "35.0",
+        "call to green, mean (s)": "4.0",
+        "call to green, longest (s)": "5.0",
+        "calls that wait at the end": "1",
+        "button to walk, mean (s)": "2.0",
+        "button to walk, longest (s)": "2.0",
+        "cars on green": "25.0 %",
+        "services of preempts": "0",
+        "detector alarms": "1",
+    }
+
+
+def test_counts_differ() -> None:
+    """From 9 to 16: 7 for the root of 25."""
+    assert of_counts(9, 16) == 1.4
+    assert of_counts(0, 0) == 0
+
+
+def test_shares_differ() -> None:
+    """10 of 50 and 30 of 50: both together 40 of 100, so 0.4 for a root of 0.0096."""
+    assert of_shares(10, 50, 30, 50) == pytest.approx(0.4 / sqrt(0.0096))
+    assert of_shares(5, 5, 7, 7) == 0 == of_shares(0, 0, 1, 7)
+
+
+def test_means_differ() -> None:
+    """Means 2 and 6; variances 1 of three values and 8 of two: 4 for the root of a
+    third and 4. What never varies varies by a tick; of one value nothing is known."""
+    a, b = pd.Series([1.0, 2.0, 3.0]), pd.Series([4.0, 8.0])
+    assert of_means(a, b) == pytest.approx(4 / sqrt(1 / 3 + 4))
+    same = pd.Series([5.0, 5.0])
+    assert of_means(same, same + 1) == pytest.approx(1 / 0.1)
+    assert of_means(a, pd.Series([4.0])) == 0
+
+
+def test_what_differs() -> None:
+    """The most telling first: phase 2 has 4 greens and then 1, of which all and then
+    none end by a gap. Of one split nothing is known of how splits spread."""
+    greens = [
+        (begin + more, code, 2)
+        for begin in (0, 200, 400, 600)
+        for more, code in ((1, 1), (91, 4), (91, 7), (101, 12))
+    ]
+    root = round(sqrt(5), 9)
+    a = numbers(*greens, of=2)
+    b = numbers((1, 1, 2), (81, 5, 2), (81, 7, 2), (91, 12, 2), place=1, of=2)
+    found = [replace(it, errors=round(it.errors, 9)) for it in differences(a, b)]
+    assert found == [
+        Difference("greens that end by gap", "phase 2", "%", 1, 0, -root),
+        Difference("greens that end by maximum", "phase 2", "%", 0, 1, root),
+        Difference("greens", "phase 2", "", 4, 1, round(-3 / sqrt(5), 9)),
+    ]
+    assert differences(a, a) == []

@@ -1,0 +1,57 @@
+"""`python3 -m tsb report`: what it does, and its faults."""
+
+import os
+import sys
+import uuid
+import warnings
+from collections.abc import Sequence
+from pathlib import Path
+
+from tsb.errors import Error
+from tsb.report.numbers import Numbers
+from tsb.report.page import page_of
+from tsb.report.runs import Run
+from tsb.report.sources import runs_of
+from tsb.report.words import PROGRAM, read_words
+
+
+def main(words: Sequence[str]) -> int:
+    """Makes a report; the status to end with: 1 for what can't be read, is refused or
+    can't be written, 2 for bad words (from argparse)."""
+    given = read_words(words)
+    try:
+        with warnings.catch_warnings(record=True) as told:
+            warnings.simplefilter("always", UserWarning)
+            runs = runs_of(given)
+        notes = [str(it.message) for it in told if it.category is UserWarning]
+        text = _text(runs, given.title, notes)
+        _write(given.out, text.encode(errors="replace"))
+    except OSError as fault:
+        where = fault.filename or given.out
+        print(f"{PROGRAM}: {where}: {fault.strerror or fault}", file=sys.stderr)
+        return 1
+    except Error as fault:
+        print(f"{PROGRAM}: {fault}", file=sys.stderr)
+        return 1
+    for note in notes:
+        print(f"{PROGRAM}: {note}", file=sys.stderr)
+    return 0
+
+
+def _text(runs: Sequence[Run], title: str | None, notes: Sequence[str]) -> str:
+    numbers = [Numbers(run, place, len(runs)) for place, run in enumerate(runs)]
+    return page_of(numbers, title, notes)
+
+
+def _write(path: Path, text: bytes) -> None:
+    """Writes a file as a whole: what was there stays until all is written."""
+    if path.exists() and not path.is_file():
+        path.write_bytes(text)
+        return
+    part = path.with_name(f".{uuid.uuid4().hex}.part")
+    try:
+        part.write_bytes(text)
+        os.replace(part, path)
+    except OSError as fault:
+        part.unlink(missing_ok=True)
+        raise OSError(fault.errno, fault.strerror, str(path)) from None

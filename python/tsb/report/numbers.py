@@ -1,0 +1,221 @@
+"""The numbers of a run: tables of what its events say, each as docs/FIELD.md defines
+it under "What the report's numbers mean"."""
+
+from dataclasses import dataclass
+from functools import cached_property
+
+import numpy as np
+import pandas as pd
+
+from tsb import measures
+from tsb.plan import Plan
+from tsb.report.runs import Run
+from tsb.told import CAUSES, OTHER
+
+ENDS = [*CAUSES.values(), OTHER]
+SHOWN = ["green", "yellow", "red"]
+# Lengths of the periods of a day, in ticks: the first of which there are few is taken.
+PERIODS = [600, 3000, 9000, 36000, 144000, 864000]
+MOST_PERIODS = 24
+FOLDS = 20  # parts of a cycle
+PHASES = range(1, 17)
+FIRST_SPLIT, LAST_SPLIT = 134, 149  # codes of the splits of phases 1 to 16
+
+
+def period_of(ticks: int) -> int:
+    """How many ticks a period of the day has, for a run of so many ticks."""
+    return next((it for it in PERIODS if ticks <= MOST_PERIODS * it), PERIODS[-1])
+
+
+@dataclass(frozen=True)
+class Numbers:
+    """The numbers of a run, which stands at a place (0 or 1) of so many runs. Tables
+    have a row for a phase and are in the order of phases, where no more is said;
+    seconds end with `_s`, shares are 0 to 1."""
+
+    run: Run
+    place: int = 0
+    of: int = 1
+
+    @property
+    def letter(self) -> str:
+        """A or B, or nothing where there is one run."""
+        return "AB"[self.place] if self.of > 1 else ""
+
+    @property
+    def label(self) -> str:
+        """The name of the run, with its letter."""
+        return f"{self.letter}: {self.run.name}" if self.letter else self.run.name
+
+    @property
+    def key(self) -> str:
+        """Its name in legends, which leave out what begins with an underline."""
+        return self.label.lstrip("_") or "run"
+
+    @cached_property
+    def services(self) -> pd.DataFrame:
+        """Each service of a phase (`measures.services`)."""
+        return measures.services(self.run.events)
+
+    @cached_property
+    def greens(self) -> pd.DataFrame:
+        """Each green that ended (`measures.greens`)."""
+        return measures.greens_of(self.services).dropna(subset=["end"])
+
+    @cached_property
+    def ended(self) -> pd.DataFrame:
+        """How many greens ended by each cause: `gap`, `maximum`, `force-off`,
+        `other`, and all of them, `greens`."""
+        found = pd.crosstab(self.greens["phase"], self.greens["cause"])
+        counts = found.reindex(columns=ENDS, fill_value=0)
+        counts.columns.name = None
+        return counts.assign(greens=counts.sum(axis=1))
+
+    @cached_property
+    def ended_by_time(self) -> pd.DataFrame:
+        """The same for each `period` (its number from 0 on) and `phase` in which a
+        green ended: the period that the end is in."""
+        period = (self.greens["end"] - 1) // period_of(self.run.ticks)
+        by = [period.rename("period"), self.greens["phase"]]
+        found = pd.crosstab(by, self.greens["cause"])
+        counts = found.reindex(columns=ENDS, fill_value=0)
+        counts.columns.name = None
+        return counts.assign(greens=counts.sum(axis=1))
+
+    @cached_property
+    def each_split(self) -> pd.DataFrame:
+        """Each service (`measures.splits`)."""
+        return measures.splits_of(self.services)
+
+    @cached_property
+    def splits(self) -> pd.DataFrame:
+        """How long services took (`measures.spread` of `split_s`), and `planned_s`:
+        the split that the events told last (codes 134 to 149), NA for none."""
+        each = self.each_split
+        found = measures.spread(each["split_s"], each["phase"])
+        return found.assign(planned_s=self._planned().reindex(found.index))
+
+    def _planned(self) -> "pd.Series[int]":
+        """The split of each phase in seconds, as told last; none of 0."""
+        codes = self.run.events["code"]
+        told = self.run.events[(codes >= FIRST_SPLIT) & (codes <= LAST_SPLIT)]
+        last = told.groupby("code")["parameter"].last()
+        last.index = last.index - FIRST_SPLIT + 1
+        return last.where(last > 0).astype("Float64")
+
+    @cached_property
+    def patterns(self) -> pd.DataFrame:
+        """The stretches of patterns (`measures.patterns`)."""
+        return measures.patterns(self.run.events)
+
+    @cached_property
+    def cycles(self) -> pd.DataFrame:
+        """The whole cycles (`measures.cycles`), a row for each."""
+        return measures.cycles(self.run.events)
+
+    @cached_property
+    def a_cycle(self) -> pd.DataFrame:
+        """Greens a cycle (`measures.greens_a_cycle`)."""
+        return measures.greens_a_cycle(self.run.events)
+
+    @cached_property
+    def each_wait(self) -> pd.DataFrame:
+        """Each wait from call to green (`measures.waits`)."""
+        return measures.waits(self.run.events)
+
+    @cached_property
+    def each_walk(self) -> pd.DataFrame:
+        """Each wait from button to walk (`measures.walk_waits`)."""
+        return measures.walk_waits(self.run.events)
+
+    @cached_property
+    def waits(self) -> pd.DataFrame:
+        """How long calls waited for the green (`measures.spread` of `wait_s`), and
+        how many still wait at the end (`still`), the longest of them for `still_s`."""
+        return self._waited(self.each_wait)
+
+    @cached_property
+    def walks(self) -> pd.DataFrame:
+        """How long pedestrian calls waited for the walk, likewise."""
+        return self._waited(self.each_walk)
+
+    @cached_property
+    def arriving(self) -> pd.DataFrame:
+        """Each car that came (`measures.arriving`), with its place in the cycle:
+        `in_cycle_s`, NA in free operation."""
+        found = measures.arriving(self.run.events, self.run.phases)
+        place = measures.in_cycle(self.run.events, found["tick"])
+        return found.assign(in_cycle_s=place)
+
+    @cached_property
+    def arrivals(self) -> pd.DataFrame:
+        """Cars while green, yellow and red were shown, and the share on green; of the
+        phases to which one came. `time_green`: the share of the run that was green,
+        and `ratio`: the first share for each of the second."""
+        found = measures.counted(self.arriving, self.run.phases)
+        came = found[found["arrivals"] > 0]
+        length = (self.greens["end"] - self.greens["begin"]).groupby(
+            self.greens["phase"]
+        )
+        time = (length.sum() / max(self.run.ticks, 1)).reindex(came.index)
+        time = time.astype("Float64")
+        return came.assign(time_green=time, ratio=came["green"] / time.where(time > 0))
+
+    @cached_property
+    def folded(self) -> pd.DataFrame:
+        """The cars of cycles of patterns by phase and by the part of the cycle, 1 to
+        20, in which they came: `part`, `green`, `yellow`, `red`."""
+        came = self.arriving.dropna(subset=["in_cycle_s"])
+        lengths = self._cycle_lengths(came["tick"])
+        part = (came["in_cycle_s"].astype(float) * FOLDS // lengths).astype(int) + 1
+        by = [came["phase"], part.rename("part")]
+        found = pd.crosstab(by, came["shows"])
+        return found.reindex(columns=SHOWN, fill_value=0)
+
+    def _cycle_lengths(self, ticks: "pd.Series[int]") -> "pd.Series[float]":
+        """The seconds of the cycle that runs in each tick, NaN in free operation."""
+        found = pd.Series(np.nan, ticks.index)
+        for it in self.patterns.dropna().itertuples(index=False):
+            found[(ticks >= it.begin) & (ticks < it.end)] = float(it.cycle_s)
+        return found
+
+    @cached_property
+    def coordinated(self) -> list[int]:
+        """The phases that the plan coordinates in the patterns that ran; where it
+        names none, all to which a car came in a cycle."""
+        plan, found = self.run.plan or Plan(), set[int]()
+        for pattern in self.patterns["pattern"].dropna().unique():
+            first = 16 * (plan["patternSplitNumber"][int(pattern)] - 1)
+            found |= {it - first for it in plan["splitCoordPhase"]} & set(PHASES)
+        return sorted(found or self.folded.index.get_level_values("phase").unique())
+
+    @cached_property
+    def preempts(self) -> pd.DataFrame:
+        """Each service of a preempt (`measures.preempts`), with the seconds from
+        request to service (`delay_s`), to the green of its phases (`wait_s`) and to
+        dwell (`to_dwell_s`), and how long dwell (`dwell_s`) and all up to the exit
+        (`service_s`) took. Without a plan, it is not known which phases those are."""
+        found = measures.preempts(self.run.events, self.run.plan or Plan())
+        spans = {
+            "delay_s": ("service", "request"),
+            "to_dwell_s": ("dwell", "request"),
+            "dwell_s": ("exit", "dwell"),
+            "service_s": ("exit", "service"),
+        }
+        for name, (later, earlier) in spans.items():
+            found[name] = (found[later] - found[earlier]).astype("Float64") / 10
+        return found
+
+    @cached_property
+    def alarms(self) -> pd.DataFrame:
+        """Each alarm of a detector (`measures.alarms`)."""
+        return measures.alarms(self.run.events)
+
+    def _waited(self, each: pd.DataFrame) -> pd.DataFrame:
+        """How waits spread, how many go on at the end, and how long the longest of
+        these has lasted by the last tick."""
+        found = measures.spread(each["wait_s"], each["phase"])
+        on = each[each["served"].isna()].groupby("phase")["call"]
+        since = (self.run.ticks - on.min()).astype("Float64") / 10
+        still = on.count().reindex(found.index, fill_value=0).astype("Int64")
+        return found.assign(still=still, still_s=since.reindex(found.index))

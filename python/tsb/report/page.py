@@ -1,0 +1,109 @@
+"""The page of a report: what its runs are, how they differ, and its sections."""
+
+from collections.abc import Callable, Sequence
+
+import jinja2
+import pandas as pd
+
+from tsb.report.cells import NONE, Both, Cell, Form, Table, count, seconds, share
+from tsb.report.differences import Difference, differences
+from tsb.report.numbers import ENDS, Numbers
+from tsb.report.sections import SECTIONS
+
+FIRST = 15  # differences that are shown at once
+
+
+def page_of(both: Both, title: str | None, notes: Sequence[str]) -> str:
+    """The page of one run or two, as a text of HTML that needs nothing else."""
+    named = " and ".join(it.run.name for it in both)
+    loader = jinja2.PackageLoader("tsb.report", "")
+    pages = jinja2.Environment(
+        loader=loader, autoescape=True, trim_blocks=True, lstrip_blocks=True
+    )
+    found: str = pages.get_template("page.html.j2").render(
+        title=title or f"Signal report: {named}",
+        glance=glance(both),
+        unlike=unlike(*both) if len(both) > 1 else None,
+        sections=[make(both) for make in SECTIONS],
+        facts=[_facts(it) for it in both],
+        notes=notes,
+    )
+    return found
+
+
+def _facts(numbers: Numbers) -> list[tuple[str, str]]:
+    """What a run is."""
+    run = numbers.run
+    begin, end = run.time(1), run.time(run.ticks + 1)
+    stretches = [
+        "free operation" if it.pattern is pd.NA
+        else f"pattern {it.pattern} (cycle {it.cycle_s} s, offset {it.offset_s} s)"
+        for it in numbers.patterns.itertuples(index=False)
+    ]  # fmt: skip
+    return [
+        ("run", numbers.label),
+        ("what", "; ".join(run.facts)),
+        ("from", f"{begin:%Y-%m-%d %H:%M:%S.%f}"[:-5]),
+        ("to", f"{end:%Y-%m-%d %H:%M:%S.%f}"[:-5]),
+        ("events", f"{len(run.events):,}"),
+        ("operation", ", ".join(dict.fromkeys(stretches)) or NONE),
+    ]
+
+
+def glance(both: Both) -> Table:
+    """The whole of each run in a few numbers."""
+    rows: list[tuple[str, Callable[[Numbers], Cell]]] = [
+        ("greens", lambda it: count(it.ended["greens"].sum())),
+        *((f"of them by {cause}", _ended_by(cause)) for cause in ENDS),
+        ("whole cycles", lambda it: count(len(it.cycles))),
+        ("cycle, mean (s)", lambda it: seconds(it.cycles["cycle_s"].mean())),
+        ("call to green, mean (s)", lambda it: _mean(it.each_wait)),
+        ("call to green, longest (s)", lambda it: _longest(it.each_wait)),
+        ("calls that wait at the end", lambda it: count(it.waits["still"].sum())),
+        ("button to walk, mean (s)", lambda it: _mean(it.each_walk)),
+        ("button to walk, longest (s)", lambda it: _longest(it.each_walk)),
+        ("cars on green", _on_green),
+        ("services of preempts", lambda it: count(len(it.preempts))),
+        ("detector alarms", lambda it: count(len(it.alarms))),
+    ]  # fmt: skip
+    head = ["", *(it.label for it in both)]
+    return Table("", head, [[name, *map(of, both)] for name, of in rows])
+
+
+def _mean(waits: pd.DataFrame) -> Cell:
+    return seconds(waits["wait_s"].mean())
+
+
+def _longest(waits: pd.DataFrame) -> Cell:
+    return seconds(waits["wait_s"].max())
+
+
+def _ended_by(cause: str) -> Callable[[Numbers], Cell]:
+    def told(numbers: Numbers) -> Cell:
+        all_of = numbers.ended["greens"].sum()
+        return share(numbers.ended[cause].sum() / all_of if all_of else pd.NA)
+
+    return told
+
+
+def _on_green(numbers: Numbers) -> Cell:
+    came = numbers.arrivals["arrivals"].sum()
+    return share(numbers.arrivals["on_green"].sum() / came if came else pd.NA)
+
+
+def unlike(a: Numbers, b: Numbers) -> tuple[Table, Table]:
+    """What differs between two runs: what tells most, and the rest."""
+    head = ["what", "of", a.label, b.label, "difference", "standard errors"]
+    rows = [_unlike(it) for it in differences(a, b)]
+    return Table("", head, rows[:FIRST]), Table("", head, rows[FIRST:])
+
+
+def _unlike(it: Difference) -> Sequence[Cell]:
+    forms: dict[str, tuple[Form, str]] = {
+        "s": (lambda value: f"{value:.1f} s", f"{it.b - it.a:+.1f} s"),
+        "%": (share, f"{100 * (it.b - it.a):+.1f} points"),
+        "": (count, f"{it.b - it.a:+.0f}"),
+    }
+    form, change = forms[it.unit]
+    minus = change.replace("-", "−")
+    return [it.what, it.of, form(it.a), form(it.b), minus, f"{abs(it.errors):.1f}"]

@@ -1,0 +1,130 @@
+"""The runs of a report: events of a bench, of a street, or of a file."""
+
+from collections.abc import Mapping, Sequence
+from dataclasses import dataclass, field
+from pathlib import Path
+
+import numpy as np
+import pandas as pd
+
+from tsb.errors import Error, PlanFault, ProgramDied
+from tsb.frames import events_of_export
+from tsb.plan import Plan
+from tsb.rows import Log
+from tsb.tasks import recorded
+
+MINUTE = 600  # ticks
+# Codes of what detectors, buttons and preempt inputs do.
+INPUTS = (81, 82, 89, 90, 102, 104)
+
+
+@dataclass(frozen=True)
+class Run:
+    """A run: its name, its events (`tick`, `code`, `parameter`) up to its last tick,
+    the time at which tick 1 begins, the plan that says which detector calls which
+    phase (or None), and how it came about, a line for each fact."""
+
+    name: str
+    events: pd.DataFrame
+    start: np.datetime64
+    ticks: int
+    plan: Plan | None
+    facts: Sequence[str] = field(default=())
+
+    @property
+    def phases(self) -> Mapping[int, int]:
+        """The phase of each vehicle detector that calls one."""
+        return {} if self.plan is None else dict(self.plan["vehicleDetectorCallPhase"])
+
+    def time(self, tick: int) -> pd.Timestamp:
+        """The moment at which a tick begins."""
+        return pd.Timestamp(self.start) + pd.Timedelta(milliseconds=100 * (tick - 1))
+
+
+def moment(text: str) -> np.datetime64:
+    """The moment of a text as `2026-11-22 07:00:00`."""
+    try:
+        found = np.datetime64(text, "ns")
+    except ValueError:
+        raise Error(f"--from: {text!r} is no time as 2026-11-22 07:00:00") from None
+    if np.isnat(found):
+        raise Error(f"--from: {text!r} is no time as 2026-11-22 07:00:00")
+    return found
+
+
+def whole_minutes(tick: int) -> int:
+    """The ticks up to the end of the minute that a tick is in."""
+    return -(-tick // MINUTE) * MINUTE
+
+
+def of_plan(
+    name: str,
+    path: Path,
+    log: Log,
+    start: str,
+    commands: str,
+    ticks: int | None,
+    facts: Sequence[str],
+) -> Run:
+    """The run of a plan on a log: the bench is asked (`tsb_field record`). `ticks` is
+    how many the commands let pass; without it, the last event says it."""
+    try:
+        events = recorded(path, log, commands)
+    except ProgramDied as died:
+        said = died.stderr.strip() or str(died)
+        raise Error(f"{path}: {said.splitlines()[0]}") from None
+    except PlanFault as fault:
+        raise Error(f"{path}: {fault}") from None
+    last = int(events["tick"].max()) if len(events) else 0
+    return Run(
+        name,
+        events,
+        moment(start),
+        last if ticks is None else ticks,
+        Plan.read(path).wide(),
+        [f"plan {path.name}, on the bench from power-up", *facts],
+    )
+
+
+def of_rows(
+    path: Path,
+    export: pd.DataFrame,
+    start: str | None,
+    ticks: int | None,
+    plan: Plan | None,
+    name: str | None = None,
+) -> Run:
+    """The run that rows of events tell (`tsb.frames.read_export`; there are some): of
+    a street, or of a record that was kept. Without a start they begin with their
+    first row."""
+    begin = export["time"].min() if start is None else moment(start)
+    events = events_of_export(export, str(begin))
+    if ticks is not None:
+        events = events[events["tick"] <= ticks].reset_index(drop=True)
+    if events.empty:
+        raise Error(f"{path}: no events from {start or begin} on")
+    last = int(events["tick"].max()) if ticks is None else ticks
+    return Run(
+        name or path.stem,
+        events,
+        np.datetime64(begin, "ns"),
+        last,
+        plan,
+        [f"events of {path.name}"],
+    )
+
+
+def with_inputs_of(street: Run, bench: Run) -> Run:
+    """The street's run, with the inputs that the bench was given: so both have the
+    same cars by the same numbers of detectors."""
+    of_street, of_bench = (it.events["code"].isin(INPUTS) for it in (street, bench))
+    parts = [street.events[~of_street], bench.events[of_bench]]
+    events = pd.concat(parts, ignore_index=True).sort_values("tick", kind="stable")
+    return Run(
+        street.name,
+        events.reset_index(drop=True),
+        street.start,
+        street.ticks,
+        bench.plan,
+        [*street.facts, "inputs as the bench has them"],
+    )

@@ -1,0 +1,309 @@
+"""The sections of a page: each with its charts, and the tables behind them."""
+
+from collections.abc import Callable, Iterable, Sequence
+from typing import Any
+
+import pandas as pd
+from markupsafe import Markup
+
+from tsb.measures import spread
+from tsb.report import charts
+from tsb.report.cells import (
+    NONE,
+    Both,
+    Chart,
+    Columns,
+    Section,
+    Table,
+    clock,
+    count,
+    ratio,
+    seconds,
+    share,
+    table_of,
+)
+from tsb.report.numbers import ENDS, FOLDS, SHOWN, Numbers, period_of
+
+
+def _section(
+    name: str, title: str, text: str, is_there: bool, none: str,
+    made: Callable[[], Iterable[Chart]],
+) -> Section:  # fmt: skip
+    """A section with its charts, or with what it says where there is nothing."""
+    if not is_there:
+        return Section(name, title, none)
+    return Section(name, title, text, list(made()))
+
+
+def _chart(caption: str, svg: str, *tables: Table) -> Chart:
+    return Chart(caption, Markup(svg), tables)
+
+
+ENDED = {
+    **{it: (it, count) for it in ENDS},
+    "greens": ("greens", count),
+}
+SPREAD = {
+    "count": ("count", count),
+    "mean": ("mean", seconds),
+    "p15": ("15 %", seconds),
+    "median": ("median", seconds),
+    "p85": ("85 %", seconds),
+    "longest": ("longest", seconds),
+}
+
+
+def terminations(both: Both) -> Section:
+    """Why greens ended."""
+
+    def made() -> Iterable[Chart]:
+        yield _chart(
+            "Each green's end: a mark by its time of day, its phase and its cause",
+            charts.terminations(both),
+            *(_by_time(it) for it in both),
+        )
+        yield _chart(
+            "What share of the greens ended by each cause",
+            charts.causes(both),
+            table_of("Greens that ended", both, lambda it: it.ended, ENDED),
+        )
+
+    return _section(
+        "terminations", "Why greens ended",
+        "A green ends by its gap, by its maximum or by a force-off; by none of them"
+        " (other) where a preempt or the conflict monitor ends it. A phase that often"
+        " ends by its maximum has too little green, or others have too much.",
+        any(len(it.greens) for it in both), "No green ended.", made,
+    )  # fmt: skip
+
+
+def _by_time(numbers: Numbers) -> Table:
+    """Greens that ended, by period of the day and phase."""
+    length = period_of(numbers.run.ticks)
+    table = numbers.ended_by_time.reset_index()
+    rows = [
+        [clock(numbers, 1 + it["period"] * length)[:-2], str(it["phase"])]
+        + [count(it[name]) for name in ENDED]
+        for it in table.to_dict("records")
+    ]
+    caption = f"{numbers.label}: greens that ended, each {length // 600} minutes"
+    return Table(caption, ["from", "phase", *ENDED], rows)
+
+
+def splits(both: Both) -> Section:
+    """How long phases were served."""
+
+    def made() -> Iterable[Chart]:
+        columns = {**SPREAD, "planned_s": ("split of the pattern", seconds)}
+        yield _chart(
+            "Bar: 15 to 85 per cent of the splits; mark: median; line: the longest",
+            charts.splits(both),
+            table_of("Splits, in seconds", both, lambda it: it.splits, columns),
+        )
+
+    return _section(
+        "splits", "Splits",
+        "The split of a service is its green, yellow and red clearance together.",
+        any(it.splits["count"].sum() for it in both), "No service ended.", made,
+    )  # fmt: skip
+
+
+def cycles(both: Both) -> Section:
+    """Cycles, and greens in them."""
+
+    def made() -> Iterable[Chart]:
+        columns = {
+            "cycles": ("whole cycles", count),
+            "greens": ("greens", count),
+            "a_cycle": ("greens a cycle", ratio),
+            "without": ("cycles without", count),
+            "with_more": ("with more than one", count),
+        }
+        yield _chart(
+            "How often a phase was green in a cycle",
+            charts.greens_a_cycle(both),
+            table_of("Greens a cycle", both, lambda it: it.a_cycle, columns),
+            table_of(
+                "Lengths of cycles, in seconds", both, _lengths, SPREAD, "pattern"
+            ),
+        )
+
+    return _section(
+        "cycles", "Greens a cycle",
+        "Below 1 a phase was skipped in some cycles; above, it came again within one."
+        " Cycles of a pattern begin at local zero, those of free operation where the"
+        " barrier is crossed to the first side.",
+        any(len(it.cycles) for it in both), "No whole cycle.", made,
+    )  # fmt: skip
+
+
+def _lengths(numbers: Numbers) -> pd.DataFrame:
+    """How long the cycles of each pattern are."""
+    by = numbers.cycles["pattern"].astype(object)
+    named = by.where(by.notna(), "free").map(str)
+    return spread(numbers.cycles["cycle_s"], named)
+
+
+def waits(both: Both) -> Section:
+    """From call to green."""
+    return _waits(
+        both, "waits", "Waits from call to green",
+        "A call comes with the first car that counts, or with a recall from the end"
+        " of the green on. What still waits at the end is counted apart.",
+        lambda it: it.waits, charts.waits, "No vehicle call was served.",
+    )  # fmt: skip
+
+
+def walks(both: Both) -> Section:
+    """From button to walk."""
+    return _waits(
+        both, "walks", "Waits from button to walk",
+        "From the first press that counts, or from a recall at the end of the walk,"
+        " to the walk.",
+        lambda it: it.walks, charts.walks, "No pedestrian call was served.",
+    )  # fmt: skip
+
+
+def _waits(
+    both: Both, name: str, title: str, text: str,
+    of: Callable[[Numbers], pd.DataFrame], drawn: Callable[[Both], str], none: str,
+) -> Section:  # fmt: skip
+
+    def made() -> Iterable[Chart]:
+        columns = {
+            **SPREAD,
+            "still": ("still waiting", count),
+            "still_s": ("the longest for", seconds),
+        }
+        yield _chart(
+            "Bar: 15 to 85 per cent of the waits; mark: median; line: the longest",
+            drawn(both),
+            table_of("Waits, in seconds", both, of, columns),
+        )
+
+    there = any(of(it)["count"].sum() for it in both)
+    return _section(name, title, text, there, none, made)
+
+
+def arrivals(both: Both) -> Section:
+    """Arrivals on green, and over the cycle."""
+
+    def made() -> Iterable[Chart]:
+        columns = {
+            "arrivals": ("cars", count),
+            "on_green": ("on green", count),
+            "on_yellow": ("on yellow", count),
+            "on_red": ("on red", count),
+            "green": ("share on green", share),
+            "time_green": ("time green", share),
+            "ratio": ("ratio", ratio),
+        }
+        yield _chart(
+            "What share of the cars came while their phase was green",
+            charts.arrivals(both),
+            table_of("Cars", both, lambda it: it.arrivals, columns),
+        )
+        runs = [it for it in both if len(it.folded)]
+        if runs:
+            phases = sorted({phase for it in runs for phase in it.coordinated})
+            yield _chart(
+                "Each car of the coordinated phases by its time of day and its place"
+                " in the cycle, over the greens as pale bars; at the right the cars of"
+                " each part of the cycle",
+                charts.coordination(runs, phases),
+                *(_folded(it) for it in runs),
+            )
+
+    text = "A car comes where the input of its detector goes on."
+    if not any(len(it.folded) for it in both):
+        text += " No pattern ran, so there is no diagram over the cycle."
+    known = any(it.run.phases for it in both)
+    none = "No car came." if known else (
+        "Which phase a detector counts for only a plan says: give it with --plan-a."
+    )  # fmt: skip
+    there = any(len(it.arrivals) for it in both)
+    return _section("arrivals", "Arrivals and coordination", text, there, none, made)
+
+
+def _folded(numbers: Numbers) -> Table:
+    """The cars of each part of the cycle."""
+    rows = [
+        [str(it["phase"]), f"{it['part']} of {FOLDS}"] + [count(it[s]) for s in SHOWN]
+        for it in numbers.folded.reset_index().to_dict("records")
+    ]
+    caption = f"{numbers.label}: cars by the part of the cycle in which they came"
+    return Table(caption, ["phase", "part", *(f"on {it}" for it in SHOWN)], rows)
+
+
+def preempts(both: Both) -> Section:
+    """Services of preempts."""
+
+    def made() -> Iterable[Chart]:
+        known = any(it.preempts["request"].notna().any() for it in both)
+        yield _chart(
+            "From the request to the green of the preempt's phases (track, or dwell"
+            " where it has none), and to the begin of dwell"
+            if known
+            else "No request is known, and so no time from one",
+            charts.preempts(both) if known else "",
+            *(_services(it) for it in both if len(it.preempts)),
+        )
+
+    return _section(
+        "preempts", "Preempts",
+        "The request is the input of the preempt; of one that a switch turned on it"
+        " is not known. Numbers at marks are those of preempts.",
+        any(len(it.preempts) for it in both), "No preempt was in service.", made,
+    )  # fmt: skip
+
+
+def _services(numbers: Numbers) -> Table:
+    """Each service of a preempt."""
+    moments = ["request", "service", "track", "green", "dwell", "exit"]
+    spans = {
+        "delay_s": "request to service",
+        "wait_s": "request to green",
+        "to_dwell_s": "request to dwell",
+        "dwell_s": "dwell",
+        "service_s": "service to exit",
+    }
+    rows = [
+        [str(it["preempt"])]
+        + [clock(numbers, it[name]) for name in moments]
+        + [seconds(it[name]) for name in spans]
+        for it in numbers.preempts.to_dict("records")
+    ]
+    caption = f"{numbers.label}: services, with seconds from one moment to another"
+    return Table(caption, ["preempt", *moments, *spans.values()], rows)
+
+
+def alarms(both: Both) -> Section:
+    """Alarms of detectors."""
+
+    def made() -> Iterable[Chart]:
+        yield _chart(
+            "When a detector had an alarm",
+            charts.alarms(both),
+            *(_alarms(it) for it in both if len(it.alarms)),
+        )
+
+    return _section(
+        "alarms", "Detector alarms", "From code 84 (of a street 84 to 88) to 83.",
+        any(len(it.alarms) for it in both), "No detector had an alarm.", made,
+    )  # fmt: skip
+
+
+def _alarms(numbers: Numbers) -> Table:
+    """Each alarm."""
+    rows = [
+        [str(it["detector"]), clock(numbers, it["comes"]), clock(numbers, it["goes"])]
+        + [seconds(it["alarm_s"]), str(it["code"])]
+        for it in numbers.alarms.to_dict("records")
+    ]
+    caption = f"{numbers.label}: alarms"
+    return Table(caption, ["detector", "comes", "goes", "seconds", "code"], rows)
+
+
+SECTIONS: Sequence[Callable[[Both], Section]] = (
+    terminations, splits, cycles, waits, walks, arrivals, preempts, alarms,
+)  # fmt: skip

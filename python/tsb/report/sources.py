@@ -1,0 +1,117 @@
+"""From the words of a report to its runs."""
+
+import argparse
+from collections.abc import Iterator
+from concurrent.futures import ThreadPoolExecutor
+from pathlib import Path
+
+import pandas as pd
+
+from tsb.errors import Error
+from tsb.frames import log_of_export, read_export
+from tsb.plan import Plan
+from tsb.report.runs import Run, moment, of_plan, of_rows, whole_minutes, with_inputs_of
+from tsb.rows import Log
+from tsb.tasks import POWER_UP
+
+
+def runs_of(given: argparse.Namespace) -> list[Run]:
+    """The run, or the two, that the words ask for."""
+    if given.events_a is not None:
+        return list(_kept(given))
+    log, rows = _inputs(given)
+    commands, ticks = _session(given, log, rows)
+    start = given.begin or POWER_UP
+    facts = [f"inputs of {(given.log or given.export).name}"]
+
+    def run(plan: Path, pattern: int | None) -> Run:
+        name = f"{plan.stem}, pattern {pattern}" if pattern else plan.stem
+        selected = f"pattern {pattern}\n" if pattern else ""
+        return of_plan(name, plan, log, start, selected + commands, ticks, facts)
+
+    asked = [(given.plan_a, given.pattern_a), (given.plan_b, given.pattern_b)]
+    with ThreadPoolExecutor() as both:  # (two processes of the bench)
+        made = [both.submit(run, *it) for it in asked if it[0] is not None]
+        runs = [it.result() for it in made]
+    if given.street:
+        street = of_rows(given.export, rows, start, runs[0].ticks, None, "street")
+        runs.insert(0, with_inputs_of(street, runs[0]))
+    return runs
+
+
+def _kept(given: argparse.Namespace) -> Iterator[Run]:
+    """The runs of events that were kept."""
+    ticks = None if given.seconds is None else 10 * given.seconds
+    for path, plan in [(given.events_a, given.plan_a), (given.events_b, given.plan_b)]:
+        if path is not None:
+            known = None if plan is None else _plan(plan)
+            yield of_rows(path, _rows(path, given.device), given.begin, ticks, known)
+
+
+def _plan(path: Path) -> Plan:
+    try:
+        return Plan.read(path).wide()
+    except Error as fault:
+        raise Error(f"{path}: {fault}") from None
+
+
+def _rows(path: Path, device: str | None) -> pd.DataFrame:
+    """The rows of an event log, of a device alone if one is named."""
+    try:
+        found = read_export(path)
+    except UnicodeDecodeError:
+        raise Error(f"{path}: it is no text in UTF-8") from None
+    except (Error, ValueError, OverflowError) as fault:
+        said = " ".join(str(fault).removeprefix(f"{path}: ").split())
+        raise Error(f"{path}: {said}") from None
+    if device is not None:
+        found = found[found["device"] == device].reset_index(drop=True)
+    if found.empty:
+        raise Error(f"{path}: no events")
+    if (devices := found["device"].nunique()) > 1:
+        raise Error(f"{path}: rows of {devices} devices: name one by --device")
+    return found
+
+
+def _inputs(given: argparse.Namespace) -> tuple[Log, pd.DataFrame]:
+    """The log that plans run on, and the rows of the export that it is of."""
+    if given.log is not None:
+        return _log(given.log), pd.DataFrame()
+    rows = _rows(given.export, given.device)
+    try:
+        log = log_of_export(
+            rows, given.begin, vehicles=dict(given.vehicle),
+            pedestrians=dict(given.pedestrian), preempts=dict(given.preempt),
+        )  # fmt: skip
+    except Error as fault:
+        raise Error(f"{given.export}: {fault}") from None
+    return log, rows
+
+
+def _log(path: Path) -> Log:
+    try:
+        return Log.read(path)
+    except Error as fault:
+        raise Error(f"{path}: {fault}") from None
+
+
+def _session(
+    given: argparse.Namespace, log: Log, rows: pd.DataFrame
+) -> tuple[str, int | None]:
+    """The commands of a session, and how many ticks it has, where that is known."""
+    if given.commands is not None:
+        return given.commands.read_text(encoding="utf-8", errors="replace"), None
+    ticks = 10 * given.seconds if given.seconds else _length(given, log, rows)
+    return f"step {ticks}\n", ticks
+
+
+def _length(given: argparse.Namespace, log: Log, rows: pd.DataFrame) -> int:
+    """The whole minutes up to the last row of the log or the export."""
+    last = log.ticks[-1] if log.ticks else 0
+    if given.export is not None:
+        since = rows["time"].max() - pd.Timestamp(moment(given.begin))
+        last = int(since // pd.Timedelta("100ms")) + 1
+    if last < 1:
+        source = given.log or given.export
+        raise Error(f"{source}: it has no last row: say how long by --seconds")
+    return whole_minutes(last)
