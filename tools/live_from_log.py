@@ -110,16 +110,27 @@ def has_answer(line: bytes) -> bool:
     return len(line) > LONGEST or bool(line.strip(b" ")) and not line.startswith(b"#")
 
 
+def is_quit(line: bytes) -> bool:
+    """Whether a line ends the session."""
+    return len(line) <= LONGEST and QUIT.fullmatch(line) is not None
+
+
+def ticks_of(line: bytes) -> int | None:
+    """How many ticks a line asks for, of a line that is a step."""
+    step = STEP.fullmatch(line) if len(line) <= LONGEST else None
+    return int(step[1]) if step and int(step[1]) <= LARGEST else None
+
+
 def live_of(rng: random.Random, log: bytes, commands: bytes, answers: bytes) -> tuple[bytes, bytes]:
     """The lines of a live session, and the answers to them, of a session that `tsb run` answered so."""
     live, given = Live(rng, Log(log)), Answers(answers)
     for line in lines_of(commands):
-        step = STEP.fullmatch(line) if len(line) <= LONGEST else None
-        if QUIT.fullmatch(line) and len(line) <= LONGEST:
+        many = ticks_of(line)
+        if is_quit(line):
             live.lines.append(line)
             break
-        if step and int(step[1]) <= LARGEST:
-            found = given.taken(int(step[1]))
+        if many is not None:
+            found = given.taken(many)
             ticks = [it for it in found if not it.startswith(b"refused ")]
             live.step(ticks)
             if len(found) > len(ticks):

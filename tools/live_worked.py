@@ -1,19 +1,18 @@
-"""What is asked of a live session alone, beside `tsb run`, `tsb check`, tsb_runs and cases that were worked by hand."""
+"""What is asked of a live session alone, beside `tsb run`, `tsb check` and cases that were worked by hand."""
 import json
 import pathlib
 import random
-import tempfile
 from typing import Any
 
-from live_from_log import ALL_OFF, Answers, Log, has_answer, lines_of
+from live_from_log import ALL_OFF
 from live_kit import a_log, a_row, commands_of, difference, ran, ran_on
 
 EXAMPLES = pathlib.Path("examples")
 PLANS = ["two", "first_plan", "tee", "one_way_pair", "main_and_oak", "railroad", "quad"]
 # What is done before some of the changes, each with one answer.
 BEFORE = ["begin 1", "fault P2 R", "fault none", "reset", "preempt 1 on"]
-# How often sessions are tried on each plan, and how many stored ones have their statuses compared.
-TIMES, SESSIONS = 6, 30
+# How often sessions are tried on each plan.
+TIMES = 6
 
 
 def text_of(lines: list[str]) -> bytes:
@@ -163,53 +162,6 @@ def edits(live: pathlib.Path) -> list[str]:
 
 
 # --- status ---
-
-def statuses_of(played: pathlib.Path, plan: bytes, log: bytes, commands: bytes) -> bytes:
-    """The statuses that tsb_runs tells after each tick and each other command."""
-    with tempfile.TemporaryDirectory() as folder:
-        for name, text in [("plan", plan), ("log", log), ("commands", commands)]:
-            pathlib.Path(folder, name).write_bytes(text)
-        return ran(["sh", "-c", 'cd "$1" && exec "$2"', "sh", folder, played.resolve()], b"statuses")[1]
-
-
-def with_statuses(log: bytes, commands: bytes, answers: bytes) -> tuple[bytes, list[bytes]]:
-    """The lines of a live session that asks for the status after each tick and each other command but bad ones, and its
-    answers, each of which comes before a status."""
-    rows, given = Log(log), Answers(answers)
-    lines: list[bytes] = []
-    found: list[bytes] = []
-    for line in lines_of(commands):
-        words = line.split()
-        if words[:1] == [b"step"] and len(words) == 2:
-            ticks = given.taken(int(words[1]))
-            found += ticks
-            for tick in ticks:
-                lines += [rows.at(int(tick[:7])), b"status"]
-        elif has_answer(line):
-            answer = given.taken(1)
-            # (of a bad command tsb_runs tells no status)
-            if answer != [b"bad command\n"]:
-                found += answer
-                lines += [line, b"status"]
-    return b"".join(line + b"\n" for line in lines), found
-
-
-def statuses(live: pathlib.Path, tsb: pathlib.Path, played: pathlib.Path) -> list[str]:
-    """`status` after each tick and each other command, beside what tsb_runs tells in the session of a log."""
-    wrong, told = [], 0
-    for number in range(SESSIONS):
-        rng = random.Random(f"status {number}")
-        name = PLANS[number % len(PLANS)]
-        plan, log, commands = plan_of(name), a_log(rng, 150), commands_of(rng, 16)
-        _, answers, _ = ran_on(tsb, ["run"], [plan, log], commands)
-        lines, found = with_statuses(log, commands, answers)
-        kept = statuses_of(played, plan, log, commands).splitlines(True)
-        told += len(kept)
-        wrong += [] if len(kept) == len(found) else [f"status {name}: {len(kept)} statuses to {len(found)} answers"]
-        wanted = b"".join(it for pair in zip(found, kept) for it in pair)
-        wrong += difference(f"status {name} {number}", ran_on(live, [], [plan], lines), wanted)
-    return wrong + ([] if told else ["there are no statuses"])
-
 
 def first_status(live: pathlib.Path) -> list[str]:
     """The tick that a status has."""

@@ -1,12 +1,12 @@
 #!/usr/bin/env python3
 """Runs the built program tsb_live, and compares each byte that it answers; run it at the top.
 
-    tools/run_live.py TSB_LIVE TSB TSB_RUNS TSB_FIELD
+    tools/run_live.py TSB_LIVE TSB TSB_FIELD
 
-The others are the programs of crates tsb, tsb_runs and tsb_field. Live sessions whose rows are those of a log are answered as
+The others are the programs of crates tsb and tsb_field. Live sessions whose rows are those of a log are answered as
 `tsb run` answers them; stored ones, in which tick numbers are taken again with other inputs, as an independent
-reference does. What is asked of a live session alone is compared with `tsb run`, `tsb check`, tsb_runs, `tsb_field
-record` and cases that were worked by hand. The last line of each group of checks tells how it came out.
+reference does. What is asked of a live session alone is compared with `tsb run`, `tsb check`, `tsb_field record` and
+cases that were worked by hand; tools/run_status.py has the statuses. The last line of each group of checks tells how it came out.
 """
 import pathlib
 import sys
@@ -19,13 +19,13 @@ import live_worked
 from live_kit import NAMED, Check
 
 
-def checks(live: pathlib.Path, tsb: pathlib.Path, played: pathlib.Path, field: pathlib.Path) -> dict[str, Check]:
+def checks(live: pathlib.Path, tsb: pathlib.Path, field: pathlib.Path) -> dict[str, Check]:
     """What is checked beside the sessions."""
     return {
         "changes": lambda: live_worked.changes(live, tsb),
         "plan": lambda: live_worked.plans(live, tsb),
         "edits": lambda: live_worked.edits(live),
-        "status": lambda: live_worked.statuses(live, tsb, played) + live_worked.first_status(live),
+        "status": lambda: live_worked.first_status(live),
         "events": lambda: live_told.events(live, field),
         "saved runs": lambda: live_told.saved(live, tsb),
         "commands that are repeated": lambda: live_told.echoed(live),
@@ -44,17 +44,17 @@ def checks(live: pathlib.Path, tsb: pathlib.Path, played: pathlib.Path, field: p
 
 def main(words: list[str]) -> int:
     """Checks all, and tells what came out."""
-    if len(words) != 4:
-        sys.exit("usage: tools/run_live.py TSB_LIVE TSB TSB_RUNS TSB_FIELD")
-    live, tsb, played, field = (pathlib.Path(word).resolve() for word in words)
-    for path in (live, tsb, played, field):
+    if len(words) != 3:
+        sys.exit("usage: tools/run_live.py TSB_LIVE TSB TSB_FIELD")
+    live, tsb, field = (pathlib.Path(word).resolve() for word in words)
+    for path in (live, tsb, field):
         if not path.is_file():
             sys.exit(f"there is no {path}")
     failed = 0
     for wrong, told in [live_logs.compare(live, tsb), live_stored.compare(live, [live_stored.STORED])]:
         print("\n".join(wrong) if wrong else told, flush=True)
         failed += len(wrong)
-    for name, check in checks(live, tsb, played, field).items():
+    for name, check in checks(live, tsb, field).items():
         wrong = check()
         print("\n".join(wrong[:NAMED]) if wrong else f"{name}: as it should be", flush=True)
         failed += len(wrong)

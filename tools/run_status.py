@@ -1,12 +1,12 @@
 #!/usr/bin/env python3
-"""Runs a program that tells the status throughout stored sessions, and compares with the sums of a reference.
+"""Has tsb_live tell the status throughout stored sessions, and compares with the sums of a reference.
 
-    tools/run_status.py PROGRAM [SUMS CASES..]
+    tools/run_status.py TSB_LIVE TSB [SUMS CASES..]
 
-PROGRAM is tsb_runs: given `statuses` it writes a line of status after each tick and after each other command of a session.
-Without SUMS they are crates/tsb_stored/data/statuses.sums, of the sessions that lie beside it; its head says of what
-there is a line, and tools/make_status.py writes such a file. Of a session whose plan or log has a fault nothing is
-written, and the status is 1.
+The rows of a session's log and its commands are the lines of a live session, and `status` is asked after each tick and
+each other command. All other answers are those of `tsb run`, by the program TSB. Without SUMS they are
+crates/tsb_stored/data/statuses.sums, of the sessions that lie beside it; its head says of what there is a status, and
+tools/make_status.py writes such a file. Of a session whose plan or log has a fault there is none.
 
 Fresh sessions at random come from the reference, for seeds that no file has. These are 10,000:
 
@@ -15,35 +15,70 @@ Fresh sessions at random come from the reference, for seeds that no file has. Th
         python3 tools/make_sessions.py --reference FOLDER --kind $kind --seeds 3000000 3002500 --out fresh/$kind.cases
     done
     python3 tools/make_status.py --reference FOLDER --processes 4 --out fresh/sums fresh/*.cases
-    python3 tools/run_status.py PROGRAM fresh/sums fresh/*.cases
+    python3 tools/run_status.py TSB_LIVE TSB fresh/sums fresh/*.cases
 """
+import functools
 import pathlib
 import subprocess
 import sys
-import tempfile
 
 import stored_cases
 import stored_sums
+from live_from_log import ALL_OFF, Answers, Log, end_of, has_answer, is_quit, lines_of, ticks_of
+from live_kit import first_difference, ran_on
 from make_status import sum_of
 
-USAGE = "tools/run_status.py PROGRAM [SUMS CASES..]"
+USAGE = "tools/run_status.py TSB_LIVE TSB [SUMS CASES..]"
 FILES = ["statuses.sums", "even.cases", "late.cases", "aimed.cases", "tripped.cases"]
+STATUS = b"status\n"
 
 
-def ran(program: pathlib.Path, case: stored_cases.Case) -> subprocess.CompletedProcess[bytes]:
-    """A run of the program in a folder with the files of a session."""
-    with tempfile.TemporaryDirectory() as folder:
-        for name in ("plan", "log", "commands"):
-            pathlib.Path(folder, name).write_bytes(getattr(case, name))
-        return subprocess.run([program], cwd=folder, input=b"statuses", capture_output=True, check=False,
-                              timeout=stored_sums.SECONDS)
+def asked(log: bytes, commands: bytes, answers: bytes) -> tuple[bytes, bytes]:
+    """The lines of a live session that asks for each status, and all else that it is answered, of a session that `tsb run`
+    answered so."""
+    rows, given = Log(log), Answers(answers)
+    lines: list[bytes] = []
+    found: list[bytes] = []
+    for line in lines_of(commands):
+        if is_quit(line):
+            break
+        many = ticks_of(line)
+        answered = given.taken(int(has_answer(line)) if many is None else many)
+        found += answered
+        if many is None:
+            # (a line that is no command has no status)
+            has_status = answered not in ([], [b"bad command\n"])
+            lines += [line, end_of(line), STATUS * has_status]
+            continue
+        for answer in answered:
+            was_refused = answer.startswith(b"refused ")
+            lines += [ALL_OFF + b"\n"] if was_refused else [rows.at(int(answer[:7])), b"\n", STATUS]
+    return b"".join(lines), b"".join(found)
 
 
-def difference(program: pathlib.Path, case: stored_cases.Case, wanted: str) -> str | None:
-    """What the lines of status have otherwise than they should."""
-    return stored_sums.difference(ran(program, case), case, wanted, sum_of)
+def difference(tsb: pathlib.Path, live: pathlib.Path, case: stored_cases.Case, wanted: str) -> str | None:
+    """What the statuses of a session, or its other answers, have otherwise than they should."""
+    run = stored_sums.ran([tsb, "run"], case)
+    if run.returncode:
+        return stored_sums.difference(run, case, wanted, sum_of)
+    lines, answers = asked(case.log, case.commands, run.stdout)
+    ended, text, _ = ran_on(live, [], [case.plan], lines)
+    told = text.splitlines(True)
+    others = b"".join(line for line in told if not line.startswith(b"{"))
+    if others != answers:
+        return f"{case.name}: beside its statuses {first_difference(others, answers)}"
+    statuses = b"".join(line for line in told if line.startswith(b"{"))
+    return stored_sums.difference(subprocess.CompletedProcess([], ended, statuses), case, wanted, sum_of)
+
+
+def main(words: list[str]) -> int:
+    """Compares, and tells what came out."""
+    if len(words) < 2 or not pathlib.Path(words[1]).is_file():
+        sys.exit(f"usage: {USAGE}")
+    compared = functools.partial(difference, pathlib.Path(words[1]).resolve())
+    well = "statuses: {count} sessions have the lines of the reference"
+    return stored_sums.compare([words[0], *words[2:]], USAGE, FILES, compared, well)
 
 
 if __name__ == "__main__":
-    WELL = "statuses: {count} sessions have the lines of the reference"
-    sys.exit(stored_sums.compare(sys.argv[1:], USAGE, FILES, difference, WELL))
+    sys.exit(main(sys.argv[1:]))
