@@ -1,9 +1,10 @@
 //! A run through all ticks that there are: `play` takes the first of them, and the bench is copied at the last one.
 
+use crate::played::{played, show, undo};
 use std::alloc::{AllocError, Global};
 use std::io;
-use tsb_bench::{Answer, Bench, Cmd, Input, play};
-use tsb_objects::Row;
+use tsb_bench::{Answer, Bench, Cmd, Input};
+use tsb_objects::{Refusal, Row};
 use tsb_text::{Checked, Plan, line};
 
 /// How many ticks are played at once: more than a million.
@@ -44,35 +45,46 @@ pub fn all_ticks(rt: &HostRuntime) -> io::Result<()> {
     let Ok(plan) = Checked::new(Plan::two()) else {
         return println!(rt; "plan: refused");
     };
-    let Ok((mut bench, answers)) = play(rt.alloc(), plan, &commands) else {
-        return println!(rt; "play: memory");
-    };
+    match played(rt.alloc(), plan, &commands) {
+        Ok((mut bench, answers)) => go_on(rt, &mut bench, &answers),
+        Err(_) => println!(rt; "play: memory"),
+    }
+}
+
+/// Writes how many ticks a bench took and what it shows, takes all others that there are, and winds a copy and the bench
+/// back.
+fn go_on(rt: &HostRuntime, bench: &mut Bench, answers: &[Answer]) -> io::Result<()> {
     println!(rt;
         "{} of {} taken: {}",
-        taken(&answers),
+        taken(answers),
         answers.len(),
-        line(&bench).as_str()
+        line(bench).as_str()
     )?;
-    for _ in bench.now()..Bench::TICKS {
-        if let Err(refusal) = bench.apply(tick()) {
-            return println!(rt; "tick: {refusal:?}");
-        }
+    if let Err(refusal) = pass(bench) {
+        return println!(rt; "tick: {refusal:?}");
     }
     match bench.clone_in(rt.alloc()) {
         Ok(mut copy) => wind_back(rt, "copy", &mut copy)?,
         Err(refusal) => println!(rt; "copy: {refusal:?}")?,
     }
-    wind_back(rt, "bench", &mut bench)
+    wind_back(rt, "bench", bench)
+}
+
+/// Takes all ticks that there are.
+fn pass(bench: &mut Bench) -> Result<(), Refusal> {
+    for _ in bench.now()..Bench::TICKS {
+        bench.apply(tick())?;
+    }
+    Ok(())
 }
 
 /// Writes what a bench shows and says of one tick more, and what it shows and undoes once it is wound back to power-up.
 fn wind_back(rt: &HostRuntime, name: &str, bench: &mut Bench) -> io::Result<()> {
-    println!(rt; "{name}: {}", line(bench).as_str())?;
+    show(rt, name, bench)?;
     let more = bench.apply(tick());
     println!(rt; "{name}: {more:?}")?;
     let sought = bench.seek(0);
     println!(rt; "{name}: {sought:?}")?;
-    println!(rt; "{name}: {}", line(bench).as_str())?;
-    let undone = bench.undo();
-    println!(rt; "{name}: {undone:?}")
+    show(rt, name, bench)?;
+    undo(rt, name, bench)
 }
