@@ -62,8 +62,9 @@ def refused(text, fault, known=b"", *words):
 
 def switching(rows):
     """Events of detector 1 that change it in each tick, and the rows of their log, as often."""
-    times = (field_rules.time_text(BEGIN + k * field_rules.TENTH) for k in range(rows))
-    events = b"".join(b"7,%s,%d,1\n" % (time, 81 + (k + 1) % 2) for k, time in enumerate(times))
+    # (a text for each second: to make one of each tenth takes a minute)
+    seconds = [field_rules.time_text(BEGIN + k * field_rules.SECOND)[:-1] for k in range(rows // 10 + 1)]
+    events = b"".join(b"7,%s%d,%d,1\n" % (seconds[k // 10], k % 10, 81 + (k + 1) % 2) for k in range(rows))
     marks = [row(0)[7:], row(0, [1])[7:]]
     return events, b"".join(b"%07d%s" % (k, marks[k % 2]) for k in range(1, rows + 1))
 
