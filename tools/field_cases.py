@@ -384,7 +384,8 @@ def known_runs():
         yield refused(told(*events) + b"x\n", b"events line %d: %b\n" % (len(events) + 1, ENDS % b"time"), known)
     other = told("07:00:01 82 2") + b"8,2026-11-22 07:00:05,82,2\n"
     yield refused(other + b"x\n", b"events line 3: " + ENDS % b"time" + b"\n", b"", "--device", "7")
-    # More rows than a buffer holds: the last ones go out only where the program passes them on as it tells the fault.
+    # More rows than a buffer holds. That the last ones go out before the fault is told shows in one stream alone, as
+    # `run_field.one_stream` has it: a buffer is written as well when it is dropped.
     events, log = switching(2000)
     yield refused(events + b"x\n", b"events line 2001: " + ENDS % b"time" + b"\n", log[:-len(row(2000))])
 

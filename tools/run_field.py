@@ -300,6 +300,31 @@ def closed_pipes(program):
         yield from difference(f"{words} with a closed pipe", it, (field_cases.WRITE, 3))
 
 
+def one_stream(program):
+    """What is otherwise where output and errors are one stream: what is known stands before the fault that is told."""
+    events, log = field_cases.switching(2000)
+    told = b"events line 2001: " + field_cases.ENDS % b"time" + b"\n"
+    short = field_cases.told("07:00:01 82 2", "07:00:03 81 2")
+    line = b"events line 3: " + field_cases.ENDS % b"time" + b"\n"
+    for what, text, wanted in [("2,000 rows", events, log[:-len(field_cases.row(2000))] + told),
+                               ("a row", short, field_cases.row(11, [2]) + line)]:
+        done = subprocess.run([program] + field_cases.LOG, input=text + b"x\n", stdout=subprocess.PIPE,
+                              stderr=subprocess.STDOUT, timeout=120)
+        yield from difference(f"{what} and a fault in one stream", (done.returncode, done.stdout), (1, wanted))
+
+
+# More than 16 bits count.
+CHANGES = 70_000
+
+
+def long_session(program):
+    """What is otherwise of the events and the picture of a session with a change in each of many ticks."""
+    text = b"".join(field_cases.display(tick, "-GRR"[tick % 2:]) for tick in range(1, CHANGES + 1))
+    wanted = field_rules.events(text, BEGIN, b"1001", b"")
+    yield from difference("events of a long session", answer(program, field_cases.EVENTS, text), (0, wanted, b""))
+    yield from drawn_otherwise(program, None, text, ("/dev/null", b""), 300)
+
+
 def greatest(program):
     """What is otherwise of the longest log and of one that is too long, and of 1 GiB of events and a byte more."""
     events, log = field_cases.switching(MOST_ROWS)
@@ -361,7 +386,8 @@ def main(words):
                  for it in run.differences(program, folder)]
         wrong += [*round_trips(program, folder), *logs_of_events(program), *logs_of_exports(program)]
         wrong += events_of_displays(program, folder)
-        wrong += [*diagrams(program, folder), *closed_pipes(program), *greatest(program)]
+        wrong += [*diagrams(program, folder), *closed_pipes(program), *one_stream(program)]
+        wrong += [*long_session(program), *greatest(program)]
     wrong += hour(program, bench)
     of_sessions, count = sessions(program)
     wrong += of_sessions
