@@ -171,6 +171,31 @@ fn answers_are_shown_before_each_read(rt: HostRuntime) {
     }
 }
 
+/// Whether the answer to these commands, of so many bytes, is shown once the session has ended.
+fn is_shown_at_the_end(alloc: Global, commands: &[u8], answer: usize) -> bool {
+    let screen = Screen {
+        given: Cell::new(0),
+        shown: Cell::new(0),
+    };
+    let mut reader = commands;
+    ends(alloc, &mut reader, &mut &screen) && screen.shown.get() == answer
+}
+
+/// The last answers are flushed as well: those to a line without a line feed, those before `quit`, and those of commands
+/// that end with a line feed.
+#[test]
+fn the_last_answers_are_shown(rt: HostRuntime) {
+    for (commands, answer) in [
+        (b"show".as_slice(), 54),
+        (b"show\nshow", 108),
+        (b"show\nquit\nshow\n", 54),
+        (b"show\nquit", 54),
+        (b"what\n", 12),
+    ] {
+        assert!(rt; is_shown_at_the_end(rt.alloc(), commands, answer));
+    }
+}
+
 /// Whether what follows `quit` is not answered.
 fn ends_at_quit(alloc: Global) -> bool {
     answers(
