@@ -1,5 +1,6 @@
 //! Plan texts.
-ghost use Rattle.std.specs.Prelude.{◌≡◌, ◌<◌, ◌≤◌, ◌↔◌, length, Ok, Err, IfOk};
+ghost use Rattle.std.specs.Prelude.{◌≡◌, ◌<◌, ◌≤◌, ◌↔◌, ◌⊎◌, length, Ok, Err, IfOk};
+ghost use Rattle.serde_json.specs.Errors.{IsMemory};
 ghost use Rattle.serde_json.specs.View.{view, members_view};
 ghost use Rattle.tsb_objects.specs.Checked.{checked_plan};
 ghost use Rattle.tsb_plan.specs.PlanOf.{plan_of};
@@ -10,7 +11,7 @@ ghost use Rattle.tsb_plan_text.specs.PlanText.{reading, data_plan, or_fault, wit
 use crate::error::PlanError;
 use crate::listed::Listed;
 use crate::numbers::version_of;
-use serde_json::{Map, Value};
+use serde_json::{Error, Map, Value};
 use std::alloc::Global;
 use tsb_objects::{Checked, Plan, Version};
 use tsb_plan::version_laws::versions_say_the_same;
@@ -62,11 +63,19 @@ fn parse(alloc: Global, text: &[u8]) -> Result<Value, PlanError>
 {
     match Value::from_slice(alloc, text) {
         Ok(value) => Ok(value),
-        Err(e) => Err(if e.is_memory() {
-            PlanError::Memory
-        } else {
-            PlanError::NotJson
-        }),
+        Err(error) => Err(json_fault(&error)),
+    }
+}
+
+/// Why a text gives no JSON: `Memory` exactly where it ran out.
+fn json_fault(error: &Error) -> PlanError
+    ensures memory { (result ≡ PlanError.Memory) ↔ IsMemory error.now }
+    ensures one { (result ≡ PlanError.Memory) ⊎ (result ≡ PlanError.NotJson) }
+{
+    if error.is_memory() {
+        PlanError::Memory
+    } else {
+        PlanError::NotJson
     }
 }
 
