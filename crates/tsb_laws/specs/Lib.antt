@@ -12,6 +12,8 @@ pub mod Coordination
 pub mod AllRed
 -- within what time a preempt reaches its dwell: stated, not proved
 pub mod PreemptDwells
+-- that what calls is remembered, and stands until it is served
+pub mod KeptCalls
 -- the runs of which the laws speak
 pub mod Runs
 -- timers among the cells, and what a tick makes of them

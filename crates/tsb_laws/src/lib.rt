@@ -6,11 +6,14 @@
 //! says what edits are after every run. `events` says what the events of a run tell. `versions` says that the bench
 //! of 16 phases shows for a plan of version 1 what the bench of 8 shows, and `one_text` that the text of a session is
 //! one, but for memory.
+//!
+//! `operation` is how calls, greens, overlaps and preempts go on, as an engineer expects it of each run.
 #![tactic(auto)]
 
 pub mod desk;
 pub mod events;
 pub mod one_text;
+pub mod operation;
 pub mod safety;
 pub mod versions;
 pub mod way_back;

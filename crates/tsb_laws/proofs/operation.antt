@@ -1,0 +1,3 @@
+pub mod TickLemmas
+pub mod KeptCallLemmas
+pub mod Examples

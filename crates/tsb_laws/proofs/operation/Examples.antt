@@ -1,0 +1,2 @@
+-- Computed mistakes that the laws of operation refuse, and runs that meet their premises.
+pub mod KeptCallRuns

@@ -1,0 +1,34 @@
+//! How the controller operates: calls, greens, overlaps, the dynamic maximum and preempts. Each law is the contract of a
+//! function that does nothing.
+ghost use Rattle.tsb_laws.specs.KeptCalls.{CallsAreRemembered, PedestrianCallsStand, VehicleCallsStand};
+
+/// `remembered`: What calls is remembered, or served at once. An output that calls an enabled, locking phase which was
+/// not Green is in vehicle memory after the tick, or the phase turns Green in it; a button that calls an enabled phase
+/// with a walk which was not in Walk is in pedestrian memory, or the walk begins.
+///
+/// Needs: an untripped run; at most 16 phases.
+/// Not said: anything of a detector whose output is held back by its delay or its alarm.
+/// Mistake: a phase that remembers an output only while it is Red, `remembers_in_red` (`remembers_2`,
+/// `would_forget_2`).
+/// Witness: `is_remembered_4`, `is_remembered_2` of KeptCallRuns.
+///
+/// `vehicles`: No vehicle call is lost. A remembered one stands over inputs of every kind, commits, preempts and trips
+/// among them, until its phase turns Green.
+///
+/// Needs: no reset of a trip, which takes all calls back.
+/// Not said: that its phase ever turns Green.
+/// Mistake: a memory that falls with the output, `falls_with_output` (`stands_4`, `would_lose_4`).
+/// Witness: `a_call` of KeptCallRuns.
+///
+/// `pedestrians`: No pedestrian call is lost. A remembered one stands over inputs of every kind until the walk of its
+/// phase begins, also where the phase starts without it, as under a preempt.
+///
+/// Needs: no reset of a trip; at most 16 phases.
+/// Not said: that the walk ever begins.
+/// Mistake: a call that falls as its phase starts, `falls_at_start` (`starts_2`, `stands_2`, `would_lose_2`).
+/// Witness: `a_call` of KeptCallRuns.
+pub fn calls_are_kept()
+    ensures remembered { CallsAreRemembered }
+    ensures vehicles { VehicleCallsStand }
+    ensures pedestrians { PedestrianCallsStand }
+{}
