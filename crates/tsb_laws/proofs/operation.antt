@@ -1,3 +1,4 @@
 pub mod TickLemmas
 pub mod KeptCallLemmas
+pub mod OverlapPhaseLemmas
 pub mod Examples

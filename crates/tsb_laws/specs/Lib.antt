@@ -14,6 +14,8 @@ pub mod AllRed
 pub mod PreemptDwells
 -- that what calls is remembered, and stands until it is served
 pub mod KeptCalls
+-- that overlaps go with the phases that they include
+pub mod OverlapPhases
 -- the runs of which the laws speak
 pub mod Runs
 -- timers among the cells, and what a tick makes of them

@@ -1,6 +1,7 @@
 //! How the controller operates: calls, greens, overlaps, the dynamic maximum and preempts. Each law is the contract of a
 //! function that does nothing.
 ghost use Rattle.tsb_laws.specs.KeptCalls.{CallsAreRemembered, PedestrianCallsStand, VehicleCallsStand};
+ghost use Rattle.tsb_laws.specs.OverlapPhases.{OverlapsGoWithPhases};
 
 /// `remembered`: What calls is remembered, or served at once. An output that calls an enabled, locking phase which was
 /// not Green is in vehicle memory after the tick, or the phase turns Green in it; a button that calls an enabled phase
@@ -31,4 +32,16 @@ pub fn calls_are_kept()
     ensures remembered { CallsAreRemembered }
     ensures vehicles { VehicleCallsStand }
     ensures pedestrians { PedestrianCallsStand }
+{}
+
+/// An overlap goes with its phases. Where its head is green or yellow, a phase that it includes is in service. So each
+/// phase in service, and each with right of way, is that phase or concurrent with it.
+///
+/// Not said: that it is concurrent with the other phases that the overlap includes. Nothing of a lamp that a fault
+/// lights.
+/// Mistake: an overlap that is green as soon as a ring is committed to one of them, `green_by_commitment` (`serves_3`,
+/// `are_apart`, `shows_red`, `would_show_green`).
+/// Witness: `an_overlap` of OverlapRuns.
+pub fn overlaps_go_with_phases()
+    ensures { OverlapsGoWithPhases }
 {}

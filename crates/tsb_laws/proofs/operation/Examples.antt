@@ -1,2 +1,3 @@
 -- Computed mistakes that the laws of operation refuse, and runs that meet their premises.
 pub mod KeptCallRuns
+pub mod OverlapRuns

@@ -1,0 +1,178 @@
+-- An overlap that is green or yellow includes a phase that is in service.
+use Rattle.std.proofs.Common.{◌≡◌, ℕ, ◌==◌, Bool, true, false, not, ◌&&◌, ◌||◌, if◌then◌else◌, is_some, refl, inl, inr}
+use Rattle.std.proofs.lemmas.Bool.{cases_Bool, and_parts, or_cases, false≢true}
+use Rattle.tsb_step.specs.tsb_types.declared.interval.Interval.{Interval}
+use Rattle.tsb_step.specs.tsb_types.declared.interval.Interval.TheVariants.{Red, Green, Yellow, RedClear}
+use Rattle.tsb_step.specs.tsb_types.declared.interval.PedestrianInterval.{PedestrianInterval}
+use Rattle.tsb_step.specs.tsb_types.declared.interval.PedestrianInterval.TheVariants.{DontWalk, Walk, PedestrianClear}
+use Rattle.tsb_step.specs.tsb_types.declared.lamp.Aspect.{Aspect}
+use Rattle.tsb_step.specs.tsb_types.declared.lamp.Aspect.TheVariants as aspects
+use Rattle.tsb_step.specs.tsb_types.declared.lamp.PedestrianAspect.TheVariants as pedestrian_aspects
+use Rattle.tsb_step.specs.tsb_types.Intervals.{is_green, is_yellow, is_red_clear, in_service}
+use Rattle.tsb_step.proofs.tsb_types.IntervalLemmas.{serves-green}
+use Rattle.tsb_step.specs.tsb_plan.declared.object.Object.TheVariants.{OverlapIncludedPhases}
+use Rattle.tsb_step.specs.tsb_plan.Parts.{is_included, is_minus_green_yellow}
+use Rattle.tsb_step.specs.tsb_plan.Plan.{is_enabled}
+use Rattle.tsb_step.proofs.tsb_rules.RuleLemmas.{Passes, some-run_from}
+use Rattle.tsb_step.specs.tsb_heads.Heads.{aspect_of, vehicle_head, pedestrian_aspect_of, has_pedestrian_head, pedestrian_head}
+use Rattle.tsb_step.specs.tsb_heads.Overlaps.{is_followed, keeps_green, is_kept_green, is_on_yellow, has_green_modifier, has_yellow_modifier, is_on_last_yellow, normal_aspect, minus_green_yellow_aspect, aspect_by_type, overlap_head}
+use Rattle.tsb_step.specs.tsb_heads.Displays.{ordered, flashed, flashing}
+use Rattle.tsb_step.specs.tsb_heads.Monitoring.{gives_way, lets_walk, has_right_of_way}
+use Rattle.tsb_step.specs.State.{State, interval, pedestrian_part}
+use Rattle.tsb_step.specs.Signs.{shown, display}
+use Rattle.tsb_step.specs.Good.{IsGood}
+use Rattle.tsb_step.proofs.SafeLemmas.{served_together}
+use Rattle.tsb_laws.specs.OverlapPhases.{GoesWithPhases}
+
+-- ## An included phase in service
+
+record Carries (s : State) (o : ℕ) : Type 0 where
+  phase : ℕ
+  included : is_included s.plan o phase ≡ true
+  serves : in_service (interval s phase) ≡ true
+
+keeps_serves : (i : Interval) (followed : Bool) → (is_green i || ((is_yellow i || is_red_clear i) && followed)) ≡ true → in_service i ≡ true
+keeps_serves Red followed h = absurd (false≢true h)
+keeps_serves Green followed h = refl
+keeps_serves Yellow followed h = refl
+keeps_serves RedClear followed h = refl
+
+yellow_serves : (i : Interval) → is_yellow i ≡ true → in_service i ≡ true
+yellow_serves Red h = absurd (false≢true h)
+yellow_serves Green h = refl
+yellow_serves Yellow h = refl
+yellow_serves RedClear h = refl
+
+kept_by_one : (s : State) (o : ℕ) → is_kept_green s.plan (shown s) o ≡ true → Carries s o
+unfolding is_kept_green
+kept_by_one s o h =
+    let f : Passes (λ p. is_included s.plan o p && keeps_green s.plan (shown s) o p) 1 s.plan.phase_count = some-run_from _ 1 s.plan.phase_count h in
+    let both = and_parts (is_included s.plan o f.one) (keeps_green s.plan (shown s) o f.one) f.passes in
+    record { phase = f.one; included = both.0; serves = keeps_serves (interval s f.one) (is_followed s.plan (shown s) o f.one) both.1 }
+
+yellow_by_one : (s : State) (o : ℕ) → is_on_yellow s.plan (shown s) o ≡ true → Carries s o
+unfolding is_on_yellow
+yellow_by_one s o h =
+    let f : Passes (λ p. is_included s.plan o p && is_yellow (interval s p)) 1 s.plan.phase_count = some-run_from _ 1 s.plan.phase_count h in
+    let both = and_parts (is_included s.plan o f.one) (is_yellow (interval s f.one)) f.passes in
+    record { phase = f.one; included = both.0; serves = yellow_serves (interval s f.one) both.1 }
+
+last_by_one : (s : State) (o : ℕ) → is_on_last_yellow s.plan (shown s) o ≡ true → Carries s o
+unfolding is_on_last_yellow
+last_by_one s o h =
+    let f : Passes (λ p. is_included s.plan o p && (is_yellow (interval s p) && not (is_followed s.plan (shown s) o p))) 1 s.plan.phase_count =
+    some-run_from _ 1 s.plan.phase_count h in
+    let both = and_parts (is_included s.plan o f.one) (is_yellow (interval s f.one) && not (is_followed s.plan (shown s) o f.one)) f.passes in
+    let yellow = and_parts (is_yellow (interval s f.one)) (not (is_followed s.plan (shown s) o f.one)) both.1 in
+    record { phase = f.one; included = both.0; serves = yellow_serves (interval s f.one) yellow.0 }
+
+-- ## The head
+
+normal_carries : (s : State) (o : ℕ) → gives_way (normal_aspect s.plan (shown s) o) ≡ true → Carries s o
+normal_carries s o h = go (is_kept_green s.plan (shown s) o) (is_on_yellow s.plan (shown s) o) refl refl h
+  where
+    go : (kept yellow : Bool) → is_kept_green s.plan (shown s) o ≡ kept → is_on_yellow s.plan (shown s) o ≡ yellow →
+        gives_way (if kept then aspects.Green else (if yellow then aspects.Yellow else aspects.Red)) ≡ true → Carries s o
+    go true yellow k l x = kept_by_one s o k
+    go false true k l x = yellow_by_one s o l
+    go false false k l x = absurd (false≢true x)
+
+minus_carries : (s : State) (o : ℕ) → gives_way (minus_green_yellow_aspect s.plan (shown s) o) ≡ true → Carries s o
+minus_carries s o h =
+    go (is_kept_green s.plan (shown s) o && not (has_green_modifier s.plan (shown s) o))
+    (is_on_last_yellow s.plan (shown s) o && not (has_yellow_modifier s.plan (shown s) o)) refl refl h
+  where
+    go : (kept yellow : Bool) → (is_kept_green s.plan (shown s) o && not (has_green_modifier s.plan (shown s) o)) ≡ kept →
+        (is_on_last_yellow s.plan (shown s) o && not (has_yellow_modifier s.plan (shown s) o)) ≡ yellow →
+        gives_way (if kept then aspects.Green else (if yellow then aspects.Yellow else aspects.Red)) ≡ true → Carries s o
+    go true yellow k l x = kept_by_one s o (and_parts (is_kept_green s.plan (shown s) o) (not (has_green_modifier s.plan (shown s) o)) k).0
+    go false true k l x = last_by_one s o (and_parts (is_on_last_yellow s.plan (shown s) o) (not (has_yellow_modifier s.plan (shown s) o)) l).0
+    go false false k l x = absurd (false≢true x)
+
+by_type : (s : State) (o : ℕ) → gives_way (aspect_by_type s.plan (shown s) o) ≡ true → Carries s o
+by_type s o h = go (is_minus_green_yellow s.plan o) h
+  where
+    go : (b : Bool) → gives_way (if b then minus_green_yellow_aspect s.plan (shown s) o else normal_aspect s.plan (shown s) o) ≡ true → Carries s o
+    go true x = minus_carries s o x
+    go false x = normal_carries s o x
+
+head_carries : (s : State) (o : ℕ) → gives_way (overlap_head s.plan (shown s) o) ≡ true → Carries s o
+head_carries s o h = go (s.plan.value OverlapIncludedPhases o == 0) h
+  where
+    go : (b : Bool) → gives_way (if b then aspects.Dark else aspect_by_type s.plan (shown s) o) ≡ true → Carries s o
+    go true x = absurd (false≢true x)
+    go false x = by_type s o x
+
+flash_gives_none : (a : Aspect) → gives_way (flashed a) ≡ true → ⊥
+flash_gives_none aspects.Dark h = false≢true h
+flash_gives_none aspects.Red h = false≢true h
+flash_gives_none aspects.Yellow h = false≢true h
+flash_gives_none aspects.Green h = false≢true h
+flash_gives_none aspects.FlashingRed h = false≢true h
+
+carries : (s : State) (o : ℕ) → gives_way ((display s).overlap o) ≡ true → Carries s o
+unfolding display
+carries s o h = go (is_some s.trip) h
+  where
+    go : (b : Bool) → gives_way ((if b then flashing (ordered s.plan (shown s)) else ordered s.plan (shown s)).overlap o) ≡ true → Carries s o
+    go true x = absurd (flash_gives_none (overlap_head s.plan (shown s) o) x)
+    go false x = head_carries s o x
+
+-- ## Right of way is of phases in service
+
+vehicle_serves : (on : Bool) (i : Interval) → gives_way (if on then aspect_of i else aspects.Dark) ≡ true → in_service i ≡ true
+vehicle_serves true Red h = absurd (false≢true h)
+vehicle_serves true Green h = refl
+vehicle_serves true Yellow h = refl
+vehicle_serves true RedClear h = absurd (false≢true h)
+vehicle_serves false i h = absurd (false≢true h)
+
+walker_walks : (on : Bool) (x : PedestrianInterval) → lets_walk (if on then pedestrian_aspect_of x else pedestrian_aspects.Dark) ≡ true →
+    x ≡ DontWalk → ⊥
+walker_walks false x h e = false≢true h
+walker_walks true DontWalk h e = false≢true h
+walker_walks true Walk h e = cc
+walker_walks true PedestrianClear h e = cc
+
+walker_serves : (s : State) → IsGood s → (q : ℕ) → lets_walk (pedestrian_head s.plan (shown s) q) ≡ true → in_service (interval s q) ≡ true
+walker_serves s good q h =
+    elim (cases_Bool (is_green (interval s q))) [
+      | inl e ↦ serves-green (interval s q) e
+      | inr e ↦ absurd (walker_walks (has_pedestrian_head s.plan (shown s) q) (pedestrian_part s q) h (good.walks q e))
+    ]
+
+ordered_serves : (s : State) → IsGood s → (q : ℕ) → has_right_of_way (ordered s.plan (shown s)) q ≡ true → in_service (interval s q) ≡ true
+ordered_serves s good q h =
+    elim (or_cases (gives_way (vehicle_head s.plan (shown s) q)) (lets_walk (pedestrian_head s.plan (shown s) q)) h) [
+      | inl k ↦ vehicle_serves (is_enabled s.plan q) (interval s q) k
+      | inr k ↦ walker_serves s good q k
+    ]
+
+flash_gives_no_way : (s : State) (q : ℕ) → has_right_of_way (flashing (ordered s.plan (shown s))) q ≡ true → ⊥
+flash_gives_no_way s q h =
+    elim (or_cases (gives_way (flashed (vehicle_head s.plan (shown s) q))) false h) [
+      | inl k ↦ flash_gives_none (vehicle_head s.plan (shown s) q) k
+      | inr k ↦ false≢true k
+    ]
+
+pub way_serves : (s : State) → IsGood s → (q : ℕ) → has_right_of_way (display s) q ≡ true → in_service (interval s q) ≡ true
+unfolding display
+way_serves s good q h = go (is_some s.trip) h
+  where
+    go : (b : Bool) → has_right_of_way (if b then flashing (ordered s.plan (shown s)) else ordered s.plan (shown s)) q ≡ true →
+        in_service (interval s q) ≡ true
+    go true x = absurd (flash_gives_no_way s q x)
+    go false x = ordered_serves s good q x
+
+-- ## So the overlap goes with what is in service
+
+pub goes_with_phases : (s : State) → IsGood s → (o : ℕ) → gives_way ((display s).overlap o) ≡ true → GoesWithPhases s o
+goes_with_phases s good o h =
+    let it : Carries s o = carries s o h in
+    record {
+      phase = it.phase;
+      included = it.included;
+      serves = it.serves;
+      together = λ q k. served_together s good it.phase q it.serves k;
+      ways = λ q k. served_together s good it.phase q it.serves (way_serves s good q k);
+    }
