@@ -1,4 +1,5 @@
 pub mod TickLemmas
 pub mod KeptCallLemmas
 pub mod OverlapPhaseLemmas
+pub mod RunningMaximumLemmas
 pub mod Examples

@@ -14,6 +14,8 @@ pub mod AllRed
 pub mod PreemptDwells
 -- that what calls is remembered, and stands until it is served
 pub mod KeptCalls
+-- between which times the maximum in use stays, and how far it moves
+pub mod RunningMaximum
 -- that overlaps go with the phases that they include
 pub mod OverlapPhases
 -- the runs of which the laws speak

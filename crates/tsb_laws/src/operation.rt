@@ -2,6 +2,7 @@
 //! function that does nothing.
 ghost use Rattle.tsb_laws.specs.KeptCalls.{CallsAreRemembered, PedestrianCallsStand, VehicleCallsStand};
 ghost use Rattle.tsb_laws.specs.OverlapPhases.{OverlapsGoWithPhases};
+ghost use Rattle.tsb_laws.specs.RunningMaximum.{MaximumsAreBounded, MaximumsMoveByAStep, OthersLeaveMaximums};
 
 /// `remembered`: What calls is remembered, or served at once. An output that calls an enabled, locking phase which was
 /// not Green is in vehicle memory after the tick, or the phase turns Green in it; a button that calls an enabled phase
@@ -44,4 +45,27 @@ pub fn calls_are_kept()
 /// Witness: `an_overlap` of OverlapRuns.
 pub fn overlaps_go_with_phases()
     ensures { OverlapsGoWithPhases }
+{}
+
+/// `bounded`: The maximum in use stays between the smaller and the larger of the maximum and the limit of the dynamic
+/// maximum. Both are those of the plan in effect, also where a commit has just changed them.
+///
+/// Mistake: a running maximum that is used as it was kept, `as_kept` (`is_held_at_400`, `would_be_900`).
+/// Witness: `is_held_at_400` of MaximumRuns, a running maximum that is over the limit.
+///
+/// `steps`: The maximum in use moves by one step a green at most. Where it moves, the tick ends the green of the phase,
+/// in free operation and with no preempt in service.
+///
+/// Not said: which way it moves.
+/// Mistake: a maximum that doubles after a max-out, `doubled` (`goes_to_250`, `would_go_to_400`).
+/// Witness: `goes_to_250` of MaximumRuns.
+///
+/// `others`: No other input moves the maximum in use. A commit that changes the plan may, and the reset of a trip.
+///
+/// Mistake: a pattern that begins it anew (`stays_300`, `would_be_200`).
+/// Witness: `stays_300` of MaximumRuns.
+pub fn maximums_move_by_steps()
+    ensures bounded { MaximumsAreBounded }
+    ensures steps { MaximumsMoveByAStep }
+    ensures others { OthersLeaveMaximums }
 {}

@@ -1,3 +1,4 @@
 -- Computed mistakes that the laws of operation refuse, and runs that meet their premises.
 pub mod KeptCallRuns
 pub mod OverlapRuns
+pub mod MaximumRuns
