@@ -2,4 +2,5 @@ pub mod TickLemmas
 pub mod KeptCallLemmas
 pub mod OverlapPhaseLemmas
 pub mod RunningMaximumLemmas
+pub mod PreemptTurnLemmas
 pub mod Examples

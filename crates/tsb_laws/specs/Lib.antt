@@ -18,6 +18,8 @@ pub mod KeptCalls
 pub mod RunningMaximum
 -- that overlaps go with the phases that they include
 pub mod OverlapPhases
+-- to what a preempt in service gives way, and when its service ends
+pub mod PreemptTurns
 -- the runs of which the laws speak
 pub mod Runs
 -- timers among the cells, and what a tick makes of them

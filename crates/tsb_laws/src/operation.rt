@@ -2,6 +2,7 @@
 //! function that does nothing.
 ghost use Rattle.tsb_laws.specs.KeptCalls.{CallsAreRemembered, PedestrianCallsStand, VehicleCallsStand};
 ghost use Rattle.tsb_laws.specs.OverlapPhases.{OverlapsGoWithPhases};
+ghost use Rattle.tsb_laws.specs.PreemptTurns.{PreemptsGiveWay, ServicesEnd};
 ghost use Rattle.tsb_laws.specs.RunningMaximum.{MaximumsAreBounded, MaximumsMoveByAStep, OthersLeaveMaximums};
 
 /// `remembered`: What calls is remembered, or served at once. An output that calls an enabled, locking phase which was
@@ -68,4 +69,21 @@ pub fn maximums_move_by_steps()
     ensures bounded { MaximumsAreBounded }
     ensures steps { MaximumsMoveByAStep }
     ensures others { OthersLeaveMaximums }
+{}
+
+/// `turns`: A preempt in service gives way only to a lower one, or in its exit to its own new request. Otherwise it goes
+/// on, in the same stage or a later one, over inputs of every kind.
+///
+/// Mistake: any request takes over (`asks_2`, `serves_1`).
+/// Witness: `was_2`, `is_1` of PreemptRuns, a preempt that gives way.
+///
+/// `ends`: A service ends only from its exit or its dwell. From its exit it ends with all exit phases Green, and from
+/// its dwell only where it has no exit phases.
+///
+/// Not said: when a dwell ends. The reset of a trip ends a service too.
+/// Mistake: a dwell after which no exit comes, `ends_with_dwell` (`goes_to_exit`, `would_be_over`).
+/// Witness: `goes_to_exit` of PreemptRuns.
+pub fn preempts_give_way()
+    ensures turns { PreemptsGiveWay }
+    ensures ends { ServicesEnd }
 {}

@@ -2,3 +2,4 @@
 pub mod KeptCallRuns
 pub mod OverlapRuns
 pub mod MaximumRuns
+pub mod PreemptRuns
