@@ -16,6 +16,8 @@ pub mod PreemptDwells
 pub mod KeptCalls
 -- between which times the maximum in use stays, and how far it moves
 pub mod RunningMaximum
+-- why a green ends
+pub mod GreenEnds
 -- that overlaps go with the phases that they include
 pub mod OverlapPhases
 -- to what a preempt in service gives way, and when its service ends

@@ -1,6 +1,7 @@
 //! How the controller operates: calls, greens, overlaps, the dynamic maximum and preempts. Each law is the contract of a
 //! function that does nothing.
 ghost use Rattle.tsb_laws.specs.KeptCalls.{CallsAreRemembered, PedestrianCallsStand, VehicleCallsStand};
+ghost use Rattle.tsb_laws.specs.GreenEnds.{GreensEndForAReason};
 ghost use Rattle.tsb_laws.specs.OverlapPhases.{OverlapsGoWithPhases};
 ghost use Rattle.tsb_laws.specs.PreemptTurns.{PreemptsGiveWay, ServicesEnd};
 ghost use Rattle.tsb_laws.specs.RunningMaximum.{MaximumsAreBounded, MaximumsMoveByAStep, OthersLeaveMaximums};
@@ -34,6 +35,21 @@ pub fn calls_are_kept()
     ensures remembered { CallsAreRemembered }
     ensures vehicles { VehicleCallsStand }
     ensures pedestrians { PedestrianCallsStand }
+{}
+
+/// A green ends for a reason. With no preempt in service it has lasted its initial time, added initial included. In
+/// free operation it ends by its gap, and then has no maximum recall, or after its maximum of conflict; while a pattern
+/// runs by its gap or its force-off, a coordinated phase by that alone. Under a preempt only a phase ends that this does
+/// not want. The gap means that no output was on in so many ticks, and the maximum that each of so many had a conflict.
+///
+/// Needs: an untripped run; at most 16 phases.
+/// Not said: that a green with a reason ends, as its ring may want no other phase.
+/// Mistakes: a gap that ends a green before its added initial, `queued` (`is_not_ready`, `would_end`), or on maximum
+/// recall, `recalled` (`stays_green`, `would_gap_out`); a preempt that ends what it wants, `ends_every` (`is_wanted`,
+/// `would_end_3`).
+/// Witness: `a_green_end` of GreenEndRuns.
+pub fn greens_end_for_a_reason()
+    ensures { GreensEndForAReason }
 {}
 
 /// An overlap goes with its phases. Where its head is green or yellow, a phase that it includes is in service. So each

@@ -1,5 +1,6 @@
 -- Computed mistakes that the laws of operation refuse, and runs that meet their premises.
 pub mod KeptCallRuns
 pub mod OverlapRuns
+pub mod GreenEndRuns
 pub mod MaximumRuns
 pub mod PreemptRuns
