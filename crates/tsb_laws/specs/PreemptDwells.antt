@@ -1,5 +1,9 @@
 -- A preempt reaches its dwell: STATED, NOT PROVED. It is tested on runs at random, by `tools/test_stated_laws.py`; the
 -- README of this crate says on how many. Times are in tenths of a second, which are ticks.
+--
+-- As it stands it is FALSE: `w` is as large as walk and clearance of one plan together, and a commit between the two can
+-- make them longer. docs/SAFETY.md has a run. With the largest walk and the largest clearance of each phase together, as
+-- the clearances have it, no such run is known.
 use Rattle.std.specs.Prelude.{◌≡◌, ℕ, ◌+◌, ◌*◌, ◌<◌, ◌≤◌, ◌==◌, Bool, true, false, not, ◌&&◌, max, List, ◌∷◌, ◌++◌, Option, Some, None, ◌⊎◌}
 use Rattle.tsb_step.specs.tsb_types.declared.row.Row.{Row}
 use Rattle.tsb_step.specs.tsb_plan.Parts.{is_dwell_phase, preempt_minimum_green, track_green}
