@@ -6,3 +6,4 @@ pub mod PreemptTurnLemmas
 pub mod GreenTimeLemmas
 pub mod GreenEndLemmas
 pub mod Examples
+pub mod CalmLemmas

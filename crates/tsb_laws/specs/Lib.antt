@@ -22,6 +22,8 @@ pub mod GreenEnds
 pub mod OverlapPhases
 -- to what a preempt in service gives way, and when its service ends
 pub mod PreemptTurns
+-- that nothing is Green in a crossing, nor in a ring that is committed
+pub mod CrossingGreens
 -- the runs of which the laws speak
 pub mod Runs
 -- timers among the cells, and what a tick makes of them

@@ -1,6 +1,7 @@
 //! How the controller operates: calls, greens, overlaps, the dynamic maximum and preempts. Each law is the contract of a
 //! function that does nothing.
 ghost use Rattle.tsb_laws.specs.KeptCalls.{CallsAreRemembered, PedestrianCallsStand, VehicleCallsStand};
+ghost use Rattle.tsb_laws.specs.CrossingGreens.{CommittedRingsClear};
 ghost use Rattle.tsb_laws.specs.GreenEnds.{GreensEndForAReason};
 ghost use Rattle.tsb_laws.specs.OverlapPhases.{OverlapsGoWithPhases};
 ghost use Rattle.tsb_laws.specs.PreemptTurns.{PreemptsGiveWay, ServicesEnd};
@@ -102,4 +103,14 @@ pub fn maximums_move_by_steps()
 pub fn preempts_give_way()
     ensures turns { PreemptsGiveWay }
     ensures ends { ServicesEnd }
+{}
+
+/// No phase is Green while a crossing of the barrier is under way. A ring that is committed has no green phase either;
+/// and outside a crossing the phase that it is committed to is not in service.
+///
+/// Mistake: a ring that joins in a crossing before its green is ready, `joins_early` (`stays_2`, `does_not_cross`,
+/// `would_cross`).
+/// Witness: `crosses`, `ends_2` of CrossingGreenRuns, in which a crossing begins.
+pub fn crossings_have_no_green()
+    ensures { CommittedRingsClear }
 {}

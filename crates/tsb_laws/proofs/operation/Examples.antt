@@ -4,3 +4,4 @@ pub mod OverlapRuns
 pub mod GreenEndRuns
 pub mod MaximumRuns
 pub mod PreemptRuns
+pub mod CrossingGreenRuns
