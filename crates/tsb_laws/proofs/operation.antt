@@ -7,3 +7,5 @@ pub mod GreenTimeLemmas
 pub mod GreenEndLemmas
 pub mod Examples
 pub mod CalmLemmas
+pub mod TargetLemmas
+pub mod PreemptEntryLemmas

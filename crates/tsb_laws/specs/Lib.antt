@@ -24,6 +24,8 @@ pub mod OverlapPhases
 pub mod PreemptTurns
 -- that nothing is Green in a crossing, nor in a ring that is committed
 pub mod CrossingGreens
+-- what enters under a preempt
+pub mod PreemptEntries
 -- the runs of which the laws speak
 pub mod Runs
 -- timers among the cells, and what a tick makes of them

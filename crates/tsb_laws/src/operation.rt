@@ -4,6 +4,7 @@ ghost use Rattle.tsb_laws.specs.KeptCalls.{CallsAreRemembered, PedestrianCallsSt
 ghost use Rattle.tsb_laws.specs.CrossingGreens.{CommittedRingsClear};
 ghost use Rattle.tsb_laws.specs.GreenEnds.{GreensEndForAReason};
 ghost use Rattle.tsb_laws.specs.OverlapPhases.{OverlapsGoWithPhases};
+ghost use Rattle.tsb_laws.specs.PreemptEntries.{PreemptsLetInTheirOwn};
 ghost use Rattle.tsb_laws.specs.PreemptTurns.{PreemptsGiveWay, ServicesEnd};
 ghost use Rattle.tsb_laws.specs.RunningMaximum.{MaximumsAreBounded, MaximumsMoveByAStep, OthersLeaveMaximums};
 
@@ -113,4 +114,15 @@ pub fn preempts_give_way()
 /// Witness: `crosses`, `ends_2` of CrossingGreenRuns, in which a crossing begins.
 pub fn crossings_have_no_green()
     ensures { CommittedRingsClear }
+{}
+
+/// Under a preempt only what it wants enters. In a tick in which one is in service, a phase starts only where the preempt
+/// wants it or where a ring was committed to it before; and a ring commits anew only to what the preempt wants.
+///
+/// Needs: an untripped run.
+/// Not said: that what it wants enters, and when.
+/// Mistake: a preempt in whose service rings go on by calls, `by_calls` (`rests`, `would_go_to_4`).
+/// Witness: `an_entry` of PreemptEntryRuns.
+pub fn preempts_let_in_their_own()
+    ensures { PreemptsLetInTheirOwn }
 {}

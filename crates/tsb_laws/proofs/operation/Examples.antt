@@ -5,3 +5,4 @@ pub mod GreenEndRuns
 pub mod MaximumRuns
 pub mod PreemptRuns
 pub mod CrossingGreenRuns
+pub mod PreemptEntryRuns
