@@ -44,6 +44,17 @@ FIRST = [INPUTS[k:] + INPUTS for k in range(len(INPUTS))]
 BEHIND = [["begin 1", "verify 1"], ["begin 1", "abort 1"], ["begin 1", "set 1 phaseMaximum1 2 30", "abort 1"]]
 LATE = [[f"step {count}", *INPUTS * 3] for count in (1, 10, 100, 1000, 10000)]
 
+# Two worked examples. On the built-in plan of two phases: a long run, wound back and run again.
+LONG = ["step 1000", "when interval 2", "back 400", "when interval 2", "step 400"]
+# On that of eight, at tick 0: a transaction with what is refused in it. It ends with a commit, or with one too late.
+DESK = [
+    "begin 1", "begin 2", "set 2 phaseMaximum1 2 30", "set 1 phaseMaximum1 17 30", "set 1 phaseMaximum1 2 256",
+    "set 1 phaseMaximum1 2 30", "set 1 phaseMaximum1 2 40", "undo", "undo", "commit 1", "set 1 phaseConcurrency 1 32",
+    "verify 1", "set 1 phaseConcurrency 5 2", "verify 1",
+]
+QUAD = ["run", PLAN, "examples/empty.log"]
+WORKED = [([], LONG), (QUAD, [*DESK, "commit 1", "abort 1"]), (QUAD, [*DESK, "step 1", "commit 1"])]
+
 # Bytes that a read or a write moves at most, so that there are many of them.
 PIECE = 16
 
@@ -147,9 +158,9 @@ def without(commands, place):
     raise AssertionError("there are more lines than the commands have")
 
 
-def within_a_session(program, wrong, commands, first, found):
+def within_a_session(program, wrong, commands, first, found, words=RUN):
     """Where memory is refused in a session, one input is, and all goes on as if that had not been given."""
-    for number, ended in program.sweep(RUN, text_of(commands), first=first):
+    for number, ended in program.sweep(words, text_of(commands), first=first):
         what = f"{commands[:3]} .., request {number}"
         lines = ended.output.decode().splitlines()
         if lines.count(REFUSED) != 1:
@@ -157,7 +168,7 @@ def within_a_session(program, wrong, commands, first, found):
             continue
         place = lines.index(REFUSED)
         others, kind = without(commands, place)
-        wanted = program.run(RUN, text_of(others)).output.decode().splitlines()
+        wanted = program.run(words, text_of(others)).output.decode().splitlines()
         wanted.insert(place, REFUSED)
         found[kind] += 1
         wrong.compare(what, ended, (0, text_of(wanted), b""))
@@ -170,6 +181,10 @@ def memory(program, wrong):
     first = program.calls(RUN) + 1
     for commands in FIRST + BEHIND + LATE:
         within_a_session(program, wrong, commands + WAY_BACK, first, found)
+    for words, commands in WORKED:
+        before = sum(found.values())
+        within_a_session(program, wrong, commands, program.calls(words) + 1, found, words)
+        wrong += [f"memory was refused to none of {commands[:3]} .."] * (sum(found.values()) == before)
     wrong += [f"memory was refused to no {kind}" for kind in KINDS if not found[kind]]
     return ", ".join(f"{kind} {found[kind]}" for kind in KINDS)
 
