@@ -2,6 +2,10 @@
 pub mod Stretches
 -- what lies between a green that ends, or a walk that begins, and the start of a phase that is not concurrent
 pub mod Intergreens
+-- that a trip stays until a reset, and what heads show meanwhile
+pub mod Trips
+-- what changes heads that give right of way, and how they turn red
+pub mod LitHeads
 -- which phases are served, and in what time a commitment is
 pub mod Commitments
 -- in what time a crossing of the barrier is completed

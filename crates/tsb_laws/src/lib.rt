@@ -1,7 +1,8 @@
 //! Laws of every run and of every session, above the step: each is the contract of a function that does nothing.
 //!
 //! `specs/` has the statements, over the definitions of tsb_step, of the layers below it and of tsb_text. `safety` is
-//! the safety case in the words of a signal engineer. `way_back` says what cells and records give of each state, and
+//! the safety case in the words of a signal engineer, and `heads` has what it says of heads: what may change one that
+//! gives right of way, and what all show after a trip. `way_back` says what cells and records give of each state, and
 //! which timers a tick writes, of every run that the definitions allow, whether or not there is memory for it; `desk`
 //! says what edits are after every run. `events` says what the events of a run tell. `versions` says that the bench
 //! of 16 phases shows for a plan of version 1 what the bench of 8 shows, and `one_text` that the text of a session is
@@ -12,6 +13,7 @@
 
 pub mod desk;
 pub mod events;
+pub mod heads;
 pub mod one_text;
 pub mod operation;
 pub mod safety;

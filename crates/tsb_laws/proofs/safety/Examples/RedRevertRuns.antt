@@ -1,27 +1,31 @@
--- A run from power-up that meets all premises of the laws of overlaps and of red revert: preempt 2 wants 6 alone, so that the green
+-- A run from power-up that meets all premises of the laws of lit heads and of red revert: preempt 2 wants 6 alone, so that the green
 -- of 2 ends with no commitment; preempt 1 wants 2 again, which waits for its red revert.
-use Rattle.std.proofs.Common.{◌≡◌, ◌≢◌, ℕ, ◌+◌, ◌≤◌, true, false, List, [], ◌∷◌, ◌++◌, None, refl, sym, arith, ◌∙◌}
-use Rattle.tsb_step.specs.tsb_cells.declared.timer.Timer.TheVariants.{On}
+use Rattle.std.proofs.Common.{◌≡◌, ◌≢◌, ℕ, ◌≤◌, nat_le, true, false, List, [], ◌∷◌, ◌++◌, None, refl, sym, ap, arith, ◌∙◌}
+use Rattle.tsb_step.specs.tsb_cells.declared.timer.Timer.TheVariants.{Off, On}
 use Rattle.tsb_step.specs.tsb_types.Sets.{all_off}
+use Rattle.tsb_step.specs.tsb_types.declared.interval.Interval.TheVariants.{Red, Green, Yellow}
 use Rattle.tsb_step.specs.tsb_types.declared.lamp.Aspect.TheVariants as aspects
 use Rattle.tsb_step.specs.tsb_types.declared.row.Row.{Row}
 use Rattle.tsb_step.specs.tsb_plan.declared.object.Object.{Object}
 use Rattle.tsb_step.specs.tsb_plan.declared.object.Object.TheVariants.{PhaseRedClear, PreemptMinimumGreen, PreemptDwellPhase}
 use Rattle.tsb_step.specs.tsb_plan.Objects.{greatest}
 use Rattle.tsb_step.specs.tsb_plan.Parts.{is_minus_green_yellow}
-use Rattle.tsb_step.specs.tsb_plan.Plan.{Plan, with_values}
+use Rattle.tsb_step.specs.tsb_plan.Plan.{Plan, red_revert, with_values}
 use Rattle.tsb_step.specs.tsb_plan.Quad.{quad}
 use Rattle.tsb_step.specs.tsb_rules.Rules.{first_broken}
+use Rattle.tsb_step.specs.tsb_heads.Monitoring.{gives_way}
 use Rattle.tsb_step.specs.tsb_ring.Moves.{is_started}
 use Rattle.tsb_step.specs.declared.inputs.Input.{Input}
 use Rattle.tsb_step.specs.declared.inputs.Input.TheVariants.{Tick, Switch}
+use Rattle.tsb_step.specs.State.{State, interval}
 use Rattle.tsb_step.specs.Tick.{moves}
 use Rattle.tsb_step.specs.Signs.{display}
+use Rattle.tsb_step.specs.Step.{verdict}
 use Rattle.tsb_step.specs.Runs.{replay, AreTaken}
 use Rattle.tsb_step.specs.Laws.{IsConsistent, is_unlit}
 use Rattle.tsb_step.proofs.Examples.Scenes.{opened}
 use Rattle.tsb_laws.proofs.safety.Examples.PlanFits.{Fits, values_fit, quad_fits, consistent}
-use Rattle.tsb_laws.proofs.safety.Examples.TickRuns.{ticks, all_taken, dark_then}
+use Rattle.tsb_laws.proofs.safety.Examples.TickRuns.{ticks, all_taken, dark_then, none_trips}
 
 abbrev again_values : List (Object × ℕ × ℕ)
 again_values = (PhaseRedClear, 2, 0) ∷ (PreemptMinimumGreen, 2, 0) ∷ (PreemptDwellPhase, 2, 32) ∷ (PreemptDwellPhase, 1, 34) ∷ []
@@ -115,3 +119,55 @@ starts_2 = refl
 
 a_red_revert : RedRevert again (ticks all_off 49 ++ ended) all_off 2
 a_red_revert = record { consistent = again_consistent; taken = taken_then 49 (omega arith); untripped = untripped 49 (omega arith); starts = starts_2 }
+
+-- ## Lit heads clear in yellow: in the tick after 29 more 2 turns red, and overlap 1 with it
+
+record LitPhase (plan : Plan) (is : List Input) (i : Input) (p : ℕ) : Type 0 where
+  consistent : IsConsistent plan
+  taken : AreTaken plan is
+  untripped : (replay plan is).trip ≡ None
+  allowed : verdict (replay plan is) i ≡ None
+  untripped_then : (replay plan (i ∷ is)).trip ≡ None
+  lit : gives_way ((display (replay plan is)).vehicle p) ≡ true
+  red_then : (display (replay plan (i ∷ is))).vehicle p ≡ aspects.Red
+
+shows_yellow_2 : (display (replay again (ticks all_off 29 ++ ended))).vehicle 2 ≡ aspects.Yellow
+unfolding opened again
+shows_yellow_2 = refl
+
+shows_red_2 : (display (replay again (ticks all_off 30 ++ ended))).vehicle 2 ≡ aspects.Red
+unfolding opened again
+shows_red_2 = refl
+
+a_phase : LitPhase again (ticks all_off 29 ++ ended) (Tick all_off) 2
+a_phase = record {
+  consistent = again_consistent;
+  taken = taken_then 29 (omega arith);
+  untripped = untripped 29 (omega arith);
+  allowed = (taken_then 30 (omega arith)).1;
+  untripped_then = untripped 30 (omega arith);
+  lit = ap gives_way shows_yellow_2;
+  red_then = shows_red_2;
+}
+
+record LitOverlap (plan : Plan) (is : List Input) (i : Input) (o : ℕ) : Type 0 where
+  consistent : IsConsistent plan
+  taken : AreTaken plan is
+  untripped : (replay plan is).trip ≡ None
+  allowed : verdict (replay plan is) i ≡ None
+  untripped_then : (replay plan (i ∷ is)).trip ≡ None
+  normal : is_minus_green_yellow (replay plan is).plan o ≡ false
+  lit : gives_way ((display (replay plan is)).overlap o) ≡ true
+  red_then : (display (replay plan (i ∷ is))).overlap o ≡ aspects.Red
+
+a_lit_overlap : LitOverlap again (ticks all_off 29 ++ ended) (Tick all_off) 1
+a_lit_overlap = record {
+  consistent = again_consistent;
+  taken = taken_then 29 (omega arith);
+  untripped = untripped 29 (omega arith);
+  allowed = (taken_then 30 (omega arith)).1;
+  untripped_then = untripped 30 (omega arith);
+  normal = is_normal;
+  lit = ap gives_way shows_yellow;
+  red_then = shows_red;
+}

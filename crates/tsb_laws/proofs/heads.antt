@@ -1,0 +1,4 @@
+pub mod TripLemmas
+pub mod LitLemmas
+pub mod ClearLemmas
+pub mod Examples
