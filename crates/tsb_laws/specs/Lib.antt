@@ -2,6 +2,8 @@
 pub mod Stretches
 -- what lies between a green that ends, or a walk that begins, and the start of a phase that is not concurrent
 pub mod Intergreens
+-- what lies between the yellow of a phase and its next start
+pub mod RedReverts
 -- that a trip stays until a reset, and what heads show meanwhile
 pub mod Trips
 -- what changes heads that give right of way, and how they turn red

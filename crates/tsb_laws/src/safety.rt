@@ -1,5 +1,6 @@
 //! The safety case of the controller, each law the contract of a function that does nothing.
 ghost use Rattle.tsb_laws.specs.Intergreens.{IntergreensHold, WalksAreCleared};
+ghost use Rattle.tsb_laws.specs.RedReverts.{RedRevertsHold};
 ghost use Rattle.tsb_laws.specs.Commitments.{CommitmentsAreServed, EnabledAreServed};
 ghost use Rattle.tsb_laws.specs.Crossings.{CrossingsComplete};
 ghost use Rattle.tsb_laws.specs.AllRed.{AllRedEnds};
@@ -24,6 +25,17 @@ ghost use Rattle.tsb_laws.specs.Coordination.{CoordinatedEndByForceOff, OmittedA
 pub fn intergreens_hold()
     ensures greens { IntergreensHold }
     ensures walks { WalksAreCleared }
+{}
+
+/// The red revert holds. Between the tick that ends the yellow of a phase and the next one that starts it there is at
+/// least its red revert, the larger of its own and the unit's by the plan in effect at the start. From the end of that
+/// yellow its head is red, or it is not enabled. If one tick ends the yellow and starts the phase, its red revert is 0.
+///
+/// Needs: that the phase was Yellow, and an untripped stretch since then.
+/// Mistake: a timer that never starts, `never_reverts` (`waits_2`, `is_too_early`, `would_start_2`).
+/// Witness: `starts_again` of RedRevertRuns.
+pub fn red_reverts_hold()
+    ensures { RedRevertsHold }
 {}
 
 /// Only enabled phases are served. Each phase in service is enabled, and so is each that a ring is committed to.

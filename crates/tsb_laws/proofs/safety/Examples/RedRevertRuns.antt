@@ -25,6 +25,7 @@ use Rattle.tsb_step.specs.Runs.{replay, AreTaken}
 use Rattle.tsb_step.specs.Laws.{IsConsistent, is_unlit}
 use Rattle.tsb_step.proofs.Examples.Scenes.{opened}
 use Rattle.tsb_laws.proofs.safety.Examples.PlanFits.{Fits, values_fit, quad_fits, consistent}
+use Rattle.tsb_laws.specs.RedReverts.{StartsAgain}
 use Rattle.tsb_laws.proofs.safety.Examples.TickRuns.{ticks, all_taken, dark_then, none_trips}
 
 abbrev again_values : List (Object × ℕ × ℕ)
@@ -119,6 +120,44 @@ starts_2 = refl
 
 a_red_revert : RedRevert again (ticks all_off 49 ++ ended) all_off 2
 a_red_revert = record { consistent = again_consistent; taken = taken_then 49 (omega arith); untripped = untripped 49 (omega arith); starts = starts_2 }
+
+-- ## Red reverts hold: 2 was Yellow as its green ended, and starts as its red revert of 20 ticks has passed
+
+was_yellow : interval (replay again ended) 2 ≡ Yellow
+unfolding opened again
+was_yellow = refl
+
+was_red : interval (replay again (ticks all_off 49 ++ ended)) 2 ≡ Red
+unfolding opened again
+was_red = refl
+
+is_green_then : interval (replay again (ticks all_off 50 ++ ended)) 2 ≡ Green
+unfolding opened again
+is_green_then = refl
+
+starts_again : StartsAgain again ended (ticks all_off 49) all_off 2
+starts_again = record {
+  was_yellow = was_yellow;
+  untripped = none_trips again all_off ended again_consistent ended_taken ended_unlit 49 (let at = ticked_2 in omega (arith, at));
+  started = record { was_not = λ h. (let bad : Red ≡ Green = sym was_red ∙ h in absurd cc); starts = is_green_then };
+}
+
+-- a definition whose red revert timer never starts: it stays Off for ever
+abbrev never_reverts : State → State
+never_reverts s = record s { phases = λ p. record (s.phases p) { red_revert = Off } }
+
+-- five ticks after its yellow 2 waits, and would start
+waits_2 : is_started (moves (replay again (ticks all_off 34 ++ ended)) all_off) 2 ≡ false
+unfolding opened again
+waits_2 = refl
+
+is_too_early : nat_le (red_revert again 2) 5 ≡ false
+unfolding opened again
+is_too_early = refl
+
+would_start_2 : is_started (moves (never_reverts (replay again (ticks all_off 34 ++ ended))) all_off) 2 ≡ true
+unfolding opened again
+would_start_2 = refl
 
 -- ## Lit heads clear in yellow: in the tick after 29 more 2 turns red, and overlap 1 with it
 
