@@ -1,7 +1,7 @@
 //! The whole controller, which can be wound back.
 #![tactic(auto, unfolding(tsb_objects::specs::Checked::checked_plan, tsb_plan::specs::PlanOf::plan_of))]
 
-ghost use Rattle.std.specs.Prelude.{◌≡◌, ℕ, ◌+◌, ◌-◌, ◌<◌, ◌≤◌, [], ◌∷◌, length, None, Some, Err, is_some, OnOk, OnErr, IfOk, IfErr, MatchResult};
+ghost use Rattle.std.specs.Prelude.{◌≡◌, ℕ, ◌+◌, ◌-◌, ◌<◌, ◌≤◌, [], ◌∷◌, length, None, Some, Err, option_map, OnOk, OnErr, IfOk, IfErr, MatchResult};
 ghost use Rattle.tsb_history.specs.declared.kinds.Kind.{Kind as KindValue};
 ghost use Rattle.tsb_history.specs.History.{newest_kind, record_size};
 ghost use Rattle.tsb_objects.specs.Checked.{checked_plan};
@@ -13,7 +13,7 @@ ghost use Rattle.tsb_machine.specs.Play.{IsRefusal};
 ghost use Rattle.tsb_step.specs.Good.{IsGood};
 ghost use Rattle.tsb_step.specs.Past.{record_of, earlier, pasts, sought, ticks_of, IsLeastBack};
 ghost use Rattle.tsb_step.specs.Signs.{display, local, stage, IsSafe};
-ghost use Rattle.tsb_step.specs.State.{start};
+ghost use Rattle.tsb_step.specs.State.{Tripped, start};
 ghost use Rattle.tsb_step.specs.Step.{step, verdict, kind_of, last_tick};
 ghost use Rattle.tsb_step.specs.Watches.{TellsLastChange};
 ghost use Rattle.tsb_transact.specs.Cells.{desk_in};
@@ -27,7 +27,7 @@ use crate::watched::Watched;
 use arrayvec::ArrayVec;
 use std::alloc::Global;
 use std::marker::Model;
-use tsb_heads::Display;
+use tsb_heads::{Display, Trip};
 use tsb_history::{History, Kind};
 use tsb_objects::{Checked, Plan, Preempt, Refusal, Stage, limits};
 use tsb_step::Input;
@@ -186,11 +186,11 @@ impl Bench {
         self.cabinet.controller.stage()
     }
 
-    /// Whether the monitor has tripped the controller.
-    pub fn is_tripped(&self) -> bool
-        ensures { result ≡ is_some (state_of self.now).trip }
+    /// Why the monitor has tripped the controller, if it has, and the tick number at which it did.
+    pub fn tripped(&self) -> Option<(Trip, u32)>
+        ensures { option_map (λ x. record { cause = x.0; tick = x.1 }) result ≡ (state_of self.now).trip }
     {
-        self.cabinet.monitor.is_tripped()
+        self.cabinet.monitor.trip()
     }
 
     /// The plan in effect.
@@ -205,6 +205,14 @@ impl Bench {
         ensures { desk_in (cells_of result.now) ≡ (state_of self.now).desk }
     {
         &self.cabinet.desk
+    }
+
+    /// The records of the inputs that were not undone, and the bytes that spell them.
+    pub fn history(&self) -> &History
+        ensures records { result.now.records ≡ self.now.records }
+        ensures room { result.now.room ≡ self.now.room }
+    {
+        &self.history
     }
 
     /// Takes an input.

@@ -2,7 +2,8 @@
 //! inputs back, with the whole controller as it was.
 //!
 //! [`Bench`] meets the one step of the definitions (`tsb_step`), and the way back of `tsb_machine`. So what these prove
-//! of every run and every session holds of what [`play`] leaves: [`plays_keep_the_laws`].
+//! of every run and every session holds of what [`play`] leaves: [`plays_keep_the_laws`]. The lower types that calls
+//! name are given out here.
 #![tactic(auto)]
 
 mod bench;
@@ -23,7 +24,12 @@ pub use play_laws::plays_keep_the_laws;
 pub use player::{answer, play};
 pub use room_laws::room_lasts;
 pub use tsb_events::Events;
-pub use tsb_history::Kind;
+pub use tsb_heads::{Display, Trip};
+pub use tsb_history::{History, Kind};
 pub use tsb_machine::Answer;
+pub use tsb_objects::{
+    Checked, Lamp, ObjectId, Plan, Preempt, Refusal, Row, Stage, Station, Watch,
+};
 pub use tsb_status::Status;
 pub use tsb_step::{Cmd, Input};
+pub use tsb_transact::Desk;

@@ -1,10 +1,11 @@
 //! The bench: every kind of input, taken and taken back, and what a plan of two phases shows meanwhile.
 
 use std::alloc::Global;
-use tsb_bench::{Answer, Bench, Cmd, Input, Kind, Nothing, answer, play};
-use tsb_objects::{
-    Aspect, Checked, Object, ObjectId, Phase, Plan, Refusal, Row, Rule, Station, Watch,
+use tsb_bench::{
+    Answer, Bench, Checked, Cmd, Input, Kind, Lamp, Nothing, ObjectId, Plan, Refusal, Row, Station,
+    Trip, Watch, answer, play,
 };
+use tsb_objects::{Aspect, Object, Phase, Rule, SignalColor};
 
 fn tick() -> Input {
     Input::Tick(Row::all_off())
@@ -292,4 +293,96 @@ fn keeps_plans_that_break_a_rule_out(rt: HostRuntime) {
 /// Whether the edits at the desk break this rule, and the plan in effect is the built-in one.
 fn is_two_against(bench: &Bench, rule: Rule) -> bool {
     bench.desk().rule() == Some(rule) && *bench.plan() == Plan::two()
+}
+
+/// The ticks up to 1,000 in which the plan of two phases starts or ends a green, or ends a yellow.
+const CHANGES: [u32; 22] = [
+    1, 101, 131, 141, 221, 251, 261, 361, 391, 401, 481, 511, 521, 621, 651, 661, 741, 771, 781,
+    881, 911, 921,
+];
+
+/// Whether the records are of so many ticks, of which just those of `CHANGES` have entries, the newest first.
+fn records_changes(bench: &Bench) -> bool {
+    let mut tick = number_of(bench);
+    let mut left = CHANGES.len();
+    for record in bench.history().walk_back() {
+        if record.kind() != Kind::Tick || tick == 0 {
+            return false;
+        }
+        let changes = 0 < left && CHANGES[left - 1] == tick;
+        if record.is_empty() == changes {
+            return false;
+        }
+        if changes {
+            left -= 1;
+        }
+        tick -= 1;
+    }
+    tick == 0 && left == 0
+}
+
+/// The bytes that records of 1,000 ticks take, with as many entries as theirs.
+fn has_bytes_of_entries(bench: &Bench) -> bool {
+    let mut entries = 0;
+    for record in bench.history().walk_back() {
+        entries += record.len().min(1000);
+    }
+    bench.history().bytes().len() == 3000 + 6 * entries
+}
+
+/// Whether 1,000 ticks leave 1,000 records, of which 22 have entries.
+fn writes_changes_alone(bench: &mut Bench) -> bool {
+    run_to(bench, 1000);
+    number_of(bench) == 1000
+        && bench.history().len() == 1000
+        && records_changes(bench)
+        && has_bytes_of_entries(bench)
+}
+
+/// Quiet ticks write nothing but that they came.
+#[test]
+fn quiet_ticks_write_nothing(rt: HostRuntime) {
+    let Some(mut bench) = powered_up(rt.alloc()) else {
+        panic!(rt; "no memory");
+    };
+    assert!(rt; writes_changes_alone(&mut bench));
+}
+
+/// A lamp on the vehicle head of a phase.
+fn lamp(phase: u8, color: SignalColor) -> Input {
+    Input::Fault(Some(Lamp::Phase(Phase::of(phase), color)))
+}
+
+/// Whether a green lamp trips the bench in this tick, until a reset.
+fn trips_at(bench: &mut Bench, tick: u32) -> bool {
+    let conflict = Trip::Conflict(Phase::of(2), Phase::of(4));
+    taken(bench, lamp(4, SignalColor::Green)) == Ok(())
+        && bench.tripped() == Some((conflict, tick))
+        && taken(bench, Input::Tick(Row::all_off())) == Ok(())
+        && bench.tripped() == Some((conflict, tick))
+        && taken(bench, Input::Reset) == Ok(())
+        && bench.tripped() == None
+}
+
+/// Whether a red lamp on a green head trips it as that, and the undo takes the trip back.
+fn trips_by_red(bench: &mut Bench) -> bool {
+    taken(bench, lamp(2, SignalColor::Red)) == Ok(())
+        && bench.tripped() == Some((Trip::GreenToRed(Phase::of(2)), 60))
+        && undone(bench) == Ok(Kind::Fault)
+        && bench.tripped() == None
+}
+
+/// Whether a bench says why and when it tripped.
+fn tells_trips(bench: &mut Bench) -> bool {
+    run_to(bench, 60);
+    bench.tripped() == None && trips_by_red(bench) && trips_at(bench, 60)
+}
+
+/// A bench says why the monitor tripped it, and when.
+#[test]
+fn tells_why_and_when_it_tripped(rt: HostRuntime) {
+    let Some(mut bench) = powered_up(rt.alloc()) else {
+        panic!(rt; "no memory");
+    };
+    assert!(rt; tells_trips(&mut bench));
 }

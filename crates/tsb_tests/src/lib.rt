@@ -40,6 +40,8 @@ mod rules;
 #[cfg(test)]
 mod sessions;
 #[cfg(test)]
+mod times;
+#[cfg(test)]
 mod types;
 #[cfg(test)]
 mod versions;

@@ -1,6 +1,7 @@
 //! Texts: plans, logs and commands in, display lines and the answers of a session out.
 //!
-//! What a session needs from the crates below is re-exported: plans and their faults, logs, commands, and the bench.
+//! What a session needs from the crates below is re-exported: plans and their faults, logs, commands, and the bench. So
+//! are the other types that calls name.
 #![tactic(auto)]
 
 mod answers;
@@ -21,8 +22,11 @@ pub use lines::{line, line_bytes, refused_line, when_line};
 pub use rows::Rows;
 pub use run::{COMMANDS, session};
 pub use task::{Task, task_of};
-pub use tsb_bench::{Bench, Kind};
+pub use tsb_bench::{Answer, Bench, Cmd, Input, Kind};
 pub use tsb_command_text::{Command, read_command};
+pub use tsb_dialog::{Pending, WriteError};
+pub use tsb_display_text::LineBytes;
+pub use tsb_kept::Kept;
 pub use tsb_log_text::{LIMIT as LOG_LIMIT, Log, LogError, read_log};
 pub use tsb_objects::{
     Checked, Detector, Lamp, Object, ObjectId, Overlap, PedestrianColor, Phase, Plan, Refusal, Row,
