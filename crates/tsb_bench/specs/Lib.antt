@@ -8,8 +8,6 @@ pub mod Held
 pub mod Telling
 -- how long the room of the history lasts
 pub mod Room
--- what laws of runs say of what `play` leaves
-pub mod PlayLaws
 -- the names of crates below, for those above
 pub use Rattle.tsb_history.specs as tsb_history
 pub use Rattle.tsb_machine.specs as tsb_machine

@@ -2,8 +2,8 @@
 //! inputs back, with the whole controller as it was.
 //!
 //! [`Bench`] meets the one step of the definitions (`tsb_step`), and the way back of `tsb_machine`. So what these prove
-//! of every run and every session holds of what [`play`] leaves: [`plays_keep_the_laws`]. The lower types that calls
-//! name are given out here.
+//! of every run and every session holds of what [`play`] leaves; `plays_keep_the_laws` of `tsb_laws` says it. The lower
+//! types that calls name are given out here.
 #![tactic(auto)]
 
 mod bench;
@@ -12,7 +12,6 @@ mod desk_inputs;
 mod layer_inputs;
 mod monitor_cells;
 mod passing;
-mod play_laws;
 mod player;
 mod room_laws;
 mod status;
@@ -20,7 +19,6 @@ mod telling;
 mod watched;
 
 pub use bench::{Bench, Nothing};
-pub use play_laws::plays_keep_the_laws;
 pub use player::{answer, play};
 pub use room_laws::room_lasts;
 pub use tsb_events::Events;

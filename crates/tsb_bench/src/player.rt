@@ -3,6 +3,7 @@ ghost use Rattle.std.specs.Prelude.{◌≡◌, ℕ, ◌≤◌, length, drop, rev
 ghost use Rattle.tsb_types.specs.declared.refusal.Refusal.TheVariants.{Memory};
 ghost use Rattle.tsb_objects.specs.Checked.{checked_plan};
 ghost use Rattle.tsb_plan.specs.Plan.{Plan};
+ghost use Rattle.tsb_machine.specs.Laws.{GiveBack};
 ghost use Rattle.tsb_machine.specs.Play as play;
 ghost use Rattle.tsb_step.specs.Past.{controller, earlier};
 ghost use Rattle.tsb_step.specs.Play.{records_of, remaining, AreRight};
@@ -65,6 +66,8 @@ pub fn play(alloc: Global, plan: Checked, commands: &[Cmd]) -> Result<(Bench, Ve
         (earlier (whole r.0) k).state ≡ replay (checked_plan plan) (drop k (remaining (checked_plan plan) commands.now r.1.items))) }
     // The history is the records of those inputs and nothing else.
     ensures records { IfOk result (λ r. r.0.records ≡ records_of (checked_plan plan) (remaining (checked_plan plan) commands.now r.1.items)) }
+    // The record of each of those inputs gives the state before it back.
+    ensures back { IfOk result (λ r. GiveBack controller (start (checked_plan plan)) (remaining (checked_plan plan) commands.now r.1.items)) }
     // Two phases with right of way are concurrent in the plan in effect, in each of these states.
     ensures safe { IfOk result (λ r. (k : ℕ) → IsSafe (earlier (whole r.0) k).state) }
 {

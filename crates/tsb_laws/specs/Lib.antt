@@ -56,3 +56,6 @@ pub mod OneAnswer
 pub mod SavedRuns
 -- what the events of runs tell
 pub mod Told
+-- what the laws of runs, and those of cells and records, say of one run
+pub mod PlayLaws
+pub mod PlayRecords

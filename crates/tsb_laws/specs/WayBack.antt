@@ -16,6 +16,7 @@ use Rattle.tsb_step.specs.Cells.{cells_of, state_in}
 use Rattle.tsb_step.specs.Past.{record_of, controller, pasts, earlier}
 use Rattle.tsb_step.specs.Play.{run, records_of}
 use Rattle.tsb_step.specs.Runs.{replay}
+use Rattle.tsb_laws.specs.AllRed.{IsInRange}
 use Rattle.tsb_laws.specs.Runs.{IsHeld, IsRun}
 use Rattle.tsb_laws.specs.Timers.{Place, IsPlace, timer_of, cell_of, waits, HasNone}
 
@@ -48,6 +49,10 @@ StatesHaveRows = OfRuns (λ plan is. HasRows (replay plan is))
 -- A plan that is checked is one of those that all this is said of.
 abbrev pub CheckedPlansAreHeld : Type 0
 CheckedPlansAreHeld = (checked : Checked) → IsHeld (checked_plan checked)
+
+-- And no value of it is over the greatest that its numbers of phases and sides allow, as the law that all red ends asks.
+abbrev pub CheckedPlansAreInRange : Type 0
+CheckedPlansAreInRange = (checked : Checked) → IsInRange (checked_plan checked)
 
 -- ## Records
 

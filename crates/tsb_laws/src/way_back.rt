@@ -1,5 +1,5 @@
 //! What holds of the cells and the records of every run, each law the contract of a function that does nothing.
-ghost use Rattle.tsb_laws.specs.WayBack.{CellsTellTheState, CheckedPlansAreHeld, EarlierAreShorterRuns, EqualCellsAreEqualStates, PastsAreTheRun, RecordsTakeBack, StatesHaveRows, WaitingTimersAreNotWritten};
+ghost use Rattle.tsb_laws.specs.WayBack.{CellsTellTheState, CheckedPlansAreHeld, CheckedPlansAreInRange, EarlierAreShorterRuns, EqualCellsAreEqualStates, PastsAreTheRun, RecordsTakeBack, StatesHaveRows, WaitingTimersAreNotWritten};
 
 /// The cells are the state. The cells of a state of a run, read at its tick number, are that state; equal cells at
 /// equal tick numbers are equal states, whatever runs they come from; and the bench has rows for each (`HasRows`).
@@ -15,13 +15,20 @@ pub fn cells_tell_the_state()
     ensures rows { StatesHaveRows }
 {}
 
-/// The plans that the program runs are among those that the laws of cells and records speak of. Each checked plan is
-/// one of them.
+/// `held`: The plans that the program runs are among those that the laws of cells and records speak of. Each checked
+/// plan is one of them.
+///
+/// Mistake: plans that break no rule, whatever their values are, `over` (`would_pass`, `is_too_great`).
+/// Witness: `held` of Witness, the built-in plan of two phases.
+///
+/// `range`: No value of a checked plan is over the greatest that its numbers of phases and sides allow. So the law that
+/// all red ends speaks of it too.
 ///
 /// Mistake: plans that break no rule, whatever their values are, `over` (`would_pass`, `is_too_great`).
 /// Witness: `held` of Witness, the built-in plan of two phases.
 pub fn checked_plans_are_held()
-    ensures { CheckedPlansAreHeld }
+    ensures held { CheckedPlansAreHeld }
+    ensures range { CheckedPlansAreInRange }
 {}
 
 /// The records are the run. The record of each input of a run gives back the state before it; so the records, taken

@@ -21,8 +21,9 @@ use Rattle.tsb_step.proofs.tsb_transact.DeskLemmas.{value-taken}
 use Rattle.tsb_step.specs.tsb_objects.declared.checked.Checked.{Checked}
 use Rattle.tsb_step.specs.tsb_objects.Checked.{checked_plan}
 use Rattle.tsb_step.specs.Good.{AreFit}
-use Rattle.tsb_step.specs.Tables.{has_place, indices_for}
-use Rattle.tsb_step.proofs.PlaceLemmas.{same_indices, memory_is_consistent, same_refusal}
+use Rattle.tsb_step.specs.Tables.{has_place, indices_for, greatest_for}
+use Rattle.tsb_step.proofs.PlaceLemmas.{same_indices, same_greatest, memory_is_consistent, same_refusal}
+use Rattle.tsb_laws.specs.AllRed.{IsInRange}
 use Rattle.tsb_laws.specs.Runs.{IsHeld}
 
 -- ## The cells of objects, one after the other
@@ -140,3 +141,9 @@ checked_is_held checked = record {
   sides = refl;
   bounded = λ o i. checked.plan.ranged.each o i;
 }
+
+-- with 16 phases and 4 sides the greatest values are those of the table of objects
+pub held_in_range : (plan : Plan) → IsHeld plan → IsInRange plan
+held_in_range plan held o i =
+    let most : plan.value o i ≤ greatest_for 16 4 o = rw (same_greatest o) (held.bounded o i) in
+    rw (held.phases, held.sides) most

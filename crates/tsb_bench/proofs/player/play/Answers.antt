@@ -61,3 +61,6 @@ returns-clause-records c = ap (λ (w : Whole). w.records) (all c).replayed
 
 pub returns-clause-safe : goal.returns-clause-safe
 returns-clause-safe c k = display_is_safe (earlier (whole c.loop-command.bench) k).state (c.now-tick.ensures.good k)
+
+pub returns-clause-back : goal.returns-clause-back
+returns-clause-back c = (all c).back

@@ -1,0 +1,110 @@
+-- The laws of runs, said of one run.
+use Rattle.std.proofs.Common.{◌≡◌, ℕ, zero, suc, ◌≤◌, List, [], ◌∷◌, drop, sym, subst, arith}
+use Rattle.tsb_step.specs.tsb_plan.Plan.{Plan}
+use Rattle.tsb_step.specs.declared.inputs.Input.{Input}
+use Rattle.tsb_step.specs.Good.{IsGood}
+use Rattle.tsb_step.specs.Laws.{IsConsistent}
+use Rattle.tsb_step.specs.Runs.{replay, AreTaken}
+use Rattle.tsb_step.specs.State.{State}
+use Rattle.tsb_step.proofs.ClearLemmas.{clears_in_time, clears_at_zero}
+use Rattle.tsb_step.proofs.EndLemmas.{ends_in_time}
+use Rattle.tsb_step.proofs.FieldLemmas.{fields_are_quiet}
+use Rattle.tsb_step.proofs.GoodLemmas.{good_run}
+use Rattle.tsb_step.proofs.HeldLemmas.{has_held}
+use Rattle.tsb_step.proofs.OverlapRunLemmas.{overlaps_clear}
+use Rattle.tsb_step.proofs.RestLemmas.{rests_run}
+use Rattle.tsb_step.proofs.RevertLemmas.{starts_after_red_revert}
+use Rattle.tsb_step.proofs.SafeLemmas.{display_is_safe, served_together, starts_waiting, serves_preempt}
+use Rattle.tsb_step.proofs.SideRunLemmas.{sided_run}
+use Rattle.tsb_step.proofs.StandLemmas.{stands_in_runs}
+use Rattle.tsb_step.proofs.TellLemmas.{timers_tell_time}
+use Rattle.tsb_step.proofs.TripLemmas.{faults_alone_trip}
+use Rattle.tsb_step.proofs.WaitKeepLemmas.{kept-next}
+use Rattle.tsb_step.proofs.YellowLemmas.{clears_in_yellow}
+use Rattle.tsb_laws.specs.PlayLaws.{KeepsLaws}
+use Rattle.tsb_laws.specs.PlayRecords.{KeepsRecords}
+use Rattle.tsb_laws.specs.Runs.{IsHeld, IsRun, AreTyped}
+use Rattle.tsb_laws.proofs.heads.ClearLemmas.{phase_clears, overlap_clears}
+use Rattle.tsb_laws.proofs.heads.LitLemmas.{keeps_lit_heads}
+use Rattle.tsb_laws.proofs.safety.AllRedLemmas.{all_red_ends}
+use Rattle.tsb_laws.proofs.safety.CoordinationLemmas.{ends_by_force_off, omits_hold}
+use Rattle.tsb_laws.proofs.safety.CrossingLemmas.{completes_in_time}
+use Rattle.tsb_laws.proofs.safety.EnabledLemmas.{enabled_run}
+use Rattle.tsb_laws.proofs.safety.IntergreenLemmas.{has_cleared}
+use Rattle.tsb_laws.proofs.safety.RevertLemmas.{reverts_hold}
+use Rattle.tsb_laws.proofs.safety.ServedLemmas.{are_served}
+use Rattle.tsb_laws.proofs.safety.WalkLemmas.{has_walked}
+use Rattle.tsb_laws.proofs.way_back.PlanLemmas.{held_in_range}
+use Rattle.tsb_laws.proofs.way_back.TimerLemmas.{waiting-not-written}
+use Rattle.tsb_laws.proofs.way_back.ToldLemmas.{of-a-run, cells-tell, has-rows, takes-back}
+
+few : (plan : Plan) → IsHeld plan → plan.phase_count ≤ 16
+few plan held = rw held.phases (omega arith)
+
+-- ## One run
+
+module _ (plan : Plan) (held : IsHeld plan) where
+  laws_of : (is : List Input) → AreTaken plan is → KeepsLaws plan is (replay plan is)
+  laws_of is taken = record {
+    plans_stay_consistent = good.plan;
+    displays_are_safe = display_is_safe (replay plan is) good;
+    displays_are_safe_together = served_together (replay plan is) good;
+    displays_are_safe_walks = good.walks;
+    starts_wait = starts_waiting (replay plan is) good;
+    preempts_have_phases = serves_preempt (replay plan is) good;
+    faults_alone_trip = faults_alone_trip plan is ok taken;
+    greens_clear_in_time = λ rows p ends. clears_in_time (replay plan is) rows p good ends;
+    coordinated_phases_clear_at_zero = λ rows n p off ends. clears_at_zero (replay plan is) rows n p good off ends;
+    timers_tell_time = timers_tell_time plan is ok taken;
+    ticks_end_in_time = ends_in_time (replay plan is) good;
+    starts_after_red_revert = starts_after_red_revert plan is ok taken;
+    phases_rest = rests_run plan is;
+    commitments_stand_in_runs = stands_in_runs (replay plan is) good;
+    fields_are_safe_unless_tripped = fields_are_quiet plan is ok taken;
+    phases_clear_in_yellow = clears_in_yellow plan is ok taken;
+    overlaps_clear_in_yellow = overlaps_clear plan is ok taken;
+    sides_are_served = sided_run plan is ok taken;
+    ended_have_held = has_held plan is ok taken;
+    waits_keep_phases = kept-next (replay plan is) good;
+    intergreens_hold = λ older later row next p q e x. has_cleared plan older later row next p q ok (rw e at taken) x;
+    intergreens_hold_walks = λ older later row next p q e x. has_walked plan older later row next p q ok (rw e at taken) x;
+    red_reverts_hold = λ base later row p e x. reverts_hold plan base later row p ok (rw e at taken) x;
+    enabled_are_served = record { serves = (enabled_run plan is ok taken).serves; promised = (enabled_run plan is ok taken).promised };
+    commitments_are_served = λ older later row p r c e dark x. are_served plan older later row p r c ok (few plan held) (rw e at taken) dark x;
+    crossings_complete = λ older later row d n e dark x most. completes_in_time plan older later row d n ok (few plan held) (rw e at taken) dark x most;
+    coordinated_end_by_force_off = λ dark row p ends on none. ends_by_force_off plan is row p ok (few plan held) taken dark ends on none;
+    omitted_are_not_served = λ dark row q off none. omits_hold plan is row q ok (few plan held) taken dark off none;
+    all_red_ends = λ base later n e dark red wanted most.
+        rw e (all_red_ends plan base later n ok (held_in_range plan held) (few plan held) (rw e at taken) dark red wanted most);
+    lit_heads_stay = λ i. keeps_lit_heads (replay plan is) i good;
+    lit_heads_clear_in_yellow = phase_clears plan is ok taken;
+    lit_heads_clear_in_yellow_overlaps = overlap_clears plan is ok taken;
+  }
+    where
+      ok : IsConsistent plan
+      ok = held.consistent
+
+      good : IsGood (replay plan is)
+      good = good_run plan is held.consistent taken
+
+  pub laws_now : (is : List Input) (s : State) → AreTaken plan is → s ≡ replay plan is → KeepsLaws plan is s
+  laws_now is s taken e = subst (KeepsLaws plan is) (sym e) (laws_of is taken)
+
+  records_of_run : (is : List Input) → IsRun plan is → KeepsRecords plan is (replay plan is)
+  records_of_run is r = record {
+    cells_tell_the_state = cells-tell (replay plan is) (of-a-run plan is r);
+    cells_tell_the_state_rows = has-rows plan is r;
+    pasts_are_the_run = takes-back plan is r;
+    waiting_timers_are_not_written = waiting-not-written plan is r;
+  }
+
+  pub records_now : (is : List Input) (s : State) → AreTaken plan is → AreTyped is → s ≡ replay plan is → KeepsRecords plan is s
+  records_now is s taken typed e =
+      subst (KeepsRecords plan is) (sym e) (records_of_run is (record { plan_held = held; taken = taken; typed = typed }))
+
+-- ## Shorter runs
+
+pub taken_without : (plan : Plan) (k : ℕ) (is : List Input) → AreTaken plan is → AreTaken plan (drop k is)
+taken_without plan zero is taken = taken
+taken_without plan (suc k) [] taken = taken
+taken_without plan (suc k) (i ∷ is) taken = taken_without plan k is taken.0

@@ -1,0 +1,182 @@
+-- What the laws of runs say of one run: of its newest state, of the next input whatever that is, and of each stretch of
+-- it up to that state. Times are in tenths of a second, which are ticks.
+use Rattle.std.specs.Prelude.{◌≡◌, ◌≢◌, ℕ, suc, not, ◌+◌, ◌≤◌, true, false, ◌||◌, List, ◌∷◌, ◌++◌, Some, None, ◌⊎◌}
+use Rattle.tsb_step.specs.tsb_cells.declared.timer.Timer.TheVariants.{Off}
+use Rattle.tsb_step.specs.tsb_types.declared.interval.Interval.TheVariants.{Green}
+use Rattle.tsb_step.specs.tsb_types.declared.lamp.Aspect.TheVariants.{Red}
+use Rattle.tsb_step.specs.tsb_types.declared.row.Row.{Row}
+use Rattle.tsb_step.specs.tsb_types.Intervals.{is_green, is_yellow}
+use Rattle.tsb_step.specs.tsb_plan.Parts.{is_minus_green_yellow}
+use Rattle.tsb_step.specs.tsb_plan.Plan.{Plan, red_revert}
+use Rattle.tsb_step.specs.tsb_heads.Monitoring.{conflict, gives_way}
+use Rattle.tsb_step.specs.tsb_ring.Moves.{is_started}
+use Rattle.tsb_step.specs.tsb_ring.Rings.{Ring}
+use Rattle.tsb_step.specs.declared.inputs.Input.{Input}
+use Rattle.tsb_step.specs.declared.inputs.Input.TheVariants.{Tick}
+use Rattle.tsb_step.specs.ClearanceLaws.{EndsNow, ClearsInTime, IsForcedOff, IsOverAtZero}
+use Rattle.tsb_step.specs.Laws.{IsConsistent, ServesTogether, WalksBesideGreen, StartsWaiting, ServesPreempt, is_unlit}
+use Rattle.tsb_step.specs.Runs.{replay}
+use Rattle.tsb_step.specs.Signs.{display, field, IsSafe}
+use Rattle.tsb_step.specs.State.{State, interval}
+use Rattle.tsb_step.specs.Step.{step, verdict}
+use Rattle.tsb_step.specs.Tick.{service, hold, forced, omitted, moves}
+use Rattle.tsb_step.specs.TimeLaws.{held_for, is_tick, is_yellow_head, EndsInTime, HasHeld, IsSided, Rests, TellsTime}
+use Rattle.tsb_step.specs.WaitLaws.{IsKeptNext}
+use Rattle.tsb_laws.specs.AllRed.{HasBeenRed, HasBeenWanted}
+use Rattle.tsb_laws.specs.Commitments.{ServesEnabled, CommitsTo, wait, StartsWithin}
+use Rattle.tsb_laws.specs.Coordination.{was_forced_off, OmitsHold}
+use Rattle.tsb_laws.specs.Crossings.{BeginsCrossing, TakesAtMost, CompletesWithin}
+use Rattle.tsb_laws.specs.Intergreens.{AreApart, HasCleared, WalksBefore, HasWalked}
+use Rattle.tsb_laws.specs.LitHeads.{KeepsLitHeads, StaysOrClears}
+use Rattle.tsb_laws.specs.RedReverts.{StartsAgain, HasReverted, RevertsAtOnce}
+use Rattle.tsb_laws.specs.Stretches.{IsUntripped, largest, EndsGreen}
+
+-- ## Of a state, and of the next input
+
+-- a green that ends in the first of the next ticks is followed by its yellow change and its red clearance, each in
+-- full, and then its phase is over, where ticks alone come and nothing trips
+abbrev pub ClearsGreens : State → Type 0
+ClearsGreens s = (rows : ℕ → Row) (p : ℕ) → EndsNow s rows p → ClearsInTime s rows p
+
+-- a coordinated phase that is forced off at its instant in the first of them is over at local zero
+abbrev pub ClearsAtZero : State → Type 0
+ClearsAtZero s = (rows : ℕ → Row) (n p : ℕ) → IsForcedOff s n p → EndsNow s rows p → IsOverAtZero s rows p
+
+-- unless the controller has tripped, the field, with a lamp that a fault has lit, is in no conflict
+abbrev pub HasSafeField : State → Type 0
+HasSafeField s = s.trip ≡ None → conflict s.plan (field s) ≡ None
+
+-- unless the controller has tripped, a commitment stands over the next input, or its phase turns Green by it
+abbrev pub KeepsCommitments : State → Type 0
+KeepsCommitments s = (i : Input) (r : Ring) (c : ℕ) → s.trip ≡ None → s.rings.commitment r ≡ Some c →
+    ((step s i).rings.commitment r ≡ Some c) ⊎ ((interval s c ≢ Green) × (interval (step s i) c ≡ Green))
+
+-- the next input, if it is taken, is no tick, and neither trips nor ends a trip, leaves each lit head
+abbrev pub KeepsHeads : State → Type 0
+KeepsHeads s = (i : Input) → is_tick i ≡ false → verdict s i ≡ None → (step s i).trip ≡ s.trip →
+    KeepsLitHeads (display s) (display (step s i))
+
+-- ## Of a run, and of the next input
+
+-- of a controller that has not tripped
+abbrev pub Untripped : (Plan → List Input → Type 0) → Plan → List Input → Type 0
+Untripped fact plan is = (replay plan is).trip ≡ None → fact plan is
+
+-- what the next tick ends has held for its time by the plan in effect
+abbrev pub EndsWhatHasHeld : Plan → List Input → Type 0
+EndsWhatHasHeld plan is = (row : Row) (p : ℕ) → HasHeld plan is row p
+
+-- the head of a phase that the next tick turns red has shown yellow for the last 30 ticks, that one included
+abbrev pub TurnsRedFromYellow : Plan → List Input → Type 0
+TurnsRedFromYellow plan is = (row : Row) (p : ℕ) → (display (replay plan is)).vehicle p ≢ Red →
+    (display (replay plan (Tick row ∷ is))).vehicle p ≡ Red → 29 ≤ held_for (λ s. is_yellow_head ((display s).vehicle p)) plan is
+
+-- so has the head of an overlap that is not of type minusGreenYellow
+abbrev pub TurnsOverlapsRedFromYellow : Plan → List Input → Type 0
+TurnsOverlapsRedFromYellow plan is = (row : Row) (o : ℕ) → is_minus_green_yellow (replay plan is).plan o ≡ false →
+    (display (replay plan is)).overlap o ≢ Red → (display (replay plan (Tick row ∷ is))).overlap o ≡ Red →
+    29 ≤ held_for (λ s. is_yellow_head ((display s).overlap o)) plan is
+
+-- a lit head of a phase stays lit over the next input, or turns red by its yellow
+abbrev pub ClearsLitPhases : Plan → List Input → Type 0
+ClearsLitPhases plan is = (i : Input) (p : ℕ) → verdict (replay plan is) i ≡ None → (replay plan (i ∷ is)).trip ≡ None →
+    gives_way ((display (replay plan is)).vehicle p) ≡ true → StaysOrClears (λ s. (display s).vehicle p) plan is i
+
+-- so does that of an overlap that is not of type minusGreenYellow
+abbrev pub ClearsLitOverlaps : Plan → List Input → Type 0
+ClearsLitOverlaps plan is = (i : Input) (o : ℕ) → verdict (replay plan is) i ≡ None → (replay plan (i ∷ is)).trip ≡ None →
+    is_minus_green_yellow (replay plan is).plan o ≡ false → gives_way ((display (replay plan is)).overlap o) ≡ true →
+    StaysOrClears (λ s. (display s).overlap o) plan is i
+
+-- a phase that the next tick starts has waited for its red revert, unless its red revert timer is Off
+abbrev pub RevertsOrOff : Plan → List Input → Type 0
+RevertsOrOff plan is = (row : Row) (p : ℕ) → is_started (moves (replay plan is) row) p ≡ true →
+    (((replay plan is).phases p).red_revert ≡ Off)
+    ⊎ (red_revert (replay plan is).plan p ≤ suc (held_for (λ s. not (is_green (interval s p) || is_yellow (interval s p))) plan is))
+
+-- while a pattern runs and no preempt is in service, the next tick ends a coordinated green only by its force-off
+abbrev pub EndsByForceOff : Plan → List Input → Type 0
+EndsByForceOff plan is = (row : Row) (p : ℕ) → EndsGreen plan is row p → hold (replay plan is) p ≡ true →
+    service (replay plan is) row ≡ None → (forced (replay plan is) p ≡ true) ⊎ (was_forced_off plan p is ≡ true)
+
+-- without a preempt in service the next tick starts an omitted phase only by an older commitment
+abbrev pub KeepsOmits : Plan → List Input → Type 0
+KeepsOmits plan is = (row : Row) (q : ℕ) → omitted (replay plan is) q ≡ true → service (replay plan is) row ≡ None → OmitsHold plan is row q
+
+-- ## Of stretches of a run: what came before is `older` or `base`, and what came later is `later`
+
+-- between a green that ended and the next tick, if that starts a phase which is not concurrent, lies the intergreen
+abbrev pub HasIntergreens : Plan → List Input → Type 0
+HasIntergreens plan is = (older later : List Input) (row next : Row) (p q : ℕ) → is ≡ later ++ (Tick row ∷ older) →
+    AreApart plan older row p later next q → HasCleared plan older row p later next
+
+-- and from the beginning of a walk its walk, its pedestrian clearance and the intergreen
+abbrev pub ClearsWalks : Plan → List Input → Type 0
+ClearsWalks plan is = (older later : List Input) (row next : Row) (p q : ℕ) → is ≡ later ++ (Tick row ∷ older) →
+    WalksBefore plan older row p later next q → HasWalked plan older row p later next
+
+-- between a yellow and the next tick, if that starts its phase again, lies the red revert
+abbrev pub KeepsRedReverts : Plan → List Input → Type 0
+KeepsRedReverts plan is = (base later : List Input) (row : Row) (p : ℕ) → is ≡ later ++ base → StartsAgain plan base later row p →
+    HasReverted plan base later row p ⊎ RevertsAtOnce plan base later p
+
+-- a commitment that was made as a green ended is served in time
+abbrev pub ServesCommitments : Plan → List Input → Type 0
+ServesCommitments plan is = (older later : List Input) (row : Row) (p : ℕ) (r : Ring) (c : ℕ) → is ≡ later ++ (Tick row ∷ older) →
+    IsUntripped plan (Tick row ∷ older) later → CommitsTo plan older row p r c →
+    StartsWithin plan (Tick row ∷ older) c (wait plan (Tick row ∷ older) p c later) later
+
+-- a crossing that began is completed in time
+abbrev pub CompletesCrossings : Plan → List Input → Type 0
+CompletesCrossings plan is = (older later : List Input) (row : Row) (d n : ℕ) → is ≡ later ++ (Tick row ∷ older) →
+    IsUntripped plan (Tick row ∷ older) later → BeginsCrossing plan older row d → TakesAtMost plan (Tick row ∷ older) n later →
+    CompletesWithin plan (Tick row ∷ older) d (suc n) later
+
+-- all red ends in time, where some phase is wanted
+abbrev pub EndsAllRed : Plan → List Input → Type 0
+EndsAllRed plan is = (base later : List Input) (n : ℕ) → is ≡ later ++ base → IsUntripped plan base later →
+    HasBeenRed plan base later → HasBeenWanted plan base later → ((p : ℕ) → largest (λ x. red_revert x p) plan base later ≤ n) →
+    (replay plan is).now ≤ (replay plan base).now + n + 2
+
+-- ## All laws of runs, each by the name of its function
+
+-- of the state s after the inputs `is` from power-up with `plan`
+pub record KeepsLaws (plan : Plan) (is : List Input) (s : State) : Type 0 where
+  -- tsb_step, laws
+  pub plans_stay_consistent : IsConsistent s.plan
+  pub displays_are_safe : IsSafe s
+  pub displays_are_safe_together : ServesTogether s
+  pub displays_are_safe_walks : WalksBesideGreen s
+  pub starts_wait : StartsWaiting s
+  pub preempts_have_phases : ServesPreempt s
+  pub faults_alone_trip : is_unlit plan is ≡ true → (replay plan is).trip ≡ None
+  -- tsb_step, clearance_laws
+  pub greens_clear_in_time : ClearsGreens s
+  pub coordinated_phases_clear_at_zero : ClearsAtZero s
+  -- tsb_step, time_laws
+  pub timers_tell_time : Untripped (λ plan is. (p : ℕ) → TellsTime plan is p) plan is
+  pub ticks_end_in_time : (row : Row) (p : ℕ) → EndsInTime s row p
+  pub starts_after_red_revert : Untripped RevertsOrOff plan is
+  pub phases_rest : (p : ℕ) → Rests (s.phases p)
+  pub commitments_stand_in_runs : KeepsCommitments s
+  pub fields_are_safe_unless_tripped : HasSafeField s
+  pub phases_clear_in_yellow : Untripped TurnsRedFromYellow plan is
+  pub overlaps_clear_in_yellow : Untripped TurnsOverlapsRedFromYellow plan is
+  pub sides_are_served : IsSided s.plan (interval s) s.rings
+  pub ended_have_held : Untripped EndsWhatHasHeld plan is
+  -- tsb_step, wait_laws
+  pub waits_keep_phases : IsKeptNext s
+  -- safety
+  pub intergreens_hold : HasIntergreens plan is
+  pub intergreens_hold_walks : ClearsWalks plan is
+  pub red_reverts_hold : KeepsRedReverts plan is
+  pub enabled_are_served : ServesEnabled s
+  pub commitments_are_served : ServesCommitments plan is
+  pub crossings_complete : CompletesCrossings plan is
+  pub coordinated_end_by_force_off : Untripped EndsByForceOff plan is
+  pub omitted_are_not_served : Untripped KeepsOmits plan is
+  pub all_red_ends : EndsAllRed plan is
+  -- heads
+  pub lit_heads_stay : KeepsHeads s
+  pub lit_heads_clear_in_yellow : Untripped ClearsLitPhases plan is
+  pub lit_heads_clear_in_yellow_overlaps : Untripped ClearsLitOverlaps plan is
