@@ -25,10 +25,17 @@ use Rattle.tsb_step.specs.WaitLaws.{IsKeptNext}
 use Rattle.tsb_laws.specs.AllRed.{HasBeenRed, HasBeenWanted}
 use Rattle.tsb_laws.specs.Commitments.{ServesEnabled, CommitsTo, wait, StartsWithin}
 use Rattle.tsb_laws.specs.Coordination.{was_forced_off, OmitsHold}
+use Rattle.tsb_laws.specs.CrossingGreens.{IsCalm}
 use Rattle.tsb_laws.specs.Crossings.{BeginsCrossing, TakesAtMost, CompletesWithin}
+use Rattle.tsb_laws.specs.GreenEnds.{EndsForAReason}
 use Rattle.tsb_laws.specs.Intergreens.{AreApart, HasCleared, WalksBefore, HasWalked}
+use Rattle.tsb_laws.specs.KeptCalls.{restarts, RunsOn, Remembers, HasTurnedGreen, HasBegunWalk}
 use Rattle.tsb_laws.specs.LitHeads.{KeepsLitHeads, StaysOrClears}
+use Rattle.tsb_laws.specs.OverlapPhases.{GoesWithPhases}
+use Rattle.tsb_laws.specs.PreemptEntries.{EntersByPreempt}
+use Rattle.tsb_laws.specs.PreemptTurns.{GivesWay, EndsFrom}
 use Rattle.tsb_laws.specs.RedReverts.{StartsAgain, HasReverted, RevertsAtOnce}
+use Rattle.tsb_laws.specs.RunningMaximum.{maximum_of, IsBounded, MovesByAStep}
 use Rattle.tsb_laws.specs.Stretches.{IsUntripped, largest, EndsGreen}
 
 -- ## Of a state, and of the next input
@@ -55,6 +62,19 @@ KeepsCommitments s = (i : Input) (r : Ring) (c : ℕ) → s.trip ≡ None → s.
 abbrev pub KeepsHeads : State → Type 0
 KeepsHeads s = (i : Input) → is_tick i ≡ false → verdict s i ≡ None → (step s i).trip ≡ s.trip →
     KeepsLitHeads (display s) (display (step s i))
+
+-- unless the controller has tripped, what calls in the next tick is remembered, or served in it
+abbrev pub RemembersCalls : State → Type 0
+RemembersCalls s = s.trip ≡ None → (row : Row) (p : ℕ) → Remembers s row p
+
+-- the head of an overlap is green or yellow only beside a phase in service that it includes
+abbrev pub ShowsOverlapsWithPhases : State → Type 0
+ShowsOverlapsWithPhases s = (o : ℕ) → gives_way ((display s).overlap o) ≡ true → GoesWithPhases s o
+
+-- the next input, if it is no tick, leaves the plan and resets no trip, leaves the maximum in use
+abbrev pub LeavesMaximums : State → Type 0
+LeavesMaximums s = (i : Input) (p : ℕ) → is_tick i ≡ false → (step s i).plan ≡ s.plan → restarts s i ≡ false →
+    maximum_of (step s i) p ≡ maximum_of s p
 
 -- ## Of a run, and of the next input
 
@@ -103,6 +123,14 @@ EndsByForceOff plan is = (row : Row) (p : ℕ) → EndsGreen plan is row p → h
 abbrev pub KeepsOmits : Plan → List Input → Type 0
 KeepsOmits plan is = (row : Row) (q : ℕ) → omitted (replay plan is) q ≡ true → service (replay plan is) row ≡ None → OmitsHold plan is row q
 
+-- a green that the next tick ends ends for a reason
+abbrev pub EndsGreensForAReason : Plan → List Input → Type 0
+EndsGreensForAReason plan is = (row : Row) (p : ℕ) → EndsGreen plan is row p → EndsForAReason plan p is row
+
+-- with a preempt in service the next tick starts only what this wants, or what a ring was committed to
+abbrev pub LetsInByPreempt : Plan → List Input → Type 0
+LetsInByPreempt plan is = (row : Row) (n q : ℕ) → service (replay plan is) row ≡ Some n → EntersByPreempt plan is row q
+
 -- ## Of stretches of a run: what came before is `older` or `base`, and what came later is `later`
 
 -- between a green that ended and the next tick, if that starts a phase which is not concurrent, lies the intergreen
@@ -137,6 +165,18 @@ abbrev pub EndsAllRed : Plan → List Input → Type 0
 EndsAllRed plan is = (base later : List Input) (n : ℕ) → is ≡ later ++ base → IsUntripped plan base later →
     HasBeenRed plan base later → HasBeenWanted plan base later → ((p : ℕ) → largest (λ x. red_revert x p) plan base later ≤ n) →
     (replay plan is).now ≤ (replay plan base).now + n + 2
+
+-- a vehicle call that was remembered is so now, or its phase has turned Green since
+abbrev pub KeepsVehicleCalls : Plan → List Input → Type 0
+KeepsVehicleCalls plan is = (base later : List Input) (p : ℕ) → is ≡ later ++ base → RunsOn plan base later →
+    (replay plan base).memories.vehicle p ≡ true →
+    ((replay plan is).memories.vehicle p ≡ true) ⊎ HasTurnedGreen plan base p later
+
+-- a pedestrian call that was remembered is so now, or the walk of its phase has begun since
+abbrev pub KeepsPedestrianCalls : Plan → List Input → Type 0
+KeepsPedestrianCalls plan is = (base later : List Input) (p : ℕ) → is ≡ later ++ base → RunsOn plan base later →
+    (replay plan base).memories.pedestrian p ≡ true →
+    ((replay plan is).memories.pedestrian p ≡ true) ⊎ HasBegunWalk plan base p later
 
 -- ## All laws of runs, each by the name of its function
 
@@ -180,3 +220,16 @@ pub record KeepsLaws (plan : Plan) (is : List Input) (s : State) : Type 0 where
   pub lit_heads_stay : KeepsHeads s
   pub lit_heads_clear_in_yellow : Untripped ClearsLitPhases plan is
   pub lit_heads_clear_in_yellow_overlaps : Untripped ClearsLitOverlaps plan is
+  -- operation
+  pub calls_are_kept_remembered : RemembersCalls s
+  pub calls_are_kept_vehicles : KeepsVehicleCalls plan is
+  pub calls_are_kept_pedestrians : KeepsPedestrianCalls plan is
+  pub greens_end_for_a_reason : Untripped EndsGreensForAReason plan is
+  pub overlaps_go_with_phases : ShowsOverlapsWithPhases s
+  pub maximums_move_by_steps_bounded : (p : ℕ) → IsBounded s p
+  pub maximums_move_by_steps : (row : Row) (p : ℕ) → MovesByAStep s row p
+  pub maximums_move_by_steps_others : LeavesMaximums s
+  pub preempts_give_way_turns : (i : Input) → GivesWay s i
+  pub preempts_give_way_ends : (i : Input) → EndsFrom s i
+  pub crossings_have_no_green : IsCalm s.plan (interval s) s.rings
+  pub preempts_let_in_their_own : Untripped LetsInByPreempt plan is

@@ -16,9 +16,9 @@ use std::alloc::Global;
 use tsb_bench::{Answer, Bench, Checked, Cmd, Input, Lamp, Refusal, play};
 
 /// The bench that `play` leaves keeps the laws of runs. From power-up with this plan, after these commands with these
-/// answers, each law of runs of tsb_step, of `safety` and of `heads` holds of its state, of the inputs that remain and
-/// of the next input, whatever that is (`KeepsLaws`). So it is of each state that it can go back to. At each moment a
-/// session is where `play` leaves the commands so far.
+/// answers, each law of runs of tsb_step, of `safety`, of `heads` and of `operation` holds of its state, of the inputs
+/// that remain and of the next input, whatever that is (`KeepsLaws`). So it is of each state that it can go back to. At
+/// each moment a session is where `play` leaves the commands so far.
 ///
 /// Needs: what `play` promises, in its clauses `taken`, `state` and `earlier`.
 /// Not said: laws of two runs (`desks_act_by_plans`); laws of any state or of a layer, which need no run.

@@ -26,9 +26,17 @@ use Rattle.tsb_laws.specs.PlayRecords.{KeepsRecords}
 use Rattle.tsb_laws.specs.Runs.{IsHeld, IsRun, AreTyped}
 use Rattle.tsb_laws.proofs.heads.ClearLemmas.{phase_clears, overlap_clears}
 use Rattle.tsb_laws.proofs.heads.LitLemmas.{keeps_lit_heads}
+use Rattle.tsb_laws.proofs.operation.CalmLemmas.{calm_run}
+use Rattle.tsb_laws.proofs.operation.GreenEndLemmas.{ends_for_a_reason}
+use Rattle.tsb_laws.proofs.operation.KeptCallLemmas.{remembers, vehicles_stand, pedestrians_stand}
+use Rattle.tsb_laws.proofs.operation.OverlapPhaseLemmas.{goes_with_phases}
+use Rattle.tsb_laws.proofs.operation.PreemptEntryLemmas.{lets_in_its_own}
+use Rattle.tsb_laws.proofs.operation.PreemptTurnLemmas.{gives_way, ends_from}
+use Rattle.tsb_laws.proofs.operation.RunningMaximumLemmas.{bounded, moves_by_a_step, others_leave_it}
 use Rattle.tsb_laws.proofs.safety.AllRedLemmas.{all_red_ends}
 use Rattle.tsb_laws.proofs.safety.CoordinationLemmas.{ends_by_force_off, omits_hold}
 use Rattle.tsb_laws.proofs.safety.CrossingLemmas.{completes_in_time}
+use Rattle.tsb_laws.proofs.safety.DueLemmas.{count_run}
 use Rattle.tsb_laws.proofs.safety.EnabledLemmas.{enabled_run}
 use Rattle.tsb_laws.proofs.safety.IntergreenLemmas.{has_cleared}
 use Rattle.tsb_laws.proofs.safety.RevertLemmas.{reverts_hold}
@@ -79,6 +87,18 @@ module _ (plan : Plan) (held : IsHeld plan) where
     lit_heads_stay = λ i. keeps_lit_heads (replay plan is) i good;
     lit_heads_clear_in_yellow = phase_clears plan is ok taken;
     lit_heads_clear_in_yellow_overlaps = overlap_clears plan is ok taken;
+    calls_are_kept_remembered = λ dark row p. remembers (replay plan is) good row p (rw count_run plan is in few plan held) dark;
+    calls_are_kept_vehicles = λ base later p e on was. rw e (vehicles_stand plan base later p ok (rw e at taken) on was);
+    calls_are_kept_pedestrians = λ base later p e on was. rw e (pedestrians_stand plan base later p ok (few plan held) (rw e at taken) on was);
+    greens_end_for_a_reason = λ dark row p x. ends_for_a_reason plan is row p ok (few plan held) taken dark x;
+    overlaps_go_with_phases = goes_with_phases (replay plan is) good;
+    maximums_move_by_steps_bounded = bounded (replay plan is);
+    maximums_move_by_steps = moves_by_a_step (replay plan is) good;
+    maximums_move_by_steps_others = others_leave_it (replay plan is);
+    preempts_give_way_turns = gives_way (replay plan is);
+    preempts_give_way_ends = ends_from (replay plan is);
+    crossings_have_no_green = calm_run plan is ok taken;
+    preempts_let_in_their_own = λ dark row n q on. lets_in_its_own plan is row n q ok taken dark on;
   }
     where
       ok : IsConsistent plan
