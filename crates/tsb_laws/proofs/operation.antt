@@ -9,3 +9,5 @@ pub mod Examples
 pub mod CalmLemmas
 pub mod TargetLemmas
 pub mod PreemptEntryLemmas
+pub mod PressLemmas
+pub mod UnwantedGreenLemmas

@@ -32,6 +32,8 @@ pub mod PreemptTurns
 pub mod CrossingGreens
 -- what enters under a preempt
 pub mod PreemptEntries
+-- how long a green lasts that the preempt in service does not want
+pub mod UnwantedGreens
 -- the runs of which the laws speak
 pub mod Runs
 -- timers among the cells, and what a tick makes of them

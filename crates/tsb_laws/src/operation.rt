@@ -7,6 +7,7 @@ ghost use Rattle.tsb_laws.specs.OverlapPhases.{OverlapsGoWithPhases};
 ghost use Rattle.tsb_laws.specs.PreemptEntries.{PreemptsLetInTheirOwn};
 ghost use Rattle.tsb_laws.specs.PreemptTurns.{PreemptsGiveWay, ServicesEnd};
 ghost use Rattle.tsb_laws.specs.RunningMaximum.{MaximumsAreBounded, MaximumsMoveByAStep, OthersLeaveMaximums};
+ghost use Rattle.tsb_laws.specs.UnwantedGreens.{UnwantedGreensEnd};
 
 /// `remembered`: What calls is remembered, or served at once. An output that calls an enabled, locking phase which was
 /// not Green is in vehicle memory after the tick, or the phase turns Green in it; a button that calls an enabled phase
@@ -125,4 +126,16 @@ pub fn crossings_have_no_green()
 /// Witness: `an_entry` of PreemptEntryRuns.
 pub fn preempts_let_in_their_own()
     ensures { PreemptsLetInTheirOwn }
+{}
+
+/// Under a preempt a green that it does not want ends once it is ready, or waits for the barrier. If it stays Green in a
+/// tick in which it is ready, then a ring is committed, or another green is not ready.
+///
+/// Needs: an untripped run; at most 16 phases.
+/// Not said: for how long it waits.
+/// Mistake: a preempt in whose service rings go on by calls, and rest where none is, `by_calls` (`is_unwanted`, `is_fit`,
+/// `ends_2`, `would_rest`).
+/// Witness: `a_wait` of UnwantedGreenRuns, in which 1 waits for 6.
+pub fn unwanted_greens_end()
+    ensures { UnwantedGreensEnd }
 {}

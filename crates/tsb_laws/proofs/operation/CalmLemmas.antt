@@ -3,7 +3,6 @@
 use Rattle.std.proofs.Common.{◌≡◌, ℕ, ◌==◌, Bool, true, false, ◌&&◌, ◌||◌, if◌then◌else◌, List, Option, Some, None, refl, sym, ap, ◌∙◌, inl, inr}
 use Rattle.std.proofs.lemmas.Bool.{cases_Bool, or_cases, eq-eqb, true≢false, false≢true, false_from_ne_true}
 use Rattle.tsb_step.specs.tsb_types.declared.interval.Interval.{Interval}
-use Rattle.tsb_step.specs.tsb_types.declared.interval.Interval.TheVariants.{Green}
 use Rattle.tsb_step.specs.tsb_types.declared.row.Row.{Row}
 use Rattle.tsb_step.specs.tsb_types.Intervals.{is_green, is_yellow, in_service}
 use Rattle.tsb_step.specs.tsb_types.Lists.{is}
@@ -47,7 +46,7 @@ module _ (plan : Plan) (s : rings.State) (given : rings.Given) (yellow_done : �
   later = interval_after (moves_in plan s given) yellow_done given.interval
 
   -- a phase that is Green after the tick has started, or was Green and has not ended
-  stays_green : (p : ℕ) → is_green (later p) ≡ true → is_started (moves_in plan s given) p ≡ false →
+  pub stays_green : (p : ℕ) → is_green (later p) ≡ true → is_started (moves_in plan s given) p ≡ false →
       (is_green (given.interval p) ≡ true) × (is_ended (moves_in plan s given) p ≡ false)
   unfolding interval_after
   stays_green p h e = go (is_cleared (moves_in plan s given) p) (is_ended (moves_in plan s given) p) (is_yellow (given.interval p) && yellow_done p) refl refl refl
@@ -60,7 +59,7 @@ module _ (plan : Plan) (s : rings.State) (given : rings.Given) (yellow_done : �
       go false false false k l m = (rw (e, k, l, m) at h, l)
 
   -- a phase of a ring that starts nothing does not start
-  not_started : (r : Ring) (p : ℕ) → in_ring plan r p ≡ true → starting plan s given r ≡ None → is_started (moves_in plan s given) p ≡ false
+  pub not_started : (r : Ring) (p : ℕ) → in_ring plan r p ≡ true → starting plan s given r ≡ None → is_started (moves_in plan s given) p ≡ false
   unfolding moves_in
   not_started r p own none =
       false_from_ne_true _ (λ h. elim (or_cases (is p (starting plan s given Ring1)) (is p (starting plan s given Ring2)) h) [

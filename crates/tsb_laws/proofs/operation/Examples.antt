@@ -6,3 +6,4 @@ pub mod MaximumRuns
 pub mod PreemptRuns
 pub mod CrossingGreenRuns
 pub mod PreemptEntryRuns
+pub mod UnwantedGreenRuns

@@ -1,5 +1,5 @@
 -- Under a preempt only what it wants enters, and what rings were committed to before.
-use Rattle.std.proofs.Common.{◌≡◌, ℕ, Bool, true, false, not, List, Option, Some, None, option_map, refl, sym, ap, ◌∙◌, inl, inr, ◌⊎◌}
+use Rattle.std.proofs.Common.{◌≡◌, ℕ, Bool, true, false, not, List, Option, Some, None, option_map, refl, sym, ap, subst, ◌∙◌, inl, inr, ◌⊎◌}
 use Rattle.std.proofs.lemmas.Bool.{and_parts, or_cases}
 use Rattle.tsb_step.specs.tsb_types.declared.row.Row.{Row}
 use Rattle.tsb_step.specs.tsb_types.Lists.{is}
@@ -12,7 +12,7 @@ use Rattle.tsb_step.specs.tsb_ring.Wants.{is_targeted, pick}
 use Rattle.tsb_step.specs.tsb_ring.Next.{idle_pick, starting, new_commitment, next as rings_next}
 use Rattle.tsb_step.specs.tsb_ring.Moves as moving
 use Rattle.tsb_step.specs.tsb_ring.Moves.{is_started}
-use Rattle.tsb_step.specs.tsb_ring.Laws.{IsSymmetric}
+use Rattle.tsb_step.specs.tsb_ring.Laws.{IsSymmetric, IsPairwiseConcurrent}
 use Rattle.tsb_step.proofs.tsb_ring.ActLemmas.{starts_alone}
 use Rattle.tsb_step.proofs.tsb_ring.MoveLemmas.{is-Some}
 use Rattle.tsb_step.proofs.tsb_ring.SoundLemmas.{Commits, enters, stands, makes, commits, new_commits}
@@ -32,11 +32,11 @@ use Rattle.tsb_laws.proofs.safety.IntergreenLemmas.{started_now}
 use Rattle.tsb_laws.proofs.operation.TargetLemmas.{picks_wanted, enters_wanted}
 
 -- the list of the preempt in service, in this tick
-record Asks (s : State) (row : Row) : Type 0 where
-  list : ℕ → Bool
-  is_target : target s row ≡ Some list
+pub record Asks (s : State) (row : Row) : Type 0 where
+  pub list : ℕ → Bool
+  pub is_target : target s row ≡ Some list
 
-asked : (s : State) (row : Row) (n : ℕ) → service s row ≡ Some n → Asks s row
+pub asked : (s : State) (row : Row) (n : ℕ) → service s row ≡ Some n → Asks s row
 unfolding new_service
 asked s row n h = go (preempts.new_service s.plan (preempts_given s row) (preempts_read s)) refl h
   where
@@ -49,9 +49,12 @@ asked s row n h = go (preempts.new_service s.plan (preempts_given s row) (preemp
     }
 
 module _ (s : State) (row : Row) (good : IsGood s) (it : Asks s row) where
-  told : (rings_given s row).target ≡ Some it.list
+  pub told : (rings_given s row).target ≡ Some it.list
   unfolding rings_given
   told = it.is_target
+
+  pub pairs : IsPairwiseConcurrent s.plan (Some it.list)
+  pairs = subst (λ (t : Option (ℕ → Bool)). IsPairwiseConcurrent s.plan t) told (given s row good).pairwise
 
   in_list : (q : ℕ) → is_targeted s.plan it.list q ≡ true → must_end s row q ≡ false
   in_list q h =

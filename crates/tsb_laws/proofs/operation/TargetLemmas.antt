@@ -13,7 +13,7 @@ use Rattle.tsb_step.proofs.tsb_ring.WaitLemmas.{first-passes, targeted_candidate
 use Rattle.tsb_step.proofs.tsb_ring.WantLemmas.{and_four, pick_want}
 
 module _ (plan : Plan) (s : State) (given : Given) (target : ℕ → Bool) (wanted : given.target ≡ Some target) where
-  found_is : (r : Ring) (w : Want) → want_of plan s given r ≡ Some w → want_by_target plan s given r (picked_before plan s given r) target ≡ w
+  pub found_is : (r : Ring) (w : Want) → want_of plan s given r ≡ Some w → want_by_target plan s given r (picked_before plan s given r) target ≡ w
   unfolding want_of want
   found_is r w h =
       ap (λ (t : Option (ℕ → Bool)). want_found plan s given r (picked_before plan s given r) t) (sym wanted)
