@@ -11,3 +11,5 @@ pub mod TargetLemmas
 pub mod PreemptEntryLemmas
 pub mod PressLemmas
 pub mod UnwantedGreenLemmas
+pub mod WantedStartLemmas
+pub mod WantedPhaseLemmas

@@ -34,6 +34,8 @@ pub mod CrossingGreens
 pub mod PreemptEntries
 -- how long a green lasts that the preempt in service does not want
 pub mod UnwantedGreens
+-- when a phase starts that the preempt in service wants
+pub mod WantedStarts
 -- the runs of which the laws speak
 pub mod Runs
 -- timers among the cells, and what a tick makes of them

@@ -8,6 +8,7 @@ ghost use Rattle.tsb_laws.specs.PreemptEntries.{PreemptsLetInTheirOwn};
 ghost use Rattle.tsb_laws.specs.PreemptTurns.{PreemptsGiveWay, ServicesEnd};
 ghost use Rattle.tsb_laws.specs.RunningMaximum.{MaximumsAreBounded, MaximumsMoveByAStep, OthersLeaveMaximums};
 ghost use Rattle.tsb_laws.specs.UnwantedGreens.{UnwantedGreensEnd};
+ghost use Rattle.tsb_laws.specs.WantedStarts.{WantedPhasesStart};
 
 /// `remembered`: What calls is remembered, or served at once. An output that calls an enabled, locking phase which was
 /// not Green is in vehicle memory after the tick, or the phase turns Green in it; a button that calls an enabled phase
@@ -138,4 +139,16 @@ pub fn preempts_let_in_their_own()
 /// Witness: `a_wait` of UnwantedGreenRuns, in which 1 waits for 6.
 pub fn unwanted_greens_end()
     ensures { UnwantedGreensEnd }
+{}
+
+/// Under a preempt a phase that it wants starts as soon as it may, where nothing keeps it. It may start on the side that is
+/// served, outside a crossing, once its red revert has passed and no phase of its ring is in service. What keeps it is a
+/// phase in service that it is not concurrent with, or a ring that is committed.
+///
+/// Needs: an untripped run; at most 16 phases.
+/// Not said: for how long it is kept.
+/// Mistake: a preempt in whose service rings go on by calls, `by_calls` (`wants_1`, `would_go_to_2`).
+/// Witness: `a_start` of WantedPhaseRuns, in which 1 starts (`starts_1`).
+pub fn wanted_phases_start()
+    ensures { WantedPhasesStart }
 {}

@@ -7,3 +7,4 @@ pub mod PreemptRuns
 pub mod CrossingGreenRuns
 pub mod PreemptEntryRuns
 pub mod UnwantedGreenRuns
+pub mod WantedPhaseRuns
