@@ -13,3 +13,4 @@ pub mod PressLemmas
 pub mod UnwantedGreenLemmas
 pub mod WantedStartLemmas
 pub mod WantedPhaseLemmas
+pub mod PhaseTimeLemmas
