@@ -19,7 +19,7 @@ use Rattle.tsb_step.specs.Runs.{replay}
 use Rattle.tsb_step.specs.Signs.{display, field, IsSafe}
 use Rattle.tsb_step.specs.State.{State, interval}
 use Rattle.tsb_step.specs.Step.{step, verdict}
-use Rattle.tsb_step.specs.Tick.{service, hold, forced, omitted, moves}
+use Rattle.tsb_step.specs.Tick.{service, must_end, hold, forced, omitted, ready, moves}
 use Rattle.tsb_step.specs.TimeLaws.{held_for, is_tick, is_yellow_head, EndsInTime, HasHeld, IsSided, Rests, TellsTime}
 use Rattle.tsb_step.specs.WaitLaws.{IsKeptNext}
 use Rattle.tsb_laws.specs.AllRed.{HasBeenRed, HasBeenWanted}
@@ -37,6 +37,8 @@ use Rattle.tsb_laws.specs.PreemptTurns.{GivesWay, EndsFrom}
 use Rattle.tsb_laws.specs.RedReverts.{StartsAgain, HasReverted, RevertsAtOnce}
 use Rattle.tsb_laws.specs.RunningMaximum.{maximum_of, IsBounded, MovesByAStep}
 use Rattle.tsb_laws.specs.Stretches.{IsUntripped, largest, EndsGreen}
+use Rattle.tsb_laws.specs.UnwantedGreens.{WaitsFor}
+use Rattle.tsb_laws.specs.WantedStarts.{MayStart, IsKeptBy}
 
 -- ## Of a state, and of the next input
 
@@ -130,6 +132,17 @@ EndsGreensForAReason plan is = (row : Row) (p : ℕ) → EndsGreen plan is row p
 -- with a preempt in service the next tick starts only what this wants, or what a ring was committed to
 abbrev pub LetsInByPreempt : Plan → List Input → Type 0
 LetsInByPreempt plan is = (row : Row) (n q : ℕ) → service (replay plan is) row ≡ Some n → EntersByPreempt plan is row q
+
+-- a ready green that the preempt in service does not want ends in the next tick, or waits for the barrier
+abbrev pub EndsUnwantedGreens : Plan → List Input → Type 0
+EndsUnwantedGreens plan is = (row : Row) (n p : ℕ) → service (replay plan is) row ≡ Some n → must_end (replay plan is) row p ≡ true →
+    ready (replay plan is) row p ≡ true → interval (replay plan is) p ≡ Green → interval (replay plan (Tick row ∷ is)) p ≡ Green →
+    WaitsFor (replay plan is) row
+
+-- a phase that it wants and that may start turns Green by the next tick, or is kept from it
+abbrev pub StartsWantedPhases : Plan → List Input → Type 0
+StartsWantedPhases plan is = (row : Row) (n : ℕ) (r : Ring) (p : ℕ) → service (replay plan is) row ≡ Some n →
+    MayStart (replay plan is) row r p → (interval (replay plan (Tick row ∷ is)) p ≡ Green) ⊎ IsKeptBy (replay plan is) p
 
 -- ## Of stretches of a run: what came before is `older` or `base`, and what came later is `later`
 
@@ -233,3 +246,5 @@ pub record KeepsLaws (plan : Plan) (is : List Input) (s : State) : Type 0 where
   pub preempts_give_way_ends : (i : Input) → EndsFrom s i
   pub crossings_have_no_green : IsCalm s.plan (interval s) s.rings
   pub preempts_let_in_their_own : Untripped LetsInByPreempt plan is
+  pub unwanted_greens_end : Untripped EndsUnwantedGreens plan is
+  pub wanted_phases_start : Untripped StartsWantedPhases plan is

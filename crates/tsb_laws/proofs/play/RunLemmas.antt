@@ -33,6 +33,8 @@ use Rattle.tsb_laws.proofs.operation.OverlapPhaseLemmas.{goes_with_phases}
 use Rattle.tsb_laws.proofs.operation.PreemptEntryLemmas.{lets_in_its_own}
 use Rattle.tsb_laws.proofs.operation.PreemptTurnLemmas.{gives_way, ends_from}
 use Rattle.tsb_laws.proofs.operation.RunningMaximumLemmas.{bounded, moves_by_a_step, others_leave_it}
+use Rattle.tsb_laws.proofs.operation.UnwantedGreenLemmas.{waits_or_ends}
+use Rattle.tsb_laws.proofs.operation.WantedPhaseLemmas.{wanted_starts}
 use Rattle.tsb_laws.proofs.safety.AllRedLemmas.{all_red_ends}
 use Rattle.tsb_laws.proofs.safety.CoordinationLemmas.{ends_by_force_off, omits_hold}
 use Rattle.tsb_laws.proofs.safety.CrossingLemmas.{completes_in_time}
@@ -87,7 +89,7 @@ module _ (plan : Plan) (held : IsHeld plan) where
     lit_heads_stay = λ i. keeps_lit_heads (replay plan is) i good;
     lit_heads_clear_in_yellow = phase_clears plan is ok taken;
     lit_heads_clear_in_yellow_overlaps = overlap_clears plan is ok taken;
-    calls_are_kept_remembered = λ dark row p. remembers (replay plan is) good row p (rw count_run plan is in few plan held) dark;
+    calls_are_kept_remembered = λ dark row p. remembers (replay plan is) good row p (rw (count_run plan is) (few plan held)) dark;
     calls_are_kept_vehicles = λ base later p e on was. rw e (vehicles_stand plan base later p ok (rw e at taken) on was);
     calls_are_kept_pedestrians = λ base later p e on was. rw e (pedestrians_stand plan base later p ok (few plan held) (rw e at taken) on was);
     greens_end_for_a_reason = λ dark row p x. ends_for_a_reason plan is row p ok (few plan held) taken dark x;
@@ -98,6 +100,8 @@ module _ (plan : Plan) (held : IsHeld plan) where
     preempts_give_way_turns = gives_way (replay plan is);
     preempts_give_way_ends = ends_from (replay plan is);
     crossings_have_no_green = calm_run plan is ok taken;
+    unwanted_greens_end = λ dark row n p. waits_or_ends plan is row n p ok (few plan held) taken dark;
+    wanted_phases_start = λ dark row n r p. wanted_starts plan is row n r p ok (few plan held) taken dark;
     preempts_let_in_their_own = λ dark row n q on. lets_in_its_own plan is row n q ok taken dark on;
   }
     where
