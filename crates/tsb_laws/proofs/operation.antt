@@ -14,3 +14,11 @@ pub mod UnwantedGreenLemmas
 pub mod WantedStartLemmas
 pub mod WantedPhaseLemmas
 pub mod PhaseTimeLemmas
+pub mod AcrossLemmas
+pub mod StageFactLemmas
+pub mod StageTickLemmas
+pub mod StageRingLemmas
+pub mod StageDirtyLemmas
+pub mod StageArrivalLemmas
+pub mod StageRunLemmas
+pub mod StageServiceLemmas

@@ -16,7 +16,7 @@ pub mod Crossings
 pub mod Coordination
 -- for how long all red lasts while some phase is wanted
 pub mod AllRed
--- within what time a preempt reaches its dwell: stated, not proved
+-- a bound for the dwell of a preempt that is false
 pub mod PreemptDwells
 -- that what calls is remembered, and stands until it is served
 pub mod KeptCalls
@@ -28,6 +28,8 @@ pub mod GreenEnds
 pub mod OverlapPhases
 -- to what a preempt in service gives way, and when its service ends
 pub mod PreemptTurns
+-- within what time a preempt has the phases of its stage Green, reaches its dwell and leaves its exit
+pub mod PreemptStages
 -- that nothing is Green in a crossing, nor in a ring that is committed
 pub mod CrossingGreens
 -- what enters under a preempt

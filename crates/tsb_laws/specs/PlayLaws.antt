@@ -1,14 +1,17 @@
 -- What the laws of runs say of one run: of its newest state, of the next input whatever that is, and of each stretch of
 -- it up to that state. Times are in tenths of a second, which are ticks.
-use Rattle.std.specs.Prelude.{◌≡◌, ◌≢◌, ℕ, suc, not, ◌+◌, ◌≤◌, true, false, ◌||◌, List, ◌∷◌, ◌++◌, Some, None, ◌⊎◌}
+use Rattle.std.specs.Prelude.{◌≡◌, ◌≢◌, ℕ, suc, not, ◌+◌, ◌<◌, ◌≤◌, true, false, ◌||◌, List, ◌∷◌, ◌++◌, Some, None, ◌⊎◌}
 use Rattle.tsb_step.specs.tsb_cells.declared.timer.Timer.TheVariants.{Off}
 use Rattle.tsb_step.specs.tsb_types.declared.interval.Interval.TheVariants.{Green}
 use Rattle.tsb_step.specs.tsb_types.declared.lamp.Aspect.TheVariants.{Red}
 use Rattle.tsb_step.specs.tsb_types.declared.row.Row.{Row}
+use Rattle.tsb_step.specs.tsb_types.declared.stage.Stage.{Stage}
+use Rattle.tsb_step.specs.tsb_types.declared.stage.Stage.TheVariants.{Exit}
 use Rattle.tsb_step.specs.tsb_types.Intervals.{is_green, is_yellow}
-use Rattle.tsb_step.specs.tsb_plan.Parts.{is_minus_green_yellow}
+use Rattle.tsb_step.specs.tsb_plan.Parts.{is_minus_green_yellow, track_green}
 use Rattle.tsb_step.specs.tsb_plan.Plan.{Plan, red_revert}
 use Rattle.tsb_step.specs.tsb_heads.Monitoring.{conflict, gives_way}
+use Rattle.tsb_step.specs.tsb_preempt.Service.{has_track}
 use Rattle.tsb_step.specs.tsb_ring.Moves.{is_started}
 use Rattle.tsb_step.specs.tsb_ring.Rings.{Ring}
 use Rattle.tsb_step.specs.declared.inputs.Input.{Input}
@@ -32,11 +35,13 @@ use Rattle.tsb_laws.specs.Intergreens.{AreApart, HasCleared, WalksBefore, HasWal
 use Rattle.tsb_laws.specs.KeptCalls.{restarts, RunsOn, Remembers, HasTurnedGreen, HasBegunWalk}
 use Rattle.tsb_laws.specs.LitHeads.{KeepsLitHeads, StaysOrClears}
 use Rattle.tsb_laws.specs.OverlapPhases.{GoesWithPhases}
+use Rattle.tsb_laws.specs.PreemptDwells.{BeginsService, is_served}
 use Rattle.tsb_laws.specs.PreemptEntries.{EntersByPreempt}
+use Rattle.tsb_laws.specs.PreemptStages.{is_in_stage, StageTakesAtMost, time_to_stage, ReachesWithin, time_to_dwell, ReachesDwell}
 use Rattle.tsb_laws.specs.PreemptTurns.{GivesWay, EndsFrom}
 use Rattle.tsb_laws.specs.RedReverts.{StartsAgain, HasReverted, RevertsAtOnce}
 use Rattle.tsb_laws.specs.RunningMaximum.{maximum_of, IsBounded, MovesByAStep}
-use Rattle.tsb_laws.specs.Stretches.{IsUntripped, largest, EndsGreen}
+use Rattle.tsb_laws.specs.Stretches.{IsUntripped, has_held_since, largest, EndsGreen}
 use Rattle.tsb_laws.specs.UnwantedGreens.{WaitsFor}
 use Rattle.tsb_laws.specs.WantedStarts.{MayStart, IsKeptBy}
 
@@ -179,6 +184,28 @@ EndsAllRed plan is = (base later : List Input) (n : ℕ) → is ≡ later ++ bas
     HasBeenRed plan base later → HasBeenWanted plan base later → ((p : ℕ) → largest (λ x. red_revert x p) plan base later ≤ n) →
     (replay plan is).now ≤ (replay plan base).now + n + 2
 
+-- a preempt that stays in a stage has all phases of it Green in time
+abbrev pub ReachesStages : Plan → List Input → Type 0
+ReachesStages plan is = (base later : List Input) (n : ℕ) (stage : Stage) (g w c : ℕ) → is ≡ later ++ base → IsUntripped plan base later →
+    has_held_since (λ s. is_in_stage n stage s.preempts.service) plan base later ≡ true → StageTakesAtMost plan base n g w c later →
+    ReachesWithin plan base n stage (time_to_stage g w c) later
+
+-- and does not stay in its exit for longer
+abbrev pub EndsExits : Plan → List Input → Type 0
+EndsExits plan is = (base later : List Input) (n g w c : ℕ) → is ≡ later ++ base → IsUntripped plan base later →
+    has_held_since (λ s. is_in_stage n Exit s.preempts.service) plan base later ≡ true → StageTakesAtMost plan base n g w c later →
+    (replay plan (later ++ base)).now ≤ (replay plan base).now + time_to_stage g w c
+
+-- one that stays in service before its exit has all of its dwell phases Green in time
+abbrev pub ReachesDwells : Plan → List Input → Type 0
+ReachesDwells plan is = (older later : List Input) (row : Row) (n g w c t limit : ℕ) → is ≡ later ++ (Tick row ∷ older) →
+    IsUntripped plan (Tick row ∷ older) later → BeginsService plan older row n →
+    has_held_since (λ s. is_served n s.preempts.service) plan (Tick row ∷ older) later ≡ true →
+    StageTakesAtMost plan (Tick row ∷ older) n g w c later → largest (λ x. track_green x n) plan (Tick row ∷ older) later ≤ t →
+    limit ≡ time_to_dwell (has_track (replay plan older).plan n) g w c t →
+    ReachesDwell plan (Tick row ∷ older) n limit later
+    ⊎ ((replay plan (later ++ (Tick row ∷ older))).now < (replay plan (Tick row ∷ older)).now + limit)
+
 -- a vehicle call that was remembered is so now, or its phase has turned Green since
 abbrev pub KeepsVehicleCalls : Plan → List Input → Type 0
 KeepsVehicleCalls plan is = (base later : List Input) (p : ℕ) → is ≡ later ++ base → RunsOn plan base later →
@@ -244,6 +271,9 @@ pub record KeepsLaws (plan : Plan) (is : List Input) (s : State) : Type 0 where
   pub maximums_move_by_steps_others : LeavesMaximums s
   pub preempts_give_way_turns : (i : Input) → GivesWay s i
   pub preempts_give_way_ends : (i : Input) → EndsFrom s i
+  pub preempts_reach_their_stages : ReachesStages plan is
+  pub preempts_reach_their_stages_exits : EndsExits plan is
+  pub preempts_reach_dwell_in_time : ReachesDwells plan is
   pub crossings_have_no_green : IsCalm s.plan (interval s) s.rings
   pub preempts_let_in_their_own : Untripped LetsInByPreempt plan is
   pub unwanted_greens_end : Untripped EndsUnwantedGreens plan is

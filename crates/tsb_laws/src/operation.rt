@@ -5,6 +5,7 @@ ghost use Rattle.tsb_laws.specs.CrossingGreens.{CommittedRingsClear};
 ghost use Rattle.tsb_laws.specs.GreenEnds.{GreensEndForAReason};
 ghost use Rattle.tsb_laws.specs.OverlapPhases.{OverlapsGoWithPhases};
 ghost use Rattle.tsb_laws.specs.PreemptEntries.{PreemptsLetInTheirOwn};
+ghost use Rattle.tsb_laws.specs.PreemptStages.{DwellsAreReached, ExitsEnd, StagesAreReached};
 ghost use Rattle.tsb_laws.specs.PreemptTurns.{PreemptsGiveWay, ServicesEnd};
 ghost use Rattle.tsb_laws.specs.RunningMaximum.{MaximumsAreBounded, MaximumsMoveByAStep, OthersLeaveMaximums};
 ghost use Rattle.tsb_laws.specs.UnwantedGreens.{UnwantedGreensEnd};
@@ -151,4 +152,37 @@ pub fn unwanted_greens_end()
 /// Witness: `a_start` of WantedPhaseRuns, in which 1 starts (`starts_1`).
 pub fn wanted_phases_start()
     ensures { WantedPhasesStart }
+{}
+
+/// `stages`: A preempt reaches each stage in time. While it stays in a stage, be it track, dwell or exit, all phases of
+/// that stage are Green within a time that the plan gives, from any moment on and whatever inputs come. That time is the
+/// larger of the walk and pedestrian clearance left to a green and of the wait and the green of an older commitment,
+/// then the clearance or the red revert, and four ticks.
+///
+/// Needs: an untripped stretch; at most 16 phases. Where a commit changes a time meanwhile, the largest counts, of walk
+/// and of pedestrian clearance each.
+/// Not said: that they stay Green. A lower preempt, or a time of dwell that has passed, may end the stage before.
+/// Mistake: a preempt whose rings rest where it wants the other side, `rests_here` (`wants_to_cross`, `would_rest`).
+/// Witness: `a_stage` of PreemptStageRuns.
+///
+/// `exits`: A preempt leaves its exit in time. It stays in its exit for that time at most, and the next tick ends its
+/// service, or begins another one.
+///
+/// Needs: as `stages`.
+/// Mistake: an exit that the phases of the dwell end, `ends_by_dwell` (`is_over`, `would_stay`).
+/// Witness: `an_exit` of PreemptStageRuns.
+pub fn preempts_reach_their_stages()
+    ensures stages { StagesAreReached }
+    ensures exits { ExitsEnd }
+{}
+
+/// A preempt reaches its dwell in time. While it stays in service, before its exit, all of its dwell phases are Green
+/// within the time of one stage; with a track list within the time of two, and its track green between them.
+///
+/// Needs: as `preempts_reach_their_stages`. A lower preempt that takes over ends the stretch.
+/// Not said: that its input leads to a service.
+/// Mistake: as of `preempts_reach_their_stages`, `rests_here` (`would_rest`).
+/// Witness: `a_dwell` of PreemptStageRuns.
+pub fn preempts_reach_dwell_in_time()
+    ensures { DwellsAreReached }
 {}

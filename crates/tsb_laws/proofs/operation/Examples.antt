@@ -8,3 +8,4 @@ pub mod CrossingGreenRuns
 pub mod PreemptEntryRuns
 pub mod UnwantedGreenRuns
 pub mod WantedPhaseRuns
+pub mod PreemptStageRuns

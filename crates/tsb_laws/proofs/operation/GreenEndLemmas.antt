@@ -141,7 +141,7 @@ asked s row n h = go (preempts.new_service s.plan (preempts_given s row) (preemp
       is_target = ap (λ (o : Option Service). preempts.wanted_by s.plan o) e;
     }
 
-ends_unwanted : (s : State) (row : Row) (p : ℕ) → IsGood s → (list : ℕ → Bool) → target s row ≡ Some list → is_enabled s.plan p ≡ true → IsListed s.plan p →
+pub ends_unwanted : (s : State) (row : Row) (p : ℕ) → IsGood s → (list : ℕ → Bool) → target s row ≡ Some list → is_enabled s.plan p ≡ true → IsListed s.plan p →
     side_of s.plan p ≡ s.rings.side → is_ended (moves s row) p ≡ true → list p ≡ true → ⊥
 unfolding moves rings_given
 ends_unwanted s row p good list asks on listed here ended h =
@@ -167,7 +167,7 @@ ended_by_none s row p quiet = go ((phases_given s row).must_end p) (service s ro
     go true o e = e
     go false o e = refl
 
-ended_by_some : (s : State) (row : Row) (p n : ℕ) → s.plan.phase_count ≤ 16 → IsListed s.plan p → must_end s row p ≡ true → service s row ≡ Some n →
+pub ended_by_some : (s : State) (row : Row) (p n : ℕ) → s.plan.phase_count ≤ 16 → IsListed s.plan p → must_end s row p ≡ true → service s row ≡ Some n →
     ended_by (phases_given s row) p ≡ Some n
 unfolding phases_given
 ended_by_some s row p n few listed must h =

@@ -83,7 +83,7 @@ pub record IsTimed (x : Phase) : Type 0 where
 
 -- ## Clearing
 
-clears_at : (y z m : ℕ) (t u : Timer) (i j : Interval) → t ≡ u → i ≡ j → clearing_in y z u j ≤ m → clearing_in y z t i ≤ m
+pub clears_at : (y z m : ℕ) (t u : Timer) (i j : Interval) → t ≡ u → i ≡ j → clearing_in y z u j ≤ m → clearing_in y z t i ≤ m
 clears_at y z m t u i j e f h = rw (e, f) h
 
 pub clears_down : (s : State) (row : Row) (p y z : ℕ) → yellow_change s.plan p ≤ y → IsTimed (s.phases p) → is_green (interval s p) ≡ false →
@@ -158,7 +158,7 @@ not_yet_over s p y z most_y most_z timed serves dark h = go (interval s p) refl
 
 -- ## Red revert
 
-reverts_at : (y r m : ℕ) (t u v w : Timer) (i j : Interval) → t ≡ u → v ≡ w → i ≡ j → revert_in y r u w j ≤ m → revert_in y r t v i ≤ m
+pub reverts_at : (y r m : ℕ) (t u v w : Timer) (i j : Interval) → t ≡ u → v ≡ w → i ≡ j → revert_in y r u w j ≤ m → revert_in y r t v i ≤ m
 reverts_at y r m t u v w i j e f k h = rw (e, f, k) h
 
 past_down : (r : ℕ) (v : Timer) → past r (advanced v) ≤ past r v - 1

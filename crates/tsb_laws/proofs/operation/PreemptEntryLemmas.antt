@@ -80,7 +80,7 @@ module _ (s : State) (row : Row) (good : IsGood s) (it : Asks s row) where
       go None e = inl (picked r q (picks_in r q e h))
       go (Some c) e = let same : q ≡ c = starts_alone s.plan s.rings (rings_given s row) r c q e h in inr (r, e ∙ ap Some (sym same))
 
-  starts_own : (q : ℕ) → is_started (moves s row) q ≡ true → (must_end s row q ≡ false) ⊎ ((x : Ring) × (s.rings.commitment x ≡ Some q))
+  pub starts_own : (q : ℕ) → is_started (moves s row) q ≡ true → (must_end s row q ≡ false) ⊎ ((x : Ring) × (s.rings.commitment x ≡ Some q))
   unfolding moves moving.moves
   starts_own q h =
       elim (or_cases (is q (starting s.plan s.rings (rings_given s row) Ring1)) (is q (starting s.plan s.rings (rings_given s row) Ring2)) h) [
@@ -91,7 +91,7 @@ module _ (s : State) (row : Row) (good : IsGood s) (it : Asks s row) where
   even : IsSymmetric s.plan
   even = symmetric s.plan good.plan.rules
 
-  commits_own : (r : Ring) (q : ℕ) → s.trip ≡ None → (step s (Tick row)).rings.commitment r ≡ Some q →
+  pub commits_own : (r : Ring) (q : ℕ) → s.trip ≡ None → (step s (Tick row)).rings.commitment r ≡ Some q →
       (must_end s row q ≡ false) ⊎ (s.rings.commitment r ≡ Some q)
   unfolding rings_given rings_next
   commits_own r q dark h =

@@ -34,14 +34,14 @@ exits Track h = absurd (false≢true h)
 exits Dwell h = absurd (false≢true h)
 exits Exit h = refl
 
-before_it : (x : Service) (m : ℕ) → may_begin (Some x) m ≡ true → (m < x.preempt) ⊎ ((m ≡ x.preempt) × (x.stage ≡ Exit))
+pub before_it : (x : Service) (m : ℕ) → may_begin (Some x) m ≡ true → (m < x.preempt) ⊎ ((m ≡ x.preempt) × (x.stage ≡ Exit))
 before_it x m h =
     elim (or_cases (nat_lt m x.preempt) (m == x.preempt && is_exit x.stage) h) [
       | inl k ↦ inl (grind (arith, nat_tests, k))
       | inr k ↦ (let both = and_parts (m == x.preempt) (is_exit x.stage) k in inr (eqb-true m x.preempt both.0, exits x.stage both.1))
     ]
 
-may_begin_it : (was : Option Service) (o : Option ℕ) (m : ℕ) → if_may_begin was o ≡ Some m → may_begin was m ≡ true
+pub may_begin_it : (was : Option Service) (o : Option ℕ) (m : ℕ) → if_may_begin was o ≡ Some m → may_begin was m ≡ true
 may_begin_it was None m h = absurd cc
 may_begin_it was (Some k) m h = go (may_begin was k) refl h
   where
@@ -144,7 +144,7 @@ ends plan given w x e h = go (beginning plan given w) h
 
 -- ## Of the controller
 
-service_then : (s : State) (row : Row) → s.trip ≡ None →
+pub service_then : (s : State) (row : Row) → s.trip ≡ None →
     (step s (Tick row)).preempts.service ≡ new_service s.plan (preempts_given s row) (preempts_read s)
 unfolding step watched
 service_then s row dark = go (is_some s.trip) (ap is_some dark)
@@ -164,7 +164,7 @@ service_rests s row lit = go (is_some s.trip) lit
     go true h = refl
     go false h = absurd (false≢true h)
 
-service_lit : (s : State) (lamp : Option Lamp) → (with_lamp lamp s).preempts.service ≡ s.preempts.service
+pub service_lit : (s : State) (lamp : Option Lamp) → (with_lamp lamp s).preempts.service ≡ s.preempts.service
 unfolding watched
 service_lit s lamp = go (is_some s.trip)
   where

@@ -33,6 +33,8 @@ use Rattle.tsb_laws.proofs.operation.OverlapPhaseLemmas.{goes_with_phases}
 use Rattle.tsb_laws.proofs.operation.PreemptEntryLemmas.{lets_in_its_own}
 use Rattle.tsb_laws.proofs.operation.PreemptTurnLemmas.{gives_way, ends_from}
 use Rattle.tsb_laws.proofs.operation.RunningMaximumLemmas.{bounded, moves_by_a_step, others_leave_it}
+use Rattle.tsb_laws.proofs.operation.StageRunLemmas.{stages_reached, exits_end}
+use Rattle.tsb_laws.proofs.operation.StageServiceLemmas.{dwells_reached}
 use Rattle.tsb_laws.proofs.operation.UnwantedGreenLemmas.{waits_or_ends}
 use Rattle.tsb_laws.proofs.operation.WantedPhaseLemmas.{wanted_starts}
 use Rattle.tsb_laws.proofs.safety.AllRedLemmas.{all_red_ends}
@@ -99,6 +101,10 @@ module _ (plan : Plan) (held : IsHeld plan) where
     maximums_move_by_steps_others = others_leave_it (replay plan is);
     preempts_give_way_turns = gives_way (replay plan is);
     preempts_give_way_ends = ends_from (replay plan is);
+    preempts_reach_their_stages = λ base later n stage g w c e dark on most. stages_reached plan base later n stage g w c ok (few plan held) (rw e at taken) dark on most;
+    preempts_reach_their_stages_exits = λ base later n g w c e dark on most. exits_end plan base later n g w c ok (few plan held) (rw e at taken) dark on most;
+    preempts_reach_dwell_in_time = λ older later row n g w c t limit e dark begins on most green due.
+        dwells_reached plan older later row n g w c t limit ok (few plan held) (rw e at taken) dark begins on most green due;
     crossings_have_no_green = calm_run plan is ok taken;
     unwanted_greens_end = λ dark row n p. waits_or_ends plan is row n p ok (few plan held) taken dark;
     wanted_phases_start = λ dark row n r p. wanted_starts plan is row n r p ok (few plan held) taken dark;

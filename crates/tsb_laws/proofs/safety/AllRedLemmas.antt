@@ -48,7 +48,7 @@ use Rattle.tsb_laws.proofs.safety.AllRedRingLemmas.{IsServing, SomeWanted, by_ta
 
 -- ## What the rings are given
 
-ring_is : (plan : Plan) (p : ℕ) → 1 ≤ ring_of plan p → ring_of plan p ≤ 2 → (r : Ring) × (in_ring plan r p ≡ true)
+pub ring_is : (plan : Plan) (p : ℕ) → 1 ≤ ring_of plan p → ring_of plan p ≤ 2 → (r : Ring) × (in_ring plan r p ≡ true)
 ring_is plan p low high =
     elim (cases_Bool (ring_of plan p == 1)) [
       | inl h ↦ (Ring1, h)

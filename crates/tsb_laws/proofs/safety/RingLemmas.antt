@@ -123,7 +123,7 @@ clears_not plan s given r p c own e none =
         false≢true (rw (ring_of_is plan r p own, stays_committed plan s given r c e, none) at some)
 
 -- the other ring makes way for a commitment outside a crossing
-way_is_made : (plan : Plan) (s : State) (given : Given) (r : Ring) (c : ℕ) → IsSound plan given.interval s → s.crossing ≡ None → s.commitment r ≡ Some c →
+pub way_is_made : (plan : Plan) (s : State) (given : Given) (r : Ring) (c : ℕ) → IsSound plan given.interval s → s.crossing ≡ None → s.commitment r ≡ Some c →
     makes_way plan given c (serving plan given (other r)) ≡ true
 unfolding serving
 way_is_made plan s given r c sound out e = go (serving plan given (other r)) refl

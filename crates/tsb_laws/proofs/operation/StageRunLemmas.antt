@@ -1,0 +1,591 @@
+-- A preempt that stays in a stage has all phases of it Green in time.
+use Rattle.std.proofs.Common.{◌≡◌, ℕ, ◌+◌, ◌-◌, ◌<◌, ◌≤◌, ◌==◌, Bool, true, false, ◌&&◌, if◌then◌else◌, max, List, [], ◌∷◌, ◌++◌, Option, Some, None, is_some, option_map, refl, sym, ap, subst, ◌∙◌, inl, inr, ◌⊎◌, arith}
+use Rattle.std.proofs.lemmas.Bool.{and_parts, eqb-true, true≢false, false≢true}
+use Rattle.tsb_step.specs.tsb_cells.Timer.{advanced}
+use Rattle.tsb_step.specs.tsb_types.declared.row.Row.{Row}
+use Rattle.tsb_step.specs.tsb_types.declared.stage.Stage.{Stage}
+use Rattle.tsb_step.specs.tsb_types.declared.stage.Stage.TheVariants.{Track, Dwell, Exit}
+use Rattle.tsb_step.specs.tsb_types.Intervals.{is_green, is_yellow, is_red_clear, is_walk, is_clearance, in_service}
+use Rattle.tsb_step.specs.tsb_types.Lists.{among, run_from}
+use Rattle.tsb_step.specs.tsb_types.Sets.{names}
+use Rattle.tsb_step.specs.tsb_plan.declared.object.Object.{Object}
+use Rattle.tsb_step.specs.tsb_plan.declared.object.Object.TheVariants.{PreemptTrackPhase, PreemptDwellPhase, PreemptExitPhase}
+use Rattle.tsb_step.specs.tsb_plan.Parts.{preempt_minimum_green, is_exit_phase}
+use Rattle.tsb_step.specs.tsb_plan.Plan.{Plan, yellow_change, red_clear, red_revert}
+use Rattle.tsb_step.specs.tsb_rules.Consistent.{AreCompatible}
+use Rattle.tsb_step.specs.tsb_phase.Phase.{Phase}
+use Rattle.tsb_step.specs.tsb_phase.Pedestrian.{walk_time, clearance_time}
+use Rattle.tsb_step.specs.tsb_preempt.Preempts as preempts
+use Rattle.tsb_step.specs.tsb_preempt.Service.{Service, service_as_read, has_track, stage_phases, all_green, ends_exit, stage_after, with_stage}
+use Rattle.tsb_step.specs.tsb_ring.Rings as rings
+use Rattle.tsb_step.specs.tsb_ring.Rings.{Ring, number, in_ring}
+use Rattle.tsb_step.specs.tsb_ring.Laws.{IsListed}
+use Rattle.tsb_step.specs.tsb_transact.Desk.{with_edits}
+use Rattle.tsb_step.specs.tsb_transact.Commit.{is_preempt_list, changes_structure, changes_preempt}
+use Rattle.tsb_step.specs.declared.inputs.Input.{Input}
+use Rattle.tsb_step.specs.declared.inputs.Input.TheVariants as inputs
+use Rattle.tsb_step.specs.declared.inputs.Input.TheVariants.{Tick}
+use Rattle.tsb_step.specs.State.{State, interval, pedestrian_part, restarted}
+use Rattle.tsb_step.specs.Tick.{preempts_given, preempts_read, new_service, service, target, next}
+use Rattle.tsb_step.specs.Step.{is_serving, step, verdict, kind_of}
+use Rattle.tsb_step.specs.Past.{ticks_of}
+use Rattle.tsb_step.specs.Runs.{replay, AreTaken}
+use Rattle.tsb_step.specs.Laws.{IsConsistent}
+use Rattle.tsb_step.specs.TimeLaws.{held_for, TellsTime}
+use Rattle.tsb_step.specs.Good.{IsInStage, IsGood}
+use Rattle.tsb_step.proofs.ClearLemmas.{plan_stays, phases_then, one_later}
+use Rattle.tsb_step.proofs.EditLemmas.{or_false, kept}
+use Rattle.tsb_step.proofs.GivenLemmas.{new_in_stage}
+use Rattle.tsb_step.proofs.GoodLemmas.{allowed, good_run}
+use Rattle.tsb_step.proofs.LeaveLemmas.{others_leave}
+use Rattle.tsb_step.proofs.ServiceLemmas.{compatible}
+use Rattle.tsb_step.proofs.SideRunLemmas.{sided_run}
+use Rattle.tsb_step.proofs.StandLemmas.{rings_then}
+use Rattle.tsb_step.proofs.TellLemmas.{timers_tell_time}
+use Rattle.tsb_step.proofs.YellowLemmas.{enabled_lit, plan_of_reset}
+use Rattle.tsb_laws.specs.Stretches.{IsUntripped, has_held_since, largest}
+use Rattle.tsb_laws.specs.PreemptTurns.{place}
+use Rattle.tsb_laws.specs.PreemptStages.{is_in_stage, serves_stage, StageTakesAtMost, time_to_stage, ReachesStage, ReachesWithin}
+use Rattle.tsb_laws.proofs.safety.StretchLemmas.{dark_now, taken_before, IsSame, Goes, ticks, stays, goes}
+use Rattle.tsb_laws.proofs.safety.DueLemmas.{largest_now, largest_more, ring_same, count_run}
+use Rattle.tsb_laws.proofs.safety.EnabledLemmas.{enabled_run}
+use Rattle.tsb_laws.proofs.operation.AcrossLemmas.{across_run}
+use Rattle.tsb_laws.proofs.operation.CalmLemmas.{calm_run}
+use Rattle.tsb_laws.proofs.operation.PhaseTimeLemmas.{IsTimed, clearing_left, revert_left, green_left}
+use Rattle.tsb_laws.proofs.operation.PreemptTurnLemmas.{service_then}
+use Rattle.tsb_laws.proofs.operation.StageFactLemmas.{Limits, Within, clear_of, revert_of, green_of, Stays}
+use Rattle.tsb_laws.proofs.operation.StageTickLemmas.{IsClean, StartsSoon, IsDirty}
+use Rattle.tsb_laws.proofs.operation.StageDirtyLemmas.{dirty_first}
+use Rattle.tsb_laws.proofs.operation.StageArrivalLemmas.{IsRested, IsCrossing, Near, dirty, clean, rested, crosses, AreGreen, all_are_green, nearer}
+
+-- ## Timers
+
+timed_run : (plan : Plan) (is : List Input) → IsConsistent plan → AreTaken plan is → (replay plan is).trip ≡ None → (p : ℕ) → IsTimed ((replay plan is).phases p)
+timed_run plan is ok taken dark p = record {
+  green = λ e. record { count = held_for (λ s. is_green (interval s p)) plan is; is = told.green e };
+  yellow = λ e. record { count = held_for (λ s. is_yellow (interval s p)) plan is; is = told.yellow e };
+  red_clear = λ e. record { count = held_for (λ s. is_red_clear (interval s p)) plan is; is = told.red_clear e };
+  walk = λ e. record { count = held_for (λ s. is_walk (pedestrian_part s p)) plan is; is = told.walk e };
+  clearance = λ e. record { count = held_for (λ s. is_clearance (pedestrian_part s p)) plan is; is = told.clearance e };
+}
+  where
+    told : TellsTime plan is p
+    told = timers_tell_time plan is ok taken dark p
+
+-- ## The stage in a tick
+
+pub same_place : (a b : Stage) → place a ≡ place b → a ≡ b
+same_place Track Track h = refl
+same_place Dwell Dwell h = refl
+same_place Exit Exit h = refl
+same_place Track Dwell h = absurd (omega (arith, h))
+same_place Track Exit h = absurd (omega (arith, h))
+same_place Dwell Track h = absurd (omega (arith, h))
+same_place Dwell Exit h = absurd (omega (arith, h))
+same_place Exit Track h = absurd (omega (arith, h))
+same_place Exit Dwell h = absurd (omega (arith, h))
+
+record IsAsked (s : State) (row : Row) (n : ℕ) (stage : Stage) : Type 0 where
+  pub asks : target s row ≡ Some (stage_phases s.plan n stage)
+  pub serves : service s row ≡ Some n
+  pub fits : AreCompatible s.plan (stage_phases s.plan n stage)
+
+is_asked : (s : State) (row : Row) (n : ℕ) (stage : Stage) → IsGood s → s.trip ≡ None → is_in_stage n stage (step s (Tick row)).preempts.service ≡ true →
+    IsAsked s row n stage
+unfolding new_service
+is_asked s row n stage good dark h = go (new_service s row) refl (ap (is_in_stage n stage) (sym (service_then s row dark)) ∙ h)
+  where
+    go : (o : Option Service) → new_service s row ≡ o → is_in_stage n stage o ≡ true → IsAsked s row n stage
+    go None e k = absurd (false≢true k)
+    go (Some y) e k =
+        let both = and_parts (y.preempt == n) (place y.stage == place stage) k in
+        let number : y.preempt ≡ n = eqb-true y.preempt n both.0 in
+        let here : y.stage ≡ stage = same_place y.stage stage (eqb-true (place y.stage) (place stage) both.1) in
+        record {
+          asks = ap (λ (o : Option Service). preempts.wanted_by s.plan o) e ∙ ap (λ (m : ℕ). Some (stage_phases s.plan m y.stage)) number
+              ∙ ap (λ (a : Stage). Some (stage_phases s.plan n a)) here;
+          serves = ap (λ (o : Option Service). option_map (λ (z : Service). z.preempt) o) e ∙ ap Some number;
+          fits = subst (λ (a : Stage). AreCompatible s.plan (stage_phases s.plan n a)) here
+              (subst (λ (m : ℕ). AreCompatible s.plan (stage_phases s.plan m y.stage)) number (compatible s.plan y good.plan.rules (new_in_stage s row good y e)));
+        }
+
+pub stays_at : (plan : Plan) (is : List Input) (row : Row) (n : ℕ) (stage : Stage) → IsConsistent plan → plan.phase_count ≤ 16 → AreTaken plan is →
+    (replay plan is).trip ≡ None → is_in_stage n stage (replay plan (Tick row ∷ is)).preempts.service ≡ true →
+    Stays (replay plan is) row (stage_phases (replay plan is).plan n stage) n
+stays_at plan is row n stage ok few taken dark h = record {
+  good = good;
+  calm = calm_run plan is ok taken;
+  sided = sided_run plan is ok taken;
+  on = enabled_run plan is ok taken;
+  across = across_run plan is ok taken;
+  timed = timed_run plan is ok taken dark;
+  few = (let same = count_run plan is in omega (arith, same, few));
+  dark = dark;
+  asks = it.asks;
+  serves = it.serves;
+  fits = it.fits;
+}
+  where
+    good : IsGood (replay plan is)
+    good = good_run plan is ok taken
+
+    it : IsAsked (replay plan is) row n stage
+    it = is_asked (replay plan is) row n stage good dark h
+
+-- ## An input that is no tick
+
+phases_like : (s : State) (i : Input) (p : ℕ) → s.trip ≡ None → ticks_of (kind_of i) ≡ 0 →
+    (step s i).phases p ≡ record (s.phases p) { forced = ((step s i).phases p).forced }
+unfolding step
+phases_like s (inputs.Tick row) p dark none = let bad : 1 ≡ 0 = none in absurd (omega (arith, bad))
+phases_like s inputs.Reset p dark none = go (is_some s.trip) (ap is_some dark)
+  where
+    go : (b : Bool) → b ≡ false → (if b then restarted s else s).phases p ≡ record (s.phases p) { forced = ((if b then restarted s else s).phases p).forced }
+    go true h = absurd (true≢false h)
+    go false h = refl
+phases_like s i p dark none = others_leave s i p refl refl
+
+-- the lists of preempts stay while one is in service
+pub list_same : (s : State) (i : Input) (n : ℕ) (stage : Stage) → verdict s i ≡ None → is_some s.preempts.service ≡ true →
+    stage_phases (step s i).plan n stage ≡ stage_phases s.plan n stage
+unfolding step
+list_same s (inputs.Tick row) n stage taken on = ticked row
+  where
+    ticked : (row : Row) → stage_phases (step s (inputs.Tick row)).plan n stage ≡ stage_phases s.plan n stage
+    ticked row = ap (λ (y : Plan). stage_phases y n stage) (plan_stays s row)
+list_same s (inputs.Fault lamp) n stage taken on = ap (λ (y : Plan). stage_phases y n stage) (enabled_lit s lamp)
+list_same s inputs.Reset n stage taken on = ap (λ (y : Plan). stage_phases y n stage) (plan_of_reset s)
+list_same s (inputs.Commit station) n stage taken on = go stage
+  where
+    unchanged : changes_preempt s.plan s.desk.edits ≡ false
+    unchanged =
+        let both = (or_false (is_serving s && changes_structure s.plan s.desk.edits) (is_some s.preempts.service && changes_preempt s.plan s.desk.edits)
+        (allowed s station taken).waits_not).1 in rw on at both
+
+    value : (o : Object) → is_preempt_list o ≡ true → (with_edits s.plan s.desk.edits).value o n ≡ s.plan.value o n
+    value o h = kept is_preempt_list s.plan s.desk.edits unchanged o n h
+
+    go : (a : Stage) → stage_phases (with_edits s.plan s.desk.edits) n a ≡ stage_phases s.plan n a
+    go Track = ap (λ (v : ℕ) (p : ℕ). names v p) (value PreemptTrackPhase refl)
+    go Dwell = ap (λ (v : ℕ) (p : ℕ). names v p) (value PreemptDwellPhase refl)
+    go Exit = ap (λ (v : ℕ) (p : ℕ). names v p) (value PreemptExitPhase refl)
+list_same s i n stage taken on = refl
+
+pub record IsLike (s u : State) : Type 0 where
+  pub phases : (p : ℕ) → u.phases p ≡ record (s.phases p) { forced = (u.phases p).forced }
+  pub commitment : (r : Ring) → u.rings.commitment r ≡ s.rings.commitment r
+  pub crossing : u.rings.crossing ≡ s.rings.crossing
+  pub ringed : (p : ℕ) → in_service (interval s p) ≡ true → (r : Ring) → in_ring u.plan r p ≡ in_ring s.plan r p
+  pub count : u.plan.phase_count ≡ s.plan.phase_count
+
+same_most : (a b m : ℕ) → a ≡ b → b ≤ m → a ≤ m
+same_most a b m e h = omega (arith, e, h)
+
+module _ (s u : State) (like : IsLike s u) (t : Limits) (list : ℕ → Bool) where
+  interval_like : (p : ℕ) → interval u p ≡ interval s p
+  interval_like p = ap (λ (y : Phase). y.interval) (like.phases p)
+
+  clear_like : (p m : ℕ) → clear_of t s.phases p ≤ m → clear_of t u.phases p ≤ m
+  clear_like p m h =
+      same_most (clear_of t u.phases p) (clear_of t s.phases p) m (ap (λ (y : Phase). clearing_left (t.yellow p) (t.red p) y) (like.phases p)) h
+
+  revert_like : (p m : ℕ) → revert_of t s.phases p ≤ m → revert_of t u.phases p ≤ m
+  revert_like p m h =
+      same_most (revert_of t u.phases p) (revert_of t s.phases p) m (ap (λ (y : Phase). revert_left (t.yellow p) (t.revert p) y) (like.phases p)) h
+
+  green_like : (p m : ℕ) → green_of t s.phases p ≤ m → green_of t u.phases p ≤ m
+  green_like p m h =
+      same_most (green_of t u.phases p) (green_of t s.phases p) m
+      (ap (λ (y : Phase). green_left t.green (t.walk p) (t.clearance p) y) (like.phases p)) h
+
+  clean_like : (m : ℕ) → IsClean t list s.phases s.rings m → IsClean t list u.phases u.rings m
+  clean_like m was = record {
+    greens = λ p e. was.greens p (sym (interval_like p) ∙ e);
+    commits = λ r c e. was.commits r c (sym (like.commitment r) ∙ e);
+    clears = λ p. clear_like p m (was.clears p);
+    reverts = λ p h. revert_like p m (was.reverts p h);
+  }
+
+  soon_like : (k : ℕ) (r : Ring) (c : ℕ) → StartsSoon t s.plan s.phases s.rings k r c → StartsSoon t u.plan u.phases u.rings k r c
+  soon_like k r c was = record {
+    own = λ p serves own.
+        (let before : in_service (interval s p) ≡ true = ap in_service (sym (interval_like p)) ∙ serves in
+        clear_like p k (was.own p before (sym (like.ringed p before r) ∙ own)));
+    revert = revert_like c k was.revert;
+    all = λ d way p. clear_like p k (was.all d (sym like.crossing ∙ way) p);
+    reverts = λ d way q e h. revert_like e k (was.reverts d (sym like.crossing ∙ way) q e (sym (like.commitment q) ∙ h));
+  }
+
+  dirty_like : (k e : ℕ) → IsDirty t list s.plan s.phases s.rings k e → IsDirty t list u.plan u.phases u.rings k e
+  dirty_like k e was = record {
+    greens = λ p green out. green_like p e (was.greens p (sym (interval_like p) ∙ green) out);
+    soon = λ r c h out. soon_like k r c (was.soon r c (sym (like.commitment r) ∙ h) out);
+    late = λ r c h out. was.late r c (sym (like.commitment r) ∙ h) out;
+    reverts = λ p h. revert_like p (e + 1 + t.clears) (was.reverts p h);
+  }
+
+  rested_like : IsRested s.phases s.rings → IsRested u.phases u.rings
+  rested_like was = record {
+    outside = like.crossing ∙ was.outside;
+    free = λ r. like.commitment r ∙ was.free r;
+    greens = λ p h. ap is_green (interval_like p) ∙ was.greens p (ap in_service (sym (interval_like p)) ∙ h);
+  }
+
+  crossing_like : IsCrossing s.plan list s.rings → IsCrossing u.plan list u.rings
+  crossing_like was = record {
+    way = (was.way.0, like.crossing ∙ was.way.1);
+    all = λ p listed h. (let it = was.all p (ap (λ (m : ℕ). among p (run_from 1 m)) (sym like.count) ∙ listed) h in (it.0, like.commitment it.0 ∙ it.1));
+  }
+
+  pub near_like : (d : ℕ) → Near t list s.plan s.phases s.rings d → Near t list u.plan u.phases u.rings d
+  near_like d (dirty k e was time) = dirty k e (dirty_like k e was) time
+  near_like d (clean m was time) = clean m (clean_like m was) time
+  near_like d (rested was it time) = rested (clean_like 0 was) (rested_like it) time
+  near_like d (crosses was it time) = crosses (clean_like 0 was) (crossing_like it) time
+
+-- ## Along a stretch
+
+pub near_some : (t : Limits) (list : ℕ → Bool) (plan : Plan) (phases : ℕ → Phase) (s : rings.State) (d : ℕ) → Near t list plan phases s d → 1 ≤ d
+near_some t list plan phases s d (dirty k e was time) = large e t.clears d time
+  where
+    large : (a b c : ℕ) → a + b + 4 ≤ c → 1 ≤ c
+    large a b c h = omega (arith, h)
+near_some t list plan phases s d (clean m was time) = omega (arith, time)
+near_some t list plan phases s d (rested was it time) = omega (arith, time)
+near_some t list plan phases s d (crosses was it time) = time
+
+-- the times of all plans in effect meanwhile
+pub record Covers (t : Limits) (plan : Plan) (base : List Input) (n : ℕ) (later : List Input) : Type 0 where
+  pub green : largest (λ x. preempt_minimum_green x n) plan base later ≤ t.green
+  pub walk : (p : ℕ) → largest (λ x. walk_time x p (Some n)) plan base later ≤ t.walk p
+  pub clearance : (p : ℕ) → largest (λ x. clearance_time x p (Some n)) plan base later ≤ t.clearance p
+  pub yellow : (p : ℕ) → largest (λ x. yellow_change x p) plan base later ≤ t.yellow p
+  pub red : (p : ℕ) → largest (λ x. red_clear x p) plan base later ≤ t.red p
+  pub revert : (p : ℕ) → largest (λ x. red_revert x p) plan base later ≤ t.revert p
+
+le_le : (a b c : ℕ) → a ≤ b → b ≤ c → a ≤ c
+le_le a b c h k = omega (arith, h, k)
+
+module _ (t : Limits) (plan : Plan) (base : List Input) (n : ℕ) where
+  fewer : (i : Input) (later : List Input) → (time : Plan → ℕ) (m : ℕ) → largest time plan base (i ∷ later) ≤ m → largest time plan base later ≤ m
+  fewer i later time m h = le_le (largest time plan base later) (largest time plan base (i ∷ later)) m (largest_more time plan base later i) h
+
+  at_now : (later : List Input) → (time : Plan → ℕ) (m : ℕ) → largest time plan base later ≤ m → time (replay plan (later ++ base)).plan ≤ m
+  at_now later time m h = le_le (time (replay plan (later ++ base)).plan) (largest time plan base later) m (largest_now time plan base later) h
+
+  pub covers_before : (i : Input) (later : List Input) → Covers t plan base n (i ∷ later) → Covers t plan base n later
+  covers_before i later h = record {
+    green = fewer i later (λ x. preempt_minimum_green x n) t.green h.green;
+    walk = λ p. fewer i later (λ x. walk_time x p (Some n)) (t.walk p) (h.walk p);
+    clearance = λ p. fewer i later (λ x. clearance_time x p (Some n)) (t.clearance p) (h.clearance p);
+    yellow = λ p. fewer i later (λ x. yellow_change x p) (t.yellow p) (h.yellow p);
+    red = λ p. fewer i later (λ x. red_clear x p) (t.red p) (h.red p);
+    revert = λ p. fewer i later (λ x. red_revert x p) (t.revert p) (h.revert p);
+  }
+
+  pub covers_now : (later : List Input) → Covers t plan base n later → Within t (replay plan (later ++ base)).plan n
+  covers_now later h = record {
+    green = at_now later (λ x. preempt_minimum_green x n) t.green h.green;
+    walk = λ p. at_now later (λ x. walk_time x p (Some n)) (t.walk p) (h.walk p);
+    clearance = λ p. at_now later (λ x. clearance_time x p (Some n)) (t.clearance p) (h.clearance p);
+    yellow = λ p. at_now later (λ x. yellow_change x p) (t.yellow p) (h.yellow p);
+    red = λ p. at_now later (λ x. red_clear x p) (t.red p) (h.red p);
+    revert = λ p. at_now later (λ x. red_revert x p) (t.revert p) (h.revert p);
+  }
+
+-- it is near, or reached now, or was reached before: then what is said of it
+data Course (Done : List Input → Type 0) (t : Limits) (plan : Plan) (base : List Input) (n : ℕ) (stage : Stage) (limit : ℕ) (later : List Input) : Type 0 where
+  near : (d : ℕ) → Near t (stage_phases (replay plan (later ++ base)).plan n stage) (replay plan (later ++ base)).plan (replay plan (later ++ base)).phases
+      (replay plan (later ++ base)).rings d → d + (replay plan (later ++ base)).now ≤ (replay plan base).now + limit → Course Done t plan base n stage limit later
+  lit : AreGreen (stage_phases (replay plan (later ++ base)).plan n stage) (replay plan (later ++ base)).plan (replay plan (later ++ base)).phases →
+      (replay plan (later ++ base)).now ≤ (replay plan base).now + limit → Course Done t plan base n stage limit later
+  done : Done later → Course Done t plan base n stage limit later
+
+pub so_late : (e a b m : ℕ) → a ≡ b → e + b ≤ m → e + a ≤ m
+so_late e a b m h k = omega (arith, h, k)
+
+pub soon : (a b e m : ℕ) → a ≡ b + 1 → 1 ≤ e → e + b ≤ m → a ≤ m
+soon a b e m h k l = omega (arith, h, k, l)
+
+pub later_on : (a b e m : ℕ) → a ≡ b + 1 → 1 ≤ e → e + b ≤ m → e - 1 + a ≤ m
+later_on a b e m h k l = omega (arith, h, k, l)
+
+all_of : (a : ℕ) → a ≤ a
+all_of a = omega arith
+
+pub is_there : (n : ℕ) (stage : Stage) (o : Option Service) → is_in_stage n stage o ≡ true → is_some o ≡ true
+is_there n stage None h = h
+is_there n stage (Some y) h = refl
+
+-- what a stage's phases were before an input that is no tick, they are after it
+pub like_at : (plan : Plan) (is : List Input) (i : Input) → IsConsistent plan → AreTaken plan (i ∷ is) → (replay plan is).trip ≡ None →
+    ticks_of (kind_of i) ≡ 0 → IsSame (replay plan is) (step (replay plan is) i) → IsLike (replay plan is) (step (replay plan is) i)
+like_at plan is i ok taken dark none same = record {
+  phases = λ p. phases_like (replay plan is) i p dark none;
+  commitment = same.commitment;
+  crossing = same.crossing;
+  ringed = λ p serves r. ap (λ (m : ℕ). m == number r) (ring_same (replay plan is) i p (good_run plan is ok taken.0) taken.1 serves);
+  count = count_run plan (i ∷ is) ∙ sym (count_run plan is);
+}
+
+pub lit_like : (s u : State) → IsLike s u → (list : ℕ → Bool) → AreGreen list s.plan s.phases → AreGreen list u.plan u.phases
+lit_like s u like list was p listed h =
+    ap (λ (y : Phase). is_green y.interval) (like.phases p) ∙ was p (ap (λ (m : ℕ). among p (run_from 1 m)) (sym like.count) ∙ listed) h
+
+-- and what a tick makes of them is as it is found
+module _ (s : State) (row : Row) (n : ℕ) (stage : Stage) (dark : s.trip ≡ None) where
+  pub then_lit : AreGreen (stage_phases s.plan n stage) s.plan (next s row).phases →
+      AreGreen (stage_phases (step s (Tick row)).plan n stage) (step s (Tick row)).plan (step s (Tick row)).phases
+  then_lit h =
+      subst (λ (f : ℕ → Phase). AreGreen (stage_phases (step s (Tick row)).plan n stage) (step s (Tick row)).plan f) (sym (phases_then s row dark))
+      (subst (λ (y : Plan). AreGreen (stage_phases y n stage) y (next s row).phases) (sym (plan_stays s row)) h)
+
+  pub then_near : (t : Limits) (d : ℕ) → Near t (stage_phases s.plan n stage) s.plan (next s row).phases (next s row).rings d →
+      Near t (stage_phases (step s (Tick row)).plan n stage) (step s (Tick row)).plan (step s (Tick row)).phases (step s (Tick row)).rings d
+  then_near t d h =
+      subst (λ (y : rings.State). Near t (stage_phases (step s (Tick row)).plan n stage) (step s (Tick row)).plan (step s (Tick row)).phases y d) (sym (rings_then s row dark))
+      (subst (λ (f : ℕ → Phase). Near t (stage_phases (step s (Tick row)).plan n stage) (step s (Tick row)).plan f (next s row).rings d) (sym (phases_then s row dark))
+      (subst (λ (y : Plan). Near t (stage_phases y n stage) y (next s row).phases (next s row).rings d) (sym (plan_stays s row)) h))
+
+module _ (Done : List Input → Type 0) (t : Limits) (plan : Plan) (base : List Input) (n : ℕ) (stage : Stage) (limit : ℕ) (ok : IsConsistent plan) (few : plan.phase_count ≤ 16)
+    (more : (i : Input) (later : List Input) → Done later → Done (i ∷ later))
+    (passes : (row : Row) (later : List Input) → AreTaken plan (later ++ base) → (replay plan (later ++ base)).trip ≡ None →
+    is_in_stage n stage (replay plan (later ++ base)).preempts.service ≡ true →
+    is_in_stage n stage (replay plan (Tick row ∷ (later ++ base))).preempts.service ≡ true →
+    AreGreen (stage_phases (replay plan (later ++ base)).plan n stage) (replay plan (later ++ base)).plan (replay plan (later ++ base)).phases →
+    (replay plan (later ++ base)).now ≤ (replay plan base).now + limit → Done (Tick row ∷ later)) where
+  still : (i : Input) (later : List Input) → AreTaken plan (i ∷ (later ++ base)) → (replay plan (later ++ base)).trip ≡ None →
+      is_in_stage n stage (replay plan (later ++ base)).preempts.service ≡ true → ticks_of (kind_of i) ≡ 0 →
+      IsSame (replay plan (later ++ base)) (step (replay plan (later ++ base)) i) → Course Done t plan base n stage limit later → Course Done t plan base n stage limit (i ∷ later)
+  still i later taken dark held none same (done h) = done (more i later h)
+  still i later taken dark held none same (lit h time) =
+      lit
+      (subst (λ (l : ℕ → Bool). AreGreen l (step s i).plan (step s i).phases) (sym (list_same s i n stage taken.1 (is_there n stage s.preempts.service held)))
+      (lit_like s (step s i) (like_at plan (later ++ base) i ok taken dark none same) (stage_phases s.plan n stage) h))
+      (so_late 0 (step s i).now s.now ((replay plan base).now + limit) same.now time)
+    where
+      s : State
+      s = replay plan (later ++ base)
+  still i later taken dark held none same (near d was time) =
+      near d
+      (subst (λ (l : ℕ → Bool). Near t l (step s i).plan (step s i).phases (step s i).rings d) (sym (list_same s i n stage taken.1 (is_there n stage s.preempts.service held)))
+      (near_like s (step s i) (like_at plan (later ++ base) i ok taken dark none same) t (stage_phases s.plan n stage) d was))
+      (so_late d (step s i).now s.now ((replay plan base).now + limit) same.now time)
+    where
+      s : State
+      s = replay plan (later ++ base)
+
+  ticked : (row : Row) (later : List Input) → AreTaken plan (later ++ base) → (replay plan (later ++ base)).trip ≡ None →
+      is_in_stage n stage (replay plan (later ++ base)).preempts.service ≡ true →
+      is_in_stage n stage (replay plan (Tick row ∷ (later ++ base))).preempts.service ≡ true → Covers t plan base n later →
+      Course Done t plan base n stage limit later → Course Done t plan base n stage limit (Tick row ∷ later)
+  ticked row later taken dark before held cover (done h) = done (more (Tick row) later h)
+  ticked row later taken dark before held cover (lit h time) = done (passes row later taken dark before held h time)
+  ticked row later taken dark before held cover (near d was time) =
+      elim (nearer s row (stage_phases s.plan n stage) n (stays_at plan (later ++ base) row n stage ok few taken dark held) t (covers_now t plan base n later cover) d was) [
+        | inl green ↦ lit (then_lit s row n stage dark green) (soon (step s (Tick row)).now s.now d ((replay plan base).now + limit) (one_later s row) some time)
+        | inr closer ↦ near (d - 1) (then_near s row n stage dark t (d - 1) closer)
+            (later_on (step s (Tick row)).now s.now d ((replay plan base).now + limit) (one_later s row) some time)
+      ]
+    where
+      s : State
+      s = replay plan (later ++ base)
+
+      some : 1 ≤ d
+      some = near_some t (stage_phases s.plan n stage) s.plan s.phases s.rings d was
+
+  one_on : (i : Input) (later : List Input) → AreTaken plan (i ∷ (later ++ base)) → (replay plan (later ++ base)).trip ≡ None →
+      is_in_stage n stage (replay plan (later ++ base)).preempts.service ≡ true →
+      is_in_stage n stage (replay plan (i ∷ (later ++ base))).preempts.service ≡ true → Covers t plan base n later →
+      Course Done t plan base n stage limit later → Course Done t plan base n stage limit (i ∷ later)
+  one_on i later taken dark before now cover was = go (goes (replay plan (later ++ base)) i dark)
+    where
+      go : Goes (replay plan (later ++ base)) i → Course Done t plan base n stage limit (i ∷ later)
+      go (ticks row e) =
+          subst (λ (j : Input). Course Done t plan base n stage limit (j ∷ later)) (sym e)
+          (ticked row later taken.0 dark before (subst (λ (j : Input). is_in_stage n stage (replay plan (j ∷ (later ++ base))).preempts.service ≡ true) e now) cover was)
+      go (stays none same) = still i later taken dark before none same was
+
+  held_now : (later : List Input) → has_held_since (λ s. is_in_stage n stage s.preempts.service) plan base later ≡ true →
+      is_in_stage n stage (replay plan (later ++ base)).preempts.service ≡ true
+  held_now [] h = h
+  held_now (i ∷ later) h =
+      (and_parts (is_in_stage n stage (replay plan (i ∷ (later ++ base))).preempts.service) (has_held_since (λ s. is_in_stage n stage s.preempts.service) plan base later) h).0
+
+  course : (later : List Input) → AreTaken plan (later ++ base) → IsUntripped plan base later →
+      has_held_since (λ s. is_in_stage n stage s.preempts.service) plan base later ≡ true → Covers t plan base n later →
+      Course Done t plan base n stage limit [] → Course Done t plan base n stage limit later
+  course [] taken dark held cover first = first
+  course (i ∷ later) taken dark held cover first =
+      let both = and_parts (is_in_stage n stage (replay plan (i ∷ (later ++ base))).preempts.service) (has_held_since (λ s. is_in_stage n stage s.preempts.service) plan base later) held in
+      one_on i later taken (dark_now plan base later dark.0) (held_now later both.1) both.0 (covers_before t plan base n i later cover)
+      (course later taken.0 dark.0 both.1 (covers_before t plan base n i later cover) first)
+
+-- ## The laws
+
+module _ (plan : Plan) (base later : List Input) (n g w c : ℕ) (ok : IsConsistent plan) (most : StageTakesAtMost plan base n g w c later) where
+  pub limits : Limits
+  limits = record {
+    green = g;
+    walks = w;
+    clears = c;
+    walk = λ p. largest (λ x. walk_time x p (Some n)) plan base later;
+    clearance = λ p. largest (λ x. clearance_time x p (Some n)) plan base later;
+    yellow = λ p. largest (λ x. yellow_change x p) plan base later;
+    red = λ p. largest (λ x. red_clear x p) plan base later;
+    revert = λ p. largest (λ x. red_revert x p) plan base later;
+    walks_most = most.walk;
+    clears_most = most.clearance;
+    reverts_most = most.revert;
+  }
+
+  pub covered : Covers limits plan base n later
+  covered = record {
+    green = most.green;
+    walk = λ p. all_of (largest (λ x. walk_time x p (Some n)) plan base later);
+    clearance = λ p. all_of (largest (λ x. clearance_time x p (Some n)) plan base later);
+    yellow = λ p. all_of (largest (λ x. yellow_change x p) plan base later);
+    red = λ p. all_of (largest (λ x. red_clear x p) plan base later);
+    revert = λ p. all_of (largest (λ x. red_revert x p) plan base later);
+  }
+
+  -- from any moment on
+  pub near_first : (is : List Input) (stage : Stage) → AreTaken plan is →
+      Near limits (stage_phases (replay plan is).plan n stage) (replay plan is).plan (replay plan is).phases (replay plan is).rings (time_to_stage g w c)
+  near_first is stage taken =
+      dirty c (max w (c + g + 1))
+      (dirty_first (replay plan is) (stage_phases (replay plan is).plan n stage) limits (calm_run plan is ok taken) (sided_run plan is ok taken) (across_run plan is ok taken))
+      (all_of (time_to_stage g w c))
+
+  before : (d a m : ℕ) → 1 ≤ d → d + a ≤ m → a < m
+  before d a m h k = omega (arith, h, k)
+
+  past : (a m : ℕ) → a < m → a ≤ m
+  past a m h = omega (arith, h)
+
+one_more : (plan : Plan) (base : List Input) (n : ℕ) (stage : Stage) (limit : ℕ) (i : Input) (later : List Input) → ReachesStage plan base n stage limit later →
+    ReachesStage plan base n stage limit (i ∷ later)
+one_more plan base n stage limit i later x = record {
+  older = x.older;
+  newer = i ∷ x.newer;
+  parts = ap (λ (l : List Input). i ∷ l) x.parts;
+  arrived = x.arrived;
+  in_time = x.in_time;
+}
+
+reached_now : (plan : Plan) (base : List Input) (n : ℕ) (stage : Stage) (limit : ℕ) (later : List Input) →
+    AreGreen (stage_phases (replay plan (later ++ base)).plan n stage) (replay plan (later ++ base)).plan (replay plan (later ++ base)).phases →
+    (replay plan (later ++ base)).now ≤ (replay plan base).now + limit → ReachesStage plan base n stage limit later
+reached_now plan base n stage limit later h time = record {
+  older = later;
+  newer = [];
+  parts = refl;
+  arrived = all_are_green (stage_phases (replay plan (later ++ base)).plan n stage) (replay plan (later ++ base)).plan (replay plan (later ++ base)).phases h;
+  in_time = time;
+}
+
+pub stages_reached : (plan : Plan) (base later : List Input) (n : ℕ) (stage : Stage) (g w c : ℕ) → IsConsistent plan → plan.phase_count ≤ 16 →
+    AreTaken plan (later ++ base) → IsUntripped plan base later →
+    has_held_since (λ s. is_in_stage n stage s.preempts.service) plan base later ≡ true → StageTakesAtMost plan base n g w c later →
+    ReachesWithin plan base n stage (time_to_stage g w c) later
+stages_reached plan base later n stage g w c ok few taken dark held most =
+    go (course (ReachesStage plan base n stage (time_to_stage g w c)) t plan base n stage (time_to_stage g w c) ok few
+    (one_more plan base n stage (time_to_stage g w c)) passes later taken dark held (covered plan base later n g w c ok most)
+    (near (time_to_stage g w c) (near_first plan base later n g w c ok most base stage (taken_before plan base later taken)) (sum_same (time_to_stage g w c) (replay plan base).now)))
+  where
+    t : Limits
+    t = limits plan base later n g w c ok most
+
+    sum_same : (a b : ℕ) → a + b ≤ b + a
+    sum_same a b = omega arith
+
+    passes : (row : Row) (l : List Input) → AreTaken plan (l ++ base) → (replay plan (l ++ base)).trip ≡ None →
+        is_in_stage n stage (replay plan (l ++ base)).preempts.service ≡ true →
+        is_in_stage n stage (replay plan (Tick row ∷ (l ++ base))).preempts.service ≡ true →
+        AreGreen (stage_phases (replay plan (l ++ base)).plan n stage) (replay plan (l ++ base)).plan (replay plan (l ++ base)).phases →
+        (replay plan (l ++ base)).now ≤ (replay plan base).now + time_to_stage g w c → ReachesStage plan base n stage (time_to_stage g w c) (Tick row ∷ l)
+    passes row l there unlit was held_then h time =
+        one_more plan base n stage (time_to_stage g w c) (Tick row) l (reached_now plan base n stage (time_to_stage g w c) l h time)
+
+    go : Course (ReachesStage plan base n stage (time_to_stage g w c)) t plan base n stage (time_to_stage g w c) later → ReachesWithin plan base n stage (time_to_stage g w c) later
+    go (done x) = inl x
+    go (lit h time) = inl (reached_now plan base n stage (time_to_stage g w c) later h time)
+    go (near d was time) =
+        inr (before plan base later n g w c ok most d (replay plan (later ++ base)).now ((replay plan base).now + time_to_stage g w c)
+        (near_some t (stage_phases (replay plan (later ++ base)).plan n stage) (replay plan (later ++ base)).plan (replay plan (later ++ base)).phases (replay plan (later ++ base)).rings d was) time)
+
+-- ## The exit
+
+-- a service that begins is not in its exit
+begun_not : (a b : Bool) → (a && (place (if b then Track else Dwell) == place Exit)) ≡ true → ⊥
+begun_not a true h = false≢true (and_parts a (place Track == place Exit) h).1
+begun_not a false h = false≢true (and_parts a (place Dwell == place Exit) h).1
+
+-- the service that was, as a tick reads it
+abbrev pub read : Service → Service
+read x = record x { timer = advanced x.timer; stage_timer = advanced x.stage_timer }
+
+-- an exit whose phases are all Green is over in the next tick
+exit_over : (s : State) (row : Row) (n : ℕ) → s.trip ≡ None → is_in_stage n Exit s.preempts.service ≡ true →
+    all_green s.plan (interval s) (stage_phases s.plan n Exit) ≡ true → is_in_stage n Exit (step s (Tick row)).preempts.service ≡ true → ⊥
+unfolding preempts.new_service
+exit_over s row n dark was green now = by s.preempts.service refl was
+  where
+    after : is_in_stage n Exit (preempts.new_service s.plan (preempts_given s row) (preempts_read s)) ≡ true
+    after = ap (is_in_stage n Exit) (sym (service_then s row dark)) ∙ now
+
+    by : (o : Option Service) → s.preempts.service ≡ o → is_in_stage n Exit o ≡ true → ⊥
+    by None e h = false≢true h
+    by (Some x) e h = go (preempts.beginning s.plan (preempts_given s row) (preempts_read s)) after
+      where
+        both : ((x.preempt == n) ≡ true) × ((place x.stage == place Exit) ≡ true)
+        both = and_parts (x.preempt == n) (place x.stage == place Exit) h
+
+        here : x.stage ≡ Exit
+        here = same_place x.stage Exit (eqb-true (place x.stage) (place Exit) both.1)
+
+        ends : ends_exit s.plan (interval s) (read x) ≡ true
+        ends = ap (λ (k : ℕ). all_green s.plan (interval s) (is_exit_phase s.plan k)) (eqb-true x.preempt n both.0) ∙ green
+
+        over : (input : Bool) → stage_after s.plan (interval s) input (read x) x.stage ≡ None
+        over input =
+            ap (λ (a : Stage). stage_after s.plan (interval s) input (read x) a) here
+            ∙ ap (λ (b : Bool). if b then None else Some Exit) ends
+
+        go : (m : Option ℕ) → is_in_stage n Exit (preempts.service_by s.plan (preempts_given s row) (preempts_read s) m) ≡ true → ⊥
+        go (Some m) k = begun_not (m == n) (has_track s.plan m) k
+        go None k =
+            false≢true (sym (ap (λ (a : Option Stage). is_in_stage n Exit (with_stage s.plan (interval s) (read x) a))
+            (over (preempts.has_input (preempts_given s row) (preempts_read s) x.preempt)))
+            ∙ ap (λ (o : Option Service). is_in_stage n Exit (preempts.going_on s.plan (preempts_given s row) (preempts_read s) (service_as_read o))) (sym e) ∙ k)
+
+pub exits_end : (plan : Plan) (base later : List Input) (n g w c : ℕ) → IsConsistent plan → plan.phase_count ≤ 16 →
+    AreTaken plan (later ++ base) → IsUntripped plan base later →
+    has_held_since (λ s. is_in_stage n Exit s.preempts.service) plan base later ≡ true → StageTakesAtMost plan base n g w c later →
+    (replay plan (later ++ base)).now ≤ (replay plan base).now + time_to_stage g w c
+exits_end plan base later n g w c ok few taken dark held most =
+    go (course (λ (l : List Input). ⊥) t plan base n Exit (time_to_stage g w c) ok few (λ i l x. x) passes later taken dark held (covered plan base later n g w c ok most)
+    (near (time_to_stage g w c) (near_first plan base later n g w c ok most base Exit (taken_before plan base later taken)) (sum_same (time_to_stage g w c) (replay plan base).now)))
+  where
+    t : Limits
+    t = limits plan base later n g w c ok most
+
+    sum_same : (a b : ℕ) → a + b ≤ b + a
+    sum_same a b = omega arith
+
+    passes : (row : Row) (l : List Input) → AreTaken plan (l ++ base) → (replay plan (l ++ base)).trip ≡ None →
+        is_in_stage n Exit (replay plan (l ++ base)).preempts.service ≡ true →
+        is_in_stage n Exit (replay plan (Tick row ∷ (l ++ base))).preempts.service ≡ true →
+        AreGreen (stage_phases (replay plan (l ++ base)).plan n Exit) (replay plan (l ++ base)).plan (replay plan (l ++ base)).phases →
+        (replay plan (l ++ base)).now ≤ (replay plan base).now + time_to_stage g w c → ⊥
+    passes row l there unlit was held_then h time =
+        exit_over (replay plan (l ++ base)) row n unlit was
+        (all_are_green (stage_phases (replay plan (l ++ base)).plan n Exit) (replay plan (l ++ base)).plan (replay plan (l ++ base)).phases h) held_then
+
+    go : Course (λ (l : List Input). ⊥) t plan base n Exit (time_to_stage g w c) later → (replay plan (later ++ base)).now ≤ (replay plan base).now + time_to_stage g w c
+    go (done x) = absurd x
+    go (lit h time) = time
+    go (near d was time) =
+        past plan base later n g w c ok most (replay plan (later ++ base)).now ((replay plan base).now + time_to_stage g w c)
+        (before plan base later n g w c ok most d (replay plan (later ++ base)).now ((replay plan base).now + time_to_stage g w c)
+        (near_some t (stage_phases (replay plan (later ++ base)).plan n Exit) (replay plan (later ++ base)).plan (replay plan (later ++ base)).phases (replay plan (later ++ base)).rings d was) time)

@@ -1,0 +1,476 @@
+-- A preempt that stays in service reaches its dwell in time: the track phases are Green in time, their track green passes, and
+-- the dwell phases are Green in time.
+use Rattle.std.proofs.Common.{◌≡◌, ℕ, ◌+◌, ◌-◌, ◌<◌, ◌≤◌, ◌==◌, nat_le, Bool, true, false, not, ◌&&◌, ◌||◌, if◌then◌else◌, max, List, [], ◌∷◌, ◌++◌, Option, Some, None, is_some, refl, sym, ap, subst, ◌∙◌, inl, inr, ◌⊎◌, arith}
+use Rattle.std.proofs.lemmas.Bool.{and_parts, eq-eqb, eqb-true, true≢false, false≢true}
+use Rattle.tsb_step.specs.tsb_cells.declared.timer.Timer.{Timer}
+use Rattle.tsb_step.specs.tsb_cells.declared.timer.Timer.TheVariants.{Off, On}
+use Rattle.tsb_step.specs.tsb_cells.Timer.{advanced, started, is_on, has_reached}
+use Rattle.tsb_step.specs.tsb_types.declared.row.Row.{Row}
+use Rattle.tsb_step.specs.tsb_types.declared.stage.Stage.{Stage}
+use Rattle.tsb_step.specs.tsb_types.declared.stage.Stage.TheVariants.{Track, Dwell, Exit}
+use Rattle.tsb_step.specs.tsb_plan.Parts.{track_green, is_track_phase}
+use Rattle.tsb_step.specs.tsb_plan.Plan.{Plan}
+use Rattle.tsb_step.specs.tsb_preempt.Preempts as preempts
+use Rattle.tsb_step.specs.tsb_preempt.Preempts.{is_dwell, is_exit}
+use Rattle.tsb_step.specs.tsb_preempt.Service.{Service, service_as_read, has_track, stage_phases, all_green, begun, track_timer, ends_track, stage_after, with_stage}
+use Rattle.tsb_step.specs.declared.inputs.Input.{Input}
+use Rattle.tsb_step.specs.declared.inputs.Input.TheVariants as inputs
+use Rattle.tsb_step.specs.declared.inputs.Input.TheVariants.{Tick}
+use Rattle.tsb_step.specs.State.{State, interval, restarted}
+use Rattle.tsb_step.specs.Tick.{preempts_given, preempts_read, next}
+use Rattle.tsb_step.specs.Step.{step, kind_of}
+use Rattle.tsb_step.specs.Past.{ticks_of}
+use Rattle.tsb_step.specs.Runs.{replay, AreTaken}
+use Rattle.tsb_step.specs.Laws.{IsConsistent}
+use Rattle.tsb_step.proofs.ClearLemmas.{plan_stays, one_later}
+use Rattle.tsb_laws.specs.Stretches.{IsUntripped, has_held_since, largest}
+use Rattle.tsb_laws.specs.PreemptDwells.{BeginsService, is_served, is_dwelling, has_arrived}
+use Rattle.tsb_laws.specs.PreemptTurns.{place, GoesOn, BeginsFor}
+use Rattle.tsb_laws.specs.PreemptStages.{is_in_stage, StageTakesAtMost, time_to_stage, time_to_dwell, ReachesDwell}
+use Rattle.tsb_laws.proofs.safety.StretchLemmas.{dark_now, taken_before, IsSame, Goes, ticks, stays, goes}
+use Rattle.tsb_laws.proofs.safety.DueLemmas.{largest_now, largest_more, not_reached}
+use Rattle.tsb_laws.proofs.operation.PreemptTurnLemmas.{before_it, may_begin_it, service_then, service_lit, gives_way}
+use Rattle.tsb_laws.proofs.operation.StageFactLemmas.{Limits}
+use Rattle.tsb_laws.proofs.operation.StageArrivalLemmas.{Near, AreGreen, all_are_green, nearer}
+use Rattle.tsb_laws.proofs.operation.StageRunLemmas.{read, same_place, stays_at, list_same, IsLike, near_like, near_some, Covers, covers_before, covers_now, so_late, soon, later_on, is_there, like_at, lit_like, then_lit, then_near, limits, covered, near_first}
+
+-- ## The service
+
+-- an input that is no tick leaves it
+service_same : (s : State) (i : Input) → s.trip ≡ None → ticks_of (kind_of i) ≡ 0 → (step s i).preempts.service ≡ s.preempts.service
+unfolding step
+service_same s (inputs.Tick row) dark none = let bad : 1 ≡ 0 = none in absurd (omega (arith, bad))
+service_same s (inputs.Fault lamp) dark none = service_lit s lamp
+service_same s inputs.Reset dark none = go (is_some s.trip) (ap is_some dark)
+  where
+    go : (b : Bool) → b ≡ false → (if b then restarted s else s).preempts.service ≡ s.preempts.service
+    go true h = absurd (true≢false h)
+    go false h = refl
+service_same s i dark none = refl
+
+served_in : (n : ℕ) (o : Option Service) → is_served n o ≡ true → (is_in_stage n Track o ≡ true) ⊎ (is_in_stage n Dwell o ≡ true)
+served_in n None h = absurd (false≢true h)
+served_in n (Some x) h = by x.stage refl (and_parts (x.preempt == n) (not (is_exit x.stage)) h).1
+  where
+    own : (x.preempt == n) ≡ true
+    own = (and_parts (x.preempt == n) (not (is_exit x.stage)) h).0
+
+    at : (a b : Stage) → a ≡ b → ((x.preempt == n) && (place a == place b)) ≡ true
+    at a b e = rw (own, e) (eq-eqb (place b) (place b) refl)
+
+    by : (a : Stage) → x.stage ≡ a → not (is_exit x.stage) ≡ true → (is_in_stage n Track (Some x) ≡ true) ⊎ (is_in_stage n Dwell (Some x) ≡ true)
+    by Track e k = inl (at x.stage Track e)
+    by Dwell e k = inr (at x.stage Dwell e)
+    by Exit e k = absurd (false≢true (sym (ap (λ (a : Stage). not (is_exit a)) e) ∙ k))
+
+-- one that stays in Track: its stage timer, which has not reached track green
+record Tracks (s : State) (row : Row) (n : ℕ) (x : Service) : Type 0 where
+  pub after : Service
+  pub is_after : (step s (Tick row)).preempts.service ≡ Some after
+  pub timer : after.stage_timer ≡ track_timer s.plan (interval s) (read x)
+  pub goes_on : has_reached (track_timer s.plan (interval s) (read x)) (track_green s.plan n) ≡ false
+
+tracks : (s : State) (row : Row) (n : ℕ) (x : Service) → s.trip ≡ None → s.preempts.service ≡ Some x → is_in_stage n Track (Some x) ≡ true →
+    is_in_stage n Track (step s (Tick row)).preempts.service ≡ true → Tracks s row n x
+unfolding preempts.new_service preempts.beginning
+tracks s row n x dark e was now = go (preempts.beginning s.plan (preempts_given s row) (preempts_read s)) refl
+  where
+    w : preempts.Preempts
+    w = preempts_read s
+
+    number : x.preempt ≡ n
+    number = eqb-true x.preempt n (and_parts (x.preempt == n) (place x.stage == place Track) was).0
+
+    here : x.stage ≡ Track
+    here = same_place x.stage Track (eqb-true (place x.stage) (place Track) (and_parts (x.preempt == n) (place x.stage == place Track) was).1)
+
+    is_read : w.service ≡ Some (read x)
+    is_read = ap service_as_read e
+
+    -- it does not begin anew
+    begins_not : (m : ℕ) → preempts.if_may_begin w.service (preempts.requesting s.plan (preempts_given s row) w) ≡ Some m → m ≡ n → ⊥
+    begins_not m k same =
+        by (before_it (read x) m (ap (λ (o : Option Service). preempts.may_begin o m) (sym is_read)
+        ∙ may_begin_it w.service (preempts.requesting s.plan (preempts_given s row) w) m k))
+      where
+        by : (m < x.preempt) ⊎ ((m ≡ x.preempt) × (x.stage ≡ Exit)) → ⊥
+        by (inl less) = omega (arith, less, same, number)
+        by (inr both) = let bad : Track ≡ Exit = sym here ∙ both.1 in absurd cc
+
+    number_of : (m : ℕ) → is_in_stage n Track (Some (begun s.plan m)) ≡ true → m ≡ n
+    number_of m k = eqb-true m n (and_parts (m == n) (place (begun s.plan m).stage == place Track) k).0
+
+    moves_on : preempts.going_on s.plan (preempts_given s row) w w.service
+        ≡ with_stage s.plan (interval s) (read x) (if ends_track s.plan (interval s) (read x) then Some Dwell else Some Track)
+    moves_on =
+        ap (λ (o : Option Service). preempts.going_on s.plan (preempts_given s row) w o) is_read
+        ∙ ap (λ (a : Stage). with_stage s.plan (interval s) (read x)
+        (stage_after s.plan (interval s) (preempts.has_input (preempts_given s row) w x.preempt) (read x) a)) here
+
+    stays_on : (b : Bool) → ends_track s.plan (interval s) (read x) ≡ b →
+        (step s (Tick row)).preempts.service ≡ with_stage s.plan (interval s) (read x) (if b then Some Dwell else Some Track) → Tracks s row n x
+    stays_on true k l =
+        absurd (false≢true (sym (dwells (x.preempt == n)) ∙ ap (is_in_stage n Track) (sym l) ∙ now))
+      where
+        dwells : (a : Bool) → (a && (place Dwell == place Track)) ≡ false
+        dwells true = refl
+        dwells false = refl
+    stays_on false k l = record {
+      after = record { preempt = x.preempt; stage = Track; timer = advanced x.timer; stage_timer = track_timer s.plan (interval s) (read x) };
+      is_after = l;
+      timer = refl;
+      goes_on = ap (λ (m : ℕ). has_reached (track_timer s.plan (interval s) (read x)) (track_green s.plan m)) (sym number) ∙ k;
+    }
+
+    go : (o : Option ℕ) → preempts.beginning s.plan (preempts_given s row) w ≡ o → Tracks s row n x
+    go (Some m) k =
+        let it : (step s (Tick row)).preempts.service ≡ Some (begun s.plan m) =
+        service_then s row dark ∙ ap (λ (o : Option ℕ). preempts.service_by s.plan (preempts_given s row) w o) k in
+        absurd (begins_not m k (number_of m (ap (is_in_stage n Track) (sym it) ∙ now)))
+    go None k =
+        stays_on (ends_track s.plan (interval s) (read x)) refl
+        (service_then s row dark ∙ ap (λ (o : Option ℕ). preempts.service_by s.plan (preempts_given s row) w o) k ∙ moves_on)
+
+-- ## Along a stretch
+
+-- how far it is: on the way to the track phases, with these Green, with the stage timer running, or on the way to the dwell phases
+data Way (plan : Plan) (base : List Input) (n : ℕ) (t : Limits) (green b limit : ℕ) (later : List Input) : Type 0 where
+  to_track : is_in_stage n Track (replay plan (later ++ base)).preempts.service ≡ true → (d : ℕ) →
+      Near t (stage_phases (replay plan (later ++ base)).plan n Track) (replay plan (later ++ base)).plan (replay plan (later ++ base)).phases
+      (replay plan (later ++ base)).rings d → d + green + b + (replay plan (later ++ base)).now ≤ (replay plan base).now + limit →
+      Way plan base n t green b limit later
+  in_track : is_in_stage n Track (replay plan (later ++ base)).preempts.service ≡ true →
+      AreGreen (stage_phases (replay plan (later ++ base)).plan n Track) (replay plan (later ++ base)).plan (replay plan (later ++ base)).phases →
+      green + b + (replay plan (later ++ base)).now ≤ (replay plan base).now + limit → Way plan base n t green b limit later
+  timed : (x : Service) → (replay plan (later ++ base)).preempts.service ≡ Some x → is_in_stage n Track (Some x) ≡ true → (k : ℕ) → x.stage_timer ≡ On k →
+      green - (k + 1) + b + (replay plan (later ++ base)).now ≤ (replay plan base).now + limit → Way plan base n t green b limit later
+  to_dwell : is_in_stage n Dwell (replay plan (later ++ base)).preempts.service ≡ true → (d : ℕ) →
+      Near t (stage_phases (replay plan (later ++ base)).plan n Dwell) (replay plan (later ++ base)).plan (replay plan (later ++ base)).phases
+      (replay plan (later ++ base)).rings d → d + (replay plan (later ++ base)).now ≤ (replay plan base).now + limit → Way plan base n t green b limit later
+  arrived : ReachesDwell plan base n limit later → Way plan base n t green b limit later
+
+-- a dwell does not go back to track green
+dwell_stays : (s : State) (row : Row) (n : ℕ) → is_in_stage n Dwell s.preempts.service ≡ true → is_in_stage n Track (step s (Tick row)).preempts.service ≡ true → ⊥
+dwell_stays s row n was now = go s.preempts.service (step s (Tick row)).preempts.service refl refl was now
+  where
+    go : (o p : Option Service) → s.preempts.service ≡ o → (step s (Tick row)).preempts.service ≡ p → is_in_stage n Dwell o ≡ true → is_in_stage n Track p ≡ true → ⊥
+    go None p e k h m = false≢true h
+    go (Some x) None e k h m = false≢true m
+    go (Some x) (Some y) e k h m = by (gives_way s (Tick row) x y e k)
+      where
+        before = and_parts (x.preempt == n) (place x.stage == place Dwell) h
+        after = and_parts (y.preempt == n) (place y.stage == place Track) m
+
+        at_x : place x.stage ≡ 2
+        at_x = eqb-true (place x.stage) (place Dwell) before.1
+
+        at_y : place y.stage ≡ 1
+        at_y = eqb-true (place y.stage) (place Track) after.1
+
+        same : y.preempt ≡ x.preempt
+        same = eqb-true y.preempt n after.0 ∙ sym (eqb-true x.preempt n before.0)
+
+        exits : (a : Stage) → a ≡ Exit → place a ≡ 2 → ⊥
+        exits a f l = let bad : 3 ≡ 2 = ap place (sym f) ∙ l in omega (arith, bad)
+
+        by : GoesOn x y ⊎ BeginsFor s x y → ⊥
+        by (inl it) = let onward = it.onward in omega (arith, onward, at_x, at_y)
+        by (inr it) = elim it.before [ inl less ↦ omega (arith, less, same) | inr both ↦ exits x.stage both.1 at_x ]
+
+is_dwelling_in : (n : ℕ) (o : Option Service) → is_in_stage n Dwell o ≡ true → is_dwelling n o ≡ true
+is_dwelling_in n None h = h
+is_dwelling_in n (Some x) h =
+    let both = and_parts (x.preempt == n) (place x.stage == place Dwell) h in
+    let here : x.stage ≡ Dwell = same_place x.stage Dwell (eqb-true (place x.stage) (place Dwell) both.1) in
+    rw (both.0, here) refl
+
+-- the stage timer runs once all track phases are Green, and then on
+runs_from : (v : Timer) (a : Bool) → a ≡ true → (k : ℕ) × ((if is_on (advanced v) || a then started (advanced v) else Off) ≡ On k)
+runs_from Off true h = (0, refl)
+runs_from Off false h = absurd (false≢true h)
+runs_from (On m) a h = (m + 1, refl)
+
+module _ (plan : Plan) (base : List Input) (n : ℕ) (t : Limits) (green b limit : ℕ) (ok : IsConsistent plan) (few : plan.phase_count ≤ 16)
+    (near_dwell : (is : List Input) → AreTaken plan is →
+    Near t (stage_phases (replay plan is).plan n Dwell) (replay plan is).plan (replay plan is).phases (replay plan is).rings b) where
+  more : (i : Input) (later : List Input) → ReachesDwell plan base n limit later → ReachesDwell plan base n limit (i ∷ later)
+  more i later x = record {
+    older = x.older;
+    newer = i ∷ x.newer;
+    parts = ap (λ (l : List Input). i ∷ l) x.parts;
+    arrived = x.arrived;
+    in_time = x.in_time;
+  }
+
+  -- ## A tick
+
+  dwell_tick : (row : Row) (later : List Input) → AreTaken plan (later ++ base) → (replay plan (later ++ base)).trip ≡ None →
+      is_in_stage n Dwell (replay plan (Tick row ∷ (later ++ base))).preempts.service ≡ true → Covers t plan base n later → (d : ℕ) →
+      Near t (stage_phases (replay plan (later ++ base)).plan n Dwell) (replay plan (later ++ base)).plan (replay plan (later ++ base)).phases
+      (replay plan (later ++ base)).rings d → d + (replay plan (later ++ base)).now ≤ (replay plan base).now + limit → Way plan base n t green b limit (Tick row ∷ later)
+  dwell_tick row later taken dark held cover d was time =
+      elim (nearer s row (stage_phases s.plan n Dwell) n (stays_at plan (later ++ base) row n Dwell ok few taken dark held) t (covers_now t plan base n later cover) d was) [
+        | inl lit ↦ arrived (record {
+          older = Tick row ∷ later;
+          newer = [];
+          parts = refl;
+          arrived = there (then_lit s row n Dwell dark lit);
+          in_time = soon (step s (Tick row)).now s.now d ((replay plan base).now + limit) (one_later s row) some time;
+        })
+        | inr closer ↦ to_dwell held (d - 1) (then_near s row n Dwell dark t (d - 1) closer)
+            (later_on (step s (Tick row)).now s.now d ((replay plan base).now + limit) (one_later s row) some time)
+      ]
+    where
+      s : State
+      s = replay plan (later ++ base)
+
+      some : 1 ≤ d
+      some = near_some t (stage_phases s.plan n Dwell) s.plan s.phases s.rings d was
+
+      there : AreGreen (stage_phases (step s (Tick row)).plan n Dwell) (step s (Tick row)).plan (step s (Tick row)).phases → has_arrived n (step s (Tick row)) ≡ true
+      there h =
+          rw (is_dwelling_in n (step s (Tick row)).preempts.service held)
+          (all_are_green (stage_phases (step s (Tick row)).plan n Dwell) (step s (Tick row)).plan (step s (Tick row)).phases h)
+
+  track_tick : (row : Row) (later : List Input) → AreTaken plan (later ++ base) → (replay plan (later ++ base)).trip ≡ None →
+      is_in_stage n Track (replay plan (Tick row ∷ (later ++ base))).preempts.service ≡ true → Covers t plan base n later → (d : ℕ) →
+      Near t (stage_phases (replay plan (later ++ base)).plan n Track) (replay plan (later ++ base)).plan (replay plan (later ++ base)).phases
+      (replay plan (later ++ base)).rings d → d + green + b + (replay plan (later ++ base)).now ≤ (replay plan base).now + limit →
+      Way plan base n t green b limit (Tick row ∷ later)
+  track_tick row later taken dark held cover d was time =
+      elim (nearer s row (stage_phases s.plan n Track) n (stays_at plan (later ++ base) row n Track ok few taken dark held) t (covers_now t plan base n later cover) d was) [
+        | inl lit ↦ in_track held (then_lit s row n Track dark lit) (first (step s (Tick row)).now s.now d green b ((replay plan base).now + limit) (one_later s row) some time)
+        | inr closer ↦ to_track held (d - 1) (then_near s row n Track dark t (d - 1) closer)
+            (second (step s (Tick row)).now s.now d green b ((replay plan base).now + limit) (one_later s row) some time)
+      ]
+    where
+      s : State
+      s = replay plan (later ++ base)
+
+      some : 1 ≤ d
+      some = near_some t (stage_phases s.plan n Track) s.plan s.phases s.rings d was
+
+      first : (i j e g c m : ℕ) → i ≡ j + 1 → 1 ≤ e → e + g + c + j ≤ m → g + c + i ≤ m
+      first i j e g c m h k l = omega (arith, h, k, l)
+
+      second : (i j e g c m : ℕ) → i ≡ j + 1 → 1 ≤ e → e + g + c + j ≤ m → e - 1 + g + c + i ≤ m
+      second i j e g c m h k l = omega (arith, h, k, l)
+
+  -- the stage timer after a tick in Track
+  timer_tick : (row : Row) (later : List Input) → (replay plan (later ++ base)).trip ≡ None → (x : Service) →
+      (replay plan (later ++ base)).preempts.service ≡ Some x → is_in_stage n Track (Some x) ≡ true →
+      is_in_stage n Track (replay plan (Tick row ∷ (later ++ base))).preempts.service ≡ true →
+      track_green (replay plan (later ++ base)).plan n ≤ green → (k : ℕ) →
+      track_timer (replay plan (later ++ base)).plan (interval (replay plan (later ++ base))) (read x) ≡ On k →
+      (k + 1 ≤ green → green - (k + 1) + b + ((replay plan (later ++ base)).now + 1) ≤ (replay plan base).now + limit) → Way plan base n t green b limit (Tick row ∷ later)
+  timer_tick row later dark x e was held most k timer time =
+      timed it.after it.is_after (ap (is_in_stage n Track) (sym it.is_after) ∙ held) k (it.timer ∙ timer)
+      (at_now (step s (Tick row)).now s.now (green - (k + 1) + b) ((replay plan base).now + limit) (one_later s row) (time (below k (track_green s.plan n) green early most)))
+    where
+      s : State
+      s = replay plan (later ++ base)
+
+      it : Tracks s row n x
+      it = tracks s row n x dark e was held
+
+      early : k < track_green s.plan n
+      early = not_reached k (track_green s.plan n) (ap (λ (v : Timer). has_reached v (track_green s.plan n)) (sym timer) ∙ it.goes_on)
+
+      below : (i j m : ℕ) → i < j → j ≤ m → i + 1 ≤ m
+      below i j m h l = omega (arith, h, l)
+
+      at_now : (i j c m : ℕ) → i ≡ j + 1 → c + (j + 1) ≤ m → c + i ≤ m
+      at_now i j c m h l = omega (arith, h, l)
+
+  ticked : (row : Row) (later : List Input) → AreTaken plan (later ++ base) → (replay plan (later ++ base)).trip ≡ None →
+      (is_in_stage n Track (replay plan (Tick row ∷ (later ++ base))).preempts.service ≡ true)
+      ⊎ (is_in_stage n Dwell (replay plan (Tick row ∷ (later ++ base))).preempts.service ≡ true) → Covers t plan base n later →
+      track_green (replay plan (later ++ base)).plan n ≤ green → Way plan base n t green b limit later → Way plan base n t green b limit (Tick row ∷ later)
+  ticked row later taken dark held cover most (arrived x) = arrived (more (Tick row) later x)
+  ticked row later taken dark (inr held) cover most (to_dwell was d near time) = dwell_tick row later taken dark held cover d near time
+  ticked row later taken dark (inl held) cover most (to_dwell was d near time) = absurd (dwell_stays (replay plan (later ++ base)) row n was held)
+  ticked row later taken dark (inl held) cover most (to_track was d near time) = track_tick row later taken dark held cover d near time
+  ticked row later taken dark (inr held) cover most (to_track was d near time) =
+      dwell_tick row later taken dark held cover b (near_dwell (later ++ base) taken) (enough d green b (replay plan (later ++ base)).now ((replay plan base).now + limit) time)
+    where
+      enough : (d g c i m : ℕ) → d + g + c + i ≤ m → c + i ≤ m
+      enough d g c i m h = omega (arith, h)
+  ticked row later taken dark (inr held) cover most (in_track was lit time) =
+      dwell_tick row later taken dark held cover b (near_dwell (later ++ base) taken) (enough green b (replay plan (later ++ base)).now ((replay plan base).now + limit) time)
+    where
+      enough : (g c i m : ℕ) → g + c + i ≤ m → c + i ≤ m
+      enough g c i m h = omega (arith, h)
+  ticked row later taken dark (inr held) cover most (timed x e was k timer time) =
+      dwell_tick row later taken dark held cover b (near_dwell (later ++ base) taken)
+      (enough (green - (k + 1)) b (replay plan (later ++ base)).now ((replay plan base).now + limit) time)
+    where
+      enough : (g c i m : ℕ) → g + c + i ≤ m → c + i ≤ m
+      enough g c i m h = omega (arith, h)
+  ticked row later taken dark (inl held) cover most (in_track was lit time) = go s.preempts.service refl was
+    where
+      s : State
+      s = replay plan (later ++ base)
+
+      waits : (g c i m k : ℕ) → g + c + i ≤ m → k + 1 ≤ g → g - (k + 1) + c + (i + 1) ≤ m
+      waits g c i m k h l = omega (arith, h, l)
+
+      go : (o : Option Service) → s.preempts.service ≡ o → is_in_stage n Track o ≡ true → Way plan base n t green b limit (Tick row ∷ later)
+      go None e h = absurd (false≢true h)
+      go (Some x) e h =
+          let number : x.preempt ≡ n = eqb-true x.preempt n (and_parts (x.preempt == n) (place x.stage == place Track) h).0 in
+          let all : all_green s.plan (interval s) (is_track_phase s.plan x.preempt) ≡ true =
+          ap (λ (m : ℕ). all_green s.plan (interval s) (is_track_phase s.plan m)) number ∙ all_are_green (stage_phases s.plan n Track) s.plan s.phases lit in
+          let runs = runs_from x.stage_timer (all_green s.plan (interval s) (is_track_phase s.plan x.preempt)) all in
+          timer_tick row later dark x e h held most runs.0 runs.1 (waits green b s.now ((replay plan base).now + limit) runs.0 time)
+  ticked row later taken dark (inl held) cover most (timed x e was k timer time) =
+      timer_tick row later dark x e was held most (k + 1) goes (waits green b s.now ((replay plan base).now + limit) k time)
+    where
+      s : State
+      s = replay plan (later ++ base)
+
+      waits : (g c i m k : ℕ) → g - (k + 1) + c + i ≤ m → k + 1 + 1 ≤ g → g - (k + 1 + 1) + c + (i + 1) ≤ m
+      waits g c i m k h l = omega (arith, h, l)
+
+      goes : track_timer s.plan (interval s) (read x) ≡ On (k + 1)
+      goes =
+          ap (λ (v : Timer). if is_on (advanced v) || all_green s.plan (interval s) (is_track_phase s.plan x.preempt) then started (advanced v) else Off) timer
+
+  -- ## An input that is no tick
+
+  still : (i : Input) (later : List Input) → AreTaken plan (i ∷ (later ++ base)) → (replay plan (later ++ base)).trip ≡ None → ticks_of (kind_of i) ≡ 0 →
+      IsSame (replay plan (later ++ base)) (step (replay plan (later ++ base)) i) → Way plan base n t green b limit later → Way plan base n t green b limit (i ∷ later)
+  still i later taken dark none same was = go was
+    where
+      s : State
+      s = replay plan (later ++ base)
+
+      like : IsLike (replay plan (later ++ base)) (step (replay plan (later ++ base)) i)
+      like = like_at plan (later ++ base) i ok taken dark none same
+
+      held_on : (stage : Stage) → is_in_stage n stage s.preempts.service ≡ true → is_in_stage n stage (step s i).preempts.service ≡ true
+      held_on stage h = ap (is_in_stage n stage) (service_same s i dark none) ∙ h
+
+      lists : (stage : Stage) → is_in_stage n stage s.preempts.service ≡ true → stage_phases (step s i).plan n stage ≡ stage_phases s.plan n stage
+      lists stage h = list_same s i n stage taken.1 (is_there n stage s.preempts.service h)
+
+      near_on : (stage : Stage) → is_in_stage n stage s.preempts.service ≡ true → (d : ℕ) → Near t (stage_phases s.plan n stage) s.plan s.phases s.rings d →
+          Near t (stage_phases (step s i).plan n stage) (step s i).plan (step s i).phases (step s i).rings d
+      near_on stage h d near =
+          subst (λ (l : ℕ → Bool). Near t l (step s i).plan (step s i).phases (step s i).rings d) (sym (lists stage h))
+          (near_like s (step s i) like t (stage_phases s.plan n stage) d near)
+
+      lit_on : (stage : Stage) → is_in_stage n stage s.preempts.service ≡ true → AreGreen (stage_phases s.plan n stage) s.plan s.phases →
+          AreGreen (stage_phases (step s i).plan n stage) (step s i).plan (step s i).phases
+      lit_on stage h lit =
+          subst (λ (l : ℕ → Bool). AreGreen l (step s i).plan (step s i).phases) (sym (lists stage h)) (lit_like s (step s i) like (stage_phases s.plan n stage) lit)
+
+      late : (e : ℕ) → e + s.now ≤ (replay plan base).now + limit → e + (step s i).now ≤ (replay plan base).now + limit
+      late e h = so_late e (step s i).now s.now ((replay plan base).now + limit) same.now h
+
+      go : Way plan base n t green b limit later → Way plan base n t green b limit (i ∷ later)
+      go (arrived x) = arrived (more i later x)
+      go (to_dwell h d near time) = to_dwell (held_on Dwell h) d (near_on Dwell h d near) (late d time)
+      go (to_track h d near time) = to_track (held_on Track h) d (near_on Track h d near) (late (d + green + b) time)
+      go (in_track h lit time) = in_track (held_on Track h) (lit_on Track h lit) (late (green + b) time)
+      go (timed x e h k timer time) = timed x (service_same s i dark none ∙ e) h k timer (late (green - (k + 1) + b) time)
+
+  way : (later : List Input) → AreTaken plan (later ++ base) → IsUntripped plan base later →
+      has_held_since (λ s. is_served n s.preempts.service) plan base later ≡ true → Covers t plan base n later →
+      largest (λ x. track_green x n) plan base later ≤ green → Way plan base n t green b limit [] → Way plan base n t green b limit later
+  way [] taken dark held cover most first = first
+  way (i ∷ later) taken dark held cover most first = go (goes (replay plan (later ++ base)) i dark_before)
+    where
+      both = and_parts (is_served n (replay plan (i ∷ (later ++ base))).preempts.service) (has_held_since (λ s. is_served n s.preempts.service) plan base later) held
+
+      dark_before : (replay plan (later ++ base)).trip ≡ None
+      dark_before = dark_now plan base later dark.0
+
+      cover_before : Covers t plan base n later
+      cover_before = covers_before t plan base n i later cover
+
+      fewer : (i j m : ℕ) → i ≤ j → j ≤ m → i ≤ m
+      fewer i j m h l = omega (arith, h, l)
+
+      most_before : largest (λ x. track_green x n) plan base later ≤ green
+      most_before =
+          fewer (largest (λ x. track_green x n) plan base later) (largest (λ x. track_green x n) plan base (i ∷ later)) green
+          (largest_more (λ x. track_green x n) plan base later i) most
+
+      most_now : track_green (replay plan (later ++ base)).plan n ≤ green
+      most_now =
+          fewer (track_green (replay plan (later ++ base)).plan n) (largest (λ x. track_green x n) plan base later) green
+          (largest_now (λ x. track_green x n) plan base later) most_before
+
+      was : Way plan base n t green b limit later
+      was = way later taken.0 dark.0 both.1 cover_before most_before first
+
+      go : Goes (replay plan (later ++ base)) i → Way plan base n t green b limit (i ∷ later)
+      go (ticks row e) =
+          subst (λ (j : Input). Way plan base n t green b limit (j ∷ later)) (sym e)
+          (ticked row later taken.0 dark_before
+          (served_in n (replay plan (Tick row ∷ (later ++ base))).preempts.service
+          (subst (λ (j : Input). is_served n (replay plan (j ∷ (later ++ base))).preempts.service ≡ true) e both.0)) cover_before most_now was)
+      go (stays none same) = still i later taken dark_before none same was
+
+-- ## The law
+
+pub dwells_reached : (plan : Plan) (is later : List Input) (row : Row) (n g w c t limit : ℕ) → IsConsistent plan → plan.phase_count ≤ 16 →
+    AreTaken plan (later ++ (Tick row ∷ is)) → IsUntripped plan (Tick row ∷ is) later → BeginsService plan is row n →
+    has_held_since (λ s. is_served n s.preempts.service) plan (Tick row ∷ is) later ≡ true → StageTakesAtMost plan (Tick row ∷ is) n g w c later →
+    largest (λ x. track_green x n) plan (Tick row ∷ is) later ≤ t → limit ≡ time_to_dwell (has_track (replay plan is).plan n) g w c t →
+    ReachesDwell plan (Tick row ∷ is) n limit later ⊎ ((replay plan (later ++ (Tick row ∷ is))).now < (replay plan (Tick row ∷ is)).now + limit)
+dwells_reached plan is later row n g w c t limit ok few taken dark begins held most green time =
+    go (way plan base n bounds t b limit ok few near_dwell later taken dark held (covered plan base later n g w c ok most) green (first (has_track (replay plan is).plan n) refl))
+  where
+    base : List Input
+    base = Tick row ∷ is
+
+    b : ℕ
+    b = time_to_stage g w c
+
+    bounds : Limits
+    bounds = limits plan base later n g w c ok most
+
+    there : AreTaken plan (Tick row ∷ is)
+    there = taken_before plan (Tick row ∷ is) later taken
+
+    near_dwell : (l : List Input) → AreTaken plan l →
+        Near bounds (stage_phases (replay plan l).plan n Dwell) (replay plan l).plan (replay plan l).phases (replay plan l).rings b
+    near_dwell l h = near_first plan base later n g w c ok most l Dwell h
+
+    starts : (stage : Stage) → (if has_track (replay plan is).plan n then Track else Dwell) ≡ stage →
+        is_in_stage n stage (replay plan (Tick row ∷ is)).preempts.service ≡ true
+    starts stage h =
+        ap (is_in_stage n stage) begins ∙ at (if has_track (replay plan is).plan n then Track else Dwell) stage h
+      where
+        at : (a d : Stage) → a ≡ d → ((n == n) && (place a == place d)) ≡ true
+        at a d e = rw (e, eq-eqb n n refl) (eq-eqb (place d) (place d) refl)
+
+    sum : (i j k m : ℕ) → k ≡ i → i + j ≤ j + k
+    sum i j k m h = omega (arith, h)
+
+    sum_track : (i j k g : ℕ) → k ≡ i + g + i → i + g + i + j ≤ j + k
+    sum_track i j k g h = omega (arith, h)
+
+    first : (a : Bool) → has_track (replay plan is).plan n ≡ a → Way plan base n bounds t b limit []
+    first true h =
+        to_track (starts Track (ap (λ (y : Bool). if y then Track else Dwell) h)) b (near_first plan base later n g w c ok most base Track there)
+        (sum_track b (replay plan base).now limit t (time ∙ ap (λ (y : Bool). time_to_dwell y g w c t) h))
+    first false h =
+        to_dwell (starts Dwell (ap (λ (y : Bool). if y then Track else Dwell) h)) b (near_dwell base there)
+        (sum b (replay plan base).now limit 0 (time ∙ ap (λ (y : Bool). time_to_dwell y g w c t) h))
+
+    some : 1 ≤ b
+    some = near_some bounds (stage_phases (replay plan base).plan n Dwell) (replay plan base).plan (replay plan base).phases (replay plan base).rings b (near_dwell base there)
+
+    early : (d e i m : ℕ) → 1 ≤ e → d + e + i ≤ m → i < m
+    early d e i m h l = omega (arith, h, l)
+
+    go : Way plan base n bounds t b limit later → ReachesDwell plan base n limit later ⊎ ((replay plan (later ++ base)).now < (replay plan base).now + limit)
+    go (arrived x) = inl x
+    go (to_dwell h d near l) =
+        inr (early 0 d (replay plan (later ++ base)).now ((replay plan base).now + limit)
+        (near_some bounds (stage_phases (replay plan (later ++ base)).plan n Dwell) (replay plan (later ++ base)).plan (replay plan (later ++ base)).phases (replay plan (later ++ base)).rings d near) l)
+    go (to_track h d near l) = inr (early (d + t) b (replay plan (later ++ base)).now ((replay plan base).now + limit) some l)
+    go (in_track h lit l) = inr (early t b (replay plan (later ++ base)).now ((replay plan base).now + limit) some l)
+    go (timed x e h k timer l) = inr (early (t - (k + 1)) b (replay plan (later ++ base)).now ((replay plan base).now + limit) some l)
