@@ -1,15 +1,13 @@
 -- Under a preempt what it does not want ends, and commitments of before start: in each tick less is left, and then all greens are
 -- wanted.
-use Rattle.std.proofs.Common.{◌≡◌, ℕ, zero, suc, ◌+◌, ◌-◌, ◌≤◌, Bool, true, false, not, ◌&&◌, max, Option, Some, None, refl, sym, ap, ◌∙◌, inl, inr, ◌⊎◌, arith}
-use Rattle.std.proofs.lemmas.Bool.{cases_Bool, and_parts, true≢false, false≢true, false_from_ne_true}
+use Rattle.std.proofs.Common.{◌≡◌, ℕ, ◌+◌, ◌-◌, ◌≤◌, Bool, true, false, max, Option, Some, None, refl, sym, ap, ◌∙◌, inl, inr, ◌⊎◌, arith}
+use Rattle.std.proofs.lemmas.Bool.{cases_Bool, and_parts, true≢false, false_from_ne_true}
 use Rattle.tsb_step.specs.tsb_types.declared.interval.Interval.{Interval}
 use Rattle.tsb_step.specs.tsb_types.declared.interval.Interval.TheVariants.{Red, Green, Yellow, RedClear}
 use Rattle.tsb_step.specs.tsb_types.declared.row.Row.{Row}
 use Rattle.tsb_step.specs.tsb_types.Intervals.{is_green, in_service}
-use Rattle.tsb_step.specs.tsb_plan.Plan.{Plan, is_enabled}
-use Rattle.tsb_step.specs.tsb_phase.Phase.{Phase}
+use Rattle.tsb_step.specs.tsb_plan.Plan.{is_enabled}
 use Rattle.tsb_step.specs.tsb_ring.declared.want.Want.TheVariants.{Cross}
-use Rattle.tsb_step.specs.tsb_ring.Rings as rings
 use Rattle.tsb_step.specs.tsb_ring.Rings.{Ring, in_ring, serving}
 use Rattle.tsb_step.specs.tsb_ring.Wants.{is_targeted, is_targeted_elsewhere, want_of}
 use Rattle.tsb_step.specs.tsb_ring.Crossings.{begins}
@@ -25,13 +23,13 @@ use Rattle.tsb_step.specs.TimeLaws.{IsSided}
 use Rattle.tsb_laws.specs.CrossingGreens.{IsCalm}
 use Rattle.tsb_step.proofs.GivenLemmas.{symmetric, given}
 use Rattle.tsb_step.proofs.IntervalLemmas.{intervals_after}
-use Rattle.tsb_laws.proofs.safety.CrossingRingLemmas.{begins_ending, starts_none, starts_all, none_is_started, goes_on, commitment_stays, WaitsFor, clearance_of, revert_of as reverting, waits_for_one}
+use Rattle.tsb_laws.proofs.safety.CrossingRingLemmas.{begins_ending, starts_all, none_is_started, commitment_stays, WaitsFor, clearance_of, revert_of as reverting, waits_for_one}
 use Rattle.tsb_laws.proofs.safety.DueLemmas.{clipped_at}
 use Rattle.tsb_laws.proofs.safety.RingLemmas.{stays_outside, starts_not}
 use Rattle.tsb_laws.proofs.operation.AcrossLemmas.{GoesAcross, promised_red}
 use Rattle.tsb_laws.proofs.operation.PhaseTimeLemmas.{not_yet_over, not_yet_reverted, not_yet_ready, reverts_down}
 use Rattle.tsb_laws.proofs.operation.PressLemmas.{Bars, committed_to, green_of as barred_by, serving_is, leaves_or_crosses, not_wanted_here, barred}
-use Rattle.tsb_laws.proofs.operation.StageFactLemmas.{Limits, Within, clear_of, revert_of, green_of, green_most, clear_most, revert_most, revert_dark, Stays, is_one_green, green_after, told_list, pairs_list, ends_it, wanted_stays, enters, binds, green_no_start, dark_no_end}
+use Rattle.tsb_laws.proofs.operation.StageFactLemmas.{Limits, Within, clear_of, revert_of, green_of, green_most, clear_most, revert_most, revert_dark, Stays, is_one_green, green_after, told_list, pairs_list, ends_it, enters, binds, dark_no_end}
 use Rattle.tsb_laws.proofs.operation.StageRingLemmas.{outside_waits}
 use Rattle.tsb_laws.proofs.operation.StageTickLemmas.{less, IsClean, StartsSoon, IsDirty, wanted_reverts, dark_clears, begun_green, unwanted_down}
 
@@ -271,6 +269,7 @@ module _ (s : State) (row : Row) (list : ℕ → Bool) (n : ℕ) (x : Stays s ro
       r = (x.good.rings.ringed p serves).0
 
       own : in_ring s.plan r p ≡ true
+      unfolding r
       own = (x.good.rings.ringed p serves).1
 
       no_crossing : s.rings.crossing ≡ None

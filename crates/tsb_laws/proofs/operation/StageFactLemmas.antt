@@ -1,6 +1,6 @@
 -- The times of a preempt that is in a stage, what the controller has in a tick of it, and what such a tick does to phases and
 -- commitments.
-use Rattle.std.proofs.Common.{◌≡◌, ℕ, ◌+◌, ◌-◌, ◌≤◌, Bool, true, false, not, max, Option, Some, None, refl, sym, ap, ◌∙◌, inl, inr, ◌⊎◌, arith}
+use Rattle.std.proofs.Common.{◌≡◌, ℕ, ◌+◌, ◌≤◌, Bool, true, false, not, max, Option, Some, None, refl, sym, ap, ◌∙◌, inl, inr, ◌⊎◌, arith}
 use Rattle.std.proofs.lemmas.Bool.{true≢false, false≢true, false_from_ne_true}
 use Rattle.tsb_step.specs.tsb_cells.declared.timer.Timer.{Timer}
 use Rattle.tsb_step.specs.tsb_cells.declared.timer.Timer.TheVariants.{Off, On}
@@ -12,7 +12,7 @@ use Rattle.tsb_step.specs.tsb_types.declared.row.Row.{Row}
 use Rattle.tsb_step.specs.tsb_types.Intervals.{is_green, in_service}
 use Rattle.tsb_step.proofs.tsb_types.IntervalLemmas.{serves-green}
 use Rattle.tsb_step.specs.tsb_plan.Parts.{preempt_minimum_green}
-use Rattle.tsb_step.specs.tsb_plan.Plan.{Plan, is_enabled, yellow_change, red_clear, red_revert}
+use Rattle.tsb_step.specs.tsb_plan.Plan.{Plan, yellow_change, red_clear, red_revert}
 use Rattle.tsb_step.specs.tsb_rules.Consistent.{AreCompatible}
 use Rattle.tsb_step.specs.tsb_phase.Phase.{Phase}
 use Rattle.tsb_step.specs.tsb_phase.Pedestrian.{ended_by, walk_time, clearance_time}
@@ -20,7 +20,6 @@ use Rattle.tsb_step.specs.tsb_phase.Ready.{yellow_is_done}
 use Rattle.tsb_step.specs.tsb_preempt.Preempts as preempts
 use Rattle.tsb_step.specs.tsb_ring.Rings as rings
 use Rattle.tsb_step.specs.tsb_ring.Rings.{Ring}
-use Rattle.tsb_step.specs.tsb_ring.Wants.{is_targeted}
 use Rattle.tsb_step.specs.tsb_ring.Moves.{is_ended, is_cleared, is_started}
 use Rattle.tsb_step.specs.tsb_ring.Laws.{IsListed, IsPairwiseConcurrent}
 use Rattle.tsb_step.specs.State.{State, interval}

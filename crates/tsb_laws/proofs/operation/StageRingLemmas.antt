@@ -1,17 +1,15 @@
 -- What the rings do in a tick of a stage once all that clears is over, and what is wanted has reverted: commitments start, over
 -- phases clear, a crossing begins or is completed, and what is wanted starts.
-use Rattle.std.proofs.Common.{◌≡◌, ℕ, Bool, true, false, not, ◌&&◌, ◌||◌, Option, Some, None, is_some, is_none, refl, sym, ap, ◌∙◌, inl, inr, ◌⊎◌}
-use Rattle.std.proofs.lemmas.Bool.{cases_Bool, and_parts, eqb-true, true≢false, false≢true}
+use Rattle.std.proofs.Common.{◌≡◌, ℕ, Bool, true, false, not, ◌&&◌, ◌||◌, Option, Some, None, is_none, refl, sym, ap, ◌∙◌, inl, inr, ◌⊎◌}
+use Rattle.std.proofs.lemmas.Bool.{cases_Bool, eqb-true, true≢false}
 use Rattle.tsb_step.specs.tsb_types.Intervals.{is_green, in_service}
-use Rattle.tsb_step.specs.tsb_types.Lists.{some_passes}
-use Rattle.tsb_step.specs.tsb_plan.Plan.{Plan, phases, is_concurrent, side_of}
+use Rattle.tsb_step.specs.tsb_plan.Plan.{Plan, phases, side_of}
 use Rattle.tsb_step.specs.tsb_rules.Rules.{first_broken}
 use Rattle.tsb_step.specs.tsb_ring.declared.want.Want.TheVariants.{Go, Rest}
-use Rattle.tsb_step.specs.tsb_ring.Rings.{Ring, other, State, Given, in_ring, serving}
+use Rattle.tsb_step.specs.tsb_ring.Rings.{Ring, State, Given, in_ring, serving}
 use Rattle.tsb_step.specs.tsb_ring.Wants.{is_on_side, is_targeted, is_targeted_elsewhere, want_by_target, picked_before, pick}
 use Rattle.tsb_step.specs.tsb_ring.Crossings.{begins, committed}
 use Rattle.tsb_step.specs.tsb_ring.Next.{completes, starting, clears, new_commitment}
-use Rattle.tsb_step.specs.tsb_ring.Moves.{moves, is_cleared}
 use Rattle.tsb_step.specs.tsb_ring.Laws.{IsListed, IsPairwiseConcurrent, IsSymmetric, IsGiven, IsSound}
 use Rattle.tsb_step.proofs.tsb_ring.EntryLemmas.{begins_apart}
 use Rattle.tsb_step.proofs.tsb_ring.StartLemmas.{Stays, is_cleared_in}

@@ -1,5 +1,5 @@
 -- A preempt that stays in a stage has all phases of it Green in time.
-use Rattle.std.proofs.Common.{◌≡◌, ℕ, ◌+◌, ◌-◌, ◌<◌, ◌≤◌, ◌==◌, Bool, true, false, ◌&&◌, if◌then◌else◌, max, List, [], ◌∷◌, ◌++◌, Option, Some, None, is_some, option_map, refl, sym, ap, subst, ◌∙◌, inl, inr, ◌⊎◌, arith}
+use Rattle.std.proofs.Common.{◌≡◌, ℕ, ◌+◌, ◌-◌, ◌<◌, ◌≤◌, ◌==◌, Bool, true, false, ◌&&◌, if◌then◌else◌, max, List, [], ◌∷◌, ◌++◌, Option, Some, None, is_some, option_map, refl, sym, ap, subst, ◌∙◌, inl, inr, arith}
 use Rattle.std.proofs.lemmas.Bool.{and_parts, eqb-true, true≢false, false≢true}
 use Rattle.tsb_step.specs.tsb_cells.Timer.{advanced}
 use Rattle.tsb_step.specs.tsb_types.declared.row.Row.{Row}
@@ -19,7 +19,6 @@ use Rattle.tsb_step.specs.tsb_preempt.Preempts as preempts
 use Rattle.tsb_step.specs.tsb_preempt.Service.{Service, service_as_read, has_track, stage_phases, all_green, ends_exit, stage_after, with_stage}
 use Rattle.tsb_step.specs.tsb_ring.Rings as rings
 use Rattle.tsb_step.specs.tsb_ring.Rings.{Ring, number, in_ring}
-use Rattle.tsb_step.specs.tsb_ring.Laws.{IsListed}
 use Rattle.tsb_step.specs.tsb_transact.Desk.{with_edits}
 use Rattle.tsb_step.specs.tsb_transact.Commit.{is_preempt_list, changes_structure, changes_preempt}
 use Rattle.tsb_step.specs.declared.inputs.Input.{Input}
@@ -32,7 +31,7 @@ use Rattle.tsb_step.specs.Past.{ticks_of}
 use Rattle.tsb_step.specs.Runs.{replay, AreTaken}
 use Rattle.tsb_step.specs.Laws.{IsConsistent}
 use Rattle.tsb_step.specs.TimeLaws.{held_for, TellsTime}
-use Rattle.tsb_step.specs.Good.{IsInStage, IsGood}
+use Rattle.tsb_step.specs.Good.{IsGood}
 use Rattle.tsb_step.proofs.ClearLemmas.{plan_stays, phases_then, one_later}
 use Rattle.tsb_step.proofs.EditLemmas.{or_false, kept}
 use Rattle.tsb_step.proofs.GivenLemmas.{new_in_stage}
@@ -45,7 +44,7 @@ use Rattle.tsb_step.proofs.TellLemmas.{timers_tell_time}
 use Rattle.tsb_step.proofs.YellowLemmas.{enabled_lit, plan_of_reset}
 use Rattle.tsb_laws.specs.Stretches.{IsUntripped, has_held_since, largest}
 use Rattle.tsb_laws.specs.PreemptTurns.{place}
-use Rattle.tsb_laws.specs.PreemptStages.{is_in_stage, serves_stage, StageTakesAtMost, time_to_stage, ReachesStage, ReachesWithin}
+use Rattle.tsb_laws.specs.PreemptStages.{is_in_stage, StageTakesAtMost, time_to_stage, ReachesStage, ReachesWithin}
 use Rattle.tsb_laws.proofs.safety.StretchLemmas.{dark_now, taken_before, IsSame, Goes, ticks, stays, goes}
 use Rattle.tsb_laws.proofs.safety.DueLemmas.{largest_now, largest_more, ring_same, count_run}
 use Rattle.tsb_laws.proofs.safety.EnabledLemmas.{enabled_run}
@@ -166,9 +165,9 @@ list_same s (inputs.Commit station) n stage taken on = go stage
     value o h = kept is_preempt_list s.plan s.desk.edits unchanged o n h
 
     go : (a : Stage) → stage_phases (with_edits s.plan s.desk.edits) n a ≡ stage_phases s.plan n a
-    go Track = ap (λ (v : ℕ) (p : ℕ). names v p) (value PreemptTrackPhase refl)
-    go Dwell = ap (λ (v : ℕ) (p : ℕ). names v p) (value PreemptDwellPhase refl)
-    go Exit = ap (λ (v : ℕ) (p : ℕ). names v p) (value PreemptExitPhase refl)
+    go Track = let test : ℕ → ℕ → Bool = λ v p. names v p in ap test (value PreemptTrackPhase refl)
+    go Dwell = let test : ℕ → ℕ → Bool = λ v p. names v p in ap test (value PreemptDwellPhase refl)
+    go Exit = let test : ℕ → ℕ → Bool = λ v p. names v p in ap test (value PreemptExitPhase refl)
 list_same s i n stage taken on = refl
 
 pub record IsLike (s u : State) : Type 0 where
@@ -362,7 +361,7 @@ module _ (Done : List Input → Type 0) (t : Limits) (plan : Plan) (base : List 
       lit
       (subst (λ (l : ℕ → Bool). AreGreen l (step s i).plan (step s i).phases) (sym (list_same s i n stage taken.1 (is_there n stage s.preempts.service held)))
       (lit_like s (step s i) (like_at plan (later ++ base) i ok taken dark none same) (stage_phases s.plan n stage) h))
-      (so_late 0 (step s i).now s.now ((replay plan base).now + limit) same.now time)
+      (same_most (step s i).now s.now ((replay plan base).now + limit) same.now time)
     where
       s : State
       s = replay plan (later ++ base)
@@ -424,7 +423,7 @@ module _ (Done : List Input → Type 0) (t : Limits) (plan : Plan) (base : List 
 -- ## The laws
 
 module _ (plan : Plan) (base later : List Input) (n g w c : ℕ) (ok : IsConsistent plan) (most : StageTakesAtMost plan base n g w c later) where
-  pub limits : Limits
+  abbrev pub limits : Limits
   limits = record {
     green = g;
     walks = w;

@@ -1,6 +1,6 @@
 -- A preempt that stays in service reaches its dwell in time: the track phases are Green in time, their track green passes, and
 -- the dwell phases are Green in time.
-use Rattle.std.proofs.Common.{◌≡◌, ℕ, ◌+◌, ◌-◌, ◌<◌, ◌≤◌, ◌==◌, nat_le, Bool, true, false, not, ◌&&◌, ◌||◌, if◌then◌else◌, max, List, [], ◌∷◌, ◌++◌, Option, Some, None, is_some, refl, sym, ap, subst, ◌∙◌, inl, inr, ◌⊎◌, arith}
+use Rattle.std.proofs.Common.{◌≡◌, ℕ, ◌+◌, ◌-◌, ◌<◌, ◌≤◌, ◌==◌, Bool, true, false, not, ◌&&◌, ◌||◌, if◌then◌else◌, List, [], ◌∷◌, ◌++◌, Option, Some, None, is_some, refl, sym, ap, subst, ◌∙◌, inl, inr, ◌⊎◌, arith}
 use Rattle.std.proofs.lemmas.Bool.{and_parts, eq-eqb, eqb-true, true≢false, false≢true}
 use Rattle.tsb_step.specs.tsb_cells.declared.timer.Timer.{Timer}
 use Rattle.tsb_step.specs.tsb_cells.declared.timer.Timer.TheVariants.{Off, On}
@@ -17,12 +17,12 @@ use Rattle.tsb_step.specs.declared.inputs.Input.{Input}
 use Rattle.tsb_step.specs.declared.inputs.Input.TheVariants as inputs
 use Rattle.tsb_step.specs.declared.inputs.Input.TheVariants.{Tick}
 use Rattle.tsb_step.specs.State.{State, interval, restarted}
-use Rattle.tsb_step.specs.Tick.{preempts_given, preempts_read, next}
+use Rattle.tsb_step.specs.Tick.{preempts_given, preempts_read}
 use Rattle.tsb_step.specs.Step.{step, kind_of}
 use Rattle.tsb_step.specs.Past.{ticks_of}
 use Rattle.tsb_step.specs.Runs.{replay, AreTaken}
 use Rattle.tsb_step.specs.Laws.{IsConsistent}
-use Rattle.tsb_step.proofs.ClearLemmas.{plan_stays, one_later}
+use Rattle.tsb_step.proofs.ClearLemmas.{one_later}
 use Rattle.tsb_laws.specs.Stretches.{IsUntripped, has_held_since, largest}
 use Rattle.tsb_laws.specs.PreemptDwells.{BeginsService, is_served, is_dwelling, has_arrived}
 use Rattle.tsb_laws.specs.PreemptTurns.{place, GoesOn, BeginsFor}
@@ -158,7 +158,10 @@ dwell_stays s row n was now = go s.preempts.service (step s (Tick row)).preempts
     go (Some x) None e k h m = false≢true m
     go (Some x) (Some y) e k h m = by (gives_way s (Tick row) x y e k)
       where
+        before : ((x.preempt == n) ≡ true) × ((place x.stage == place Dwell) ≡ true)
         before = and_parts (x.preempt == n) (place x.stage == place Dwell) h
+
+        after : ((y.preempt == n) ≡ true) × ((place y.stage == place Track) ≡ true)
         after = and_parts (y.preempt == n) (place y.stage == place Track) m
 
         at_x : place x.stage ≡ 2
@@ -374,43 +377,49 @@ module _ (plan : Plan) (base : List Input) (n : ℕ) (t : Limits) (green b limit
       go (in_track h lit time) = in_track (held_on Track h) (lit_on Track h lit) (late (green + b) time)
       go (timed x e h k timer time) = timed x (service_same s i dark none ∙ e) h k timer (late (green - (k + 1) + b) time)
 
-  way : (later : List Input) → AreTaken plan (later ++ base) → IsUntripped plan base later →
-      has_held_since (λ s. is_served n s.preempts.service) plan base later ≡ true → Covers t plan base n later →
-      largest (λ x. track_green x n) plan base later ≤ green → Way plan base n t green b limit [] → Way plan base n t green b limit later
-  way [] taken dark held cover most first = first
-  way (i ∷ later) taken dark held cover most first = go (goes (replay plan (later ++ base)) i dark_before)
-    where
-      both = and_parts (is_served n (replay plan (i ∷ (later ++ base))).preempts.service) (has_held_since (λ s. is_served n s.preempts.service) plan base later) held
+  held_parts : (i : Input) (later : List Input) → has_held_since (λ s. is_served n s.preempts.service) plan base (i ∷ later) ≡ true →
+      (is_served n (replay plan (i ∷ (later ++ base))).preempts.service ≡ true) × (has_held_since (λ s. is_served n s.preempts.service) plan base later ≡ true)
+  held_parts i later held =
+      and_parts (is_served n (replay plan (i ∷ (later ++ base))).preempts.service) (has_held_since (λ s. is_served n s.preempts.service) plan base later) held
 
+  fewer : (i j m : ℕ) → i ≤ j → j ≤ m → i ≤ m
+  fewer i j m h l = omega (arith, h, l)
+
+  track_before : (i : Input) (later : List Input) → largest (λ x. track_green x n) plan base (i ∷ later) ≤ green → largest (λ x. track_green x n) plan base later ≤ green
+  track_before i later most =
+      fewer (largest (λ x. track_green x n) plan base later) (largest (λ x. track_green x n) plan base (i ∷ later)) green
+      (largest_more (λ x. track_green x n) plan base later i) most
+
+  track_now : (later : List Input) → largest (λ x. track_green x n) plan base later ≤ green → track_green (replay plan (later ++ base)).plan n ≤ green
+  track_now later most =
+      fewer (track_green (replay plan (later ++ base)).plan n) (largest (λ x. track_green x n) plan base later) green
+      (largest_now (λ x. track_green x n) plan base later) most
+
+  one_on : (i : Input) (later : List Input) → AreTaken plan (i ∷ (later ++ base)) → IsUntripped plan base (i ∷ later) → Covers t plan base n (i ∷ later) →
+      largest (λ x. track_green x n) plan base (i ∷ later) ≤ green →
+      (is_served n (replay plan (i ∷ (later ++ base))).preempts.service ≡ true) × (has_held_since (λ s. is_served n s.preempts.service) plan base later ≡ true) →
+      Way plan base n t green b limit later → Way plan base n t green b limit (i ∷ later)
+  one_on i later taken dark cover most held was = go (goes (replay plan (later ++ base)) i dark_before)
+    where
       dark_before : (replay plan (later ++ base)).trip ≡ None
       dark_before = dark_now plan base later dark.0
-
-      cover_before : Covers t plan base n later
-      cover_before = covers_before t plan base n i later cover
-
-      fewer : (i j m : ℕ) → i ≤ j → j ≤ m → i ≤ m
-      fewer i j m h l = omega (arith, h, l)
-
-      most_before : largest (λ x. track_green x n) plan base later ≤ green
-      most_before =
-          fewer (largest (λ x. track_green x n) plan base later) (largest (λ x. track_green x n) plan base (i ∷ later)) green
-          (largest_more (λ x. track_green x n) plan base later i) most
-
-      most_now : track_green (replay plan (later ++ base)).plan n ≤ green
-      most_now =
-          fewer (track_green (replay plan (later ++ base)).plan n) (largest (λ x. track_green x n) plan base later) green
-          (largest_now (λ x. track_green x n) plan base later) most_before
-
-      was : Way plan base n t green b limit later
-      was = way later taken.0 dark.0 both.1 cover_before most_before first
 
       go : Goes (replay plan (later ++ base)) i → Way plan base n t green b limit (i ∷ later)
       go (ticks row e) =
           subst (λ (j : Input). Way plan base n t green b limit (j ∷ later)) (sym e)
           (ticked row later taken.0 dark_before
           (served_in n (replay plan (Tick row ∷ (later ++ base))).preempts.service
-          (subst (λ (j : Input). is_served n (replay plan (j ∷ (later ++ base))).preempts.service ≡ true) e both.0)) cover_before most_now was)
+          (subst (λ (j : Input). is_served n (replay plan (j ∷ (later ++ base))).preempts.service ≡ true) e held.0)) (covers_before t plan base n i later cover)
+          (track_now later (track_before i later most)) was)
       go (stays none same) = still i later taken dark_before none same was
+
+  way : (later : List Input) → AreTaken plan (later ++ base) → IsUntripped plan base later →
+      has_held_since (λ s. is_served n s.preempts.service) plan base later ≡ true → Covers t plan base n later →
+      largest (λ x. track_green x n) plan base later ≤ green → Way plan base n t green b limit [] → Way plan base n t green b limit later
+  way [] taken dark held cover most first = first
+  way (i ∷ later) taken dark held cover most first =
+      one_on i later taken dark cover most (held_parts i later held)
+      (way later taken.0 dark.0 (held_parts i later held).1 (covers_before t plan base n i later cover) (track_before i later most) first)
 
 -- ## The law
 
@@ -463,13 +472,16 @@ dwells_reached plan is later row n g w c t limit ok few taken dark begins held m
     some : 1 ≤ b
     some = near_some bounds (stage_phases (replay plan base).plan n Dwell) (replay plan base).plan (replay plan base).phases (replay plan base).rings b (near_dwell base there)
 
+    earlier : (e i m : ℕ) → 1 ≤ e → e + i ≤ m → i < m
+    earlier e i m h l = omega (arith, h, l)
+
     early : (d e i m : ℕ) → 1 ≤ e → d + e + i ≤ m → i < m
     early d e i m h l = omega (arith, h, l)
 
     go : Way plan base n bounds t b limit later → ReachesDwell plan base n limit later ⊎ ((replay plan (later ++ base)).now < (replay plan base).now + limit)
     go (arrived x) = inl x
     go (to_dwell h d near l) =
-        inr (early 0 d (replay plan (later ++ base)).now ((replay plan base).now + limit)
+        inr (earlier d (replay plan (later ++ base)).now ((replay plan base).now + limit)
         (near_some bounds (stage_phases (replay plan (later ++ base)).plan n Dwell) (replay plan (later ++ base)).plan (replay plan (later ++ base)).phases (replay plan (later ++ base)).rings d near) l)
     go (to_track h d near l) = inr (early (d + t) b (replay plan (later ++ base)).now ((replay plan base).now + limit) some l)
     go (in_track h lit l) = inr (early t b (replay plan (later ++ base)).now ((replay plan base).now + limit) some l)

@@ -1,12 +1,9 @@
 -- What is left goes down in a tick of a stage: while only what the preempt wants is Green or committed to, and before that,
 -- while other greens and commitments of before are ending.
-use Rattle.std.proofs.Common.{◌≡◌, ℕ, ◌+◌, ◌-◌, ◌≤◌, Bool, true, false, max, Option, Some, None, refl, sym, ap, ◌∙◌, inl, inr, ◌⊎◌, arith}
-use Rattle.std.proofs.lemmas.Bool.{cases_Bool, true≢false, false≢true, false_from_ne_true}
+use Rattle.std.proofs.Common.{◌≡◌, ℕ, ◌+◌, ◌-◌, ◌≤◌, Bool, true, false, Some, refl, ap, inl, inr, ◌⊎◌, arith}
 use Rattle.std.proofs.Math.Bool.{and-false}
-use Rattle.tsb_step.specs.tsb_cells.declared.timer.Timer.TheVariants.{On}
-use Rattle.tsb_step.specs.tsb_types.declared.interval.Interval.{Interval}
-use Rattle.tsb_step.specs.tsb_types.declared.interval.Interval.TheVariants.{Red, Green, Yellow, RedClear}
-use Rattle.tsb_step.specs.tsb_types.declared.interval.PedestrianInterval.TheVariants.{DontWalk, Walk}
+use Rattle.tsb_step.specs.tsb_types.declared.interval.Interval.TheVariants.{Green}
+use Rattle.tsb_step.specs.tsb_types.declared.interval.PedestrianInterval.TheVariants.{DontWalk}
 use Rattle.tsb_step.specs.tsb_types.declared.row.Row.{Row}
 use Rattle.tsb_step.specs.tsb_types.Intervals.{is_green, in_service}
 use Rattle.tsb_step.specs.tsb_plan.Plan.{Plan}
@@ -16,8 +13,8 @@ use Rattle.tsb_step.specs.tsb_ring.Rings.{Ring, in_ring}
 use Rattle.tsb_step.specs.tsb_ring.Moves.{is_ended, is_started}
 use Rattle.tsb_step.specs.State.{State, interval}
 use Rattle.tsb_step.specs.Tick.{phases_given, moves, next}
-use Rattle.tsb_laws.proofs.operation.PhaseTimeLemmas.{clears_at, reverts_at, clears_down, reverts_down, greens_down, begun_left, clearing_left, revert_left, green_left}
-use Rattle.tsb_laws.proofs.operation.StageFactLemmas.{Limits, Within, clear_of, revert_of, green_of, Stays, is_one_green, green_after, started_green, still_green, wanted_stays, enters, binds, green_no_start, dark_no_end, ends_it}
+use Rattle.tsb_laws.proofs.operation.PhaseTimeLemmas.{clears_at, reverts_at, clears_down, reverts_down, greens_down, begun_left}
+use Rattle.tsb_laws.proofs.operation.StageFactLemmas.{Limits, Within, clear_of, revert_of, green_of, Stays, is_one_green, green_after, started_green, still_green, wanted_stays, enters, binds, green_no_start, ends_it}
 
 pub less : (a b m : ℕ) → a ≤ b - 1 → b ≤ m → a ≤ m - 1
 less a b m h k = omega (arith, h, k)
