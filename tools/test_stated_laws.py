@@ -188,7 +188,9 @@ def observe(bench, states, counts, rng):
         if ticked and state.service:
             is_new = state.stime == 0
             stage = state.stage
-            started = [] if not is_new else [Timed(law, state, ("Track", "Dwell"), "Dwell") for law in ("dwell", "older")]
+            started = []
+            if is_new:
+                started = [Timed(law, state, ("Track", "Dwell"), "Dwell") for law in ("dwell", "older")]
             if is_new or before is None or before.stage != stage or rng.random() < 0.01:
                 started.append(Timed(stage, state, (stage,), stage))
             for one in started:

@@ -1,7 +1,6 @@
 -- How many ticks more a phase takes: to clear, to have passed its red revert, and under a preempt that ends it to be ready.
--- Each is found of the phase as it stands, by times that no plan in effect exceeds, and goes down by one in each tick.
---
--- They are for a bound of preempts to their dwell; no law cites them yet.
+-- Each is found of the phase as it stands, by times that no plan in effect exceeds, and goes down by one in each tick. By them
+-- the time is bounded in which a preempt reaches its stages.
 use Rattle.std.proofs.Common.{◌≡◌, ℕ, ◌+◌, ◌-◌, ◌<◌, ◌≤◌, ◌==◌, nat_le, Bool, true, false, not, ◌&&◌, if◌then◌else◌, min, max, Some, refl, sym, ap, arith, ◌∙◌}
 use Rattle.std.proofs.lemmas.Bool.{eqb-true, true≢false, false≢true}
 use Rattle.std.proofs.lemmas.Bool.Decides.{nat_tests}
