@@ -3,7 +3,15 @@ use Rattle.std.specs.Prelude.{ℕ, ◌+◌, ◌==◌, ◌&&◌, ◌||◌, nat_le
 use Rattle.tsb_event_text.specs.declared.columns.Column.{Column}
 use Rattle.tsb_event_text.specs.declared.columns.Column.TheVariants.{Device, Time, Code, Parameter}
 use Rattle.tsb_event_text.specs.declared.columns.Columns.{Columns}
-use Rattle.tsb_event_text.specs.Fields.{fields_of}
+use Rattle.tsb_event_text.specs.declared.columns.Separator.{Separator}
+use Rattle.tsb_event_text.specs.declared.columns.Separator.TheVariants.{Comma, Semicolon, Tab}
+use Rattle.tsb_event_text.specs.Fields.{fields_of, has_third}
+
+-- the byte that parts fields
+abbrev pub mark_of : Separator → ℕ
+mark_of Comma = 44
+mark_of Semicolon = 59
+mark_of Tab = 9
 
 -- what does not count in a name: a space, an underline or a hyphen
 abbrev pub is_filler : ℕ → Bool
@@ -41,21 +49,47 @@ place_from place column [] = None
 place_from place column (field ∷ fields) = if names_column column field then Some place else place_from (place + 1) column fields
 
 -- the columns, where all but the device have a place
-abbrev pub columns_at : Option ℕ → Option ℕ → Option ℕ → Option ℕ → Option Columns
-columns_at device (Some time) (Some code) (Some parameter) =
-    Some (record { device = device; time = time; code = code; parameter = parameter })
-columns_at device time code parameter = None
+abbrev pub columns_at : Separator → Option ℕ → Option ℕ → Option ℕ → Option ℕ → Option Columns
+columns_at separator device (Some time) (Some code) (Some parameter) =
+    Some (record { device = device; time = time; code = code; parameter = parameter; separator = separator })
+columns_at separator device time code parameter = None
 
 -- the columns that these fields name
-abbrev pub columns_in : Option (List (List ℕ)) → Option Columns
-columns_in None = None
-columns_in (Some fields) =
-    columns_at (place_from 0 Device fields) (place_from 0 Time fields) (place_from 0 Code fields) (place_from 0 Parameter fields)
+abbrev pub columns_in : Separator → Option (List (List ℕ)) → Option Columns
+columns_in separator None = None
+columns_in separator (Some fields) =
+    columns_at separator (place_from 0 Device fields) (place_from 0 Time fields) (place_from 0 Code fields)
+    (place_from 0 Parameter fields)
 
--- the columns that a line names, where it is a header: it names a time, a code and a parameter
+-- the columns that a line names whose fields this separator parts: a time, a code and a parameter among them
+unfoldable pub header_by : Separator → List ℕ → Option Columns
+header_by separator line = columns_in separator (fields_of (mark_of separator) line)
+
+-- the first of two that is there
+abbrev pub or_else : Option Columns → Option Columns → Option Columns
+or_else None other = other
+or_else (Some columns) other = Some columns
+
+-- the columns that a line names, where it is a header: by commas, or else by semicolons, or else by tabs
 unfoldable pub header_of : List ℕ → Option Columns
-header_of line = columns_in (fields_of line)
+header_of line = or_else (header_by Comma line) (or_else (header_by Semicolon line) (header_by Tab line))
 
--- the columns of a text without a header
+-- the separator of a first row: commas, where they part three fields, or else semicolons, or else tabs
+unfoldable pub separator_of : List ℕ → Separator
+separator_of line =
+    if has_third 44 line then Comma
+    else if has_third 59 line then Semicolon
+    else if has_third 9 line then Tab
+    else Comma
+
+-- the columns of a text without a header, whose fields this separator parts
+abbrev pub usual_by : Separator → Columns
+usual_by separator = record { device = Some 0; time = 1; code = 2; parameter = 3; separator = separator }
+
+-- those of commas
 abbrev pub usual_columns : Columns
-usual_columns = record { device = Some 0; time = 1; code = 2; parameter = 3 }
+usual_columns = usual_by Comma
+
+-- the columns of a text without a header, of which this is the first row
+abbrev pub usual_of : List ℕ → Columns
+usual_of line = usual_by (separator_of line)

@@ -3,14 +3,16 @@ use Rattle.std.specs.Prelude.{ℕ, ◌==◌, ◌&&◌, ◌||◌, not, Bool, true
 use Rattle.tsb_event_text.specs.declared.columns.Column.{Column}
 use Rattle.tsb_event_text.specs.declared.columns.Column.TheVariants.{Device, Time, Code, Parameter}
 use Rattle.tsb_event_text.specs.declared.columns.Columns.{Columns}
+use Rattle.tsb_event_text.specs.declared.columns.Separator.{Separator}
+use Rattle.tsb_event_text.specs.declared.columns.Separator.TheVariants.{Comma, Semicolon, Tab}
 use Rattle.tsb_event_text.specs.declared.faults.Shown.{Shown}
 use Rattle.tsb_event_text.specs.declared.faults.RowFault.{RowFault}
-use Rattle.tsb_event_text.specs.declared.faults.RowFault.TheVariants.{Utf16, Zip, Xml, Binary, Lacks, Quote, Missing, Ambiguous, NoDay, NoSeconds, NoTime, NoNumber}
+use Rattle.tsb_event_text.specs.declared.faults.RowFault.TheVariants.{Utf16, Zip, Xml, Binary, Lacks, Quote, Parted, Missing, Ambiguous, NoDay, NoSeconds, OtherForm, NoTime, NoNumber}
 use Rattle.tsb_event_text.specs.declared.times.Moment.{Moment}
-use Rattle.tsb_event_text.specs.Columns.{place_from}
+use Rattle.tsb_event_text.specs.Columns.{mark_of, place_from}
 use Rattle.tsb_event_text.specs.Events.{has_byte}
-use Rattle.tsb_event_text.specs.Fields.{are_there, device_in, field_in, fields_of}
-use Rattle.tsb_event_text.specs.TimeForms.{behind, is_ambiguous, is_empty, is_there, moment_in}
+use Rattle.tsb_event_text.specs.Fields.{are_there, device_in, field_in, fields_of, has_third, is_field}
+use Rattle.tsb_event_text.specs.TimeForms.{before, behind, form_of, is_ambiguous, is_empty, moment_in}
 use Rattle.tsb_event_text.specs.Wide.{form_by, trimmed, whole_of}
 use Rattle.tsb_event_text.specs.declared.time_forms.TimeForm.{TimeForm}
 use Rattle.tsb_event_text.specs.declared.time_forms.TimeForm.TheVariants.{YearFirst}
@@ -48,9 +50,10 @@ abbrev pub is_named_in : Column → Option (List (List ℕ)) → Bool
 is_named_in column None = false
 is_named_in column (Some fields) = is_place (place_from 0 column fields)
 
--- a field of the line names it
+-- a field of the line names it, where commas part its fields, or where semicolons or tabs do
 abbrev pub is_named : Column → List ℕ → Bool
-is_named column line = is_named_in column (fields_of line)
+is_named column line =
+    is_named_in column (fields_of 44 line) || (is_named_in column (fields_of 59 line) || is_named_in column (fields_of 9 line))
 
 -- what is wrong with a line that names a time or a code, and is no header: the first column that it lacks
 abbrev pub header_fault : List ℕ → RowFault
@@ -69,9 +72,9 @@ shown_of field = record {
   count = length (front_of field);
 }
 
--- a text has a mark of a day, a hyphen or a slash
+-- a text has a mark of a day: a hyphen, a slash, or a point before its clock
 abbrev pub is_dated : List ℕ → Bool
-is_dated time = has_byte 45 time || has_byte 47 time
+is_dated time = has_byte 45 time || (has_byte 47 time || has_byte 46 (before 58 time))
 
 -- it has one colon at most: a clock without seconds
 abbrev pub has_no_second : List ℕ → Bool
@@ -87,18 +90,23 @@ abbrev pub form_or : Option TimeForm → TimeForm
 form_or None = YearFirst
 form_or (Some form) = form
 
+-- a time of this form is none, and of another form, or of none
+abbrev pub form_fault : TimeForm → Option TimeForm → List ℕ → RowFault
+form_fault form None time = NoTime form (shown_of time)
+form_fault form (Some own) time = OtherForm form own (shown_of time)
+
 -- what is wrong with a time of this form, or where none is known yet
 abbrev pub time_fault : Option TimeForm → List ℕ → RowFault
 time_fault times time =
     if is_open times && is_ambiguous time then Ambiguous (shown_of time)
     else if has_byte 58 time && not (is_dated time) then NoDay (shown_of time)
     else if has_byte 58 time && has_no_second time then NoSeconds (shown_of time)
-    else NoTime (form_or times) (shown_of time)
+    else form_fault (form_or times) (form_of time) time
 
 -- the moment of a time whose form is known
 abbrev pub moment_by : Option TimeForm → List ℕ → Option Moment
 moment_by None time = None
-moment_by (Some form) time = moment_in form time
+moment_by (Some form) time = moment_in form None time
 
 -- the moment of a time
 abbrev pub time_at : Option TimeForm → List ℕ → Option Moment
@@ -122,14 +130,37 @@ fields_fault times (Some device) (Some time) None parameter = Missing Code
 fields_fault times (Some device) (Some time) (Some code) None = Missing Parameter
 fields_fault times (Some device) (Some time) (Some code) (Some parameter) = three_fault times (trimmed time) (trimmed code) (trimmed parameter)
 
+-- these fields have a device, a time, a code and a parameter in these places
+abbrev pub are_columns : Columns → Option (List (List ℕ)) → Bool
+are_columns columns fields =
+    is_field (device_in fields columns.device)
+    && (is_field (field_in fields columns.time) && (is_field (field_in fields columns.code) && is_field (field_in fields columns.parameter)))
+
+-- a line has them, where this separator parts its fields
+abbrev pub has_columns : Columns → Separator → List ℕ → Bool
+has_columns columns separator line = are_columns columns (fields_of (mark_of separator) line)
+
+-- what is wrong with the fields of a line, as the separator of these columns parts them
+abbrev pub parts_fault : Columns → Option TimeForm → Option (List (List ℕ)) → RowFault
+parts_fault columns times fields =
+    if are_there fields
+    then fields_fault times (device_in fields columns.device) (field_in fields columns.time) (field_in fields columns.code)
+    (field_in fields columns.parameter)
+    else Quote
+
+-- what is wrong with a row, with its columns in these places: where its fields are not there, another separator may part them
+abbrev pub row_fault_of : Columns → Option TimeForm → List ℕ → RowFault
+row_fault_of columns times line =
+    if has_columns columns columns.separator line then parts_fault columns times (fields_of (mark_of columns.separator) line)
+    else if has_columns columns Comma line then Parted columns.separator Comma
+    else if has_columns columns Semicolon line then Parted columns.separator Semicolon
+    else if has_columns columns Tab line then Parted columns.separator Tab
+    else parts_fault columns times (fields_of (mark_of columns.separator) line)
+
 -- what is wrong with a line of a text of lines, with its columns in these places
 abbrev pub line_fault : Columns → Option TimeForm → List ℕ → RowFault
 line_fault columns times line =
-    if is_named Time line || is_named Code line then header_fault line
-    else if are_there (fields_of line)
-    then fields_fault times (device_in (fields_of line) columns.device) (field_in (fields_of line) columns.time) (field_in (fields_of line) columns.code)
-    (field_in (fields_of line) columns.parameter)
-    else Quote
+    if is_named Time line || is_named Code line then header_fault line else row_fault_of columns times line
 
 -- why a line is no row, with its columns in these places and times in this form, or in that of the row's own time
 unfoldable pub fault_of : Columns → Option TimeForm → List ℕ → RowFault
@@ -146,7 +177,16 @@ fault_of columns times line =
 abbrev pub is_other : List ℕ → Bool
 is_other line = is_utf16 line || (is_packed line || (is_xml line || has_byte 0 line))
 
--- a line that a maker writes before the header: it names no time and no code, and has less than three fields
+-- by one of the separators a line has fields, in which no quote is out of place
+abbrev pub has_some_fields : List ℕ → Bool
+has_some_fields line = are_there (fields_of 44 line) || (are_there (fields_of 59 line) || are_there (fields_of 9 line))
+
+-- by one of them it has a third field
+abbrev pub has_some_third : List ℕ → Bool
+has_some_third line = has_third 44 line || (has_third 59 line || has_third 9 line)
+
+-- a line that a maker writes before the header: it names no time and no code, and has less than three fields, whatever
+-- parts them
 unfoldable pub is_preface : List ℕ → Bool
 is_preface line =
-    not (is_other line) && (not (is_named Time line || is_named Code line) && (are_there (fields_of line) && not (is_there (field_in (fields_of line) 2))))
+    not (is_other line) && (not (is_named Time line || is_named Code line) && (has_some_fields line && not (has_some_third line)))

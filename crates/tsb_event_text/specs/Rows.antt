@@ -5,6 +5,7 @@ use Rattle.tsb_lines.specs.Words.{number_of}
 use Rattle.tsb_event_text.specs.declared.columns.Columns.{Columns}
 use Rattle.tsb_event_text.specs.declared.times.Moment.{Moment}
 use Rattle.tsb_event_text.specs.declared.rows.EventRow.{EventRow}
+use Rattle.tsb_event_text.specs.Columns.{mark_of}
 use Rattle.tsb_event_text.specs.Fields.{device_at, fields_of}
 use Rattle.tsb_event_text.specs.Times.{moment_of}
 
@@ -34,4 +35,4 @@ row_in columns asked (Some fields) =
 
 -- the row that a line spells, with its columns in these places, where the events of this device are asked for
 unfoldable pub row_of : Columns → Option (List ℕ) → List ℕ → Option EventRow
-row_of columns asked line = row_in columns asked (fields_of line)
+row_of columns asked line = row_in columns asked (fields_of (mark_of columns.separator) line)

@@ -1,13 +1,14 @@
 -- Times in the forms in which exports have them: days by numbers in three orders, clocks of 24 or of 12 hours, zones behind
--- them, and seconds or milliseconds of Unix.
-use Rattle.std.specs.Prelude.{ℕ, ◌+◌, ◌-◌, ◌*◌, ◌%◌, ◌==◌, ◌&&◌, ◌||◌, nat_le, Bool, true, false, List, [], ◌∷◌, ◌++◌, length, take, drop, if◌then◌else◌, Option, Some, None, codes}
-use Rattle.std.specs.Str.{str_eq_ignore_ascii_case}
+-- them, and seconds or milliseconds of Unix. Where a zone is asked for, what its clock shows is the moment.
+use Rattle.std.specs.Prelude.{ℕ, ◌+◌, ◌-◌, ◌*◌, ◌%◌, ◌==◌, ◌&&◌, ◌||◌, nat_le, nat_lt, Bool, true, false, List, [], ◌∷◌, ◌++◌, length, take, drop, if◌then◌else◌, Option, Some, None, codes}
+use Rattle.std.specs.Str.{bytes_eq, str_eq_ignore_ascii_case}
 use Rattle.tsb_lines.specs.Words.{number_of}
 use Rattle.tsb_event_text.specs.declared.time_forms.Half.{Half}
 use Rattle.tsb_event_text.specs.declared.time_forms.Half.TheVariants.{Whole, Morning, Evening}
 use Rattle.tsb_event_text.specs.declared.time_forms.TimeForm.{TimeForm}
 use Rattle.tsb_event_text.specs.declared.time_forms.TimeForm.TheVariants.{YearFirst, MonthFirst, DayFirst, Seconds, Milliseconds}
 use Rattle.tsb_event_text.specs.declared.times.Moment.{Moment}
+use Rattle.tsb_event_text.specs.declared.zones.Zone.{Zone}
 use Rattle.tsb_event_text.specs.Events.{has_byte}
 use Rattle.tsb_event_text.specs.Times.{day_of, second_of}
 
@@ -61,10 +62,15 @@ abbrev pub nanos_at : Option ℕ → Option ℕ → Option ℕ
 nanos_at (Some second) (Some nano) = Some (second * 1000000000 + nano)
 nanos_at second nano = None
 
+-- the byte before a fraction: a point, or else a comma
+abbrev pub point_of : List ℕ → ℕ
+point_of text = if has_byte 46 text then 46 else 44
+
 -- a second with its fraction, behind an hour and a minute
 abbrev pub seconds_said : Half → List ℕ → List ℕ → List ℕ → Option ℕ
 seconds_said half hour minute rest =
-    nanos_at (second_of (hour_in (number_of hour) half) (number_of minute) (number_of (before 46 rest))) (fraction_of (behind 46 rest))
+    nanos_at (second_of (hour_in (number_of hour) half) (number_of minute) (number_of (before (point_of rest) rest)))
+    (fraction_of (behind (point_of rest) rest))
 
 -- what stands behind the hour: a minute, and what is behind it
 abbrev pub minutes_said : Half → List ℕ → List ℕ → Option ℕ
@@ -79,29 +85,79 @@ hours_said (Some half) clock = minutes_said half (before 58 clock) (behind 58 cl
 abbrev pub clock_of : List ℕ → Option ℕ
 clock_of clock = hours_said (half_of (behind 32 clock)) (before 32 clock)
 
--- nothing, or a number
-abbrev pub is_number : List ℕ → Bool
-is_number digits = is_empty digits || is_there (number_of digits)
+-- ## Zones
 
--- an offset from UTC, `07:00`, `0700` or `07`, or none
-abbrev pub is_offset : List ℕ → Bool
-is_offset offset = is_number (before 58 offset) && is_number (behind 58 offset)
+-- UTC itself
+abbrev pub utc : Zone
+utc = record { east = 0; west = 0 }
 
--- a clock, where this stands behind `Z`, this behind its plus and this behind its minus
-abbrev pub zoned : List ℕ → List ℕ → List ℕ → List ℕ → Option ℕ
-zoned clock utc east west = if is_empty utc && (is_offset east && is_offset west) then clock_of clock else None
+-- a zone whose clock is so many minutes ahead of that of UTC
+abbrev pub east_by : Option ℕ → Option Zone
+east_by None = None
+east_by (Some minutes) = Some (record { east = minutes; west = 0 })
 
--- without what follows a minus
-abbrev pub west_of : List ℕ → List ℕ → List ℕ → Option ℕ
-west_of clock utc east = zoned (before 45 clock) utc east (behind 45 clock)
+-- a zone whose clock is so many minutes behind it
+abbrev pub west_by : Option ℕ → Option Zone
+west_by None = None
+west_by (Some minutes) = Some (record { east = 0; west = minutes })
 
--- without what follows a plus
-abbrev pub east_of : List ℕ → List ℕ → Option ℕ
-east_of clock utc = west_of (before 43 clock) utc (behind 43 clock)
+-- hours and minutes in minutes, less than a day
+abbrev pub minutes_at : Option ℕ → Option ℕ → Option ℕ
+minutes_at (Some hours) (Some minutes) = if nat_lt hours 24 && nat_lt minutes 60 then Some (hours * 60 + minutes) else None
+minutes_at hours minutes = None
+
+-- hours in two digits at most, and minutes in two
+abbrev pub hours_and : List ℕ → List ℕ → Option ℕ
+hours_and hours minutes =
+    if nat_le (length hours) 2 && length minutes == 2 then minutes_at (number_of hours) (number_of minutes) else None
+
+-- the minutes of an offset without its sign: `07:00`, `0700` or `07`
+abbrev pub offset_of : List ℕ → Option ℕ
+offset_of text =
+    if has_byte 58 text then hours_and (before 58 text) (behind 58 text)
+    else if nat_le (length text) 2 then hours_and text (codes "00")
+    else hours_and (take (length text - 2) text) (drop (length text - 2) text)
+
+-- the zone that this sign begins, a plus, a minus or Z, with this behind it
+abbrev pub zone_by : ℕ → List ℕ → Option Zone
+zone_by sign rest =
+    if sign == 43 then east_by (offset_of rest)
+    else if sign == 45 then west_by (offset_of rest)
+    else if is_empty rest then Some utc else None
+
+-- the zone that a word names: Z, UTC, or an offset with its sign
+abbrev pub zone_named : List ℕ → Option Zone
+zone_named [] = None
+zone_named (b ∷ bs) =
+    if b == 43 || b == 45 then zone_by b bs
+    else if str_eq_ignore_ascii_case (b ∷ bs) (codes "z") || str_eq_ignore_ascii_case (b ∷ bs) (codes "utc") then Some utc
+    else None
+
+-- the byte with which a zone begins behind a clock: Z, a plus, or else a minus
+abbrev pub zone_sign : List ℕ → ℕ
+zone_sign clock = if has_byte 90 clock then 90 else if has_byte 43 clock then 43 else 45
+
+-- the zone of a clock: that which it says, or else this one
+abbrev pub own_zone : Zone → List ℕ → Option Zone
+own_zone zone clock =
+    if has_byte (zone_sign clock) clock then zone_by (zone_sign clock) (behind (zone_sign clock) clock)
+    else if str_eq_ignore_ascii_case (behind 32 clock) (codes "utc") then Some utc
+    else Some zone
 
 -- the nanoseconds of a day that a clock shows, whatever its zone
-abbrev pub zoned_clock : List ℕ → Option ℕ
-zoned_clock clock = east_of (before 90 clock) (behind 90 clock)
+abbrev pub shown_clock : List ℕ → Option ℕ
+shown_clock clock = clock_of (before (zone_sign clock) clock)
+
+-- the zone that is asked for; without one any will do
+abbrev pub zone_or : Option Zone → Zone
+zone_or None = utc
+zone_or (Some zone) = zone
+
+-- what the clock of the zone that is asked for shows when a clock of this zone shows so many nanoseconds: as many, where
+-- none is asked for
+abbrev pub moved : Option Zone → Zone → ℕ → ℕ
+moved None own nanos = nanos
+moved (Some zone) own nanos = (nanos + (zone.east + own.west) * 60000000000) - (zone.west + own.east) * 60000000000
 
 -- ## Days
 
@@ -116,37 +172,42 @@ day_in MonthFirst a b c = day_at c a b
 day_in DayFirst a b c = day_at c b a
 day_in form a b c = None
 
+-- the byte between the numbers of a day: a slash, or else a hyphen, or else a point
+abbrev pub day_mark : List ℕ → ℕ
+day_mark day = if has_byte 47 day then 47 else if has_byte 45 day then 45 else 46
+
+-- the day of numbers between which this mark stands
+abbrev pub day_with : TimeForm → ℕ → List ℕ → Option ℕ
+day_with form mark day = day_in form (before mark day) (before mark (behind mark day)) (behind mark (behind mark day))
+
+-- the day of a text
+abbrev pub day_said : TimeForm → List ℕ → Option ℕ
+day_said form day = day_with form (day_mark day) day
+
 -- ## Moments
 
--- the moment so many nanoseconds after a day has begun
-abbrev pub moment_on : Option ℕ → Option ℕ → Option Moment
-moment_on (Some day) (Some nanos) = Some (record { nanos = day * 86400000000000 + nanos })
-moment_on day nanos = None
+-- the moment so many nanoseconds after a day has begun, by a clock of this zone
+abbrev pub moment_on : Option Zone → Option ℕ → Option ℕ → Option Zone → Option Moment
+moment_on zone (Some day) (Some nanos) (Some own) = Some (record { nanos = moved zone own (day * 86400000000000 + nanos) })
+moment_on zone day nanos own = None
 
--- the byte between a day and a clock: a space, or else T
+-- the byte between a day and a clock: T, where one stands before the first space, or else a space
 abbrev pub clock_mark : List ℕ → ℕ
-clock_mark text = if has_byte 32 text then 32 else 84
+clock_mark text = if has_byte 84 (before 32 text) then 84 else 32
 
--- the byte between the numbers of a day: a slash, or else a hyphen
-abbrev pub day_mark : List ℕ → ℕ
-day_mark text = if has_byte 47 text then 47 else 45
-
--- two numbers of a day, and then the third and a clock
-abbrev pub with_two : TimeForm → List ℕ → List ℕ → List ℕ → Option Moment
-with_two form a b rest = moment_on (day_in form a b (before (clock_mark rest) rest)) (zoned_clock (behind (clock_mark rest) rest))
-
--- one, and then the others
-abbrev pub with_one : TimeForm → ℕ → List ℕ → List ℕ → Option Moment
-with_one form mark a rest = with_two form a (before mark rest) (behind mark rest)
+-- the moment of a day and a clock
+abbrev pub with_clock : TimeForm → Option Zone → List ℕ → List ℕ → Option Moment
+with_clock form zone day clock = moment_on zone (day_said form day) (shown_clock clock) (own_zone (zone_or zone) clock)
 
 -- the moment of a day by numbers and a clock
-abbrev pub numbered : TimeForm → List ℕ → Option Moment
-numbered form text = with_one form (day_mark text) (before (day_mark text) text) (behind (day_mark text) text)
+abbrev pub numbered : TimeForm → Option Zone → List ℕ → Option Moment
+numbered form zone text = with_clock form zone (before (clock_mark text) text) (behind (clock_mark text) text)
 
--- so many seconds and nanoseconds after 1970 began
-abbrev pub moment_after : Option ℕ → Option ℕ → Option Moment
-moment_after (Some second) (Some nano) = Some (record { nanos = (377705116800 + second) * 1000000000 + nano })
-moment_after second nano = None
+-- so many seconds and nanoseconds after 1970 began by the clock of UTC
+abbrev pub moment_after : Option Zone → Option ℕ → Option ℕ → Option Moment
+moment_after zone (Some second) (Some nano) =
+    Some (record { nanos = moved zone utc ((377705116800 + second) * 1000000000 + nano) })
+moment_after zone second nano = None
 
 -- without its last three bytes
 abbrev pub without_three : List ℕ → List ℕ
@@ -157,16 +218,16 @@ abbrev pub last_three : List ℕ → List ℕ
 last_three text = drop (length text - 3) text
 
 -- the moment that a text names in a form
-abbrev pub moment_in : TimeForm → List ℕ → Option Moment
-moment_in Seconds text = moment_after (number_of (before 46 text)) (fraction_of (behind 46 text))
-moment_in Milliseconds text = moment_after (number_of (without_three text)) (fraction_of (last_three text))
-moment_in form text = numbered form text
+abbrev pub moment_in : TimeForm → Option Zone → List ℕ → Option Moment
+moment_in Seconds zone text = moment_after zone (number_of (before (point_of text) text)) (fraction_of (behind (point_of text) text))
+moment_in Milliseconds zone text = moment_after zone (number_of (without_three text)) (fraction_of (last_three text))
+moment_in form zone text = numbered form zone text
 
 -- ## The form of a time
 
 -- a text names a moment in this form
 abbrev pub is_in : TimeForm → List ℕ → Bool
-is_in form text = is_there (moment_in form text)
+is_in form text = is_there (moment_in form None text)
 
 -- two forms read it: whether its month or its day is first can't be told
 abbrev pub is_ambiguous : List ℕ → Bool
@@ -181,4 +242,22 @@ form_of text =
     else if is_in DayFirst text then Some DayFirst
     else if is_in Seconds text then Some Seconds
     else if is_in Milliseconds text then Some Milliseconds
+    else None
+
+-- the word of a form
+abbrev pub time_form_word : TimeForm → List ℕ
+time_form_word YearFirst = codes "year-first"
+time_form_word MonthFirst = codes "month-first"
+time_form_word DayFirst = codes "day-first"
+time_form_word Seconds = codes "seconds"
+time_form_word Milliseconds = codes "milliseconds"
+
+-- the form that a word names
+abbrev pub time_form_named : List ℕ → Option TimeForm
+time_form_named word =
+    if bytes_eq word (time_form_word YearFirst) then Some YearFirst
+    else if bytes_eq word (time_form_word MonthFirst) then Some MonthFirst
+    else if bytes_eq word (time_form_word DayFirst) then Some DayFirst
+    else if bytes_eq word (time_form_word Seconds) then Some Seconds
+    else if bytes_eq word (time_form_word Milliseconds) then Some Milliseconds
     else None

@@ -1,13 +1,15 @@
 -- Rows as exports have them: with spaces around fields, whole numbers spelled with zeros behind a point, times in one of
 -- several forms.
-use Rattle.std.specs.Prelude.{ℕ, ◌==◌, ◌&&◌, ◌||◌, Bool, true, false, List, [], ◌∷◌, if◌then◌else◌, Option, Some, None}
+use Rattle.std.specs.Prelude.{ℕ, ◌==◌, ◌&&◌, ◌||◌, Bool, true, false, List, [], ◌∷◌, if◌then◌else◌, Option, Some, None, codes}
+use Rattle.std.specs.Str.{bytes_eq}
 use Rattle.tsb_lines.specs.Lines.{is_blank}
 use Rattle.tsb_lines.specs.Words.{number_of}
 use Rattle.tsb_event_text.specs.declared.columns.Columns.{Columns}
 use Rattle.tsb_event_text.specs.declared.time_forms.TimeForm.{TimeForm}
 use Rattle.tsb_event_text.specs.declared.times.Moment.{Moment}
 use Rattle.tsb_event_text.specs.declared.wide.WideRow.{WideRow}
-use Rattle.tsb_event_text.specs.Columns.{header_of}
+use Rattle.tsb_event_text.specs.declared.zones.Zone.{Zone}
+use Rattle.tsb_event_text.specs.Columns.{header_of, mark_of}
 use Rattle.tsb_event_text.specs.Events.{has_byte}
 use Rattle.tsb_event_text.specs.Fields.{device_in, field_in, fields_of}
 use Rattle.tsb_event_text.specs.Rows.{is_asked}
@@ -52,38 +54,53 @@ wide_said ours form (Some moment) (Some code) parameter =
 wide_said ours form moment code parameter = None
 
 -- the row of a time, where its form is known
-abbrev pub wide_timed : Bool → Option TimeForm → List ℕ → Option ℕ → Option ℕ → Option WideRow
-wide_timed ours None time code parameter = None
-wide_timed ours (Some form) time code parameter = wide_said ours form (moment_in form time) code parameter
+abbrev pub wide_timed : Bool → Option TimeForm → Option Zone → List ℕ → Option ℕ → Option ℕ → Option WideRow
+wide_timed ours None zone time code parameter = None
+wide_timed ours (Some form) zone time code parameter = wide_said ours form (moment_in form zone time) code parameter
 
 -- the row of four fields without spaces around them
-abbrev pub wide_fields : Option (List ℕ) → Option TimeForm → List ℕ → List ℕ → List ℕ → List ℕ → Option WideRow
-wide_fields asked times device time code parameter =
-    wide_timed (is_asked asked device) (form_by times time) time (whole_of code) (whole_of parameter)
+abbrev pub wide_fields : Option (List ℕ) → Option TimeForm → Option Zone → List ℕ → List ℕ → List ℕ → List ℕ → Option WideRow
+wide_fields asked times zone device time code parameter =
+    wide_timed (is_asked asked device) (form_by times time) zone time (whole_of code) (whole_of parameter)
 
 -- the row of four fields, where they are there
-abbrev pub wide_with : Option (List ℕ) → Option TimeForm → Option (List ℕ) → Option (List ℕ) → Option (List ℕ) → Option (List ℕ) → Option WideRow
-wide_with asked times (Some device) (Some time) (Some code) (Some parameter) =
-    wide_fields asked times (trimmed device) (trimmed time) (trimmed code) (trimmed parameter)
-wide_with asked times device time code parameter = None
+abbrev pub wide_with : Option (List ℕ) → Option TimeForm → Option Zone → Option (List ℕ) → Option (List ℕ) → Option (List ℕ) → Option (List ℕ) → Option WideRow
+wide_with asked times zone (Some device) (Some time) (Some code) (Some parameter) =
+    wide_fields asked times zone (trimmed device) (trimmed time) (trimmed code) (trimmed parameter)
+wide_with asked times zone device time code parameter = None
 
--- the row that a line spells, with its columns in these places and times in this form, or in that of its own time
-unfoldable pub wide_of : Columns → Option TimeForm → Option (List ℕ) → List ℕ → Option WideRow
-wide_of columns times asked line =
-    wide_with asked times (device_in (fields_of line) columns.device) (field_in (fields_of line) columns.time)
-    (field_in (fields_of line) columns.code) (field_in (fields_of line) columns.parameter)
+-- the row of a line's fields
+abbrev pub wide_in : Columns → Option TimeForm → Option Zone → Option (List ℕ) → Option (List (List ℕ)) → Option WideRow
+wide_in columns times zone asked fields =
+    wide_with asked times zone (device_in fields columns.device) (field_in fields columns.time) (field_in fields columns.code)
+    (field_in fields columns.parameter)
+
+-- the row that a line spells, with its columns in these places and times in this form, or in that of its own time, and by
+-- the clock of this zone where one is asked for
+unfoldable pub wide_of : Columns → Option TimeForm → Option Zone → Option (List ℕ) → List ℕ → Option WideRow
+wide_of columns times zone asked line = wide_in columns times zone asked (fields_of (mark_of columns.separator) line)
 
 -- ## Lines that are passed over
 
--- a mark of the line that databases draw below a header: a hyphen, a comma, a space, a plus or a bar
+-- a mark of the line that databases draw below a header: a hyphen, a separator, a space, a plus or a bar
 abbrev pub is_mark : ℕ → Bool
-is_mark b = b == 45 || (b == 44 || (b == 32 || (b == 43 || b == 124)))
+is_mark b = b == 45 || (b == 44 || (b == 59 || (b == 9 || (b == 32 || (b == 43 || b == 124)))))
 
 -- such marks alone
 abbrev pub are_marks : List ℕ → Bool
 are_marks [] = true
 are_marks (b ∷ bs) = if is_mark b then are_marks bs else false
 
--- a line that a database draws, or a header
+-- what a database says behind the number of its rows
+abbrev pub is_rows : List ℕ → Bool
+is_rows text =
+    bytes_eq text (codes "rows affected)") || (bytes_eq text (codes "row affected)") || (bytes_eq text (codes "rows)") || bytes_eq text (codes "row)")))
+
+-- a line in which a database counts its rows: `(2 rows affected)`, `(2 rows)`
+abbrev pub is_count : List ℕ → Bool
+is_count [] = false
+is_count (b ∷ line) = b == 40 && (is_there (number_of (before 32 line)) && is_rows (behind 32 line))
+
+-- a line that a database draws or counts its rows in, or a header
 unfoldable pub is_passed : List ℕ → Bool
-is_passed line = (has_byte 45 line && are_marks line) || is_there (header_of line)
+is_passed line = (has_byte 45 line && are_marks line) || (is_count line || is_there (header_of line))

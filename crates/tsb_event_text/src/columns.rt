@@ -1,9 +1,9 @@
 //! Which field of a line is what.
 ghost use Rattle.std.specs.Prelude.{◌≡◌, List, ℕ, Some};
 ghost use Rattle.tsb_event_text.specs.Fields.{fields_of};
-ghost use Rattle.tsb_event_text.specs.Columns.{header_of, is_called, is_filler, names_column, place_from, small, usual_columns};
+ghost use Rattle.tsb_event_text.specs.Columns.{header_by, header_of, is_called, is_filler, mark_of, names_column, place_from, separator_of, small, usual_of};
 
-use crate::fields::{has_fields, next_field};
+use crate::fields::{has_fields, has_third, next_field};
 
 /// What a field of a row says.
 #[derive(Clone, Copy, Debug, PartialEq, Eq)]
@@ -18,6 +18,27 @@ pub enum Column {
     Parameter,
 }
 
+/// What parts the fields of a line.
+#[derive(Clone, Copy, Debug, PartialEq, Eq)]
+pub enum Separator {
+    Comma,
+    Semicolon,
+    Tab,
+}
+
+impl Separator {
+    /// Its byte.
+    pub fn mark(self) -> u8
+        ensures { result ≡ mark_of self }
+    {
+        match self {
+            Separator::Comma => b',',
+            Separator::Semicolon => b';',
+            Separator::Tab => b'\t',
+        }
+    }
+}
+
 /// Which field each column is in, counted from 0.
 #[derive(Clone, Copy, PartialEq, Eq)]
 pub struct Columns {
@@ -26,53 +47,90 @@ pub struct Columns {
     pub time: usize,
     pub code: usize,
     pub parameter: usize,
+    /// What parts the fields.
+    pub separator: Separator,
 }
 
 impl Columns {
-    /// The columns of a text without a header: device, time, code and parameter, in this order.
-    pub fn usual() -> Columns
-        ensures { result ≡ usual_columns }
+    /// The columns of a text without a header, whose first row is this line: device, time, code and parameter, in this
+    /// order. Commas part its fields, where they part three or more of this line, or else semicolons, or else tabs.
+    pub fn usual_of(line: &[u8]) -> Columns
+        ensures { result ≡ usual_of line.now }
     {
         Columns {
             device: Some(0),
             time: 1,
             code: 2,
             parameter: 3,
+            separator: separator_of(line),
         }
     }
 }
 
+/// The separator of a first row: commas where no separator parts three fields.
+#[tactic(auto, unfolding(crate::specs::Columns::separator_of))]
+fn separator_of(line: &[u8]) -> Separator
+    ensures { result ≡ separator_of line.now }
+{
+    if has_third(b',', line) {
+        return Separator::Comma;
+    }
+    if has_third(b';', line) {
+        return Separator::Semicolon;
+    }
+    if has_third(b'\t', line) {
+        return Separator::Tab;
+    }
+    Separator::Comma
+}
+
 /// The columns that a line names, or `None` where it is not a header, which names a time, a code and a parameter, and
-/// may name a device. Names are those that exports use, whatever their case, and with any spaces, underlines and hyphens
-/// in them: `SignalID` or `Signal ID`, `Timestamp`, `EventCode`, `EventParam` and others (`names_column`). Where two
-/// fields name one column, the first counts.
+/// may name a device. Commas part its fields, or else semicolons, or else tabs. Names are those that exports use,
+/// whatever their case, and with any spaces, underlines and hyphens in them: `SignalID` or `Signal ID`, `Timestamp`,
+/// `EventCode`, `EventParam` and others (`names_column`). Where two fields name one column, the first counts.
 #[tactic(auto, unfolding(crate::specs::Columns::header_of))]
 pub fn header(line: &[u8]) -> Option<Columns>
     ensures { result ≡ header_of line.now }
 {
-    if !has_fields(line) {
+    if let Some(columns) = header_by(Separator::Comma, line) {
+        return Some(columns);
+    }
+    if let Some(columns) = header_by(Separator::Semicolon, line) {
+        return Some(columns);
+    }
+    header_by(Separator::Tab, line)
+}
+
+/// The columns that a line names whose fields this separator parts. Rows have no time's name, so that comes first.
+#[tactic(auto, unfolding(crate::specs::Columns::header_by))]
+fn header_by(separator: Separator, line: &[u8]) -> Option<Columns>
+    ensures { result ≡ header_by separator line.now }
+{
+    let mark = separator.mark();
+    if !has_fields(mark, line) {
         return None;
     }
-    let device = place(line, Column::Device);
-    let time = place(line, Column::Time)?;
-    let code = place(line, Column::Code)?;
-    let parameter = place(line, Column::Parameter)?;
+    let time = place(mark, line, Column::Time)?;
+    let code = place(mark, line, Column::Code)?;
+    let parameter = place(mark, line, Column::Parameter)?;
+    let device = place(mark, line, Column::Device);
     Some(Columns {
         device,
         time,
         code,
         parameter,
+        separator,
     })
 }
 
 /// The place of the first field that names the column, in a line that has fields.
-pub(crate) fn place(line: &[u8], column: Column) -> Option<usize>
-    ensures { (fields : List (List ℕ)) → fields_of line.now ≡ Some fields → result ≡ place_from 0 column fields }
+pub(crate) fn place(mark: u8, line: &[u8], column: Column) -> Option<usize>
+    ensures { (fields : List (List ℕ)) → fields_of mark line.now ≡ Some fields → result ≡ place_from 0 column fields }
 {
     let mut rest = line;
     let mut place = 0;
     loop {
-        let (field, behind) = next_field(rest)?;
+        let (field, behind) = next_field(mark, rest)?;
         if names_column(column, field) {
             return Some(place);
         }

@@ -1,13 +1,13 @@
 //! Why a line is no row.
-ghost use Rattle.std.specs.Prelude.{◌≡◌};
-ghost use Rattle.tsb_event_text.specs.Fields.{field_in, fields_of};
-ghost use Rattle.tsb_event_text.specs.TimeForms.{is_there};
-ghost use Rattle.tsb_event_text.specs.Faults.{begins, fault_of, form_or, has_no_second, header_fault, is_named, is_open, is_other, is_packed, is_place, is_preface, is_utf16, is_xml, line_fault, shown_of, three_fault, time_at, time_fault};
+ghost use Rattle.std.specs.Prelude.{◌≡◌, option_map};
+ghost use Rattle.tsb_event_text.specs.Columns.{mark_of};
+ghost use Rattle.tsb_event_text.specs.Fields.{fields_of, is_field};
+ghost use Rattle.tsb_event_text.specs.Faults.{begins, fault_of, form_fault, form_or, has_columns, has_no_second, has_some_fields, has_some_third, header_fault, is_dated, is_named, is_named_in, is_open, is_other, is_packed, is_place, is_preface, is_utf16, is_xml, line_fault, parts_fault, row_fault_of, shown_of, three_fault, time_at, time_fault};
 
-use crate::columns::{Column, Columns, place};
+use crate::columns::{Column, Columns, Separator, place};
 use crate::events::has_byte;
-use crate::fields::{device_in, field_in, has_fields};
-use crate::time_forms::{TimeForm, is_ambiguous, moment_in, split};
+use crate::fields::{device_in, field_in, has_fields, has_third};
+use crate::time_forms::{TimeForm, form_of, is_ambiguous, moment_in, split};
 use crate::times::Moment;
 use crate::wide::{form_by, trimmed, whole};
 
@@ -36,8 +36,10 @@ pub enum RowFault {
     Binary,
     /// It names columns, and this one, which has to be named, is the first that it does not name.
     Lacks(Column),
-    /// A quote is out of place: nothing closes it, or it closes a field and anything but a comma follows.
+    /// A quote is out of place: nothing closes it, or it closes a field and anything but a separator follows.
     Quote,
+    /// The text has the first separator, and this line has the second.
+    Parted(Separator, Separator),
     /// It ends before the field of this column.
     Missing(Column),
     /// Its time has a month and a day, and does not tell which is first.
@@ -46,7 +48,9 @@ pub enum RowFault {
     NoDay(Shown),
     /// Its time has a clock without seconds.
     NoSeconds(Shown),
-    /// Its time is none in this form.
+    /// Its time is none in the first form, and one in the second.
+    OtherForm(TimeForm, TimeForm, Shown),
+    /// Its time is none in this form, and in no other.
     NoTime(TimeForm, Shown),
     /// Its code or its parameter is no whole number.
     NoNumber(Column, Shown),
@@ -74,15 +78,15 @@ pub fn row_fault(line: &[u8], columns: Columns, times: Option<TimeForm>) -> RowF
 }
 
 /// Whether a line is one that a maker writes before the header: it names no time and no code, has less than three
-/// fields, and is of no other kind of file.
+/// fields, whatever parts them, and is of no other kind of file.
 #[tactic(auto, unfolding(crate::specs::Faults::is_preface))]
 pub fn is_preface(line: &[u8]) -> bool
     ensures { result ≡ is_preface line.now }
 {
     !is_other(line)
         && !(is_named(line, Column::Time) || is_named(line, Column::Code))
-        && has_fields(line)
-        && !has_third(line)
+        && has_some_fields(line)
+        && !has_some_third(line)
 }
 
 /// Whether a line is of another kind of file.
@@ -92,14 +96,18 @@ fn is_other(line: &[u8]) -> bool
     is_utf16(line) || is_packed(line) || is_xml(line) || has_byte(0, line)
 }
 
-/// Whether a line has a third field.
-fn has_third(line: &[u8]) -> bool
-    ensures { result ≡ is_there (field_in (fields_of line.now) 2) }
+/// Whether a line has fields, in which no quote is out of place, by one of the separators.
+fn has_some_fields(line: &[u8]) -> bool
+    ensures { result ≡ has_some_fields line.now }
 {
-    match field_in(line, 2) {
-        Some(_) => true,
-        None => false,
-    }
+    has_fields(b',', line) || has_fields(b';', line) || has_fields(b'\t', line)
+}
+
+/// Whether a line has a third field by one of them.
+fn has_some_third(line: &[u8]) -> bool
+    ensures { result ≡ has_some_third line.now }
+{
+    has_third(b',', line) || has_third(b';', line) || has_third(b'\t', line)
 }
 
 /// What is wrong with a line of a text of lines.
@@ -109,19 +117,68 @@ fn line_fault(line: &[u8], columns: Columns, times: Option<TimeForm>) -> RowFaul
     if is_named(line, Column::Time) || is_named(line, Column::Code) {
         return header_fault(line);
     }
-    if !has_fields(line) {
+    row_fault_of(line, columns, times)
+}
+
+/// What is wrong with a row. Where its fields are not there, another separator may part them.
+fn row_fault_of(line: &[u8], columns: Columns, times: Option<TimeForm>) -> RowFault
+    ensures { result ≡ row_fault_of columns times line.now }
+{
+    let own = columns.separator;
+    if has_columns(line, columns, own) {
+        return parts_fault(line, columns, times);
+    }
+    if has_columns(line, columns, Separator::Comma) {
+        return RowFault::Parted(own, Separator::Comma);
+    }
+    if has_columns(line, columns, Separator::Semicolon) {
+        return RowFault::Parted(own, Separator::Semicolon);
+    }
+    if has_columns(line, columns, Separator::Tab) {
+        return RowFault::Parted(own, Separator::Tab);
+    }
+    parts_fault(line, columns, times)
+}
+
+/// Whether a line has a device, a time, a code and a parameter in these places, where this separator parts its fields.
+fn has_columns(line: &[u8], columns: Columns, separator: Separator) -> bool
+    ensures { result ≡ has_columns columns separator line.now }
+{
+    let mark = separator.mark();
+    is_field(device_in(mark, line, columns.device))
+        && is_field(field_in(mark, line, columns.time))
+        && is_field(field_in(mark, line, columns.code))
+        && is_field(field_in(mark, line, columns.parameter))
+}
+
+/// Whether there is a field.
+fn is_field(field: Option<&[u8]>) -> bool
+    ensures { result ≡ is_field (option_map (λ field. field.now) field) }
+{
+    match field {
+        Some(_) => true,
+        None => false,
+    }
+}
+
+/// What is wrong with the fields of a line.
+fn parts_fault(line: &[u8], columns: Columns, times: Option<TimeForm>) -> RowFault
+    ensures { result ≡ parts_fault columns times (fields_of (mark_of columns.separator) line.now) }
+{
+    let mark = columns.separator.mark();
+    if !has_fields(mark, line) {
         return RowFault::Quote;
     }
-    let Some(_) = device_in(line, columns.device) else {
+    let Some(_) = device_in(mark, line, columns.device) else {
         return RowFault::Missing(Column::Device);
     };
-    let Some(time) = field_in(line, columns.time) else {
+    let Some(time) = field_in(mark, line, columns.time) else {
         return RowFault::Missing(Column::Time);
     };
-    let Some(code) = field_in(line, columns.code) else {
+    let Some(code) = field_in(mark, line, columns.code) else {
         return RowFault::Missing(Column::Code);
     };
-    let Some(parameter) = field_in(line, columns.parameter) else {
+    let Some(parameter) = field_in(mark, line, columns.parameter) else {
         return RowFault::Missing(Column::Parameter);
     };
     three_fault(times, trimmed(time), trimmed(code), trimmed(parameter))
@@ -158,7 +215,7 @@ fn time_at(times: Option<TimeForm>, time: &[u8]) -> Option<Moment>
     ensures { result ≡ time_at times time.now }
 {
     let form = form_by(times, time)?;
-    moment_in(form, time)
+    moment_in(form, None, time)
 }
 
 /// What is wrong with a time.
@@ -168,14 +225,31 @@ fn time_fault(times: Option<TimeForm>, time: &[u8]) -> RowFault
     if is_open(times) && is_ambiguous(time) {
         return RowFault::Ambiguous(front(time));
     }
-    let dated = has_byte(b'-', time) || has_byte(b'/', time);
-    if has_byte(b':', time) && !dated {
+    if has_byte(b':', time) && !is_dated(time) {
         return RowFault::NoDay(front(time));
     }
     if has_byte(b':', time) && has_no_second(time) {
         return RowFault::NoSeconds(front(time));
     }
-    RowFault::NoTime(form_or(times), front(time))
+    form_fault(form_or(times), form_of(time), time)
+}
+
+/// What is wrong with a time that is none in this form, and one in the other, if there is one.
+fn form_fault(form: TimeForm, own: Option<TimeForm>, time: &[u8]) -> RowFault
+    ensures { result ≡ form_fault form own time.now }
+{
+    match own {
+        Some(own) => RowFault::OtherForm(form, own, front(time)),
+        None => RowFault::NoTime(form, front(time)),
+    }
+}
+
+/// Whether a text has a mark of a day: a hyphen, a slash, or a point before its clock.
+fn is_dated(time: &[u8]) -> bool
+    ensures { result ≡ is_dated time.now }
+{
+    let (front, _) = split(b':', time);
+    has_byte(b'-', time) || has_byte(b'/', time) || has_byte(b'.', front)
 }
 
 /// Whether no form of times is known.
@@ -220,14 +294,23 @@ fn front(field: &[u8]) -> Shown
     }
 }
 
-/// Whether a field of the line names the column.
+/// Whether a field of the line names the column, by one of the separators.
 fn is_named(line: &[u8], column: Column) -> bool
     ensures { result ≡ is_named column line.now }
 {
-    if !has_fields(line) {
+    is_named_by(b',', line, column)
+        || is_named_by(b';', line, column)
+        || is_named_by(b'\t', line, column)
+}
+
+/// Whether a field of the line that this mark parts names the column.
+fn is_named_by(mark: u8, line: &[u8], column: Column) -> bool
+    ensures { result ≡ is_named_in column (fields_of mark line.now) }
+{
+    if !has_fields(mark, line) {
         return false;
     }
-    is_place(place(line, column))
+    is_place(place(mark, line, column))
 }
 
 /// Whether there is a place.

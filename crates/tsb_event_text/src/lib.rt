@@ -16,13 +16,15 @@ mod time_forms;
 mod times;
 mod wide;
 mod written;
+mod zones;
 
-pub use columns::{Column, Columns, header};
+pub use columns::{Column, Columns, Separator, header};
 pub use events::{LONGEST_DEVICE, append_event, can_be_written, event_line};
 pub use faults::{RowFault, SHOWN, Shown, is_preface, row_fault};
 pub use rows::{EventRow, event_row};
 pub use texts::TimeText;
-pub use time_forms::{TimeForm, form_of, is_ambiguous, moment_in};
+pub use time_forms::{TimeForm, form_of, is_ambiguous, moment_in, time_form_named, time_form_word};
 pub use times::{Moment, read_moment};
 pub use wide::{WideRow, is_passed, wide_row};
 pub use written::{FIRST_DAY, LAST_DAY, is_written, time_text};
+pub use zones::{Zone, zone_named};

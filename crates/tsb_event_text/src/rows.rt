@@ -28,13 +28,14 @@ pub struct EventRow {
 pub fn event_row(line: &[u8], columns: Columns, asked: Option<&[u8]>) -> Option<EventRow>
     ensures { result ≡ row_of columns (option_map (λ device. device.now) asked.entry) line.now }
 {
-    if !has_fields(line) {
+    let mark = columns.separator.mark();
+    if !has_fields(mark, line) {
         return None;
     }
-    let device = device_at(line, columns.device)?;
-    let time = field_at(line, columns.time)?;
-    let code = field_at(line, columns.code)?;
-    let parameter = field_at(line, columns.parameter)?;
+    let device = device_at(mark, line, columns.device)?;
+    let time = field_at(mark, line, columns.time)?;
+    let code = field_at(mark, line, columns.code)?;
+    let parameter = field_at(mark, line, columns.parameter)?;
     Some(EventRow {
         ours: is_asked(asked, device),
         moment: read_moment(time)?,

@@ -2,10 +2,11 @@
 ghost use Rattle.std.specs.Prelude.{◌≡◌, Some};
 ghost use Rattle.tsb_lines.specs.Words.{number_of};
 ghost use Rattle.tsb_event_text.specs.Times.{second_of};
-ghost use Rattle.tsb_event_text.specs.TimeForms.{before, behind, clock_of, day_at, day_in, form_of, fraction_of, half_of, hour_in, is_ambiguous, is_in, is_number, is_offset, last_three, moment_after, moment_in, numbered, with_two, without_three, zoned_clock};
+ghost use Rattle.tsb_event_text.specs.TimeForms.{before, behind, clock_mark, clock_of, day_at, day_in, day_mark, day_said, form_of, fraction_of, half_of, hour_in, is_ambiguous, is_in, last_three, moment_after, moment_in, numbered, point_of, time_form_named, time_form_word, with_clock, without_three};
 
 use crate::events::has_byte;
 use crate::times::{Moment, day, nine_digits, second_at};
+use crate::zones::{UTC, Zone, moved, own_zone, shown_clock, zone_or};
 use memchr::memchr;
 use tsb_lines::number;
 
@@ -44,6 +45,41 @@ const SECOND: u128 = 1_000_000_000;
 /// The nanoseconds of a day.
 const DAY: u128 = 86_400_000_000_000;
 
+/// The form that a word names: `year-first`, `month-first`, `day-first`, `seconds` or `milliseconds`.
+pub fn time_form_named(word: &[u8]) -> Option<TimeForm>
+    ensures { result ≡ time_form_named word.now }
+{
+    if word == time_form_word(TimeForm::YearFirst) {
+        return Some(TimeForm::YearFirst);
+    }
+    if word == time_form_word(TimeForm::MonthFirst) {
+        return Some(TimeForm::MonthFirst);
+    }
+    if word == time_form_word(TimeForm::DayFirst) {
+        return Some(TimeForm::DayFirst);
+    }
+    if word == time_form_word(TimeForm::Seconds) {
+        return Some(TimeForm::Seconds);
+    }
+    if word == time_form_word(TimeForm::Milliseconds) {
+        return Some(TimeForm::Milliseconds);
+    }
+    None
+}
+
+/// The word of a form.
+pub fn time_form_word(form: TimeForm) -> &'static [u8]
+    ensures { result.now ≡ time_form_word form }
+{
+    match form {
+        TimeForm::YearFirst => b"year-first",
+        TimeForm::MonthFirst => b"month-first",
+        TimeForm::DayFirst => b"day-first",
+        TimeForm::Seconds => b"seconds",
+        TimeForm::Milliseconds => b"milliseconds",
+    }
+}
+
 /// The one form in which a text is a time; `None` where it is none, and where its month and its day can't be told
 /// apart (`is_ambiguous`).
 pub fn form_of(text: &[u8]) -> Option<TimeForm>
@@ -81,72 +117,100 @@ pub fn is_ambiguous(text: &[u8]) -> bool
 fn is_in(form: TimeForm, text: &[u8]) -> bool
     ensures { result ≡ is_in form text.now }
 {
-    match moment_in(form, text) {
+    match moment_in(form, None, text) {
         Some(_) => true,
         None => false,
     }
 }
 
-/// The moment that a text names in this form, or `None`. A zone behind a clock (`Z`, `UTC`, `-07:00`) is passed over:
-/// what counts is what the clock shows.
-pub fn moment_in(form: TimeForm, text: &[u8]) -> Option<Moment>
-    ensures { result ≡ moment_in form text.now }
+/// The moment that a text names in this form, or `None`. Without a `zone` it is what the clock shows, whatever zone stands
+/// behind it (`Z`, `UTC`, `-07:00`). With one it is what the clock of `zone` shows then; a clock that says no zone is taken
+/// to be of `zone`, and seconds after 1970 count by UTC. A fraction of a second stands behind a point or a comma.
+pub fn moment_in(form: TimeForm, zone: Option<Zone>, text: &[u8]) -> Option<Moment>
+    ensures { result ≡ moment_in form zone text.now }
 {
     match form {
-        TimeForm::Seconds => seconds(text),
-        TimeForm::Milliseconds => milliseconds(text),
-        _ => numbered(form, text),
+        TimeForm::Seconds => seconds(zone, text),
+        TimeForm::Milliseconds => milliseconds(zone, text),
+        _ => numbered(form, zone, text),
     }
 }
 
 /// The moment of seconds after 1970 began, with a fraction of up to nine digits.
-fn seconds(text: &[u8]) -> Option<Moment>
-    ensures { result ≡ moment_after (number_of (before 46 text.now)) (fraction_of (behind 46 text.now)) }
+fn seconds(zone: Option<Zone>, text: &[u8]) -> Option<Moment>
+    ensures { result ≡ moment_after zone (number_of (before (point_of text.now) text.now)) (fraction_of (behind (point_of text.now) text.now)) }
 {
-    let (second, digits) = split(b'.', text);
-    moment_after(second, digits)
+    let (second, digits) = split(point_of(text), text);
+    moment_after(zone, second, digits)
 }
 
 /// The moment of milliseconds after 1970 began.
-fn milliseconds(text: &[u8]) -> Option<Moment>
-    ensures { result ≡ moment_after (number_of (without_three text.now)) (fraction_of (last_three text.now)) }
+fn milliseconds(zone: Option<Zone>, text: &[u8]) -> Option<Moment>
+    ensures { result ≡ moment_after zone (number_of (without_three text.now)) (fraction_of (last_three text.now)) }
 {
     let (second, digits) = text.split_at(text.len().saturating_sub(3));
-    moment_after(second, digits)
+    moment_after(zone, second, digits)
 }
 
 /// The moment of a second after 1970 began, and of the digits of its fraction.
-fn moment_after(second: &[u8], digits: &[u8]) -> Option<Moment>
-    ensures { result ≡ moment_after (number_of second.now) (fraction_of digits.now) }
+fn moment_after(zone: Option<Zone>, second: &[u8], digits: &[u8]) -> Option<Moment>
+    ensures { result ≡ moment_after zone (number_of second.now) (fraction_of digits.now) }
 {
     let second = number(second)?;
     let nano = fraction(digits)?;
+    let shown = (EPOCH + second as u128) * SECOND + nano as u128;
     Some(Moment {
-        nanos: (EPOCH + second as u128) * SECOND + nano as u128,
+        nanos: moved(zone, UTC, shown),
     })
 }
 
 /// The moment of a day by numbers and of a clock behind it.
-fn numbered(form: TimeForm, text: &[u8]) -> Option<Moment>
-    ensures { result ≡ numbered form text.now }
+fn numbered(form: TimeForm, zone: Option<Zone>, text: &[u8]) -> Option<Moment>
+    ensures { result ≡ numbered form zone text.now }
 {
-    let mark = if has_byte(b'/', text) { b'/' } else { b'-' };
-    let (first, rest) = split(mark, text);
-    let (second, rest) = split(mark, rest);
-    with_two(form, first, second, rest)
+    let (day, clock) = split(clock_mark(text), text);
+    with_clock(form, zone, day, clock)
 }
 
-/// The moment of two numbers of a day, and of what stands behind them: the third number and a clock.
-fn with_two(form: TimeForm, first: &[u8], second: &[u8], rest: &[u8]) -> Option<Moment>
-    ensures { result ≡ with_two form first.now second.now rest.now }
+/// The byte between a day and a clock: T, where one stands before the first space, or else a space.
+fn clock_mark(text: &[u8]) -> u8
+    ensures { result ≡ clock_mark text.now }
 {
-    let mark = if has_byte(b' ', rest) { b' ' } else { b'T' };
-    let (third, clock) = split(mark, rest);
-    let day = day_in(form, first, second, third)?;
-    let nanos = zoned_clock(clock)?;
+    let (front, _) = split(b' ', text);
+    if has_byte(b'T', front) { b'T' } else { b' ' }
+}
+
+/// The moment of a day and a clock.
+fn with_clock(form: TimeForm, zone: Option<Zone>, day: &[u8], clock: &[u8]) -> Option<Moment>
+    ensures { result ≡ with_clock form zone day.now clock.now }
+{
+    let day = day_said(form, day)?;
+    let nanos = shown_clock(clock)?;
+    let own = own_zone(zone_or(zone), clock)?;
+    let shown = day as u128 * DAY + nanos as u128;
     Some(Moment {
-        nanos: day as u128 * DAY + nanos as u128,
+        nanos: moved(zone, own, shown),
     })
+}
+
+/// The day of a text, counted from the first one that the calendar has.
+fn day_said(form: TimeForm, text: &[u8]) -> Option<u32>
+    ensures { result ≡ day_said form text.now }
+{
+    let mark = day_mark(text);
+    let (first, rest) = split(mark, text);
+    let (second, third) = split(mark, rest);
+    day_in(form, first, second, third)
+}
+
+/// The byte between the numbers of a day: a slash, or else a hyphen, or else a point.
+fn day_mark(text: &[u8]) -> u8
+    ensures { result ≡ day_mark text.now }
+{
+    if has_byte(b'/', text) {
+        return b'/';
+    }
+    if has_byte(b'-', text) { b'-' } else { b'.' }
 }
 
 /// The day of three numbers in the order of a form, counted from the first one that the calendar has.
@@ -171,52 +235,25 @@ fn day_at(year: &[u8], month: &[u8], of_month: &[u8]) -> Option<u32>
     day(year, month, of_month)
 }
 
-/// The nanoseconds of a day that a clock shows, whatever its zone.
-fn zoned_clock(text: &[u8]) -> Option<u64>
-    ensures { result ≡ zoned_clock text.now }
-{
-    let (clock, utc) = split(b'Z', text);
-    let (clock, east) = split(b'+', clock);
-    let (clock, west) = split(b'-', clock);
-    if !utc.is_empty() || !is_offset(east) || !is_offset(west) {
-        return None;
-    }
-    clock_of(clock)
-}
-
-/// Whether a text is an offset from UTC, as `07:00`, `0700` or `07`, or is empty.
-fn is_offset(text: &[u8]) -> bool
-    ensures { result ≡ is_offset text.now }
-{
-    let (hours, minutes) = split(b':', text);
-    is_number(hours) && is_number(minutes)
-}
-
-/// Whether a text is a number, or is empty.
-fn is_number(text: &[u8]) -> bool
-    ensures { result ≡ is_number text.now }
-{
-    if text.is_empty() {
-        return true;
-    }
-    match number(text) {
-        Some(_) => true,
-        None => false,
-    }
-}
-
 /// The nanoseconds of a day that a clock without a zone shows.
-fn clock_of(text: &[u8]) -> Option<u64>
+pub(crate) fn clock_of(text: &[u8]) -> Option<u64>
     ensures { result ≡ clock_of text.now }
 {
     let (clock, mark) = split(b' ', text);
     let half = half_of(mark)?;
     let (hour, rest) = split(b':', clock);
     let (minute, rest) = split(b':', rest);
-    let (second, digits) = split(b'.', rest);
+    let (second, digits) = split(point_of(rest), rest);
     let second = second_of(half, hour, minute, second)?;
     let nano = fraction(digits)?;
     Some(second as u64 * 1_000_000_000 + nano as u64)
+}
+
+/// The byte before a fraction: a point, or else a comma.
+fn point_of(text: &[u8]) -> u8
+    ensures { result ≡ point_of text.now }
+{
+    if has_byte(b'.', text) { b'.' } else { b',' }
 }
 
 /// The second of a day, of hours as these.

@@ -2,7 +2,8 @@
 ghost use Rattle.std.specs.Prelude.{◌≡◌, option_map};
 ghost use Rattle.tsb_event_text.specs.Columns.{header_of};
 ghost use Rattle.tsb_event_text.specs.TimeForms.{is_there};
-ghost use Rattle.tsb_event_text.specs.Wide.{are_marks, are_zeros, form_by, is_mark, is_passed, trimmed, whole_of, wide_fields, wide_of, without_end, without_front};
+ghost use Rattle.tsb_lines.specs.Words.{number_of};
+ghost use Rattle.tsb_event_text.specs.Wide.{are_marks, are_zeros, form_by, is_count, is_mark, is_passed, is_rows, trimmed, whole_of, wide_fields, wide_of, without_end, without_front};
 
 use crate::columns::{Columns, header};
 use crate::events::has_byte;
@@ -10,6 +11,7 @@ use crate::fields::{device_in, field_in};
 use crate::rows::is_asked;
 use crate::time_forms::{TimeForm, form_of, moment_in, split};
 use crate::times::Moment;
+use crate::zones::Zone;
 use tsb_lines::number;
 
 /// What a row of events says, as exports have it.
@@ -29,23 +31,27 @@ pub struct WideRow {
 
 /// The row that a line spells, with its columns in these places, or `None` where a quote is out of place, a column is
 /// missing, or its time or code is none. Spaces around fields don't count, and a number may have zeros behind a point.
-/// `times` is the form of times, or `None` where the row's own time says it. `asked` is as for `event_row`.
+/// `times` is the form of times, or `None` where the row's own time says it. `zone` is that on whose clock times are asked
+/// for, or `None` where each counts as its clock shows it. `asked` is as for `event_row`.
 #[tactic(auto, unfolding(crate::specs::Wide::wide_of))]
 pub fn wide_row(
     line: &[u8],
     columns: Columns,
     times: Option<TimeForm>,
+    zone: Option<Zone>,
     asked: Option<&[u8]>,
 ) -> Option<WideRow>
-    ensures { result ≡ wide_of columns times (option_map (λ device. device.now) asked.entry) line.now }
+    ensures { result ≡ wide_of columns times zone (option_map (λ device. device.now) asked.entry) line.now }
 {
-    let device = device_in(line, columns.device)?;
-    let time = field_in(line, columns.time)?;
-    let code = field_in(line, columns.code)?;
-    let parameter = field_in(line, columns.parameter)?;
+    let mark = columns.separator.mark();
+    let device = device_in(mark, line, columns.device)?;
+    let time = field_in(mark, line, columns.time)?;
+    let code = field_in(mark, line, columns.code)?;
+    let parameter = field_in(mark, line, columns.parameter)?;
     wide_fields(
         asked,
         times,
+        zone,
         trimmed(device),
         trimmed(time),
         trimmed(code),
@@ -57,15 +63,16 @@ pub fn wide_row(
 fn wide_fields(
     asked: Option<&[u8]>,
     times: Option<TimeForm>,
+    zone: Option<Zone>,
     device: &[u8],
     time: &[u8],
     code: &[u8],
     parameter: &[u8],
 ) -> Option<WideRow>
-    ensures { result ≡ wide_fields (option_map (λ device. device.now) asked.entry) times device.now time.now code.now parameter.now }
+    ensures { result ≡ wide_fields (option_map (λ device. device.now) asked.entry) times zone device.now time.now code.now parameter.now }
 {
     let form = form_by(times, time)?;
-    let moment = moment_in(form, time)?;
+    let moment = moment_in(form, zone, time)?;
     let code = whole(code)?;
     Some(WideRow {
         ours: is_asked(asked, device),
@@ -141,12 +148,44 @@ fn without_end(text: &[u8]) -> &[u8]
     &text[..end]
 }
 
-/// Whether a line that is no row is passed over: a line that a database draws below a header, or a header.
+/// Whether a line that is no row is passed over: a line that a database draws below a header, one in which it counts its
+/// rows, as `(2 rows affected)`, or a header.
 #[tactic(auto, unfolding(crate::specs::Wide::is_passed))]
 pub fn is_passed(line: &[u8]) -> bool
     ensures { result ≡ is_passed line.now }
 {
-    (has_byte(b'-', line) && are_marks(line)) || is_header(line)
+    (has_byte(b'-', line) && are_marks(line)) || is_count(line) || is_header(line)
+}
+
+/// Whether a database counts its rows in a line.
+fn is_count(line: &[u8]) -> bool
+    ensures { result ≡ is_count line.now }
+{
+    let [first, rest @ ..] = line else {
+        return false;
+    };
+    let (digits, text) = split(b' ', rest);
+    *first == b'(' && is_number(digits) && is_rows(text)
+}
+
+/// Whether a text is a number.
+fn is_number(text: &[u8]) -> bool
+    ensures { result ≡ is_there (number_of text.now) }
+{
+    match number(text) {
+        Some(_) => true,
+        None => false,
+    }
+}
+
+/// Whether a text is what a database says behind the number of its rows.
+fn is_rows(text: &[u8]) -> bool
+    ensures { result ≡ is_rows text.now }
+{
+    text == b"rows affected)".as_slice()
+        || text == b"row affected)".as_slice()
+        || text == b"rows)".as_slice()
+        || text == b"row)".as_slice()
 }
 
 /// Whether a line names columns.
@@ -175,5 +214,11 @@ fn are_marks(text: &[u8]) -> bool
 fn is_mark(byte: u8) -> bool
     ensures { result ≡ is_mark byte }
 {
-    byte == b'-' || byte == b',' || byte == b' ' || byte == b'+' || byte == b'|'
+    byte == b'-'
+        || byte == b','
+        || byte == b';'
+        || byte == b'\t'
+        || byte == b' '
+        || byte == b'+'
+        || byte == b'|'
 }

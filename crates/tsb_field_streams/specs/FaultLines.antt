@@ -2,9 +2,12 @@
 use Rattle.std.specs.Prelude.{ℕ, ◌==◌, ◌||◌, nat_lt, List, [], ◌∷◌, ◌++◌, take, min, map, if◌then◌else◌, codes, decimal}
 use Rattle.tsb_event_text.specs.declared.columns.Column.{Column}
 use Rattle.tsb_event_text.specs.declared.columns.Column.TheVariants.{Device, Time, Code, Parameter}
+use Rattle.tsb_event_text.specs.declared.columns.Separator.{Separator}
+use Rattle.tsb_event_text.specs.declared.columns.Separator.TheVariants.{Comma, Semicolon, Tab}
+use Rattle.tsb_event_text.specs.TimeForms.{time_form_word}
 use Rattle.tsb_event_text.specs.declared.faults.Shown.{Shown}
 use Rattle.tsb_event_text.specs.declared.faults.RowFault.{RowFault}
-use Rattle.tsb_event_text.specs.declared.faults.RowFault.TheVariants.{Utf16, Zip, Xml, Binary, Lacks, Quote, Missing, Ambiguous, NoDay, NoSeconds, NoTime, NoNumber}
+use Rattle.tsb_event_text.specs.declared.faults.RowFault.TheVariants.{Utf16, Zip, Xml, Binary, Lacks, Quote, Parted, Missing, Ambiguous, NoDay, NoSeconds, OtherForm, NoTime, NoNumber}
 use Rattle.tsb_event_text.specs.declared.time_forms.TimeForm.{TimeForm}
 use Rattle.tsb_event_text.specs.declared.time_forms.TimeForm.TheVariants.{YearFirst, MonthFirst, DayFirst, Seconds, Milliseconds}
 use Rattle.tsb_field_streams.specs.declared.error.FilterError.{FilterError}
@@ -41,16 +44,35 @@ example Milliseconds = codes "1795330800100"
 abbrev pub no_time_text : TimeForm → Shown → List ℕ
 no_time_text form time = field_text Time time ++ (codes " is no time as " ++ example form)
 
+-- a time that has another form
+abbrev pub other_form_text : TimeForm → TimeForm → Shown → List ℕ
+other_form_text form own time =
+    field_text Time time
+    ++ (codes " is " ++ (time_form_word own ++ (codes ", not " ++ (time_form_word form ++ codes ": one form a file, by the first row or --time-form"))))
+
+-- the name of a separator
+abbrev pub separator_name : Separator → List ℕ
+separator_name Comma = codes "commas"
+separator_name Semicolon = codes "semicolons"
+separator_name Tab = codes "tabs"
+
+-- a line that has another separator than all
+abbrev pub parted_text : Separator → Separator → List ℕ
+parted_text all own =
+    separator_name own ++ (codes " part its fields, and " ++ (separator_name all ++ codes " those above: one separator a file"))
+
 -- what is wrong with a line of a text
 abbrev pub why_text : RowFault → List ℕ
 why_text (Lacks column) = codes "header: no column is the " ++ column_name column
 why_text (Missing column) = column_name column ++ codes ": the line ends before it"
 why_text (NoDay time) = field_text Time time ++ codes " has no day (was it opened in a spreadsheet?)"
 why_text (NoSeconds time) = field_text Time time ++ codes " has no seconds (was it opened in a spreadsheet?)"
-why_text (Ambiguous time) = field_text Time time ++ codes " can be read in two ways: its month or its day first"
+why_text (Ambiguous time) = field_text Time time ++ codes " can be read in two ways: give --time-form month-first or --time-form day-first"
+why_text (OtherForm form own time) = other_form_text form own time
 why_text (NoTime form time) = no_time_text form time
 why_text (NoNumber column field) = field_text column field ++ codes " is no whole number up to 4294967295"
 why_text Quote = codes "a quote is out of place"
+why_text (Parted all own) = parted_text all own
 why_text Utf16 = codes "UTF-16"
 why_text Zip = codes "packed"
 why_text Xml = codes "XML"

@@ -5,7 +5,7 @@ use Rattle.tsb_log_text.specs.tsb_types.declared.limits.TheConstants.{TICKS}
 use Rattle.tsb_lines.specs.Lines.{is_skipped}
 use Rattle.tsb_event_text.specs.declared.columns.Columns.{Columns}
 use Rattle.tsb_event_text.specs.declared.rows.EventRow.{EventRow}
-use Rattle.tsb_event_text.specs.Columns.{header_of, usual_columns}
+use Rattle.tsb_event_text.specs.Columns.{header_of, usual_of}
 use Rattle.tsb_event_text.specs.Rows.{row_of}
 use Rattle.tsb_event_text.specs.declared.faults.RowFault.{RowFault}
 use Rattle.tsb_event_text.specs.declared.faults.RowFault.TheVariants.{Lacks}
@@ -110,7 +110,7 @@ with_wide g number s why (Some row) = with_parameter g number s why row (paramet
 abbrev pub with_other_line : Given → ℕ → Stand → Columns → List ℕ → Result Stand FilterError
 with_other_line g number s columns text =
     if is_passed text then with_passed s
-    else with_wide g number s (fault_of columns s.times text) (wide_of columns s.times g.device text)
+    else with_wide g number s (fault_of columns s.times text) (wide_of columns s.times None g.device text)
 
 -- a plain row, where a line spells one
 abbrev pub with_some_row : Given → ℕ → Stand → Columns → List ℕ → Option EventRow → Result Stand FilterError
@@ -140,7 +140,7 @@ abbrev pub with_first : Given → ℕ → Stand → List ℕ → Option Columns 
 with_first g number s text (Some columns) = with_header g number s columns
 with_first g number s text None =
     if is_preface text then with_passed s
-    else with_row_line g number (record s { columns = Some usual_columns }) usual_columns text
+    else with_row_line g number (record s { columns = Some (usual_of text) }) (usual_of text) text
 
 -- a line that is not skipped
 abbrev pub with_text : Given → ℕ → Stand → List ℕ → Option Columns → Result Stand FilterError

@@ -1,11 +1,11 @@
 //! The line that tells what ended a filter.
 ghost use Rattle.std.specs.Prelude.{◌≡◌, ◌++◌, ◌∷◌, [], map, IfOk, OnOk};
-ghost use Rattle.tsb_field_streams.specs.FaultLines.{column_name, example, field_text, filter_fault, line_number, no_time_text, row_fault_text, safe, why_text};
+ghost use Rattle.tsb_field_streams.specs.FaultLines.{column_name, example, field_text, filter_fault, line_number, no_time_text, other_form_text, parted_text, row_fault_text, safe, separator_name, why_text};
 
 use crate::error::FilterError;
 use itoa::Buffer;
 use std::alloc::{AllocError, Global};
-use tsb_event_text::{Column, RowFault, SHOWN, Shown, TimeForm};
+use tsb_event_text::{Column, RowFault, SHOWN, Separator, Shown, TimeForm, time_form_word};
 
 /// The line that tells what ended a filter, with its line feed.
 pub fn fault_line(alloc: Global, fault: FilterError) -> Result<Vec<u8>, AllocError>
@@ -84,14 +84,18 @@ fn append_why(text: &mut Vec<u8>, why: RowFault) -> Result<(), AllocError>
         }
         RowFault::Ambiguous(time) => {
             append_field(text, Column::Time, &time)?;
-            text.extend_from_slice(b" can be read in two ways: its month or its day first")
+            text.extend_from_slice(
+                b" can be read in two ways: give --time-form month-first or --time-form day-first",
+            )
         }
+        RowFault::OtherForm(form, own, time) => append_other_form(text, form, own, &time),
         RowFault::NoTime(form, time) => append_no_time(text, form, &time),
         RowFault::NoNumber(column, field) => {
             append_field(text, column, &field)?;
             text.extend_from_slice(b" is no whole number up to 4294967295")
         }
         RowFault::Quote => text.extend_from_slice(b"a quote is out of place"),
+        RowFault::Parted(all, own) => append_parted(text, all, own),
         RowFault::Utf16 => text.extend_from_slice(b"UTF-16"),
         RowFault::Zip => text.extend_from_slice(b"packed"),
         RowFault::Xml => text.extend_from_slice(b"XML"),
@@ -106,6 +110,44 @@ fn append_no_time(text: &mut Vec<u8>, form: TimeForm, time: &Shown) -> Result<()
     append_field(text, Column::Time, time)?;
     text.extend_from_slice(b" is no time as ")?;
     text.extend_from_slice(example(form))
+}
+
+/// Adds that a time has another form.
+fn append_other_form(
+    text: &mut Vec<u8>,
+    form: TimeForm,
+    own: TimeForm,
+    time: &Shown,
+) -> Result<(), AllocError>
+    ensures { OnOk result (text.new.items ≡ text.old.items ++ other_form_text form own time.now) }
+{
+    append_field(text, Column::Time, time)?;
+    text.extend_from_slice(b" is ")?;
+    text.extend_from_slice(time_form_word(own))?;
+    text.extend_from_slice(b", not ")?;
+    text.extend_from_slice(time_form_word(form))?;
+    text.extend_from_slice(b": one form a file, by the first row or --time-form")
+}
+
+/// Adds that a line has another separator than all.
+fn append_parted(text: &mut Vec<u8>, all: Separator, own: Separator) -> Result<(), AllocError>
+    ensures { OnOk result (text.new.items ≡ text.old.items ++ parted_text all own) }
+{
+    text.extend_from_slice(separator_name(own))?;
+    text.extend_from_slice(b" part its fields, and ")?;
+    text.extend_from_slice(separator_name(all))?;
+    text.extend_from_slice(b" those above: one separator a file")
+}
+
+/// The name of a separator.
+fn separator_name(separator: Separator) -> &'static [u8]
+    ensures { result.now ≡ separator_name separator }
+{
+    match separator {
+        Separator::Comma => b"commas",
+        Separator::Semicolon => b"semicolons",
+        Separator::Tab => b"tabs",
+    }
 }
 
 /// Adds the name of a column, and what its field has.

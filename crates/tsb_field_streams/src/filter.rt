@@ -150,7 +150,7 @@ impl<'a> Filter<'a> {
         if is_preface(text) {
             return Ok(self.pass());
         }
-        let usual = Columns::usual();
+        let usual = Columns::usual_of(text);
         self.know(usual);
         self.take_row_line(number, usual, text)
     }
@@ -195,7 +195,7 @@ impl<'a> Filter<'a> {
             return Ok(self.pass());
         }
         let times = self.times;
-        match wide_row(text, columns, times, self.device) {
+        match wide_row(text, columns, times, None, self.device) {
             Some(row) => self.take_wide(number, row, row_fault(text, columns, times)),
             None => Err(FilterError::Malformed(number, row_fault(text, columns, times))),
         }

@@ -125,7 +125,7 @@ fn is_read_again(alloc: Global, device: &[u8]) -> Option<bool> {
     };
     let written = line(alloc, device, time, 82, 16).ok()?;
     let row = written.as_slice().strip_suffix(b"\n".as_slice())?;
-    Some(event_row(row, Columns::usual(), Some(device)) == Some(event))
+    Some(event_row(row, Columns::usual_of(b""), Some(device)) == Some(event))
 }
 
 #[test]

@@ -1,6 +1,6 @@
 //! Lines of event logs: fields, headers, times and rows. Expected values are worked by hand from the rules.
 
-use tsb_event_text::{Columns, EventRow, Moment, event_row, header, read_moment};
+use tsb_event_text::{Columns, EventRow, Moment, Separator, event_row, header, read_moment};
 
 /// The seconds from -9999-01-01 to 1970-01-01: 4,371,587 days.
 const EPOCH: u128 = 377_705_116_800;
@@ -105,7 +105,7 @@ fn others_are_no_headers() -> bool {
 
 #[test]
 fn headers_name_all_four_columns(rt: HostRuntime) {
-    let usual = Some(Columns::usual());
+    let usual = Some(Columns::usual_of(b""));
     assert!(rt;
         names(b"SignalID,Timestamp,EventCode,EventParam", usual)
             && names(b"locationidentifier,TIMESTAMP,eventid,Parameter", usual)
@@ -115,6 +115,7 @@ fn headers_name_all_four_columns(rt: HostRuntime) {
         time: 0,
         code: 2,
         parameter: 3,
+        separator: Separator::Comma,
     });
     assert!(rt;
         names(
@@ -152,12 +153,13 @@ fn usual_rows_are_read(usual: Columns) -> bool {
 
 #[test]
 fn rows_are_read_by_their_columns(rt: HostRuntime) {
-    assert!(rt; usual_rows_are_read(Columns::usual()));
+    assert!(rt; usual_rows_are_read(Columns::usual_of(b"")));
     let turned = Columns {
         device: Some(3),
         time: 0,
         code: 2,
         parameter: 1,
+        separator: Separator::Comma,
     };
     let line = b"2026-11-22 07:00:00.100,3,82,1001".as_slice();
     assert!(rt; is_on(line, turned, Some(b"1001"), true));
@@ -180,7 +182,7 @@ const NO_ROWS: [&[u8]; 10] = [
 /// Whether none of the lines is a row of the usual columns.
 fn are_no_rows(all: &[&[u8]]) -> bool {
     for text in all {
-        if event_row(text, Columns::usual(), None) != None {
+        if event_row(text, Columns::usual_of(b""), None) != None {
             return false;
         }
     }

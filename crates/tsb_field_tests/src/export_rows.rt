@@ -2,8 +2,8 @@
 //! passed over. Expected values are worked by hand from the rules.
 
 use tsb_event_text::{
-    Columns, Moment, TimeForm, WideRow, form_of, header, is_ambiguous, is_passed, is_preface,
-    moment_in, wide_row,
+    Columns, Moment, Separator, TimeForm, WideRow, form_of, header, is_ambiguous, is_passed,
+    is_preface, moment_in, wide_row,
 };
 
 /// The nanoseconds from -9999-01-01 to 1970-01-01, 4,371,587 days, and from there to 2026-11-22 00:00:00: 56 years of
@@ -12,14 +12,14 @@ const MIDNIGHT: u128 = 377_705_116_800_000_000_000 + 1_795_305_600_000_000_000;
 
 /// Whether a text is the time so many milliseconds after 2026-11-22 began.
 fn is_time(form: TimeForm, text: &[u8], milliseconds: u32) -> bool {
-    match moment_in(form, text) {
+    match moment_in(form, None, text) {
         Some(moment) => moment.nanos == MIDNIGHT + milliseconds as u128 * 1_000_000,
         None => false,
     }
 }
 
 /// Times, each with its form and the milliseconds after 2026-11-22 began.
-const TIMES: [(TimeForm, &[u8], u32); 22] = [
+const TIMES: [(TimeForm, &[u8], u32); 29] = [
     (TimeForm::MonthFirst, b"11/22/2026 07:00:03.200", 25_203_200),
     (TimeForm::MonthFirst, b"11/22/2026 7:0:3", 25_203_000),
     (TimeForm::MonthFirst, b"11-22-2026 07:00:03.2", 25_203_200),
@@ -52,6 +52,21 @@ const TIMES: [(TimeForm, &[u8], u32); 22] = [
     (TimeForm::YearFirst, b"2026-11-22 07:00:03.001", 25_203_001),
     (TimeForm::Seconds, b"1795330803.2", 25_203_200),
     (TimeForm::Seconds, b"1795330803", 25_203_000),
+    (TimeForm::YearFirst, b"2026-11-22 07:00:03,2", 25_203_200),
+    (
+        TimeForm::YearFirst,
+        b"2026-11-22T07:00:03.2 UTC",
+        25_203_200,
+    ),
+    (
+        TimeForm::MonthFirst,
+        b"11/22/2026 7:00:03,25 PM",
+        68_403_250,
+    ),
+    (TimeForm::DayFirst, b"22.11.2026 07:00:03,200", 25_203_200),
+    (TimeForm::DayFirst, b"22.11.2026 7:00:03", 25_203_000),
+    (TimeForm::Seconds, b"1795330803,2", 25_203_200),
+    (TimeForm::Seconds, b"1795330803.", 25_203_000),
     (TimeForm::Milliseconds, b"1795330803200", 25_203_200),
     (TimeForm::Milliseconds, b"1795330803001", 25_203_001),
 ];
@@ -72,7 +87,7 @@ fn times_of_all_forms_are_moments(rt: HostRuntime) {
 }
 
 /// Texts that are no times in these forms.
-const NO_TIMES: [(TimeForm, &[u8]); 20] = [
+const NO_TIMES: [(TimeForm, &[u8]); 25] = [
     (TimeForm::MonthFirst, b"22/11/2026 07:00:03"),
     (TimeForm::MonthFirst, b"11/22/26 07:00:03"),
     (TimeForm::MonthFirst, b"11/22/2026 13:00:00 PM"),
@@ -82,7 +97,12 @@ const NO_TIMES: [(TimeForm, &[u8]); 20] = [
     (TimeForm::MonthFirst, b"11/22/2026"),
     (TimeForm::MonthFirst, b"02/29/2026 07:00:03"),
     (TimeForm::DayFirst, b"11/22/2026 07:00:03"),
-    (TimeForm::YearFirst, b"2026-11-22 07:00:03,2"),
+    (TimeForm::YearFirst, b"2026-11-22 07:00:03,2.5"),
+    (TimeForm::YearFirst, b"2026-11-22 07:00:03.2,5"),
+    (TimeForm::YearFirst, b"2026-11-22 07:00:03,1234567890"),
+    (TimeForm::YearFirst, b"2026-11-22 07:00:03+24:00"),
+    (TimeForm::YearFirst, b"2026-11-22 07:00:03+"),
+    (TimeForm::YearFirst, b"2026-11-22 07:00:03Z+01"),
     (TimeForm::YearFirst, b"2026-11-22 24:00:00.0"),
     (TimeForm::YearFirst, b"2026-11-22 07:00:03Zx"),
     (TimeForm::YearFirst, b"2026-11-22 07:00:03+ab"),
@@ -98,7 +118,7 @@ const NO_TIMES: [(TimeForm, &[u8]); 20] = [
 /// Whether none of the texts is a time in its form.
 fn are_no_times() -> bool {
     for (form, text) in &NO_TIMES {
-        if moment_in(*form, text).is_some() {
+        if moment_in(*form, None, text).is_some() {
             return false;
         }
     }
@@ -142,6 +162,7 @@ fn names(line: &[u8], device: Option<usize>, time: usize, code: usize, parameter
             time,
             code,
             parameter,
+            separator: Separator::Comma,
         })
 }
 
@@ -171,7 +192,7 @@ fn headers_have_words_of_many_makers(rt: HostRuntime) {
 
 /// The row of a line of the usual columns, where rows of device 7 count.
 fn row(line: &[u8], times: Option<TimeForm>) -> Option<WideRow> {
-    wide_row(line, Columns::usual(), times, Some(b"7"))
+    wide_row(line, Columns::usual_of(line), times, None, Some(b"7"))
 }
 
 /// Whether a line is a row of detector 2 going on 7 hours after 2026-11-22 began, of this form and parameter.
@@ -221,7 +242,13 @@ fn drawn_lines_are_passed() -> bool {
         && is_passed(b"SignalID,Timestamp,EventCode,EventParam")
         && !is_passed(b"7,2026-11-22 07:00:00,82,2")
         && !is_passed(b",,,")
-        && !is_passed(b"(2 rows affected)")
+        && is_passed(b"--------;---------;---------;----------")
+        && is_passed(b"----\t----")
+        && is_passed(b"(2 rows affected)")
+        && is_passed(b"(1 row)")
+        && !is_passed(b"(2 rows affected")
+        && !is_passed(b"(two rows affected)")
+        && !is_passed(b"2 rows affected)")
 }
 
 /// Whether lines before a header are passed over, and no others.

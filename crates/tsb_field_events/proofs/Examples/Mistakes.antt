@@ -1,5 +1,6 @@
 -- One-line mistakes, each with an example that tells it from the definition.
 use Rattle.std.proofs.Common.{◌≡◌, ℕ, ◌*◌, ◌+◌, true, false, List, [], ◌∷◌, ◌++◌, Option, Some, None, if◌then◌else◌, codes, filter, refl, ap, arith}
+use Rattle.tsb_event_text.specs.declared.columns.Separator.TheVariants.{Comma}
 use Rattle.tsb_event_text.specs.declared.rows.EventRow.{EventRow}
 use Rattle.tsb_event_text.specs.declared.times.Moment.{Moment}
 use Rattle.tsb_event_text.specs.Columns.{header_of, usual_columns}
@@ -75,6 +76,6 @@ is_usual : header_of (codes "SignalID,Timestamp,EventCode,EventParam") ≡ Some 
 unfolding header_of
 is_usual = refl
 
-would_change_places : header_of (codes "SignalID,Timestamp,EventParam,EventCode") ≡ Some (record { device = Some 0; time = 1; code = 3; parameter = 2 })
+would_change_places : header_of (codes "SignalID,Timestamp,EventParam,EventCode") ≡ Some (record { device = Some 0; time = 1; code = 3; parameter = 2; separator = Comma })
 unfolding header_of
 would_change_places = refl
