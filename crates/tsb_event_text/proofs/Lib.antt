@@ -3,6 +3,8 @@ pub mod TimeLemmas
 pub mod SplitLemmas
 pub mod TrimLemmas
 pub mod RowLemmas
+pub mod PartLemmas
+pub mod FormLemmas
 pub mod WrittenLemmas
 pub mod EventLemmas
 pub mod TakenLemmas

@@ -3,30 +3,23 @@ use Rattle.std.proofs.Common.{◌≡◌, ◌∙◌, ℕ, List, refl, ap, Option,
 use Rattle.std.specs.Prelude.{slice_get}
 use Rattle.tsb_event_text.specs.declared.columns.Column.TheVariants.{Device, Time, Code, Parameter}
 use Rattle.tsb_event_text.specs.declared.columns.Columns.{Columns}
+use Rattle.tsb_event_text.specs.declared.columns.Separator.{Separator}
 use Rattle.tsb_event_text.specs.Fields.{device_at, fields_of}
-use Rattle.tsb_event_text.specs.Columns.{place_from, columns_at, columns_in, header_of}
+use Rattle.tsb_event_text.specs.Columns.{place_from, columns_at, columns_in}
 use Rattle.tsb_lines.specs.Words.{number_of}
 use Rattle.tsb_event_text.specs.declared.times.Moment.{Moment}
 use Rattle.tsb_event_text.specs.Times.{moment_of}
-use Rattle.tsb_event_text.specs.Rows.{is_asked, row_said, row_with, row_in, row_of}
+use Rattle.tsb_event_text.specs.Rows.{is_asked, row_said, row_with, row_in}
 
-pub header-none : (line : List ℕ) → fields_of line ≡ None → header_of line ≡ None
-unfolding header_of
-header-none line e = ap columns_in e
+pub columns-with : (separator : Separator) (m : ℕ) (line : List ℕ) (fields : List (List ℕ)) (d t k p : Option ℕ) → fields_of m line ≡ Some fields
+    → place_from 0 Device fields ≡ d → place_from 0 Time fields ≡ t → place_from 0 Code fields ≡ k → place_from 0 Parameter fields ≡ p
+    → columns_in separator (fields_of m line) ≡ columns_at separator d t k p
+columns-with separator m line fields d t k p e hd ht hk hp = ap (columns_in separator) e ∙ rw (hd, ht, hk, hp) refl
 
-pub header-with : (line : List ℕ) (fields : List (List ℕ)) (d t k p : Option ℕ) → fields_of line ≡ Some fields → place_from 0 Device fields ≡ d → place_from 0 Time fields ≡ t → place_from 0 Code fields ≡ k → place_from 0 Parameter fields ≡ p
-    → header_of line ≡ columns_at d t k p
-unfolding header_of
-header-with line fields d t k p e hd ht hk hp = ap columns_in e ∙ rw (hd, ht, hk, hp) refl
-
-pub row-none : (columns : Columns) (asked : Option (List ℕ)) (line : List ℕ) → fields_of line ≡ None → row_of columns asked line ≡ None
-unfolding row_of
-row-none columns asked line e = ap (row_in columns asked) e
-
-pub row-with : (columns : Columns) (asked : Option (List ℕ)) (line : List ℕ) (fields : List (List ℕ)) (d t k p : Option (List ℕ)) → fields_of line ≡ Some fields → device_at fields columns.device ≡ d → slice_get fields columns.time ≡ t
-    → slice_get fields columns.code ≡ k → slice_get fields columns.parameter ≡ p → row_of columns asked line ≡ row_with asked d t k p
-unfolding row_of
-row-with columns asked line fields d t k p e hd ht hk hp = ap (row_in columns asked) e ∙ rw (hd, ht, hk, hp) refl
+pub row-with : (columns : Columns) (asked : Option (List ℕ)) (m : ℕ) (line : List ℕ) (fields : List (List ℕ)) (d t k p : Option (List ℕ)) → fields_of m line ≡ Some fields
+    → device_at fields columns.device ≡ d → slice_get fields columns.time ≡ t → slice_get fields columns.code ≡ k → slice_get fields columns.parameter ≡ p
+    → row_in columns asked (fields_of m line) ≡ row_with asked d t k p
+row-with columns asked m line fields d t k p e hd ht hk hp = ap (row_in columns asked) e ∙ rw (hd, ht, hk, hp) refl
 
 pub said-with : (asked : Option (List ℕ)) (device time code parameter : List ℕ) (m : Option Moment) (n q : Option ℕ) → moment_of time ≡ m → number_of code ≡ n → number_of parameter ≡ q
     → row_with asked (Some device) (Some time) (Some code) (Some parameter) ≡ row_said (is_asked asked device) m n q

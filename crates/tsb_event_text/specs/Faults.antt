@@ -136,10 +136,6 @@ are_columns columns fields =
     is_field (device_in fields columns.device)
     && (is_field (field_in fields columns.time) && (is_field (field_in fields columns.code) && is_field (field_in fields columns.parameter)))
 
--- a line has them, where this separator parts its fields
-abbrev pub has_columns : Columns → Separator → List ℕ → Bool
-has_columns columns separator line = are_columns columns (fields_of (mark_of separator) line)
-
 -- what is wrong with the fields of a line, as the separator of these columns parts them
 abbrev pub parts_fault : Columns → Option TimeForm → Option (List (List ℕ)) → RowFault
 parts_fault columns times fields =
@@ -151,10 +147,10 @@ parts_fault columns times fields =
 -- what is wrong with a row, with its columns in these places: where its fields are not there, another separator may part them
 abbrev pub row_fault_of : Columns → Option TimeForm → List ℕ → RowFault
 row_fault_of columns times line =
-    if has_columns columns columns.separator line then parts_fault columns times (fields_of (mark_of columns.separator) line)
-    else if has_columns columns Comma line then Parted columns.separator Comma
-    else if has_columns columns Semicolon line then Parted columns.separator Semicolon
-    else if has_columns columns Tab line then Parted columns.separator Tab
+    if are_columns columns (fields_of (mark_of columns.separator) line) then parts_fault columns times (fields_of (mark_of columns.separator) line)
+    else if are_columns columns (fields_of 44 line) then Parted columns.separator Comma
+    else if are_columns columns (fields_of 59 line) then Parted columns.separator Semicolon
+    else if are_columns columns (fields_of 9 line) then Parted columns.separator Tab
     else parts_fault columns times (fields_of (mark_of columns.separator) line)
 
 -- what is wrong with a line of a text of lines, with its columns in these places

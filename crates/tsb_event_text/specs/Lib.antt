@@ -16,3 +16,5 @@ pub mod Events
 pub mod Wide
 -- why a line is no row
 pub mod Faults
+-- what holds of rows in other forms
+pub mod Laws

@@ -1,7 +1,7 @@
 //! Which field of a line is what.
 ghost use Rattle.std.specs.Prelude.{◌≡◌, List, ℕ, Some};
 ghost use Rattle.tsb_event_text.specs.Fields.{fields_of};
-ghost use Rattle.tsb_event_text.specs.Columns.{header_by, header_of, is_called, is_filler, mark_of, names_column, place_from, separator_of, small, usual_of};
+ghost use Rattle.tsb_event_text.specs.Columns.{columns_in, header_by, header_of, is_called, is_filler, mark_of, names_column, place_from, separator_of, small, usual_of};
 
 use crate::fields::{has_fields, has_third, next_field};
 
@@ -101,12 +101,18 @@ pub fn header(line: &[u8]) -> Option<Columns>
     header_by(Separator::Tab, line)
 }
 
-/// The columns that a line names whose fields this separator parts. Rows have no time's name, so that comes first.
+/// The columns that a line names whose fields this separator parts.
 #[tactic(auto, unfolding(crate::specs::Columns::header_by))]
 fn header_by(separator: Separator, line: &[u8]) -> Option<Columns>
     ensures { result ≡ header_by separator line.now }
 {
-    let mark = separator.mark();
+    columns_in(separator, separator.mark(), line)
+}
+
+/// The columns that a line names whose fields this mark parts. Rows name no time, so that comes first.
+fn columns_in(separator: Separator, mark: u8, line: &[u8]) -> Option<Columns>
+    ensures { result ≡ columns_in separator (fields_of mark line.now) }
+{
     if !has_fields(mark, line) {
         return None;
     }

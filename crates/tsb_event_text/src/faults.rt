@@ -1,8 +1,7 @@
 //! Why a line is no row.
 ghost use Rattle.std.specs.Prelude.{◌≡◌, option_map};
-ghost use Rattle.tsb_event_text.specs.Columns.{mark_of};
 ghost use Rattle.tsb_event_text.specs.Fields.{fields_of, is_field};
-ghost use Rattle.tsb_event_text.specs.Faults.{begins, fault_of, form_fault, form_or, has_columns, has_no_second, has_some_fields, has_some_third, header_fault, is_dated, is_named, is_named_in, is_open, is_other, is_packed, is_place, is_preface, is_utf16, is_xml, line_fault, parts_fault, row_fault_of, shown_of, three_fault, time_at, time_fault};
+ghost use Rattle.tsb_event_text.specs.Faults.{are_columns, begins, fault_of, form_fault, form_or, has_no_second, has_some_fields, has_some_third, header_fault, is_dated, is_named, is_named_in, is_open, is_other, is_packed, is_place, is_preface, is_utf16, is_xml, line_fault, parts_fault, row_fault_of, shown_of, three_fault, time_at, time_fault};
 
 use crate::columns::{Column, Columns, Separator, place};
 use crate::events::has_byte;
@@ -125,26 +124,25 @@ fn row_fault_of(line: &[u8], columns: Columns, times: Option<TimeForm>) -> RowFa
     ensures { result ≡ row_fault_of columns times line.now }
 {
     let own = columns.separator;
-    if has_columns(line, columns, own) {
-        return parts_fault(line, columns, times);
+    if has_columns(own.mark(), line, columns) {
+        return parts_fault(own.mark(), line, columns, times);
     }
-    if has_columns(line, columns, Separator::Comma) {
+    if has_columns(b',', line, columns) {
         return RowFault::Parted(own, Separator::Comma);
     }
-    if has_columns(line, columns, Separator::Semicolon) {
+    if has_columns(b';', line, columns) {
         return RowFault::Parted(own, Separator::Semicolon);
     }
-    if has_columns(line, columns, Separator::Tab) {
+    if has_columns(b'\t', line, columns) {
         return RowFault::Parted(own, Separator::Tab);
     }
-    parts_fault(line, columns, times)
+    parts_fault(own.mark(), line, columns, times)
 }
 
-/// Whether a line has a device, a time, a code and a parameter in these places, where this separator parts its fields.
-fn has_columns(line: &[u8], columns: Columns, separator: Separator) -> bool
-    ensures { result ≡ has_columns columns separator line.now }
+/// Whether a line has a device, a time, a code and a parameter in these places, where this mark parts its fields.
+fn has_columns(mark: u8, line: &[u8], columns: Columns) -> bool
+    ensures { result ≡ are_columns columns (fields_of mark line.now) }
 {
-    let mark = separator.mark();
     is_field(device_in(mark, line, columns.device))
         && is_field(field_in(mark, line, columns.time))
         && is_field(field_in(mark, line, columns.code))
@@ -161,11 +159,10 @@ fn is_field(field: Option<&[u8]>) -> bool
     }
 }
 
-/// What is wrong with the fields of a line.
-fn parts_fault(line: &[u8], columns: Columns, times: Option<TimeForm>) -> RowFault
-    ensures { result ≡ parts_fault columns times (fields_of (mark_of columns.separator) line.now) }
+/// What is wrong with the fields of a line that this mark parts.
+fn parts_fault(mark: u8, line: &[u8], columns: Columns, times: Option<TimeForm>) -> RowFault
+    ensures { result ≡ parts_fault columns times (fields_of mark line.now) }
 {
-    let mark = columns.separator.mark();
     if !has_fields(mark, line) {
         return RowFault::Quote;
     }

@@ -1,6 +1,7 @@
 //! Rows of events.
 ghost use Rattle.std.specs.Prelude.{◌≡◌, option_map};
-ghost use Rattle.tsb_event_text.specs.Rows.{is_asked, row_of};
+ghost use Rattle.tsb_event_text.specs.Fields.{fields_of};
+ghost use Rattle.tsb_event_text.specs.Rows.{is_asked, row_in, row_of};
 
 use crate::columns::Columns;
 use crate::fields::{device_at, field_at, has_fields};
@@ -28,7 +29,13 @@ pub struct EventRow {
 pub fn event_row(line: &[u8], columns: Columns, asked: Option<&[u8]>) -> Option<EventRow>
     ensures { result ≡ row_of columns (option_map (λ device. device.now) asked.entry) line.now }
 {
-    let mark = columns.separator.mark();
+    row_in(columns.separator.mark(), line, columns, asked)
+}
+
+/// The row of a line whose fields this mark parts.
+fn row_in(mark: u8, line: &[u8], columns: Columns, asked: Option<&[u8]>) -> Option<EventRow>
+    ensures { result ≡ row_in columns (option_map (λ device. device.now) asked.entry) (fields_of mark line.now) }
+{
     if !has_fields(mark, line) {
         return None;
     }

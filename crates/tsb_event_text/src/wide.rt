@@ -1,9 +1,10 @@
 //! Rows as exports have them: with spaces around fields, numbers with zeros behind a point, times in several forms.
 ghost use Rattle.std.specs.Prelude.{◌≡◌, option_map};
 ghost use Rattle.tsb_event_text.specs.Columns.{header_of};
+ghost use Rattle.tsb_event_text.specs.Fields.{fields_of};
 ghost use Rattle.tsb_event_text.specs.TimeForms.{is_there};
 ghost use Rattle.tsb_lines.specs.Words.{number_of};
-ghost use Rattle.tsb_event_text.specs.Wide.{are_marks, are_zeros, form_by, is_count, is_mark, is_passed, is_rows, trimmed, whole_of, wide_fields, wide_of, without_end, without_front};
+ghost use Rattle.tsb_event_text.specs.Wide.{are_marks, are_zeros, form_by, is_count, is_mark, is_passed, is_rows, trimmed, whole_of, wide_fields, wide_in, wide_of, without_end, without_front};
 
 use crate::columns::{Columns, header};
 use crate::events::has_byte;
@@ -44,6 +45,20 @@ pub fn wide_row(
     ensures { result ≡ wide_of columns times zone (option_map (λ device. device.now) asked.entry) line.now }
 {
     let mark = columns.separator.mark();
+    wide_in(mark, line, columns, times, zone, asked)
+}
+
+/// The row of a line whose fields this mark parts.
+fn wide_in(
+    mark: u8,
+    line: &[u8],
+    columns: Columns,
+    times: Option<TimeForm>,
+    zone: Option<Zone>,
+    asked: Option<&[u8]>,
+) -> Option<WideRow>
+    ensures { result ≡ wide_in columns times zone (option_map (λ device. device.now) asked.entry) (fields_of mark line.now) }
+{
     let device = device_in(mark, line, columns.device)?;
     let time = field_in(mark, line, columns.time)?;
     let code = field_in(mark, line, columns.code)?;

@@ -5,7 +5,7 @@ use Rattle.tsb_event_text.proofs.columns.place.Given as goal
 
 abbrev pub invariant-loop-field : goal.invariant-loop-field
 invariant-loop-field l = record {
-  seeks : (fields : List (List ℕ)) → fields_of l.line ≡ Some fields → Seeks l.column fields l.rest l.place;
+  seeks : (fields : List (List ℕ)) → fields_of l.mark l.line ≡ Some fields → Seeks l.mark l.column fields l.rest l.place;
   few : l.place + length l.rest ≤ length l.line;
 }
 

@@ -5,11 +5,11 @@ use Rattle.tsb_event_text.proofs.FieldLemmas.{plain-last, plain-first, behind}
 use Rattle.tsb_event_text.proofs.fields.plain_field.Goals as goal
 
 pub returns-in-None-clause-first : goal.returns-in-None-clause-first
-returns-in-None-clause-first c = plain-last c.args.line.now (λ k lt e. c.in-None.ensures k (omega arith) lt (eq-eqb (get_or c.args.line.now k 0) 44 e))
+returns-in-None-clause-first c = plain-last c.args.mark c.args.line.now (λ k lt e. c.in-None.ensures k (omega arith) lt (eq-eqb (get_or c.args.line.now k 0) c.args.mark e))
 
 pub returns-in-Some-clause-first : goal.returns-in-Some-clause-first
 returns-in-Some-clause-first c =
-    plain-first c.args.line.now c.in-Some.end c.in-Some.ensures.0.high
-    (λ k lt e. c.in-Some.ensures.0.before k (omega arith) lt (eq-eqb (get_or c.args.line.now k 0) 44 e))
-    (eqb-true (get_or c.args.line.now c.in-Some.end 0) 44 c.in-Some.ensures.1)
-    ∙ ap (λ (v : List ℕ). with_field (take c.in-Some.end c.args.line.now) (fields_of v)) (sym (behind c.args.line.now c.in-Some.end c.in-Some.ensures.0.high))
+    plain-first c.args.mark c.args.line.now c.in-Some.end c.in-Some.ensures.0.high
+    (λ k lt e. c.in-Some.ensures.0.before k (omega arith) lt (eq-eqb (get_or c.args.line.now k 0) c.args.mark e))
+    (eqb-true (get_or c.args.line.now c.in-Some.end 0) c.args.mark c.in-Some.ensures.1)
+    ∙ ap (λ (v : List ℕ). with_field (take c.in-Some.end c.args.line.now) (fields_of c.args.mark v)) (sym (behind c.args.line.now c.in-Some.end c.in-Some.ensures.0.high))
