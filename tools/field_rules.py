@@ -30,6 +30,7 @@ NAMES = [
     {b"eventparam", b"parameter", b"eventparameter", b"param", b"eventvalue"},
 ]
 USUAL = [0, 1, 2, 3]
+MARKS = {b",": b"commas", b";": b"semicolons", b"\t": b"tabs"}
 COLUMNS = [b"device", b"time", b"code", b"parameter"]
 
 # What is told of a line that begins so, of which the whole text is no text with lines of events.
@@ -42,16 +43,16 @@ WHOLE_FAULTS = [
 # What is told of a field.
 NO_DAY = b" has no day (was it opened in a spreadsheet?)"
 NO_SECONDS = b" has no seconds (was it opened in a spreadsheet?)"
-TWO_WAYS = b" can be read in two ways: its month or its day first"
+TWO_WAYS = b" can be read in two ways: give --time-form month-first or --time-form day-first"
 NO_NUMBER = b" is no whole number up to 4294967295"
 
 # What is told of a text without a header and without a row.
 NOTHING = b"events: no header and no row (do commas part its fields?)\n"
 
-# Forms of times: where a day has its year, its month and its day, and a time in each.
-ORDERS = {"year first": (0, 1, 2), "month first": (2, 0, 1), "day first": (2, 1, 0)}
+# Forms of times by the words that name them: where a day has its year, its month and its day, and a time in each.
+ORDERS = {"year-first": (0, 1, 2), "month-first": (2, 0, 1), "day-first": (2, 1, 0)}
 FORM_TIMES = {
-    "year first": b"2026-11-22 07:00:00.1", "month first": b"11/22/2026 07:00:00.1", "day first": b"22/11/2026 07:00:00.1",
+    "year-first": b"2026-11-22 07:00:00.1", "month-first": b"11/22/2026 07:00:00.1", "day-first": b"22/11/2026 07:00:00.1",
     "seconds": b"1795330800.1", "milliseconds": b"1795330800100",
 }
 EPOCH = datetime.datetime(1970, 1, 1).toordinal() * 86400
@@ -69,9 +70,11 @@ INPUTS = {"vehicle": "detector", "pedestrian": "ped detector", "preempt": "preem
 HEADER = b"SignalID,Timestamp,EventCode,EventParam\n"
 TIME = re.compile(rb"(\d{4})-(\d\d)-(\d\d)[ T](\d\d):(\d\d):(\d\d)(?:\.(\d{1,9}))?")
 FORM_TIME = re.compile(
-    rb"(\d+)(?:/(\d+)/(\d+)|-(\d+)-(\d+))(?: |T(?!.* ))(\d{1,10}):(\d{1,10}):(\d{1,10})(?:\.(\d{0,9}))?"
-    rb"(?: (|[Aa][Mm]|[Pp][Mm]|[Uu][Tt][Cc]))?(Z|[+-]\d{1,10}(?::\d{0,10})?)?")
-FIELD = re.compile(rb'(?:"([^"]*)"|([^",][^,]*|))(,|\Z)', re.S)
+    rb"(\d+)(?:/(\d+)/(\d+)|-(\d+)-(\d+)|\.(\d+)\.(\d+))[ T](\d{1,10}):(\d{1,10}):(\d{1,10})(?:[.,](\d{0,9}))?"
+    rb"(?: (|[Aa][Mm]|[Pp][Mm]|[Uu][Tt][Cc]))?(Z|[+-]\d{1,2}(?::?\d\d)?)?")
+OFFSET = re.compile(rb"([+-]\d{1,2}?)(?::?(\d\d))?")
+FIELDS = {mark: re.compile(rb'(?:"([^"]*)"|([^"%b][^%b]*|))(%b|\Z)' % (mark, mark, mark), re.S) for mark in MARKS}
+ROWS = re.compile(rb"\((\d{1,10}) rows?(?: affected)?\)")
 SHOWN = re.compile(rb"(\d{7}) ([-RYGF]{16}) ([-DCW]{16}) ([-RYGF]{4}) ([0-4]) (?:\d{4}|-{4})")
 
 
@@ -110,11 +113,11 @@ def time_text(nanos):
     return f"{at.year:04}-{at:%m-%d %H:%M:%S}.{digits}".encode()
 
 
-def fields(line):
-    """The fields of a line of CSV, or None where a quote is out of place."""
+def fields(line, mark):
+    """The fields of a line that a mark parts, or None where a quote is out of place."""
     found, place = [], 0
     while True:
-        field = FIELD.match(line, place)
+        field = FIELDS[mark].match(line, place)
         if not field:
             return None
         found.append(field[2] if field[1] is None else field[1])
@@ -129,24 +132,36 @@ def number(text):
     return int(text) if is_spelled and int(text) < 1 << 32 else None
 
 
+def plain_names(line, mark):
+    """The fields of a line in small letters and without what does not count in a name."""
+    return [re.sub(rb"[ _-]", b"", field.lower()) for field in fields(line, mark) or []]
+
+
 def columns(line):
-    """The places of the columns that a header names, None for a device that it does not name; or None."""
-    found = [re.sub(rb"[ _-]", b"", field.lower()) for field in fields(line) or []]
-    places = [[at for at, field in enumerate(found) if field in names] for names in NAMES]
-    return [it[0] if it else None for it in places] if all(places[1:]) else None
+    """The places of the columns that a header names, None for a device that it does not name, and its mark; or None."""
+    for mark in MARKS:
+        places = [[at for at, field in enumerate(plain_names(line, mark)) if field in names] for names in NAMES]
+        if all(places[1:]):
+            return [it[0] if it else None for it in places], mark
+    return None
 
 
-def in_places(line, places):
+def usual(line):
+    """The places and the mark of a text without a header that begins with this row."""
+    return USUAL, next((mark for mark in MARKS if len(fields(line, mark) or []) > 2), b",")
+
+
+def in_places(line, places, mark):
     """The fields of a line in these places, or None where one is missing."""
-    found = fields(line)
+    found = fields(line, mark)
     if found is None or any(place is not None and len(found) <= place for place in places):
         return None
     return [b"" if place is None else found[place] for place in places]
 
 
-def row_of(line, places):
+def row_of(line, places, mark):
     """Device, moment, code and parameter of a plain row, or None."""
-    found = in_places(line, places)
+    found = in_places(line, places, mark)
     if found is None:
         return None
     device, time, code, parameter = found
@@ -154,46 +169,62 @@ def row_of(line, places):
     return None if None in row else row
 
 
-def moment_in(form, text):
-    """The moment that a text names in a form, or None."""
+def zone_named(text):
+    """How many minutes the clock of a zone is ahead of that of UTC, or None where the text names no zone."""
+    found = OFFSET.fullmatch(text)
+    if not found:
+        return 0 if text.upper() in (b"Z", b"UTC") else None
+    sign, hours, minutes = -1 if text.startswith(b"-") else 1, int(found[1][1:]), int(found[2] or 0)
+    return sign * (hours * 60 + minutes) if hours < 24 and minutes < 60 else None
+
+
+def moved(nanos, own, zone):
+    """What the clock of a zone shows when one of its own zone shows so much; either may be None."""
+    return nanos if own is None or zone is None else nanos + (zone - own) * 60 * SECOND
+
+
+def moment_in(form, text, zone=None):
+    """The moment that a text names in a form, or None; by the clock of a zone, where one is asked for."""
     if form == "seconds":
-        found = re.fullmatch(rb"(\d{1,10})(?:\.(\d{0,9}))?", text)
+        found = re.fullmatch(rb"(\d{1,10})(?:[.,](\d{0,9}))?", text)
         whole, part = (found[1], found[2] or b"") if found else (b"", b"")
     elif form == "milliseconds":
         found = re.fullmatch(rb"(\d{1,10})(\d{3})", text)
         whole, part = (found[1], found[2]) if found else (b"", b"")
     else:
-        return numbered(form, text)
+        return numbered(form, text, zone)
     if number(whole) is None:
         return None
-    return (EPOCH + int(whole)) * SECOND + int(part.ljust(9, b"0"))
+    return moved((EPOCH + int(whole)) * SECOND + int(part.ljust(9, b"0")), 0, zone)
 
 
-def numbered(form, text):
-    """The moment of a day by numbers and a clock, whatever its zone, or None."""
+def numbered(form, text, zone):
+    """The moment of a day by numbers and a clock, or None."""
     found = FORM_TIME.fullmatch(text)
     if not found:
         return None
-    a, *others, hour, minute, second, part, half, _ = found.groups()
+    a, *others, hour, minute, second, part, half, said = found.groups()
     day = [a, *(it for it in others if it is not None)]
     year, month, of_month = (day[at] for at in ORDERS[form])
-    hours = range(1, 13) if half and half.lower() in (b"am", b"pm") else range(24)
-    if len(year) != 4 or int(hour) not in hours:
+    half = (half or b"").lower()
+    hours = range(1, 13) if half in (b"am", b"pm") else range(24)
+    own = zone_named(said) if said else 0 if half == b"utc" else None
+    if len(year) != 4 or int(hour) not in hours or said and own is None:
         return None
     if len(hours) == 12:
-        hour = int(hour) % 12 + 12 * (half.lower() == b"pm")
+        hour = int(hour) % 12 + 12 * (half == b"pm")
     try:
         at = datetime.datetime(int(year), int(month), int(of_month), int(hour), int(minute), int(second))
     except ValueError:
         return None
     seconds = at.toordinal() * 86400 + at.hour * 3600 + at.minute * 60 + at.second
-    return seconds * SECOND + int((part or b"").ljust(9, b"0"))
+    return moved(seconds * SECOND + int((part or b"").ljust(9, b"0")), own, zone)
 
 
 def form_of(text):
     """The one form in which a text is a time, or None; and whether its month and its day can't be told apart."""
     is_in = {form: moment_in(form, text) is not None for form in FORM_TIMES}
-    is_open = not is_in["year first"] and is_in["month first"] and is_in["day first"]
+    is_open = not is_in["year-first"] and is_in["month-first"] and is_in["day-first"]
     return None if is_open or not any(is_in.values()) else next(form for form in is_in if is_in[form]), is_open
 
 
@@ -203,33 +234,37 @@ def whole(text):
     return None if zeros.strip(b"0") else number(digits)
 
 
-def wide_row(line, places, form):
+def wide_row(line, places, mark, form, zone):
     """Device, form, moment, code and parameter of a row as exports have it; None is a parameter that is no number. None
     where there is no row."""
-    found = in_places(line, places)
+    found = in_places(line, places, mark)
     if found is None:
         return None
     device, time, code, parameter = (field.strip(b" ") for field in found)
     form = form or form_of(time)[0]
-    row = device, form, form and moment_in(form, time), whole(code)
+    row = device, form, form and moment_in(form, time, zone), whole(code)
     return None if None in row else (*row, whole(parameter))
 
 
 def is_passed(line):
-    """Whether a line that is no row is passed over: one that a database draws, or a header."""
-    return bool(b"-" in line and not line.strip(b"-, +|") or columns(line))
+    """Whether a line that is no row is passed over: one that a database draws or counts its rows in, or a header."""
+    is_drawn = b"-" in line and not line.strip(b"-,;\t +|")
+    counted = ROWS.fullmatch(line)
+    return bool(is_drawn or counted and number(counted[1]) is not None or columns(line))
 
 
 def names(line):
-    """Which of the four columns a line names."""
-    found = [re.sub(rb"[ _-]", b"", field.lower()) for field in fields(line) or []]
+    """Which of the four columns a line names, whatever parts its fields."""
+    found = [field for mark in MARKS for field in plain_names(line, mark)]
     return [any(field in names for field in found) for names in NAMES]
 
 
 def is_preface(line):
     """Whether a line is one that a maker writes before the header."""
     is_other = any(re.match(mark, line, re.S) for mark, _ in WHOLE_FAULTS)
-    return not is_other and not any(names(line)[1:3]) and len(fields(line) or [0] * 3) < 3
+    found = {mark: fields(line, mark) for mark in MARKS}
+    is_short = all(found[mark] is not None and len(found[mark]) < 3 for mark in MARKS if mark in line)
+    return not is_other and not any(names(line)[1:3]) and is_short and any(it is not None for it in found.values())
 
 
 def shown(field):
@@ -237,37 +272,43 @@ def shown(field):
     return b'"' + re.sub(rb'[^ !#-~]', b"?", field[:40]) + b'"'
 
 
-def why(line, places, form):
+def why(line, places, mark, form):
     """What is told of a line that is no row, behind `events line N: ` or, of a text without lines, behind `events: `."""
-    for mark, told in WHOLE_FAULTS:
-        if re.match(mark, line, re.S):
+    for begun, told in WHOLE_FAULTS:
+        if re.match(begun, line, re.S):
             return b": " + told
-    found, named = fields(line), names(line)
+    found, named = fields(line, mark), names(line)
     if named[1] or named[2]:
         return b"header: no column is the " + COLUMNS[1 + named[1:].index(False)]
+    if in_places(line, places, mark) is None:
+        other = next((it for it in MARKS if in_places(line, places, it) is not None), None)
+        if other:
+            return b"%b part its fields, and %b those above: one separator a file" % (MARKS[other], MARKS[mark])
     if found is None:
         return b"a quote is out of place"
     for column, place in zip(COLUMNS, places):
         if place is not None and len(found) <= place:
             return column + b": the line ends before it"
-    _, time, code, parameter = (field.strip(b" ") for field in in_places(line, places))
+    _, time, code, parameter = (field.strip(b" ") for field in in_places(line, places, mark))
     own, is_open = form_of(time)
-    if moment_in(form or own or "year first", time) is None:
-        return b"time: " + shown(time) + time_fault(time, form, is_open)
+    if moment_in(form or own or "year-first", time) is None:
+        return b"time: " + shown(time) + time_fault(time, form, own, is_open)
     if whole(code) is None:
         return b"code: " + shown(code) + NO_NUMBER
     return b"parameter: " + shown(parameter) + NO_NUMBER
 
 
-def time_fault(time, form, is_open):
+def time_fault(time, form, own, is_open):
     """What is wrong with a time."""
     if is_open and not form:
         return TWO_WAYS
-    if b":" in time and b"-" not in time and b"/" not in time:
+    if b":" in time and not re.search(rb"[-/]|^[^:]*\.", time):
         return NO_DAY
     if b":" in time and not time.partition(b":")[2].partition(b":")[2]:
         return NO_SECONDS
-    return b" is no time as " + FORM_TIMES[form or "year first"]
+    if own:
+        return f" is {own}, not {form}: one form a file, by the first row or --time-form".encode()
+    return b" is no time as " + FORM_TIMES[form or "year-first"]
 
 
 def lines_of(text):
@@ -319,10 +360,10 @@ def known_log(begin, wires, events):
     return log_of_events(begin, wires, events, tick_of(begin, events[-1][0]) if events else 0)
 
 
-def taken(lines, begin, device, wires):
+def taken(lines, begin, device, wires, form=None, zone=None):
     """The events that lines tell of inputs, how many rows are of other devices, how many events are of channels without
     an input, how many lines are passed over, and whether there is a header or a row. A fault is raised."""
-    events, last, others, lost, passed, places, form = [], 0, 0, 0, 0, None, None
+    events, last, others, lost, passed, places, mark = [], 0, 0, 0, 0, None, None
 
     def fault(told):
         raise Fault(b"events" + told + b"\n", known_log(begin, wires, events))
@@ -335,22 +376,22 @@ def taken(lines, begin, device, wires):
             continue
         if places is None:
             if columns(line):
-                places = columns(line)
+                places, mark = columns(line)
                 if device is not None and places[0] is None:
                     fault(b" line %d: header: no column is the device" % count)
                 continue
             if is_preface(line):
                 passed += 1
                 continue
-            places = USUAL
-        row = row_of(line, places) if form in (None, "year first") else None
+            places, mark = usual(line)
+        row = row_of(line, places, mark) if form in (None, "year-first") else None
         if row is None and is_passed(line):
             passed += 1
             continue
-        wide = (row[0], "year first", *row[1:]) if row else wide_row(line, places, form)
+        wide = (row[0], "year-first", *row[1:]) if row else wide_row(line, places, mark, form, zone)
         counts = wide and device in (None, wide[0])
         if wide is None or wide[4] is None and counts and wide[3] in CODES:
-            told = why(line, places, form)
+            told = why(line, places, mark, form)
             fault(told if told.startswith(b": ") else b" line %d: %b" % (count, told))
         of, form, at, code, channel = wide
         if not counts:
@@ -369,10 +410,10 @@ def taken(lines, begin, device, wires):
     return events, others, lost, passed, places is not None
 
 
-def log(text, begin, device=None, mapped=()):
+def log(text, begin, device=None, mapped=(), form=None, zone=None):
     """The log that a text of events tells from a moment on, and what standard error has. A fault is raised."""
     wires = wires_of(mapped)
-    events, others, lost, passed, is_found = taken(lines_of(text), begin, device, wires)
+    events, others, lost, passed, is_found = taken(lines_of(text), begin, device, wires, form, zone)
     if passed and not is_found:
         raise Fault(NOTHING, b"")
     told = f"left out: {others} rows of other devices, {lost} events of channels without an input, " \

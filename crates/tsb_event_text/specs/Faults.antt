@@ -177,12 +177,16 @@ is_other line = is_utf16 line || (is_packed line || (is_xml line || has_byte 0 l
 abbrev pub has_some_fields : List ℕ → Bool
 has_some_fields line = are_there (fields_of 44 line) || (are_there (fields_of 59 line) || are_there (fields_of 9 line))
 
--- by one of them it has a third field
-abbrev pub has_some_third : List ℕ → Bool
-has_some_third line = has_third 44 line || (has_third 59 line || has_third 9 line)
+-- this mark stands in a line, and parts it into more than two fields, or leaves a quote out of place
+abbrev pub has_more : ℕ → List ℕ → Bool
+has_more mark line = has_byte mark line && (not (are_there (fields_of mark line)) || has_third mark line)
 
--- a line that a maker writes before the header: it names no time and no code, and has less than three fields, whatever
--- parts them
+-- one of them does so
+abbrev pub has_some_more : List ℕ → Bool
+has_some_more line = has_more 44 line || (has_more 59 line || has_more 9 line)
+
+-- a line that a maker writes before the header: it names no time and no code, and each separator in it leaves one or two
+-- fields
 unfoldable pub is_preface : List ℕ → Bool
 is_preface line =
-    not (is_other line) && (not (is_named Time line || is_named Code line) && (has_some_fields line && not (has_some_third line)))
+    not (is_other line) && (not (is_named Time line || is_named Code line) && (has_some_fields line && not (has_some_more line)))

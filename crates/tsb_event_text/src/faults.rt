@@ -1,7 +1,7 @@
 //! Why a line is no row.
 ghost use Rattle.std.specs.Prelude.{◌≡◌, option_map};
 ghost use Rattle.tsb_event_text.specs.Fields.{fields_of, is_field};
-ghost use Rattle.tsb_event_text.specs.Faults.{are_columns, begins, fault_of, form_fault, form_or, has_no_second, has_some_fields, has_some_third, header_fault, is_dated, is_named, is_named_in, is_open, is_other, is_packed, is_place, is_preface, is_utf16, is_xml, line_fault, parts_fault, row_fault_of, shown_of, three_fault, time_at, time_fault};
+ghost use Rattle.tsb_event_text.specs.Faults.{are_columns, begins, fault_of, form_fault, form_or, has_no_second, has_more, has_some_fields, has_some_more, header_fault, is_dated, is_named, is_named_in, is_open, is_other, is_packed, is_place, is_preface, is_utf16, is_xml, line_fault, parts_fault, row_fault_of, shown_of, three_fault, time_at, time_fault};
 
 use crate::columns::{Column, Columns, Separator, place};
 use crate::events::has_byte;
@@ -76,8 +76,8 @@ pub fn row_fault(line: &[u8], columns: Columns, times: Option<TimeForm>) -> RowF
     line_fault(line, columns, times)
 }
 
-/// Whether a line is one that a maker writes before the header: it names no time and no code, has less than three
-/// fields, whatever parts them, and is of no other kind of file.
+/// Whether a line is one that a maker writes before the header: it names no time and no code, each separator in it leaves
+/// one or two fields, and it is of no other kind of file.
 #[tactic(auto, unfolding(crate::specs::Faults::is_preface))]
 pub fn is_preface(line: &[u8]) -> bool
     ensures { result ≡ is_preface line.now }
@@ -85,7 +85,7 @@ pub fn is_preface(line: &[u8]) -> bool
     !is_other(line)
         && !(is_named(line, Column::Time) || is_named(line, Column::Code))
         && has_some_fields(line)
-        && !has_some_third(line)
+        && !has_some_more(line)
 }
 
 /// Whether a line is of another kind of file.
@@ -102,11 +102,18 @@ fn has_some_fields(line: &[u8]) -> bool
     has_fields(b',', line) || has_fields(b';', line) || has_fields(b'\t', line)
 }
 
-/// Whether a line has a third field by one of them.
-fn has_some_third(line: &[u8]) -> bool
-    ensures { result ≡ has_some_third line.now }
+/// Whether one of the separators stands in a line, and parts it into more than two fields, or leaves a quote out of place.
+fn has_some_more(line: &[u8]) -> bool
+    ensures { result ≡ has_some_more line.now }
 {
-    has_third(b',', line) || has_third(b';', line) || has_third(b'\t', line)
+    has_more(b',', line) || has_more(b';', line) || has_more(b'\t', line)
+}
+
+/// Whether this mark does so.
+fn has_more(mark: u8, line: &[u8]) -> bool
+    ensures { result ≡ has_more mark line.now }
+{
+    has_byte(mark, line) && (!has_fields(mark, line) || has_third(mark, line))
 }
 
 /// What is wrong with a line of a text of lines.
