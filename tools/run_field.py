@@ -118,53 +118,72 @@ HEADERS = [
     b"EventValue,Code,Time,INTERSECTION-ID,",
 ]
 FRONTS = [b"", b"", b"Version: 3\n", b"C:\\log.dat\nPhases in use: 1 2 3\n", b"# remark\n\n"]
-SUFFIXES = {"year first": ["", "", "Z", "+00:00", "-0700", " +01"], "month first": ["", "", " UTC"], "day first": ["", "Z"]}
+SUFFIXES = {
+    "year-first": ["", "", "Z", "+00:00", "-0700", " +01", "+530", " UTC"], "month-first": ["", "", " UTC", "-07:00"],
+    "day-first": ["", "Z", " +05:30"],
+}
 
 
-def random_time(chance, nanos, form, suffix):
-    """A moment in a form."""
+def random_time(chance, nanos, form, suffix, point):
+    """A moment in a form, with a point or a comma before its fraction."""
     if form == "seconds":
         seconds, part = divmod(nanos - field_rules.EPOCH * field_rules.SECOND, field_rules.SECOND)
-        return f"{seconds}.{part:09}".rstrip("0").rstrip(chance.choice([".", ""]))
+        return f"{seconds}{point}{part:09}".rstrip("0").rstrip(chance.choice([point, ""]))
     if form == "milliseconds":
         return str((nanos - field_rules.EPOCH * field_rules.SECOND) // 10 ** 6)
     day, clock = field_rules.time_text(nanos).decode().split(" ")
     year, month, of_month = day.split("-")
-    order = {"year first": [year, month, of_month], "month first": [month, of_month, year], "day first": [of_month, month, year]}
-    hour, rest = clock.split(":", 1)
+    order = {"year-first": [year, month, of_month], "month-first": [month, of_month, year], "day-first": [of_month, month, year]}
+    hour, rest = clock.replace(".", point).split(":", 1)
     half = ""
-    if not suffix and chance.randrange(2) and form != "year first":
+    if not suffix and chance.randrange(2) and form != "year-first":
         half = chance.choice([" AM", " am"]) if int(hour) < 12 else " PM"
         hour = str((int(hour) + 11) % 12 + 1)
-    mark = "-" if form == "year first" else chance.choice("/-")
-    return f"{mark.join(order[form])} {hour}:{rest}{half}{suffix}"
+    mark = "-" if form == "year-first" else chance.choice("/-.")
+    return f"{mark.join(order[form])}{chance.choice(['T', ' ', ' '])}{hour}:{rest}{half}{suffix}"
+
+
+def row_text(chance, said, places, width, space, mark):
+    """A row with what is said in its places; a field that has the mark is in quotes, mostly."""
+    row = ["x"] * width
+    for place, field in zip(places, said):
+        if place is not None:
+            is_quoted = mark in field and chance.randrange(20) or not space and chance.randrange(20) == 0
+            row[place] = f'"{field}"' if is_quoted else space + field + space
+    return mark.join(row)
 
 
 def random_export(chance):
     """An export in a form at random, with a fault now and then."""
-    header, form = chance.choice(HEADERS), chance.choice(list(field_rules.FORM_TIMES))
-    places = field_rules.columns(header) or field_rules.USUAL
+    header, form, mark = chance.choice(HEADERS), chance.choice(list(field_rules.FORM_TIMES)), chance.choice(",,,;;\t")
+    places = (field_rules.columns(header) or [field_rules.USUAL])[0]
     width = max(place for place in places if place is not None) + 1 + chance.choice([0, 0, 1])
     suffix = chance.choice(SUFFIXES.get(form, [""]))
-    space, zeros = chance.choice(["", "", " "]), chance.choice(["", "", ".0", ".00"])
+    space, zeros, point = chance.choice(["", "", " "]), chance.choice(["", "", ".0", ".00"]), chance.choice("..,")
+    device = chance.choice(["7", "7", "7", "7, Main", "7;Main", "7\tM"])
     day = chance.choice([0, 0, 0, -17 * 86_400, 86_400])
     now = BEGIN + day * field_rules.SECOND
-    lines = [header] if header else []
+    front = header.replace(b",", mark.encode())
+    lines = [front] if header else []
     for _ in range(chance.randrange(30)):
         now += chance.choice([0, 1, 3, 70]) * 10 ** 8
         code = chance.choice([82, 81, 90, 89, 102, 104, 1, 150])
         channel = str(chance.choice([1, 1, 2, 4, 17])) + zeros
         if chance.randrange(150 if code in field_rules.CODES else 3) == 0:
             channel = chance.choice(["NULL", "-1", ""])
-        said = [chance.choice(["7", "7", "8"]), random_time(chance, now, form, suffix), f"{code}{zeros}", channel]
-        row = ["x"] * width
-        for place, field in zip(places, said):
-            if place is not None:
-                row[place] = space + field + space
-        lines.append(",".join(row).encode())
-        spoilt = chance.randrange(80)
-        if spoilt < 5:
-            lines.append([b"---,---,---,---", header or b"-", b"x", b"7,07:00:03,82,1", lines[-1][:-3]][spoilt])
+        time = random_time(chance, now, form, suffix, point)
+        said = [chance.choice([device, device, "8"]), time, f"{code}{zeros}", channel]
+        lines.append(row_text(chance, said, places, width, space, mark).encode())
+        spoilt = chance.randrange(120)
+        if spoilt < 8:
+            other = chance.choice([it for it in field_rules.MARKS if it != mark.encode()])
+            turned = random_time(chance, now, chance.choice(list(field_rules.FORM_TIMES)), "", ".")
+            said[1] = turned
+            lines.append([
+                b"---,---,---,---".replace(b",", mark.encode()), front or b"-", b"x", b"7,07:00:03,82,1", lines[-1][:-3],
+                lines[-1].replace(mark.encode(), other), row_text(chance, said, places, width, space, mark).encode(),
+                b"(%d rows affected)" % len(lines),
+            ][spoilt])
     return chance.choice(FRONTS) + b"".join(line + b"\n" for line in lines)
 
 
