@@ -10,8 +10,8 @@ from tsb import Error, Log, frames
 
 START = "2026-11-22 07:00:00"
 # The files of tools/exports that are read, by the letters and numbers of their names.
-READ = """a01 a02 a05 a06 a07 a08 a09 a10 a11 a12 a13 a14 a15 a17 a18 a20 a21 a22 a23 a24
-    a25 a28 a30 a36 a37""".split()
+READ = """a01 a02 a05 a06 a07 a08 a09 a10 a11 a12 a13 a14 a15 a16 a17 a18 a20 a21 a22 a23
+    a24 a25 a28 a30 a31 a33 a35 a36 a37""".split()
 RANDOM = 60
 
 
@@ -63,7 +63,12 @@ TIMES = {
     "11/22/2026 12:00:03.25 AM": "2026-11-22 00:00:03.25",
     "11-22-2026 12:00:03 PM": "2026-11-22 12:00:03",
     "22/11/2026 07:00:03": "2026-11-22 07:00:03",
+    "2026-11-22 07:00:03,2": "2026-11-22 07:00:03.2",
+    "2026-11-22T07:00:03.2 UTC": "2026-11-22 07:00:03.2",
+    "22.11.2026 07:00:03,200": "2026-11-22 07:00:03.2",
+    "11/22/2026 7:00:03 PM-0700": "2026-11-22 19:00:03",
     "1795330803.2": "2026-11-22 07:00:03.2",
+    "1795330803,2": "2026-11-22 07:00:03.2",
     "1795330803200": "2026-11-22 07:00:03.2",
 }
 
@@ -76,12 +81,37 @@ def test_times_by_hand(text: str) -> None:
     assert found["time"][0] == pd.Timestamp(TIMES[text]) and found["code"][0] == 82
 
 
+# What parts fields: without a header the first row says it.
+PARTED = {
+    "7;2026-11-22 07:00:03,2;82;4": ["7", 82, 4],
+    "7;2026-11-22 07:00:03,2;82.0;4;": ["7", 82, 4],
+    "7\t2026-11-22 07:00:03,2\t82\t4": ["7", 82, 4],
+    '"7, Main";"2026-11-22 07:00:03,2";"82";"4"': ["7, Main", 82, 4],
+    '"7;8","2026-11-22 07:00:03,2",82,4,a;b;c': ["7;8", 82, 4],
+    "Id;Version\nTime;Code;Param\n2026-11-22 07:00:03,2;82;4": ["", 82, 4],
+    "Version;3\nParam\tx\tCode\tTime\n4\t\t82\t2026-11-22 07:00:03,2": ["", 82, 4],
+    "Time;Code;Param\n----;----;-----\n2026-11-22 07:00:03.2;82;4\n\n(1 row)": ["", 82, 4],
+}
+
+
+@pytest.mark.parametrize("text", PARTED)
+def test_fields_are_parted(tmp_path: Path, text: str) -> None:
+    """By semicolons and tabs as well."""
+    path = tmp_path / "export.csv"
+    path.write_text(text)
+    found = frames.read_export(path)
+    assert found["time"].to_list() == [pd.Timestamp("2026-11-22 07:00:03.2")]
+    assert found[["device", "code", "parameter"]].to_numpy().tolist() == [PARTED[text]]
+
+
 FAULTS = {
     "03/04/2026 07:00:03,82,4": "line 2: time .* its month or its day first",
     "00:03.2,82,4": "line 2: time '00:03.2' is no time as 2026-11-22 07:00:00.1",
     "2026-11-22 07:00:03,82,4\n11/23/2026 07:00:03,82,4": "line 3: time .* of the form",
     "2026-11-31 07:00:03,82,4": "line 2: time '2026-11-31 07:00:03' is no time",
     "2026-11-22 07:00:03,82.5,4": "line 2: code '82.5' is no whole number",
+    "2026-11-22 07:00:03+24:00,82,4": "line 2: time .* is no time",
+    "2026-11-22 07:00:03,82,4\n2026-11-22 07:00:03;82;4": "line 3: code '' is no",
     "2026-11-22 07:00:03,82,NULL": "line 2: parameter 'NULL' is no whole number",
     '2026-11-22 07:00:03,"82,4\n2026-11-22 07:00:04,81",4': "a quote is out of place",
 }

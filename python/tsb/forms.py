@@ -16,8 +16,10 @@ import pandas as pd
 from tsb.errors import Error
 from tsb.manual import COLUMNS
 
-# A line that a database draws below a header.
-_DRAWN = re.compile(r"[-, +|]*-[-, +|]*")
+# What parts the fields of a line, the likeliest first.
+_SEPARATORS = ",;\t"
+# A line that a database draws below a header, or in which it counts its rows.
+_DRAWN = re.compile(r"[-,;\t +|]*-[-,;\t +|]*|\(\d{1,10} rows?(?: affected)?\)")
 _FILLERS = str.maketrans("", "", " _-")
 _WHOLE = r"(\d{1,10})(?:\.0*)?"
 LARGEST = (1 << 32) - 1
@@ -29,10 +31,11 @@ _PLAIN = r"\d{4}-\d\d-\d\d[ T]\d\d:\d\d:\d\d(?:\.\d{1,9})?"
 # Three numbers of a day, three of a clock, a fraction of a second, and the half of the
 # day; a zone behind them does not count.
 _CLOCKED = (
-    r"(?i:(\d{1,10})([/-])(\d{1,10})\2(\d{1,10})[ T](\d{1,10}):(\d{1,10}):(\d{1,10})"
-    r"(?:\.(\d{0,9}))? ?(am|pm)?(?: ?utc| ?z| ?[+-]\d\d(?::?\d\d)?)?)"
+    r"(\d{1,10})([-/.])(\d{1,10})\2(\d{1,10})[ T](\d{1,10}):(\d{1,10}):(\d{1,10})"
+    r"(?:[.,](\d{0,9}))?(?: |(?i: (am|pm))|(?i: utc))?"
+    r"(?:Z|[-+](?:[01]?\d|2[0-3])(?::?[0-5]\d)?)?"
 )
-_SINCE_1970 = r"(\d{1,10})(?:\.(\d{0,9}))?|(\d{4,13})"
+_SINCE_1970 = r"(\d{1,10})(?:[.,](\d{0,9}))?|(\d{4,13})"
 # Where year, month and day are among the three numbers of a day.
 _ORDERS = {"year": (0, 1, 2), "month": (2, 0, 1), "day": (2, 1, 0)}
 
@@ -52,15 +55,17 @@ def columns_of(text: str) -> pd.DataFrame:
     if not lines:
         return pd.DataFrame(columns=usual)
     # (a maker may write lines before the header, and a database draws one below it)
-    first = next((at for at, line in lines.items() if line.count(",") >= 2), None)
+    first = next((at for at, line in lines.items() if _has_three(line)), None)
     if first is None:
-        raise Error("no header and no row: put commas between its fields")
+        raise Error(
+            "no header and no row: put commas, semicolons or tabs between its fields"
+        )
     rows = {
         number: line
         for number, line in lines.items()
-        if number >= first and not (line[0] in "-, +|" and _DRAWN.fullmatch(line))
+        if number >= first and not (line[0] in "-,;\t +|(" and _DRAWN.fullmatch(line))
     }
-    table = _fields(rows)
+    table = _fields(rows, _separator(lines[first]))
     places = _named(table.iloc[0])
     if not places:
         return table.rename(columns=dict(zip(table.columns, usual, strict=False)))
@@ -71,14 +76,45 @@ def columns_of(text: str) -> pd.DataFrame:
     return table[~again].set_axis(table.iloc[0], axis=1)
 
 
-def _fields(rows: dict[int, str]) -> pd.DataFrame:
-    """The fields of lines, without the spaces around them."""
-    most = max(line.count(",") for line in rows.values()) + 1
+def _has_three(line: str) -> bool:
+    """Whether some separator parts a line into three fields or more."""
+    return any(line.count(mark) >= 2 for mark in _SEPARATORS)
+
+
+def _separator(line: str) -> str:
+    """What parts the fields of a header, or of a first row: the first that names the
+    columns, or that makes three fields."""
+    parted = {mark: _parted(line, mark) for mark in _SEPARATORS}
+    named = [mark for mark, names in parted.items() if len(_needed(names)) == 3]
+    several = [mark for mark, fields in parted.items() if len(fields) > 2]
+    return (named + several + [","])[0]
+
+
+def _needed(names: Iterable[object]) -> set[str]:
+    """The columns that names have, of those that may not be missing."""
+    return _named(names).keys() - {"device"}
+
+
+def _parted(line: str, mark: str) -> list[str]:
+    """The fields of a line that a mark parts; none where a quote is out of place."""
+    field = rf'"([^"]*)"|([^"{mark}][^{mark}]*|)'
+    if not re.fullmatch(rf"(?:(?:{field}){mark})+", line + mark):
+        return []
+    found = re.finditer(rf"(?:{field}){mark}", line + mark)
+    return [it[1] if it[2] is None else it[2] for it in found]
+
+
+def _fields(rows: dict[int, str], mark: str) -> pd.DataFrame:
+    """The fields of lines that a mark parts, without the spaces around them."""
+    most = max(
+        len(_parted(line, mark)) if '"' in line else line.count(mark) + 1
+        for line in rows.values()
+    )
     try:
         table = pd.read_csv(
             io.StringIO("\n".join(rows.values())),
-            header=None, names=list(range(most)), dtype=str, na_filter=False,
-            skipinitialspace=True, lineterminator="\n",
+            sep=mark, header=None, names=list(range(max(most, 1))), dtype=str,
+            na_filter=False, skipinitialspace=True, lineterminator="\n",
         )  # fmt: skip
     except ValueError as fault:
         raise Error(f"the export is no CSV: {fault}") from None

@@ -1,3 +1,5 @@
 -- Computed examples of the definitions, and mistakes that they refuse.
 pub mod LineExamples
 pub mod LineMistakes
+pub mod FormExamples
+pub mod FormMistakes

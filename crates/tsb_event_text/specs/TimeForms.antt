@@ -188,8 +188,8 @@ day_said form day = day_with form (day_mark day) day
 
 -- the moment so many nanoseconds after a day has begun, by a clock of this zone
 abbrev pub moment_on : Option Zone → Option ℕ → Option ℕ → Option Zone → Option Moment
-moment_on zone (Some day) (Some nanos) (Some own) = Some (record { nanos = moved zone own (day * 86400000000000 + nanos) })
-moment_on zone day nanos own = None
+moment_on asked (Some day) (Some nanos) (Some own) = Some (record { nanos = moved asked own (day * 86400000000000 + nanos) })
+moment_on asked day nanos own = None
 
 -- the byte between a day and a clock: T, where one stands before the first space, or else a space
 abbrev pub clock_mark : List ℕ → ℕ
@@ -205,9 +205,9 @@ numbered form zone text = with_clock form zone (before (clock_mark text) text) (
 
 -- so many seconds and nanoseconds after 1970 began by the clock of UTC
 abbrev pub moment_after : Option Zone → Option ℕ → Option ℕ → Option Moment
-moment_after zone (Some second) (Some nano) =
-    Some (record { nanos = moved zone utc ((377705116800 + second) * 1000000000 + nano) })
-moment_after zone second nano = None
+moment_after asked (Some second) (Some nano) =
+    Some (record { nanos = moved asked utc ((377705116800 + second) * 1000000000 + nano) })
+moment_after asked second nano = None
 
 -- without its last three bytes
 abbrev pub without_three : List ℕ → List ℕ

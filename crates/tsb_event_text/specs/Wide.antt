@@ -55,8 +55,8 @@ wide_said ours form moment code parameter = None
 
 -- the row of a time, where its form is known
 abbrev pub wide_timed : Bool → Option TimeForm → Option Zone → List ℕ → Option ℕ → Option ℕ → Option WideRow
-wide_timed ours None zone time code parameter = None
-wide_timed ours (Some form) zone time code parameter = wide_said ours form (moment_in form zone time) code parameter
+wide_timed ours None clock time code parameter = None
+wide_timed ours (Some form) clock time code parameter = wide_said ours form (moment_in form clock time) code parameter
 
 -- the row of four fields without spaces around them
 abbrev pub wide_fields : Option (List ℕ) → Option TimeForm → Option Zone → List ℕ → List ℕ → List ℕ → List ℕ → Option WideRow
@@ -65,9 +65,9 @@ wide_fields asked times zone device time code parameter =
 
 -- the row of four fields, where they are there
 abbrev pub wide_with : Option (List ℕ) → Option TimeForm → Option Zone → Option (List ℕ) → Option (List ℕ) → Option (List ℕ) → Option (List ℕ) → Option WideRow
-wide_with asked times zone (Some device) (Some time) (Some code) (Some parameter) =
-    wide_fields asked times zone (trimmed device) (trimmed time) (trimmed code) (trimmed parameter)
-wide_with asked times zone device time code parameter = None
+wide_with asked times clock (Some device) (Some time) (Some code) (Some parameter) =
+    wide_fields asked times clock (trimmed device) (trimmed time) (trimmed code) (trimmed parameter)
+wide_with asked times clock device time code parameter = None
 
 -- the row of a line's fields
 abbrev pub wide_in : Columns → Option TimeForm → Option Zone → Option (List ℕ) → Option (List (List ℕ)) → Option WideRow

@@ -158,7 +158,7 @@ fn has_columns(mark: u8, line: &[u8], columns: Columns) -> bool
 
 /// Whether there is a field.
 fn is_field(field: Option<&[u8]>) -> bool
-    ensures { result ≡ is_field (option_map (λ field. field.now) field) }
+    ensures { result ≡ is_field (option_map (λ bytes. bytes.now) field.entry) }
 {
     match field {
         Some(_) => true,

@@ -24,7 +24,7 @@ pub fn fields_are_parted_again()
 
 /// What a row says does not hang on the separator that parts it, be it a plain row or one as exports have it.
 ///
-/// Mistakes: `header-says` of FormMistakes: rows that are read by the header's columns with commas, whatever it has.
+/// Mistake: `header-says` of FormMistakes: rows that are read by the header's columns with commas, whatever it has.
 /// Witness: `semicolons-free` of FormExamples, read in `semicolons-say`.
 pub fn separators_say_the_same()
     ensures { AreReadAlike }
@@ -32,7 +32,7 @@ pub fn separators_say_the_same()
 
 /// A text without a header that begins with the line of an event has the usual columns, parted by commas.
 ///
-/// Mistakes: `two-fields` of FormMistakes: of a line with two fields no separator is known.
+/// Mistake: `two-fields` of FormMistakes: of a line with two fields no separator is known.
 /// Witness: `begins-so` of FormExamples.
 pub fn first_lines_are_usual()
     ensures { BeginsAsUsual }
@@ -40,7 +40,7 @@ pub fn first_lines_are_usual()
 
 /// One instant is one moment on the clock of the zone that is asked for, whichever zone's clock tells it.
 ///
-/// Mistakes: `offset-added` of FormMistakes: the offset is added where it has to be taken away.
+/// Mistake: `offset-added` of FormMistakes: the offset is added where it has to be taken away.
 /// Witness: `one-instant` of FormExamples.
 pub fn instants_are_one_moment()
     ensures { AreOneMoment }
@@ -48,7 +48,7 @@ pub fn instants_are_one_moment()
 
 /// A clock of the zone that is asked for counts as it shows.
 ///
-/// Mistakes: `offset-added` of FormMistakes.
+/// Mistake: `offset-added` of FormMistakes.
 /// Witness: any zone and any time; `one-instant` of FormExamples has some.
 pub fn own_clocks_stay()
     ensures { OwnClocksStay }
@@ -56,7 +56,7 @@ pub fn own_clocks_stay()
 
 /// The word of a form of times names it.
 ///
-/// Mistakes: `one-word` of FormMistakes: two forms have one word.
+/// Mistake: `one-word` of FormMistakes: two forms have one word.
 /// Witness: each form.
 pub fn forms_are_named()
     ensures { FormsAreNamed }

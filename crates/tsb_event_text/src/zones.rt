@@ -100,9 +100,9 @@ fn zone_sign(clock: &[u8]) -> u8
     if has_byte(b'+', clock) { b'+' } else { b'-' }
 }
 
-/// The zone of a clock: that which it says, or else this one. `None` where what it says is no zone.
-pub(crate) fn own_zone(zone: Zone, clock: &[u8]) -> Option<Zone>
-    ensures { result ≡ own_zone zone clock.now }
+/// The zone of a clock: that which it says, or else the one that is asked for. `None` where what it says is no zone.
+pub(crate) fn own_zone(asked: Zone, clock: &[u8]) -> Option<Zone>
+    ensures { result ≡ own_zone asked clock.now }
 {
     let sign = zone_sign(clock);
     if has_byte(sign, clock) {
@@ -113,7 +113,7 @@ pub(crate) fn own_zone(zone: Zone, clock: &[u8]) -> Option<Zone>
     if mark.eq_ignore_ascii_case(b"utc") {
         return Some(UTC);
     }
-    Some(zone)
+    Some(asked)
 }
 
 /// The nanoseconds of a day that a clock shows, whatever its zone.

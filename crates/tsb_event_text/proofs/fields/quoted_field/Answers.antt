@@ -16,14 +16,14 @@ returns-then-is_empty-clause-first c =
     (λ k lt e. c.in_ok-end.ensures.0.before k (omega arith) lt (eq-eqb (get_or c.args.line.now k 0) 34 e))
     (eqb-true (get_or c.args.line.now c.in_ok-end.end 0) 34 c.in_ok-end.ensures.1) (ap length (sym b) ∙ none)
 
-pub returns-then-behind-nemark-clause-first : goal.returns-then-behind-nemark-clause-first
-returns-then-behind-nemark-clause-first c =
+pub returns-then-behind-mark-clause-first : goal.returns-then-behind-mark-clause-first
+returns-then-behind-mark-clause-first c =
     let b = behind c.args.line.now c.in_ok-end.end c.in_ok-end.ensures.0.high in
     let some : 0 < length (take (length c.args.line.now - (c.in_ok-end.end + 1)) (drop (c.in_ok-end.end + 1) c.args.line.now)) = search (rules, c.is_empty.ensures, c.if-is_empty.false) in
     quoted-other c.args.mark c.args.line.now c.in_ok-end.end c.in_ok-end.ensures.0.high
     (λ k lt e. c.in_ok-end.ensures.0.before k (omega arith) lt (eq-eqb (get_or c.args.line.now k 0) 34 e))
     (eqb-true (get_or c.args.line.now c.in_ok-end.end 0) 34 c.in_ok-end.ensures.1) (subst (λ (v : List ℕ). 0 < length v) b some)
-    (λ e. c.if-behind-nemark.true (ap (λ (v : List ℕ). get_or v 0 0) b ∙ e))
+    (λ e. c.if-behind-mark.true (ap (λ (v : List ℕ). get_or v 0 0) b ∙ e))
 
 pub returns-clause-first : goal.returns-clause-first
 returns-clause-first c =
@@ -32,6 +32,6 @@ returns-clause-first c =
     quoted-mark c.args.mark c.args.line.now c.in_ok-end.end c.in_ok-end.ensures.0.high
     (λ k lt e. c.in_ok-end.ensures.0.before k (omega arith) lt (eq-eqb (get_or c.args.line.now k 0) 34 e))
     (eqb-true (get_or c.args.line.now c.in_ok-end.end 0) 34 c.in_ok-end.ensures.1) (subst (λ (v : List ℕ). 0 < length v) b some)
-    (ap (λ (v : List ℕ). get_or v 0 0) (sym b) ∙ c.if-behind-nemark.false)
+    (ap (λ (v : List ℕ). get_or v 0 0) (sym b) ∙ c.if-behind-mark.false)
     ∙ ap (λ (v : List ℕ). with_field (take c.in_ok-end.end c.args.line.now) (fields_of c.args.mark v))
     (ap (drop 1) (sym b) ∙ sym (tail (take (length c.args.line.now - (c.in_ok-end.end + 1)) (drop (c.in_ok-end.end + 1) c.args.line.now))))
