@@ -10,8 +10,8 @@ from tsb import Error, Log, frames
 
 START = "2026-11-22 07:00:00"
 # The files of tools/exports that are read, by the letters and numbers of their names.
-READ = """a01 a02 a05 a06 a07 a08 a09 a10 a11 a12 a13 a14 a15 a16 a17 a18 a20 a21 a22 a23
-    a24 a25 a28 a30 a31 a33 a35 a36 a37""".split()
+READ = """a01 a02 a05 a06 a07 a08 a09 a10 a11 a12 a13 a14 a15 a16 a17 a18 a20 a21 a22
+    a23 a24 a25 a28 a30 a31 a33 a35 a36 a37""".split()
 RANDOM = 60
 
 
@@ -90,7 +90,7 @@ PARTED = {
     '"7;8","2026-11-22 07:00:03,2",82,4,a;b;c': ["7;8", 82, 4],
     "Id;Version\nTime;Code;Param\n2026-11-22 07:00:03,2;82;4": ["", 82, 4],
     "Version;3\nParam\tx\tCode\tTime\n4\t\t82\t2026-11-22 07:00:03,2": ["", 82, 4],
-    "Time;Code;Param\n----;----;-----\n2026-11-22 07:00:03.2;82;4\n\n(1 row)": ["", 82, 4],
+    "Time;Code;Param\n--;--;--\n2026-11-22 07:00:03.2;82;4\n\n(1 row)": ["", 82, 4],
 }
 
 

@@ -2,8 +2,9 @@
 //! passed over. Expected values are worked by hand from the rules.
 
 use tsb_event_text::{
-    Columns, Moment, Separator, TimeForm, WideRow, form_of, header, is_ambiguous, is_passed,
-    is_preface, moment_in, wide_row,
+    Column, Columns, EventRow, Moment, RowFault, Separator, TimeForm, WideRow, Zone, event_row,
+    form_of, header, is_ambiguous, is_passed, is_preface, moment_in, row_fault, time_form_named,
+    time_form_word, wide_row, zone_named,
 };
 
 /// The nanoseconds from -9999-01-01 to 1970-01-01, 4,371,587 days, and from there to 2026-11-22 00:00:00: 56 years of
@@ -265,4 +266,269 @@ fn prefaces_are_passed() -> bool {
 #[test]
 fn some_lines_are_passed_over(rt: HostRuntime) {
     assert!(rt; drawn_lines_are_passed() && prefaces_are_passed());
+}
+
+/// Whether a header has this separator, its columns standing in the usual order.
+fn is_usual(line: &[u8], separator: Separator) -> bool {
+    header(line)
+        == Some(Columns {
+            device: Some(0),
+            time: 1,
+            code: 2,
+            parameter: 3,
+            separator,
+        })
+}
+
+/// Whether headers say what parts fields.
+fn headers_say_separators() -> bool {
+    is_usual(b"SignalID,Timestamp,EventCode,EventParam", Separator::Comma)
+        && is_usual(
+            b"SignalID;Timestamp;EventCode;EventParam;",
+            Separator::Semicolon,
+        )
+        && is_usual(b"\"Signal ID\"\ttime\tcode\tparam", Separator::Tab)
+        && header(b"SignalID;Timestamp,EventCode;EventParam").is_none()
+}
+
+/// Whether first rows say it where there is no header.
+fn first_rows_say_separators() -> bool {
+    Columns::usual_of(b"7,2026-11-22 07:00:03.2,82,4").separator == Separator::Comma
+        && Columns::usual_of(b"7;2026-11-22 07:00:03,2;82;4").separator == Separator::Semicolon
+        && Columns::usual_of(b"7\t2026-11-22 07:00:03,2\t82\t4").separator == Separator::Tab
+        && Columns::usual_of(b"\"7;8\",\"a;b;c\",82,4").separator == Separator::Comma
+        && Columns::usual_of(b"7;8").separator == Separator::Comma
+}
+
+#[test]
+fn lines_say_what_parts_fields(rt: HostRuntime) {
+    assert!(rt; headers_say_separators() && first_rows_say_separators());
+}
+
+/// Whether a plain row of detector 2 going on 7 hours after 2026-11-22 began is read, by the columns of its own line.
+fn is_plain_on(line: &[u8]) -> bool {
+    let wanted = EventRow {
+        ours: true,
+        moment: Moment {
+            nanos: MIDNIGHT + 25_200_000_000_000,
+        },
+        code: 82,
+        parameter: 2,
+    };
+    event_row(line, Columns::usual_of(line), Some(b"7")) == Some(wanted)
+}
+
+/// Whether rows of each separator are read.
+fn separators_part_rows() -> bool {
+    is_plain_on(b"7;2026-11-22 07:00:00.0;82;2")
+        && is_plain_on(b"7;2026-11-22 07:00:00;82;2;")
+        && is_plain_on(b"\"7\"\t\"2026-11-22T07:00:00\"\t82\t2\tx")
+        && is_on(
+            b"7;2026-11-22 07:00:00,0; 82 ;2.0",
+            TimeForm::YearFirst,
+            Some(2),
+        )
+        && is_on(
+            b"7\t22.11.2026 07:00:00,000\t82\t2",
+            TimeForm::DayFirst,
+            Some(2),
+        )
+        && is_on(
+            b"7,\"11/22/2026 07:00:00,0 AM\",82,2",
+            TimeForm::MonthFirst,
+            Some(2),
+        )
+}
+
+#[test]
+fn rows_are_parted_by_semicolons_and_tabs(rt: HostRuntime) {
+    assert!(rt; separators_part_rows());
+}
+
+/// Words of zones, each with the minutes that its clock is ahead of that of UTC, and behind it.
+const ZONES: [(&[u8], u16, u16); 12] = [
+    (b"Z", 0, 0),
+    (b"z", 0, 0),
+    (b"UTC", 0, 0),
+    (b"utc", 0, 0),
+    (b"+01", 60, 0),
+    (b"+1", 60, 0),
+    (b"-07:00", 0, 420),
+    (b"-0700", 0, 420),
+    (b"+0530", 330, 0),
+    (b"+5:30", 330, 0),
+    (b"+530", 330, 0),
+    (b"-23:59", 0, 1439),
+];
+
+/// Whether the words name their zones.
+fn are_zones() -> bool {
+    for (word, east, west) in &ZONES {
+        if zone_named(word)
+            != Some(Zone {
+                east: *east,
+                west: *west,
+            })
+        {
+            return false;
+        }
+    }
+    true
+}
+
+/// Words that name no zone.
+const NO_ZONES: [&[u8]; 14] = [
+    b"",
+    b"+",
+    b"-",
+    b"07:00",
+    b"+24",
+    b"+24:00",
+    b"+07:60",
+    b"+07:0",
+    b"+007:00",
+    b"+07000",
+    b"-0x",
+    b"MST",
+    b"Z ",
+    b"+07:00:00",
+];
+
+/// Whether none of the words names one.
+fn are_no_zones() -> bool {
+    for word in &NO_ZONES {
+        if zone_named(word).is_some() {
+            return false;
+        }
+    }
+    true
+}
+
+#[test]
+fn zones_are_named(rt: HostRuntime) {
+    assert!(rt; are_zones() && are_no_zones());
+}
+
+/// Times, each with its form and the milliseconds after 2026-11-22 began by a clock seven hours behind that of UTC.
+const ZONED: [(TimeForm, &[u8], u32); 11] = [
+    (TimeForm::YearFirst, b"2026-11-22 14:00:03.2Z", 25_203_200),
+    (
+        TimeForm::YearFirst,
+        b"2026-11-22T14:00:03.2 UTC",
+        25_203_200,
+    ),
+    (
+        TimeForm::YearFirst,
+        b"2026-11-22 08:00:03.2-06:00",
+        25_203_200,
+    ),
+    (TimeForm::YearFirst, b"2026-11-22 07:00:03.2-07", 25_203_200),
+    (
+        TimeForm::YearFirst,
+        b"2026-11-22 19:30:03.2 +0530",
+        25_203_200,
+    ),
+    (TimeForm::YearFirst, b"2026-11-23 01:00:00+01", 61_200_000),
+    (TimeForm::YearFirst, b"2026-11-22 07:00:03.2", 25_203_200),
+    (
+        TimeForm::MonthFirst,
+        b"11/22/2026 2:00:03.2 PM-00:00",
+        25_203_200,
+    ),
+    (TimeForm::DayFirst, b"22.11.2026 14:00:03,2 UTC", 25_203_200),
+    (TimeForm::Seconds, b"1795330803.2", 3_200),
+    (TimeForm::Milliseconds, b"1795330803200", 3_200),
+];
+
+/// Whether all of the times are moved to that clock.
+fn times_are_moved() -> bool {
+    let zone = zone_named(b"-07:00");
+    for (form, text, milliseconds) in &ZONED {
+        let wanted = Moment {
+            nanos: MIDNIGHT + *milliseconds as u128 * 1_000_000,
+        };
+        if moment_in(*form, zone, text) != Some(wanted) {
+            return false;
+        }
+    }
+    zone.is_some()
+}
+
+/// Whether a time of the day before is found: 3:00 by UTC is 20:00 there.
+fn days_before_are_found() -> bool {
+    moment_in(
+        TimeForm::YearFirst,
+        zone_named(b"-0700"),
+        b"2026-11-22 03:00:00Z",
+    ) == Some(Moment {
+        nanos: MIDNIGHT - 14_400_000_000_000,
+    })
+}
+
+#[test]
+fn times_are_those_of_a_zone(rt: HostRuntime) {
+    assert!(rt; times_are_moved() && days_before_are_found());
+}
+
+/// Whether forms have their words, and no other word names one.
+fn forms_have_words() -> bool {
+    time_form_named(b"year-first") == Some(TimeForm::YearFirst)
+        && time_form_named(b"month-first") == Some(TimeForm::MonthFirst)
+        && time_form_named(b"day-first") == Some(TimeForm::DayFirst)
+        && time_form_named(b"seconds") == Some(TimeForm::Seconds)
+        && time_form_named(b"milliseconds") == Some(TimeForm::Milliseconds)
+        && time_form_named(b"month first").is_none()
+        && time_form_named(b"").is_none()
+        && time_form_word(TimeForm::DayFirst) == b"day-first".as_slice()
+}
+
+#[test]
+fn forms_are_named(rt: HostRuntime) {
+    assert!(rt; forms_have_words());
+}
+
+/// Why a line is no row of the usual columns that commas part.
+fn fault(line: &[u8], times: Option<TimeForm>) -> RowFault {
+    row_fault(line, Columns::usual_of(b""), times)
+}
+
+/// Whether a time is told as one of another form: month first where it is year first, day first where it is month first.
+fn other_forms_are_told() -> bool {
+    let told = fault(b"7,22/11/2026 07:00:03,82,2", Some(TimeForm::MonthFirst));
+    let lacking = fault(b"7,22/22/2026 07:00:03,82,2", Some(TimeForm::MonthFirst));
+    matches!(&told, RowFault::OtherForm(TimeForm::MonthFirst, TimeForm::DayFirst, time) if time.count == 19)
+        && matches!(&lacking, RowFault::NoTime(TimeForm::MonthFirst, _))
+}
+
+/// Whether a line with another separator is told so, and one that is only cut is not.
+fn other_separators_are_told() -> bool {
+    let year = Some(TimeForm::YearFirst);
+    fault(b"7;2026-11-22 07:00:03;82;2", year)
+        == RowFault::Parted(Separator::Comma, Separator::Semicolon)
+        && fault(b"\"7\"\t2026-11-22\t\t", year)
+            == RowFault::Parted(Separator::Comma, Separator::Tab)
+        && fault(b"7;2026-11-22 07:00:03;82", year) == RowFault::Missing(Column::Time)
+        && fault(b"\"7;2026-11-22 07:00:03;82;2", year) == RowFault::Quote
+        && fault(b"Timestamp;EventCode", year) == RowFault::Lacks(Column::Parameter)
+}
+
+#[test]
+fn changes_in_a_file_are_told(rt: HostRuntime) {
+    assert!(rt; other_forms_are_told() && other_separators_are_told());
+}
+
+/// Whether lines of other separators before a header are passed over, and no header with a quote out of place.
+fn other_prefaces_are_passed() -> bool {
+    is_preface(b"Version;3")
+        && is_preface(b"\"Version\"\t3")
+        && !is_preface(b"\"a, b\";3")
+        && !is_preface(b"a;b;c")
+        && !is_preface(b"a\tb\tc")
+        && !is_preface(b"Time;x")
+        && !is_preface(b"SignalID,Timestamp,EventCode,EventParam,\"x\"y")
+}
+
+#[test]
+fn lines_before_a_header_have_any_separator(rt: HostRuntime) {
+    assert!(rt; other_prefaces_are_passed());
 }
