@@ -16,47 +16,47 @@ pub fn lines_are_read_again()
 
 /// Fields that commas, semicolons or tabs part are read as these fields, where none has the mark or begins with a quote.
 ///
-/// Mistakes: `mark-parts` and `quote-opens` of FormMistakes: a field with the mark, and one that begins with a quote.
-/// Witness: `semicolons-free` of FormExamples.
+/// Mistakes: `mark_parts` and `quote_opens` of FormMistakes: a field with the mark, and one that begins with a quote.
+/// Witness: `semicolons_free` of FormExamples.
 pub fn fields_are_parted_again()
     ensures { ArePartedAgain }
 {}
 
 /// What a row says does not hang on the separator that parts it, be it a plain row or one as exports have it.
 ///
-/// Mistake: `header-says` of FormMistakes: rows that are read by the header's columns with commas, whatever it has.
-/// Witness: `semicolons-free` of FormExamples, read in `semicolons-say`.
+/// Mistake: `header_says` of FormMistakes: rows that are read by the header's columns with commas, whatever it has.
+/// Witness: `semicolons_free` of FormExamples, read in `semicolons_say`.
 pub fn separators_say_the_same()
     ensures { AreReadAlike }
 {}
 
 /// A text without a header that begins with the line of an event has the usual columns, parted by commas.
 ///
-/// Mistake: `two-fields` of FormMistakes: of a line with two fields no separator is known.
-/// Witness: `begins-so` of FormExamples.
+/// Mistake: `two_fields` of FormMistakes: of a line with two fields no separator is known.
+/// Witness: `begins_so` of FormExamples.
 pub fn first_lines_are_usual()
     ensures { BeginsAsUsual }
 {}
 
 /// One instant is one moment on the clock of the zone that is asked for, whichever zone's clock tells it.
 ///
-/// Mistake: `offset-added` of FormMistakes: the offset is added where it has to be taken away.
-/// Witness: `one-instant` of FormExamples.
+/// Mistake: `offset_added` of FormMistakes: the offset is added where it has to be taken away.
+/// Witness: `one_instant` of FormExamples.
 pub fn instants_are_one_moment()
     ensures { AreOneMoment }
 {}
 
 /// A clock of the zone that is asked for counts as it shows.
 ///
-/// Mistake: `offset-added` of FormMistakes.
-/// Witness: any zone and any time; `one-instant` of FormExamples has some.
+/// Mistake: `offset_added` of FormMistakes.
+/// Witness: any zone and any time; `one_instant` of FormExamples has some.
 pub fn own_clocks_stay()
     ensures { OwnClocksStay }
 {}
 
 /// The word of a form of times names it.
 ///
-/// Mistake: `one-word` of FormMistakes: two forms have one word.
+/// Mistake: `one_word` of FormMistakes: two forms have one word.
 /// Witness: each form.
 pub fn forms_are_named()
     ensures { FormsAreNamed }

@@ -16,24 +16,24 @@ use Rattle.tsb_event_text.specs.Times.{moment_of}
 -- ## Fields that are not free
 
 -- a semicolon of a device parts it where semicolons part fields
-mark-parts : fields_of 59 (joined 59 (codes "Main; 5th" ∷ codes "82" ∷ [])) ≡ Some (codes "Main" ∷ codes " 5th" ∷ codes "82" ∷ [])
-mark-parts = refl
+mark_parts : fields_of 59 (joined 59 (codes "Main; 5th" ∷ codes "82" ∷ [])) ≡ Some (codes "Main" ∷ codes " 5th" ∷ codes "82" ∷ [])
+mark_parts = refl
 
 -- a quote that begins a field has to be closed
-quote-opens : fields_of 59 (joined 59 (codes "\"7" ∷ codes "82" ∷ [])) ≡ None
-quote-opens = refl
+quote_opens : fields_of 59 (joined 59 (codes "\"7" ∷ codes "82" ∷ [])) ≡ None
+quote_opens = refl
 
 -- ## Commas, whatever the header has
 
-header-says : row_of usual_columns None (codes "7;2026-11-22 07:00:03.2;82;4") ≡ None
+header_says : row_of usual_columns None (codes "7;2026-11-22 07:00:03.2;82;4") ≡ None
 unfolding row_of moment_of
-header-says = refl
+header_says = refl
 
 -- ## A line with too few fields for a first row
 
-two-fields : separator_of (codes "7;82") ≡ Comma
+two_fields : separator_of (codes "7;82") ≡ Comma
 unfolding separator_of
-two-fields = refl
+two_fields = refl
 
 -- ## An offset that is added where it has to be taken away
 
@@ -44,14 +44,14 @@ abbrev mountain : Zone
 mountain = record { east = 0; west = 420 }
 
 -- 14:00 by UTC would be midnight by a clock that is seven hours behind, told by itself
-offset-added : moved_away mountain mountain (shown_by mountain 50400000000000) ≡ 0
-offset-added = refl
+offset_added : moved_away mountain mountain (shown_by mountain 50400000000000) ≡ 0
+offset_added = refl
 
-as-defined : moved (Some mountain) mountain (shown_by mountain 50400000000000) ≡ 25200000000000
-as-defined = refl
+as_defined : moved (Some mountain) mountain (shown_by mountain 50400000000000) ≡ 25200000000000
+as_defined = refl
 
-by-utc : moved_away mountain utc (shown_by utc 50400000000000) ≡ 25200000000000
-by-utc = refl
+by_utc : moved_away mountain utc (shown_by utc 50400000000000) ≡ 25200000000000
+by_utc = refl
 
 -- ## Two forms with one word
 
@@ -63,5 +63,5 @@ short_word form = codes "number"
 abbrev named_short : List ℕ → Option TimeForm
 named_short word = if bytes_eq word (short_word YearFirst) then Some YearFirst else if bytes_eq word (short_word MonthFirst) then Some MonthFirst else None
 
-one-word : named_short (short_word MonthFirst) ≡ Some YearFirst
-one-word = refl
+one_word : named_short (short_word MonthFirst) ≡ Some YearFirst
+one_word = refl
