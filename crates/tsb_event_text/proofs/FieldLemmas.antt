@@ -34,19 +34,6 @@ plain-first m (b ∷ bs) (suc n) lt f e = elim (eqb_tells b m) [
       ∙ onto-with b (take n bs) (fields_of m (drop (suc n) bs)))
 ]
 
--- where no quote begins the line, it is read so
-pub start-plain : (m : ℕ) (xs : List ℕ) → (0 < length xs → get_or xs 0 0 ≡ 34 → ⊥) → fields_of m xs ≡ fields_from m Plain xs
-start-plain m [] f = refl
-start-plain m (b ∷ bs) f = elim (eqb_tells b 34) [
-  | inl z ↦ absurd (f (omega arith) z.1)
-  | inr off ↦ rw off.0 refl
-]
-
--- and where one does, so
-pub start-quoted : (m : ℕ) (xs : List ℕ) → 0 < length xs → get_or xs 0 0 ≡ 34 → fields_of m xs ≡ fields_from m Quoted (drop 1 xs)
-start-quoted m [] lt e = absurd (omega (arith, lt))
-start-quoted m (b ∷ bs) lt e = let z : b ≡ 34 = e in rw z refl
-
 -- ## A field that a quote began
 
 pub quoted-open : (m : ℕ) (xs : List ℕ) → Without 34 xs (length xs) → fields_from m Quoted xs ≡ None

@@ -1,5 +1,5 @@
 -- Zones of clocks, and the words of forms.
-use Rattle.std.proofs.Common.{◌≡◌, refl, arith}
+use Rattle.std.proofs.Common.{refl, arith}
 use Rattle.tsb_event_text.specs.declared.time_forms.TimeForm.TheVariants.{YearFirst, MonthFirst, DayFirst, Seconds, Milliseconds}
 use Rattle.tsb_event_text.specs.Laws.{AreOneMoment, FormsAreNamed, OwnClocksStay}
 

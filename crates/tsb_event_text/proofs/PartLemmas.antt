@@ -1,5 +1,5 @@
 -- Fields that a separator parts.
-use Rattle.std.proofs.Common.{◌≡◌, ◌∙◌, ◌≢◌, ℕ, ◌||◌, Bool, true, false, List, [], ◌∷◌, ◌++◌, refl, ap, sym, inl, inr, Option, Some}
+use Rattle.std.proofs.Common.{◌≡◌, ◌∙◌, ℕ, Bool, true, false, List, [], ◌∷◌, ◌++◌, refl, ap, sym, inl, inr, Some}
 use Rattle.std.proofs.lemmas.Bool.{or_parts}
 use Rattle.std.proofs.lemmas.Bool.Decides.{eqb_tells}
 use Rattle.std.specs.Prelude.{◌==◌}
@@ -9,7 +9,7 @@ use Rattle.tsb_event_text.specs.declared.columns.Separator.TheVariants.{Comma, S
 use Rattle.tsb_event_text.specs.Columns.{mark_of}
 use Rattle.tsb_event_text.specs.Events.{has_byte}
 use Rattle.tsb_event_text.specs.Fields.{Plain, fields_from, fields_of, joined, onto_field, with_field}
-use Rattle.tsb_event_text.specs.Laws.{AreFree, ArePartedAgain, AreReadAlike, is_quoted, parted_by}
+use Rattle.tsb_event_text.specs.Laws.{ArePartedAgain, AreReadAlike, is_quoted}
 use Rattle.tsb_event_text.specs.Rows.{row_in, row_of}
 use Rattle.tsb_event_text.specs.Wide.{wide_in, wide_of}
 use Rattle.tsb_event_text.proofs.FieldLemmas.{onto-with}

@@ -1,6 +1,5 @@
 //! Zones of clocks.
 ghost use Rattle.std.specs.Prelude.{◌≡◌, ◌<◌, ◌^◌};
-ghost use Rattle.tsb_lines.specs.Words.{number_of};
 ghost use Rattle.tsb_event_text.specs.TimeForms.{hours_and, minutes_at, moved, offset_of, own_zone, shown_clock, utc, zone_by, zone_named, zone_or, zone_sign};
 
 use crate::events::has_byte;

@@ -1,6 +1,6 @@
 -- Rows, times and words in other forms, computed.
-use Rattle.std.proofs.Common.{◌≡◌, ℕ, List, [], ◌∷◌, Option, Some, None, refl, codes}
-use Rattle.tsb_event_text.specs.declared.columns.Separator.TheVariants.{Comma, Semicolon, Tab}
+use Rattle.std.proofs.Common.{◌≡◌, ℕ, List, [], ◌∷◌, Some, None, refl, codes}
+use Rattle.tsb_event_text.specs.declared.columns.Separator.TheVariants.{Semicolon, Tab}
 use Rattle.tsb_event_text.specs.declared.time_forms.TimeForm.TheVariants.{DayFirst}
 use Rattle.tsb_event_text.specs.declared.zones.Zone.{Zone}
 use Rattle.tsb_event_text.specs.Columns.{header_by, header_of, separator_of, usual_by, usual_columns, usual_of}
@@ -9,7 +9,7 @@ use Rattle.tsb_event_text.specs.Fields.{fields_of, joined}
 use Rattle.tsb_event_text.specs.Laws.{AreFree, shown_by}
 use Rattle.tsb_event_text.specs.TimeForms.{clock_mark, day_mark, moved, own_zone, shown_clock, time_form_named, utc, zone_named}
 use Rattle.tsb_event_text.specs.Wide.{is_passed, whole_of}
-use Rattle.std.specs.Prelude.{true, false}
+use Rattle.std.specs.Prelude.{true}
 
 -- ## Separators
 

@@ -1,10 +1,9 @@
 -- One-line mistakes with forms of exports, each with an example that tells it from the definition.
 use Rattle.std.proofs.Common.{◌≡◌, ℕ, ◌+◌, ◌-◌, ◌*◌, List, [], ◌∷◌, Option, Some, None, if◌then◌else◌, refl, codes}
-use Rattle.std.specs.Prelude.{true, false}
 use Rattle.std.specs.Str.{bytes_eq}
 use Rattle.tsb_event_text.specs.declared.columns.Separator.TheVariants.{Comma}
 use Rattle.tsb_event_text.specs.declared.time_forms.TimeForm.{TimeForm}
-use Rattle.tsb_event_text.specs.declared.time_forms.TimeForm.TheVariants.{YearFirst, MonthFirst, DayFirst, Seconds, Milliseconds}
+use Rattle.tsb_event_text.specs.declared.time_forms.TimeForm.TheVariants.{YearFirst, MonthFirst}
 use Rattle.tsb_event_text.specs.declared.zones.Zone.{Zone}
 use Rattle.tsb_event_text.specs.Columns.{separator_of, usual_columns}
 use Rattle.tsb_event_text.specs.Fields.{fields_of, joined}
