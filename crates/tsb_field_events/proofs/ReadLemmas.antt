@@ -1,13 +1,13 @@
 -- Lines are read again.
 use Rattle.std.proofs.Common.{◌≡◌, Some, codes, refl}
-use Rattle.tsb_event_text.specs.Columns.{header_of, usual_columns}
+use Rattle.tsb_event_text.specs.Columns.{header_by, header_of, usual_columns}
 use Rattle.tsb_event_text.specs.Events.{event_row_text}
 use Rattle.tsb_event_text.proofs.TakenLemmas.{read-and-taken}
 use Rattle.tsb_field_events.specs.Laws.{HeaderIsRead, LinesAreRead}
 use Rattle.tsb_field_events.specs.Ticks.{moment_of_tick}
 
 named : header_of (codes "SignalID,Timestamp,EventCode,EventParam") ≡ Some usual_columns
-unfolding header_of
+unfolding header_of header_by
 named = refl
 
 pub header-read : HeaderIsRead

@@ -3,7 +3,7 @@ use Rattle.std.proofs.Common.{◌≡◌, ℕ, ◌*◌, ◌+◌, true, false, Lis
 use Rattle.tsb_event_text.specs.declared.columns.Separator.TheVariants.{Comma}
 use Rattle.tsb_event_text.specs.declared.rows.EventRow.{EventRow}
 use Rattle.tsb_event_text.specs.declared.times.Moment.{Moment}
-use Rattle.tsb_event_text.specs.Columns.{header_of, usual_columns}
+use Rattle.tsb_event_text.specs.Columns.{header_by, header_of, usual_columns}
 use Rattle.tsb_event_text.specs.Events.{can_be_written, event_row_text}
 use Rattle.tsb_event_text.specs.Rows.{row_of}
 use Rattle.tsb_event_text.proofs.EventLemmas.{read-again}
@@ -73,9 +73,9 @@ first_tick_not from = refl
 -- ## The header has code and parameter in the other order
 
 is_usual : header_of (codes "SignalID,Timestamp,EventCode,EventParam") ≡ Some usual_columns
-unfolding header_of
+unfolding header_of header_by
 is_usual = refl
 
 would_change_places : header_of (codes "SignalID,Timestamp,EventParam,EventCode") ≡ Some (record { device = Some 0; time = 1; code = 3; parameter = 2; separator = Comma })
-unfolding header_of
+unfolding header_of header_by
 would_change_places = refl
