@@ -2,7 +2,7 @@
 --
 -- Of each stream there are the bytes before and after: `input` and `left`, `old` and `new`, `told` and `tells`.
 use Rattle.std.specs.Prelude.{◌≡◌, ◌⊎◌, ℕ, Bool, true, false, List, [], IsSome, Option, Some, None, Result, Ok, Err, unwrap_or, codes}
-use Rattle.std.specs.Io.KnownBytes.{Appends, Consumes, IsAtEnd, Keeps}
+use Rattle.std.specs.Io.KnownBytes.{Appends, Consumes, IsAtEnd}
 use Rattle.tsb_lines.specs.Writes.{AppendsFront}
 use Rattle.tsb_program.specs.Read.{HasLog, HasPlan, RefusesLog, RefusesPlan}
 use Rattle.tsb_program.specs.Failures.{Fails, failure_of}
@@ -21,7 +21,6 @@ use Rattle.tsb_field_diagram.specs.Page.{diagram_text}
 use Rattle.tsb_field_events.specs.Merge.{session_events}
 use Rattle.tsb_field_events.specs.Texts.{IsLog}
 use Rattle.tsb_field_events.specs.Ticks.{AreWritten}
-use Rattle.tsb_field_log.specs.Mapping.{wires_of}
 use Rattle.tsb_record.specs.Ended as recorded
 use Rattle.tsb_text.specs.declared.faults.OnFault.{OnFault}
 use Rattle.tsb_text.specs.declared.faults.OnFault.TheVariants.{GoOn, Stop}
@@ -33,26 +32,11 @@ use Rattle.tsb_text.specs.declared.error.SessionError.{SessionError}
 use Rattle.tsb_text.specs.tsb_plan.Plan.{Plan}
 use Rattle.tsb_text.specs.tsb_plan_text.FaultLines.{plan_fault}
 use Rattle.tsb_text.specs.tsb_plan_text.declared.error.PlanError.{PlanError}
-use Rattle.tsb_field_streams.specs.Filtering.{Given}
-use Rattle.tsb_field_streams.specs.Streaming.{Ended}
-use Rattle.tsb_field_streams.specs.declared.error.FilterError.{FilterError}
-use Rattle.tsb_field_streams.specs.declared.filter.LeftOut.{LeftOut}
 use Rattle.tsb_words.specs.FieldWords.{Wish, diagram, events, log, recording, seen}
 use Rattle.tsb_words.specs.declared.field_files.Asked.{Asked}
 use Rattle.tsb_words.specs.declared.error.WordsError.{WordsError}
-use Rattle.tsb_field.specs.Lines.{Refuses, TellsEnd as TellsRunEnd, TellsFault, TellsLate, TellsLeftOut, TellsWords}
-
--- ## `log`
-
--- what ended a filter is told: what it left out, or its fault
-abbrev pub TellsEnd : Result LeftOut FilterError → ℕ → Option (List ℕ) → Option (List ℕ) → Type 0
-TellsEnd (Ok left_out) status told tells = TellsLeftOut left_out status told tells
-TellsEnd (Err fault) status told tells = TellsFault fault status told tells
-
--- the log of what was read is written, or after a fault a prefix of it
-abbrev pub Logged : ℕ → Given → Option (List ℕ) → Option (List ℕ) → Option (List ℕ) → Option (List ℕ) → Option (List ℕ) → Option (List ℕ) → Type 0
-Logged status given input left old new told tells =
-    (result : Result LeftOut FilterError) × (written : Option (List ℕ)) × Ended result given input left old written × Keeps written new × TellsEnd result status told tells
+use Rattle.tsb_field.specs.Lines.{Refuses, TellsEnd as TellsRunEnd, TellsLate, TellsWords}
+use Rattle.tsb_field.specs.LogEnds.{Logged}
 
 -- ## What words name
 
@@ -181,8 +165,7 @@ Pictured status title seconds files path input left old new told tells =
 
 -- what was done for a wish, where files has the known bytes of each path
 abbrev pub DidWish : Wish → ℕ → (List ℕ → Option (List ℕ)) → Option (List ℕ) → Option (List ℕ) → Option (List ℕ) → Option (List ℕ) → Option (List ℕ) → Option (List ℕ) → Type 0
-DidWish (log from device wires) status files input left old new told tells =
-    Logged status (record { from = from.nanos; device = device; wires = wires_of wires }) input left old new told tells
+DidWish (log wish) status files input left old new told tells = Logged status wish input left old new told tells
 DidWish (recording from device plan file goes_on) status files input left old new told tells =
     Recorded status from device (on_fault_of goes_on) (files plan) (files file) input left old new told tells
 DidWish (events from device path) status files input left old new told tells = Told status from device files path input left old new told tells

@@ -1,4 +1,8 @@
 -- the lines that the program tells
 pub mod Lines
+-- the lines in which `log` tells what it read
+pub mod LogLines
+-- how `log` ends
+pub mod LogEnds
 -- what the program has done and written for the words that it was given
 pub mod Ends

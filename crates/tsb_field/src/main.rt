@@ -3,6 +3,8 @@
 #![tactic(auto)]
 
 mod end;
+mod log_run;
+mod report;
 mod run;
 
 use crate::end::tell_words_fault;

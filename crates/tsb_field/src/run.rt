@@ -1,16 +1,14 @@
 //! What the program does for its words.
 ghost use Rattle.std.specs.Prelude.{◌≡◌, Result, map, option_map};
-ghost use Rattle.tsb_field_log.specs.Mapping.{wires_of};
 ghost use Rattle.tsb_words.specs.declared.field_files.Asked.{Asked};
 ghost use Rattle.tsb_words.specs.declared.error.WordsError.{WordsError};
 ghost use Rattle.tsb_words.specs.FieldProgram.{Spells};
 ghost use Rattle.tsb_text.specs.Answers.{Setup};
 ghost use Rattle.tsb_text.specs.tsb_objects.Checked.{checked_plan};
-ghost use Rattle.tsb_field.specs.Ends.{Did, LogNamed, Logged, Pictured, RanSo, Recorded, on_fault_of, TellsNoLog, TellsNoPlan, Told, title_of};
+ghost use Rattle.tsb_field.specs.Ends.{Did, LogNamed, Pictured, RanSo, Recorded, on_fault_of, TellsNoLog, TellsNoPlan, Told, title_of};
 
-use crate::end::{
-    refuse, tell_end, tell_fault, tell_late, tell_left_out, tell_words_fault, write_all,
-};
+use crate::end::{refuse, tell_end, tell_late, tell_words_fault, write_all};
+use crate::log_run::write_log;
 use std::alloc::Global;
 use std::convert::AsStr;
 use std::io::{Read, Write};
@@ -18,9 +16,6 @@ use tsb_event_text::Moment;
 use tsb_field_diagram::diagram_text;
 use tsb_field_display::{ReplayError, read_replay};
 use tsb_field_events::{EventsError, events_text, log_text};
-use tsb_field_log::Wire;
-use tsb_field_streams::log;
-use tsb_lines::pass_on;
 use tsb_log_text::{Log, LogError};
 use tsb_program::{Failure, Files, ReadError, Status, fail, log_of, plan_of};
 use tsb_record::{OnFault, Outcome, record};
@@ -50,13 +45,7 @@ pub fn run_words<S: AsStr, F: Files, R: Read, W: Write, E: Write>(
         (R.remaining input.old) (R.remaining input.new) (W.contents output.old) (W.contents output.new) (E.contents errors.old) (E.contents errors.new) }
 {
     match read_words(alloc, words) {
-        Ok(
-            Asked::Log {
-                from,
-                device,
-                wires,
-            },
-        ) => write_log(alloc, from, device, &wires, input, output, errors),
+        Ok(Asked::Log(asked)) => write_log(alloc, &asked, input, output, errors),
         Ok(
             Asked::Record {
                 from,
@@ -86,39 +75,6 @@ pub fn run_words<S: AsStr, F: Files, R: Read, W: Write, E: Write>(
             write_diagram(alloc, log, title, seconds, files, input, output, errors)
         }
         Err(fault) => tell_words_fault(errors, fault),
-    }
-}
-
-/// Makes a log from a controller's event log.
-fn write_log<R: Read, W: Write, E: Write>(
-    alloc: Global,
-    from: Moment,
-    device: Option<&str>,
-    mapped: &[Wire],
-    input: &mut R,
-    output: &mut W,
-    errors: &mut E,
-) -> u8
-    ensures { Logged result (record { from = from.nanos; device = option_map (λ name. name.now) device.entry; wires = wires_of mapped.now })
-        (R.remaining input.old) (R.remaining input.new) (W.contents output.old) (W.contents output.new) (E.contents errors.old) (E.contents errors.new) }
-{
-    match log(alloc, from, bytes_of(device), mapped, input, output) {
-        Ok(left_out) => tell_left_out(alloc, errors, left_out),
-        Err(fault) => {
-            // What is known goes out. If that fails, the fault that is reported matters more.
-            let _ = pass_on(output);
-            tell_fault(alloc, errors, fault)
-        }
-    }
-}
-
-/// The bytes of a name.
-fn bytes_of(name: Option<&str>) -> Option<&[u8]>
-    ensures { option_map (λ bytes. bytes.now) result ≡ option_map (λ name. name.now) name.entry }
-{
-    match name {
-        Some(name) => Some(name.as_bytes()),
-        None => None,
     }
 }
 

@@ -83,6 +83,13 @@ impl Street {
         Some(rows)
     }
 
+    /// Whether the last event lies in tick 1 or a later one: before `finish`.
+    pub fn has_begun(&self) -> bool
+        ensures { (from : ℕ) (wires : List Wire) (events : List InputEvent) → HasTaken from wires events self.now → result ≡ nat_lt 0 (last_tick from events) }
+    {
+        self.tick > 0
+    }
+
     /// The rows that become known once no more events come: up to tick 6,000,000.
     pub fn finish(&mut self) -> Rows
         ensures given { (wires : List Wire) (events : List InputEvent) → Follows wires events self.old → self.old.tick ≤ TICKS

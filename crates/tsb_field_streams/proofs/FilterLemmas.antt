@@ -1,9 +1,11 @@
 -- What a filter takes, from line to line.
-use Rattle.std.proofs.Common.{◌≡◌, ℕ, ◌+◌, ◌-◌, ◌*◌, ◌/◌, ◌<◌, ◌≤◌, nat_lt, Bool, true, false, not, List, [], ◌∷◌, ◌++◌, length, length-append, refl, sym, ap, ◌∙◌, arith, subst, Some, Result, Ok, Err, inl, inr, if◌then◌else◌}
+use Rattle.std.proofs.Common.{◌≡◌, ℕ, ◌+◌, ◌-◌, ◌*◌, ◌/◌, ◌<◌, ◌≤◌, nat_lt, Bool, true, false, not, List, [], ◌∷◌, ◌++◌, length, length-append, refl, sym, ap, ◌∙◌, arith, subst, Some, None, Result, Ok, Err, inl, inr, if◌then◌else◌}
 use Rattle.std.proofs.Math.Nat.{div-mul-le_self}
 use Rattle.std.proofs.lemmas.Nat.{le-div}
 use Rattle.std.proofs.lemmas.Bool.{lt-ltb, le-ltb}
 use Rattle.std.proofs.lemmas.Bool.Decides.{leb_tells}
+use Rattle.std.proofs.lemmas.List.{append-nil}
+use Rattle.tsb_log_text.specs.declared.log.LogRow.{LogRow}
 use Rattle.tsb_log_text.specs.tsb_types.declared.limits.TheConstants.{TICKS}
 use Rattle.tsb_event_text.specs.declared.rows.EventRow.{EventRow}
 use Rattle.tsb_event_text.specs.declared.time_forms.TimeForm.{TimeForm}
@@ -22,7 +24,7 @@ use Rattle.tsb_field_streams.specs.declared.error.FilterError.{FilterError}
 use Rattle.tsb_field_streams.specs.declared.error.FilterError.TheVariants.{TimeOrder, PastEnd, LogTooLarge}
 use Rattle.tsb_field_streams.specs.declared.filter.Filter.{Filter}
 use Rattle.tsb_field_streams.specs.declared.filter.TheConstants.{MOST_ROWS}
-use Rattle.tsb_field_streams.specs.Filtering.{Given, Stand, one_more, with_event, with_row, with_signal}
+use Rattle.tsb_field_streams.specs.Filtering.{Given, Stand, disorder, one_more, with_count, with_event, with_row, with_signal, with_used}
 use Rattle.tsb_field_streams.specs.Standing.{StandsAt, Takes}
 
 pub none_known : (from : ℕ) (wires : List Wire) → length (rows_before from wires []) ≡ 0
@@ -46,14 +48,19 @@ ticks-follow from a b le = elim (leb_tells from a) [
       rw (le-ltb a from in_a.1, le-ltb b from there) (omega (arith, q))
 ]
 
--- a row that is no earlier than the last moves the moment on
-pub stands_later : (g : Given) (s : Stand) (f : Filter) (moment : ℕ) → StandsAt g s f → s.last ≤ moment → StandsAt g (record s { last = moment }) (record f { last = moment })
-stands_later g s f moment at le = record {
+-- a row that is no earlier than the last counts, and moves the moment on
+pub stands_counted : (g : Given) (s : Stand) (f : Filter) (moment counted first : ℕ) → StandsAt g s f → s.last ≤ moment → counted ≡ (with_count s moment).counted → first ≡ (with_count s moment).first
+    → StandsAt g (with_count s moment) (record f { counted = counted; first = first; last = moment })
+stands_counted g s f moment counted first at le counts begins = record {
+  reading = at.reading;
   device = at.device;
   wires = at.wires;
   columns = at.columns;
   times = at.times;
+  counted = counts;
+  first = begins;
   last = refl;
+  used = at.used;
   others = at.others;
   unwired = at.unwired;
   passed = at.passed;
@@ -69,11 +76,15 @@ stands_later g s f moment at le = record {
 -- a form of times that is known changes nothing else
 pub stands_formed : (g : Given) (s : Stand) (f : Filter) (form : TimeForm) → StandsAt g s f → StandsAt g (record s { times = Some form }) (record f { times = Some form })
 stands_formed g s f form at = record {
+  reading = at.reading;
   device = at.device;
   wires = at.wires;
   columns = at.columns;
   times = refl;
+  counted = at.counted;
+  first = at.first;
   last = at.last;
+  used = at.used;
   others = at.others;
   unwired = at.unwired;
   passed = at.passed;
@@ -124,9 +135,9 @@ known-then g s e f rows known at grown is =
     length-append (rows_before g.from g.wires s.events) (rows_in rows) in
     ap length grown ∙ omega (arith, were, all, is)
 
--- which rows were known before does not hang on the moment
+-- which rows were known before does not hang on how many counted
 takes-same : (g : Given) (s : Stand) (moment : ℕ) (come : Result Stand FilterError) (given : Result Rows FilterError) (f : Filter)
-    → Takes g (record s { last = moment }) come given f → Takes g s come given f
+    → Takes g (with_count s moment) come given f → Takes g s come given f
 takes-same g s moment (Ok t) (Ok rows) f takes = takes
 takes-same g s moment (Ok t) (Err d) f takes = takes
 takes-same g s moment (Err e) (Ok rows) f takes = takes
@@ -134,13 +145,37 @@ takes-same g s moment (Err e) (Err d) f takes = takes
 
 -- a row that counts is taken by what it says
 pub row-takes : (g : Given) (number : ℕ) (s : Stand) (row : EventRow) (signal : Signal) (given : Result Rows FilterError) (f : Filter) → row.ours ≡ true → s.last ≤ row.moment.nanos
-    → signal_of row.code ≡ Some signal → Takes g (record s { last = row.moment.nanos }) (with_signal g (record s { last = row.moment.nanos }) row (Some signal)) given f
+    → signal_of row.code ≡ Some signal → Takes g (with_count s row.moment.nanos) (with_signal g (with_count s row.moment.nanos) row (Some signal)) given f
     → Takes g s (with_row g number s row) given f
 row-takes g number s row signal given f ours later told takes =
     let in_order : nat_lt row.moment.nanos s.last ≡ false = le-ltb row.moment.nanos s.last later in
-    let is : with_row g number s row ≡ with_signal g (record s { last = row.moment.nanos }) row (Some signal) =
-    ap (λ (o : Bool). if not o then Ok (record s { others = one_more s.others }) else if nat_lt row.moment.nanos s.last then Err (TimeOrder number) else with_signal g (record s { last = row.moment.nanos }) row (signal_of row.code)) ours
-    ∙ ap (λ (b : Bool). if b then Err (TimeOrder number) else with_signal g (record s { last = row.moment.nanos }) row (signal_of row.code)) in_order
-    ∙ ap (with_signal g (record s { last = row.moment.nanos }) row) told in
+    let fault : Result Stand FilterError = Err (TimeOrder (disorder number s row.moment.nanos)) in
+    let is : with_row g number s row ≡ with_signal g (with_count s row.moment.nanos) row (Some signal) =
+    ap (λ (o : Bool). if not o then Ok (record s { others = one_more s.others }) else if nat_lt row.moment.nanos s.last then fault else with_signal g (with_count s row.moment.nanos) row (signal_of row.code)) ours
+    ∙ ap (λ (b : Bool). if b then fault else with_signal g (with_count s row.moment.nanos) row (signal_of row.code)) in_order
+    ∙ ap (with_signal g (with_count s row.moment.nanos) row) told in
     subst (λ (come : Result Stand FilterError). Takes g s come given f) (sym is)
-    (takes-same g s row.moment.nanos (with_signal g (record s { last = row.moment.nanos }) row (Some signal)) given f takes)
+    (takes-same g s row.moment.nanos (with_signal g (with_count s row.moment.nanos) row (Some signal)) given f takes)
+
+-- a row that counts and says nothing of an input
+pub row-passes : (g : Given) (number : ℕ) (s : Stand) (row : EventRow) (rows : Rows) (f : Filter) → row.ours ≡ true → s.last ≤ row.moment.nanos → signal_of row.code ≡ None → rows_in rows ≡ []
+    → StandsAt g (with_count s row.moment.nanos) f → Takes g s (with_row g number s row) (Ok rows) f
+row-passes g number s row rows f ours later told none stands =
+    let in_order : nat_lt row.moment.nanos s.last ≡ false = le-ltb row.moment.nanos s.last later in
+    let fault : Result Stand FilterError = Err (TimeOrder (disorder number s row.moment.nanos)) in
+    let is : with_row g number s row ≡ Ok (with_count s row.moment.nanos) =
+    ap (λ (o : Bool). if not o then Ok (record s { others = one_more s.others }) else if nat_lt row.moment.nanos s.last then fault else with_signal g (with_count s row.moment.nanos) row (signal_of row.code)) ours
+    ∙ ap (λ (b : Bool). if b then fault else with_signal g (with_count s row.moment.nanos) row (signal_of row.code)) in_order
+    ∙ ap (with_signal g (with_count s row.moment.nanos) row) told in
+    subst (λ (come : Result Stand FilterError). Takes g s come (Ok rows) f) (sym is) (stands, known)
+  where
+    known : rows_before g.from g.wires s.events ≡ rows_before g.from g.wires s.events ++ rows_in rows
+    known = sym (ap (λ (v : List LogRow). rows_before g.from g.wires s.events ++ v) none ∙ append-nil (rows_before g.from g.wires s.events))
+
+-- which rows were known before does not hang on which channels had events
+pub used-takes : (g : Given) (s : Stand) (place : ℕ) (come : Result Stand FilterError) (given : Result Rows FilterError) (f : Filter)
+    → Takes g (with_used s place) come given f → Takes g s come given f
+used-takes g s place (Ok t) (Ok rows) f takes = takes
+used-takes g s place (Ok t) (Err d) f takes = takes
+used-takes g s place (Err e) (Ok rows) f takes = takes
+used-takes g s place (Err e) (Err d) f takes = takes

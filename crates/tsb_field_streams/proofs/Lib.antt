@@ -5,3 +5,5 @@ pub mod RowLemmas
 pub mod ReadLemmas
 -- what a stream has written, and how it ends
 pub mod StreamLemmas
+-- texts that grow piece by piece
+pub mod PieceLemmas

@@ -37,7 +37,7 @@ unfolding with_line
 empty-line g n s = elim (eqb_tells n 1) [ inl z ↦ rw z.0 refl | inr off ↦ rw off.0 refl ]
 
 -- before the first byte
-pub read-start : (g : Given) → HasRead g [] 1 start []
+pub read-start : (g : Given) → HasRead g [] 1 (start g) []
 read-start g = record { front = []; whole = refl; unfinished = tt; comes = λ more. refl }
 
 -- a byte that ends no line

@@ -23,11 +23,11 @@ use Rattle.tsb_log_text.proofs.TextLemmas.{text-append, text-length}
 use Rattle.tsb_field_streams.specs.declared.error.FilterError.{FilterError}
 use Rattle.tsb_field_streams.specs.declared.error.FilterError.TheVariants.{Read, Write, TooLarge, LogTooLarge}
 use Rattle.tsb_field_streams.specs.declared.filter.Filter.{Filter}
-use Rattle.tsb_field_streams.specs.declared.filter.LeftOut.{LeftOut}
+use Rattle.tsb_field_streams.specs.declared.filter.Summary.{Summary}
 use Rattle.tsb_field_streams.specs.declared.stream.Stream.{Stream}
-use Rattle.tsb_field_streams.specs.Filtering.{Given, Stand, one_more, start, with_line}
+use Rattle.tsb_field_streams.specs.Filtering.{Given, Stand, one_more, start, summary_at, with_line}
 use Rattle.tsb_field_streams.specs.Lines.{HasRead, filtered}
-use Rattle.tsb_field_streams.specs.Standing.{StandsAt, Takes, left_out_of}
+use Rattle.tsb_field_streams.specs.Standing.{StandsAt, Takes}
 use Rattle.tsb_field_streams.specs.Streaming.{Follows, WroteFront, Went, Sticks, Finished, EndedBehind, EndedSo, known_log, whole_log}
 use Rattle.tsb_field_streams.proofs.ReadLemmas.{all-comes, front-comes, kept-last, kept-line, read-byte, read-fault, read-line, read-start, sticks-more}
 
@@ -311,19 +311,16 @@ whole-taken g s few =
     let long : length (whole_log g s) ≡ 39 * length (rows_of (row_in g.from g.wires s.events)) = text-length (rows_of (row_in g.from g.wires s.events)) in
     logs g.from g.wires s.events (omega (arith, long, few))
 
-pub end-whole : (g : Given) (bytes : List ℕ) (filter last : Filter) (rest : Rows) (left_out : LeftOut) (a b c d : Option (List ℕ)) → (k : AllKnown g bytes filter a b)
+pub end-whole : (g : Given) (bytes : List ℕ) (filter : Filter) (rest : Rows) (summary : Summary) (a b c d : Option (List ℕ)) → (k : AllKnown g bytes filter a b)
     → length (rows_of (row_in g.from g.wires k.stand.events)) ≤ 1720740 → rows_before g.from g.wires k.stand.events ++ rows_in rest ≡ rows_of (row_in g.from g.wires k.stand.events) → Appends b c (log_text (rows_in rest)) → Keeps c d
-    → left_out_of last ≡ left_out_of filter → left_out ≡ left_out_of last → Finished (Ok left_out) g bytes a d
-end-whole g bytes filter last rest left_out a b c d k few whole ok kept same is = (
+    → summary ≡ summary_at g k.stand → Finished (Ok summary) g bytes a d
+end-whole g bytes filter rest summary a b c d k few whole ok kept is = (
   whole_log g k.stand,
   grown-whole g k.stand rest a b c d whole k.grown ok kept,
   record {
     stand = k.stand;
     comes = k.comes;
-    others = ap (λ (l : LeftOut). l.of_other_devices) (is ∙ same) ∙ k.stands.others;
-    unwired = ap (λ (l : LeftOut). l.without_input) (is ∙ same) ∙ k.stands.unwired;
-    passed = ap (λ (l : LeftOut). l.passed) (is ∙ same) ∙ k.stands.passed;
-    found = ap (λ (l : LeftOut). l.found) (is ∙ same) ∙ k.stands.found;
+    told = is;
     log = refl;
     taken = whole-taken g k.stand few;
   },
@@ -359,7 +356,7 @@ ended-read g stream left input now then a c k kept = record {
 }
 
 -- at the end of what is read
-pub ended-end : (r : Result LeftOut FilterError) (g : Given) (stream : Stream) (left : ℕ) (bytes : List ℕ) (input now then a c d : Option (List ℕ)) → (k : Going g stream left input now a c) → Consumes now then bytes → bytes ≡ [] → IsAtEnd then
+pub ended-end : (r : Result Summary FilterError) (g : Given) (stream : Stream) (left : ℕ) (bytes : List ℕ) (input now then a c d : Option (List ℕ)) → (k : Going g stream left input now a c) → Consumes now then bytes → bytes ≡ [] → IsAtEnd then
     → Finished r g k.read a d → EndedBehind r g input then a d
 ended-end r g stream left bytes input now then a c d k none empty end finished = record {
   read = k.read;
@@ -368,8 +365,8 @@ ended-end r g stream left bytes input now then a c d k none empty end finished =
   most = inl (let fits : length k.read + left ≡ 1073741824 = k.fits in omega (arith, fits));
 }
   where
-    ends : (r : Result LeftOut FilterError) → Finished r g k.read a d → EndedSo r g then k.read a d
-    ends (Ok left_out) f = (end, f.0, f.1, f.2)
+    ends : (r : Result Summary FilterError) → Finished r g k.read a d → EndedSo r g then k.read a d
+    ends (Ok summary) f = (end, f.0, f.1, f.2)
     ends (Err e) f = (f.0, elim f.1 [ inl write ↦ inr (inl write) | inr why ↦ inr (inr (inr (inr (end, why)))) ])
 
 -- a byte too many was read
@@ -400,16 +397,16 @@ ended-fault e g stream left count bytes input now then a c d k more long le w = 
 }
 
 -- no row is known before the first event
-nothing-known : (g : Given) → known_log g start ≡ []
+nothing-known : (g : Given) → known_log g (start g) ≡ []
 unfolding changes log_text
 nothing-known g = refl
 
 -- before the first byte
-pub follows-start : (g : Given) (stream : Stream) (a : Option (List ℕ)) → StandsAt g start stream.filter → stream.number ≡ 1 → stream.line ≡ [] → Follows g [] stream a a
+pub follows-start : (g : Given) (stream : Stream) (a : Option (List ℕ)) → StandsAt g (start g) stream.filter → stream.number ≡ 1 → stream.line ≡ [] → Follows g [] stream a a
 follows-start g stream a stands number empty = record {
-  stand = start;
+  stand = start g;
   held = [];
-  read = subst (λ (n : ℕ). HasRead g [] n start []) (sym number) (read-start g);
+  read = subst (λ (n : ℕ). HasRead g [] n (start g) []) (sym number) (read-start g);
   kept = empty;
   stands = stands;
   grown = subst (λ (v : List ℕ). Appends a a v) (sym (nothing-known g)) (appends-nothing a);

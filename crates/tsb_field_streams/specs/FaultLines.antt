@@ -1,5 +1,5 @@
 -- The line that tells what ended a filter, without its end. Lines of events count from 1.
-use Rattle.std.specs.Prelude.{ℕ, ◌==◌, ◌||◌, nat_lt, List, [], ◌∷◌, ◌++◌, take, min, map, if◌then◌else◌, codes, decimal}
+use Rattle.std.specs.Prelude.{ℕ, ◌+◌, ◌/◌, ◌==◌, ◌||◌, nat_lt, List, [], ◌∷◌, ◌++◌, take, min, map, if◌then◌else◌, codes, decimal}
 use Rattle.tsb_event_text.specs.declared.columns.Column.{Column}
 use Rattle.tsb_event_text.specs.declared.columns.Column.TheVariants.{Device, Time, Code, Parameter}
 use Rattle.tsb_event_text.specs.declared.columns.Separator.{Separator}
@@ -10,8 +10,10 @@ use Rattle.tsb_event_text.specs.declared.faults.RowFault.{RowFault}
 use Rattle.tsb_event_text.specs.declared.faults.RowFault.TheVariants.{Utf16, Zip, Xml, Binary, Lacks, Quote, Parted, Missing, Ambiguous, NoDay, NoSeconds, OtherForm, NoTime, NoNumber}
 use Rattle.tsb_event_text.specs.declared.time_forms.TimeForm.{TimeForm}
 use Rattle.tsb_event_text.specs.declared.time_forms.TimeForm.TheVariants.{YearFirst, MonthFirst, DayFirst, Seconds, Milliseconds}
+use Rattle.tsb_field_streams.specs.declared.error.Disorder.{Disorder}
 use Rattle.tsb_field_streams.specs.declared.error.FilterError.{FilterError}
 use Rattle.tsb_field_streams.specs.declared.error.FilterError.TheVariants.{Memory, Read, Write, TooLarge, LongLine, Malformed, TimeOrder, PastEnd, LogTooLarge}
+use Rattle.tsb_field_streams.specs.Clocks.{clock_text}
 
 -- which line it is
 abbrev pub line_number : ℕ → List ℕ
@@ -56,10 +58,13 @@ separator_name Comma = codes "commas"
 separator_name Semicolon = codes "semicolons"
 separator_name Tab = codes "tabs"
 
+-- which separator a line has
+abbrev pub own_text : Separator → List ℕ
+own_text own = separator_name own ++ codes " part its fields, and "
+
 -- a line that has another separator than all
 abbrev pub parted_text : Separator → Separator → List ℕ
-parted_text all own =
-    separator_name own ++ (codes " part its fields, and " ++ (separator_name all ++ codes " those above: one separator a file"))
+parted_text all own = own_text own ++ (separator_name all ++ codes " those above: one separator a file")
 
 -- what is wrong with a line of a text
 abbrev pub why_text : RowFault → List ℕ
@@ -86,6 +91,16 @@ row_fault_text line Xml = codes "events: XML: export as CSV"
 row_fault_text line Binary = codes "events: binary: convert by the controller's own program"
 row_fault_text line why = line_number line ++ (codes ": " ++ why_text why)
 
+-- a time of a later day is told as such
+abbrev pub day_between : Disorder → List ℕ
+day_between d = if nat_lt (d.moment / 86400000000000) (d.last / 86400000000000) then codes " of a later day" else []
+
+-- a row that is earlier than one before it: both times, and the column to sort by
+abbrev pub disorder_text : Disorder → List ℕ
+disorder_text d =
+    line_number d.line ++ (codes ": time order: " ++ (clock_text d.moment ++ (codes " after " ++ (clock_text d.last
+    ++ (day_between d ++ (codes ": sort by column " ++ decimal (d.column + 1)))))))
+
 -- what ended a filter is told as
 abbrev pub filter_fault : FilterError → List ℕ
 filter_fault Memory = codes "memory"
@@ -94,6 +109,6 @@ filter_fault Write = codes "write fault"
 filter_fault TooLarge = codes "events: too large"
 filter_fault (LongLine line) = line_number line ++ codes ": over 1000 bytes (is it a text with lines?)"
 filter_fault (Malformed line why) = row_fault_text line why
-filter_fault (TimeOrder line) = line_number line ++ codes ": time order: it is before a row above: sort by time"
+filter_fault (TimeOrder disorder) = disorder_text disorder
 filter_fault PastEnd = codes "events: past tick 6000000"
 filter_fault LogTooLarge = codes "log: too large"

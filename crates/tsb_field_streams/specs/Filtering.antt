@@ -1,6 +1,6 @@
 -- What lines of events come to, one after another: the events of inputs that they tell, what they leave out, or the first
 -- fault.
-use Rattle.std.specs.Prelude.{ℕ, ◌+◌, ◌==◌, ◌&&◌, min, nat_lt, not, Bool, true, false, List, [], ◌∷◌, ◌++◌, length, if◌then◌else◌, Option, Some, None, Result, Ok, Err}
+use Rattle.std.specs.Prelude.{ℕ, ◌+◌, ◌==◌, ◌&&◌, min, filter, nat_lt, not, position, replicate, set, Bool, true, false, List, [], ◌∷◌, ◌++◌, length, if◌then◌else◌, Option, Some, None, Result, Ok, Err}
 use Rattle.tsb_log_text.specs.tsb_types.declared.limits.TheConstants.{TICKS}
 use Rattle.tsb_lines.specs.Lines.{is_skipped}
 use Rattle.tsb_event_text.specs.declared.columns.Columns.{Columns}
@@ -13,41 +13,62 @@ use Rattle.tsb_event_text.specs.declared.columns.Column.TheVariants.{Device}
 use Rattle.tsb_event_text.specs.declared.time_forms.TimeForm.{TimeForm}
 use Rattle.tsb_event_text.specs.declared.time_forms.TimeForm.TheVariants.{YearFirst}
 use Rattle.tsb_event_text.specs.declared.wide.WideRow.{WideRow}
+use Rattle.tsb_event_text.specs.declared.zones.Zone.{Zone}
 use Rattle.tsb_event_text.specs.Faults.{fault_of, is_preface}
 use Rattle.tsb_event_text.specs.TimeForms.{is_there}
 use Rattle.tsb_event_text.specs.Wide.{is_passed, wide_of}
+use Rattle.tsb_field_log.specs.declared.inputs.Kind.{Kind}
 use Rattle.tsb_field_log.specs.declared.inputs.Signal.{Signal}
 use Rattle.tsb_field_log.specs.declared.inputs.Wire.{Wire}
 use Rattle.tsb_field_log.specs.declared.inputs.InputEvent.{InputEvent}
 use Rattle.tsb_field_log.specs.Inputs.{signal_of}
-use Rattle.tsb_field_log.specs.Mapping.{is_wired}
+use Rattle.tsb_field_log.specs.Mapping.{leads_from}
 use Rattle.tsb_field_log.specs.Streets.{tick_at}
-use Rattle.tsb_field_log.specs.Pushed.{rows_before}
+use Rattle.tsb_field_log.specs.Pushed.{last_tick, rows_before}
+use Rattle.tsb_field_streams.specs.declared.error.Disorder.{Disorder}
 use Rattle.tsb_field_streams.specs.declared.error.FilterError.{FilterError}
 use Rattle.tsb_field_streams.specs.declared.error.FilterError.TheVariants.{LongLine, Malformed, TimeOrder, PastEnd, LogTooLarge}
+use Rattle.tsb_field_streams.specs.declared.filter.Summary.{Summary}
 use Rattle.tsb_field_streams.specs.declared.filter.TheConstants.{LINE, MOST_ROWS}
 
--- what a filter is asked for: the moment at which tick 1 begins, the device whose rows count, and the wires
+-- what a filter is asked for: the moment at which tick 1 begins, the device whose rows count, the form of times, the zone
+-- by which moments are told, and the wires
 pub record Given : Type 0 where
   pub from : ℕ
   pub device : Option (List ℕ)
+  pub times : Option TimeForm
+  pub zone : Option Zone
   pub wires : List Wire
 
--- what is known after some lines: where the columns stand, the form of times, the moment of the last row that counted, how
--- many rows were of other devices, how many events had no wire and how many lines were passed over, and the events of
--- inputs
+-- what is known after some lines: where the columns stand, the form of times, how many rows counted, the moments of the
+-- first and the last of them, for each wire whether it is the first of its channel and had an event, how many rows were of
+-- other devices, how many events had no wire and how many lines were passed over, and the events of inputs
 pub record Stand : Type 0 where
   pub columns : Option Columns
   pub times : Option TimeForm
+  pub counted : ℕ
+  pub first : ℕ
   pub last : ℕ
+  pub used : List Bool
   pub others : ℕ
   pub unwired : ℕ
   pub passed : ℕ
   pub events : List InputEvent
 
 -- before the first line
-abbrev pub start : Stand
-start = record { columns = None; times = None; last = 0; others = 0; unwired = 0; passed = 0; events = [] }
+abbrev pub start : Given → Stand
+start g = record {
+  columns = None;
+  times = g.times;
+  counted = 0;
+  first = 0;
+  last = 0;
+  used = replicate (length g.wires) false;
+  others = 0;
+  unwired = 0;
+  passed = 0;
+  events = [];
+}
 
 -- what is counted fits 32 bits: a count stays at the greatest
 abbrev pub one_more : ℕ → ℕ
@@ -62,20 +83,44 @@ with_events g s events =
 abbrev pub with_event : Given → Stand → InputEvent → Result Stand FilterError
 with_event g s event = if nat_lt TICKS (tick_at g.from event.nanos) then Err PastEnd else with_events g s (s.events ++ event ∷ [])
 
--- what the code of a row says: of no input it is passed over, and on a channel without a wire it is counted
+-- the first wire of this kind and from this channel
+abbrev pub wire_place : List Wire → Kind → ℕ → Option ℕ
+wire_place wires kind channel = position (leads_from kind channel) wires
+
+-- the channel of this wire has had an event
+abbrev pub with_used : Stand → ℕ → Stand
+with_used s place = record s { used = if nat_lt place (length s.used) then set s.used place true else s.used }
+
+-- an event of an input, where a wire leads from its channel; else it is counted
+abbrev pub with_wire : Given → Stand → EventRow → Signal → Option ℕ → Result Stand FilterError
+with_wire g s row signal None = Ok (record s { unwired = one_more s.unwired })
+with_wire g s row signal (Some place) =
+    with_event g (with_used s place) (record { nanos = row.moment.nanos; kind = signal.kind; channel = row.parameter; on = signal.on })
+
+-- what the code of a row says: of no input it is passed over
 abbrev pub with_signal : Given → Stand → EventRow → Option Signal → Result Stand FilterError
 with_signal g s row None = Ok s
-with_signal g s row (Some signal) =
-    if is_wired g.wires signal.kind row.parameter
-    then with_event g s (record { nanos = row.moment.nanos; kind = signal.kind; channel = row.parameter; on = signal.on })
-    else Ok (record s { unwired = one_more s.unwired })
+with_signal g s row (Some signal) = with_wire g s row signal (wire_place g.wires signal.kind row.parameter)
+
+-- one more row counts, of this moment
+abbrev pub with_count : Stand → ℕ → Stand
+with_count s moment = record s { counted = one_more s.counted; first = if s.counted == 0 then moment else s.first; last = moment }
+
+-- the place of the column that has the times
+abbrev pub time_place : Option Columns → ℕ
+time_place None = 0
+time_place (Some columns) = columns.time
+
+-- a row of this moment, on the line with this number, is earlier than the last that counted
+abbrev pub disorder : ℕ → Stand → ℕ → Disorder
+disorder number s moment = record { line = number; moment = moment; last = s.last; column = time_place s.columns }
 
 -- a row: one of another device is counted; of the others each is no earlier than the one before
 abbrev pub with_row : Given → ℕ → Stand → EventRow → Result Stand FilterError
 with_row g number s row =
     if not row.ours then Ok (record s { others = one_more s.others })
-    else if nat_lt row.moment.nanos s.last then Err (TimeOrder number)
-    else with_signal g (record s { last = row.moment.nanos }) row (signal_of row.code)
+    else if nat_lt row.moment.nanos s.last then Err (TimeOrder (disorder number s row.moment.nanos))
+    else with_signal g (with_count s row.moment.nanos) row (signal_of row.code)
 
 -- a row whose time has this form
 abbrev pub with_formed : Given → ℕ → Stand → TimeForm → EventRow → Result Stand FilterError
@@ -110,7 +155,7 @@ with_wide g number s why (Some row) = with_parameter g number s why row (paramet
 abbrev pub with_other_line : Given → ℕ → Stand → Columns → List ℕ → Result Stand FilterError
 with_other_line g number s columns text =
     if is_passed text then with_passed s
-    else with_wide g number s (fault_of columns s.times text) (wide_of columns s.times None g.device text)
+    else with_wide g number s (fault_of columns s.times text) (wide_of columns s.times g.zone g.device text)
 
 -- a plain row, where a line spells one
 abbrev pub with_some_row : Given → ℕ → Stand → Columns → List ℕ → Option EventRow → Result Stand FilterError
@@ -166,3 +211,26 @@ text_of number line = if number == 1 then without_mark line else line
 unfoldable pub with_line : Given → ℕ → Stand → List ℕ → Result Stand FilterError
 with_line g number s line =
     if nat_lt LINE (length line) then Err (LongLine number) else with_unmarked g number s (text_of number line)
+
+-- ## What was read
+
+-- how many of these are true
+abbrev pub how_many : List Bool → ℕ
+how_many flags = length (filter (λ flag. flag) flags)
+
+-- an input had an event from tick 1 on: the last one, as they come in the order of time
+abbrev pub is_heard : ℕ → List InputEvent → Bool
+is_heard from events = nat_lt 0 (last_tick from events)
+
+-- what was read by some lines: what was left out, the form of times, the rows that counted with the moments of the first and
+-- the last of them, how many channels that lead to an input had an event, and whether an input had one from tick 1 on
+abbrev pub summary_at : Given → Stand → Summary
+summary_at g s = record {
+  left_out = record { of_other_devices = s.others; without_input = s.unwired; passed = s.passed; found = is_there s.columns };
+  times = s.times;
+  rows = s.counted;
+  first = s.first;
+  last = s.last;
+  channels = how_many s.used;
+  heard = is_heard g.from s.events;
+}

@@ -6,5 +6,7 @@ pub mod Standing
 pub mod Lines
 -- what a filter of a stream has read and written
 pub mod Streaming
+-- times of day as faults show them
+pub mod Clocks
 -- the line that tells what ended a filter
 pub mod FaultLines

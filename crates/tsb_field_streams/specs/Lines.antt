@@ -12,7 +12,7 @@ lines_behind g number (Ok s) (line ∷ lines) = lines_behind g (one_more number)
 
 -- what a text comes to
 abbrev pub filtered : Given → List ℕ → Result Stand FilterError
-filtered g text = lines_behind g 1 (Ok start) (lines_of text)
+filtered g text = lines_behind g 1 (Ok (start g)) (lines_of text)
 
 -- of these bytes the whole lines have come to this, and those after the last line feed begin the line with this number
 pub record HasRead (g : Given) (bytes : List ℕ) (number : ℕ) (s : Stand) (held : List ℕ) : Type 0 where

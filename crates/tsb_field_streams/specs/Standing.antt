@@ -1,12 +1,14 @@
 -- How far a filter has come by the lines that it has taken.
-use Rattle.std.specs.Prelude.{◌≡◌, ◌≤◌, ◌++◌, length, option_map, Result, Ok, Err}
+use Rattle.std.specs.Prelude.{◌≡◌, ◌≤◌, ◌++◌, ℕ, List, length, Option, option_map, Result, Ok, Err}
 use Rattle.tsb_event_text.specs.TimeForms.{is_there}
+use Rattle.tsb_field_log.specs.declared.inputs.Wire.{Wire}
 use Rattle.tsb_field_log.specs.declared.street.Rows.{Rows}
 use Rattle.tsb_field_log.specs.Streets.{tick_at, rows_in}
 use Rattle.tsb_field_log.specs.Pushed.{last_tick, rows_before}
 use Rattle.tsb_field_log.specs.Taken.{HasTaken}
 use Rattle.tsb_field_streams.specs.declared.error.FilterError.{FilterError}
 use Rattle.tsb_field_streams.specs.declared.filter.Filter.{Filter}
+use Rattle.tsb_field_streams.specs.declared.filter.Reading.{Reading}
 use Rattle.tsb_field_streams.specs.declared.filter.LeftOut.{LeftOut}
 use Rattle.tsb_field_streams.specs.declared.filter.TheConstants.{MOST_ROWS}
 use Rattle.tsb_field_streams.specs.Filtering.{Given, Stand}
@@ -15,13 +17,33 @@ use Rattle.tsb_field_streams.specs.Filtering.{Given, Stand}
 abbrev pub left_out_of : Filter → LeftOut
 left_out_of f = f.left_out
 
+-- what is asked for
+abbrev pub given_of : Reading → Option (List ℕ) → List Wire → Given
+given_of reading device wires = record {
+  from = reading.from.nanos;
+  device = device;
+  times = reading.times;
+  zone = reading.zone;
+  wires = wires;
+}
+
+-- rows are read so
+pub record IsRead (g : Given) (reading : Reading) : Type 0 where
+  pub from : g.from ≡ reading.from.nanos
+  pub times : g.times ≡ reading.times
+  pub zone : g.zone ≡ reading.zone
+
 -- a filter of what is given has come to this
 pub record StandsAt (g : Given) (s : Stand) (f : Filter) : Type 0 where
+  pub reading : IsRead g f.reading
   pub device : g.device ≡ option_map (λ d. d.now) f.device
   pub wires : g.wires ≡ f.wires.now
   pub columns : f.columns ≡ s.columns
   pub times : f.times ≡ s.times
+  pub counted : f.counted ≡ s.counted
+  pub first : f.first ≡ s.first
   pub last : f.last ≡ s.last
+  pub used : f.used.items ≡ s.used
   pub others : f.left_out.of_other_devices ≡ s.others
   pub unwired : f.left_out.without_input ≡ s.unwired
   pub passed : f.left_out.passed ≡ s.passed

@@ -2,7 +2,6 @@
 use Rattle.std.specs.Prelude.{◌≡◌, ◌⊎◌, ◌<◌, ◌≤◌, ◌+◌, ℕ, List, ◌++◌, length, Option, Result, Ok, Err}
 use Rattle.std.specs.Io.KnownBytes.{Appends, Consumes, IsAtEnd}
 use Rattle.tsb_lines.specs.Lines.{kept}
-use Rattle.tsb_event_text.specs.TimeForms.{is_there}
 use Rattle.tsb_log_text.specs.Logs.{log_of}
 use Rattle.tsb_field_log.specs.Changes.{rows_of}
 use Rattle.tsb_log_text.specs.LogText.{log_text}
@@ -10,11 +9,11 @@ use Rattle.tsb_field_log.specs.Pushed.{rows_before}
 use Rattle.tsb_field_log.specs.Ticks.{row_in}
 use Rattle.tsb_field_streams.specs.declared.error.FilterError.{FilterError}
 use Rattle.tsb_field_streams.specs.declared.error.FilterError.TheVariants.{Memory, Read, Write, TooLarge, LogTooLarge}
-use Rattle.tsb_field_streams.specs.declared.filter.LeftOut.{LeftOut}
+use Rattle.tsb_field_streams.specs.declared.filter.Summary.{Summary}
 use Rattle.tsb_field_streams.specs.declared.filter.TheConstants.{MOST_ROWS}
 use Rattle.tsb_field_streams.specs.declared.stream.Stream.{Stream}
 use Rattle.tsb_field_streams.specs.declared.stream.TheConstants.{EVENTS, KEPT}
-use Rattle.tsb_field_streams.specs.Filtering.{Given, Stand}
+use Rattle.tsb_field_streams.specs.Filtering.{Given, Stand, summary_at}
 use Rattle.tsb_field_streams.specs.Lines.{HasRead, filtered}
 use Rattle.tsb_field_streams.specs.Standing.{StandsAt}
 
@@ -57,14 +56,11 @@ abbrev pub Went : Result (Unit {0}) FilterError → Given → List ℕ → Strea
 Went (Ok u) g bytes stream old new = Follows g bytes stream old new
 Went (Err fault) g bytes stream old new = WroteFront g bytes old new × ((fault ≡ Write) ⊎ Sticks g bytes fault)
 
--- these bytes are all: this is their log, which readers of logs take, and what they tell that is left out
-pub record IsWhole (g : Given) (bytes : List ℕ) (left_out : LeftOut) (written : List ℕ) : Type 0 where
+-- these bytes are all: this is their log, which readers of logs take, and what was read of them
+pub record IsWhole (g : Given) (bytes : List ℕ) (summary : Summary) (written : List ℕ) : Type 0 where
   pub stand : Stand
   pub comes : filtered g bytes ≡ Ok stand
-  pub others : left_out.of_other_devices ≡ stand.others
-  pub unwired : left_out.without_input ≡ stand.unwired
-  pub passed : left_out.passed ≡ stand.passed
-  pub found : left_out.found ≡ is_there stand.columns
+  pub told : summary ≡ summary_at g stand
   pub log : written ≡ whole_log g stand
   pub taken : log_of written ≡ Ok (rows_of (row_in g.from g.wires stand.events))
 
@@ -79,8 +75,8 @@ abbrev pub IsFaultOfAll : Given → List ℕ → FilterError → Type 0
 IsFaultOfAll g bytes fault = (filtered g bytes ≡ Err fault) ⊎ ((fault ≡ LogTooLarge) × IsTooLong g bytes)
 
 -- these bytes are all: their whole log is written; or a fault of theirs came, or of the writer
-abbrev pub Finished : Result LeftOut FilterError → Given → List ℕ → Option (List ℕ) → Option (List ℕ) → Type 0
-Finished (Ok left_out) g bytes old new = (written : List ℕ) × Appends old new written × IsWhole g bytes left_out written
+abbrev pub Finished : Result Summary FilterError → Given → List ℕ → Option (List ℕ) → Option (List ℕ) → Type 0
+Finished (Ok summary) g bytes old new = (written : List ℕ) × Appends old new written × IsWhole g bytes summary written
 Finished (Err fault) g bytes old new = WroteFront g bytes old new × ((fault ≡ Write) ⊎ IsFaultOfAll g bytes fault)
 
 -- why a stream ended, of which these bytes were read, and these are left: a device failed, it was too large, the bytes have
@@ -90,17 +86,17 @@ IsWhy fault g left read =
     (fault ≡ Read) ⊎ ((fault ≡ Write) ⊎ (((fault ≡ TooLarge) × (EVENTS < length read)) ⊎ (Sticks g read fault ⊎ (IsAtEnd left × IsFaultOfAll g read fault))))
 
 -- a stream has ended: at the end of what is read, with the whole log written; or by a fault, with a prefix of it
-abbrev pub EndedSo : Result LeftOut FilterError → Given → Option (List ℕ) → List ℕ → Option (List ℕ) → Option (List ℕ) → Type 0
-EndedSo (Ok left_out) g left read old new = IsAtEnd left × (written : List ℕ) × Appends old new written × IsWhole g read left_out written
+abbrev pub EndedSo : Result Summary FilterError → Given → Option (List ℕ) → List ℕ → Option (List ℕ) → Option (List ℕ) → Type 0
+EndedSo (Ok summary) g left read old new = IsAtEnd left × (written : List ℕ) × Appends old new written × IsWhole g read summary written
 EndedSo (Err fault) g left read old new = WroteFront g read old new × IsWhy fault g left read
 
 -- the bytes that it read, of which there are 1 GiB at most, or one more that makes it too large
-pub record EndedBehind (result : Result LeftOut FilterError) (g : Given) (input left old new : Option (List ℕ)) : Type 0 where
+pub record EndedBehind (result : Result Summary FilterError) (g : Given) (input left old new : Option (List ℕ)) : Type 0 where
   pub read : List ℕ
   pub taken : Consumes input left read
   pub so : EndedSo result g left read old new
   pub most : (length read ≤ EVENTS) ⊎ ((length read ≡ EVENTS + 1) × (result ≡ Err TooLarge))
 
 -- how a filter of a stream ended; with no memory to begin with it has read nothing and written nothing
-abbrev pub Ended : Result LeftOut FilterError → Given → Option (List ℕ) → Option (List ℕ) → Option (List ℕ) → Option (List ℕ) → Type 0
+abbrev pub Ended : Result Summary FilterError → Given → Option (List ℕ) → Option (List ℕ) → Option (List ℕ) → Option (List ℕ) → Type 0
 Ended result g input left old new = EndedBehind result g input left old new ⊎ ((result ≡ Err Memory) × (left ≡ input) × (new ≡ old))

@@ -1,6 +1,19 @@
 //! What ends a filter before its events do.
 use tsb_event_text::RowFault;
 
+/// A row that is earlier than one before it.
+#[derive(Clone, Copy, Debug, PartialEq, Eq)]
+pub struct Disorder {
+    /// The number of its line, counted from 1.
+    pub line: u32,
+    /// Its moment, in nanoseconds as a `Moment` counts them.
+    pub moment: u128,
+    /// The latest moment of the rows before it.
+    pub last: u128,
+    /// The place of the column that has the times, counted from 0.
+    pub column: usize,
+}
+
 /// What ends a filter before its events do. What was written until then is a prefix of the log.
 #[derive(Clone, Copy, Debug, PartialEq, Eq)]
 pub enum FilterError {
@@ -16,8 +29,8 @@ pub enum FilterError {
     LongLine(u32),
     /// This line, counted from 1, is neither skipped nor a header nor a row of an event, and why.
     Malformed(u32, RowFault),
-    /// This line, counted from 1, has an earlier moment than a line before it.
-    TimeOrder(u32),
+    /// A row is earlier than one before it.
+    TimeOrder(Disorder),
     /// An event of an input is past tick 6,000,000.
     PastEnd,
     /// The log has more than 64 MiB, which no reader of logs takes.

@@ -1,8 +1,9 @@
 //! The line that tells what ended a filter.
-ghost use Rattle.std.specs.Prelude.{◌≡◌, ◌++◌, ◌∷◌, [], map, IfOk, OnOk};
-ghost use Rattle.tsb_field_streams.specs.FaultLines.{column_name, example, field_text, filter_fault, line_number, no_time_text, other_form_text, parted_text, row_fault_text, safe, separator_name, why_text};
+ghost use Rattle.std.specs.Prelude.{◌≡◌, ◌+◌, ◌++◌, ◌∷◌, [], decimal, map, IfOk, OnOk};
+ghost use Rattle.tsb_field_streams.specs.FaultLines.{column_name, day_between, disorder_text, example, field_text, filter_fault, line_number, no_time_text, other_form_text, own_text, parted_text, row_fault_text, safe, separator_name, why_text};
 
-use crate::error::FilterError;
+use crate::clocks::{DAY, append_clock};
+use crate::error::{Disorder, FilterError};
 use itoa::Buffer;
 use std::alloc::{AllocError, Global};
 use tsb_event_text::{Column, RowFault, SHOWN, Separator, Shown, TimeForm, time_form_word};
@@ -31,12 +32,42 @@ fn append_fault(text: &mut Vec<u8>, fault: FilterError) -> Result<(), AllocError
             text.extend_from_slice(b": over 1000 bytes (is it a text with lines?)")
         }
         FilterError::Malformed(line, why) => append_malformed(text, line, why),
-        FilterError::TimeOrder(line) => {
-            append_line(text, line)?;
-            text.extend_from_slice(b": time order: it is before a row above: sort by time")
-        }
+        FilterError::TimeOrder(disorder) => append_disorder(text, disorder),
         FilterError::PastEnd => text.extend_from_slice(b"events: past tick 6000000"),
         FilterError::LogTooLarge => text.extend_from_slice(b"log: too large"),
+    }
+}
+
+/// Adds that a row is earlier than one before it, with both times, and which column to sort by.
+fn append_disorder(text: &mut Vec<u8>, disorder: Disorder) -> Result<(), AllocError>
+    ensures { OnOk result (text.new.items ≡ text.old.items ++ disorder_text disorder) }
+{
+    append_line(text, disorder.line)?;
+    text.extend_from_slice(b": time order: ")?;
+    append_clock(text, disorder.moment)?;
+    text.extend_from_slice(b" after ")?;
+    append_clock(text, disorder.last)?;
+    text.extend_from_slice(day_between(disorder))?;
+    text.extend_from_slice(b": sort by column ")?;
+    append_place(text, disorder.column)
+}
+
+/// Adds the number of the column at a place, counted from 1.
+fn append_place(text: &mut Vec<u8>, place: usize) -> Result<(), AllocError>
+    ensures { OnOk result (text.new.items ≡ text.old.items ++ decimal (place + 1)) }
+{
+    let mut buffer = Buffer::new();
+    text.extend_from_slice(buffer.format(place as u128 + 1).as_bytes())
+}
+
+/// What is said of a later day, where the time before it is of one.
+fn day_between(disorder: Disorder) -> &'static [u8]
+    ensures { result.now ≡ day_between disorder }
+{
+    if disorder.moment / DAY < disorder.last / DAY {
+        b" of a later day"
+    } else {
+        b""
     }
 }
 
@@ -133,10 +164,17 @@ fn append_other_form(
 fn append_parted(text: &mut Vec<u8>, all: Separator, own: Separator) -> Result<(), AllocError>
     ensures { OnOk result (text.new.items ≡ text.old.items ++ parted_text all own) }
 {
-    text.extend_from_slice(separator_name(own))?;
-    text.extend_from_slice(b" part its fields, and ")?;
+    append_own(text, own)?;
     text.extend_from_slice(separator_name(all))?;
     text.extend_from_slice(b" those above: one separator a file")
+}
+
+/// Adds which separator a line has.
+fn append_own(text: &mut Vec<u8>, own: Separator) -> Result<(), AllocError>
+    ensures { OnOk result (text.new.items ≡ text.old.items ++ own_text own) }
+{
+    text.extend_from_slice(separator_name(own))?;
+    text.extend_from_slice(b" part its fields, and ")
 }
 
 /// The name of a separator.

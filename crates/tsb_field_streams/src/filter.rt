@@ -1,20 +1,21 @@
 //! Lines of events, one after another, and the rows of the log that they make known.
-ghost use Rattle.std.specs.Prelude.{◌≡◌, ◌<◌, ◌≤◌, ◌-◌, ◌++◌, [], nat_le, Some, None, Ok, length, option_map, MatchResult, OnOk};
-ghost use Rattle.tsb_event_text.specs.TimeForms.{is_there};
+ghost use Rattle.std.specs.Prelude.{◌≡◌, ◌<◌, ◌≤◌, ◌-◌, ◌==◌, ◌++◌, [], false, if◌then◌else◌, nat_le, Some, None, Ok, length, option_map, replicate, MatchResult, OnOk};
+ghost use Rattle.tsb_event_text.specs.Faults.{fault_of};
 ghost use Rattle.tsb_field_log.specs.Changes.{rows_of};
+ghost use Rattle.tsb_field_log.specs.Mapping.{leads_from};
 ghost use Rattle.tsb_field_log.specs.Streets.{rows_in};
 ghost use Rattle.tsb_field_log.specs.Pushed.{rows_before};
 ghost use Rattle.tsb_field_log.specs.Ticks.{row_in};
 ghost use Rattle.tsb_field_log.specs.Taken.{HasTaken};
-ghost use Rattle.tsb_field_streams.specs.Filtering.{Given, Stand, may_be_plain, parameter_of, start, text_of, with_event, with_first, with_formed, with_header, with_line, with_other_line, with_passed, with_row, with_row_line, with_signal, with_text, with_wide, without_mark};
+ghost use Rattle.tsb_field_streams.specs.Filtering.{Given, Stand, how_many, may_be_plain, parameter_of, start, summary_at, text_of, time_place, wire_place, with_count, with_event, with_first, with_formed, with_header, with_line, with_other_line, with_passed, with_row, with_row_line, with_signal, with_text, with_used, with_wide, without_mark};
 ghost use Rattle.tsb_field_streams.specs.declared.error.FilterError.TheVariants.{LogTooLarge};
 
-use crate::error::FilterError;
+use crate::error::{Disorder, FilterError};
 use tsb_event_text::{
-    Column, Columns, EventRow, RowFault, TimeForm, WideRow, event_row, header, is_passed,
-    is_preface, row_fault, wide_row,
+    Column, Columns, EventRow, Moment, RowFault, TimeForm, WideRow, Zone, event_row, header,
+    is_passed, is_preface, row_fault, wide_row,
 };
-use tsb_field_log::{InputEvent, Rows, Signal, Street, Wire, is_wired};
+use tsb_field_log::{InputEvent, Kind, Rows, Signal, Street, Wire};
 use tsb_lines::is_skipped;
 
 /// The greatest length of a line, in bytes.
@@ -22,6 +23,17 @@ pub const LINE: usize = 1000;
 
 /// The most rows of a log: as many of 39 bytes as 64 MiB hold.
 pub const MOST_ROWS: u32 = 1_720_740;
+
+/// How rows are read.
+#[derive(Clone, Copy, PartialEq, Eq)]
+pub struct Reading {
+    /// The moment at which tick 1 begins.
+    pub from: Moment,
+    /// The form of times, or `None` where the first row says it.
+    pub times: Option<TimeForm>,
+    /// The zone of the clock by which moments are told, or `None` where each is what its own clock shows.
+    pub zone: Option<Zone>,
+}
 
 /// What a filter left out. A count stays at 4,294,967,295 once it has come to it.
 #[derive(Clone, Copy, PartialEq, Eq)]
@@ -37,19 +49,44 @@ pub struct LeftOut {
     pub found: bool,
 }
 
+/// What a filter read. A count stays at 4,294,967,295 once it has come to it.
+#[derive(Clone, Copy, PartialEq, Eq)]
+pub struct Summary {
+    pub left_out: LeftOut,
+    /// The form of times: that which was asked for, or that of the first row. `None` where there was neither.
+    pub times: Option<TimeForm>,
+    /// How many rows counted, whatever their codes.
+    pub rows: u32,
+    /// The moment of the first row that counted, in nanoseconds as a `Moment` counts them; 0 where none did.
+    pub first: u128,
+    /// The moment of the last row that counted, likewise.
+    pub last: u128,
+    /// How many channels that lead to an input had an event, also before tick 1.
+    pub channels: usize,
+    /// Whether an input had an event from the moment on at which tick 1 begins.
+    pub heard: bool,
+}
+
 /// What is known after some lines of events.
 #[derive(Drop)]
 pub struct Filter<'a> {
+    reading: Reading,
     /// The device whose rows count, byte for byte, or all where it is `None`.
     device: Option<&'a [u8]>,
     /// The wires that the street was made with.
     wires: &'a [Wire],
     /// Where the columns are, known from the first line that is not skipped.
     columns: Option<Columns>,
-    /// The form of times, known from the first row.
+    /// The form of times: that which is asked for, or else known from the first row.
     times: Option<TimeForm>,
+    /// How many rows counted.
+    counted: u32,
+    /// The moment of the first row that counted, in nanoseconds, and 0 before any.
+    first: u128,
     /// The moment of the last row that counted, in nanoseconds, and 0 before any.
     last: u128,
+    /// For each wire whether it is the first of its channel and had an event.
+    used: Vec<bool>,
     /// How many rows of the log are known.
     rows: u32,
     left_out: LeftOut,
@@ -63,21 +100,32 @@ const NO_ROWS: Rows = Rows {
 };
 
 impl<'a> Filter<'a> {
-    ghost use Rattle.tsb_field_streams.specs.Standing.{StandsAt, Takes, left_out_of};
+    ghost use Rattle.tsb_field_streams.specs.Standing.{IsRead, StandsAt, Takes, left_out_of};
 
-    /// A filter before the first line. Rows of `device` count, byte for byte, or all where it is `None`; `wires` are
-    /// those that the street was made with, which has taken no event yet.
+    /// A filter before the first line, where the street has taken no event yet. Rows of `device` count, byte for byte, or
+    /// all where it is `None`. `wires` are those that the street was made with, and `used` says of none of them that it had
+    /// an event.
     #[tactic(auto, using(crate::proofs::FilterLemmas::none_known))]
-    pub fn new(device: Option<&'a [u8]>, wires: &'a [Wire], street: Street) -> Filter<'a>
-        ensures { (g : Given) → g.device ≡ option_map (λ d. d.now) device.entry → g.wires ≡ wires.now → HasTaken g.from g.wires [] street
-            → StandsAt g start result }
+    pub fn new(
+        reading: Reading,
+        device: Option<&'a [u8]>,
+        wires: &'a [Wire],
+        used: Vec<bool>,
+        street: Street,
+    ) -> Filter<'a>
+        ensures { (g : Given) → IsRead g reading → g.device ≡ option_map (λ d. d.now) device.entry → g.wires ≡ wires.now → used.items ≡ replicate (length g.wires) false → HasTaken g.from g.wires [] street
+            → StandsAt g (start g) result }
     {
         Filter {
+            reading,
             device,
             wires,
             columns: None,
-            times: None,
+            times: reading.times,
+            counted: 0,
+            first: 0,
             last: 0,
+            used,
             rows: 0,
             left_out: LeftOut {
                 of_other_devices: 0,
@@ -195,17 +243,25 @@ impl<'a> Filter<'a> {
             return Ok(self.pass());
         }
         let times = self.times;
-        match wide_row(text, columns, times, None, self.device) {
-            Some(row) => self.take_wide(number, row, row_fault(text, columns, times)),
+        match wide_row(text, columns, times, self.reading.zone, self.device) {
+            Some(row) => self.take_wide(number, columns, text, row),
             None => Err(FilterError::Malformed(number, row_fault(text, columns, times))),
         }
     }
 
-    /// Takes a row as exports have it; this is its fault where it needs a parameter and has none.
-    fn take_wide(&mut self, number: u32, row: WideRow, why: RowFault) -> Result<Rows, FilterError>
-        ensures takes { (g : Given) (s : Stand) → StandsAt g s self.old → Takes g s (with_wide g number s why (Some row)) result self.new }
+    /// Takes a row as exports have it, which this line spells with its columns in these places. Its fault is found where
+    /// it needs a parameter and has none.
+    fn take_wide(
+        &mut self,
+        number: u32,
+        columns: Columns,
+        text: &[u8],
+        row: WideRow,
+    ) -> Result<Rows, FilterError>
+        ensures takes { (g : Given) (s : Stand) → StandsAt g s self.old → Takes g s (with_wide g number s (fault_of columns s.times text.now) (Some row)) result self.new }
     {
         let Some(parameter) = parameter_of(row) else {
+            let why = row_fault(text, columns, self.times);
             return Err(FilterError::Malformed(number, why));
         };
         self.take_formed(
@@ -235,7 +291,6 @@ impl<'a> Filter<'a> {
     }
 
     /// Takes a row.
-    #[tactic(auto, using(crate::proofs::FilterLemmas::stands_later))]
     fn take_row(&mut self, number: u32, row: EventRow) -> Result<Rows, FilterError>
         ensures takes { (g : Given) (s : Stand) → StandsAt g s self.old → Takes g s (with_row g number s row) result self.new }
     {
@@ -244,13 +299,27 @@ impl<'a> Filter<'a> {
             return Ok(NO_ROWS);
         }
         if row.moment.nanos < self.last {
-            return Err(FilterError::TimeOrder(number));
+            return Err(FilterError::TimeOrder(Disorder {
+                line: number,
+                moment: row.moment.nanos,
+                last: self.last,
+                column: time_place(self.columns),
+            }));
         }
-        self.last = row.moment.nanos;
+        self.count(row.moment.nanos);
         match Signal::of_code(row.code) {
             None => Ok(NO_ROWS),
             Some(signal) => self.take_signal(row, signal),
         }
+    }
+
+    /// Counts a row of this moment, which is no earlier than the last.
+    fn count(&mut self, moment: u128)
+        ensures stands { (g : Given) (s : Stand) → StandsAt g s self.old → s.last ≤ moment → StandsAt g (with_count s moment) self.new }
+    {
+        self.first = first_moment(self.counted, self.first, moment);
+        self.counted = self.counted.saturating_add(1);
+        self.last = moment;
     }
 
     /// Takes what a row says of an input.
@@ -258,16 +327,38 @@ impl<'a> Filter<'a> {
         ensures takes { (g : Given) (s : Stand) → StandsAt g s self.old → s.last ≡ row.moment.nanos
             → Takes g s (with_signal g s row (Some signal)) result self.new }
     {
-        if !is_wired(self.wires, signal.kind, row.parameter) {
-            self.left_out.without_input = self.left_out.without_input.saturating_add(1);
-            return Ok(NO_ROWS);
-        }
-        self.take_event(InputEvent {
+        let event = InputEvent {
             nanos: row.moment.nanos,
             kind: signal.kind,
             channel: row.parameter,
             on: signal.on,
-        })
+        };
+        match wire_place(self.wires, signal.kind, row.parameter) {
+            Some(place) => self.take_wired(place, event),
+            None => {
+                self.left_out.without_input = self.left_out.without_input.saturating_add(1);
+                Ok(NO_ROWS)
+            }
+        }
+    }
+
+    /// Takes an event on the channel of the wire at this place; it is of the last moment.
+    fn take_wired(&mut self, place: usize, event: InputEvent) -> Result<Rows, FilterError>
+        ensures takes { (g : Given) (s : Stand) → StandsAt g s self.old → s.last ≡ event.nanos
+            → Takes g s (with_event g (with_used s place) event) result self.new }
+    {
+        self.use_wire(place);
+        self.take_event(event)
+    }
+
+    /// The channel of the wire at this place had an event.
+    fn use_wire(&mut self, place: usize)
+        ensures stands { (g : Given) (s : Stand) → StandsAt g s self.old → StandsAt g (with_used s place) self.new }
+    {
+        if place >= self.used.len() {
+            return;
+        }
+        self.used[place] = true;
     }
 
     /// Takes an event of an input, which is of the last moment.
@@ -306,12 +397,59 @@ impl<'a> Filter<'a> {
         count_of(rows) <= MOST_ROWS.saturating_sub(self.rows)
     }
 
-    /// What was left out so far.
-    pub fn left_out(&self) -> LeftOut
-        ensures counts { result ≡ left_out_of self.now }
-        ensures stands { (g : Given) (s : Stand) → StandsAt g s self.now → result ≡ record { of_other_devices = s.others; without_input = s.unwired; passed = s.passed; found = is_there s.columns } }
+    /// What was read so far, before `finish`.
+    pub fn summary(&self) -> Summary
+        ensures stands { (g : Given) (s : Stand) → StandsAt g s self.now → result ≡ summary_at g s }
     {
-        self.left_out
+        Summary {
+            left_out: self.left_out,
+            times: self.times,
+            rows: self.counted,
+            first: self.first,
+            last: self.last,
+            channels: how_many(self.used.as_slice()),
+            heard: self.street.has_begun(),
+        }
+    }
+}
+
+/// The moment of the first row that counts, where so many counted before one of this moment, and this was the first.
+fn first_moment(counted: u32, first: u128, moment: u128) -> u128
+    ensures { result ≡ (if counted == 0 then moment else first) }
+{
+    if counted == 0 { moment } else { first }
+}
+
+/// The place of the first wire of this kind and from this channel.
+fn wire_place(wires: &[Wire], kind: Kind, channel: u32) -> Option<usize>
+    ensures { result ≡ wire_place wires.now kind channel }
+{
+    wires
+        .iter()
+        .position(|wire| leads_from(*wire, kind, channel))
+}
+
+/// Whether the wire is of this kind, and from this channel.
+fn leads_from(wire: Wire, kind: Kind, channel: u32) -> bool
+    ensures { result ≡ leads_from kind channel wire }
+{
+    wire.kind == kind && wire.channel == channel
+}
+
+/// How many of these are true.
+fn how_many(flags: &[bool]) -> usize
+    ensures { result ≡ how_many flags.now }
+{
+    flags.iter().filter(|flag| **flag).count()
+}
+
+/// The place of the column that has the times.
+fn time_place(columns: Option<Columns>) -> usize
+    ensures { result ≡ time_place columns }
+{
+    match columns {
+        Some(columns) => columns.time,
+        None => 0,
     }
 }
 

@@ -1,13 +1,14 @@
 //! Streams of field files: lines of a controller's event log come in, and rows of a log of inputs go out.
 #![tactic(auto)]
 
+mod clocks;
 mod error;
 mod fault_lines;
 mod filter;
 mod rows;
 mod stream;
 
-pub use error::FilterError;
+pub use error::{Disorder, FilterError};
 pub use fault_lines::fault_line;
-pub use filter::{Filter, LINE, LeftOut, MOST_ROWS};
+pub use filter::{Filter, LINE, LeftOut, MOST_ROWS, Reading, Summary};
 pub use stream::{EVENTS, log};

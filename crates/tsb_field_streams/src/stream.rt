@@ -1,15 +1,15 @@
 //! Lines of events as a stream of bytes, and the log that they make known.
-ghost use Rattle.std.specs.Prelude.{◌≡◌, ◌∷◌, [], ◌++◌, ℕ, List, Option, option_map};
+ghost use Rattle.std.specs.Prelude.{◌≡◌, ◌∷◌, [], ◌++◌, false, ℕ, IfOk, List, Option, length, option_map, replicate};
 ghost use Rattle.tsb_field_log.specs.Mapping.{wires_of};
 ghost use Rattle.tsb_field_streams.specs.Filtering.{Given};
+ghost use Rattle.tsb_field_streams.specs.Standing.{given_of};
 ghost use Rattle.tsb_field_streams.specs.Streaming.{Ended, EndedBehind, Finished, Follows, Went};
 
 use crate::error::FilterError;
-use crate::filter::{Filter, LINE, LeftOut};
+use crate::filter::{Filter, LINE, Reading, Summary};
 use crate::rows::{pass_rows_on, write_rows};
-use std::alloc::Global;
+use std::alloc::{AllocError, Global};
 use std::io::{Read, Write};
-use tsb_event_text::Moment;
 use tsb_field_log::{Street, Wire, wires};
 use tsb_lines::KeptLine;
 
@@ -68,16 +68,17 @@ impl Stream<'_> {
     }
 
     /// Takes what follows the last line feed as the last line, and writes the rest of the log.
-    fn finish<W: Write>(&mut self, writer: &mut W) -> Result<LeftOut, FilterError>
+    fn finish<W: Write>(&mut self, writer: &mut W) -> Result<Summary, FilterError>
         ensures finished { (g : Given) (bytes : List ℕ) (begun : Option (List ℕ)) → Follows g bytes self.old begun (W.contents writer.old)
             → Finished result g bytes begun (W.contents writer.new) }
     {
         let rows = self.filter.take_line(self.number, self.line.last())?;
         write_rows(writer, rows)?;
+        let summary = self.filter.summary();
         let rest = self.filter.finish()?;
         write_rows(writer, rest)?;
         pass_rows_on(writer)?;
-        Ok(self.filter.left_out())
+        Ok(summary)
     }
 
     /// Reads events up to their end, and writes their log.
@@ -85,7 +86,7 @@ impl Stream<'_> {
         &mut self,
         reader: &mut R,
         writer: &mut W,
-    ) -> Result<LeftOut, FilterError>
+    ) -> Result<Summary, FilterError>
         ensures ended { (g : Given) → Follows g [] self.old (W.contents writer.old) (W.contents writer.old)
             → EndedBehind result g (R.remaining reader.old) (R.remaining reader.new) (W.contents writer.old) (W.contents writer.new) }
     {
@@ -110,34 +111,46 @@ impl Stream<'_> {
     }
 }
 
-/// Reads a controller's event log and writes the log of inputs that it gives. Tick 1 begins at `from`. Rows of `device`
-/// count, byte for byte, or all where it is `None`. `mapped` are the wires that are asked for; from each channel
-/// without one a wire leads to the input of its own number, where there is one. It gives what was left out.
+/// Reads a controller's event log and writes the log of inputs that it gives. Rows of `device` count, byte for byte, or all
+/// where it is `None`. `mapped` are the wires that are asked for; from each channel without one a wire leads to the input
+/// of its own number, where there is one. It gives what was read.
 ///
 /// No more is held than a line of events and the rows of two ticks, so the caller has to buffer what is written. A
 /// fault ends it; what was written until then is a prefix of the log of the events read. `Memory` comes before anything
 /// is read or written.
 pub fn log<R: Read, W: Write>(
     alloc: Global,
-    from: Moment,
+    reading: Reading,
     device: Option<&[u8]>,
     mapped: &[Wire],
     reader: &mut R,
     writer: &mut W,
-) -> Result<LeftOut, FilterError>
-    ensures { Ended result (record { from = from.nanos; device = option_map (λ d. d.now) device.entry; wires = wires_of mapped.now })
+) -> Result<Summary, FilterError>
+    ensures { Ended result (given_of reading (option_map (λ d. d.now) device.entry) (wires_of mapped.now))
         (R.remaining reader.old) (R.remaining reader.new) (W.contents writer.old) (W.contents writer.new) }
 {
     let Ok(all) = wires(alloc, mapped) else {
         return Err(FilterError::Memory);
     };
-    let Ok(street) = Street::new(alloc, from.nanos, &all) else {
+    let Ok(street) = Street::new(alloc, reading.from.nanos, &all) else {
+        return Err(FilterError::Memory);
+    };
+    let Ok(used) = none_used(alloc, &all) else {
         return Err(FilterError::Memory);
     };
     let mut stream = Stream {
-        filter: Filter::new(device, &all, street),
+        filter: Filter::new(reading, device, &all, used, street),
         number: 1,
         line: KeptLine::new(),
     };
     stream.run(reader, writer)
+}
+
+/// Says of each of these wires that it had no event. The error is that memory ran out.
+fn none_used(alloc: Global, wires: &[Wire]) -> Result<Vec<bool>, AllocError>
+    ensures { IfOk result (λ used. used.items ≡ replicate (length wires.now) false) }
+{
+    let mut used = Vec::new(alloc);
+    used.resize(wires.len(), false)?;
+    Ok(used)
 }

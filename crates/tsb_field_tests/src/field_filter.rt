@@ -1,16 +1,16 @@
 //! Lines of events and the rows of the log that they make known. Expected values are worked by hand from the rules.
 
 use std::alloc::{AllocError, Global};
-use tsb_event_text::{Column, RowFault, read_moment};
+use tsb_event_text::{Column, Moment, RowFault, TimeForm, read_moment};
 use tsb_field_log::{Kind, Rows, Street, Wire, wires};
-use tsb_field_streams::{Filter, FilterError, LeftOut};
+use tsb_field_streams::{Disorder, Filter, FilterError, LeftOut, Reading, Summary};
 use tsb_log_text::row_line;
 
 /// What a filter gives for lines from 07:00:00 on.
 #[derive(Drop)]
 struct Filtered {
     text: Vec<u8>,
-    left_out: LeftOut,
+    summary: Summary,
     fault: Option<FilterError>,
 }
 
@@ -24,18 +24,30 @@ fn push_rows(text: &mut Vec<u8>, rows: Rows) -> Result<(), AllocError> {
     Ok(())
 }
 
+/// 07:00:00 of a day.
+fn begin() -> Moment {
+    match read_moment(b"2026-11-22 07:00:00") {
+        Some(moment) => moment,
+        None => Moment { nanos: 0 },
+    }
+}
+
 fn said(
     alloc: Global,
     device: Option<&[u8]>,
     mapped: &[Wire],
     lines: &[&[u8]],
 ) -> Result<Filtered, AllocError> {
-    let from = match read_moment(b"2026-11-22 07:00:00") {
-        Some(from) => from.nanos,
-        None => 0,
+    let reading = Reading {
+        from: begin(),
+        times: None,
+        zone: None,
     };
     let all = wires(alloc, mapped)?;
-    let mut filter = Filter::new(device, &all, Street::new(alloc, from, &all)?);
+    let mut used = Vec::new(alloc);
+    used.resize(all.len(), false)?;
+    let street = Street::new(alloc, reading.from.nanos, &all)?;
+    let mut filter = Filter::new(reading, device, &all, used, street);
     let mut text = Vec::new(alloc);
     let mut number: u32 = 0;
     let mut fault = None;
@@ -48,6 +60,7 @@ fn said(
             }
         }
     }
+    let summary = filter.summary();
     if fault.is_none() {
         match filter.finish() {
             Ok(rows) => push_rows(&mut text, rows)?,
@@ -56,7 +69,7 @@ fn said(
     }
     Ok(Filtered {
         text,
-        left_out: filter.left_out(),
+        summary,
         fault,
     })
 }
@@ -69,7 +82,7 @@ fn is_whole(left_out: LeftOut) -> bool {
 fn gives(alloc: Global, lines: &[&[u8]], log: &[u8]) -> bool {
     match said(alloc, None, &[], lines) {
         Ok(said) => {
-            said.text.as_slice() == log && said.fault.is_none() && is_whole(said.left_out)
+            said.text.as_slice() == log && said.fault.is_none() && is_whole(said.summary.left_out)
         }
         Err(_) => false,
     }
@@ -137,7 +150,7 @@ fn gives_with_left_out(
 ) -> bool {
     match said(alloc, Some(b"7"), mapped, lines) {
         Ok(said) => {
-            said.text.as_slice() == log && said.fault.is_none() && said.left_out == left_out
+            said.text.as_slice() == log && said.fault.is_none() && said.summary.left_out == left_out
         }
         Err(_) => false,
     }
@@ -182,7 +195,12 @@ fn faults_have_lines(alloc: Global, first: &[u8]) -> bool {
     ) && has_fault(
         alloc,
         &[b"", first, b"7,2026-11-22 07:00:00.9,1,2"],
-        Some(FilterError::TimeOrder(3)),
+        Some(FilterError::TimeOrder(Disorder {
+            line: 3,
+            moment: begin().nanos + 900_000_000,
+            last: begin().nanos + 1_000_000_000,
+            column: 1,
+        })),
     ) && has_fault(
         alloc,
         &[first, b"SignalID,Timestamp,EventCode"],
@@ -219,5 +237,75 @@ fn a_line_has_at_most_1000_bytes(rt: HostRuntime) {
     assert!(rt;
         has_fault(rt.alloc(), &[&long[..1000]], None)
             && has_fault(rt.alloc(), &[&long], Some(FilterError::LongLine(1)))
+    );
+}
+
+/// Whether what was read of these lines is this.
+fn reads(alloc: Global, lines: &[&[u8]], wanted: Summary) -> bool {
+    match said(alloc, None, &[], lines) {
+        Ok(said) => said.summary == wanted,
+        Err(_) => false,
+    }
+}
+
+/// What was read where rows of this form count, with the moments of the first and the last in seconds after 07:00:00.
+fn of_rows(times: Option<TimeForm>, rows: u32, first: u128, last: u128) -> Summary {
+    Summary {
+        left_out: LeftOut {
+            of_other_devices: 0,
+            without_input: 0,
+            passed: 0,
+            found: true,
+        },
+        times,
+        rows,
+        first: begin().nanos + first * 1_000_000_000,
+        last: begin().nanos + last * 1_000_000_000,
+        channels: 0,
+        heard: false,
+    }
+}
+
+/// Whether rows of any code count, and channels with events of inputs.
+fn rows_and_channels_count(alloc: Global) -> bool {
+    let rows = [
+        b"7,2026-11-22 07:00:01,82,2".as_slice(),
+        b"7,2026-11-22 07:00:02,1,2",
+        b"7,2026-11-22 07:00:02,82,2",
+        b"7,2026-11-22 07:00:03,90,2",
+        b"7,2026-11-22 07:00:04,102,3",
+    ];
+    let mut wanted = of_rows(Some(TimeForm::YearFirst), 5, 1, 4);
+    wanted.channels = 3;
+    wanted.heard = true;
+    reads(alloc, &rows, wanted)
+}
+
+/// Whether an event before tick 1 is of a channel and is not heard, and one as tick 1 begins is.
+fn tick_1_begins_what_is_heard(alloc: Global) -> bool {
+    let row = b"7,11/22/2026 07:00:00,1,2".as_slice();
+    let before = b"7,11/22/2026 06:59:59.999999999,82,1".as_slice();
+    let at = b"7,11/22/2026 07:00:00,81,1".as_slice();
+    let mut wanted = of_rows(Some(TimeForm::MonthFirst), 2, 0, 0);
+    wanted.first = begin().nanos - 1;
+    wanted.channels = 1;
+    let early = reads(alloc, &[before, row], wanted);
+    wanted.heard = true;
+    early && reads(alloc, &[before, at], wanted)
+}
+
+#[test]
+fn what_was_read_is_counted(rt: HostRuntime) {
+    assert!(rt; rows_and_channels_count(rt.alloc()));
+    assert!(rt; tick_1_begins_what_is_heard(rt.alloc()));
+    let mut nothing = of_rows(None, 0, 0, 0);
+    nothing.first = 0;
+    nothing.last = 0;
+    assert!(rt;
+        reads(
+            rt.alloc(),
+            &[b"SignalID,Timestamp,EventCode,EventParam"],
+            nothing
+        )
     );
 }

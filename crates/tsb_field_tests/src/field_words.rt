@@ -1,10 +1,18 @@
 //! The words of the command line of `tsb_field`. Expected values are worked by hand from the rules.
 
 use std::alloc::Global;
-use tsb_event_text::read_moment;
+use tsb_event_text::{TimeForm, Zone, read_moment};
 use tsb_field_log::{Kind, Wire};
 use tsb_words::WordsError;
-use tsb_words::field_files::{Asked, read_words};
+use tsb_words::field_files::{Asked, Manner, read_words};
+
+/// How `log` reads events where words don't say.
+const PLAIN: Manner = Manner {
+    times: None,
+    zone: None,
+    counts: false,
+    may_be_empty: false,
+};
 
 fn wire(kind: Kind, channel: u32, input: u8) -> Wire {
     Wire {
@@ -23,13 +31,12 @@ fn ask_for_log(
     mapped: &[Wire],
 ) -> bool {
     match read_words(alloc, words) {
-        Ok(
-            Asked::Log {
-                from,
-                device,
-                wires,
-            },
-        ) => { Some(from) == read_moment(time) && device == wanted && wires.as_slice() == mapped }
+        Ok(Asked::Log(asked)) => {
+            Some(asked.from) == read_moment(time)
+                && asked.device == wanted
+                && asked.wires.as_slice() == mapped
+                && asked.manner == PLAIN
+        }
         _ => false,
     }
 }
@@ -263,4 +270,67 @@ fn are_bad(alloc: Global, all: &[&[&str]]) -> bool {
 #[test]
 fn other_words_are_bad(rt: HostRuntime) {
     assert!(rt; are_bad(rt.alloc(), &BAD));
+}
+
+/// Whether these words behind those of a log ask for this manner, or none where it is `None`.
+fn ask_for_manner(alloc: Global, more: &[&str], wanted: Option<Manner>) -> bool {
+    let mut words = Vec::new(alloc);
+    let begin = ["tsb_field", "log", "--from", "2026-11-22 07:00:00"];
+    if words.extend_from_slice(&begin).is_err() || words.extend_from_slice(more).is_err() {
+        return false;
+    }
+    match read_words(alloc, words.as_slice()) {
+        Ok(Asked::Log(asked)) => Some(asked.manner) == wanted,
+        Err(WordsError::Bad) => wanted.is_none(),
+        _ => false,
+    }
+}
+
+/// Forms of times, each with its word.
+const FORMS: [(&str, TimeForm); 5] = [
+    ("--time-form=year-first", TimeForm::YearFirst),
+    ("--time-form=month-first", TimeForm::MonthFirst),
+    ("--time-form=day-first", TimeForm::DayFirst),
+    ("--time-form=seconds", TimeForm::Seconds),
+    ("--time-form=milliseconds", TimeForm::Milliseconds),
+];
+
+/// Whether each form has its word.
+fn forms_are_named(alloc: Global) -> bool {
+    for (word, form) in FORMS {
+        let mut wanted = PLAIN;
+        wanted.times = Some(form);
+        if !ask_for_manner(alloc, &[word], Some(wanted)) {
+            return false;
+        }
+    }
+    true
+}
+
+/// Words that name no manner.
+const NO_MANNERS: [[&str; 2]; 8] = [
+    ["--time-form", "plain"],
+    ["--time-form", "Year-First"],
+    ["--time-form", ""],
+    ["--zone", "7"],
+    ["--zone=+24:00", "--count"],
+    ["--count", "--count"],
+    ["--count=true", "--allow-empty"],
+    ["--allow-empty", "--allow-empty"],
+];
+
+#[test]
+fn log_words_name_a_manner(rt: HostRuntime) {
+    assert!(rt; forms_are_named(rt.alloc()));
+    let all = ["--allow-empty", "--zone=-07:00", "--count"];
+    let wanted = Manner {
+        times: None,
+        zone: Some(Zone { east: 0, west: 420 }),
+        counts: true,
+        may_be_empty: true,
+    };
+    assert!(rt; ask_for_manner(rt.alloc(), &all, Some(wanted)));
+    for words in NO_MANNERS {
+        assert!(rt; ask_for_manner(rt.alloc(), &words, None));
+    }
 }

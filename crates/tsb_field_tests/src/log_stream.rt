@@ -4,7 +4,7 @@ use std::alloc::Global;
 use std::io::{self, ErrorKind, Read, Write};
 use tsb_event_text::{Column, Moment, RowFault, SHOWN, Shown, read_moment};
 use tsb_field_log::{Kind, Wire};
-use tsb_field_streams::{FilterError, LeftOut, log};
+use tsb_field_streams::{Disorder, FilterError, LeftOut, Reading, Summary, log};
 
 /// Gives a text in pieces of this many bytes, and may fail after its last.
 #[derive(Drop)]
@@ -73,6 +73,15 @@ fn begin() -> Moment {
     }
 }
 
+/// How rows are read where words say no more than when tick 1 begins.
+fn usual() -> Reading {
+    Reading {
+        from: begin(),
+        times: None,
+        zone: None,
+    }
+}
+
 fn whole(text: &'static [u8]) -> Pieces {
     Pieces {
         left: text,
@@ -87,9 +96,9 @@ fn written(
     device: Option<&[u8]>,
     mapped: &[Wire],
     mut reader: Pieces,
-) -> (Vec<u8>, Result<LeftOut, FilterError>) {
+) -> (Vec<u8>, Result<Summary, FilterError>) {
     let mut text = Vec::new(alloc);
-    let ended = log(alloc, begin(), device, mapped, &mut reader, &mut text);
+    let ended = log(alloc, usual(), device, mapped, &mut reader, &mut text);
     (text, ended)
 }
 
@@ -102,7 +111,7 @@ fn is_whole(left_out: LeftOut) -> bool {
 fn gives(alloc: Global, reader: Pieces, wanted: &[u8]) -> bool {
     let (text, ended) = written(alloc, None, &[], reader);
     match ended {
-        Ok(left_out) => text.as_slice() == wanted && is_whole(left_out),
+        Ok(summary) => text.as_slice() == wanted && is_whole(summary.left_out),
         Err(_) => false,
     }
 }
@@ -234,8 +243,8 @@ fn log_of<R: Read, W: Write>(
     alloc: Global,
     reader: &mut R,
     writer: &mut W,
-) -> Result<LeftOut, FilterError> {
-    log(alloc, begin(), None, &[], reader, writer)
+) -> Result<Summary, FilterError> {
+    log(alloc, usual(), None, &[], reader, writer)
 }
 
 /// Whether a text whose first row alone is known ends with this fault.
@@ -249,7 +258,12 @@ fn is_written_before_faults(alloc: Global) -> bool {
     ends_after_a_row(
         alloc,
         b"7,2026-11-22 07:00:01,82,2\n7,2026-11-22 07:00:02,81,2\n7,2026-11-22 07:00:01,82,2\n",
-        FilterError::TimeOrder(3),
+        FilterError::TimeOrder(Disorder {
+            line: 3,
+            moment: begin().nanos + 1_000_000_000,
+            last: begin().nanos + 2_000_000_000,
+            column: 1,
+        }),
     ) && ends_after_a_row(
         alloc,
         b"7,2026-11-22 07:00:01,82,2\n7,2026-11-22 07:00:02,81,2\n7,2026-12-22 07:00:01,82,2\n",
@@ -312,7 +326,10 @@ fn gives_with_left_out(
     left_out: LeftOut,
 ) -> bool {
     let (out, ended) = written(alloc, Some(b"7"), &[wire], whole(text));
-    out.as_slice() == wanted && ended == Ok(left_out)
+    match ended {
+        Ok(summary) => out.as_slice() == wanted && summary.left_out == left_out,
+        Err(_) => false,
+    }
 }
 
 #[test]

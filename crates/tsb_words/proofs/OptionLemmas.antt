@@ -5,8 +5,11 @@ use Rattle.clap.specs.Walk.{Text, first_of, rows_of}
 use Rattle.clap.specs.declared.parser.matches.Found.{Found}
 use Rattle.clap.proofs.WalkLemmas.{first_value-rows, raw_values-rows}
 use Rattle.tsb_event_text.specs.Times.{moment_of}
+use Rattle.tsb_event_text.specs.declared.time_forms.TimeForm.{TimeForm}
 use Rattle.tsb_event_text.specs.declared.times.Moment.{Moment}
-use Rattle.tsb_words.specs.FieldProgram.{diagram_in, diagram_with, events_in, events_with, is_set, log_in, log_with, moment_in, record_in, record_with, seconds_said, texts_in, wires_in}
+use Rattle.tsb_event_text.specs.declared.zones.Zone.{Zone}
+use Rattle.tsb_words.specs.declared.field_files.Manner.{Manner}
+use Rattle.tsb_words.specs.FieldProgram.{diagram_in, diagram_with, events_in, events_with, form_said, is_set, log_in, log_with, manner_in, manner_with, moment_in, record_in, record_with, seconds_said, texts_in, wires_in, zone_said}
 use Rattle.tsb_field_log.specs.declared.inputs.Wire.{Wire}
 use Rattle.tsb_words.specs.FieldWords.{Wish, log}
 
@@ -55,11 +58,21 @@ getters_diagram f asked file title seconds file-is title-is seconds-is is =
 pub texts_is : (f : Found) (id : Text) (o : Option (List Text)) → o ≡ option_map raw_values (matched_of f id) → unwrap_or o [] ≡ texts_in id (rows_of f)
 texts_is f id o e = ap (λ (p : Option (List Text)). unwrap_or p []) (e ∙ raw_values-rows f id)
 
--- what `log` asks for, by what the getters answer
-pub getters_log : (f : Found) (from : Moment) (device : Option Text) (wires : List Wire)
-    → Some from ≡ moment_in (rows_of f) → device ≡ first_value f (codes "device") → wires_in (rows_of f) ≡ Some wires
-    → log_in (rows_of f) ≡ Some (log from device wires)
-getters_log f from device wires from-is device-is wires-is =
-    ap (λ (m : Option Moment). log_with m (first_of (codes "device") (rows_of f)) (wires_in (rows_of f))) (sym from-is)
-    ∙ (ap (λ (d : Option Text). log_with (Some from) d (wires_in (rows_of f))) (first_is f (codes "device") device device-is)
-    ∙ ap (λ (w : Option (List Wire)). log_with (Some from) device w) wires-is)
+-- how events are read and what is told of them, by what the getters answer
+pub getters_manner : (f : Found) (found : Option Manner) (form zone count empty : Option Text) (times : Option (Option TimeForm)) (zones : Option (Option Zone)) (counts may_be_empty : Bool)
+    → form ≡ first_value f (codes "time-form") → times ≡ form_said form → zone ≡ first_value f (codes "zone") → zones ≡ zone_said zone
+    → count ≡ first_value f (codes "count") → counts ≡ is_set count → empty ≡ first_value f (codes "allow-empty") → may_be_empty ≡ is_set empty
+    → found ≡ manner_with times zones counts may_be_empty → found ≡ manner_in (rows_of f)
+getters_manner f found form zone count empty times zones counts may_be_empty form-is times-is zone-is zones-is count-is counts-is empty-is may-is is =
+    let times-there : times ≡ form_said (first_of (codes "time-form") (rows_of f)) = times-is ∙ ap form_said (sym (first_is f (codes "time-form") form form-is)) in
+    let zones-there : zones ≡ zone_said (first_of (codes "zone") (rows_of f)) = zones-is ∙ ap zone_said (sym (first_is f (codes "zone") zone zone-is)) in
+    let counts-there : counts ≡ is_set (first_of (codes "count") (rows_of f)) = counts-is ∙ ap is_set (sym (first_is f (codes "count") count count-is)) in
+    let may-there : may_be_empty ≡ is_set (first_of (codes "allow-empty") (rows_of f)) = may-is ∙ ap is_set (sym (first_is f (codes "allow-empty") empty empty-is)) in
+    is ∙ (λ j. manner_with (times-there j) (zones-there j) (counts-there j) (may-there j))
+
+-- what `log` asks for
+pub getters_log : (f : Found) (from : Moment) (device : Option Text) (manner : Manner) (wires : List Wire)
+    → Some from ≡ moment_in (rows_of f) → device ≡ first_value f (codes "device") → Some manner ≡ manner_in (rows_of f) → wires_in (rows_of f) ≡ Some wires
+    → log_in (rows_of f) ≡ Some (log (record { from = from; device = device; wires = wires; manner = manner }))
+getters_log f from device manner wires from-is device-is manner-is wires-is =
+    λ j. log_with (sym from-is j) (first_is f (codes "device") device device-is j) (sym manner-is j) (wires-is j)

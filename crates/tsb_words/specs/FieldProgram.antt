@@ -7,10 +7,14 @@ use Rattle.clap.specs.declared.builder.command.Command.{Command}
 use Rattle.clap.specs.declared.builder.command.Command.TheViews.{out-Command}
 use Rattle.tsb_event_text.specs.Events.{can_be_written}
 use Rattle.tsb_event_text.specs.Times.{moment_of}
+use Rattle.tsb_event_text.specs.TimeForms.{time_form_named, zone_named}
+use Rattle.tsb_event_text.specs.declared.time_forms.TimeForm.{TimeForm}
 use Rattle.tsb_event_text.specs.declared.times.Moment.{Moment}
+use Rattle.tsb_event_text.specs.declared.zones.Zone.{Zone}
 use Rattle.tsb_field_log.specs.declared.inputs.Kind.TheVariants.{Vehicle, Pedestrian, Preempt}
 use Rattle.tsb_field_log.specs.declared.inputs.Wire.{Wire}
 use Rattle.tsb_words.specs.declared.field_files.Asked.{Asked}
+use Rattle.tsb_words.specs.declared.field_files.Manner.{Manner}
 use Rattle.tsb_words.specs.declared.error.WordsError.{WordsError}
 use Rattle.tsb_words.specs.FieldWords.{Wish, diagram, events, log, recording, seconds_of, seen}
 use Rattle.tsb_words.specs.Words.{SpelledBy, met_by}
@@ -44,10 +48,15 @@ shape_with name rules = record (new_shape name) { rules = rules }
 abbrev pub wire_rules : List Rule
 wire_rules = repeated_rule (codes "vehicle") ∷ repeated_rule (codes "pedestrian") ∷ repeated_rule (codes "preempt") ∷ []
 
+-- the options of how events are read, and of what is told of them
+abbrev pub manner_rules : List Rule
+manner_rules =
+    option_rule (codes "time-form") ∷ option_rule (codes "zone") ∷ flag_rule (codes "count") ∷ flag_rule (codes "allow-empty") ∷ []
+
 -- the words of `log`
 abbrev pub log_shape : Shape
 log_shape = shape_with (codes "log")
-    (required_rule (codes "from") ∷ option_rule (codes "device") ∷ wire_rules)
+    (required_rule (codes "from") ∷ option_rule (codes "device") ∷ (manner_rules ++ wire_rules))
 
 -- the options of events that are written
 abbrev pub source_rules : List Rule
@@ -109,19 +118,42 @@ abbrev pub wires_in : List Row → Option (List Wire)
 wires_in rows = joined (joined (wires_of Vehicle (texts_in (codes "vehicle") rows)) (wires_of Pedestrian (texts_in (codes "pedestrian") rows)))
     (wires_of Preempt (texts_in (codes "preempt") rows))
 
--- a log, where it is said from when and on which wires
-abbrev pub log_with : Option Moment → Option Text → Option (List Wire) → Option Wish
-log_with (Some from) device (Some wires) = Some (log from device wires)
-log_with from device wires = None
-
--- what `log` asks for, with these options
-abbrev pub log_in : List Row → Option Wish
-log_in rows = log_with (moment_in rows) (first_of (codes "device") rows) (wires_in rows)
-
 -- whether a flag was set, which `clap` writes as its value
 abbrev pub is_set : Option Text → Bool
 is_set None = false
 is_set (Some value) = bytes_eq value (codes "true")
+
+-- the form of times of an option that may be left out
+abbrev pub form_said : Option Text → Option (Option TimeForm)
+form_said None = Some None
+form_said (Some word) = option_map (λ (form : TimeForm). Some form) (time_form_named word)
+
+-- the zone of an option that may be left out
+abbrev pub zone_said : Option Text → Option (Option Zone)
+zone_said None = Some None
+zone_said (Some word) = option_map (λ (zone : Zone). Some zone) (zone_named word)
+
+-- how events are read and what is told of them, where a form and a zone are spelled
+abbrev pub manner_with : Option (Option TimeForm) → Option (Option Zone) → Bool → Bool → Option Manner
+manner_with (Some times) (Some zone) counts may_be_empty =
+    Some (record { times = times; zone = zone; counts = counts; may_be_empty = may_be_empty })
+manner_with times offset counts may_be_empty = None
+
+-- the same by these options
+abbrev pub manner_in : List Row → Option Manner
+manner_in rows =
+    manner_with (form_said (first_of (codes "time-form") rows)) (zone_said (first_of (codes "zone") rows))
+    (is_set (first_of (codes "count") rows)) (is_set (first_of (codes "allow-empty") rows))
+
+-- a log, where it is said from when, in which manner and on which wires
+abbrev pub log_with : Option Moment → Option Text → Option Manner → Option (List Wire) → Option Wish
+log_with (Some from) device (Some manner) (Some wires) =
+    Some (log (record { from = from; device = device; wires = wires; manner = manner }))
+log_with from device manner wires = None
+
+-- what `log` asks for, with these options
+abbrev pub log_in : List Row → Option Wish
+log_in rows = log_with (moment_in rows) (first_of (codes "device") rows) (manner_in rows) (wires_in rows)
 
 -- a record, where it is said from when, of which device and of which files, and a line can name that device
 abbrev pub record_with : Option Moment → Option Text → Option Text → Option Text → Bool → Option Wish

@@ -5,12 +5,21 @@ use Rattle.tsb_event_text.specs.declared.times.Moment.{Moment}
 use Rattle.tsb_field_log.specs.declared.inputs.Wire.{Wire}
 use Rattle.tsb_words.specs.declared.field_files.options.TheConstants.{MOST_SECONDS}
 use Rattle.tsb_words.specs.declared.field_files.Asked.{Asked}
+use Rattle.tsb_words.specs.declared.field_files.LogAsked.{LogAsked}
+use Rattle.tsb_words.specs.declared.field_files.Manner.{Manner}
 use Rattle.tsb_words.specs.declared.field_files.Asked.TheVariants as asks
+
+-- what words of `log` ask for, by the text of the device's name
+pub record LogWish : Type 0 where
+  pub from : Moment
+  pub device : Option (List ℕ)
+  pub wires : List Wire
+  pub manner : Manner
 
 -- what words may ask for, by the text of each name
 pub data Wish : Type 0 where
-  -- a log from this moment on, of this device or of each, on these wires
-  log : Moment → Option (List ℕ) → List Wire → Wish
+  -- a log from a moment on, of a device or of each, on some wires, read in some manner
+  log : LogWish → Wish
   -- a record from this moment on, of this device, with the plan and the log in these files; whether it goes on after a
   -- line that is refused or is no command
   recording : Moment → List ℕ → List ℕ → List ℕ → Bool → Wish
@@ -28,9 +37,18 @@ seconds_at (Some n) = if nat_le 1 n && nat_le n MOST_SECONDS then Some n else No
 abbrev pub seconds_of : List ℕ → Option ℕ
 seconds_of digits = seconds_at (number_of digits)
 
+-- what was answered of `log`
+abbrev pub seen_log : LogAsked → LogWish
+seen_log asked = record {
+  from = asked.from;
+  device = option_map (λ name. name.now) asked.device;
+  wires = asked.wires.items;
+  manner = asked.manner;
+}
+
 -- what was answered, by the text of each name
 abbrev pub seen : Asked → Wish
-seen (asks.Log from device wires) = log from (option_map (λ name. name.now) device) wires.items
+seen (asks.Log asked) = log (seen_log asked)
 seen (asks.Record from device plan file goes_on) = recording from device.now plan.now file.now goes_on
 seen (asks.Events from device file) = events from device.now (option_map (λ name. name.now) file)
 seen (asks.Diagram file title seconds) = diagram (option_map (λ name. name.now) file) (option_map (λ name. name.now) title) seconds

@@ -2,7 +2,7 @@
 ghost use Rattle.std.specs.Prelude.{◌≡◌, map, option_map};
 ghost use Rattle.clap.specs.Words.{found_of, rows_of};
 ghost use Rattle.clap.specs.Simple.{subcommand_rows_of};
-ghost use Rattle.tsb_words.specs.FieldProgram.{Spells, asked_by, diagram_in, diagram_with, events_in, events_with, is_set, log_in, record_in, record_with, seconds_said, wires_in};
+ghost use Rattle.tsb_words.specs.FieldProgram.{Spells, asked_by, diagram_in, diagram_with, events_in, events_with, is_set, log_in, manner_in, manner_with, record_in, record_with, seconds_said, wires_in};
 ghost use Rattle.tsb_words.specs.FieldWords.{seen};
 ghost use Rattle.tsb_words.specs.Wires.{AreSpelled};
 ghost use Rattle.tsb_words.specs.Words.{SpelledBy};
@@ -16,26 +16,43 @@ use crate::matches::matches_of;
 use clap::ArgMatches;
 use commands::program;
 pub use options::MOST_SECONDS;
-use options::{moment, seconds_said};
+use options::{form_said, moment, seconds_said, zone_said};
 use std::alloc::Global;
 use std::convert::AsStr;
-use tsb_event_text::{Moment, can_be_written};
+use tsb_event_text::{Moment, TimeForm, Zone, can_be_written};
 use tsb_field_log::{Kind, Wire};
 use wires::add_option;
+
+/// What the words of `log` ask for.
+#[derive(Drop)]
+pub struct LogAsked<'a> {
+    /// The moment at which tick 1 begins.
+    pub from: Moment,
+    /// The device whose events count, or `None` where those of each device do.
+    pub device: Option<&'a str>,
+    /// The wires: vehicle detectors, then pedestrian detectors, then preempts, of each kind in the order of the words.
+    pub wires: Vec<Wire>,
+    pub manner: Manner,
+}
+
+/// How `log` reads events, and what it tells of them.
+#[derive(Clone, Copy, PartialEq, Eq)]
+pub struct Manner {
+    /// The form of times, or `None` where the first row says it.
+    pub times: Option<TimeForm>,
+    /// The zone of the clock by which moments are told, or `None` where each is what its own clock shows.
+    pub zone: Option<Zone>,
+    /// Whether it is told how much was read.
+    pub counts: bool,
+    /// Whether no row that counts, and no event of an input from tick 1 on, is no fault.
+    pub may_be_empty: bool,
+}
 
 /// What the words ask for.
 #[derive(Drop)]
 pub enum Asked<'a> {
     /// A log of inputs, made from the events of a controller's log.
-    Log {
-        /// The moment at which tick 1 begins.
-        from: Moment,
-        /// The device whose events count, or `None` where those of each device do.
-        device: Option<&'a str>,
-        /// The wires: vehicle detectors, then pedestrian detectors, then preempts, of each kind in the order of the
-        /// words.
-        wires: Vec<Wire>,
-    },
+    Log(LogAsked<'a>),
     /// Events of a controller's log, told by a run of commands.
     Record {
         /// The moment at which tick 1 begins.
@@ -71,8 +88,8 @@ pub enum Asked<'a> {
 
 /// What the words ask for, the first of which is the program's name.
 ///
-/// `log` has `--from TIME`, and may have `--device ID` and any number of `--vehicle CHANNEL=DETECTOR`,
-/// `--pedestrian CHANNEL=DETECTOR` and `--preempt CHANNEL=INPUT`; `record` has `--from TIME`, `--device ID`, and the
+/// `log` has `--from TIME`, and may have `--device ID`, `--time-form FORM`, `--zone OFFSET`, `--count`, `--allow-empty`
+/// and any number of `--vehicle CHANNEL=DETECTOR`, `--pedestrian CHANNEL=DETECTOR` and `--preempt CHANNEL=INPUT`; `record` has `--from TIME`, `--device ID`, and the
 /// files of a plan and a log, and may have `--go-on`; `events` has `--from TIME` and `--device ID`, and may have `--log LOG`; `diagram` may have
 /// `--log LOG`, `--title TEXT` and `--seconds-per-line N`. Options come in any order, and `--NAME=VALUE` is
 /// `--NAME VALUE`. A value that begins with a hyphen comes after `=`. All else is `Bad`, and so are a request for help
@@ -115,14 +132,48 @@ fn log_asked<'a>(alloc: Global, options: &ArgMatches<'a>) -> Result<Asked<'a>, W
     let Some(from) = moment(options) else {
         return Err(WordsError::Bad);
     };
+    let Some(manner) = manner_asked(options) else {
+        return Err(WordsError::Bad);
+    };
     match all_wires(alloc, options) {
-        Ok(wires) => Ok(Asked::Log {
+        Ok(wires) => Ok(Asked::Log(LogAsked {
             from,
             device: options.get_str("device"),
             wires,
-        }),
+            manner,
+        })),
         Err(error) => Err(error),
     }
+}
+
+/// How `log` reads events and what it tells of them, by these options.
+fn manner_asked(options: &ArgMatches<'_>) -> Option<Manner>
+    ensures { result ≡ manner_in (rows_of (found_of options.now)) }
+{
+    let times = form_said(options.get_str("time-form"));
+    let zone = zone_said(options.get_str("zone"));
+    let counts = is_set(options.get_str("count"));
+    let may_be_empty = is_set(options.get_str("allow-empty"));
+    manner_with(times, zone, counts, may_be_empty)
+}
+
+/// How `log` reads events and what it tells of them, where a form and a zone are spelled.
+fn manner_with(
+    times: Option<Option<TimeForm>>,
+    zone: Option<Option<Zone>>,
+    counts: bool,
+    may_be_empty: bool,
+) -> Option<Manner>
+    ensures { result ≡ manner_with times zone counts may_be_empty }
+{
+    let times = times?;
+    let zone = zone?;
+    Some(Manner {
+        times,
+        zone,
+        counts,
+        may_be_empty,
+    })
 }
 
 /// The wires of all kinds that options spell.

@@ -1,11 +1,11 @@
 //! What options say, by the matches of a subcommand.
 ghost use Rattle.std.specs.Prelude.{◌≡◌, option_map};
 ghost use Rattle.clap.specs.Words.{found_of, rows_of};
-ghost use Rattle.tsb_words.specs.FieldProgram.{moment_in, seconds_said};
+ghost use Rattle.tsb_words.specs.FieldProgram.{form_said, moment_in, seconds_said, zone_said};
 ghost use Rattle.tsb_words.specs.FieldWords.{seconds_of};
 
 use clap::ArgMatches;
-use tsb_event_text::{Moment, read_moment};
+use tsb_event_text::{Moment, TimeForm, Zone, read_moment, time_form_named, zone_named};
 use tsb_lines::number;
 
 /// The most seconds that a line of a diagram shows: a day.
@@ -17,6 +17,32 @@ pub(crate) fn moment(matches: &ArgMatches<'_>) -> Option<Moment>
 {
     let text = matches.get_str("from")?;
     read_moment(text.as_bytes())
+}
+
+/// What `--time-form` says, where it came: `None` where it names no form.
+pub(crate) fn form_said(text: Option<&str>) -> Option<Option<TimeForm>>
+    ensures { result ≡ form_said (option_map (λ text. text.now) text.entry) }
+{
+    match text {
+        None => Some(None),
+        Some(text) => {
+            let form = time_form_named(text.as_bytes())?;
+            Some(Some(form))
+        }
+    }
+}
+
+/// What `--zone` says, where it came: `None` where it names no zone.
+pub(crate) fn zone_said(text: Option<&str>) -> Option<Option<Zone>>
+    ensures { result ≡ zone_said (option_map (λ text. text.now) text.entry) }
+{
+    match text {
+        None => Some(None),
+        Some(text) => {
+            let zone = zone_named(text.as_bytes())?;
+            Some(Some(zone))
+        }
+    }
 }
 
 /// What `--seconds-per-line` says, where it came: `None` where it says no number of seconds.

@@ -53,6 +53,6 @@ returns g c = record {
   finished = λ given bytes begun f.
       let last = last-taken given bytes c.last.result.now c.args.self.now c.in_ok-rows.rows c.take_line.new.self _ _ f c.last.ensures.line (c.in_ok-rows.ensures.takes given f.stand f.stands) in
       let known = all-known given bytes c.args.self.now c.in_ok-rows.rows c.take_line.new.self _ _ _ last c.in_ok-write_rows.ensures.whole in
-      end-whole given bytes c.take_line.new.self c.finish.new.self c.in_ok-rest.rest c.left_out.result _ _ _ _ known (c.in_ok-rest.ensures.fits given known.stand known.stands) (c.in_ok-rest.ensures.whole given known.stand known.stands) c.in_ok-write_rows-2.ensures.whole c.pass_rows_on.ensures.bytes
-      c.finish.ensures.counts c.left_out.ensures.counts;
+      end-whole given bytes c.take_line.new.self c.in_ok-rest.rest c.summary-summary.result _ _ _ _ known (c.in_ok-rest.ensures.fits given known.stand known.stands) (c.in_ok-rest.ensures.whole given known.stand known.stands) c.in_ok-write_rows-2.ensures.whole c.pass_rows_on.ensures.bytes
+      (c.summary-summary.ensures.stands given known.stand known.stands);
 }

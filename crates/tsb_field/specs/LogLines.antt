@@ -1,0 +1,89 @@
+-- The lines in which `log` tells what it read, each with its end.
+use Rattle.std.specs.Prelude.{◌≡◌, ◌⊎◌, ℕ, ◌==◌, ◌&&◌, ◌||◌, nat_lt, not, Bool, true, false, List, [], ◌++◌, if◌then◌else◌, Option, Some, None, codes, decimal}
+use Rattle.tsb_event_text.specs.TimeForms.{time_form_word}
+use Rattle.tsb_event_text.specs.Times.{moment_of}
+use Rattle.tsb_event_text.specs.Written.{IsWritten}
+use Rattle.tsb_event_text.specs.declared.time_forms.TimeForm.{TimeForm}
+use Rattle.tsb_event_text.specs.declared.time_forms.TimeForm.TheVariants.{YearFirst}
+use Rattle.tsb_field_streams.specs.declared.filter.LeftOut.{LeftOut}
+use Rattle.tsb_field_streams.specs.declared.filter.Summary.{Summary}
+use Rattle.tsb_words.specs.declared.field_files.Manner.{Manner}
+
+-- lines were passed over, and among them no header and no row was found
+abbrev pub is_lost : LeftOut → Bool
+is_lost left_out = nat_lt 0 left_out.passed && not left_out.found
+
+-- ## The form of times
+
+-- the line of a form
+abbrev pub is_told : TimeForm → List ℕ
+is_told form = codes "times: " ++ (time_form_word form ++ codes ", by the first row\n")
+
+-- the form of times is told where the first row said it, and it is another than the plain one
+abbrev pub form_line : Option TimeForm → Option TimeForm → List ℕ
+form_line None (Some YearFirst) = []
+form_line None (Some form) = is_told form
+form_line asked found = []
+
+-- ## What was left out
+
+-- nothing was left out
+abbrev pub is_nothing : LeftOut → Bool
+is_nothing left_out = left_out.of_other_devices == 0 && (left_out.without_input == 0 && left_out.passed == 0)
+
+-- the line of what was left out
+abbrev pub left_out_line : LeftOut → List ℕ
+left_out_line left_out =
+    codes "left out: " ++ (decimal left_out.of_other_devices ++ (codes " rows of other devices, " ++ (decimal left_out.without_input
+    ++ (codes " events of channels without an input, " ++ (decimal left_out.passed ++ codes " lines that are no rows\n")))))
+
+-- what was left out is told, where it was something
+abbrev pub left_out_text : LeftOut → List ℕ
+left_out_text left_out = if is_nothing left_out then [] else left_out_line left_out
+
+-- ## How much was read
+
+-- a time that is read as this moment; a question mark, where no year of four digits has it
+abbrev pub IsTime : ℕ → List ℕ → Type 0
+IsTime nanos text = (moment_of text ≡ Some (record { nanos = nanos })) ⊎ ((IsWritten (record { nanos = nanos }) → ⊥) × (text ≡ codes "?"))
+
+-- the line of so many rows between these times, with events of so many channels
+abbrev pub span_line : Summary → List ℕ → List ℕ → List ℕ
+span_line summary first last =
+    codes "read: " ++ (decimal summary.rows ++ (codes " rows from " ++ (first ++ (codes " to " ++ (last
+    ++ (codes ", events of " ++ (decimal summary.channels ++ codes " channels\n")))))))
+
+-- that line, with the times of the first and the last row
+abbrev pub IsSpan : Summary → List ℕ → Type 0
+IsSpan summary text = (first : List ℕ) × (last : List ℕ) × IsTime summary.first first × IsTime summary.last last × (text ≡ span_line summary first last)
+
+-- the line of how much was read, where it was nothing or something
+abbrev pub IsCount : Bool → Summary → List ℕ → Type 0
+IsCount true summary text = text ≡ codes "read: 0 rows\n"
+IsCount false summary text = IsSpan summary text
+
+-- how much was read is told where it is asked for
+abbrev pub IsCounted : Bool → Summary → List ℕ → Type 0
+IsCounted false summary text = text ≡ []
+IsCounted true summary text = IsCount (summary.rows == 0) summary text
+
+-- ## What is missing
+
+-- no row counted, or no input had an event from tick 1 on: this is told, unless it may be so
+abbrev pub verdict_line : Manner → Summary → List ℕ
+verdict_line manner summary =
+    if manner.may_be_empty || summary.heard then []
+    else if summary.rows == 0 then codes "events: no row counts (give --allow-empty where that is right)\n"
+    else codes "events: no event of an input from --from on (give --allow-empty where that is right)\n"
+
+-- and the program ends with 1
+abbrev pub status_of : Manner → Summary → ℕ
+status_of manner summary = if manner.may_be_empty || summary.heard then 0 else 1
+
+-- ## All of it
+
+-- the lines that tell what was read
+abbrev pub IsReport : Manner → Summary → List ℕ → Type 0
+IsReport manner summary text =
+    (counted : List ℕ) × IsCounted manner.counts summary counted
+    × (text ≡ form_line manner.times summary.times ++ (left_out_text summary.left_out ++ (counted ++ verdict_line manner summary)))

@@ -1,0 +1,87 @@
+//! `log`: a controller's event log in, a log of inputs out.
+ghost use Rattle.std.specs.Prelude.{◌≡◌, option_map};
+ghost use Rattle.tsb_words.specs.FieldWords.{seen_log};
+ghost use Rattle.tsb_field.specs.LogEnds.{Logged, TellsFault, TellsReport, TellsSummary};
+
+use crate::report::{is_lost, report, status_of};
+use std::alloc::Global;
+use std::io::{Read, Write};
+use tsb_field_streams::{FilterError, Reading, Summary, fault_line, log};
+use tsb_lines::pass_on;
+use tsb_program::{Failure, Status, fail, tell};
+use tsb_words::field_files::{LogAsked, Manner};
+
+/// What is told of a text of events without a header and without a row.
+const NOTHING: &[u8] = b"events: no header and no row (do commas part its fields?)\n";
+
+/// Makes a log from a controller's event log, and gives the status that the program ends with.
+pub(crate) fn write_log<R: Read, W: Write, E: Write>(
+    alloc: Global,
+    asked: &LogAsked<'_>,
+    input: &mut R,
+    output: &mut W,
+    errors: &mut E,
+) -> u8
+    ensures { Logged result (seen_log asked.now)
+        (R.remaining input.old) (R.remaining input.new) (W.contents output.old) (W.contents output.new) (E.contents errors.old) (E.contents errors.new) }
+{
+    let reading = Reading {
+        from: asked.from,
+        times: asked.manner.times,
+        zone: asked.manner.zone,
+    };
+    let device = bytes_of(asked.device);
+    match log(alloc, reading, device, &asked.wires, input, output) {
+        Ok(summary) => tell_summary(alloc, errors, asked.manner, summary),
+        Err(fault) => {
+            // What is known goes out. If that fails, the fault that is reported matters more.
+            let _ = pass_on(output);
+            tell_fault(alloc, errors, fault)
+        }
+    }
+}
+
+/// The bytes of a name.
+fn bytes_of(name: Option<&str>) -> Option<&[u8]>
+    ensures { option_map (λ bytes. bytes.now) result ≡ option_map (λ name. name.now) name.entry }
+{
+    match name {
+        Some(name) => Some(name.as_bytes()),
+        None => None,
+    }
+}
+
+/// Says what ended a filter.
+fn tell_fault<E: Write>(alloc: Global, errors: &mut E, fault: FilterError) -> u8
+    ensures { TellsFault fault result (E.contents errors.old) (E.contents errors.new) }
+{
+    match fault {
+        FilterError::Memory => fail(errors, Failure::Memory),
+        FilterError::Read => fail(errors, Failure::Read),
+        FilterError::Write => fail(errors, Failure::Write),
+        _ => match fault_line(alloc, fault) {
+            Ok(line) => tell(errors, Status::Refused, &line),
+            Err(_) => fail(errors, Failure::Memory),
+        },
+    }
+}
+
+/// Says what was read, as far as it has to be told, and gives the status that the program ends with.
+fn tell_summary<E: Write>(alloc: Global, errors: &mut E, manner: Manner, summary: Summary) -> u8
+    ensures { TellsSummary manner summary result (E.contents errors.old) (E.contents errors.new) }
+{
+    if is_lost(summary.left_out) {
+        return tell(errors, Status::Refused, NOTHING);
+    }
+    tell_report(alloc, errors, manner, summary)
+}
+
+/// Says what was read, where a header or a row was found, and gives the status that the program ends with.
+fn tell_report<E: Write>(alloc: Global, errors: &mut E, manner: Manner, summary: Summary) -> u8
+    ensures { TellsReport manner summary result (E.contents errors.old) (E.contents errors.new) }
+{
+    match report(alloc, manner, summary) {
+        Ok(text) => tell(errors, status_of(manner, summary), &text),
+        Err(_) => fail(errors, Failure::Memory),
+    }
+}
