@@ -11,8 +11,8 @@ from field_rules import HEADER
 from run_program import ENDLESS, EXAMPLES, FULL, READ, TORN, WRITE, Run
 
 USAGE = (
-    b"usage: tsb_field log --from TIME [--device ID] [--vehicle CHANNEL=DETECTOR].. [--pedestrian CHANNEL=DETECTOR].. "
-    b"[--preempt CHANNEL=INPUT]..\n"
+    b"usage: tsb_field log --from TIME [--device ID] [--time-form FORM] [--zone OFFSET] [--count] [--allow-empty]\n"
+    b"          [--vehicle CHANNEL=DETECTOR].. [--pedestrian CHANNEL=DETECTOR].. [--preempt CHANNEL=INPUT]..\n"
     b"    or tsb_field record --from TIME --device ID [--go-on] PLAN LOG\n"
     b"    or tsb_field events --from TIME --device ID [--log LOG]\n"
     b"    or tsb_field diagram [--log LOG] [--title TEXT] [--seconds-per-line N]\n"
@@ -32,6 +32,12 @@ MOST_ROWS = 1_720_740
 
 # What is told of what was left out.
 LEFT = b"left out: %d rows of other devices, %d events of channels without an input, %d lines that are no rows\n"
+
+# What is told where no row counts, where no input has an event from tick 1 on, and of the form of times.
+NO_ROW, NO_EVENT, EMPTY = field_rules.NO_ROW, field_rules.NO_EVENT, "--allow-empty"
+TIMES = b"times: %b, by the first row\n"
+MONTH_FIRST, DAY_FIRST, OF_SECONDS, OF_MILLISECONDS = (
+    TIMES % form for form in [b"month-first", b"day-first", b"seconds", b"milliseconds"])
 
 # What is told of a line that ends before the field of a column, and of one of more than 1,000 bytes.
 ENDS, LONG = b"%b: the line ends before it", b"over 1000 bytes (is it a text with lines?)"
@@ -95,7 +101,9 @@ def form_runs():
             yield logged(b"%s,TimeStamp,%s,%s\n" % (device, code, parameter) + CAR, CAR_LOG)
     turned = b'EventParam,x,"SignalID",DeviceId,EventCode,EventId,Timestamp\n2,,7,8,82,1,%s:01\n2,,7,8,81,1,%s:03\n'
     yield logged(turned.replace(b"%s", AT[:-3].encode()), CAR_LOG)
-    yield from (logged(text, b"") for text in [b"", b"\n", HEADER, MARK, MARK + HEADER[:-1], b"# nothing"])
+    for text in [b"", b"\n", HEADER, MARK, MARK + HEADER[:-1], b"# nothing"]:
+        yield logged(text, b"", EMPTY)
+        yield refused(text, NO_ROW)
 
 
 def wide_runs():
@@ -124,20 +132,28 @@ def wide_runs():
         (CAR + b"event_code,timestamp,param\n", 1), (HEADER + HEADER + b"-|-\n" + CAR, 2),
     ]:
         yield logged(text, CAR_LOG, errors=LEFT % (0, 0, count))
-    for first, second in [
-        ("11/22/2026 07:00:01", "11/22/2026 07:00:03.0"), ("11/22/2026 7:0:1 AM", "11/22/2026 07:00:03.000 am"),
-        ("11-22-2026 07:00:01.0", "11-22-2026 07:00:03"), ("22/11/2026 07:00:01", "22/11/2026 07:00:03"),
-        ("22-11-2026 7:00:01 AM", "22-11-2026 07:00:03 UTC"), ("2026/11/22 07:00:01", "2026-11-22 07:00:03"),
-        ("2026-11-22T07:00:01Z", "2026-11-22T07:00:03.0Z"), ("2026-11-22 07:00:01+01:00", "2026-11-22 07:00:03-0700"),
-        ("2026-11-22 07:00:01.0000000 +00:00", "2026-11-22 07:00:03.0000000 -07"), ("1795330801", "1795330803.000"),
-        ("1795330801000", "1795330803000"), (" 11/22/2026 07:00:01 ", "11/22/2026 07:00:03  "),
+    for form, first, second in [
+        (MONTH_FIRST, "11/22/2026 07:00:01", "11/22/2026 07:00:03.0"),
+        (MONTH_FIRST, "11/22/2026 7:0:1 AM", "11/22/2026 07:00:03.000 am"),
+        (MONTH_FIRST, "11-22-2026 07:00:01.0", "11-22-2026 07:00:03"),
+        (MONTH_FIRST, " 11/22/2026 07:00:01 ", "11/22/2026 07:00:03  "),
+        (DAY_FIRST, "22/11/2026 07:00:01", "22/11/2026 07:00:03"),
+        (DAY_FIRST, "22-11-2026 7:00:01 AM", "22-11-2026 07:00:03 UTC"),
+        (b"", "2026/11/22 07:00:01", "2026-11-22 07:00:03"), (b"", "2026-11-22T07:00:01Z", "2026-11-22T07:00:03.0Z"),
+        (b"", "2026-11-22 07:00:01+01:00", "2026-11-22 07:00:03-0700"),
+        (b"", "2026-11-22 07:00:01.0000000 +00:00", "2026-11-22 07:00:03.0000000 -07"),
+        (OF_SECONDS, "1795330801", "1795330803.000"), (OF_MILLISECONDS, "1795330801000", "1795330803000"),
     ]:
-        yield logged(f"{HEADER.decode()}7,{first},82,2\n7,{second},81,2\n".encode(), CAR_LOG)
+        text = f"{HEADER.decode()}7,{first},82,2\n7,{second},81,2\n".encode()
+        yield logged(text, CAR_LOG, errors=form)
+        # A form that is named is not told.
+        if form:
+            yield logged(text, CAR_LOG, "--time-form", form.decode()[7:].partition(",")[0])
     # Noon and midnight of a clock of twice 12 hours.
     for clock, tick in [("12:00:00 AM", 1), ("12:59:59 AM", 35_991), ("1:00:00 AM", 36_001), ("12:00:00 PM", 432_001),
                         ("1:00:00 PM", 468_001), ("11:59:59 PM", 863_991)]:
         text = f"7,11/22/2026 {clock},82,1\n".encode()
-        yield Run(["log", "--from", "2026-11-22 00:00:00"], 0, row(tick, [1]), b"", text)
+        yield Run(["log", "--from", "2026-11-22 00:00:00"], 0, row(tick, [1]), MONTH_FIRST, text)
     two = field_rules.TWO_WAYS + b"\n"
     yield refused(b"7,03/04/2026 07:00:01,82,2\n" + CAR, b'events line 1: time: "03/04/2026 07:00:01"' + two)
     yield refused(b"7,03/03/2026 07:00:01,82,2\n" + CAR, b'events line 1: time: "03/03/2026 07:00:01"' + two)
@@ -199,6 +215,8 @@ def separator_runs():
 # What the exports of tools/exports have to give: the ticks of the log's rows, of which the first has detector 4 on, and
 # what is told. They were made up, each in the form in which some controller, agency or spreadsheet hands out its log.
 BOTH, ONE = (33, 41), (33,)
+EXPORT_FORMS = {"a01_udot4": MONTH_FIRST, "a02_ampm": MONTH_FIRST, "a05_epoch": OF_SECONDS, "a06_epochms": OF_MILLISECONDS,
+                "a25_econ": MONTH_FIRST}
 EXPORTS = {
     "a01_udot4": BOTH, "a02_ampm": BOTH, "a05_epoch": BOTH, "a06_epochms": ONE, "a07_v5": BOTH, "a08_v5z": ONE, "a09_offset": ONE,
     "a10_odot": BOTH, "a11_ssms": BOTH, "a12_ctrl3": BOTH, "a13_snake": ONE, "a14_space": ONE, "a15_commaspace": ONE,
@@ -207,7 +225,7 @@ EXPORTS = {
     "a03_excel": b'events line 2: time: "00:03.2" has no day (was it opened in a spreadsheet?)',
     "a04_excel2": b'events line 2: time: "11/22/2026 7:00" has no seconds (was it opened in a spreadsheet?)',
     "a19_utf16": b"events: UTF-16: convert by iconv -f utf-16 -t utf-8",
-    "a23_unsorted": b"events line 3: time order: it is before a row above: sort by time",
+    "a23_unsorted": b"events line 3: time order: 07:00:03.2 after 07:00:04.0: sort by column 2",
     "a26_maxtime": b"events: XML: export as CSV",
     "a29_null": b'events line 2: parameter: "NULL" is no whole number up to 4294967295',
     "a32_noon12": b'events line 2: time: "2026-11-22 24:00:00.0" is no time as 2026-11-22 07:00:00.1',
@@ -222,9 +240,12 @@ def export_runs():
         if isinstance(wanted, bytes):
             yield refused(text, wanted + b"\n")
         elif wanted and isinstance(wanted[0], tuple):
-            yield logged(text, ticked(wanted[0]), errors=LEFT % (0, 0, wanted[1]))
+            yield logged(text, ticked(wanted[0]), errors=EXPORT_FORMS.get(name, b"") + LEFT % (0, 0, wanted[1]))
+        elif wanted:
+            yield logged(text, ticked(wanted), errors=EXPORT_FORMS.get(name, b""))
         else:
-            yield logged(text, ticked(wanted))
+            yield refused(text, NO_ROW)
+            yield logged(text, b"", EMPTY)
 
 
 def ticked(ticks):
@@ -252,15 +273,19 @@ def moment_runs():
         (["06:59:00 102 1", "07:00:00.1 104 1"], row(1, [], [], [1]) + row(2)),
         (["06:59:00 102 1", "07:00:00.000000001 104 1"], row(1, [], [], [1]) + row(2)),
         (["06:59:00 102 1", "07:00:00 104 1"], b""),
-        (["06:59:00 82 1", "06:59:01 81 1"], b""),
-        (["06:59:59.999999999 82 1", "06:59:59.999999999 81 1"], b""),
-        (["2026-11-21 23:59:59 82 1"], row(1, [1])),
         (["07:00:00 82 1", "07:00:00 81 1"], row(1, [1]) + row(2)),
         # Two in one tick, of several kinds, and the last tick.
         (["07:00:01.03 82 16", "07:00:01.04 90 1", "07:00:01.09 102 4"], row(11, [16], [1], [4])),
         ([f"{LAST} 82 3"], row(6_000_000, [3])),
         (["07:00:00 82 3", f"{LAST[:-10]}.9 81 3", f"{BEHIND} 1 3"], row(1, [3]) + row(6_000_000)),
     ])
+    # With no event from there on the log is written, and that is told, unless it may be so.
+    for events, log in [
+        (["06:59:00 82 1", "06:59:01 81 1"], b""), (["06:59:59.999999999 82 1", "06:59:59.999999999 81 1"], b""),
+        (["2026-11-21 23:59:59 82 1"], row(1, [1])), (["06:59:00 82 1", "07:00:00 1 1"], row(1, [1])),
+    ]:
+        yield logged(told(*events), log, EMPTY)
+        yield refused(told(*events), NO_EVENT, log)
     for at, first, log in [
         ("2026-11-22T07:00:00.05", "2026-11-22 07:00:00.149999999", row(1, [1])),
         ("2026-11-22 07:00:00.05", "2026-11-22 07:00:00.15", row(2, [1])),
@@ -290,16 +315,19 @@ def wire_runs():
          row(1, [], [7, 8], [4])),
         (["--preempt", "5=1", "--vehicle", "5=2"], ["90 5", "82 5", "102 5"], row(1, [2], [5], [1])),
     ])
-    yield logged(told("07:00:00 82 18"), b"", "--vehicle=17=3", errors=LEFT % (0, 1, 0))
+    yield logged(told("07:00:00 82 18"), b"", "--vehicle=17=3", EMPTY, errors=LEFT % (0, 1, 0))
+    yield refused(told("07:00:00 82 18"), LEFT % (0, 1, 0) + NO_EVENT, b"", "--vehicle=17=3")
     both = told("07:00:00 82 20", "07:00:00.1 82 21", "07:00:00.2 81 20", "07:00:00.3 81 21")
     yield logged(both, row(1, [5]) + row(4), "--vehicle", "20=5", "--vehicle", "21=5")
     other = b"8,2026-11-22 06:00:00,82,1\n9,2026-11-30 00:00:00,82,1\n"
     yield logged(CAR[:len(CAR) // 2] + other + CAR[len(CAR) // 2:], CAR_LOG, "--device", "7", errors=LEFT % (2, 0, 0))
-    yield logged(CAR + other, b"", "--device=10", errors=LEFT % (4, 0, 0))
+    yield logged(CAR + other, b"", "--device=10", EMPTY, errors=LEFT % (4, 0, 0))
+    yield refused(CAR + other, LEFT % (4, 0, 0) + NO_ROW, b"", "--device=10")
     # A device is its bytes, and no number.
-    yield from (logged(CAR, b"", "--device", device, errors=LEFT % (2, 0, 0)) for device in ["07", " 7", "7 ", "+7"])
+    for device in ["07", " 7", "7 ", "+7"]:
+        yield logged(CAR, b"", EMPTY, "--device", device, errors=LEFT % (2, 0, 0))
     yield logged(CAR.replace(b"7,2026", b"07,2026"), CAR_LOG, "--device", "07")
-    yield logged(CAR.replace(b"7,2026", b"07,2026"), b"", "--device", "7", errors=LEFT % (2, 0, 0))
+    yield logged(CAR.replace(b"7,2026", b"07,2026"), b"", "--device", "7", EMPTY, errors=LEFT % (2, 0, 0))
     yield logged(CAR.replace(b"7,", b"-7,"), CAR_LOG, "--device=-7")
     yield logged(CAR.replace(b"7,2026", b'"Main, 5th",2026'), CAR_LOG, "--device", "Main, 5th")
     yield logged(CAR.replace(b"7,2026", b",2026"), CAR_LOG)
@@ -307,6 +335,42 @@ def wire_runs():
     yield logged(CAR + told(f"{BEHIND} 82 17"), CAR_LOG, errors=LEFT % (0, 1, 0))
     # Behind the first line a byte order mark is a part of the device.
     yield logged(CAR + MARK + told("07:00:04 82 1"), CAR_LOG, "--device", "7", errors=LEFT % (1, 0, 0))
+
+
+def manner_runs():
+    """How a text is read, by words, and what is told of it."""
+    # A form that is named holds from the first row on.
+    for form, day in [("month-first", b"03/04/2026"), ("day-first", b"04/03/2026")]:
+        text = CAR.replace(b"2026-11-22", day)
+        words = ["log", "--from", "2026-03-04 07:00:00", "--time-form", form]
+        yield Run(words, 0, CAR_LOG, b"", text)
+        yield Run(words, 0, CAR_LOG, b"", HEADER + text)
+    other = b'events line 1: time: "2026-11-22 07:00:01" is year-first, not month-first: one form a file, by the first row or ' \
+            b"--time-form\n"
+    yield refused(CAR, other, b"", "--time-form=month-first")
+    yield logged(CAR, CAR_LOG, "--time-form", "year-first")
+    # Zones are passed over without --zone; with it moments are those of its clock. A clock without a zone is one of it.
+    for zone, first, second in [
+        ("-07:00", b"08:00:01-06:00", b"14:00:03Z"), ("-07:00", b"14:00:01Z", b"08:00:03-06:00"),
+        ("+01", b"06:00:01Z", b"07:00:03"), ("Z", b"07:00:01", b"09:30:03+02:30"),
+    ]:
+        yield logged(CAR.replace(b"07:00:01", first).replace(b"07:00:03", second), CAR_LOG, f"--zone={zone}")
+    epoch = b"7,1795330801,82,2\n7,1795330803,81,2\n"
+    yield Run(["log", "--from", "2026-11-22 00:00:00", "--zone=-07:00"], 0, CAR_LOG, OF_SECONDS, epoch)
+    # How much was read.
+    read = b"read: %d rows from 2026-11-22 %b to 2026-11-22 %b, events of %d channels\n"
+    yield logged(CAR, CAR_LOG, "--count", errors=read % (2, b"07:00:01.0", b"07:00:03.0", 1))
+    more = told("06:59:59.25 90 2", "07:00:01 82 2", "07:00:01 1 9", "07:00:03 81 2", "07:00:03.000000001 82 99")
+    yield logged(more, row(1, [], [2]) + row(11, [2], [2]) + row(31, [], [2]), "--count",
+                 errors=LEFT % (0, 1, 0) + read % (5, b"06:59:59.25", b"07:00:03.000000001", 2))
+    yield logged(b"8,2026-11-22 07:00:00,82,1\n" + CAR, CAR_LOG, "--count", "--device=7",
+                 errors=LEFT % (1, 0, 0) + read % (2, b"07:00:01.0", b"07:00:03.0", 1))
+    yield refused(HEADER, b"read: 0 rows\n" + NO_ROW, b"", "--count")
+    yield logged(HEADER, b"", EMPTY, "--count", errors=b"read: 0 rows\n")
+    yield refused(told("07:00:01 1 2"), read % (1, b"07:00:01.0", b"07:00:01.0", 0) + NO_EVENT, b"", "--count")
+    wires = [*("--vehicle 9=1 --vehicle 9=2 --vehicle 8=1 --pedestrian 9=1".split()), "--count"]
+    events = told("07:00:00 82 9", "07:00:00 82 8", "07:00:00 90 9", "07:00:00 81 9")
+    yield logged(events, row(1, [1, 2], [1]) + row(2, [1], [1]), *wires, errors=read % (4, b"07:00:00.0", b"07:00:00.0", 3))
 
 
 def line_faults():
@@ -378,12 +442,15 @@ def fault_runs():
     ]:
         yield refused(text, b"events: " + why + b"\n", CAR_KNOWN if text.startswith(CAR) else b"")
     yield from return_runs()
-    order = b"events line %d: time order: it is before a row above: sort by time\n"
-    yield refused(CAR + told("07:00:02.999999999 81 2"), order % 3, CAR_KNOWN)
-    yield refused(CAR + told("07:00:03 1 1", "07:00:02 1 1"), order % 4, CAR_KNOWN)
-    yield refused(b"\n" + told("06:00:01 1 1", "06:00:00 1 1") + CAR, order % 3)
+    order = b"events line %d: time order: %b after %b: sort by column %d\n"
+    yield refused(CAR + told("07:00:02.999999999 81 2"), order % (3, b"07:00:02.999999999", b"07:00:03.0", 2), CAR_KNOWN)
+    yield refused(CAR + told("07:00:03.25 1 1", "07:00:02 1 1"), order % (4, b"07:00:02.0", b"07:00:03.250", 2), CAR_KNOWN)
+    yield refused(b"\n" + told("06:00:01 1 1", "06:00:00 1 1") + CAR, order % (3, b"06:00:00.0", b"06:00:01.0", 2))
     other = HEADER + b"8,2026-11-23 07:00:00,1,1\n"
-    yield refused(other + told("07:00:03 82 99", "07:00:02 82 99"), order % 4, b"", "--device=7")
+    yield refused(other + told("07:00:03 82 99", "07:00:02 82 99"), order % (4, b"07:00:02.0", b"07:00:03.0", 2), b"",
+                  "--device=7")
+    yield refused(b"Time,Device Id,Code,Param\n2026-11-23 00:00:00.001,7,1,1\n2026-11-22 23:59:59.9,7,1,1\n",
+                  order % (3, b"23:59:59.9", b"00:00:00.001 of a later day", 1))
     past = b"events: past tick 6000000\n"
     yield refused(CAR + told(f"{BEHIND} 82 2"), past, CAR_KNOWN)
     yield refused(CAR + told(f"{BEHIND} 81 2"), past, CAR_KNOWN)
@@ -557,7 +624,9 @@ def word_runs():
     for words in [
         [], ["what"], ["--help"], ["-h"], ["help"], ["--version"], ["Log", *FROM], ["log"], ["log", "--help"],
         [*LOG, *FROM], [*LOG, "more"], [*LOG, "--log", "car.log"], [*LOG, "--device", "-7"], [*LOG, "--device"],
-        [*LOG, "--vehicle", "1"],
+        [*LOG, "--vehicle", "1"], [*LOG, "--time-form"], [*LOG, "--time-form", "month"], [*LOG, "--zone", "07:00"],
+        [*LOG, "--zone"], [*LOG, "--zone=+24:00"], [*LOG, "--zone", "-07:00"], [*LOG, "--count=1"], [*LOG, "--count", "--count"],
+        [*LOG, EMPTY, EMPTY], [*EVENTS, "--count"], [*LOG, "--zone=Z", "--zone=Z"],
         [*LOG, "--vehicle", "1=17"], [*LOG, "--vehicle", "1=0"], [*LOG, "--vehicle", "=1"], [*LOG, "--vehicle", "1="],
         [*LOG, "--vehicle", "1=1=1"], [*LOG, "--vehicle", "4294967296=1"], [*LOG, "--vehicle", "x=1"],
         [*LOG, "--pedestrian", "1=9"], [*LOG, "--preempt", "1=5"], [*LOG, "--device", "7", "--device", "7"],
@@ -669,10 +738,12 @@ def stream_runs():
         yield Run(words, 3, b"", READ, stdin=TORN, stdout=FULL)
         yield Run([*words, "more"], 2, stderr=FULL, commands=text)
         yield Run(words, 3, stdin=TORN, stderr=FULL)
-        yield Run(words, 0, stdin="/dev/null", stdout="/dev/null")
+        yield Run([*words, *([EMPTY] if words == LOG else [])], 0, stdin="/dev/null", stdout="/dev/null")
+    yield Run(LOG, 1, stdin="/dev/null", stdout="/dev/null", stderr=FULL)
     yield Run(LOG, 1, b"", b"events line 1: " + ENDS % b"parameter" + b"\n", b"7,x,82\n" + CAR, stdout=FULL)
     yield Run(LOG, 1, stderr=FULL, commands=b"x\n")
-    yield Run([*LOG, "--device", "8"], 0, stderr=FULL, commands=CAR)
+    yield Run([*LOG, "--device", "8"], 1, stderr=FULL, commands=CAR)
+    yield Run([*LOG, "--device", "8", EMPTY], 0, stderr=FULL, commands=CAR)
     yield Run(LOG, 1, b"", b"events: too large\n", stdin=ENDLESS)
     for words in [EVENTS, ["diagram"]]:
         for path, status, line in log_faults():

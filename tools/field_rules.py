@@ -46,6 +46,10 @@ NO_SECONDS = b" has no seconds (was it opened in a spreadsheet?)"
 TWO_WAYS = b" can be read in two ways: give --time-form month-first or --time-form day-first"
 NO_NUMBER = b" is no whole number up to 4294967295"
 
+# What is told where no row counts, and where no input has an event from tick 1 on.
+NO_ROW = b"events: no row counts (give --allow-empty where that is right)\n"
+NO_EVENT = b"events: no event of an input from --from on (give --allow-empty where that is right)\n"
+
 # What is told of a text without a header and without a row.
 NOTHING = b"events: no header and no row (do commas part its fields?)\n"
 
@@ -360,10 +364,33 @@ def known_log(begin, wires, events):
     return log_of_events(begin, wires, events, tick_of(begin, events[-1][0]) if events else 0)
 
 
+def clock(nanos):
+    """The time of day of a moment, with one digit behind the point, three or nine: the fewest that tell it."""
+    clock, _, part = time_text(nanos).decode().split(" ")[1].partition(".")
+    return f"{clock}.{part.ljust(next(n for n in (1, 3, 9) if len(part) <= n), '0')}".encode()
+
+
+def order_fault(count, at, last, place):
+    """What is told of a row that is earlier than one before it."""
+    day = 86400 * SECOND
+    later = b" of a later day" if at // day < last // day else b""
+    return b" line %d: time order: %b after %b%b: sort by column %d" % (count, clock(at), clock(last), later, place + 1)
+
+
+class Read:
+    """What was read: the events of inputs, the moments of the rows that count, how many rows are of other devices, how
+    many events are of channels without an input, how many lines are passed over, whether there is a header or a row, and
+    the form of times where the first row says it."""
+
+    def __init__(self):
+        self.events, self.moments, self.others, self.lost, self.passed = [], [], 0, 0, 0
+        self.is_found, self.form = False, None
+
+
 def taken(lines, begin, device, wires, form=None, zone=None):
-    """The events that lines tell of inputs, how many rows are of other devices, how many events are of channels without
-    an input, how many lines are passed over, and whether there is a header or a row. A fault is raised."""
-    events, last, others, lost, passed, places, mark = [], 0, 0, 0, 0, None, None
+    """What was read of lines. A fault is raised."""
+    read, is_named, places, mark = Read(), form is not None, None, None
+    events = read.events
 
     def fault(told):
         raise Fault(b"events" + told + b"\n", known_log(begin, wires, events))
@@ -375,18 +402,20 @@ def taken(lines, begin, device, wires, form=None, zone=None):
         if not line.strip(b" ") or line.startswith(b"#"):
             continue
         if places is None:
+            read.is_found = True
             if columns(line):
                 places, mark = columns(line)
                 if device is not None and places[0] is None:
                     fault(b" line %d: header: no column is the device" % count)
                 continue
             if is_preface(line):
-                passed += 1
+                read.is_found = False
+                read.passed += 1
                 continue
             places, mark = usual(line)
         row = row_of(line, places, mark) if form in (None, "year-first") else None
         if row is None and is_passed(line):
-            passed += 1
+            read.passed += 1
             continue
         wide = (row[0], "year-first", *row[1:]) if row else wide_row(line, places, mark, form, zone)
         counts = wide and device in (None, wide[0])
@@ -394,38 +423,53 @@ def taken(lines, begin, device, wires, form=None, zone=None):
             told = why(line, places, mark, form)
             fault(told if told.startswith(b": ") else b" line %d: %b" % (count, told))
         of, form, at, code, channel = wide
+        read.form = None if is_named else form
         if not counts:
-            others += 1
+            read.others += 1
             continue
-        if at < last:
-            fault(b" line %d: time order: it is before a row above: sort by time" % count)
-        last = at
+        if read.moments and at < read.moments[-1]:
+            fault(order_fault(count, at, read.moments[-1], places[1]))
+        read.moments.append(at)
         kind, on = CODES.get(code, (None, None))
         if kind and any(wire[:2] == (kind, channel) for wire in wires):
             if tick_of(begin, at) > TICKS:
                 fault(b": past tick %d" % TICKS)
             events.append((at, kind, channel, on))
         elif kind:
-            lost += 1
-    return events, others, lost, passed, places is not None
+            read.lost += 1
+    return read
 
 
-def log(text, begin, device=None, mapped=(), form=None, zone=None):
-    """The log that a text of events tells from a moment on, and what standard error has. A fault is raised."""
+def counted(read):
+    """The line of how much was read."""
+    if not read.moments:
+        return b"read: 0 rows\n"
+    channels = {(kind, channel) for _, kind, channel, _ in read.events}
+    span = time_text(read.moments[0]), time_text(read.moments[-1])
+    return b"read: %d rows from %b to %b, events of %d channels\n" % (len(read.moments), *span, len(channels))
+
+
+def log(text, begin, device=None, mapped=(), form=None, zone=None, is_counted=False, may_be_empty=False):
+    """The status of `log` for a text of events, its log from a moment on, and what standard error has. A fault is
+    raised."""
     wires = wires_of(mapped)
-    events, others, lost, passed, is_found = taken(lines_of(text), begin, device, wires, form, zone)
-    if passed and not is_found:
+    read = taken(lines_of(text), begin, device, wires, form, zone)
+    if read.passed and not read.is_found:
         raise Fault(NOTHING, b"")
-    told = f"left out: {others} rows of other devices, {lost} events of channels without an input, " \
-           f"{passed} lines that are no rows\n"
-    return log_of_events(begin, wires, events), told.encode() if others or lost or passed else b""
+    told = b"" if read.form in (None, "year-first") else f"times: {read.form}, by the first row\n".encode()
+    if read.others or read.lost or read.passed:
+        told += f"left out: {read.others} rows of other devices, {read.lost} events of channels without an input, " \
+                f"{read.passed} lines that are no rows\n".encode()
+    told += counted(read) if is_counted else b""
+    is_heard = may_be_empty or any(at >= begin for at, *_ in read.events)
+    told += b"" if is_heard else NO_EVENT if read.moments else NO_ROW
+    return 0 if is_heard else 1, log_of_events(begin, wires, read.events), told
 
 
 def begun_log(text, begin, device=None, mapped=()):
     """What is known of the log where the text goes on, or reading fails behind it: its last line is not whole."""
     wires = wires_of(mapped)
-    events, *_ = taken(lines_of(text)[:-1], begin, device, wires)
-    return known_log(begin, wires, events)
+    return known_log(begin, wires, taken(lines_of(text)[:-1], begin, device, wires).events)
 
 
 def remaining(text):

@@ -22,10 +22,15 @@ LOG = "examples/one_row.log"
 EVENTS = field_rules.HEADER + b"".join(
     b"%d,2026-11-22 07:00:%02d.5,%d,%d\n" % (7 + (k == 9), k, 82 - k % 2, 1 + (k == 12) * 30) for k in range(40))
 
+# The same with the month first, which is told.
+MONTH_FIRST = EVENTS.replace(b"2026-11-22", b"11/22/2026")
+
 # Words of `log`, what is read, and the device and the wires that the words name.
 LOGS = [
     (["log", *FROM, "--device", "7", "--vehicle", "40=3"], EVENTS, b"7", [("vehicle", 40, 3)]),
     (["log", *FROM], EVENTS + b"x\n", None, []),
+    (["log", *FROM, "--count", "--zone=Z"], MONTH_FIRST, None, []),
+    (["log", *FROM, "--count", "--device=9"], EVENTS, b"9", []),
 ]
 
 # Words, and what is read.

@@ -67,7 +67,8 @@ def round_trips(program, folder):
         status, events, errors = answer(program, ["events", *words, "--log", "trip.log"], b"", folder)
         wanted = field_rules.events(b"", field_rules.moment(begin.encode()), device.encode(), log)
         yield from difference(f"events of log {count}", (status, events, errors), (0, wanted, b""))
-        yield from difference(f"round trip {count}", answer(program, ["log", *words], events), (0, log, b""))
+        back = answer(program, ["log", *words, *([] if log else ["--allow-empty"])], events)
+        yield from difference(f"round trip {count}", back, (0, log, b""))
 
 
 def random_events(chance):
@@ -104,11 +105,13 @@ def logs_of_events(program):
         text, wires = random_events(chance), list(random_wires(chance))
         device = chance.choice([None, "7", "8,"])
         mapped = [wire for kind in KINDS for _, wire in wires if wire[0] == kind]
+        told = [chance.randrange(2) == 0 for _ in range(2)]
         try:
-            wanted = 0, *field_rules.log(text, BEGIN, device and device.encode(), mapped)
+            wanted = field_rules.log(text, BEGIN, device and device.encode(), mapped, None, None, *told)
         except field_rules.Fault as fault:
             wanted = 1, fault.known, fault.line
         words = ["log", *FROM, *([f"--device={device}"] if device else []), *sum((words for words, _ in wires), [])]
+        words += [word for word, is_asked in zip(["--count", "--allow-empty"], told) if is_asked]
         yield from difference(f"log of events {count}", answer(program, words, text), wanted)
 
 
@@ -192,11 +195,16 @@ def logs_of_exports(program):
     for count in range(EXPORTS):
         chance = random.Random(f"export {count}")
         text, device = random_export(chance), chance.choice([None, None, "7"])
+        told = [chance.randrange(4) == 0, chance.randrange(2) == 0]
+        form, zone = chance.choice([None] * 9 + list(field_rules.FORM_TIMES)), chance.choice([None] * 4 + ["Z", "-07:00", "+0530"])
         try:
-            wanted = 0, *field_rules.log(text, BEGIN, device and device.encode())
+            wanted = field_rules.log(text, BEGIN, device and device.encode(), (), form,
+                                     zone and field_rules.zone_named(zone.encode()), *told)
         except field_rules.Fault as fault:
             wanted = 1, fault.known, fault.line
-        words = ["log", *FROM, *([f"--device={device}"] if device else [])]
+        words = ["log", *FROM]
+        words += [f"--{name}={it}" for name, it in [("device", device), ("time-form", form), ("zone", zone)] if it]
+        words += [word for word, is_asked in zip(["--count", "--allow-empty"], told) if is_asked]
         yield from difference(f"log of export {count}", answer(program, words, text), wanted)
 
 
@@ -384,7 +392,8 @@ def hour(program, bench):
 def worked_runs():
     """All worked runs."""
     return [
-        *field_cases.form_runs(), *field_cases.wide_runs(), *field_cases.separator_runs(), *field_cases.export_runs(), *field_cases.moment_runs(), *field_cases.wire_runs(), *field_cases.fault_runs(),
+        *field_cases.form_runs(), *field_cases.wide_runs(), *field_cases.separator_runs(), *field_cases.export_runs(),
+        *field_cases.moment_runs(), *field_cases.wire_runs(), *field_cases.manner_runs(), *field_cases.fault_runs(),
         *field_cases.event_runs(), *field_cases.record_runs(), *field_cases.record_faults(), *field_cases.word_runs(),
         *field_cases.stream_runs(),
     ]
