@@ -181,7 +181,9 @@ def test_log_of_an_export(examples: Path) -> None:
     with pytest.warns(
         UserWarning, match=f"left out: {len(export)} rows of other devices"
     ):
-        assert frames.log_of_export(export, START, "8") == Log()
+        assert frames.log_of_export(export, START, "8", allow_empty=True) == Log()
+    with pytest.raises(Error, match="no row counts"):
+        frames.log_of_export(export, START, "8")
 
 
 def test_log_of_a_file(examples: Path, tmp_path: Path) -> None:

@@ -238,13 +238,16 @@ def log_of_export(
     vehicles: Mapping[int, int] | None = None,
     pedestrians: Mapping[int, int] | None = None,
     preempts: Mapping[int, int] | None = None,
+    allow_empty: bool = False,
 ) -> Log:
     """The log of inputs that an export makes, by `tsb_field log`: its tick 1 begins
     at the start. `export` is a table, or a file of docs/FIELD.md's forms; its rows may
     stand in any order. The mappings lead channels of the controller to inputs of the
     bench, as `vehicles={21: 2, 22: 2}`; others lead to their own numbers. What is left
-    out is told as a warning."""
+    out is told as a warning, and so is a form of times that the first row said. Without
+    an event of an input from the start on it is an error, unless it may be empty."""
     words = ["log", f"--from={start}"]
+    words += ["--allow-empty"] if allow_empty else []
     words += [] if device is None else [f"--device={device}"]
     for name, leads in [
         ("vehicle", vehicles), ("pedestrian", pedestrians), ("preempt", preempts)
