@@ -22,3 +22,9 @@ pub mod StageDirtyLemmas
 pub mod StageArrivalLemmas
 pub mod StageRunLemmas
 pub mod StageServiceLemmas
+pub mod PressedGreenLemmas
+pub mod PressedRunLemmas
+pub mod TurnListLemmas
+pub mod TurnRingLemmas
+pub mod TurnStepLemmas
+pub mod TurnLemmas

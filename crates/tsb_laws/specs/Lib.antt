@@ -38,6 +38,8 @@ pub mod PreemptEntries
 pub mod UnwantedGreens
 -- when a phase starts that the preempt in service wants
 pub mod WantedStarts
+-- in what time calls are served in free operation
+pub mod ServedCalls
 -- the runs of which the laws speak
 pub mod Runs
 -- timers among the cells, and what a tick makes of them

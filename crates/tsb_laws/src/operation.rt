@@ -10,6 +10,7 @@ ghost use Rattle.tsb_laws.specs.PreemptTurns.{PreemptsGiveWay, ServicesEnd};
 ghost use Rattle.tsb_laws.specs.RunningMaximum.{MaximumsAreBounded, MaximumsMoveByAStep, OthersLeaveMaximums};
 ghost use Rattle.tsb_laws.specs.UnwantedGreens.{UnwantedGreensEnd};
 ghost use Rattle.tsb_laws.specs.WantedStarts.{WantedPhasesStart};
+ghost use Rattle.tsb_laws.specs.ServedCalls.{PressedGreensMayEnd, CalledPhasesCome};
 
 /// `remembered`: What calls is remembered, or served at once. An output that calls an enabled, locking phase which was
 /// not Green is in vehicle memory after the tick, or the phase turns Green in it; a button that calls an enabled phase
@@ -185,4 +186,28 @@ pub fn preempts_reach_their_stages()
 /// Witness: `a_dwell` of PreemptStageRuns.
 pub fn preempts_reach_dwell_in_time()
     ensures { DwellsAreReached }
+/// A green that has had a conflict for long enough may end. In free operation and with no preempt in service, once it
+/// has had one in each tick for its maximum, its initial time and its walk with clearance, it is ready in the next tick.
+/// So it is with maximum recall, with detectors that stay on, and whatever commits come meanwhile.
+///
+/// Needs: an untripped run; at most 16 phases.
+/// Not said: that it then ends, as its ring may wait for the barrier.
+/// Mistake: a green that extends while an output is on, `extended` (`is_ready_2`, `would_extend`).
+/// Witness: `a_press` of ServedRuns.
+pub fn pressed_greens_may_end()
+    ensures { PressedGreensMayEnd }
+{}
+
+/// A called phase comes in its turn. In free operation and with no preempt in service, where it is still to come in the
+/// order of its ring, on the side that is served, it is Green within a time that the plan gives: what the ring has begun,
+/// and the turns of the phases that are still to come on that side. However many other calls come, it is not passed over.
+///
+/// Needs: a plan in which all phases of one side and of different rings are concurrent; a call that stays, and no commit;
+/// an untripped run; at most 16 phases.
+/// Not said: that a phase of another side is served, or one that its ring has passed; that is stated and tested.
+/// Mistake: a ring that crosses the barrier as soon as another side is called, `crosses_first` (`goes_to_2`,
+/// `would_cross`).
+/// Witness: `a_turn` of ServedRuns.
+pub fn called_phases_come()
+    ensures { CalledPhasesCome }
 {}

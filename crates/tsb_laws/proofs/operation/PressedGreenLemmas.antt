@@ -1,0 +1,253 @@
+-- How many ticks more a green takes until it may end, in free operation and with no preempt in service, where it has a
+-- conflict in each tick: found of the phase as it stands, and one less after each tick.
+use Rattle.std.proofs.Common.{◌≡◌, ℕ, ◌+◌, ◌-◌, ◌*◌, ◌<◌, ◌≤◌, ◌==◌, nat_le, Bool, true, false, not, ◌&&◌, ◌||◌, if◌then◌else◌, min, max, Option, Some, None, is_none, refl, sym, ap, arith, ◌∙◌}
+use Rattle.std.proofs.lemmas.Bool.{and_parts, eqb-true, true≢false, false≢true}
+use Rattle.std.proofs.lemmas.Bool.Decides.{nat_tests}
+use Rattle.tsb_step.specs.tsb_cells.declared.timer.Timer.{Timer}
+use Rattle.tsb_step.specs.tsb_cells.declared.timer.Timer.TheVariants.{Off, On}
+use Rattle.tsb_step.specs.tsb_cells.Timer.{advanced, started, has_reached}
+use Rattle.tsb_step.specs.tsb_types.declared.interval.Interval.TheVariants.{Green}
+use Rattle.tsb_step.specs.tsb_types.declared.interval.PedestrianInterval.{PedestrianInterval}
+use Rattle.tsb_step.specs.tsb_types.declared.interval.PedestrianInterval.TheVariants.{DontWalk, Walk, PedestrianClear}
+use Rattle.tsb_step.specs.tsb_types.declared.row.Row.{Row}
+use Rattle.tsb_step.specs.tsb_types.Clip.{clipped}
+use Rattle.tsb_step.specs.tsb_types.Intervals.{is_green}
+use Rattle.tsb_step.specs.tsb_types.Sets.{is_phase}
+use Rattle.tsb_step.specs.tsb_plan.Plan.{Plan, maximum, dynamic_maximum_limit, has_variable_initial, minimum_green, maximum_initial, added_initial, walk, pedestrian_clear, rests_in_walk}
+use Rattle.tsb_step.specs.tsb_phase.DynamicMaximum.{is_dynamic, highest_maximum, lowest_maximum, effective_maximum, maximum_in_use}
+use Rattle.tsb_step.specs.tsb_phase.Phase.{Phase, Given, held_of}
+use Rattle.tsb_step.specs.tsb_phase.Green.{initial, conflict_timer, has_maxed_out, is_gapped, is_by_gap, forced_latch}
+use Rattle.tsb_step.specs.tsb_phase.Pedestrian.{ended_by, walk_time, clearance_time, is_resting_in_walk, walk_has_ended, clearance_has_ended, pedestrian_after, pedestrian_now, pedestrian_timer_in}
+use Rattle.tsb_step.specs.tsb_phase.Ready.{needs_forced, is_ready}
+use Rattle.tsb_step.specs.tsb_ring.Moves.{is_ended, is_started}
+use Rattle.tsb_step.specs.State.{State, interval}
+use Rattle.tsb_step.specs.Tick.{service, runs, hold, conflict, phases_given, phase_read, moves, ready, next}
+use Rattle.tsb_laws.specs.ServedCalls.{is_free, longest_maximum, longest_initial}
+use Rattle.tsb_laws.proofs.safety.DueLemmas.{not_reached}
+use Rattle.tsb_laws.proofs.operation.PhaseTimeLemmas.{left, walking_in, Runs, IsTimed}
+
+-- the ticks in which a green will not be ready: m and i are its longest maximum and initial, a and b its walk and its
+-- pedestrian clearance
+abbrev pub pressed_left : ℕ → ℕ → ℕ → ℕ → Phase → ℕ
+pressed_left m i a b x = max (left m x.conflict) (max (left i x.timer) (walking_in a b x.pedestrian_timer x.pedestrian))
+
+-- ## Times of a plan
+
+pub maximum_most : (plan : Plan) (p : ℕ) (running : Option ℕ) → maximum_in_use plan p running ≤ longest_maximum plan p
+unfolding maximum_in_use
+maximum_most plan p running = go (is_dynamic plan p) running
+  where
+    go : (b : Bool) (o : Option ℕ) →
+        (if b then effective_maximum plan p o else maximum plan p) ≤ (if b then highest_maximum plan p else maximum plan p)
+    go true None = omega arith
+    go true (Some n) = omega arith
+    go false o = omega arith
+
+pub initial_most : (plan : Plan) (p cars : ℕ) → initial plan p cars ≤ longest_initial plan p
+unfolding initial
+initial_most plan p cars = go (has_variable_initial plan p) (added_initial plan p * cars)
+  where
+    go : (b : Bool) (x : ℕ) → (if b then max (minimum_green plan p) (min (maximum_initial plan p) x) else minimum_green plan p)
+        ≤ (if b then max (minimum_green plan p) (maximum_initial plan p) else minimum_green plan p)
+    go true x = omega arith
+    go false x = omega arith
+
+-- ## The pedestrians of a green that nothing but a conflict ends
+
+module _ (plan : Plan) (given : Given) (p : ℕ) (w : Phase) (ends : ended_by given p ≡ None) (busy : given.conflict p ≡ true) where
+  does_not_rest : is_resting_in_walk plan given p ≡ false
+  does_not_rest = rw busy (go (rests_in_walk plan p))
+    where
+      go : (a : Bool) → (a && false) ≡ false
+      go true = refl
+      go false = refl
+
+  -- what a tick makes of the pedestrians, and how long they take then
+  walks_down : (a b : ℕ) → walk plan p ≤ a → pedestrian_clear plan p ≤ b → (t : Timer) → w.pedestrian_timer ≡ advanced t →
+      (w.pedestrian ≡ Walk → Runs t) → (w.pedestrian ≡ PedestrianClear → Runs t) →
+      walking_in a b (pedestrian_timer_in w.pedestrian (pedestrian_now plan given p w) w.pedestrian_timer) (pedestrian_now plan given p w)
+      ≤ walking_in a b t w.pedestrian - 1
+  unfolding pedestrian_now
+  walks_down a b most_a most_b t read on_walk on_clear = go w.pedestrian refl
+    where
+      in_walk : w.pedestrian ≡ Walk → (h c : Bool) → walk_has_ended plan given p w ≡ h →
+          walking_in a b (pedestrian_timer_in Walk (if h then (if c then DontWalk else PedestrianClear) else Walk) w.pedestrian_timer)
+          (if h then (if c then DontWalk else PedestrianClear) else Walk) ≤ walking_in a b t Walk - 1
+      in_walk e true true k = omega arith
+      in_walk e true false k =
+          let run : Runs t = on_walk e in
+          let was : left a t ≡ left a (On run.count) = ap (λ (u : Timer). left a u) run.is in
+          omega (arith, was)
+      in_walk e false c k =
+          let run : Runs t = on_walk e in
+          let now : w.pedestrian_timer ≡ On (run.count + 1) = read ∙ ap advanced run.is in
+          let was : left a t ≡ left a (On run.count) = ap (λ (u : Timer). left a u) run.is in
+          let late : nat_le (walk plan p) (run.count + 1) ≡ false = not_both (nat_le (walk plan p) (run.count + 1)) (rw (does_not_rest, now, ends) at k) in
+          let soon : run.count + 1 < walk plan p = not_reached (run.count + 1) (walk plan p) late in
+          rw now (omega (arith, was, soon, most_a))
+        where
+          not_both : (x : Bool) → (x && true) ≡ false → x ≡ false
+          not_both true z = absurd (true≢false z)
+          not_both false z = refl
+
+      in_clear : w.pedestrian ≡ PedestrianClear → (h : Bool) → clearance_has_ended plan given p w ≡ h →
+          walking_in a b (pedestrian_timer_in PedestrianClear (if h then DontWalk else PedestrianClear) w.pedestrian_timer)
+          (if h then DontWalk else PedestrianClear) ≤ walking_in a b t PedestrianClear - 1
+      in_clear e true k = omega arith
+      in_clear e false k =
+          let run : Runs t = on_clear e in
+          let now : w.pedestrian_timer ≡ On (run.count + 1) = read ∙ ap advanced run.is in
+          let was : left b t ≡ left b (On run.count) = ap (λ (u : Timer). left b u) run.is in
+          rw now (omega (arith, was))
+
+      go : (x : PedestrianInterval) → w.pedestrian ≡ x →
+          walking_in a b (pedestrian_timer_in w.pedestrian (pedestrian_after plan given p w w.pedestrian) w.pedestrian_timer)
+          (pedestrian_after plan given p w w.pedestrian) ≤ walking_in a b t w.pedestrian - 1
+      go DontWalk e = rw e (omega arith)
+      go Walk e = rw e (in_walk e (walk_has_ended plan given p w) (clearance_time plan p (ended_by given p) == 0) refl)
+      go PedestrianClear e = rw e (in_clear e (clearance_has_ended plan given p w) refl)
+
+  -- where none is left, the pedestrians are in DontWalk now
+  walks_no_more : (a b : ℕ) → walk plan p ≤ a → pedestrian_clear plan p ≤ b → (t : Timer) → w.pedestrian_timer ≡ advanced t →
+      (w.pedestrian ≡ Walk → Runs t) → (w.pedestrian ≡ PedestrianClear → Runs t) → walking_in a b t w.pedestrian ≡ 0 →
+      pedestrian_now plan given p w ≡ DontWalk
+  unfolding pedestrian_now
+  walks_no_more a b most_a most_b t read on_walk on_clear none = go w.pedestrian refl
+    where
+      in_walk : w.pedestrian ≡ Walk → pedestrian_after plan given p w Walk ≡ DontWalk
+      in_walk e =
+          let run : Runs t = on_walk e in
+          let now : w.pedestrian_timer ≡ On (run.count + 1) = read ∙ ap advanced run.is in
+          let zero : left a (On run.count) + b ≡ 0 = sym (ap (λ (u : Timer). left a u + b) run.is) ∙ (rw e at none) in
+          let ended : nat_le (walk plan p) (run.count + 1) ≡ true = grind (arith, nat_tests, zero, most_a) in
+          let clear : (pedestrian_clear plan p == 0) ≡ true = grind (arith, nat_tests, zero, most_b) in
+          rw (does_not_rest, now, ends, ended, clear) refl
+
+      in_clear : w.pedestrian ≡ PedestrianClear → pedestrian_after plan given p w PedestrianClear ≡ DontWalk
+      in_clear e =
+          let run : Runs t = on_clear e in
+          let now : w.pedestrian_timer ≡ On (run.count + 1) = read ∙ ap advanced run.is in
+          let zero : left b (On run.count) ≡ 0 = sym (ap (λ (u : Timer). left b u) run.is) ∙ (rw e at none) in
+          let ended : nat_le (pedestrian_clear plan p) (run.count + 1) ≡ true = grind (arith, nat_tests, zero, most_b) in
+          rw (now, ends, ended) refl
+
+      go : (x : PedestrianInterval) → w.pedestrian ≡ x → pedestrian_after plan given p w w.pedestrian ≡ DontWalk
+      go DontWalk e = rw e refl
+      go Walk e = rw e (in_walk e)
+      go PedestrianClear e = rw e (in_clear e)
+
+  -- ## Its green
+
+  reached_all : (limit most : ℕ) (t : Timer) → limit ≤ most → left most t ≡ 0 → has_reached (started (advanced t)) limit ≡ true
+  reached_all limit most Off h none = grind (arith, nat_tests, h, none)
+  reached_all limit most (On n) h none = grind (arith, nat_tests, h, none)
+
+  maxed_out : (m : ℕ) → longest_maximum plan p ≤ m → given.runs ≡ None → (t : Timer) → w.conflict ≡ advanced t → left m t ≡ 0 →
+      has_maxed_out plan given p (held_of w) w.running_maximum ≡ true
+  maxed_out m most free t read none =
+      let limit : maximum_in_use plan p w.running_maximum ≤ m = (let it = maximum_most plan p w.running_maximum in omega (arith, it, most)) in
+      let reached : has_reached (started (advanced t)) (maximum_in_use plan p w.running_maximum) ≡ true =
+      reached_all (maximum_in_use plan p w.running_maximum) m t limit none in
+      rw (free, busy, read, reached) refl
+
+  or_middle : (a b : Bool) → (a || (true || b)) ≡ true
+  or_middle true b = refl
+  or_middle false b = refl
+
+  pub is_ready_then : (m i a b : ℕ) → longest_maximum plan p ≤ m → longest_initial plan p ≤ i → walk plan p ≤ a → pedestrian_clear plan p ≤ b →
+      given.runs ≡ None → given.hold p ≡ false → (s t u : Timer) → w.conflict ≡ advanced s → w.timer ≡ advanced t → w.pedestrian_timer ≡ advanced u →
+      Runs t → (w.pedestrian ≡ Walk → Runs u) → (w.pedestrian ≡ PedestrianClear → Runs u) → is_green w.interval ≡ true →
+      max (left m s) (max (left i t) (walking_in a b u w.pedestrian)) ≡ 0 → is_ready plan given p w ≡ true
+  unfolding is_ready
+  is_ready_then m i a b most_m most_i most_a most_b free held s t u read_s read_t read_u run on_walk on_clear green none =
+      let first : left m s ≡ 0 = omega (arith, none) in
+      let second : left i t ≡ 0 = omega (arith, none) in
+      let third : walking_in a b u w.pedestrian ≡ 0 = omega (arith, none) in
+      let still : pedestrian_now plan given p w ≡ DontWalk = walks_no_more a b most_a most_b u read_u on_walk on_clear third in
+      let out : has_maxed_out plan given p (held_of w) w.running_maximum ≡ true = maxed_out m most_m free s read_s first in
+      let now : w.timer ≡ On (run.count + 1) = read_t ∙ ap advanced run.is in
+      let zero : left i (On run.count) ≡ 0 = sym (ap (λ (x : Timer). left i x) run.is) ∙ second in
+      let most : initial plan p (given.count p) ≤ longest_initial plan p = initial_most plan p (given.count p) in
+      let long : nat_le (initial plan p (given.count p)) (run.count + 1) ≡ true = grind (arith, nat_tests, zero, most, most_i) in
+      rw (green, still, ends, now, long, held, out)
+      (or_middle (is_by_gap plan given p (is_gapped plan given p (held_of w))) (forced_latch given p (held_of w)))
+
+-- ## As the controller has it
+
+no_preempt : (b : Bool) (o : Option ℕ) → o ≡ None → (if b then o else None) ≡ None
+no_preempt true o h = h
+no_preempt false o h = refl
+
+none_when : (o : Option ℕ) → is_none o ≡ true → o ≡ None
+none_when None h = refl
+none_when (Some x) h = absurd (false≢true h)
+
+pub free_parts : (s : State) (row : Row) → is_free s row ≡ true → (service s row ≡ None) × (runs s ≡ None)
+free_parts s row h =
+    let both = and_parts (is_none (service s row)) (is_none (runs s)) h in (none_when (service s row) both.0, none_when (runs s) both.1)
+
+module _ (s : State) (row : Row) (p : ℕ) (on : is_phase p ≡ true) (pressed : conflict s row p ≡ true) (free : is_free s row ≡ true) where
+  ended_by_none : ended_by (phases_given s row) p ≡ None
+  unfolding phases_given
+  ended_by_none = no_preempt ((phases_given s row).must_end p) (service s row) (free_parts s row free).0
+
+  told_conflict : (phases_given s row).conflict p ≡ true
+  unfolding phases_given
+  told_conflict = rw (on, pressed) refl
+
+  told_runs : (phases_given s row).runs ≡ None
+  unfolding phases_given
+  told_runs = (free_parts s row free).1
+
+  told_hold : (phases_given s row).hold p ≡ false
+  unfolding phases_given
+  told_hold = rw (on, (free_parts s row free).1) refl
+
+  -- a green that does not end has a tick less
+  pub presses_down : (m i a b : ℕ) → walk s.plan p ≤ a → pedestrian_clear s.plan p ≤ b → IsTimed (s.phases p) → interval s p ≡ Green →
+      is_ended (moves s row) p ≡ false → is_started (moves s row) p ≡ false →
+      pressed_left m i a b ((next s row).phases p) ≤ pressed_left m i a b (s.phases p) - 1
+  presses_down m i a b most_a most_b timed e no_end no_start =
+      let run : Runs (s.phases p).timer = timed.green e in
+      let counts : ((next s row).phases p).conflict ≡ started (advanced (s.phases p).conflict) = rw (no_start, e, no_end, told_conflict) refl in
+      let zeroth : left m ((next s row).phases p).conflict ≡ left m (started (advanced (s.phases p).conflict)) = ap (λ (t : Timer). left m t) counts in
+      let lower : left m (started (advanced (s.phases p).conflict)) ≤ left m (s.phases p).conflict - 1 = counts_down (s.phases p).conflict in
+      let ticks : ((next s row).phases p).timer ≡ On (run.count + 1) = rw (no_start, e, no_end, run.is) refl in
+      let first : left i ((next s row).phases p).timer ≡ left i (On (run.count + 1)) = ap (λ (t : Timer). left i t) ticks in
+      let was : left i (s.phases p).timer ≡ left i (On run.count) = ap (λ (t : Timer). left i t) run.is in
+      let part : ((next s row).phases p).pedestrian ≡ pedestrian_now s.plan (phases_given s row) p (phase_read s p) = rw (no_start, e, no_end) refl in
+      let timer : ((next s row).phases p).pedestrian_timer
+      ≡ pedestrian_timer_in (s.phases p).pedestrian (pedestrian_now s.plan (phases_given s row) p (phase_read s p)) (phase_read s p).pedestrian_timer =
+      rw (no_start, e, no_end) refl in
+      let same : walking_in a b ((next s row).phases p).pedestrian_timer ((next s row).phases p).pedestrian
+      ≡ walking_in a b (pedestrian_timer_in (s.phases p).pedestrian (pedestrian_now s.plan (phases_given s row) p (phase_read s p)) (phase_read s p).pedestrian_timer)
+      (pedestrian_now s.plan (phases_given s row) p (phase_read s p)) =
+      ap (λ (t : Timer). walking_in a b t ((next s row).phases p).pedestrian) timer
+      ∙ ap (λ (x : PedestrianInterval). walking_in a b (pedestrian_timer_in (s.phases p).pedestrian (pedestrian_now s.plan (phases_given s row) p (phase_read s p)) (phase_read s p).pedestrian_timer) x) part in
+      let down = walks_down s.plan (phases_given s row) p (phase_read s p) ended_by_none told_conflict a b most_a most_b (s.phases p).pedestrian_timer refl
+      timed.walk timed.clearance in
+      at_most (left m ((next s row).phases p).conflict) (left m (s.phases p).conflict)
+      (left i ((next s row).phases p).timer) (left i (s.phases p).timer)
+      (walking_in a b ((next s row).phases p).pedestrian_timer ((next s row).phases p).pedestrian)
+      (walking_in a b (s.phases p).pedestrian_timer (s.phases p).pedestrian)
+      (omega (arith, zeroth, lower)) (omega (arith, first, was)) (omega (arith, same, down))
+    where
+      counts_down : (t : Timer) → left m (started (advanced t)) ≤ left m t - 1
+      counts_down Off = omega arith
+      counts_down (On n) = omega arith
+
+      at_most : (c d j k x y : ℕ) → c ≤ d - 1 → j ≤ k - 1 → x ≤ y - 1 → max c (max j x) ≤ max d (max k y) - 1
+      at_most c d j k x y f g h = omega (arith, f, g, h)
+
+  -- one that is not ready has a tick left
+  pub not_ready_yet : (m i a b : ℕ) → longest_maximum s.plan p ≤ m → longest_initial s.plan p ≤ i → walk s.plan p ≤ a → pedestrian_clear s.plan p ≤ b →
+      IsTimed (s.phases p) → interval s p ≡ Green → ready s row p ≡ false → 1 ≤ pressed_left m i a b (s.phases p)
+  not_ready_yet m i a b most_m most_i most_a most_b timed e h = go (pressed_left m i a b (s.phases p) == 0) refl
+    where
+      go : (z : Bool) → (pressed_left m i a b (s.phases p) == 0) ≡ z → 1 ≤ pressed_left m i a b (s.phases p)
+      go false k = grind (arith, nat_tests, k)
+      go true k =
+          let none : pressed_left m i a b (s.phases p) ≡ 0 = eqb-true (pressed_left m i a b (s.phases p)) 0 k in
+          absurd (true≢false (sym (is_ready_then s.plan (phases_given s row) p (phase_read s p) ended_by_none told_conflict m i a b most_m most_i most_a most_b
+          told_runs told_hold (s.phases p).conflict (s.phases p).timer (s.phases p).pedestrian_timer refl refl refl (timed.green e) timed.walk timed.clearance
+          (ap is_green e) none) ∙ h))

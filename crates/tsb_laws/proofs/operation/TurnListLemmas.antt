@@ -1,0 +1,129 @@
+-- What comes after a phase in the order of a ring, where none is listed twice, and the turns of that.
+use Rattle.std.proofs.Common.{◌≡◌, ◌≢◌, ℕ, ◌+◌, ◌≤◌, ◌==◌, Bool, true, false, not, ◌&&◌, ◌||◌, if◌then◌else◌, List, [], ◌∷◌, Option, Some, None, refl, sym, ap, inl, inr, ◌⊎◌, arith, ◌∙◌}
+use Rattle.std.proofs.lemmas.Bool.{cases_Bool, and_parts, or_cases, eqb-true, eq-eqb, true≢false, false≢true}
+use Rattle.tsb_step.specs.tsb_types.Lists.{first, among, after, later}
+use Rattle.tsb_step.specs.tsb_plan.Plan.{Plan}
+use Rattle.tsb_step.specs.tsb_rules.SequenceRules.{lists_once}
+use Rattle.tsb_step.specs.tsb_ring.Wants.{is_on_side}
+use Rattle.tsb_laws.specs.ServedCalls.{turn, turns}
+
+-- ## Lists without repeats
+
+-- the head of a list is not in its tail
+head_once : (x : ℕ) (xs : List ℕ) → x ≢ 0 → lists_once (x ∷ xs) ≡ true → among x xs ≡ false
+head_once x xs some h = go (x == 0) (among x xs) refl refl (and_parts (x == 0 || not (among x xs)) (lists_once xs) h).0
+  where
+    go : (z a : Bool) → (x == 0) ≡ z → among x xs ≡ a → (z || not a) ≡ true → among x xs ≡ false
+    go true a k l m = absurd (some (eqb-true x 0 k))
+    go false true k l m = absurd (false≢true m)
+    go false false k l m = l
+
+tail_once : (x : ℕ) (xs : List ℕ) → lists_once (x ∷ xs) ≡ true → lists_once xs ≡ true
+tail_once x xs h = (and_parts (x == 0 || not (among x xs)) (lists_once xs) h).1
+
+-- what is in the tail is not the head
+not_head : (y x : ℕ) (xs : List ℕ) → x ≢ 0 → lists_once (y ∷ xs) ≡ true → among x xs ≡ true → (y == x) ≡ false
+not_head y x xs some h k = go (y == x) refl
+  where
+    go : (b : Bool) → (y == x) ≡ b → (y == x) ≡ false
+    go false e = e
+    go true e =
+        let same : y ≡ x = eqb-true y x e in
+        absurd (true≢false (sym k ∙ ap (λ (z : ℕ). among z xs) (sym same) ∙ head_once y xs (λ zero_is. some (sym same ∙ zero_is)) h))
+
+after_tail : (y x : ℕ) (xs : List ℕ) → (y == x) ≡ false → after x (y ∷ xs) ≡ after x xs
+after_tail y x xs e = rw e refl
+
+among_tail : (y x : ℕ) (xs : List ℕ) → among x xs ≡ true → among x (y ∷ xs) ≡ true
+among_tail y x xs h = go (y == x)
+  where
+    go : (b : Bool) → (b || among x xs) ≡ true
+    go true = refl
+    go false = h
+
+after_among : (l x : ℕ) (xs : List ℕ) → among x (after l xs) ≡ true → among x xs ≡ true
+after_among l x [] h = h
+after_among l x (y ∷ ys) h = go (y == l) h
+  where
+    go : (b : Bool) → among x (if b then ys else after l ys) ≡ true → among x (y ∷ ys) ≡ true
+    go true k = among_tail y x ys k
+    go false k = among_tail y x ys (after_among l x ys k)
+
+-- ## What is still to come once a phase has its turn
+
+-- a phase that comes later than `last`: what comes after it comes after it in the whole order too
+after_later : (last : Option ℕ) (x : ℕ) (ps : List ℕ) → x ≢ 0 → lists_once ps ≡ true → among x (later last ps) ≡ true →
+    after x ps ≡ after x (later last ps)
+after_later None x ps some once h = refl
+after_later (Some l) x ps some once h = go ps once h
+  where
+    go : (xs : List ℕ) → lists_once xs ≡ true → among x (after l xs) ≡ true → after x xs ≡ after x (after l xs)
+    go [] o k = refl
+    go (y ∷ ys) o k = by (y == l) refl k
+      where
+        by : (b : Bool) → (y == l) ≡ b → among x (if b then ys else after l ys) ≡ true → after x (y ∷ ys) ≡ after x (if b then ys else after l ys)
+        by true e m = after_tail y x ys (not_head y x ys some o m)
+        by false e m =
+            after_tail y x ys (not_head y x ys some o (after_among l x ys m)) ∙ go ys (tail_once y ys o) m
+
+-- the first that passes a test comes no later than any that does
+first_before : (test : ℕ → Bool) (c q : ℕ) (ps : List ℕ) → first test ps ≡ Some c → among q ps ≡ true → test q ≡ true →
+    (c ≡ q) ⊎ (among q (after c ps) ≡ true)
+first_before test c q [] h there passes = absurd (false≢true there)
+first_before test c q (y ∷ ys) h there passes = go (test y) refl h
+  where
+    here : y ≡ c → (y ≡ q) ⊎ (among q ys ≡ true) → (c ≡ q) ⊎ (among q (after c (y ∷ ys)) ≡ true)
+    here same (inl k) = inl (sym same ∙ k)
+    here same (inr k) = inr (rw (eq-eqb y c same) k)
+
+    split : (y ≡ q) ⊎ (among q ys ≡ true)
+    split = elim (or_cases (y == q) (among q ys) there) [ inl k ↦ inl (eqb-true y q k) | inr k ↦ inr k ]
+
+    further : test y ≡ false → (c ≡ q) ⊎ (among q (after c ys) ≡ true) → (c ≡ q) ⊎ (among q (after c (y ∷ ys)) ≡ true)
+    further e (inl k) = inl k
+    further e (inr k) = by (y == c) refl
+      where
+        by : (b : Bool) → (y == c) ≡ b → (c ≡ q) ⊎ (among q (after c (y ∷ ys)) ≡ true)
+        by true x = inr (rw x (after_among c q ys k))
+        by false x = inr (rw x k)
+
+    go : (b : Bool) → test y ≡ b → (if b then Some y else first test ys) ≡ Some c → (c ≡ q) ⊎ (among q (after c (y ∷ ys)) ≡ true)
+    go true e k = let same : y ≡ c = cc in here same split
+    go false e k =
+        elim split [
+          | inl same ↦ absurd (true≢false (sym passes ∙ ap test (sym same) ∙ e))
+          | inr l ↦ further e (first_before test c q ys k l passes)
+        ]
+
+-- ## Turns
+
+module _ (plan : Plan) (k d : ℕ) where
+  -- the turn of a phase of a list, and those that come after it there, are among its turns
+  turns_after : (x : ℕ) (ps : List ℕ) → is_on_side plan d x ≡ true → among x ps ≡ true →
+      turn plan k x + turns plan k d (after x ps) ≤ turns plan k d ps
+  turns_after x [] on h = absurd (false≢true h)
+  turns_after x (y ∷ ys) on h = go (y == x) refl h
+    where
+      go : (b : Bool) → (y == x) ≡ b → (b || among x ys) ≡ true → turn plan k x + turns plan k d (after x (y ∷ ys)) ≤ turns plan k d (y ∷ ys)
+      go true e m =
+          let same : y ≡ x = eqb-true y x e in
+          let mine : (if is_on_side plan d y then turn plan k y else 0) ≡ turn plan k x = rw same (rw on refl) in
+          rw e (omega (arith, mine))
+      go false e m =
+          let rest = turns_after x ys on m in
+          rw e (omega (arith, rest))
+
+  -- so those that come later than a phase that has its turn
+  pub turns_later : (last : Option ℕ) (x : ℕ) (ps : List ℕ) → x ≢ 0 → lists_once ps ≡ true → is_on_side plan d x ≡ true →
+      among x (later last ps) ≡ true → turn plan k x + turns plan k d (later (Some x) ps) ≤ turns plan k d (later last ps)
+  turns_later last x ps some once on h = rw (after_later last x ps some once h) (turns_after x (later last ps) on h)
+
+-- and what is still to come then: q, unless it is the first that passes the test
+pub still_later : (test : ℕ → Bool) (last : Option ℕ) (c q : ℕ) (ps : List ℕ) → c ≢ 0 → lists_once ps ≡ true →
+    first test (later last ps) ≡ Some c → among c (later last ps) ≡ true → among q (later last ps) ≡ true → test q ≡ true →
+    (c ≡ q) ⊎ (among q (later (Some c) ps) ≡ true)
+still_later test last c q ps some once h here there passes =
+    elim (first_before test c q (later last ps) h there passes) [
+      | inl same ↦ inl same
+      | inr k ↦ inr (rw (after_later last c ps some once here) k)
+    ]
