@@ -9,7 +9,8 @@ the ticks in which an interval, a pedestrian part or a stage has just changed. W
 `crates/tsb_laws/specs/PreemptStages.antt`: a preempt that stays in a stage has all phases of that stage Green in time,
 from each tick in the stage on; and a preempt that stays in service has all of its dwell phases Green in time. The
 third is the older bound of `PreemptDwells.antt`, which is false, and is counted alone.
-It ends with status 1 where a run breaks one of the first two, and tells how often the premises were met.
+Each seed is one run of `served_calls.py` too, which tests in what time called phases are served.
+It ends with status 1 where a run breaks a law, the older bound aside, and tells how often the premises were met.
 """
 import argparse
 import importlib
@@ -17,6 +18,8 @@ import json
 import os
 import random
 import sys
+
+import served_calls
 
 LISTS = {"Track": "preemptTrackPhase", "Dwell": "preemptDwellPhase", "Exit": "preemptExitPhase"}
 
@@ -226,7 +229,9 @@ def main():
     for law, one in counts.items():
         print(f"{law}: {one.begun} began, {one.reached} reached, the least time left was {one.least} ticks, "
               f"{one.broken} breaches")
-    return 1 if any(one.broken for law, one in counts.items() if law != "older") else 0
+    breaches = any(one.broken for law, one in counts.items() if law != "older")
+    unserved = served_calls.test(bench, range(*given.seeds))
+    return 1 if breaches or unserved else 0
 
 
 if __name__ == "__main__":

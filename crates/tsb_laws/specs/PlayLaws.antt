@@ -42,6 +42,8 @@ use Rattle.tsb_laws.specs.PreemptTurns.{GivesWay, EndsFrom}
 use Rattle.tsb_laws.specs.RedReverts.{StartsAgain, HasReverted, RevertsAtOnce}
 use Rattle.tsb_laws.specs.RunningMaximum.{maximum_of, IsBounded, MovesByAStep}
 use Rattle.tsb_laws.specs.Stretches.{IsUntripped, has_held_since, largest, EndsGreen}
+use Rattle.tsb_laws.specs.ServedCalls.{HasBeenPressed, IsDoneWithin, IsFullyConcurrent, HasWaited, TurnsTakeAtMost, IsToCome, time_to_come}
+use Rattle.tsb_laws.specs.Stretches.{IsUntripped, largest, EndsGreen}
 use Rattle.tsb_laws.specs.UnwantedGreens.{WaitsFor}
 use Rattle.tsb_laws.specs.WantedStarts.{MayStart, IsKeptBy}
 
@@ -218,6 +220,18 @@ KeepsPedestrianCalls plan is = (base later : List Input) (p : ℕ) → is ≡ la
     (replay plan base).memories.pedestrian p ≡ true →
     ((replay plan is).memories.pedestrian p ≡ true) ⊎ HasBegunWalk plan base p later
 
+-- a green that has had a conflict for long enough, and has one in the next tick, is ready in it
+abbrev pub ReadiesPressedGreens : Plan → List Input → Type 0
+ReadiesPressedGreens plan is = (base later : List Input) (row : Row) (p n : ℕ) → is ≡ later ++ base → IsUntripped plan base later →
+    HasBeenPressed plan p base (Tick row ∷ later) → IsDoneWithin plan base p n later → (replay plan base).now + n ≤ (replay plan is).now →
+    ready (replay plan is) row p ≡ true
+
+-- a called phase that was still to come in the order of its ring has not waited for longer than it may
+abbrev pub BringsCalledPhases : Plan → List Input → Type 0
+BringsCalledPhases plan is = (base later : List Input) (r : Ring) (q k h : ℕ) → is ≡ later ++ base → IsUntripped plan base later →
+    IsFullyConcurrent (replay plan base).plan → TurnsTakeAtMost (replay plan base).plan k h → IsToCome (replay plan base) r q →
+    HasWaited plan q base later → (replay plan is).now ≤ (replay plan base).now + time_to_come (replay plan base) r k h
+
 -- ## All laws of runs, each by the name of its function
 
 -- of the state s after the inputs `is` from power-up with `plan`
@@ -278,3 +292,5 @@ pub record KeepsLaws (plan : Plan) (is : List Input) (s : State) : Type 0 where
   pub preempts_let_in_their_own : Untripped LetsInByPreempt plan is
   pub unwanted_greens_end : Untripped EndsUnwantedGreens plan is
   pub wanted_phases_start : Untripped StartsWantedPhases plan is
+  pub pressed_greens_may_end : ReadiesPressedGreens plan is
+  pub called_phases_come : BringsCalledPhases plan is

@@ -81,7 +81,7 @@ abbrev pub longest_green : Plan → ℕ → ℕ
 longest_green plan p = max (longest_maximum plan p) (max (longest_initial plan p) (walk plan p + pedestrian_clear plan p))
 
 -- k is as large as the clearance and as the red revert of each phase, and h as the longest green of each
-pub record TakesAtMost (plan : Plan) (k h : ℕ) : Type 0 where
+pub record TurnsTakeAtMost (plan : Plan) (k h : ℕ) : Type 0 where
   pub clearance : (p : ℕ) → yellow_change plan p + red_clear plan p ≤ k
   pub revert : (p : ℕ) → red_revert plan p ≤ k
   pub green : (p : ℕ) → longest_green plan p ≤ h
@@ -128,7 +128,7 @@ time_to_come s r k h = turns s.plan k s.rings.side (still_to_come s r) + h + k +
 abbrev pub CalledPhasesCome : Type 0
 CalledPhasesCome = (plan : Plan) (base later : List Input) (r : Ring) (q k h : ℕ) → IsConsistent plan → plan.phase_count ≤ 16 →
     AreTaken plan (later ++ base) → IsUntripped plan base later → IsFullyConcurrent (replay plan base).plan →
-    TakesAtMost (replay plan base).plan k h → IsToCome (replay plan base) r q → HasWaited plan q base later →
+    TurnsTakeAtMost (replay plan base).plan k h → IsToCome (replay plan base) r q → HasWaited plan q base later →
     (replay plan (later ++ base)).now ≤ (replay plan base).now + time_to_come (replay plan base) r k h
 
 -- ## On whatever side
@@ -147,5 +147,5 @@ time_to_serve plan k h = 2 * all_turns plan k (phases plan) + 2 * (h + k + 1) + 
 abbrev pub CalledPhasesAreServed : Type 0
 CalledPhasesAreServed = (plan : Plan) (base later : List Input) (q k h : ℕ) → IsConsistent plan → plan.phase_count ≤ 16 →
     AreTaken plan (later ++ base) → IsUntripped plan base later → IsFullyConcurrent (replay plan base).plan →
-    TakesAtMost (replay plan base).plan k h → HasWaited plan q base later →
+    TurnsTakeAtMost (replay plan base).plan k h → HasWaited plan q base later →
     (replay plan (later ++ base)).now ≤ (replay plan base).now + time_to_serve (replay plan base).plan k h

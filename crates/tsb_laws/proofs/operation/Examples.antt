@@ -9,3 +9,4 @@ pub mod PreemptEntryRuns
 pub mod UnwantedGreenRuns
 pub mod WantedPhaseRuns
 pub mod PreemptStageRuns
+pub mod ServedRuns

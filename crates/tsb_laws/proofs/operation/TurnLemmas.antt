@@ -35,7 +35,7 @@ use Rattle.tsb_step.proofs.SideRunLemmas.{sided_run}
 use Rattle.tsb_step.proofs.StandLemmas.{rings_then}
 use Rattle.tsb_laws.specs.CrossingGreens.{IsCalm}
 use Rattle.tsb_laws.specs.Stretches.{IsUntripped}
-use Rattle.tsb_laws.specs.ServedCalls.{is_free, IsFullyConcurrent, is_waiting, HasWaited, longest_green, TakesAtMost, turns, order, place, still_to_come, IsToCome, time_to_come}
+use Rattle.tsb_laws.specs.ServedCalls.{is_free, IsFullyConcurrent, is_waiting, HasWaited, longest_green, TurnsTakeAtMost, turns, order, place, still_to_come, IsToCome, time_to_come}
 use Rattle.tsb_laws.proofs.safety.StretchLemmas.{dark_now, taken_before, at_next}
 use Rattle.tsb_laws.proofs.safety.DueLemmas.{count_run, clipped_at}
 use Rattle.tsb_laws.proofs.safety.EnabledLemmas.{callable_no_green, enabled_run}
@@ -210,7 +210,7 @@ red_is Green h = absurd (true≢false h)
 red_is Yellow h = absurd (true≢false h)
 red_is RedClear h = absurd (true≢false h)
 
-module _ (s : State) (r : Ring) (q k h : ℕ) (good : IsGood s) (calm : IsCalm s.plan (interval s) s.rings) (takes : TakesAtMost s.plan k h) (due : IsToCome s r q) where
+module _ (s : State) (r : Ring) (q k h : ℕ) (good : IsGood s) (calm : IsCalm s.plan (interval s) s.rings) (takes : TurnsTakeAtMost s.plan k h) (due : IsToCome s r q) where
   back_now : (p : ℕ) → in_service (interval s p) ≡ false → back_left s.plan p (s.phases p) ≤ k
   back_now p dark = let most = back_most s.plan p (s.phases p) (red_is (interval s p) dark) in let limit = takes.revert p in omega (arith, most, limit)
 
@@ -291,7 +291,7 @@ module _ (plan : Plan) (base : List Input) (r : Ring) (q k h : ℕ) (ok : IsCons
 
   -- a tick
   on_tick : (limit : ℕ) (row : Row) (later : List Input) → AreTaken plan (later ++ base) → (replay plan (later ++ base)).trip ≡ None →
-      IsFullyConcurrent (replay plan (later ++ base)).plan → TakesAtMost (replay plan (later ++ base)).plan k h →
+      IsFullyConcurrent (replay plan (later ++ base)).plan → TurnsTakeAtMost (replay plan (later ++ base)).plan k h →
       is_waiting q (replay plan (later ++ base)) (Tick row) ≡ true → Stage limit later → Stage limit (Tick row ∷ later)
   on_tick limit row later taken dark full takes waits stage = go stage
     where
@@ -353,20 +353,20 @@ module _ (plan : Plan) (base : List Input) (r : Ring) (q k h : ℕ) (ok : IsCons
           (omega (arith, clock, in_time))
 
   stage : (limit : ℕ) (later : List Input) → AreTaken plan (later ++ base) → IsUntripped plan base later →
-      IsFullyConcurrent (replay plan base).plan → TakesAtMost (replay plan base).plan k h → HasWaited plan q base later →
+      IsFullyConcurrent (replay plan base).plan → TurnsTakeAtMost (replay plan base).plan k h → HasWaited plan q base later →
       Stage limit [] → Stage limit later
   stage limit [] taken dark full takes waited first = first
   stage limit (inputs.Tick row ∷ later) taken dark full takes waited first =
       on_tick limit row later taken.0 (dark_now plan base later dark.0)
       (subst IsFullyConcurrent (sym (plan_same later dark.0 waited.0)) full)
-      (subst (λ (x : Plan). TakesAtMost x k h) (sym (plan_same later dark.0 waited.0)) takes)
+      (subst (λ (x : Plan). TurnsTakeAtMost x k h) (sym (plan_same later dark.0 waited.0)) takes)
       waited.1 (stage limit later taken.0 dark.0 full takes waited.0 first)
   stage limit (i ∷ later) taken dark full takes waited first =
       on_other limit i later refl waited.1 (dark_now plan base later dark.0) (stage limit later taken.0 dark.0 full takes waited.0 first)
 
 pub comes_in_time : (plan : Plan) (base later : List Input) (r : Ring) (q k h : ℕ) → IsConsistent plan → plan.phase_count ≤ 16 →
     AreTaken plan (later ++ base) → IsUntripped plan base later → IsFullyConcurrent (replay plan base).plan →
-    TakesAtMost (replay plan base).plan k h → IsToCome (replay plan base) r q → HasWaited plan q base later →
+    TurnsTakeAtMost (replay plan base).plan k h → IsToCome (replay plan base) r q → HasWaited plan q base later →
     (replay plan (later ++ base)).now ≤ (replay plan base).now + time_to_come (replay plan base) r k h
 comes_in_time plan base later r q k h ok few taken dark full takes due waited =
     go (stage plan base r q k h ok few (time_to_come (replay plan base) r k h) later taken dark full takes waited begins)

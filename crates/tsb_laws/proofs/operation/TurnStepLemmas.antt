@@ -37,7 +37,7 @@ use Rattle.tsb_step.specs.TimeLaws.{IsSided}
 use Rattle.tsb_step.proofs.GivenLemmas.{listed_is_phase, enabled_is_listed, lists_ring, symmetric, given}
 use Rattle.tsb_step.proofs.IntervalLemmas.{ended_was_green}
 use Rattle.tsb_laws.specs.CrossingGreens.{IsCalm}
-use Rattle.tsb_laws.specs.ServedCalls.{is_free, longest_maximum, longest_initial, IsFullyConcurrent, longest_green, TakesAtMost, turn, turns, order, place, still_to_come}
+use Rattle.tsb_laws.specs.ServedCalls.{is_free, longest_maximum, longest_initial, IsFullyConcurrent, longest_green, TurnsTakeAtMost, turn, turns, order, place, still_to_come}
 use Rattle.tsb_laws.proofs.safety.AllRedRingLemmas.{started_by}
 use Rattle.tsb_laws.proofs.safety.DueLemmas.{clipped_at}
 use Rattle.tsb_laws.proofs.safety.EnabledLemmas.{AreEnabled, callable_on, callable_no_green}
@@ -400,7 +400,7 @@ module _ (s : State) (row : Row) (good : IsGood s) (few : s.plan.phase_count ≤
 
     -- ## A ring that serves a green
 
-    green_tick : (p n h : ℕ) → TakesAtMost s.plan k h → s.rings.commitment r ≡ None → in_ring s.plan r p ≡ true → interval s p ≡ Green →
+    green_tick : (p n h : ℕ) → TurnsTakeAtMost s.plan k h → s.rings.commitment r ≡ None → in_ring s.plan r p ≡ true → interval s p ≡ Green →
         turns s.plan k s.rings.side (later (s.rings.last r) (order s.plan r)) + green_left s.plan p (s.phases p) ≤ n →
         IsComing s r q → Comes k (next s row) r q n
     green_tick p n h takes e own_p green all coming = go (ready s row p) refl
@@ -663,7 +663,7 @@ module _ (s : State) (row : Row) (good : IsGood s) (few : s.plan.phase_count ≤
 
     -- ## Whatever the ring does
 
-    pub one_tick : (n h : ℕ) → TakesAtMost s.plan k h → IsLeft k s r n → IsComing s r q → Comes k (next s row) r q n
+    pub one_tick : (n h : ℕ) → TurnsTakeAtMost s.plan k h → IsLeft k s r n → IsComing s r q → Comes k (next s row) r q n
     one_tick n h takes (committed c m e clears reverts all) coming = bound_tick c m n e clears reverts all coming
     one_tick n h takes (serving_green p e own_p green all) coming = green_tick p n h takes e own_p green all coming
     one_tick n h takes (idle m e dark reverts all) coming = idle_tick m n e dark reverts all coming

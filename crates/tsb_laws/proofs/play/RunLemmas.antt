@@ -32,9 +32,11 @@ use Rattle.tsb_laws.proofs.operation.KeptCallLemmas.{remembers, vehicles_stand, 
 use Rattle.tsb_laws.proofs.operation.OverlapPhaseLemmas.{goes_with_phases}
 use Rattle.tsb_laws.proofs.operation.PreemptEntryLemmas.{lets_in_its_own}
 use Rattle.tsb_laws.proofs.operation.PreemptTurnLemmas.{gives_way, ends_from}
+use Rattle.tsb_laws.proofs.operation.PressedRunLemmas.{pressed_may_end}
 use Rattle.tsb_laws.proofs.operation.RunningMaximumLemmas.{bounded, moves_by_a_step, others_leave_it}
 use Rattle.tsb_laws.proofs.operation.StageRunLemmas.{stages_reached, exits_end}
 use Rattle.tsb_laws.proofs.operation.StageServiceLemmas.{dwells_reached}
+use Rattle.tsb_laws.proofs.operation.TurnLemmas.{comes_in_time}
 use Rattle.tsb_laws.proofs.operation.UnwantedGreenLemmas.{waits_or_ends}
 use Rattle.tsb_laws.proofs.operation.WantedPhaseLemmas.{wanted_starts}
 use Rattle.tsb_laws.proofs.safety.AllRedLemmas.{all_red_ends}
@@ -109,6 +111,10 @@ module _ (plan : Plan) (held : IsHeld plan) where
     unwanted_greens_end = λ dark row n p. waits_or_ends plan is row n p ok (few plan held) taken dark;
     wanted_phases_start = λ dark row n r p. wanted_starts plan is row n r p ok (few plan held) taken dark;
     preempts_let_in_their_own = λ dark row n q on. lets_in_its_own plan is row n q ok taken dark on;
+    pressed_greens_may_end = λ base later row p n e dark pressed done long.
+        rw e (pressed_may_end plan base later row p n ok (few plan held) (rw e at taken) dark pressed done (rw e at long));
+    called_phases_come = λ base later r q k h e dark full takes due waited.
+        rw e (comes_in_time plan base later r q k h ok (few plan held) (rw e at taken) dark full takes due waited);
   }
     where
       ok : IsConsistent plan

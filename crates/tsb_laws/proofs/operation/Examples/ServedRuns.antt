@@ -1,0 +1,273 @@
+-- Runs from power-up that meet all premises of the laws of greens with a conflict and of called phases, and mistakes that
+-- these laws refuse.
+use Rattle.std.proofs.Common.{◌≡◌, ℕ, ◌+◌, ◌*◌, ◌≤◌, ◌==◌, Bool, true, false, not, ◌&&◌, ◌||◌, if◌then◌else◌, max, List, [], ◌∷◌, ◌++◌, Some, None, refl, sym, ap, ◌∙◌, inl, inr, arith}
+use Rattle.std.specs.List.{list_all}
+use Rattle.std.proofs.lemmas.Bool.{and_parts, or_cases, eqb-true, eq-eqb, true≢false, false≢true}
+use Rattle.tsb_step.specs.tsb_cells.declared.timer.Timer.TheVariants.{On}
+use Rattle.tsb_step.specs.tsb_types.Intervals.{is_green, in_service}
+use Rattle.tsb_step.specs.tsb_types.Lists.{among}
+use Rattle.tsb_step.specs.tsb_types.Sets.{all_off}
+use Rattle.tsb_step.specs.tsb_types.declared.row.Row.{Row}
+use Rattle.tsb_step.specs.tsb_plan.declared.object.Object.TheVariants.{PhaseMinRecall, PhaseMinimumGreen, PhaseMaximum1, PhaseMaximum2, PhaseMaximumInitial, PhaseWalk, PhasePedestrianClear, PhaseYellowChange, PhaseRedClear, PhaseRedRevert, UnitRedRevert, PhaseDynamicMaxLimit, UnitMax2}
+use Rattle.tsb_step.specs.tsb_plan.declared.object.Object.{Object}
+use Rattle.tsb_step.specs.tsb_plan.Objects.{greatest}
+use Rattle.tsb_step.specs.tsb_plan.Plan.{Plan, phases, with_values, is_enabled, is_concurrent, ring_of, side_of, has_variable_initial, walk, pedestrian_clear}
+use Rattle.tsb_step.specs.tsb_plan.Quad.{quad}
+use Rattle.tsb_step.specs.tsb_rules.Rules.{first_broken, may_be_concurrent}
+use Rattle.tsb_step.specs.tsb_phase.DynamicMaximum.{is_dynamic}
+use Rattle.tsb_step.specs.tsb_phase.Phase.{held_of}
+use Rattle.tsb_step.specs.tsb_phase.Green.{is_gapped}
+use Rattle.tsb_step.specs.tsb_ring.declared.want.Want.{Want}
+use Rattle.tsb_step.specs.tsb_ring.declared.want.Want.TheVariants.{Go, Cross}
+use Rattle.tsb_step.specs.tsb_ring.Laws.{IsListed}
+use Rattle.tsb_step.specs.tsb_ring.Rings as rings
+use Rattle.tsb_step.specs.tsb_ring.Rings.{Ring, Ring1, Ring2, other, in_ring}
+use Rattle.tsb_step.specs.tsb_ring.Wants.{is_called_elsewhere, want_by_calls}
+use Rattle.tsb_step.proofs.tsb_ring.Examples.Scenes.{both}
+use Rattle.tsb_step.specs.declared.inputs.Input.{Input}
+use Rattle.tsb_step.specs.declared.inputs.Input.TheVariants.{Tick}
+use Rattle.tsb_step.specs.State.{State, interval}
+use Rattle.tsb_step.specs.Tick.{phases_given, phase_read, rings_given, ready}
+use Rattle.tsb_step.specs.Runs.{replay, AreTaken}
+use Rattle.tsb_step.specs.Laws.{IsConsistent}
+use Rattle.tsb_step.proofs.GivenLemmas.{enabled_is_listed}
+use Rattle.tsb_step.proofs.Examples.Scenes.{opened, vehicle, green, these, all_red, called, red, resting}
+use Rattle.tsb_laws.specs.Stretches.{IsUntripped}
+use Rattle.tsb_laws.specs.ServedCalls.{is_pressed, HasBeenPressed, longest_maximum, longest_initial, IsDoneWithin, IsFullyConcurrent, is_waiting, HasWaited, longest_green, TurnsTakeAtMost, still_to_come, IsToCome}
+use Rattle.tsb_laws.proofs.safety.Examples.PlanFits.{Fits, values_fit, quad_fits, consistent}
+
+-- ## A green that may end at once: 1 is on recall, with no minimum green and no maximum, and 2 is called
+
+abbrev pressed_values : List (Object × ℕ × ℕ)
+pressed_values = (PhaseMinRecall, 1, 1) ∷ (PhaseMinimumGreen, 1, 0) ∷ (PhaseMaximum1, 1, 0) ∷ (PhaseMaximum2, 1, 0) ∷ []
+
+unfoldable pressed : Plan
+pressed = with_values quad pressed_values
+
+pressed_fits : Fits greatest pressed.value
+unfolding pressed
+pressed_fits = values_fit greatest pressed_values quad refl (quad_fits greatest refl refl)
+
+pressed_count : pressed.phase_count ≡ 16
+unfolding quad pressed
+pressed_count = refl
+
+pressed_breaks_none : first_broken pressed ≡ None
+unfolding opened pressed
+pressed_breaks_none = refl
+
+abbrev ticked : List Input
+ticked = Tick all_off ∷ []
+
+ticked_taken : AreTaken pressed ticked
+unfolding opened pressed
+ticked_taken = (tt, refl)
+
+ticked_dark : (replay pressed ticked).trip ≡ None
+unfolding opened pressed
+ticked_dark = refl
+
+is_pressed_1 : is_pressed 1 (replay pressed ticked) (Tick all_off) ≡ true
+unfolding opened pressed
+is_pressed_1 = refl
+
+no_maximum : longest_maximum (replay pressed ticked).plan 1 ≡ 0
+unfolding opened pressed
+no_maximum = refl
+
+no_initial : longest_initial (replay pressed ticked).plan 1 ≡ 0
+unfolding opened pressed
+no_initial = refl
+
+no_walk : walk (replay pressed ticked).plan 1 + pedestrian_clear (replay pressed ticked).plan 1 ≡ 0
+unfolding opened pressed
+no_walk = refl
+
+record Press (plan : Plan) (base later : List Input) (row : Row) (p n : ℕ) : Type 0 where
+  consistent : IsConsistent plan
+  few : plan.phase_count ≤ 16
+  taken : AreTaken plan (later ++ base)
+  untripped : IsUntripped plan base later
+  pressed : HasBeenPressed plan p base (Tick row ∷ later)
+  done : IsDoneWithin plan base p n later
+  long : (replay plan base).now + n ≤ (replay plan (later ++ base)).now
+
+a_press : Press pressed ticked [] all_off 1 0
+a_press = record {
+  consistent = consistent greatest pressed pressed_count pressed_breaks_none pressed_fits;
+  few = (let count = pressed_count in omega (arith, count));
+  taken = ticked_taken;
+  untripped = ticked_dark;
+  pressed = (tt, is_pressed_1);
+  done = record {
+    maximum = (let none = no_maximum in omega (arith, none));
+    initial = (let none = no_initial in omega (arith, none));
+    walk = (let none = no_walk in omega (arith, none));
+  };
+  long = omega arith;
+}
+
+-- ## A phase that comes: 2 is on recall, and 1 comes before it
+
+quad_count : quad.phase_count ≡ 16
+unfolding quad
+quad_count = refl
+
+quad_breaks_none : first_broken quad ≡ None
+unfolding opened
+quad_breaks_none = refl
+
+quad_fit : Fits greatest quad.value
+quad_fit = quad_fits greatest refl refl
+
+quad_consistent : IsConsistent quad
+quad_consistent = consistent greatest quad quad_count quad_breaks_none quad_fit
+
+first_taken : AreTaken quad ticked
+unfolding opened
+first_taken = (tt, refl)
+
+power_up_dark : (replay quad []).trip ≡ None
+power_up_dark = refl
+
+first_dark : (replay quad ticked).trip ≡ None
+unfolding opened
+first_dark = refl
+
+waits_2 : is_waiting 2 (replay quad []) (Tick all_off) ≡ true
+unfolding opened
+waits_2 = refl
+
+-- each phase goes with all that it may go with
+goes_with_all : (list_all (λ p. list_all (λ q. not (may_be_concurrent quad p q) || is_concurrent quad p q) (phases quad)) (phases quad)) ≡ true
+unfolding opened
+goes_with_all = refl
+
+all_at : (test : ℕ → Bool) (ps : List ℕ) (p : ℕ) → list_all test ps ≡ true → among p ps ≡ true → test p ≡ true
+all_at test [] p all there = absurd (false≢true there)
+all_at test (x ∷ xs) p all there =
+    let both = and_parts (test x) (list_all test xs) all in
+    elim (or_cases (x == p) (among p xs) there) [
+      | inl here ↦ ap test (sym (eqb-true x p here)) ∙ both.0
+      | inr k ↦ all_at test xs p both.1 k
+    ]
+
+across : (r : Ring) (a b : ℕ) → (a == rings.number r) ≡ true → (b == rings.number (other r)) ≡ true → (a == b) ≡ false
+across Ring1 a b h k = (let one : a ≡ 1 = eqb-true a 1 h in let two : b ≡ 2 = eqb-true b 2 k in rw (one, two) refl)
+across Ring2 a b h k = (let two : a ≡ 2 = eqb-true a 2 h in let one : b ≡ 1 = eqb-true b 1 k in rw (two, one) refl)
+
+goes_together : IsFullyConcurrent quad
+goes_together r p q own_p own_q on_p on_q side =
+    let there_p : IsListed quad p = enabled_is_listed quad quad_consistent p on_p in
+    let there_q : IsListed quad q = enabled_is_listed quad quad_consistent q on_q in
+    let row_p = all_at (λ x. list_all (λ y. not (may_be_concurrent quad x y) || is_concurrent quad x y) (phases quad)) (phases quad) p goes_with_all there_p in
+    let may : may_be_concurrent quad p q ≡ true =
+    rw (on_q, across r (ring_of quad p) (ring_of quad q) own_p own_q) (eq-eqb (side_of quad p) (side_of quad q) side) in
+    elim (or_cases (not (may_be_concurrent quad p q)) (is_concurrent quad p q)
+    (all_at (λ y. not (may_be_concurrent quad p y) || is_concurrent quad p y) (phases quad) q row_p there_q)) [
+      | inl no ↦ absurd (false≢true (sym (ap not may) ∙ no))
+      | inr yes ↦ yes
+    ]
+
+takes : TurnsTakeAtMost quad 510 5100
+takes = record {
+  clearance = λ p. (let y = quad_fit.bounded PhaseYellowChange p in let z = quad_fit.bounded PhaseRedClear p in omega (arith, y, z));
+  revert = λ p. (let own = quad_fit.bounded PhaseRedRevert p in let unit = quad_fit.bounded UnitRedRevert 1 in omega (arith, own, unit));
+  green = λ p. greens p (is_dynamic quad p) (has_variable_initial quad p);
+}
+  where
+    greens : (p : ℕ) (d v : Bool) → longest_green quad p ≤ 5100
+    greens p d v =
+        let one = maximums p (quad.value UnitMax2 1 == 1) in
+        let two = quad_fit.bounded PhaseDynamicMaxLimit p in
+        let three = quad_fit.bounded PhaseMinimumGreen p in
+        let four = quad_fit.bounded PhaseMaximumInitial p in
+        let five = quad_fit.bounded PhaseWalk p in
+        let six = quad_fit.bounded PhasePedestrianClear p in
+        grind (arith, one, two, three, four, five, six)
+      where
+        maximums : (x : ℕ) (b : Bool) → quad.value (if b then PhaseMaximum2 else PhaseMaximum1) x ≤ 255
+        maximums x true = quad_fit.bounded PhaseMaximum2 x
+        maximums x false = quad_fit.bounded PhaseMaximum1 x
+
+ringed_2 : in_ring (replay quad []).plan Ring1 2 ≡ true
+unfolding opened
+ringed_2 = refl
+
+beside_2 : side_of (replay quad []).plan 2 ≡ (replay quad []).rings.side
+unfolding opened
+beside_2 = refl
+
+there_2 : among 2 (still_to_come (replay quad []) Ring1) ≡ true
+unfolding opened
+there_2 = refl
+
+to_come : IsToCome (replay quad []) Ring1 2
+to_come = record {
+  ringed = ringed_2;
+  beside = beside_2;
+  outside = refl;
+  next = inr there_2;
+  bound = λ p own serves dark. absurd (false≢true serves);
+}
+
+record Turn (plan : Plan) (base later : List Input) (r : Ring) (q k h : ℕ) : Type 0 where
+  consistent : IsConsistent plan
+  few : plan.phase_count ≤ 16
+  taken : AreTaken plan (later ++ base)
+  untripped : IsUntripped plan base later
+  full : IsFullyConcurrent (replay plan base).plan
+  takes : TurnsTakeAtMost (replay plan base).plan k h
+  due : IsToCome (replay plan base) r q
+  waited : HasWaited plan q base later
+
+a_turn : Turn quad [] ticked Ring1 2 510 5100
+a_turn = record {
+  consistent = quad_consistent;
+  few = (let count = quad_count in omega (arith, count));
+  taken = first_taken;
+  untripped = (power_up_dark, first_dark);
+  full = goes_together;
+  takes = takes;
+  due = to_come;
+  waited = (tt, waits_2);
+}
+
+-- ## A green that extends while an output is on
+
+-- 2 has been Green for 250 ticks, all with a conflict, and its detector is on
+abbrev long : State
+long = record resting { phases = these (2 ∷ 6 ∷ []) (record (green 250) { conflict = On 249 }) all_red; memories = called (1 ∷ []) }
+
+is_ready_2 : ready long (vehicle 2) 2 ≡ true
+unfolding opened
+is_ready_2 = refl
+
+abbrev extended : State → Row → ℕ → Bool
+extended s row p = is_gapped s.plan (phases_given s row) p (held_of (phase_read s p))
+
+would_extend : extended long (vehicle 2) 2 ≡ false
+unfolding opened
+would_extend = refl
+
+-- ## A ring that crosses the barrier as soon as another side is called
+
+-- 1 and 6 are Green, 2 and 3 are called
+abbrev begun : State
+begun = record red {
+  phases = these (1 ∷ 6 ∷ []) (green 59) all_red;
+  memories = called (2 ∷ 3 ∷ []);
+  rings = record rings.power_up { last = both (Some 1) (Some 6) };
+}
+
+goes_to_2 : want_by_calls quad begun.rings (rings_given begun all_off) Ring1 None ≡ Go 2
+unfolding opened
+goes_to_2 = refl
+
+abbrev crosses_first : State → Row → Want
+crosses_first s row =
+    if is_called_elsewhere s.plan s.rings (rings_given s row) then Cross else want_by_calls s.plan s.rings (rings_given s row) Ring1 None
+
+would_cross : crosses_first begun all_off ≡ Cross
+unfolding opened
+would_cross = refl
