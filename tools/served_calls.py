@@ -132,9 +132,12 @@ class Times:
         here = [p for p in self.still_to_come(state, r) if self.plan["phaseSide"][p] == state.side]
         return sum(map(self.turn, here)) + self.begun()
 
-    def to_serve(self) -> int:
-        """Within how many ticks any called phase is served."""
-        return 2 * sum(map(self.turn, self.phases)) + 2 * self.begun() + SIDES * (3 * self.clear + 3)
+    def to_serve(self, q: int) -> int:
+        """Within how many ticks q is served, if it stays called."""
+        r, d = self.plan["phaseRing"][q], self.plan["phaseSide"][q]
+        own, across = ([p for p in self.order[x] if self.plan["phaseSide"][p] == d] for x in (r, 3 - r))
+        passed = len(own) * (sum(map(self.turn, across)) + self.begun())
+        return 2 * sum(map(self.turn, self.phases)) + 2 * self.begun() + SIDES * (3 * self.clear + 3) + passed
 
 
 # --- what a tick has found, by the states before and after it ---
@@ -198,7 +201,7 @@ class Watch:
         """q has waited in the tick."""
         self.found.waited += 1
         since = self.since.setdefault(q, before.now)
-        self.found.see("served", after.now, q, after.now - since, self.times.to_serve())
+        self.found.see("served", after.now, q, after.now - since, self.times.to_serve(q))
         if is_to_come(self.bench, self.times, before, q):
             bound = self.times.to_come(before, before.plan["phaseRing"][q])
             self.coming.setdefault(q, []).append((before.now, bound))
@@ -224,6 +227,62 @@ def run(bench, seed: int, found: Found) -> None:
         state = after
 
 
+# --- a run against which a bound that grows with the sum of the turns does not hold ---
+
+def barred(own: int, across: int) -> dict:
+    """A plan in which phase 1, and as many as `own` in all, share side 1 with phases across that have maximum recall."""
+    first, second = range(1, own + 1), range(own + 1, own + across + 1)
+    away = own + across + 1
+    phases = [*first, *second, away]
+    plan = {"version": 2, "phaseEnabled": dict.fromkeys(map(str, phases), 1), "phaseNonLock": {str(away): 1},
+            "phaseRing": {str(p): 2 if p in second else 1 for p in phases},
+            "phaseSide": {str(p): 2 if p == away else 1 for p in phases},
+            "phaseConcurrency": {str(p): sum(1 << (q - 1) for q in (second if p in first else first))
+                                 for p in [*first, *second]},
+            "phaseMaxRecall": dict.fromkeys(map(str, second), 1),
+            "vehicleDetectorCallPhase": {str(p): p for p in phases},
+            "sequenceData": {str(k): p for k, p in enumerate([*first, away], 1)}}
+    plan["sequenceData"].update({str(16 + k): p for k, p in enumerate(second, 1)})
+    for name, value in (("phaseMaximum1", 15), ("phaseMaximum2", 15), ("phaseYellowChange", 30)):
+        plan[name] = dict.fromkeys(map(str, phases), value)
+    return plan
+
+
+def barring(bench, state, own: int, across: int, called: int) -> tuple[tuple[bool, ...], int]:
+    """Detectors that keep phase 1 called and ring 1 from it; how many of its phases have been called till now.
+
+    The phase that ring 1 serves stays on. Once it has maxed out the side across is called, until ring 2 would join in
+    the crossing: then the next phase of ring 1 is called, and ring 2 goes round once more.
+    """
+    on = [False] * 16
+    served = bench.service_of(state, 1)
+    if state.now == 0:
+        on[1] = True
+    if served is None or state.interval[served] != bench.G:
+        return tuple(on), called
+    on[0] = on[served - 1] = True
+    if state.conf[served] is None or state.conf[served] + 1 < 150:
+        return tuple(on), called
+    second = bench.service_of(state, 2)
+    joins = second == own + across and state.conf[second] is not None and state.conf[second] + 1 >= 150
+    if joins and called < own:
+        called += 1
+        on[called - 1] = True
+    else:
+        on[own + across] = True
+    return tuple(on), called
+
+
+def waited_longest(bench, own: int = 8, across: int = 7) -> tuple[int, int]:
+    """How long phase 1 waits so, and within how many ticks it has to be served."""
+    plan, _ = bench.read_plan(json.dumps(barred(own, across)).encode(), bench.V2)
+    state, called = bench.power_up(plan, bench.V2), 2
+    while state.now == 0 or state.interval[1] != bench.G:
+        vehicles, called = barring(bench, state, own, across, called)
+        state = bench.tick(state, (vehicles, (False,) * 8, (False,) * 4))
+    return state.now - 1, Times(bench, plan).to_serve(1)
+
+
 def test(bench, seeds: range) -> int:
     """Runs of these seeds; tells what was found, and gives the number of breaches."""
     found, breaches = Found(), 0
@@ -235,4 +294,6 @@ def test(bench, seeds: range) -> int:
     shares = ", ".join(f"{law} {100 * share:.0f} %" for law, share in sorted(found.worst.items()))
     print(f"{len(seeds)} runs: called phases waited in {found.waited} ticks, the largest shares of the bounds were {shares}, "
           f"{breaches} breaches")
-    return breaches
+    waited, bound = waited_longest(bench)
+    print(f"a run made so that phase 1 waits: {waited} ticks, of {bound} at most")
+    return breaches + (waited > bound)

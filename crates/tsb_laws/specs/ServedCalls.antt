@@ -138,14 +138,25 @@ abbrev pub all_turns : Plan → ℕ → List ℕ → ℕ
 all_turns plan k [] = 0
 all_turns plan k (p ∷ ps) = (if is_enabled plan p then turn plan k p else 0) + all_turns plan k ps
 
--- within which time a called phase is served, wherever the rings have come: each turn twice, what both rings have begun,
--- and a crossing for each side, with what a ring waits after it that enters none
-abbrev pub time_to_serve : Plan → ℕ → ℕ → ℕ
-time_to_serve plan k h = 2 * all_turns plan k (phases plan) + 2 * (h + k + 1) + plan.side_count * (3 * k + 3)
+-- how many of a list are on side d
+abbrev pub places : Plan → ℕ → List ℕ → ℕ
+places plan d [] = 0
+places plan d (p ∷ ps) = (if is_on_side plan d p then 1 else 0) + places plan d ps
+
+-- Within which time q of ring r is served, wherever the rings have come: each turn twice, what both rings have begun, and
+-- a crossing for each side, with what a ring waits after it that enters none. And where its ring has passed q, each phase
+-- of its ring on its side may find the other ring anywhere in its order, and wait for all turns across before the barrier
+-- is crossed.
+abbrev pub time_to_serve : Plan → Ring → ℕ → ℕ → ℕ → ℕ
+time_to_serve plan r q k h =
+    2 * all_turns plan k (phases plan) + 2 * (h + k + 1) + plan.side_count * (3 * k + 3)
+    + places plan (side_of plan q) (order plan r) * (turns plan k (side_of plan q) (order plan (other r)) + h + k + 1)
 
 -- NOT PROVED: a called phase waits for so long at most, on whatever side it is.
+--
+-- Without the last product it is FALSE: docs/SAFETY.md has a run.
 abbrev pub CalledPhasesAreServed : Type 0
-CalledPhasesAreServed = (plan : Plan) (base later : List Input) (q k h : ℕ) → IsConsistent plan → plan.phase_count ≤ 16 →
+CalledPhasesAreServed = (plan : Plan) (base later : List Input) (r : Ring) (q k h : ℕ) → IsConsistent plan → plan.phase_count ≤ 16 →
     AreTaken plan (later ++ base) → IsUntripped plan base later → IsFullyConcurrent (replay plan base).plan →
-    TurnsTakeAtMost (replay plan base).plan k h → HasWaited plan q base later →
-    (replay plan (later ++ base)).now ≤ (replay plan base).now + time_to_serve (replay plan base).plan k h
+    TurnsTakeAtMost (replay plan base).plan k h → in_ring (replay plan base).plan r q ≡ true → HasWaited plan q base later →
+    (replay plan (later ++ base)).now ≤ (replay plan base).now + time_to_serve (replay plan base).plan r q k h
