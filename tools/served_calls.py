@@ -137,7 +137,8 @@ class Times:
         r, d = self.plan["phaseRing"][q], self.plan["phaseSide"][q]
         own, across = ([p for p in self.order[x] if self.plan["phaseSide"][p] == d] for x in (r, 3 - r))
         passed = len(own) * (sum(map(self.turn, across)) + self.begun())
-        return 2 * sum(map(self.turn, self.phases)) + 2 * self.begun() + SIDES * (3 * self.clear + 3) + passed
+        begun = 2 * (self.begun() + self.clear)
+        return 2 * sum(map(self.turn, self.phases)) + begun + SIDES * (3 * self.clear + 3) + passed
 
 
 # --- what a tick has found, by the states before and after it ---

@@ -28,3 +28,5 @@ pub mod TurnListLemmas
 pub mod TurnRingLemmas
 pub mod TurnStepLemmas
 pub mod TurnLemmas
+pub mod BarrierStepLemmas
+pub mod BarrierLemmas

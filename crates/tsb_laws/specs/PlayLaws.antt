@@ -10,6 +10,8 @@ use Rattle.tsb_step.specs.tsb_types.declared.stage.Stage.TheVariants.{Exit}
 use Rattle.tsb_step.specs.tsb_types.Intervals.{is_green, is_yellow}
 use Rattle.tsb_step.specs.tsb_plan.Parts.{is_minus_green_yellow, track_green}
 use Rattle.tsb_step.specs.tsb_plan.Plan.{Plan, red_revert}
+use Rattle.tsb_step.specs.tsb_plan.Parts.{is_minus_green_yellow}
+use Rattle.tsb_step.specs.tsb_plan.Plan.{Plan, side_of, red_revert}
 use Rattle.tsb_step.specs.tsb_heads.Monitoring.{conflict, gives_way}
 use Rattle.tsb_step.specs.tsb_preempt.Service.{has_track}
 use Rattle.tsb_step.specs.tsb_ring.Moves.{is_started}
@@ -44,6 +46,8 @@ use Rattle.tsb_laws.specs.RunningMaximum.{maximum_of, IsBounded, MovesByAStep}
 use Rattle.tsb_laws.specs.Stretches.{IsUntripped, has_held_since, largest, EndsGreen}
 use Rattle.tsb_laws.specs.ServedCalls.{HasBeenPressed, IsDoneWithin, IsFullyConcurrent, HasWaited, TurnsTakeAtMost, IsToCome, time_to_come}
 use Rattle.tsb_laws.specs.Stretches.{IsUntripped, largest, EndsGreen}
+use Rattle.tsb_laws.specs.ServedCalls.{HasBeenPressed, IsDoneWithin, IsFullyConcurrent, HasWaited, TurnsTakeAtMost, IsToCome, time_to_come, is_outside, time_to_cross}
+use Rattle.tsb_laws.specs.Stretches.{IsUntripped, has_held_since, largest, EndsGreen}
 use Rattle.tsb_laws.specs.UnwantedGreens.{WaitsFor}
 use Rattle.tsb_laws.specs.WantedStarts.{MayStart, IsKeptBy}
 
@@ -232,6 +236,13 @@ BringsCalledPhases plan is = (base later : List Input) (r : Ring) (q k h : ℕ) 
     IsFullyConcurrent (replay plan base).plan → TurnsTakeAtMost (replay plan base).plan k h → IsToCome (replay plan base) r q →
     HasWaited plan q base later → (replay plan is).now ≤ (replay plan base).now + time_to_come (replay plan base) r k h
 
+-- while a phase of another side was called, no crossing has been away for longer than it may
+abbrev pub BeginsCrossings : Plan → List Input → Type 0
+BeginsCrossings plan is = (base later : List Input) (q k h : ℕ) → is ≡ later ++ base → IsUntripped plan base later →
+    IsFullyConcurrent (replay plan base).plan → TurnsTakeAtMost (replay plan base).plan k h →
+    side_of (replay plan base).plan q ≢ (replay plan base).rings.side → HasWaited plan q base later →
+    has_held_since is_outside plan base later ≡ true → (replay plan is).now ≤ (replay plan base).now + time_to_cross (replay plan base) k h
+
 -- ## All laws of runs, each by the name of its function
 
 -- of the state s after the inputs `is` from power-up with `plan`
@@ -294,3 +305,4 @@ pub record KeepsLaws (plan : Plan) (is : List Input) (s : State) : Type 0 where
   pub wanted_phases_start : Untripped StartsWantedPhases plan is
   pub pressed_greens_may_end : ReadiesPressedGreens plan is
   pub called_phases_come : BringsCalledPhases plan is
+  pub crossings_begin : BeginsCrossings plan is

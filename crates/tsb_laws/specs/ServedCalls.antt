@@ -1,10 +1,10 @@
--- Calls are served in time, in free operation and with no preempt in service. The first two laws here are the contracts
--- of functions in src/operation.rt, and proved there; the last is STATED, NOT PROVED, and tested on runs at random by
+-- Calls are served in time, in free operation and with no preempt in service. The first three laws here are the
+-- contracts of functions in src/operation.rt, and proved there; the last is STATED, NOT PROVED, and tested on runs at random by
 -- `tools/test_stated_laws.py`. Times are in tenths of a second, which are ticks.
 --
--- The second and the third are of plans in which all phases of one side and of different rings are concurrent. Where they
+-- All but the first are of plans in which all phases of one side and of different rings are concurrent. Where they
 -- are not, a ring can wait for ever for a phase across that its own next phase does not go with.
-use Rattle.std.specs.Prelude.{◌≡◌, ℕ, ◌+◌, ◌*◌, ◌≤◌, Bool, true, false, ◌&&◌, if◌then◌else◌, max, List, [], ◌∷◌, ◌++◌, Option, Some, None, is_some, is_none, ◌⊎◌}
+use Rattle.std.specs.Prelude.{◌≡◌, ◌≢◌, ℕ, ◌+◌, ◌*◌, ◌≤◌, Bool, true, false, ◌&&◌, if◌then◌else◌, max, List, [], ◌∷◌, ◌++◌, Option, Some, None, is_some, is_none, ◌⊎◌}
 use Rattle.tsb_step.specs.tsb_types.declared.row.Row.{Row}
 use Rattle.tsb_step.specs.tsb_types.Intervals.{is_green, in_service}
 use Rattle.tsb_step.specs.tsb_types.Lists.{among, later, or_else}
@@ -18,7 +18,7 @@ use Rattle.tsb_step.specs.State.{State, interval}
 use Rattle.tsb_step.specs.Tick.{service, runs, callable, conflict, ready}
 use Rattle.tsb_step.specs.Runs.{replay, AreTaken}
 use Rattle.tsb_step.specs.Laws.{IsConsistent}
-use Rattle.tsb_laws.specs.Stretches.{IsUntripped, largest}
+use Rattle.tsb_laws.specs.Stretches.{IsUntripped, has_held_since, largest}
 
 -- no preempt is in service in the tick, and no pattern runs: the rings go on by calls alone
 abbrev pub is_free : State → Row → Bool
@@ -131,6 +131,26 @@ CalledPhasesCome = (plan : Plan) (base later : List Input) (r : Ring) (q k h : �
     TurnsTakeAtMost (replay plan base).plan k h → IsToCome (replay plan base) r q → HasWaited plan q base later →
     (replay plan (later ++ base)).now ≤ (replay plan base).now + time_to_come (replay plan base) r k h
 
+-- ## Across the barrier
+
+-- no crossing is under way
+abbrev pub is_outside : State → Bool
+is_outside s = is_none s.rings.crossing
+
+-- within which time one begins: what both rings have begun, and the turns of what is still to come in each on this side
+abbrev pub time_to_cross : State → ℕ → ℕ → ℕ
+time_to_cross s k h =
+    turns s.plan k s.rings.side (still_to_come s Ring1) + turns s.plan k s.rings.side (still_to_come s Ring2) + 2 * (h + 2 * k + 1)
+
+-- While a phase of another side is called in each tick, a crossing of the barrier begins in that time: a stretch in which
+-- none does is no longer.
+abbrev pub CrossingsBegin : Type 0
+CrossingsBegin = (plan : Plan) (base later : List Input) (q k h : ℕ) → IsConsistent plan → plan.phase_count ≤ 16 →
+    AreTaken plan (later ++ base) → IsUntripped plan base later → IsFullyConcurrent (replay plan base).plan →
+    TurnsTakeAtMost (replay plan base).plan k h → side_of (replay plan base).plan q ≢ (replay plan base).rings.side →
+    HasWaited plan q base later → has_held_since is_outside plan base later ≡ true →
+    (replay plan (later ++ base)).now ≤ (replay plan base).now + time_to_cross (replay plan base) k h
+
 -- ## On whatever side
 
 -- the turns of all enabled phases in a list
@@ -149,7 +169,7 @@ places plan d (p ∷ ps) = (if is_on_side plan d p then 1 else 0) + places plan 
 -- is crossed.
 abbrev pub time_to_serve : Plan → Ring → ℕ → ℕ → ℕ → ℕ
 time_to_serve plan r q k h =
-    2 * all_turns plan k (phases plan) + 2 * (h + k + 1) + plan.side_count * (3 * k + 3)
+    2 * all_turns plan k (phases plan) + 2 * (h + 2 * k + 1) + plan.side_count * (3 * k + 3)
     + places plan (side_of plan q) (order plan r) * (turns plan k (side_of plan q) (order plan (other r)) + h + k + 1)
 
 -- NOT PROVED: a called phase waits for so long at most, on whatever side it is.

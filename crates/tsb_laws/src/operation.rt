@@ -10,7 +10,7 @@ ghost use Rattle.tsb_laws.specs.PreemptTurns.{PreemptsGiveWay, ServicesEnd};
 ghost use Rattle.tsb_laws.specs.RunningMaximum.{MaximumsAreBounded, MaximumsMoveByAStep, OthersLeaveMaximums};
 ghost use Rattle.tsb_laws.specs.UnwantedGreens.{UnwantedGreensEnd};
 ghost use Rattle.tsb_laws.specs.WantedStarts.{WantedPhasesStart};
-ghost use Rattle.tsb_laws.specs.ServedCalls.{PressedGreensMayEnd, CalledPhasesCome};
+ghost use Rattle.tsb_laws.specs.ServedCalls.{PressedGreensMayEnd, CalledPhasesCome, CrossingsBegin};
 
 /// `remembered`: What calls is remembered, or served at once. An output that calls an enabled, locking phase which was
 /// not Green is in vehicle memory after the tick, or the phase turns Green in it; a button that calls an enabled phase
@@ -210,4 +210,19 @@ pub fn pressed_greens_may_end()
 /// Witness: `a_turn` of ServedRuns.
 pub fn called_phases_come()
     ensures { CalledPhasesCome }
+{}
+
+/// A crossing begins where another side is called. In free operation and with no preempt in service, while a phase of
+/// another side is called in each tick, both rings come to the end of their order on the side that is served, and a
+/// crossing of the barrier begins within a time that the plan gives: what both have begun, and the turns of the phases
+/// that are still to come there.
+///
+/// Needs: a plan in which all phases of one side and of different rings are concurrent; a call that stays, and no commit;
+/// an untripped run; at most 16 phases.
+/// Not said: that the crossing goes to the side of that phase; it goes to the next side that is called.
+/// Mistake: a ring that goes round its order though another side is called, `goes_round` (`wants_to_cross`,
+/// `would_go_to_1`).
+/// Witness: `a_barrier` of ServedRuns.
+pub fn crossings_begin()
+    ensures { CrossingsBegin }
 {}

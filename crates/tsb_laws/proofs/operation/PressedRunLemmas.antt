@@ -54,7 +54,7 @@ timed_run plan is ok taken dark p =
 
 -- ## An input that is no tick
 
-reset_none : (s : State) → s.trip ≡ None → reset s ≡ s
+pub reset_none : (s : State) → s.trip ≡ None → reset s ≡ s
 reset_none s dark = go (is_some s.trip) (ap is_some dark)
   where
     go : (b : Bool) → b ≡ false → (if b then restarted s else s) ≡ s

@@ -41,8 +41,8 @@ use Rattle.tsb_laws.proofs.safety.DueLemmas.{count_run, clipped_at}
 use Rattle.tsb_laws.proofs.safety.EnabledLemmas.{callable_no_green, enabled_run}
 use Rattle.tsb_laws.proofs.safety.SideSoughtLemmas.{none_first}
 use Rattle.tsb_laws.proofs.operation.CalmLemmas.{calm_run}
-use Rattle.tsb_laws.proofs.operation.PressedRunLemmas.{timed_run, clock_stays, green_is}
-use Rattle.tsb_laws.proofs.operation.TurnStepLemmas.{clear_left, back_left, green_left, clear_most, back_most, green_most, IsLeft, committed, serving_green, idle, IsComing, Comes, served, comes, one_tick}
+use Rattle.tsb_laws.proofs.operation.PressedRunLemmas.{timed_run, reset_none, clock_stays, green_is}
+use Rattle.tsb_laws.proofs.operation.TurnStepLemmas.{red_is, clear_left, back_left, green_left, clear_most, back_most, green_most, IsLeft, committed, serving_green, idle, IsComing, Comes, served, comes, IsFairTick, one_tick}
 
 -- ## What is callable is enabled
 
@@ -79,13 +79,6 @@ kept_then s row dark = record {
   rings = rings_then s row dark;
   phase = λ p. same_phase ((next s row).phases p) ((step s (Tick row)).phases p) (ap (λ (f : ℕ → Phase). f p) (phases_then s row dark));
 }
-
-reset_none : (s : State) → s.trip ≡ None → reset s ≡ s
-reset_none s dark = go (is_some s.trip) (ap is_some dark)
-  where
-    go : (b : Bool) → b ≡ false → (if b then restarted s else s) ≡ s
-    go true h = absurd (true≢false h)
-    go false h = refl
 
 reset_is : (s : State) → s.trip ≡ None → step s inputs.Reset ≡ s
 unfolding step
@@ -139,10 +132,10 @@ module _ (k : ℕ) (s after : State) (r : Ring) (same : IsKeptBy s after) where
       ap (λ (x : Plan). turns x k after.rings.side (later o (order x r))) same.plan
       ∙ ap (λ (x : rings.State). turns s.plan k x.side (later o (order s.plan r))) same.rings
 
-  clear_same : (p : ℕ) → clear_left after.plan p (after.phases p) ≡ clear_left s.plan p (s.phases p)
+  pub clear_same : (p : ℕ) → clear_left after.plan p (after.phases p) ≡ clear_left s.plan p (s.phases p)
   clear_same p = ap (λ (x : Plan). clear_left x p (after.phases p)) same.plan ∙ ap (λ (x : Phase). clear_left s.plan p x) (same.phase p)
 
-  back_same : (p : ℕ) → back_left after.plan p (after.phases p) ≡ back_left s.plan p (s.phases p)
+  pub back_same : (p : ℕ) → back_left after.plan p (after.phases p) ≡ back_left s.plan p (s.phases p)
   back_same p = ap (λ (x : Plan). back_left x p (after.phases p)) same.plan ∙ ap (λ (x : Phase). back_left s.plan p x) (same.phase p)
 
   green_same : (p : ℕ) → green_left after.plan p (after.phases p) ≡ green_left s.plan p (s.phases p)
@@ -151,22 +144,22 @@ module _ (k : ℕ) (s after : State) (r : Ring) (same : IsKeptBy s after) where
   longest_same : (p : ℕ) → longest_green after.plan p ≡ longest_green s.plan p
   longest_same p = ap (λ (x : Plan). longest_green x p) same.plan
 
-  promise_same : (o : Option ℕ) → s.rings.commitment r ≡ o → after.rings.commitment r ≡ o
+  pub promise_same : (o : Option ℕ) → s.rings.commitment r ≡ o → after.rings.commitment r ≡ o
   promise_same o e = ap (λ (x : rings.State). x.commitment r) same.rings ∙ e
 
   last_same : after.rings.last r ≡ s.rings.last r
   last_same = ap (λ (x : rings.State). x.last r) same.rings
 
-  own_before : (p : ℕ) → in_ring after.plan r p ≡ true → in_ring s.plan r p ≡ true
+  pub own_before : (p : ℕ) → in_ring after.plan r p ≡ true → in_ring s.plan r p ≡ true
   own_before p own = sym (ap (λ (x : Plan). in_ring x r p) same.plan) ∙ own
 
-  own_after : (p : ℕ) → in_ring s.plan r p ≡ true → in_ring after.plan r p ≡ true
+  pub own_after : (p : ℕ) → in_ring s.plan r p ≡ true → in_ring after.plan r p ≡ true
   own_after p own = ap (λ (x : Plan). in_ring x r p) same.plan ∙ own
 
-  interval_same : (p : ℕ) → interval after p ≡ interval s p
+  pub interval_same : (p : ℕ) → interval after p ≡ interval s p
   interval_same p = ap (λ (x : Phase). x.interval) (same.phase p)
 
-  later_same : turns after.plan k after.rings.side (later (after.rings.last r) (order after.plan r)) ≡ turns s.plan k s.rings.side (later (s.rings.last r) (order s.plan r))
+  pub later_same : turns after.plan k after.rings.side (later (after.rings.last r) (order after.plan r)) ≡ turns s.plan k s.rings.side (later (s.rings.last r) (order s.plan r))
   later_same = sums_same (after.rings.last r) ∙ ap (λ (o : Option ℕ). turns s.plan k s.rings.side (later o (order s.plan r))) last_same
 
   pub left_stays : (n : ℕ) → IsLeft k s r n → IsLeft k after r n
@@ -203,12 +196,6 @@ module _ (k : ℕ) (s after : State) (r : Ring) (same : IsKeptBy s after) where
       go (inr there) = inr (ap (λ (l : List ℕ). among q l) list_same ∙ there)
 
 -- ## As it begins
-
-red_is : (i : Interval) → in_service i ≡ false → i ≡ Red
-red_is Red h = refl
-red_is Green h = absurd (true≢false h)
-red_is Yellow h = absurd (true≢false h)
-red_is RedClear h = absurd (true≢false h)
 
 module _ (s : State) (r : Ring) (q k h : ℕ) (good : IsGood s) (calm : IsCalm s.plan (interval s) s.rings) (takes : TurnsTakeAtMost s.plan k h) (due : IsToCome s r q) where
   back_now : (p : ℕ) → in_service (interval s p) ≡ false → back_left s.plan p (s.phases p) ≤ k
@@ -277,7 +264,7 @@ module _ (plan : Plan) (base : List Input) (r : Ring) (q k h : ℕ) (ok : IsCons
   few_now is = let same = count_run plan is in omega (arith, same, few)
 
   -- no commit comes
-  plan_same : (later : List Input) → IsUntripped plan base later → HasWaited plan q base later → (replay plan (later ++ base)).plan ≡ (replay plan base).plan
+  pub plan_same : (later : List Input) → IsUntripped plan base later → HasWaited plan q base later → (replay plan (later ++ base)).plan ≡ (replay plan base).plan
   plan_same [] dark waited = refl
   plan_same (inputs.Tick row ∷ later) dark waited = plan_stays (replay plan (later ++ base)) row ∙ plan_same later dark.0 waited.0
   plan_same (i ∷ later) dark waited =
@@ -315,6 +302,19 @@ module _ (plan : Plan) (base : List Input) (r : Ring) (q k h : ℕ) (ok : IsCons
       kept : IsKeptBy (next (replay plan (later ++ base)) row) (step (replay plan (later ++ base)) (Tick row))
       kept = kept_then (replay plan (later ++ base)) row dark
 
+      fair : (replay plan (later ++ base)).rings.crossing ≡ None → IsFairTick (replay plan (later ++ base)) row
+      fair outside = record {
+        good = good;
+        few = few_now (later ++ base);
+        calm = calm_run plan (later ++ base) ok taken;
+        sided = sided_run plan (later ++ base) ok taken;
+        on = enabled_run plan (later ++ base) ok taken;
+        timed = timed_run plan (later ++ base) ok taken dark;
+        full = full;
+        free = both.1;
+        outside = outside;
+      }
+
       then : (n : ℕ) → (replay plan (later ++ base)).now + n ≤ (replay plan base).now + limit → Comes k (next (replay plan (later ++ base)) row) r q n → Stage limit (Tick row ∷ later)
       then n in_time (served green some) =
           arrived (at_next (replay plan (later ++ base)) row q dark ∙ green) (omega (arith, clock, in_time, some))
@@ -328,8 +328,7 @@ module _ (plan : Plan) (base : List Input) (r : Ring) (q k h : ℕ) (ok : IsCons
       go (arrived green in_time) = absurd (true≢false (sym (ap is_green green) ∙ callable_no_green (replay plan (later ++ base)) row q told))
       go (under_way n left coming in_time) =
           then n in_time
-          (one_tick (replay plan (later ++ base)) row good (few_now (later ++ base)) (calm_run plan (later ++ base) ok taken) (sided_run plan (later ++ base) ok taken)
-          (enabled_run plan (later ++ base) ok taken) (timed_run plan (later ++ base) ok taken dark) full both.1 coming.outside
+          (one_tick (replay plan (later ++ base)) row (fair coming.outside)
           k r q coming.ringed coming.beside both.0 enabled n h takes left coming)
 
   -- any other input

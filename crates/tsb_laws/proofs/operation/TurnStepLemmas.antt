@@ -67,11 +67,11 @@ green_most plan p x =
     pressed_most (longest_maximum plan p) (longest_initial plan p) (walk plan p) (pedestrian_clear plan p) (longest_green plan p) x
     (omega arith) (omega arith) (omega arith)
 
-limit_most : (limit : ℕ) (t : Timer) → left limit t ≤ limit
+pub limit_most : (limit : ℕ) (t : Timer) → left limit t ≤ limit
 limit_most limit Off = omega arith
 limit_most limit (On n) = omega arith
 
-past_most : (r : ℕ) (t : Timer) → past r t ≤ r
+pub past_most : (r : ℕ) (t : Timer) → past r t ≤ r
 past_most r Off = omega arith
 past_most r (On n) = omega arith
 
@@ -88,13 +88,13 @@ clear_most plan p x = go x.interval
 pub back_most : (plan : Plan) (p : ℕ) (x : Phase) → x.interval ≡ Red → back_left plan p x ≤ red_revert plan p
 back_most plan p x e = rw e (past_most (red_revert plan p) x.red_revert)
 
-red_is : (i : Interval) → in_service i ≡ false → i ≡ Red
+pub red_is : (i : Interval) → in_service i ≡ false → i ≡ Red
 red_is Red h = refl
 red_is Green h = absurd (true≢false h)
 red_is Yellow h = absurd (true≢false h)
 red_is RedClear h = absurd (true≢false h)
 
-dark_is : (i : Interval) → in_service i ≡ false → is_green i ≡ false
+pub dark_is : (i : Interval) → in_service i ≡ false → is_green i ≡ false
 dark_is Red h = refl
 dark_is Green h = absurd (true≢false h)
 dark_is Yellow h = absurd (true≢false h)
@@ -150,7 +150,46 @@ pub in_order : (s : State) (row : Row) (r : Ring) → runs s ≡ None → (rings
 unfolding rings_given
 in_order s row r h = ap (λ (o : Option ℕ). sequence s.plan (sequence_in_effect s.plan o) (number r)) h
 
-module _ (s : State) (row : Row) (good : IsGood s) (few : s.plan.phase_count ≤ 16) (calm : IsCalm s.plan (interval s) s.rings) (sided : IsSided s.plan (interval s) s.rings) (on : AreEnabled s.plan (interval s) s.rings) (timed : (p : ℕ) → IsTimed (s.phases p)) (full : IsFullyConcurrent s.plan) (free : is_free s row ≡ true) (outside : s.rings.crossing ≡ None) where
+-- what holds of the controller in a tick in free operation, outside a crossing, where all phases of one side go together
+pub record IsFairTick (s : State) (row : Row) : Type 0 where
+  pub good : IsGood s
+  pub few : s.plan.phase_count ≤ 16
+  pub calm : IsCalm s.plan (interval s) s.rings
+  pub sided : IsSided s.plan (interval s) s.rings
+  pub on : AreEnabled s.plan (interval s) s.rings
+  pub timed : (p : ℕ) → IsTimed (s.phases p)
+  pub full : IsFullyConcurrent s.plan
+  pub free : is_free s row ≡ true
+  pub outside : s.rings.crossing ≡ None
+
+module _ (s : State) (row : Row) (tick : IsFairTick s row) where
+  good : IsGood s
+  good = tick.good
+
+  few : s.plan.phase_count ≤ 16
+  few = tick.few
+
+  calm : IsCalm s.plan (interval s) s.rings
+  calm = tick.calm
+
+  sided : IsSided s.plan (interval s) s.rings
+  sided = tick.sided
+
+  on : AreEnabled s.plan (interval s) s.rings
+  on = tick.on
+
+  timed : (p : ℕ) → IsTimed (s.phases p)
+  timed = tick.timed
+
+  full : IsFullyConcurrent s.plan
+  full = tick.full
+
+  free : is_free s row ≡ true
+  free = tick.free
+
+  outside : s.rings.crossing ≡ None
+  outside = tick.outside
+
   -- what the rings are given is fair
   pub fair : IsFair s.plan s.rings (rings_given s row)
   unfolding rings_given
@@ -166,18 +205,18 @@ module _ (s : State) (row : Row) (good : IsGood s) (few : s.plan.phase_count ≤
     outside = outside;
   }
 
-  listed : (p : ℕ) → is_enabled s.plan p ≡ true → IsListed s.plan p
+  pub listed : (p : ℕ) → is_enabled s.plan p ≡ true → IsListed s.plan p
   listed p h = enabled_is_listed s.plan good.plan p h
 
-  some_phase : (p : ℕ) → is_enabled s.plan p ≡ true → p ≢ 0
+  pub some_phase : (p : ℕ) → is_enabled s.plan p ≡ true → p ≢ 0
   some_phase p h zero_is =
       let it : IsPhase s.plan p = listed_is_phase s.plan p (listed p h) in let low : 1 ≤ p = it.from_one in omega (arith, low, zero_is)
 
-  once : (r : Ring) → lists_once (order s.plan r) ≡ true
+  pub once : (r : Ring) → lists_once (order s.plan r) ≡ true
   once r = let it : ListsRing s.plan (number r) (order s.plan r) = lists_ring s.plan 1 r (first_lists s.plan good.plan.rules) in it.once
 
   -- two phases of one ring are not concurrent
-  apart : (r : Ring) (p q : ℕ) → in_ring s.plan r p ≡ true → in_ring s.plan r q ≡ true → is_enabled s.plan p ≡ true → is_enabled s.plan q ≡ true →
+  pub apart : (r : Ring) (p q : ℕ) → in_ring s.plan r p ≡ true → in_ring s.plan r q ≡ true → is_enabled s.plan p ≡ true → is_enabled s.plan q ≡ true →
       is_concurrent s.plan p q ≡ false
   apart r p q own_p own_q on_p on_q =
       false_from_ne_true _ (λ h. (together s.plan good.plan.rules p q (listed_is_phase s.plan p (listed p on_p)) (listed_is_phase s.plan q (listed q on_q)) h).rings
@@ -193,27 +232,27 @@ module _ (s : State) (row : Row) (good : IsGood s) (few : s.plan.phase_count ≤
       other : (q == p) ≡ false
       other = false_from_ne_true _ (λ e. true≢false (sym (ap is_green green) ∙ ap (λ (x : ℕ). is_green (interval s x)) (sym (eqb-true q p e)) ∙ callable_no_green s row q told))
 
-  told_callable : (q : ℕ) → callable s row q ≡ true → IsListed s.plan q → (rings_given s row).callable q ≡ true
+  pub told_callable : (q : ℕ) → callable s row q ≡ true → IsListed s.plan q → (rings_given s row).callable q ≡ true
   unfolding rings_given
   told_callable q h there = clipped_at (callable s row) s.plan q few there ∙ h
 
-  told_ready : (p : ℕ) → IsListed s.plan p → (rings_given s row).ready p ≡ ready s row p
+  pub told_ready : (p : ℕ) → IsListed s.plan p → (rings_given s row).ready p ≡ ready s row p
   unfolding rings_given
   told_ready p there = clipped_at (ready s row) s.plan p few there
 
-  told_over : (p : ℕ) → IsListed s.plan p → (rings_given s row).over p ≡ over s p
+  pub told_over : (p : ℕ) → IsListed s.plan p → (rings_given s row).over p ≡ over s p
   unfolding rings_given
   told_over p there = clipped_at (over s) s.plan p few there
 
-  told_reverted : (p : ℕ) → IsListed s.plan p → (rings_given s row).reverted p ≡ reverted s p
+  pub told_reverted : (p : ℕ) → IsListed s.plan p → (rings_given s row).reverted p ≡ reverted s p
   unfolding rings_given
   told_reverted p there = clipped_at (reverted s) s.plan p few there
 
-  serves_it : (r : Ring) (p : ℕ) → in_ring s.plan r p ≡ true → in_service (interval s p) ≡ true → serving s.plan (rings_given s row) r ≡ Some p
+  pub serves_it : (r : Ring) (p : ℕ) → in_ring s.plan r p ≡ true → in_service (interval s p) ≡ true → serving s.plan (rings_given s row) r ≡ Some p
   unfolding rings_given
   serves_it r p own serves = is_serving s.plan s.rings (rings_given s row) r p good.rings own serves
 
-  serves_none : (r : Ring) → ((p : ℕ) → in_ring s.plan r p ≡ true → in_service (interval s p) ≡ false) → serving s.plan (rings_given s row) r ≡ None
+  pub serves_none : (r : Ring) → ((p : ℕ) → in_ring s.plan r p ≡ true → in_service (interval s p) ≡ false) → serving s.plan (rings_given s row) r ≡ None
   unfolding rings_given
   serves_none r none = go (serving s.plan (rings_given s row) r) refl
     where
@@ -221,29 +260,29 @@ module _ (s : State) (row : Row) (good : IsGood s) (few : s.plan.phase_count ≤
       go None e = e
       go (Some q) e = let both = serving_is s.plan (rings_given s row) r q e in absurd (true≢false (sym both.1 ∙ none q both.0))
 
-  served_is : (r : Ring) (p : ℕ) → serving s.plan (rings_given s row) r ≡ Some p → (in_ring s.plan r p ≡ true) × (in_service (interval s p) ≡ true)
+  pub served_is : (r : Ring) (p : ℕ) → serving s.plan (rings_given s row) r ≡ Some p → (in_ring s.plan r p ≡ true) × (in_service (interval s p) ≡ true)
   unfolding rings_given
   served_is r p e = serving_is s.plan (rings_given s row) r p e
 
-  given_green : (p : ℕ) → interval s p ≡ Green → is_green ((rings_given s row).interval p) ≡ true
+  pub given_green : (p : ℕ) → interval s p ≡ Green → is_green ((rings_given s row).interval p) ≡ true
   unfolding rings_given
   given_green p green = ap is_green green
 
-  ended_ready : (p : ℕ) → is_ended (moves s row) p ≡ true → (rings_given s row).ready p ≡ true
+  pub ended_ready : (p : ℕ) → is_ended (moves s row) p ≡ true → (rings_given s row).ready p ≡ true
   unfolding moves
   ended_ready p h = (ends_ready s.plan s.rings (rings_given s row) p h).1
 
-  starts_nothing : (r : Ring) (p : ℕ) → in_ring s.plan r p ≡ true → starting s.plan s.rings (rings_given s row) r ≡ None → is_started (moves s row) p ≡ false
+  pub starts_nothing : (r : Ring) (p : ℕ) → in_ring s.plan r p ≡ true → starting s.plan s.rings (rings_given s row) r ≡ None → is_started (moves s row) p ≡ false
   unfolding moves rings_given
   starts_nothing r p own none =
       not_started s.plan s.rings (rings_given s row) (yellow_done s) (symmetric s.plan good.plan.rules) good.rings (given s row good)
       (callable_no_green s row) calm r p own none
 
-  starts_it : (r : Ring) (p : ℕ) → starting s.plan s.rings (rings_given s row) r ≡ Some p → interval (next s row) p ≡ Green
+  pub starts_it : (r : Ring) (p : ℕ) → starting s.plan s.rings (rings_given s row) r ≡ Some p → interval (next s row) p ≡ Green
   unfolding moves
   starts_it r p e = let on_it : is_started (moves s row) p ≡ true = started_by s.plan s.rings (rings_given s row) r p e in rw on_it refl
 
-  ends_none : (p : ℕ) → is_green (interval s p) ≡ false → is_ended (moves s row) p ≡ false
+  pub ends_none : (p : ℕ) → is_green (interval s p) ≡ false → is_ended (moves s row) p ≡ false
   ends_none p dark = false_from_ne_true _ (λ h. true≢false (sym (ended_was_green s row p h) ∙ dark))
 
   -- a ring that goes to a phase: what comes after it, and q where it is another

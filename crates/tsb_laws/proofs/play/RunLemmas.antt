@@ -26,6 +26,7 @@ use Rattle.tsb_laws.specs.PlayRecords.{KeepsRecords}
 use Rattle.tsb_laws.specs.Runs.{IsHeld, IsRun, AreTyped}
 use Rattle.tsb_laws.proofs.heads.ClearLemmas.{phase_clears, overlap_clears}
 use Rattle.tsb_laws.proofs.heads.LitLemmas.{keeps_lit_heads}
+use Rattle.tsb_laws.proofs.operation.BarrierLemmas.{begins_in_time}
 use Rattle.tsb_laws.proofs.operation.CalmLemmas.{calm_run}
 use Rattle.tsb_laws.proofs.operation.GreenEndLemmas.{ends_for_a_reason}
 use Rattle.tsb_laws.proofs.operation.KeptCallLemmas.{remembers, vehicles_stand, pedestrians_stand}
@@ -115,6 +116,8 @@ module _ (plan : Plan) (held : IsHeld plan) where
         rw e (pressed_may_end plan base later row p n ok (few plan held) (rw e at taken) dark pressed done (rw e at long));
     called_phases_come = λ base later r q k h e dark full takes due waited.
         rw e (comes_in_time plan base later r q k h ok (few plan held) (rw e at taken) dark full takes due waited);
+    crossings_begin = λ base later q k h e dark full takes apart waited out.
+        rw e (begins_in_time plan base later q k h ok (few plan held) (rw e at taken) dark full takes apart waited out);
   }
     where
       ok : IsConsistent plan

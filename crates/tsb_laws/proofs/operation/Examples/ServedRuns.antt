@@ -1,11 +1,11 @@
 -- Runs from power-up that meet all premises of the laws of greens with a conflict and of called phases, and mistakes that
 -- these laws refuse.
-use Rattle.std.proofs.Common.{◌≡◌, ℕ, ◌+◌, ◌*◌, ◌≤◌, ◌==◌, Bool, true, false, not, ◌&&◌, ◌||◌, if◌then◌else◌, max, List, [], ◌∷◌, ◌++◌, Some, None, refl, sym, ap, ◌∙◌, inl, inr, arith}
+use Rattle.std.proofs.Common.{◌≡◌, ◌≢◌, ℕ, ◌+◌, ◌*◌, ◌≤◌, ◌==◌, Bool, true, false, not, ◌&&◌, ◌||◌, if◌then◌else◌, max, List, [], ◌∷◌, ◌++◌, Some, None, refl, sym, ap, ◌∙◌, inl, inr, arith}
 use Rattle.std.specs.List.{list_all}
 use Rattle.std.proofs.lemmas.Bool.{and_parts, or_cases, eqb-true, eq-eqb, true≢false, false≢true}
 use Rattle.tsb_step.specs.tsb_cells.declared.timer.Timer.TheVariants.{On}
 use Rattle.tsb_step.specs.tsb_types.Intervals.{is_green, in_service}
-use Rattle.tsb_step.specs.tsb_types.Lists.{among}
+use Rattle.tsb_step.specs.tsb_types.Lists.{first, among, later, not_later}
 use Rattle.tsb_step.specs.tsb_types.Sets.{all_off}
 use Rattle.tsb_step.specs.tsb_types.declared.row.Row.{Row}
 use Rattle.tsb_step.specs.tsb_plan.declared.object.Object.TheVariants.{PhaseMinRecall, PhaseMinimumGreen, PhaseMaximum1, PhaseMaximum2, PhaseMaximumInitial, PhaseWalk, PhasePedestrianClear, PhaseYellowChange, PhaseRedClear, PhaseRedRevert, UnitRedRevert, PhaseDynamicMaxLimit, UnitMax2}
@@ -18,11 +18,11 @@ use Rattle.tsb_step.specs.tsb_phase.DynamicMaximum.{is_dynamic}
 use Rattle.tsb_step.specs.tsb_phase.Phase.{held_of}
 use Rattle.tsb_step.specs.tsb_phase.Green.{is_gapped}
 use Rattle.tsb_step.specs.tsb_ring.declared.want.Want.{Want}
-use Rattle.tsb_step.specs.tsb_ring.declared.want.Want.TheVariants.{Go, Cross}
+use Rattle.tsb_step.specs.tsb_ring.declared.want.Want.TheVariants.{Go, Cross, Rest}
 use Rattle.tsb_step.specs.tsb_ring.Laws.{IsListed}
 use Rattle.tsb_step.specs.tsb_ring.Rings as rings
 use Rattle.tsb_step.specs.tsb_ring.Rings.{Ring, Ring1, Ring2, other, in_ring}
-use Rattle.tsb_step.specs.tsb_ring.Wants.{is_called_elsewhere, want_by_calls}
+use Rattle.tsb_step.specs.tsb_ring.Wants.{go_or, is_candidate, is_called_elsewhere, want_by_calls}
 use Rattle.tsb_step.proofs.tsb_ring.Examples.Scenes.{both}
 use Rattle.tsb_step.specs.declared.inputs.Input.{Input}
 use Rattle.tsb_step.specs.declared.inputs.Input.TheVariants.{Tick}
@@ -32,8 +32,8 @@ use Rattle.tsb_step.specs.Runs.{replay, AreTaken}
 use Rattle.tsb_step.specs.Laws.{IsConsistent}
 use Rattle.tsb_step.proofs.GivenLemmas.{enabled_is_listed}
 use Rattle.tsb_step.proofs.Examples.Scenes.{opened, vehicle, green, these, all_red, called, red, resting}
-use Rattle.tsb_laws.specs.Stretches.{IsUntripped}
-use Rattle.tsb_laws.specs.ServedCalls.{is_pressed, HasBeenPressed, longest_maximum, longest_initial, IsDoneWithin, IsFullyConcurrent, is_waiting, HasWaited, longest_green, TurnsTakeAtMost, still_to_come, IsToCome}
+use Rattle.tsb_laws.specs.Stretches.{IsUntripped, has_held_since}
+use Rattle.tsb_laws.specs.ServedCalls.{is_pressed, HasBeenPressed, longest_maximum, longest_initial, IsDoneWithin, IsFullyConcurrent, is_waiting, HasWaited, longest_green, TurnsTakeAtMost, still_to_come, IsToCome, is_outside}
 use Rattle.tsb_laws.proofs.safety.Examples.PlanFits.{Fits, values_fit, quad_fits, consistent}
 
 -- ## A green that may end at once: 1 is on recall, with no minimum green and no maximum, and 2 is called
@@ -233,6 +233,55 @@ a_turn = record {
   waited = (tt, waits_2);
 }
 
+-- ## A crossing that is to begin: 3 of side 2 is called
+
+abbrev called_3 : List Input
+called_3 = Tick (vehicle 3) ∷ []
+
+call_taken : AreTaken quad called_3
+unfolding opened
+call_taken = (tt, refl)
+
+call_dark : (replay quad called_3).trip ≡ None
+unfolding opened
+call_dark = refl
+
+waits_3 : is_waiting 3 (replay quad []) (Tick (vehicle 3)) ≡ true
+unfolding opened
+waits_3 = refl
+
+is_on_side_2 : side_of (replay quad []).plan 3 ≡ 2
+unfolding opened
+is_on_side_2 = refl
+
+stays_outside : has_held_since is_outside quad [] called_3 ≡ true
+unfolding opened
+stays_outside = refl
+
+record Barrier (plan : Plan) (base later : List Input) (q k h : ℕ) : Type 0 where
+  consistent : IsConsistent plan
+  few : plan.phase_count ≤ 16
+  taken : AreTaken plan (later ++ base)
+  untripped : IsUntripped plan base later
+  full : IsFullyConcurrent (replay plan base).plan
+  takes : TurnsTakeAtMost (replay plan base).plan k h
+  apart : side_of (replay plan base).plan q ≢ (replay plan base).rings.side
+  waited : HasWaited plan q base later
+  outside : has_held_since is_outside plan base later ≡ true
+
+a_barrier : Barrier quad [] called_3 3 510 5100
+a_barrier = record {
+  consistent = quad_consistent;
+  few = (let count = quad_count in omega (arith, count));
+  taken = call_taken;
+  untripped = (power_up_dark, call_dark);
+  full = goes_together;
+  takes = takes;
+  apart = λ e. (let two = is_on_side_2 in let bad : 2 ≡ 1 = sym two ∙ e in absurd (omega (arith, bad)));
+  waited = (tt, waits_3);
+  outside = stays_outside;
+}
+
 -- ## A green that extends while an output is on
 
 -- 2 has been Green for 250 ticks, all with a conflict, and its detector is on
@@ -271,3 +320,23 @@ crosses_first s row =
 would_cross : crosses_first begun all_off ≡ Cross
 unfolding opened
 would_cross = refl
+
+-- ## A ring that goes round its order though another side is called
+
+-- 2 and 6 are Green, 1 and 3 are called
+abbrev rounded : State
+rounded = record resting { memories = called (1 ∷ 3 ∷ []) }
+
+wants_to_cross : want_by_calls quad rounded.rings (rings_given rounded all_off) Ring1 None ≡ Cross
+unfolding opened
+wants_to_cross = refl
+
+abbrev goes_round : State → Row → Want
+goes_round s row =
+    go_or (first (is_candidate s.plan s.rings (rings_given s row) Ring1 None) (later (s.rings.last Ring1) ((rings_given s row).sequence Ring1)))
+    (go_or (first (is_candidate s.plan s.rings (rings_given s row) Ring1 None) (not_later (s.rings.last Ring1) ((rings_given s row).sequence Ring1)))
+    (if is_called_elsewhere s.plan s.rings (rings_given s row) then Cross else Rest))
+
+would_go_to_1 : goes_round rounded all_off ≡ Go 1
+unfolding opened
+would_go_to_1 = refl
