@@ -49,7 +49,7 @@ HasBeenPressed plan p is (i ∷ later) = HasBeenPressed plan p is later × (is_p
 pub record IsDoneWithin (plan : Plan) (base : List Input) (p n : ℕ) (later : List Input) : Type 0 where
   pub maximum : largest (λ x. longest_maximum x p) plan base later ≤ n
   pub initial : largest (λ x. longest_initial x p) plan base later ≤ n
-  pub walk : largest (λ x. walk x p) plan base later + largest (λ x. pedestrian_clear x p) plan base later ≤ n
+  pub pedestrians : largest (λ x. walk x p) plan base later + largest (λ x. pedestrian_clear x p) plan base later ≤ n
 
 -- A green that has had a conflict for so long may end: in the next tick it is ready, whatever else comes meanwhile.
 abbrev pub PressedGreensMayEnd : Type 0
@@ -77,7 +77,7 @@ HasWaited plan q is [] = Unit {0}
 HasWaited plan q is (i ∷ later) = HasWaited plan q is later × (is_waiting q (replay plan (later ++ is)) i ≡ true)
 
 -- the longest that p is Green once it has a conflict
-abbrev pub longest_green : Plan → ℕ → ℕ
+unfoldable pub longest_green : Plan → ℕ → ℕ
 longest_green plan p = max (longest_maximum plan p) (max (longest_initial plan p) (walk plan p + pedestrian_clear plan p))
 
 -- k is as large as the clearance and as the red revert of each phase, and h as the longest green of each
@@ -115,7 +115,7 @@ pub record IsToCome (s : State) (r : Ring) (q : ℕ) : Type 0 where
   pub ringed : in_ring s.plan r q ≡ true
   pub beside : side_of s.plan q ≡ s.rings.side
   pub outside : s.rings.crossing ≡ None
-  pub next : (s.rings.commitment r ≡ Some q) ⊎ (among q (still_to_come s r) ≡ true)
+  pub ahead : (s.rings.commitment r ≡ Some q) ⊎ (among q (still_to_come s r) ≡ true)
   pub bound : (p : ℕ) → in_ring s.plan r p ≡ true → in_service (interval s p) ≡ true → is_green (interval s p) ≡ false →
       is_some (s.rings.commitment r) ≡ true
 

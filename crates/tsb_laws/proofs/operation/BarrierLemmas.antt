@@ -211,7 +211,8 @@ module _ (plan : Plan) (base : List Input) (q k h : ℕ) (ok : IsConsistent plan
 
       away : is_called_elsewhere (replay plan (later ++ base)).plan (replay plan (later ++ base)).rings (rings_given (replay plan (later ++ base)) row) ≡ true
       away =
-          found_some _ (phases (replay plan (later ++ base)).plan) q (enabled_is_listed (replay plan (later ++ base)).plan good.plan q enabled)
+          found_some (λ x. (rings_given (replay plan (later ++ base)) row).callable x
+          && not (is_on_side (replay plan (later ++ base)).plan (replay plan (later ++ base)).rings.side x)) (phases (replay plan (later ++ base)).plan) q (enabled_is_listed (replay plan (later ++ base)).plan good.plan q enabled)
           (rw (
             callable_told (replay plan (later ++ base)) row q (few_now (later ++ base))
                 (enabled_is_listed (replay plan (later ++ base)).plan good.plan q enabled) both.0,

@@ -13,7 +13,7 @@ use Rattle.tsb_step.specs.tsb_ring.declared.want.Want.{Want}
 use Rattle.tsb_step.specs.tsb_ring.declared.want.Want.TheVariants.{Go, Cross}
 use Rattle.tsb_step.specs.tsb_ring.Rings as rings
 use Rattle.tsb_step.specs.tsb_ring.Rings.{Ring, Ring1, Ring2, Given, in_ring, own_ring, serving}
-use Rattle.tsb_step.specs.tsb_ring.Wants.{is_on_side, is_candidate, is_called_elsewhere, want_found, is_idle_or_green, want, taken, picked_before, want_of, pick}
+use Rattle.tsb_step.specs.tsb_ring.Wants.{is_on_side, is_candidate, is_called_elsewhere, is_idle_or_green, picked_before, want_of, pick}
 use Rattle.tsb_step.specs.tsb_ring.Crossings.{wants_cross, ring_joins, begins, committed as committed_to}
 use Rattle.tsb_step.specs.tsb_ring.Next.{starting, leaves, ends, clears}
 use Rattle.tsb_step.specs.tsb_ring.Moves.{ring_moves, moves as moves_in, is_ended, is_cleared, is_started}
@@ -22,7 +22,7 @@ use Rattle.tsb_step.proofs.tsb_ring.ClaimLemmas.{ring_of_is}
 use Rattle.tsb_step.proofs.tsb_ring.MoveLemmas.{passed, clears_over}
 use Rattle.tsb_step.proofs.tsb_ring.StartLemmas.{is_cleared_in}
 use Rattle.tsb_step.proofs.tsb_ring.WaitLemmas.{first-passes}
-use Rattle.tsb_step.proofs.tsb_ring.WantLemmas.{first-among}
+use Rattle.tsb_step.proofs.tsb_ring.WantLemmas.{first-among, pick_free}
 use Rattle.tsb_step.specs.State.{State, interval}
 use Rattle.tsb_step.specs.tsb_phase.Ready.{yellow_is_done}
 use Rattle.tsb_step.specs.Tick.{callable, conflict, phase_read, over, reverted, ready, rings_given, moves, yellow_done, next}
@@ -96,12 +96,13 @@ cross_keeps plan s given r p own w none = rw (none, ring_of_is plan r p own, w) 
 -- a ring that clears wants nothing, and takes nothing
 picks_clearing : (plan : Plan) (s : rings.State) (given : Given) (r : Ring) (p : ℕ) → serving plan given r ≡ Some p → is_green (given.interval p) ≡ false →
     pick plan s given r ≡ None
-unfolding pick want_of want
-picks_clearing plan s given r p e dark = rw (e, dark) (go (is_none s.crossing && is_none (s.commitment r)))
+picks_clearing plan s given r p e dark = go (pick plan s given r) refl
   where
-    go : (b : Bool) → taken given (Some p) (if b && false then Some (want_found plan s given r (picked_before plan s given r) given.target) else None) ≡ None
-    go true = refl
-    go false = refl
+    go : (o : Option ℕ) → pick plan s given r ≡ o → pick plan s given r ≡ None
+    go None f = f
+    go (Some c) f =
+        (let idle : is_idle_or_green given (serving plan given r) ≡ true = (pick_free plan s given r c f).idle_or_green in
+        absurd (true≢false (sym (rw e at idle) ∙ dark)))
 
 -- what is over clears where its ring has no commitment
 clears_over_one : (plan : Plan) (s : rings.State) (given : Given) (r : Ring) (p : ℕ) → serving plan given r ≡ Some p → in_ring plan r p ≡ true →
@@ -194,16 +195,16 @@ module _ (s : State) (row : Row) (tick : IsFairTick s row) (away : is_called_els
 
   record Heads (c : ℕ) : Type 0 where
     ringed : in_ring s.plan r c ≡ true
-    on : is_enabled s.plan c ≡ true
-    called : (rings_given s row).callable c ≡ true
-    less : turn s.plan k c + turns s.plan k s.rings.side (later (Some c) (order s.plan r)) ≤ turns s.plan k s.rings.side (later (s.rings.last r) (order s.plan r))
+    enabled : is_enabled s.plan c ≡ true
+    calls : (rings_given s row).callable c ≡ true
+    fewer : turn s.plan k c + turns s.plan k s.rings.side (later (Some c) (order s.plan r)) ≤ turns s.plan k s.rings.side (later (s.rings.last r) (order s.plan r))
 
   heads_to : (it : Goes s.plan s.rings (rings_given s row) (fair s row tick) r) → Heads it.one
   heads_to it = record {
     ringed = chosen.ringed;
-    on = callable_on s row it.one chosen.called;
-    called = chosen.called;
-    less = turns_later s.plan k s.rings.side (s.rings.last r) it.one (order s.plan r) (some_phase s row tick it.one (callable_on s row it.one chosen.called))
+    enabled = callable_on s row it.one chosen.called;
+    calls = chosen.called;
+    fewer = turns_later s.plan k s.rings.side (s.rings.last r) it.one (order s.plan r) (some_phase s row tick it.one (callable_on s row it.one chosen.called))
         (once s row tick r) (eq-eqb (side_of s.plan it.one) s.rings.side chosen.here) (first-among test (later (s.rings.last r) (order s.plan r)) it.one found);
   }
     where
@@ -351,7 +352,7 @@ module _ (s : State) (row : Row) (tick : IsFairTick s row) (away : is_called_els
           to = heads_to it
 
           fewer : turn s.plan k it.one + turns s.plan k s.rings.side (later (Some it.one) (order s.plan r)) ≤ turns s.plan k s.rings.side (later (s.rings.last r) (order s.plan r))
-          fewer = to.less
+          fewer = to.fewer
 
           promise : (next s row).rings.commitment r ≡ Some it.one
           promise = promise_then ∙ picks_green s.plan s.rings (rings_given s row) (fair s row tick) r p it.one true at_it it.wanted (ready_is true f)
@@ -367,7 +368,7 @@ module _ (s : State) (row : Row) (tick : IsFairTick s row) (away : is_called_els
               elim (cases_Bool (in_service (interval s it.one))) [
                 | inr g ↦ g
                 | inl g ↦ (let one : it.one ≡ p = tick.good.rings.alone r it.one p to.ringed own g serves_p in
-                    absurd (true≢false (sym (ap is_green green) ∙ ap (λ (x : ℕ). is_green (interval s x)) (sym one) ∙ callable_no_green s row it.one to.called)))
+                    absurd (true≢false (sym (ap is_green green) ∙ ap (λ (x : ℕ). is_green (interval s x)) (sym one) ∙ callable_no_green s row it.one to.calls)))
               ]
 
           reverts : back_left s.plan it.one ((next s row).phases it.one) ≤ k
@@ -417,13 +418,13 @@ module _ (s : State) (row : Row) (tick : IsFairTick s row) (away : is_called_els
       to_one : (it : Goes s.plan s.rings (rings_given s row) (fair s row tick) r) → Heads it.one → (b : Bool) → reverted s it.one ≡ b → Nears k s row r n
       to_one it to true f =
           let start : starting s.plan s.rings (rings_given s row) r ≡ Some it.one =
-          start_is ∙ picks_idle s.plan s.rings (rings_given s row) (fair s row tick) r it.one true at_none it.wanted (told_reverted s row tick it.one (listed s row tick it.one to.on) ∙ f) in
-          let fewer = to.less in
+          start_is ∙ picks_idle s.plan s.rings (rings_given s row) (fair s row tick) r it.one true at_none it.wanted (told_reverted s row tick it.one (listed s row tick it.one to.enabled) ∙ f) in
+          let fewer = to.fewer in
           less (turns s.plan k s.rings.side (later (Some it.one) (order s.plan r)) + longest_green s.plan it.one) (omega (arith, all, fewer))
           (bound_for (starting_left it.one (turns s.plan k s.rings.side (later (Some it.one) (order s.plan r)) + longest_green s.plan it.one) start to.ringed (omega arith)))
       to_one it to false f =
           let start : starting s.plan s.rings (rings_given s row) r ≡ None =
-          start_is ∙ picks_idle s.plan s.rings (rings_given s row) (fair s row tick) r it.one false at_none it.wanted (told_reverted s row tick it.one (listed s row tick it.one to.on) ∙ f) in
+          start_is ∙ picks_idle s.plan s.rings (rings_given s row) (fair s row tick) r it.one false at_none it.wanted (told_reverted s row tick it.one (listed s row tick it.one to.enabled) ∙ f) in
           let left_c = not_yet_reverted s it.one (yellow_change s.plan it.one) (red_revert s.plan it.one) (omega arith) (red_is (interval s it.one) (dark it.one to.ringed)) f in
           let was = reverts it.one to.ringed in
           less (n - 1) (omega (arith, all, left_c, was)) (bound_for (on_then start (n - 1) (omega (arith, all, left_c, was))))

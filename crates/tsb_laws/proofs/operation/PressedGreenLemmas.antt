@@ -18,7 +18,7 @@ use Rattle.tsb_step.specs.tsb_phase.DynamicMaximum.{is_dynamic, highest_maximum,
 use Rattle.tsb_step.specs.tsb_phase.Phase.{Phase, Given, held_of}
 use Rattle.tsb_step.specs.tsb_phase.Green.{initial, conflict_timer, has_maxed_out, is_gapped, is_by_gap, forced_latch}
 use Rattle.tsb_step.specs.tsb_phase.Pedestrian.{ended_by, walk_time, clearance_time, is_resting_in_walk, walk_has_ended, clearance_has_ended, pedestrian_after, pedestrian_now, pedestrian_timer_in}
-use Rattle.tsb_step.specs.tsb_phase.Ready.{needs_forced, is_ready}
+use Rattle.tsb_step.specs.tsb_phase.Ready.{needs_forced, has_timed_out, is_ready}
 use Rattle.tsb_step.specs.tsb_ring.Moves.{is_ended, is_started}
 use Rattle.tsb_step.specs.State.{State, interval}
 use Rattle.tsb_step.specs.Tick.{service, runs, hold, conflict, phases_given, phase_read, moves, ready, next}
@@ -28,8 +28,13 @@ use Rattle.tsb_laws.proofs.operation.PhaseTimeLemmas.{left, walking_in, Runs, Is
 
 -- the ticks in which a green will not be ready: m and i are its longest maximum and initial, a and b its walk and its
 -- pedestrian clearance
-abbrev pub pressed_left : ℕ → ℕ → ℕ → ℕ → Phase → ℕ
+unfoldable pub pressed_left : ℕ → ℕ → ℕ → ℕ → Phase → ℕ
 pressed_left m i a b x = max (left m x.conflict) (max (left i x.timer) (walking_in a b x.pedestrian_timer x.pedestrian))
+
+-- it does not see the forced latch
+pub pressed_unforced : (m i a b : ℕ) (x : Phase) (f : Bool) → pressed_left m i a b (record x { forced = f }) ≡ pressed_left m i a b x
+unfolding pressed_left
+pressed_unforced m i a b x f = refl
 
 -- ## Times of a plan
 
@@ -150,9 +155,15 @@ module _ (plan : Plan) (given : Given) (p : ℕ) (w : Phase) (ends : ended_by gi
       reached_all (maximum_in_use plan p w.running_maximum) m t limit none in
       rw (free, busy, read, reached) refl
 
-  or_middle : (a b : Bool) → (a || (true || b)) ≡ true
-  or_middle true b = refl
-  or_middle false b = refl
+  or_middle : (a m f : Bool) → m ≡ true → (a || (m || f)) ≡ true
+  or_middle true m f h = refl
+  or_middle false true f h = refl
+  or_middle false false f h = absurd (false≢true h)
+
+  times_out : has_maxed_out plan given p (held_of w) w.running_maximum ≡ true → has_timed_out plan given p w ≡ true
+  times_out h =
+      or_middle (is_by_gap plan given p (is_gapped plan given p (held_of w))) (has_maxed_out plan given p (held_of w) w.running_maximum)
+      (forced_latch given p (held_of w)) h
 
   pub is_ready_then : (m i a b : ℕ) → longest_maximum plan p ≤ m → longest_initial plan p ≤ i → walk plan p ≤ a → pedestrian_clear plan p ≤ b →
       given.runs ≡ None → given.hold p ≡ false → (s t u : Timer) → w.conflict ≡ advanced s → w.timer ≡ advanced t → w.pedestrian_timer ≡ advanced u →
@@ -168,9 +179,9 @@ module _ (plan : Plan) (given : Given) (p : ℕ) (w : Phase) (ends : ended_by gi
       let now : w.timer ≡ On (run.count + 1) = read_t ∙ ap advanced run.is in
       let zero : left i (On run.count) ≡ 0 = sym (ap (λ (x : Timer). left i x) run.is) ∙ second in
       let most : initial plan p (given.count p) ≤ longest_initial plan p = initial_most plan p (given.count p) in
-      let long : nat_le (initial plan p (given.count p)) (run.count + 1) ≡ true = grind (arith, nat_tests, zero, most, most_i) in
-      rw (green, still, ends, now, long, held, out)
-      (or_middle (is_by_gap plan given p (is_gapped plan given p (held_of w))) (forced_latch given p (held_of w)))
+      let passed : nat_le (initial plan p (given.count p)) (run.count + 1) ≡ true = grind (arith, nat_tests, zero, most, most_i) in
+      let long : has_reached w.timer (initial plan p (given.count p)) ≡ true = rw now passed in
+      rw (green, still, ends, held, times_out out, long) refl
 
 -- ## As the controller has it
 
@@ -207,6 +218,7 @@ module _ (s : State) (row : Row) (p : ℕ) (on : is_phase p ≡ true) (pressed :
   pub presses_down : (m i a b : ℕ) → walk s.plan p ≤ a → pedestrian_clear s.plan p ≤ b → IsTimed (s.phases p) → interval s p ≡ Green →
       is_ended (moves s row) p ≡ false → is_started (moves s row) p ≡ false →
       pressed_left m i a b ((next s row).phases p) ≤ pressed_left m i a b (s.phases p) - 1
+  unfolding pressed_left
   presses_down m i a b most_a most_b timed e no_end no_start =
       let run : Runs (s.phases p).timer = timed.green e in
       let counts : ((next s row).phases p).conflict ≡ started (advanced (s.phases p).conflict) = rw (no_start, e, no_end, told_conflict) refl in
@@ -242,6 +254,7 @@ module _ (s : State) (row : Row) (p : ℕ) (on : is_phase p ≡ true) (pressed :
   -- one that is not ready has a tick left
   pub not_ready_yet : (m i a b : ℕ) → longest_maximum s.plan p ≤ m → longest_initial s.plan p ≤ i → walk s.plan p ≤ a → pedestrian_clear s.plan p ≤ b →
       IsTimed (s.phases p) → interval s p ≡ Green → ready s row p ≡ false → 1 ≤ pressed_left m i a b (s.phases p)
+  unfolding pressed_left
   not_ready_yet m i a b most_m most_i most_a most_b timed e h = go (pressed_left m i a b (s.phases p) == 0) refl
     where
       go : (z : Bool) → (pressed_left m i a b (s.phases p) == 0) ≡ z → 1 ≤ pressed_left m i a b (s.phases p)

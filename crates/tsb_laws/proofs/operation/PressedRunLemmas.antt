@@ -36,7 +36,7 @@ use Rattle.tsb_laws.specs.ServedCalls.{is_free, is_pressed, HasBeenPressed, long
 use Rattle.tsb_laws.proofs.safety.StretchLemmas.{dark_now, Goes, ticks, stays, goes, at_next}
 use Rattle.tsb_laws.proofs.safety.DueLemmas.{largest_now, largest_more, count_run}
 use Rattle.tsb_laws.proofs.operation.PhaseTimeLemmas.{left, walking_in, Runs, IsTimed}
-use Rattle.tsb_laws.proofs.operation.PressedGreenLemmas.{pressed_left, presses_down, not_ready_yet}
+use Rattle.tsb_laws.proofs.operation.PressedGreenLemmas.{pressed_left, pressed_unforced, presses_down, not_ready_yet}
 
 -- ## Timers that run
 
@@ -91,6 +91,7 @@ walking_most a b t Walk = let most = left_most a t in omega (arith, most)
 walking_most a b t PedestrianClear = let most = left_most b t in omega (arith, most)
 
 pub pressed_most : (m i a b n : ℕ) (x : Phase) → m ≤ n → i ≤ n → a + b ≤ n → pressed_left m i a b x ≤ n
+unfolding pressed_left
 pressed_most m i a b n x most_m most_i most_w =
     let first : left m x.conflict ≤ m = left_most m x.conflict in
     let second : left i x.timer ≤ i = left_most i x.timer in
@@ -123,14 +124,14 @@ green_is RedClear h = absurd (false≢true h)
 
 record Pressed (s : State) (row : Row) (p : ℕ) : Type 0 where
   green : interval s p ≡ Green
-  conflict : conflict s row p ≡ true
+  busy : conflict s row p ≡ true
   free : is_free s row ≡ true
 
 pressed_parts : (s : State) (row : Row) (p : ℕ) → is_pressed p s (Tick row) ≡ true → Pressed s row p
 pressed_parts s row p h =
     let outer = and_parts (is_green (interval s p) && conflict s row p) (is_free s row) h in
     let inner = and_parts (is_green (interval s p)) (conflict s row p) outer.0 in
-    record { green = green_is (interval s p) inner.0; conflict = inner.1; free = outer.1 }
+    record { green = green_is (interval s p) inner.0; busy = inner.1; free = outer.1 }
 
 module _ (plan : Plan) (base : List Input) (p n a b : ℕ) (ok : IsConsistent plan) (few : plan.phase_count ≤ 16) (both : a + b ≤ n) where
   few_now : (is : List Input) → (replay plan is).plan.phase_count ≤ 16
@@ -143,13 +144,13 @@ module _ (plan : Plan) (base : List Input) (p n a b : ℕ) (ok : IsConsistent pl
   left_after is = pressed_left n n a b ((replay plan is).phases p)
 
   record Walks (later : List Input) : Type 0 where
-    walk : largest (λ x. walk x p) plan base later ≤ a
-    clearance : largest (λ x. pedestrian_clear x p) plan base later ≤ b
+    walks : largest (λ x. walk x p) plan base later ≤ a
+    clears : largest (λ x. pedestrian_clear x p) plan base later ≤ b
 
   walks_before : (i : Input) (later : List Input) → Walks (i ∷ later) → Walks later
   walks_before i later most = record {
-    walk = (let more = largest_more (λ x. walk x p) plan base later i in let now = most.walk in omega (arith, more, now));
-    clearance = (let more = largest_more (λ x. pedestrian_clear x p) plan base later i in let now = most.clearance in omega (arith, more, now));
+    walks = (let more = largest_more (λ x. walk x p) plan base later i in let now = most.walks in omega (arith, more, now));
+    clears = (let more = largest_more (λ x. pedestrian_clear x p) plan base later i in let now = most.clears in omega (arith, more, now));
   }
 
   -- a tick of the stretch
@@ -177,14 +178,14 @@ module _ (plan : Plan) (base : List Input) (p n a b : ℕ) (ok : IsConsistent pl
           ]
 
       walk_now : walk (replay plan (later ++ base)).plan p ≤ a
-      walk_now = let more = largest_now (λ x. walk x p) plan base later in let limit = most.walk in omega (arith, more, limit)
+      walk_now = let more = largest_now (λ x. walk x p) plan base later in let limit = most.walks in omega (arith, more, limit)
 
       clear_now : pedestrian_clear (replay plan (later ++ base)).plan p ≤ b
-      clear_now = let more = largest_now (λ x. pedestrian_clear x p) plan base later in let limit = most.clearance in omega (arith, more, limit)
+      clear_now = let more = largest_now (λ x. pedestrian_clear x p) plan base later in let limit = most.clears in omega (arith, more, limit)
 
       down : pressed_left n n a b ((next (replay plan (later ++ base)) row).phases p) ≤ left_after (later ++ base) - 1
       down =
-          presses_down (replay plan (later ++ base)) row p (one_now (later ++ base) taken it.green) it.conflict it.free n n a b walk_now clear_now
+          presses_down (replay plan (later ++ base)) row p (one_now (later ++ base) taken it.green) it.busy it.free n n a b walk_now clear_now
           (timed_run plan (later ++ base) ok taken dark p) it.green
           (not_ended (replay plan (later ++ base)) row p it.green no_start still_green) no_start
 
@@ -195,7 +196,7 @@ module _ (plan : Plan) (base : List Input) (p n a b : ℕ) (ok : IsConsistent pl
   none_less i later t dark before =
       let now : (replay plan (i ∷ (later ++ base))).now ≡ (replay plan (later ++ base)).now = clock_stays (replay plan (later ++ base)) i t dark in
       let same : left_after (i ∷ (later ++ base)) ≡ left_after (later ++ base) =
-      phase_stays (pressed_left n n a b) (λ x f. refl) (replay plan (later ++ base)) i p t dark in
+      phase_stays (pressed_left n n a b) (pressed_unforced n n a b) (replay plan (later ++ base)) i p t dark in
       omega (arith, now, same, before)
 
   green_before : (i : Input) (later : List Input) → is_tick i ≡ false → (replay plan (later ++ base)).trip ≡ None →
@@ -237,12 +238,12 @@ pressed_may_end plan base later row p n ok few taken dark pressed done long =
     too_long h =
         let most : pressed_left n n (largest (λ x. walk x p) plan base later) (largest (λ x. pedestrian_clear x p) plan base later) ((replay plan (later ++ base)).phases p)
         ≤ (replay plan base).now + n - (replay plan (later ++ base)).now =
-        lasts plan base p n (largest (λ x. walk x p) plan base later) (largest (λ x. pedestrian_clear x p) plan base later) ok few done.walk later taken dark pressed.0
-        (record { walk = omega arith; clearance = omega arith }) it.green in
+        lasts plan base p n (largest (λ x. walk x p) plan base later) (largest (λ x. pedestrian_clear x p) plan base later) ok few done.pedestrians later taken dark pressed.0
+        (record { walks = omega arith; clears = omega arith }) it.green in
         let some : 1 ≤ pressed_left n n (largest (λ x. walk x p) plan base later) (largest (λ x. pedestrian_clear x p) plan base later) ((replay plan (later ++ base)).phases p) =
         not_ready_yet (replay plan (later ++ base)) row p
-        (one_now plan base p n (largest (λ x. walk x p) plan base later) (largest (λ x. pedestrian_clear x p) plan base later) ok few done.walk (later ++ base) taken it.green)
-        it.conflict it.free n n (largest (λ x. walk x p) plan base later) (largest (λ x. pedestrian_clear x p) plan base later) maximum_now initial_now
+        (one_now plan base p n (largest (λ x. walk x p) plan base later) (largest (λ x. pedestrian_clear x p) plan base later) ok few done.pedestrians (later ++ base) taken it.green)
+        it.busy it.free n n (largest (λ x. walk x p) plan base later) (largest (λ x. pedestrian_clear x p) plan base later) maximum_now initial_now
         (largest_now (λ x. walk x p) plan base later) (largest_now (λ x. pedestrian_clear x p) plan base later)
         (timed_run plan (later ++ base) ok taken dark_here p) it.green h in
         omega (arith, most, some, long)

@@ -42,7 +42,7 @@ use Rattle.tsb_laws.proofs.safety.EnabledLemmas.{callable_no_green, enabled_run}
 use Rattle.tsb_laws.proofs.safety.SideSoughtLemmas.{none_first}
 use Rattle.tsb_laws.proofs.operation.CalmLemmas.{calm_run}
 use Rattle.tsb_laws.proofs.operation.PressedRunLemmas.{timed_run, reset_none, clock_stays, green_is}
-use Rattle.tsb_laws.proofs.operation.TurnStepLemmas.{red_is, clear_left, back_left, green_left, clear_most, back_most, green_most, IsLeft, committed, serving_green, idle, IsComing, Comes, served, comes, IsFairTick, one_tick}
+use Rattle.tsb_laws.proofs.operation.TurnStepLemmas.{red_is, green_unforced, clear_left, back_left, green_left, clear_most, back_most, green_most, IsLeft, committed, serving_green, idle, IsComing, Comes, served, comes, IsFairTick, one_tick}
 
 -- ## What is callable is enabled
 
@@ -140,6 +140,7 @@ module _ (k : ℕ) (s after : State) (r : Ring) (same : IsKeptBy s after) where
 
   green_same : (p : ℕ) → green_left after.plan p (after.phases p) ≡ green_left s.plan p (s.phases p)
   green_same p = ap (λ (x : Plan). green_left x p (after.phases p)) same.plan ∙ ap (λ (x : Phase). green_left s.plan p x) (same.phase p)
+      ∙ green_unforced s.plan p (s.phases p) (after.phases p).forced
 
   longest_same : (p : ℕ) → longest_green after.plan p ≡ longest_green s.plan p
   longest_same p = ap (λ (x : Plan). longest_green x p) same.plan
@@ -182,7 +183,7 @@ module _ (k : ℕ) (s after : State) (r : Ring) (same : IsKeptBy s after) where
     ringed = own_after q it.ringed;
     beside = ap (λ (x : Plan). side_of x q) same.plan ∙ it.beside ∙ sym (ap (λ (x : rings.State). x.side) same.rings);
     outside = ap (λ (x : rings.State). x.crossing) same.rings ∙ it.outside;
-    next = go it.next;
+    ahead = go it.ahead;
   }
     where
       list_same : still_to_come after r ≡ still_to_come s r
@@ -255,7 +256,7 @@ module _ (s : State) (r : Ring) (q k h : ℕ) (good : IsGood s) (calm : IsCalm s
       go (Some c) e = promised_now c e
 
   pub coming_now : IsComing s r q
-  coming_now = record { ringed = due.ringed; beside = due.beside; outside = due.outside; next = due.next }
+  coming_now = record { ringed = due.ringed; beside = due.beside; outside = due.outside; ahead = due.ahead }
 
 -- ## Along the run
 
@@ -315,10 +316,10 @@ module _ (plan : Plan) (base : List Input) (r : Ring) (q k h : ℕ) (ok : IsCons
         outside = outside;
       }
 
-      then : (n : ℕ) → (replay plan (later ++ base)).now + n ≤ (replay plan base).now + limit → Comes k (next (replay plan (later ++ base)) row) r q n → Stage limit (Tick row ∷ later)
-      then n in_time (served green some) =
+      further : (n : ℕ) → (replay plan (later ++ base)).now + n ≤ (replay plan base).now + limit → Comes k (next (replay plan (later ++ base)) row) r q n → Stage limit (Tick row ∷ later)
+      further n in_time (served green some) =
           arrived (at_next (replay plan (later ++ base)) row q dark ∙ green) (omega (arith, clock, in_time, some))
-      then n in_time (comes m less left coming) =
+      further n in_time (comes m less left coming) =
           under_way m
           (left_stays k (next (replay plan (later ++ base)) row) (step (replay plan (later ++ base)) (Tick row)) r kept m left)
           (coming_stays k (next (replay plan (later ++ base)) row) (step (replay plan (later ++ base)) (Tick row)) r kept q coming)
@@ -327,7 +328,7 @@ module _ (plan : Plan) (base : List Input) (r : Ring) (q k h : ℕ) (ok : IsCons
       go : Stage limit later → Stage limit (Tick row ∷ later)
       go (arrived green in_time) = absurd (true≢false (sym (ap is_green green) ∙ callable_no_green (replay plan (later ++ base)) row q told))
       go (under_way n left coming in_time) =
-          then n in_time
+          further n in_time
           (one_tick (replay plan (later ++ base)) row (fair coming.outside)
           k r q coming.ringed coming.beside both.0 enabled n h takes left coming)
 

@@ -43,75 +43,71 @@ among_tail y x xs h = go (y == x)
 
 after_among : (l x : ℕ) (xs : List ℕ) → among x (after l xs) ≡ true → among x xs ≡ true
 after_among l x [] h = h
-after_among l x (y ∷ ys) h = go (y == l) h
-  where
-    go : (b : Bool) → among x (if b then ys else after l ys) ≡ true → among x (y ∷ ys) ≡ true
-    go true k = among_tail y x ys k
-    go false k = among_tail y x ys (after_among l x ys k)
+after_among l x (y ∷ ys) h =
+    elim (cases_Bool (y == l)) [
+      | inl e ↦ among_tail y x ys (rw e at h)
+      | inr e ↦ among_tail y x ys (after_among l x ys (rw e at h))
+    ]
 
 -- ## What is still to come once a phase has its turn
+
+after_within : (l x : ℕ) (xs : List ℕ) → x ≢ 0 → lists_once xs ≡ true → among x (after l xs) ≡ true → after x xs ≡ after x (after l xs)
+after_within l x [] some o k = refl
+after_within l x (y ∷ ys) some o k =
+    elim (cases_Bool (y == l)) [
+      | inl e ↦ rw e (after_tail y x ys (not_head y x ys some o (rw e at k)))
+      | inr e ↦ rw e (after_tail y x ys (not_head y x ys some o (after_among l x ys (rw e at k)))
+          ∙ after_within l x ys some (tail_once y ys o) (rw e at k))
+    ]
 
 -- a phase that comes later than `last`: what comes after it comes after it in the whole order too
 after_later : (last : Option ℕ) (x : ℕ) (ps : List ℕ) → x ≢ 0 → lists_once ps ≡ true → among x (later last ps) ≡ true →
     after x ps ≡ after x (later last ps)
 after_later None x ps some once h = refl
-after_later (Some l) x ps some once h = go ps once h
-  where
-    go : (xs : List ℕ) → lists_once xs ≡ true → among x (after l xs) ≡ true → after x xs ≡ after x (after l xs)
-    go [] o k = refl
-    go (y ∷ ys) o k = by (y == l) refl k
-      where
-        by : (b : Bool) → (y == l) ≡ b → among x (if b then ys else after l ys) ≡ true → after x (y ∷ ys) ≡ after x (if b then ys else after l ys)
-        by true e m = after_tail y x ys (not_head y x ys some o m)
-        by false e m =
-            after_tail y x ys (not_head y x ys some o (after_among l x ys m)) ∙ go ys (tail_once y ys o) m
+after_later (Some l) x ps some once h = after_within l x ps some once h
+
+before_head : (c q y : ℕ) (ys : List ℕ) → y ≡ c → among q (y ∷ ys) ≡ true → (c ≡ q) ⊎ (among q (after c (y ∷ ys)) ≡ true)
+before_head c q y ys same there =
+    elim (or_cases (y == q) (among q ys) there) [
+      | inl k ↦ inl (sym same ∙ eqb-true y q k)
+      | inr k ↦ inr (rw (eq-eqb y c same) k)
+    ]
+
+before_tail : (c q y : ℕ) (ys : List ℕ) → (c ≡ q) ⊎ (among q (after c ys) ≡ true) → (c ≡ q) ⊎ (among q (after c (y ∷ ys)) ≡ true)
+before_tail c q y ys (inl k) = inl k
+before_tail c q y ys (inr k) =
+    elim (cases_Bool (y == c)) [ inl e ↦ inr (rw e (after_among c q ys k)) | inr e ↦ inr (rw e k) ]
 
 -- the first that passes a test comes no later than any that does
 first_before : (test : ℕ → Bool) (c q : ℕ) (ps : List ℕ) → first test ps ≡ Some c → among q ps ≡ true → test q ≡ true →
     (c ≡ q) ⊎ (among q (after c ps) ≡ true)
 first_before test c q [] h there passes = absurd (false≢true there)
-first_before test c q (y ∷ ys) h there passes = go (test y) refl h
-  where
-    here : y ≡ c → (y ≡ q) ⊎ (among q ys ≡ true) → (c ≡ q) ⊎ (among q (after c (y ∷ ys)) ≡ true)
-    here same (inl k) = inl (sym same ∙ k)
-    here same (inr k) = inr (rw (eq-eqb y c same) k)
-
-    split : (y ≡ q) ⊎ (among q ys ≡ true)
-    split = elim (or_cases (y == q) (among q ys) there) [ inl k ↦ inl (eqb-true y q k) | inr k ↦ inr k ]
-
-    further : test y ≡ false → (c ≡ q) ⊎ (among q (after c ys) ≡ true) → (c ≡ q) ⊎ (among q (after c (y ∷ ys)) ≡ true)
-    further e (inl k) = inl k
-    further e (inr k) = by (y == c) refl
-      where
-        by : (b : Bool) → (y == c) ≡ b → (c ≡ q) ⊎ (among q (after c (y ∷ ys)) ≡ true)
-        by true x = inr (rw x (after_among c q ys k))
-        by false x = inr (rw x k)
-
-    go : (b : Bool) → test y ≡ b → (if b then Some y else first test ys) ≡ Some c → (c ≡ q) ⊎ (among q (after c (y ∷ ys)) ≡ true)
-    go true e k = let same : y ≡ c = cc in here same split
-    go false e k =
-        elim split [
-          | inl same ↦ absurd (true≢false (sym passes ∙ ap test (sym same) ∙ e))
-          | inr l ↦ further e (first_before test c q ys k l passes)
-        ]
+first_before test c q (y ∷ ys) h there passes =
+    elim (cases_Bool (test y)) [
+      | inl e ↦ (let some : Some y ≡ Some c = rw e at h in let same : y ≡ c = cc in before_head c q y ys same there)
+      | inr e ↦ elim (or_cases (y == q) (among q ys) there) [
+        | inl k ↦ absurd (true≢false (sym passes ∙ ap test (sym (eqb-true y q k)) ∙ e))
+        | inr k ↦ before_tail c q y ys (first_before test c q ys (rw e at h) k passes)
+      ]
+    ]
 
 -- ## Turns
 
 module _ (plan : Plan) (k d : ℕ) where
+  head_counts : (x y : ℕ) (ys : List ℕ) → is_on_side plan d x ≡ true → y ≡ x →
+      turn plan k x + turns plan k d ys ≤ (if is_on_side plan d y then turn plan k y else 0) + turns plan k d ys
+  head_counts x y ys on same =
+      let mine : (if is_on_side plan d y then turn plan k y else 0) ≡ turn plan k x = rw same (rw on refl) in omega (arith, mine)
+
   -- the turn of a phase of a list, and those that come after it there, are among its turns
   turns_after : (x : ℕ) (ps : List ℕ) → is_on_side plan d x ≡ true → among x ps ≡ true →
       turn plan k x + turns plan k d (after x ps) ≤ turns plan k d ps
   turns_after x [] on h = absurd (false≢true h)
-  turns_after x (y ∷ ys) on h = go (y == x) refl h
-    where
-      go : (b : Bool) → (y == x) ≡ b → (b || among x ys) ≡ true → turn plan k x + turns plan k d (after x (y ∷ ys)) ≤ turns plan k d (y ∷ ys)
-      go true e m =
-          let same : y ≡ x = eqb-true y x e in
-          let mine : (if is_on_side plan d y then turn plan k y else 0) ≡ turn plan k x = rw same (rw on refl) in
-          rw e (omega (arith, mine))
-      go false e m =
-          let rest = turns_after x ys on m in
-          rw e (omega (arith, rest))
+  turns_after x (y ∷ ys) on h =
+      elim (cases_Bool (y == x)) [
+        | inl e ↦ rw e (head_counts x y ys on (eqb-true y x e))
+        | inr e ↦ rw e (let rest = turns_after x ys on (rw e at h) in omega (arith, rest))
+      ]
 
   -- so those that come later than a phase that has its turn
   pub turns_later : (last : Option ℕ) (x : ℕ) (ps : List ℕ) → x ≢ 0 → lists_once ps ≡ true → is_on_side plan d x ≡ true →

@@ -96,7 +96,7 @@ module _ (plan : Plan) (s : State) (given : Given) (fair : IsFair plan s given) 
       free_now : (is_none s.crossing && is_none (s.commitment r) && is_idle_or_green given (serving plan given r)) ≡ true
       free_now = rw (fair.outside, none, idle) refl
 
-  record Candidate (r : Ring) (p : ℕ) : Type 0 where
+  pub record Candidate (r : Ring) (p : ℕ) : Type 0 where
     pub ringed : in_ring plan r p ≡ true
     pub here : side_of plan p ≡ s.side
     pub called : given.callable p ≡ true

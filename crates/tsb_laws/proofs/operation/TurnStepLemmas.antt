@@ -44,7 +44,7 @@ use Rattle.tsb_laws.proofs.safety.EnabledLemmas.{AreEnabled, callable_on, callab
 use Rattle.tsb_laws.proofs.safety.SideSoughtLemmas.{found_some}
 use Rattle.tsb_laws.proofs.operation.CalmLemmas.{not_started}
 use Rattle.tsb_laws.proofs.operation.PhaseTimeLemmas.{left, past, clearing_in, clearing_left, revert_in, revert_left, IsTimed, clears_down, not_yet_over, reverts_down, not_yet_reverted}
-use Rattle.tsb_laws.proofs.operation.PressedGreenLemmas.{pressed_left, free_parts, presses_down, not_ready_yet}
+use Rattle.tsb_laws.proofs.operation.PressedGreenLemmas.{pressed_left, pressed_unforced, free_parts, presses_down, not_ready_yet}
 use Rattle.tsb_laws.proofs.operation.PressedRunLemmas.{pressed_most, is_one}
 use Rattle.tsb_laws.proofs.operation.PressLemmas.{serving_is}
 use Rattle.tsb_laws.proofs.operation.TurnListLemmas.{turns_later, still_later}
@@ -62,7 +62,11 @@ back_left plan p x = revert_left (yellow_change plan p) (red_revert plan p) x
 abbrev pub green_left : Plan → ℕ → Phase → ℕ
 green_left plan p x = pressed_left (longest_maximum plan p) (longest_initial plan p) (walk plan p) (pedestrian_clear plan p) x
 
+pub green_unforced : (plan : Plan) (p : ℕ) (x : Phase) (f : Bool) → green_left plan p (record x { forced = f }) ≡ green_left plan p x
+green_unforced plan p x f = pressed_unforced (longest_maximum plan p) (longest_initial plan p) (walk plan p) (pedestrian_clear plan p) x f
+
 pub green_most : (plan : Plan) (p : ℕ) (x : Phase) → green_left plan p x ≤ longest_green plan p
+unfolding longest_green
 green_most plan p x =
     pressed_most (longest_maximum plan p) (longest_initial plan p) (walk plan p) (pedestrian_clear plan p) (longest_green plan p) x
     (omega arith) (omega arith) (omega arith)
@@ -118,7 +122,7 @@ pub record IsComing (s : State) (r : Ring) (q : ℕ) : Type 0 where
   pub ringed : in_ring s.plan r q ≡ true
   pub beside : side_of s.plan q ≡ s.rings.side
   pub outside : s.rings.crossing ≡ None
-  pub next : (s.rings.commitment r ≡ Some q) ⊎ (among q (still_to_come s r) ≡ true)
+  pub ahead : (s.rings.commitment r ≡ Some q) ⊎ (among q (still_to_come s r) ≡ true)
 
 coming_later : (s : State) (r : Ring) (q : ℕ) → s.rings.commitment r ≡ None → (s.rings.commitment r ≡ Some q) ⊎ (among q (still_to_come s r) ≡ true) →
     among q (later (s.rings.last r) (order s.plan r)) ≡ true
@@ -227,7 +231,7 @@ module _ (s : State) (row : Row) (tick : IsFairTick s row) where
       (rings_given s row).callable q ≡ true → conflict s row p ≡ true
   unfolding has_conflict
   conflicts p q green called there h told =
-      found_some _ (phases s.plan) q there (rw (called, other, h) refl)
+      found_some (λ x. callable s row x && (not (x == p) && not (is_concurrent s.plan p x))) (phases s.plan) q there (rw (called, other, h) refl)
     where
       other : (q == p) ≡ false
       other = false_from_ne_true _ (λ e. true≢false (sym (ap is_green green) ∙ ap (λ (x : ℕ). is_green (interval s x)) (sym (eqb-true q p e)) ∙ callable_no_green s row q told))
@@ -293,8 +297,8 @@ module _ (s : State) (row : Row) (tick : IsFairTick s row) where
     record Turns (c : ℕ) : Type 0 where
       ringed : in_ring s.plan r c ≡ true
       beside : side_of s.plan c ≡ s.rings.side
-      on : is_enabled s.plan c ≡ true
-      called : (rings_given s row).callable c ≡ true
+      enabled_too : is_enabled s.plan c ≡ true
+      called_too : (rings_given s row).callable c ≡ true
       less : turn s.plan k c + turns s.plan k s.rings.side (later (Some c) (order s.plan r)) ≤ turns s.plan k s.rings.side (later (s.rings.last r) (order s.plan r))
       coming : (c ≡ q) ⊎ (among q (later (Some c) (order s.plan r)) ≡ true)
 
@@ -304,8 +308,8 @@ module _ (s : State) (row : Row) (tick : IsFairTick s row) where
         record {
           ringed = chosen.ringed;
           beside = chosen.here;
-          on = callable_on s row it.one chosen.called;
-          called = chosen.called;
+          enabled_too = callable_on s row it.one chosen.called;
+          called_too = chosen.called;
           less = turns_later s.plan k s.rings.side (s.rings.last r) it.one (order s.plan r) (some_phase it.one (callable_on s row it.one chosen.called)) (once r)
               (eq-eqb (side_of s.plan it.one) s.rings.side chosen.here) is_later;
           coming = still_later test (s.rings.last r) it.one q (order s.plan r) (some_phase it.one (callable_on s row it.one chosen.called)) (once r)
@@ -358,7 +362,7 @@ module _ (s : State) (row : Row) (tick : IsFairTick s row) where
 
         starts : starting s.plan s.rings (rings_given s row) r ≡ Some c → Comes k (next s row) r q n
         starts start =
-            elim coming.next [
+            elim coming.ahead [
               | inl mine ↦ (let same : c ≡ q = cc in served (ap (λ (x : ℕ). interval (next s row) x) (sym same) ∙ green) (omega (arith, all)))
               | inr there ↦ comes (turns s.plan k s.rings.side (later (Some c) (order s.plan r)) + longest_green s.plan c) (omega (arith, all))
                   (serving_green c promise own_c green (omega (arith, same_sums, most)))
@@ -366,7 +370,7 @@ module _ (s : State) (row : Row) (tick : IsFairTick s row) where
                     ringed = own;
                     beside = beside_then;
                     outside = stays_outside s.plan s.rings (rings_given s row) fair none;
-                    next = inr (rw (promise, last) (rw e at there));
+                    ahead = inr (rw (promise, last) (rw e at there));
                   })
             ]
           where
@@ -393,7 +397,7 @@ module _ (s : State) (row : Row) (tick : IsFairTick s row) where
               ringed = own;
               beside = beside_then;
               outside = stays_outside s.plan s.rings (rings_given s row) fair none;
-              next = still coming.next;
+              ahead = still coming.ahead;
             })
           where
             promise : (next s row).rings.commitment r ≡ Some c
@@ -457,7 +461,7 @@ module _ (s : State) (row : Row) (tick : IsFairTick s row) where
         idle_or_green = rw at_it (given_green p green)
 
         there : among q (later (s.rings.last r) (order s.plan r)) ≡ true
-        there = coming_later s r q e coming.next
+        there = coming_later s r q e coming.ahead
 
         it : Goes s.plan s.rings (rings_given s row) fair r
         it = goes_on s.plan s.rings (rings_given s row) fair r q own here told (rw sequence_is there) e idle_or_green
@@ -494,7 +498,7 @@ module _ (s : State) (row : Row) (tick : IsFairTick s row) where
         ends h =
             comes (turns s.plan k s.rings.side (later (Some it.one) (order s.plan r)) + longest_green s.plan it.one + k + 1) (omega (arith, all, less))
             (committed it.one k promise clears reverts (omega (arith, same_sums)))
-            (record { ringed = own; beside = beside_then; outside = outside_then; next = next_is turns_of_it.coming })
+            (record { ringed = own; beside = beside_then; outside = outside_then; ahead = next_is turns_of_it.coming })
           where
             less : turn s.plan k it.one + turns s.plan k s.rings.side (later (Some it.one) (order s.plan r)) ≤ turns s.plan k s.rings.side (later (s.rings.last r) (order s.plan r))
             less = turns_of_it.less
@@ -516,7 +520,7 @@ module _ (s : State) (row : Row) (tick : IsFairTick s row) where
                 go false f = f
                 go true f =
                     let same : it.one ≡ p = good.rings.alone r it.one p turns_of_it.ringed own_p f serves_p in
-                    absurd (true≢false (sym (ap is_green green) ∙ ap (λ (x : ℕ). is_green (interval s x)) (sym same) ∙ callable_no_green s row it.one turns_of_it.called))
+                    absurd (true≢false (sym (ap is_green green) ∙ ap (λ (x : ℕ). is_green (interval s x)) (sym same) ∙ callable_no_green s row it.one turns_of_it.called_too))
 
             red_then : interval (next s row) it.one ≡ Red
             red_then =
@@ -537,7 +541,7 @@ module _ (s : State) (row : Row) (tick : IsFairTick s row) where
         stays h =
             comes (n - 1) (omega (arith, all, some))
             (serving_green p promise own_p green_then (omega (arith, all, some, down, same_sums)))
-            (record { ringed = own; beside = beside_then; outside = outside_then; next = inr (rw (promise, last_then) there) })
+            (record { ringed = own; beside = beside_then; outside = outside_then; ahead = inr (rw (promise, last_then) there) })
           where
             promise : (next s row).rings.commitment r ≡ None
             promise = promise_then ∙ picks_green s.plan s.rings (rings_given s row) fair r p it.one false at_it it.wanted (ready_is false h)
@@ -590,7 +594,7 @@ module _ (s : State) (row : Row) (tick : IsFairTick s row) where
         idle_or_green = rw at_none refl
 
         there : among q (later (s.rings.last r) (order s.plan r)) ≡ true
-        there = coming_later s r q e coming.next
+        there = coming_later s r q e coming.ahead
 
         it : Goes s.plan s.rings (rings_given s row) fair r
         it = goes_on s.plan s.rings (rings_given s row) fair r q own here told (rw sequence_is there) e idle_or_green
@@ -617,7 +621,7 @@ module _ (s : State) (row : Row) (tick : IsFairTick s row) where
         start_is = starts_picked s.plan s.rings (rings_given s row) fair r e at_none
 
         listed_c : IsListed s.plan it.one
-        listed_c = listed it.one turns_of_it.on
+        listed_c = listed it.one turns_of_it.enabled_too
 
         reverted_is : (b : Bool) → reverted s it.one ≡ b → (rings_given s row).reverted it.one ≡ b
         reverted_is b h = told_reverted it.one listed_c ∙ h
@@ -629,7 +633,7 @@ module _ (s : State) (row : Row) (tick : IsFairTick s row) where
               | inl same ↦ served (ap (λ (x : ℕ). interval (next s row) x) (sym same) ∙ green) (omega (arith, all, less))
               | inr rest ↦ comes (turns s.plan k s.rings.side (later (Some it.one) (order s.plan r)) + longest_green s.plan it.one) (omega (arith, all, less))
                   (serving_green it.one promise turns_of_it.ringed green (omega (arith, same_sums, most)))
-                  (record { ringed = own; beside = beside_then; outside = outside_then; next = inr (rw (promise, last) rest) })
+                  (record { ringed = own; beside = beside_then; outside = outside_then; ahead = inr (rw (promise, last) rest) })
             ]
           where
             start : starting s.plan s.rings (rings_given s row) r ≡ Some it.one
@@ -657,7 +661,7 @@ module _ (s : State) (row : Row) (tick : IsFairTick s row) where
         waits h =
             comes (n - 1) (omega (arith, all, some))
             (idle (m - 1) promise dark_then less_back (omega (arith, all, some, same_sums)))
-            (record { ringed = own; beside = beside_then; outside = outside_then; next = inr (rw (promise, last_then) there) })
+            (record { ringed = own; beside = beside_then; outside = outside_then; ahead = inr (rw (promise, last_then) there) })
           where
             start : starting s.plan s.rings (rings_given s row) r ≡ None
             start = start_is ∙ picks_idle s.plan s.rings (rings_given s row) fair r it.one false at_none it.wanted (reverted_is false h)

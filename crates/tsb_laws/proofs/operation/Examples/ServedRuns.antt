@@ -11,10 +11,10 @@ use Rattle.tsb_step.specs.tsb_types.declared.row.Row.{Row}
 use Rattle.tsb_step.specs.tsb_plan.declared.object.Object.TheVariants.{PhaseMinRecall, PhaseMinimumGreen, PhaseMaximum1, PhaseMaximum2, PhaseMaximumInitial, PhaseWalk, PhasePedestrianClear, PhaseYellowChange, PhaseRedClear, PhaseRedRevert, UnitRedRevert, PhaseDynamicMaxLimit, UnitMax2}
 use Rattle.tsb_step.specs.tsb_plan.declared.object.Object.{Object}
 use Rattle.tsb_step.specs.tsb_plan.Objects.{greatest}
-use Rattle.tsb_step.specs.tsb_plan.Plan.{Plan, phases, with_values, is_enabled, is_concurrent, ring_of, side_of, has_variable_initial, walk, pedestrian_clear}
+use Rattle.tsb_step.specs.tsb_plan.Plan.{Plan, phases, with_values, is_enabled, is_concurrent, ring_of, side_of, has_variable_initial, minimum_green, maximum_initial, maximum, walk, pedestrian_clear}
 use Rattle.tsb_step.specs.tsb_plan.Quad.{quad}
 use Rattle.tsb_step.specs.tsb_rules.Rules.{first_broken, may_be_concurrent}
-use Rattle.tsb_step.specs.tsb_phase.DynamicMaximum.{is_dynamic}
+use Rattle.tsb_step.specs.tsb_phase.DynamicMaximum.{is_dynamic, highest_maximum}
 use Rattle.tsb_step.specs.tsb_phase.Phase.{held_of}
 use Rattle.tsb_step.specs.tsb_phase.Green.{is_gapped}
 use Rattle.tsb_step.specs.tsb_ring.declared.want.Want.{Want}
@@ -102,7 +102,7 @@ a_press = record {
   done = record {
     maximum = (let none = no_maximum in omega (arith, none));
     initial = (let none = no_initial in omega (arith, none));
-    walk = (let none = no_walk in omega (arith, none));
+    pedestrians = (let none = no_walk in omega (arith, none));
   };
   long = omega arith;
 }
@@ -169,26 +169,36 @@ goes_together r p q own_p own_q on_p on_q side =
       | inr yes ↦ yes
     ]
 
+greens : (p : ℕ) → longest_green quad p ≤ 5100
+unfolding longest_green
+greens p = go (is_dynamic quad p) (has_variable_initial quad p)
+  where
+    maximums : (b : Bool) → quad.value (if b then PhaseMaximum2 else PhaseMaximum1) p ≤ 255
+    maximums true = quad_fit.bounded PhaseMaximum2 p
+    maximums false = quad_fit.bounded PhaseMaximum1 p
+
+    go : (d v : Bool) →
+        max (if d then highest_maximum quad p else maximum quad p)
+        (max (if v then max (minimum_green quad p) (maximum_initial quad p) else minimum_green quad p) (walk quad p + pedestrian_clear quad p)) ≤ 5100
+    go d v = by d v
+        (maximums (quad.value UnitMax2 1 == 1)) (quad_fit.bounded PhaseDynamicMaxLimit p) (quad_fit.bounded PhaseMinimumGreen p)
+        (quad_fit.bounded PhaseMaximumInitial p) (quad_fit.bounded PhaseWalk p) (quad_fit.bounded PhasePedestrianClear p)
+      where
+        by : (x y : Bool) → quad.value (if quad.value UnitMax2 1 == 1 then PhaseMaximum2 else PhaseMaximum1) p ≤ 255 → quad.value PhaseDynamicMaxLimit p ≤ 255 →
+            quad.value PhaseMinimumGreen p ≤ 255 → quad.value PhaseMaximumInitial p ≤ 255 → quad.value PhaseWalk p ≤ 255 → quad.value PhasePedestrianClear p ≤ 255 →
+            max (if x then highest_maximum quad p else maximum quad p)
+            (max (if y then max (minimum_green quad p) (maximum_initial quad p) else minimum_green quad p) (walk quad p + pedestrian_clear quad p)) ≤ 5100
+        by true true one two three four five six = omega (arith, one, two, three, four, five, six)
+        by true false one two three four five six = omega (arith, one, two, three, four, five, six)
+        by false true one two three four five six = omega (arith, one, two, three, four, five, six)
+        by false false one two three four five six = omega (arith, one, two, three, four, five, six)
+
 takes : TurnsTakeAtMost quad 510 5100
 takes = record {
   clearance = λ p. (let y = quad_fit.bounded PhaseYellowChange p in let z = quad_fit.bounded PhaseRedClear p in omega (arith, y, z));
   revert = λ p. (let own = quad_fit.bounded PhaseRedRevert p in let unit = quad_fit.bounded UnitRedRevert 1 in omega (arith, own, unit));
-  green = λ p. greens p (is_dynamic quad p) (has_variable_initial quad p);
+  green = greens;
 }
-  where
-    greens : (p : ℕ) (d v : Bool) → longest_green quad p ≤ 5100
-    greens p d v =
-        let one = maximums p (quad.value UnitMax2 1 == 1) in
-        let two = quad_fit.bounded PhaseDynamicMaxLimit p in
-        let three = quad_fit.bounded PhaseMinimumGreen p in
-        let four = quad_fit.bounded PhaseMaximumInitial p in
-        let five = quad_fit.bounded PhaseWalk p in
-        let six = quad_fit.bounded PhasePedestrianClear p in
-        grind (arith, one, two, three, four, five, six)
-      where
-        maximums : (x : ℕ) (b : Bool) → quad.value (if b then PhaseMaximum2 else PhaseMaximum1) x ≤ 255
-        maximums x true = quad_fit.bounded PhaseMaximum2 x
-        maximums x false = quad_fit.bounded PhaseMaximum1 x
 
 ringed_2 : in_ring (replay quad []).plan Ring1 2 ≡ true
 unfolding opened
@@ -207,7 +217,7 @@ to_come = record {
   ringed = ringed_2;
   beside = beside_2;
   outside = refl;
-  next = inr there_2;
+  ahead = inr there_2;
   bound = λ p own serves dark. absurd (false≢true serves);
 }
 
