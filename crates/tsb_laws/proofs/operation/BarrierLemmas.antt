@@ -1,5 +1,5 @@
 -- While a phase of another side is called in each tick, a crossing of the barrier begins in time: along a run.
-use Rattle.std.proofs.Common.{◌≡◌, ◌≢◌, ℕ, ◌+◌, ◌*◌, ◌≤◌, Bool, true, false, not, ◌&&◌, ◌||◌, if◌then◌else◌, List, [], ◌∷◌, ◌++◌, Option, Some, None, is_some, is_none, refl, sym, ap, subst, ◌∙◌, inl, inr, ◌⊎◌, arith}
+use Rattle.std.proofs.Common.{◌≡◌, ◌≢◌, ℕ, ◌+◌, ◌*◌, ◌≤◌, Bool, true, false, not, ◌&&◌, List, [], ◌∷◌, ◌++◌, Option, Some, None, is_none, refl, sym, ap, subst, ◌∙◌, inl, inr, arith}
 use Rattle.std.proofs.lemmas.Bool.{cases_Bool, and_parts, eqb-true, true≢false, false≢true, false_from_ne_true}
 use Rattle.tsb_step.specs.tsb_types.declared.interval.Interval.{Interval}
 use Rattle.tsb_step.specs.tsb_types.declared.interval.Interval.TheVariants.{Red, Green, Yellow, RedClear}
@@ -12,7 +12,7 @@ use Rattle.tsb_step.specs.tsb_ring.declared.want.Want.TheVariants.{Cross}
 use Rattle.tsb_step.specs.tsb_ring.Rings as rings
 use Rattle.tsb_step.specs.tsb_ring.Rings.{Ring, Ring1, Ring2, Given, in_ring}
 use Rattle.tsb_step.specs.tsb_ring.Wants.{is_on_side, is_called_elsewhere, want_of}
-use Rattle.tsb_step.specs.tsb_ring.Crossings.{wants_cross, ring_joins, begins, target_side}
+use Rattle.tsb_step.specs.tsb_ring.Crossings.{ring_joins, begins, target_side}
 use Rattle.tsb_step.specs.tsb_ring.Next.{new_crossing, next as rings_after}
 use Rattle.tsb_step.proofs.tsb_ring.WaitLemmas.{first-passes}
 use Rattle.tsb_step.specs.declared.inputs.Input.{Input}
@@ -32,7 +32,7 @@ use Rattle.tsb_step.proofs.SideRunLemmas.{sided_run}
 use Rattle.tsb_step.proofs.StandLemmas.{rings_then}
 use Rattle.tsb_laws.specs.CrossingGreens.{IsCalm}
 use Rattle.tsb_laws.specs.Stretches.{IsUntripped, has_held_since}
-use Rattle.tsb_laws.specs.ServedCalls.{is_free, IsFullyConcurrent, is_waiting, HasWaited, longest_green, TurnsTakeAtMost, turns, order, place, still_to_come, is_outside, time_to_cross}
+use Rattle.tsb_laws.specs.ServedCalls.{is_free, IsFullyConcurrent, is_waiting, HasWaited, TurnsTakeAtMost, turns, order, still_to_come, is_outside, time_to_cross}
 use Rattle.tsb_laws.proofs.safety.StretchLemmas.{dark_now, taken_before}
 use Rattle.tsb_laws.proofs.safety.DueLemmas.{count_run}
 use Rattle.tsb_laws.proofs.safety.EnabledLemmas.{enabled_run}
@@ -40,7 +40,7 @@ use Rattle.tsb_laws.proofs.safety.SideSoughtLemmas.{none_first, found_some}
 use Rattle.tsb_laws.proofs.operation.CalmLemmas.{calm_run}
 use Rattle.tsb_laws.proofs.operation.PhaseTimeLemmas.{left, past, revert_in}
 use Rattle.tsb_laws.proofs.operation.PressedRunLemmas.{timed_run, clock_stays, green_is}
-use Rattle.tsb_laws.proofs.operation.TurnStepLemmas.{red_is, limit_most, past_most, clear_left, back_left, green_left, clear_most, back_most, green_most, IsLeft, committed, serving_green, idle, IsFairTick, fair}
+use Rattle.tsb_laws.proofs.operation.TurnStepLemmas.{red_is, limit_most, past_most, clear_left, back_left, clear_most, back_most, green_most, committed, serving_green, idle, IsFairTick, fair}
 use Rattle.tsb_laws.proofs.operation.TurnRingLemmas.{stays_beside}
 use Rattle.tsb_laws.proofs.operation.TurnLemmas.{callable_enabled, callable_told, IsKeptBy, kept_then, kept_by, left_stays, clear_same, back_same, promise_same, own_before, own_after, interval_same, later_same, plan_same}
 use Rattle.tsb_laws.proofs.operation.BarrierStepLemmas.{Remains, bound_for, clearing_out, Nears, less, joined, nears}

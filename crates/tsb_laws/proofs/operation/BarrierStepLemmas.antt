@@ -1,23 +1,21 @@
 -- What one tick makes of a ring while another side is called, and no crossing begins: it has a tick less to go until it
 -- joins in a crossing, or it joins and wants to cross.
-use Rattle.std.proofs.Common.{◌≡◌, ℕ, ◌+◌, ◌-◌, ◌≤◌, ◌==◌, Bool, true, false, not, ◌&&◌, ◌||◌, if◌then◌else◌, List, Option, Some, None, is_some, is_none, refl, sym, ap, ◌∙◌, inl, inr, ◌⊎◌, arith}
-use Rattle.std.proofs.lemmas.Bool.{cases_Bool, and_parts, or_cases, eqb-true, eq-eqb, true≢false, false≢true, false_from_ne_true}
+use Rattle.std.proofs.Common.{◌≡◌, ℕ, ◌+◌, ◌-◌, ◌≤◌, Bool, true, false, not, ◌&&◌, List, Option, Some, None, refl, sym, ap, ◌∙◌, inl, inr, ◌⊎◌, arith}
+use Rattle.std.proofs.lemmas.Bool.{cases_Bool, and_parts, or_cases, eq-eqb, true≢false, false≢true, false_from_ne_true}
 use Rattle.tsb_step.specs.tsb_types.declared.interval.Interval.{Interval}
 use Rattle.tsb_step.specs.tsb_types.declared.interval.Interval.TheVariants.{Red, Green, Yellow, RedClear}
 use Rattle.tsb_step.specs.tsb_types.declared.row.Row.{Row}
 use Rattle.tsb_step.specs.tsb_types.Intervals.{is_green, in_service}
-use Rattle.tsb_step.specs.tsb_types.Lists.{first, among, later, is}
+use Rattle.tsb_step.specs.tsb_types.Lists.{first, later, is}
 use Rattle.tsb_step.specs.tsb_plan.Plan.{Plan, phases, is_enabled, is_concurrent, side_of, walk, pedestrian_clear, yellow_change, red_clear, red_revert}
 use Rattle.tsb_step.proofs.tsb_rules.ConsistentLemmas.{together}
-use Rattle.tsb_step.specs.tsb_ring.declared.want.Want.{Want}
-use Rattle.tsb_step.specs.tsb_ring.declared.want.Want.TheVariants.{Go, Cross}
+use Rattle.tsb_step.specs.tsb_ring.declared.want.Want.TheVariants.{Cross}
 use Rattle.tsb_step.specs.tsb_ring.Rings as rings
 use Rattle.tsb_step.specs.tsb_ring.Rings.{Ring, Ring1, Ring2, Given, in_ring, own_ring, serving}
 use Rattle.tsb_step.specs.tsb_ring.Wants.{is_on_side, is_candidate, is_called_elsewhere, is_idle_or_green, picked_before, want_of, pick}
-use Rattle.tsb_step.specs.tsb_ring.Crossings.{wants_cross, ring_joins, begins, committed as committed_to}
-use Rattle.tsb_step.specs.tsb_ring.Next.{starting, leaves, ends, clears}
+use Rattle.tsb_step.specs.tsb_ring.Crossings.{ring_joins, begins, committed as committed_to}
+use Rattle.tsb_step.specs.tsb_ring.Next.{starting, ends, clears}
 use Rattle.tsb_step.specs.tsb_ring.Moves.{ring_moves, moves as moves_in, is_ended, is_cleared, is_started}
-use Rattle.tsb_step.specs.tsb_ring.Laws.{IsListed}
 use Rattle.tsb_step.proofs.tsb_ring.ClaimLemmas.{ring_of_is}
 use Rattle.tsb_step.proofs.tsb_ring.MoveLemmas.{passed, clears_over}
 use Rattle.tsb_step.proofs.tsb_ring.StartLemmas.{is_cleared_in}
@@ -36,7 +34,7 @@ use Rattle.tsb_laws.proofs.operation.PhaseTimeLemmas.{clears_down, not_yet_over,
 use Rattle.tsb_laws.proofs.operation.PressedGreenLemmas.{free_parts, presses_down, not_ready_yet}
 use Rattle.tsb_laws.proofs.operation.PressedRunLemmas.{is_one}
 use Rattle.tsb_laws.proofs.operation.TurnListLemmas.{turns_later}
-use Rattle.tsb_laws.proofs.operation.TurnRingLemmas.{Candidate, candidate_is, Goes, Wishes, goes, crosses, wishes, starts_none, starts_picked, Delays, clearing, reverting, starts_or_waits, picks_idle, picks_green, ends_by_want, stays_beside, last_started, last_stays, promise_kept, promise_stays, promise_made, none_promised}
+use Rattle.tsb_laws.proofs.operation.TurnRingLemmas.{Candidate, candidate_is, Goes, Wishes, goes, crosses, wishes, starts_none, starts_picked, Delays, clearing, reverting, starts_or_waits, picks_idle, picks_green, stays_beside, last_started, last_stays, promise_kept, promise_stays, promise_made, none_promised}
 use Rattle.tsb_laws.proofs.operation.TurnStepLemmas.{clear_left, back_left, green_left, green_most, clear_most, back_most, red_is, dark_is, IsLeft, committed, serving_green, idle, in_order, IsFairTick, fair, listed, some_phase, once, told_ready, told_over, told_reverted, serves_it, serves_none, served_is, given_green, ended_ready, starts_nothing, starts_it, ends_none, conflicts}
 
 -- as before, or it clears with no commitment, as where a preempt has ended its green

@@ -1,6 +1,6 @@
 -- How many ticks more a green takes until it may end, in free operation and with no preempt in service, where it has a
 -- conflict in each tick: found of the phase as it stands, and one less after each tick.
-use Rattle.std.proofs.Common.{◌≡◌, ℕ, ◌+◌, ◌-◌, ◌*◌, ◌<◌, ◌≤◌, ◌==◌, nat_le, Bool, true, false, not, ◌&&◌, ◌||◌, if◌then◌else◌, min, max, Option, Some, None, is_none, refl, sym, ap, arith, ◌∙◌}
+use Rattle.std.proofs.Common.{◌≡◌, ℕ, ◌+◌, ◌-◌, ◌*◌, ◌<◌, ◌≤◌, ◌==◌, nat_le, Bool, true, false, ◌&&◌, ◌||◌, if◌then◌else◌, min, max, Option, Some, None, is_none, refl, sym, ap, arith, ◌∙◌}
 use Rattle.std.proofs.lemmas.Bool.{and_parts, eqb-true, true≢false, false≢true}
 use Rattle.std.proofs.lemmas.Bool.Decides.{nat_tests}
 use Rattle.tsb_step.specs.tsb_cells.declared.timer.Timer.{Timer}
@@ -10,18 +10,17 @@ use Rattle.tsb_step.specs.tsb_types.declared.interval.Interval.TheVariants.{Gree
 use Rattle.tsb_step.specs.tsb_types.declared.interval.PedestrianInterval.{PedestrianInterval}
 use Rattle.tsb_step.specs.tsb_types.declared.interval.PedestrianInterval.TheVariants.{DontWalk, Walk, PedestrianClear}
 use Rattle.tsb_step.specs.tsb_types.declared.row.Row.{Row}
-use Rattle.tsb_step.specs.tsb_types.Clip.{clipped}
 use Rattle.tsb_step.specs.tsb_types.Intervals.{is_green}
 use Rattle.tsb_step.specs.tsb_types.Sets.{is_phase}
-use Rattle.tsb_step.specs.tsb_plan.Plan.{Plan, maximum, dynamic_maximum_limit, has_variable_initial, minimum_green, maximum_initial, added_initial, walk, pedestrian_clear, rests_in_walk}
-use Rattle.tsb_step.specs.tsb_phase.DynamicMaximum.{is_dynamic, highest_maximum, lowest_maximum, effective_maximum, maximum_in_use}
+use Rattle.tsb_step.specs.tsb_plan.Plan.{Plan, maximum, has_variable_initial, minimum_green, maximum_initial, added_initial, walk, pedestrian_clear, rests_in_walk}
+use Rattle.tsb_step.specs.tsb_phase.DynamicMaximum.{is_dynamic, highest_maximum, effective_maximum, maximum_in_use}
 use Rattle.tsb_step.specs.tsb_phase.Phase.{Phase, Given, held_of}
-use Rattle.tsb_step.specs.tsb_phase.Green.{initial, conflict_timer, has_maxed_out, is_gapped, is_by_gap, forced_latch}
-use Rattle.tsb_step.specs.tsb_phase.Pedestrian.{ended_by, walk_time, clearance_time, is_resting_in_walk, walk_has_ended, clearance_has_ended, pedestrian_after, pedestrian_now, pedestrian_timer_in}
-use Rattle.tsb_step.specs.tsb_phase.Ready.{needs_forced, has_timed_out, is_ready}
+use Rattle.tsb_step.specs.tsb_phase.Green.{initial, has_maxed_out, is_gapped, is_by_gap, forced_latch}
+use Rattle.tsb_step.specs.tsb_phase.Pedestrian.{ended_by, clearance_time, is_resting_in_walk, walk_has_ended, clearance_has_ended, pedestrian_after, pedestrian_now, pedestrian_timer_in}
+use Rattle.tsb_step.specs.tsb_phase.Ready.{has_timed_out, is_ready}
 use Rattle.tsb_step.specs.tsb_ring.Moves.{is_ended, is_started}
 use Rattle.tsb_step.specs.State.{State, interval}
-use Rattle.tsb_step.specs.Tick.{service, runs, hold, conflict, phases_given, phase_read, moves, ready, next}
+use Rattle.tsb_step.specs.Tick.{service, runs, conflict, phases_given, phase_read, moves, ready, next}
 use Rattle.tsb_laws.specs.ServedCalls.{is_free, longest_maximum, longest_initial}
 use Rattle.tsb_laws.proofs.safety.DueLemmas.{not_reached}
 use Rattle.tsb_laws.proofs.operation.PhaseTimeLemmas.{left, walking_in, Runs, IsTimed}

@@ -1,5 +1,5 @@
 -- A green that has had a conflict for long enough may end: along a run, over inputs of every kind.
-use Rattle.std.proofs.Common.{◌≡◌, ℕ, ◌+◌, ◌-◌, ◌≤◌, nat_le, Bool, true, false, ◌&&◌, if◌then◌else◌, max, List, [], ◌∷◌, ◌++◌, Option, None, is_some, refl, sym, ap, arith, ◌∙◌, inl, inr}
+use Rattle.std.proofs.Common.{◌≡◌, ℕ, ◌+◌, ◌-◌, ◌≤◌, Bool, true, false, ◌&&◌, if◌then◌else◌, List, [], ◌∷◌, ◌++◌, None, is_some, refl, sym, ap, arith, ◌∙◌, inl, inr}
 use Rattle.std.proofs.lemmas.Bool.{cases_Bool, and_parts, true≢false, false≢true}
 use Rattle.std.proofs.lemmas.Bool.Decides.{nat_tests}
 use Rattle.tsb_step.specs.tsb_cells.declared.timer.Timer.{Timer}
@@ -26,7 +26,7 @@ use Rattle.tsb_step.specs.Runs.{replay, AreTaken}
 use Rattle.tsb_step.specs.Laws.{IsConsistent}
 use Rattle.tsb_step.specs.Good.{IsGood}
 use Rattle.tsb_step.specs.TimeLaws.{held_for, is_tick, TellsTime}
-use Rattle.tsb_step.proofs.ClearLemmas.{phases_then, one_later, plan_stays}
+use Rattle.tsb_step.proofs.ClearLemmas.{phases_then, one_later}
 use Rattle.tsb_step.proofs.GivenLemmas.{listed_is_phase}
 use Rattle.tsb_step.proofs.GoodLemmas.{good_run}
 use Rattle.tsb_step.proofs.LeaveLemmas.{others_leave}
@@ -35,7 +35,7 @@ use Rattle.tsb_laws.specs.Stretches.{IsUntripped, largest}
 use Rattle.tsb_laws.specs.ServedCalls.{is_free, is_pressed, HasBeenPressed, longest_maximum, longest_initial, IsDoneWithin}
 use Rattle.tsb_laws.proofs.safety.StretchLemmas.{dark_now, Goes, ticks, stays, goes, at_next}
 use Rattle.tsb_laws.proofs.safety.DueLemmas.{largest_now, largest_more, count_run}
-use Rattle.tsb_laws.proofs.operation.PhaseTimeLemmas.{left, walking_in, Runs, IsTimed}
+use Rattle.tsb_laws.proofs.operation.PhaseTimeLemmas.{left, walking_in, IsTimed}
 use Rattle.tsb_laws.proofs.operation.PressedGreenLemmas.{pressed_left, pressed_unforced, presses_down, not_ready_yet}
 
 -- ## Timers that run

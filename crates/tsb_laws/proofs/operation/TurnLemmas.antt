@@ -1,13 +1,12 @@
 -- A called phase that is still to come on the side that is served comes in time: along a run.
-use Rattle.std.proofs.Common.{◌≡◌, ◌≢◌, ℕ, ◌+◌, ◌≤◌, Bool, true, false, not, ◌&&◌, ◌||◌, if◌then◌else◌, List, [], ◌∷◌, ◌++◌, Option, Some, None, is_some, refl, sym, ap, subst, ◌∙◌, inl, inr, ◌⊎◌, arith}
+use Rattle.std.proofs.Common.{◌≡◌, ℕ, ◌+◌, ◌≤◌, Bool, true, false, ◌&&◌, if◌then◌else◌, List, [], ◌∷◌, ◌++◌, Option, Some, None, is_some, refl, sym, ap, subst, ◌∙◌, inl, inr, ◌⊎◌, arith}
 use Rattle.std.proofs.lemmas.Bool.{cases_Bool, and_parts, or_cases, true≢false, false≢true}
-use Rattle.tsb_step.specs.tsb_types.declared.interval.Interval.{Interval}
-use Rattle.tsb_step.specs.tsb_types.declared.interval.Interval.TheVariants.{Red, Green, Yellow, RedClear}
+use Rattle.tsb_step.specs.tsb_types.declared.interval.Interval.TheVariants.{Green}
 use Rattle.tsb_step.specs.tsb_types.declared.lamp.Lamp.{Lamp}
 use Rattle.tsb_step.specs.tsb_types.declared.row.Row.{Row}
 use Rattle.tsb_step.specs.tsb_types.Intervals.{is_green, in_service}
 use Rattle.tsb_step.specs.tsb_types.Lists.{first, among, later, or_else}
-use Rattle.tsb_step.specs.tsb_plan.Plan.{Plan, phases, is_enabled, side_of, yellow_change, red_clear, red_revert}
+use Rattle.tsb_step.specs.tsb_plan.Plan.{Plan, phases, is_enabled, side_of}
 use Rattle.tsb_step.specs.tsb_calls.Memories as calls
 use Rattle.tsb_step.specs.tsb_calls.Memories.{Memories}
 use Rattle.tsb_step.specs.tsb_calls.Callable.{is_called, is_free as is_unserved, is_softly_recalled, is_callable}
@@ -19,10 +18,10 @@ use Rattle.tsb_step.proofs.tsb_ring.WaitLemmas.{first-passes}
 use Rattle.tsb_step.specs.declared.inputs.Input.{Input}
 use Rattle.tsb_step.specs.declared.inputs.Input.TheVariants as inputs
 use Rattle.tsb_step.specs.declared.inputs.Input.TheVariants.{Tick}
-use Rattle.tsb_step.specs.State.{State, restarted, interval}
+use Rattle.tsb_step.specs.State.{State, interval}
 use Rattle.tsb_step.specs.Tick.{calls_given, set, callable, rings_given, next}
 use Rattle.tsb_step.specs.Signs.{watched}
-use Rattle.tsb_step.specs.Step.{with_lamp, reset, step}
+use Rattle.tsb_step.specs.Step.{with_lamp, step}
 use Rattle.tsb_step.specs.Runs.{replay, AreTaken}
 use Rattle.tsb_step.specs.Laws.{IsConsistent}
 use Rattle.tsb_step.specs.Good.{IsGood}
@@ -35,7 +34,7 @@ use Rattle.tsb_step.proofs.SideRunLemmas.{sided_run}
 use Rattle.tsb_step.proofs.StandLemmas.{rings_then}
 use Rattle.tsb_laws.specs.CrossingGreens.{IsCalm}
 use Rattle.tsb_laws.specs.Stretches.{IsUntripped}
-use Rattle.tsb_laws.specs.ServedCalls.{is_free, IsFullyConcurrent, is_waiting, HasWaited, longest_green, TurnsTakeAtMost, turns, order, place, still_to_come, IsToCome, time_to_come}
+use Rattle.tsb_laws.specs.ServedCalls.{is_free, IsFullyConcurrent, is_waiting, HasWaited, longest_green, TurnsTakeAtMost, turns, order, still_to_come, IsToCome, time_to_come}
 use Rattle.tsb_laws.proofs.safety.StretchLemmas.{dark_now, taken_before, at_next}
 use Rattle.tsb_laws.proofs.safety.DueLemmas.{count_run, clipped_at}
 use Rattle.tsb_laws.proofs.safety.EnabledLemmas.{callable_no_green, enabled_run}

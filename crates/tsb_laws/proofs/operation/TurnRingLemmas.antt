@@ -1,7 +1,7 @@
 -- The rings in a tick by calls, where all phases of one side go together and no crossing is under way: what a ring wants, what
 -- it starts and commits to, and where it stays.
-use Rattle.std.proofs.Common.{◌≡◌, ℕ, Bool, true, false, not, ◌&&◌, ◌||◌, if◌then◌else◌, List, Option, Some, None, is_some, is_none, refl, sym, ap, ◌∙◌, inl, inr, ◌⊎◌}
-use Rattle.std.proofs.lemmas.Bool.{cases_Bool, and_parts, eqb-true, eq-eqb, true≢false, false≢true, false_from_ne_true}
+use Rattle.std.proofs.Common.{◌≡◌, ℕ, Bool, true, false, ◌&&◌, ◌||◌, if◌then◌else◌, Option, Some, None, is_none, refl, sym, ap, ◌∙◌, inl, inr, ◌⊎◌}
+use Rattle.std.proofs.lemmas.Bool.{eqb-true, eq-eqb, true≢false, false≢true, false_from_ne_true}
 use Rattle.std.proofs.lemmas.Option.{cond_some}
 use Rattle.tsb_step.specs.tsb_types.declared.interval.Interval.{Interval}
 use Rattle.tsb_step.specs.tsb_types.declared.interval.Interval.TheVariants.{Red, Green, Yellow, RedClear}
@@ -9,10 +9,10 @@ use Rattle.tsb_step.specs.tsb_types.Intervals.{is_green, in_service}
 use Rattle.tsb_step.specs.tsb_types.Lists.{first, among, later, is}
 use Rattle.tsb_step.specs.tsb_plan.Plan.{Plan, is_enabled, is_concurrent, side_of}
 use Rattle.tsb_step.specs.tsb_ring.declared.want.Want.{Want}
-use Rattle.tsb_step.specs.tsb_ring.declared.want.Want.TheVariants.{Go, Cross, Rest, Stop}
+use Rattle.tsb_step.specs.tsb_ring.declared.want.Want.TheVariants.{Go, Cross}
 use Rattle.tsb_step.specs.tsb_ring.Rings.{Ring, Ring1, Ring2, other, State, Given, in_ring, own_ring, serving}
-use Rattle.tsb_step.specs.tsb_ring.Wants.{go_or, concurrent_with, fits, is_on_side, is_candidate, is_called_elsewhere, want_by_calls, want_found, is_idle_or_green, want, may_take, taken, picked_before, want_of, pick}
-use Rattle.tsb_step.specs.tsb_ring.Crossings.{wants_cross, joins, ring_joins, begins, own_commitment, committed}
+use Rattle.tsb_step.specs.tsb_ring.Wants.{concurrent_with, fits, is_on_side, is_candidate, is_called_elsewhere, want_by_calls, want_found, is_idle_or_green, want, picked_before, want_of, pick}
+use Rattle.tsb_step.specs.tsb_ring.Crossings.{ring_joins, begins, committed}
 use Rattle.tsb_step.specs.tsb_ring.Next.{is_none_or_over, makes_way, may_start, completes, starting, leaves, ends, new_last, new_commitment, new_side, new_crossing, next}
 use Rattle.tsb_step.specs.tsb_ring.Moves.{if_passes, ring_moves, moves, is_ended}
 use Rattle.tsb_step.specs.tsb_ring.Laws.{IsGiven, IsSound}

@@ -1,18 +1,16 @@
 -- What one tick makes of a ring that has a called phase still to come: it has a tick less to go until that phase is Green.
-use Rattle.std.proofs.Common.{◌≡◌, ◌≢◌, ℕ, ◌+◌, ◌-◌, ◌≤◌, ◌==◌, nat_le, Bool, true, false, not, ◌&&◌, ◌||◌, if◌then◌else◌, max, List, Option, Some, None, is_some, option_map, refl, sym, ap, ◌∙◌, inl, inr, ◌⊎◌, arith}
-use Rattle.std.proofs.lemmas.Bool.{cases_Bool, and_parts, eqb-true, eq-eqb, true≢false, false≢true, false_from_ne_true}
+use Rattle.std.proofs.Common.{◌≡◌, ◌≢◌, ℕ, ◌+◌, ◌-◌, ◌≤◌, ◌==◌, Bool, true, false, not, ◌&&◌, List, Option, Some, None, option_map, refl, sym, ap, ◌∙◌, inl, inr, ◌⊎◌, arith}
+use Rattle.std.proofs.lemmas.Bool.{eqb-true, eq-eqb, true≢false, false_from_ne_true}
 use Rattle.tsb_step.specs.tsb_cells.declared.timer.Timer.{Timer}
 use Rattle.tsb_step.specs.tsb_cells.declared.timer.Timer.TheVariants.{Off, On}
 use Rattle.tsb_step.specs.tsb_types.declared.interval.Interval.{Interval}
 use Rattle.tsb_step.specs.tsb_types.declared.interval.Interval.TheVariants.{Red, Green, Yellow, RedClear}
 use Rattle.tsb_step.specs.tsb_types.declared.row.Row.{Row}
-use Rattle.tsb_step.specs.tsb_types.Clip.{clipped}
 use Rattle.tsb_step.specs.tsb_types.Intervals.{is_green, in_service}
-use Rattle.tsb_step.specs.tsb_types.Lists.{first, among, later, or_else}
+use Rattle.tsb_step.specs.tsb_types.Lists.{first, among, later}
 use Rattle.tsb_step.specs.tsb_types.Sets.{is_phase}
-use Rattle.tsb_step.proofs.tsb_types.IntervalLemmas.{serves-green}
 use Rattle.tsb_step.specs.tsb_plan.Plan.{Plan, phases, is_enabled, is_concurrent, ring_of, side_of, sequence, walk, pedestrian_clear, yellow_change, red_clear, red_revert}
-use Rattle.tsb_step.specs.tsb_plan.Running.{running, sequence_in_effect}
+use Rattle.tsb_step.specs.tsb_plan.Running.{sequence_in_effect}
 use Rattle.tsb_step.specs.tsb_rules.Consistent.{IsPhase, ListsRing}
 use Rattle.tsb_step.specs.tsb_rules.SequenceRules.{lists_once}
 use Rattle.tsb_step.proofs.tsb_rules.ConsistentLemmas.{together, first_lists}
@@ -20,9 +18,8 @@ use Rattle.tsb_step.specs.tsb_calls.Callable.{has_conflict}
 use Rattle.tsb_step.specs.tsb_phase.Phase.{Phase}
 use Rattle.tsb_step.specs.tsb_preempt.Preempts.{wanted_by}
 use Rattle.tsb_step.specs.tsb_preempt.Service.{Service}
-use Rattle.tsb_step.specs.tsb_ring.declared.want.Want.TheVariants.{Go}
 use Rattle.tsb_step.specs.tsb_ring.Rings.{Ring, number, in_ring, serving}
-use Rattle.tsb_step.specs.tsb_ring.Wants.{is_on_side, is_candidate, is_idle_or_green, picked_before, want_of, pick}
+use Rattle.tsb_step.specs.tsb_ring.Wants.{is_candidate, is_idle_or_green, picked_before, pick}
 use Rattle.tsb_step.specs.tsb_ring.Crossings.{begins}
 use Rattle.tsb_step.specs.tsb_ring.Next.{starting}
 use Rattle.tsb_step.specs.tsb_ring.Moves.{is_ended, is_started}
@@ -31,24 +28,24 @@ use Rattle.tsb_step.proofs.tsb_ring.MoveLemmas.{ends_ready}
 use Rattle.tsb_step.proofs.tsb_ring.WaitLemmas.{first-passes, is_serving}
 use Rattle.tsb_step.proofs.tsb_ring.WantLemmas.{first-among}
 use Rattle.tsb_step.specs.State.{State, interval}
-use Rattle.tsb_step.specs.Tick.{new_service, service, runs, calls_given, set, callable, conflict, over, reverted, ready, rings_given, moves, yellow_done, next}
+use Rattle.tsb_step.specs.Tick.{new_service, service, runs, callable, conflict, over, reverted, ready, rings_given, moves, yellow_done, next}
 use Rattle.tsb_step.specs.Good.{IsGood}
 use Rattle.tsb_step.specs.TimeLaws.{IsSided}
 use Rattle.tsb_step.proofs.GivenLemmas.{listed_is_phase, enabled_is_listed, lists_ring, symmetric, given}
 use Rattle.tsb_step.proofs.IntervalLemmas.{ended_was_green}
 use Rattle.tsb_laws.specs.CrossingGreens.{IsCalm}
-use Rattle.tsb_laws.specs.ServedCalls.{is_free, longest_maximum, longest_initial, IsFullyConcurrent, longest_green, TurnsTakeAtMost, turn, turns, order, place, still_to_come}
+use Rattle.tsb_laws.specs.ServedCalls.{is_free, longest_maximum, longest_initial, IsFullyConcurrent, longest_green, TurnsTakeAtMost, turn, turns, order, still_to_come}
 use Rattle.tsb_laws.proofs.safety.AllRedRingLemmas.{started_by}
 use Rattle.tsb_laws.proofs.safety.DueLemmas.{clipped_at}
 use Rattle.tsb_laws.proofs.safety.EnabledLemmas.{AreEnabled, callable_on, callable_no_green}
 use Rattle.tsb_laws.proofs.safety.SideSoughtLemmas.{found_some}
 use Rattle.tsb_laws.proofs.operation.CalmLemmas.{not_started}
-use Rattle.tsb_laws.proofs.operation.PhaseTimeLemmas.{left, past, clearing_in, clearing_left, revert_in, revert_left, IsTimed, clears_down, not_yet_over, reverts_down, not_yet_reverted}
+use Rattle.tsb_laws.proofs.operation.PhaseTimeLemmas.{left, past, clearing_in, clearing_left, revert_left, IsTimed, clears_down, not_yet_over, reverts_down, not_yet_reverted}
 use Rattle.tsb_laws.proofs.operation.PressedGreenLemmas.{pressed_left, pressed_unforced, free_parts, presses_down, not_ready_yet}
 use Rattle.tsb_laws.proofs.operation.PressedRunLemmas.{pressed_most, is_one}
 use Rattle.tsb_laws.proofs.operation.PressLemmas.{serving_is}
 use Rattle.tsb_laws.proofs.operation.TurnListLemmas.{turns_later, still_later}
-use Rattle.tsb_laws.proofs.operation.TurnRingLemmas.{IsFair, Candidate, candidate_is, candidate, Goes, goes_on, none_begins_bound, none_begins, starts_none, starts_picked, Delays, clearing, reverting, starts_or_waits, picks_idle, picks_green, ends_by_want, stays_outside, stays_beside, last_started, last_stays, promise_kept, promise_stays, promise_made, none_promised}
+use Rattle.tsb_laws.proofs.operation.TurnRingLemmas.{IsFair, Candidate, candidate_is, candidate, Goes, goes_on, none_begins_bound, none_begins, starts_none, starts_picked, Delays, clearing, reverting, starts_or_waits, picks_idle, picks_green, stays_outside, stays_beside, last_started, last_stays, promise_kept, promise_stays, promise_made, none_promised}
 
 -- ## How long a phase takes
 

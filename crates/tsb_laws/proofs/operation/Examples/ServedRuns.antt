@@ -1,17 +1,16 @@
 -- Runs from power-up that meet all premises of the laws of greens with a conflict and of called phases, and mistakes that
 -- these laws refuse.
-use Rattle.std.proofs.Common.{◌≡◌, ◌≢◌, ℕ, ◌+◌, ◌*◌, ◌≤◌, ◌==◌, Bool, true, false, not, ◌&&◌, ◌||◌, if◌then◌else◌, max, List, [], ◌∷◌, ◌++◌, Some, None, refl, sym, ap, ◌∙◌, inl, inr, arith}
+use Rattle.std.proofs.Common.{◌≡◌, ◌≢◌, ℕ, ◌+◌, ◌≤◌, ◌==◌, Bool, true, false, not, ◌||◌, if◌then◌else◌, max, List, [], ◌∷◌, ◌++◌, Some, None, refl, sym, ap, ◌∙◌, inl, inr, arith}
 use Rattle.std.specs.List.{list_all}
-use Rattle.std.proofs.lemmas.Bool.{and_parts, or_cases, eqb-true, eq-eqb, true≢false, false≢true}
+use Rattle.std.proofs.lemmas.Bool.{and_parts, or_cases, eqb-true, eq-eqb, false≢true}
 use Rattle.tsb_step.specs.tsb_cells.declared.timer.Timer.TheVariants.{On}
-use Rattle.tsb_step.specs.tsb_types.Intervals.{is_green, in_service}
 use Rattle.tsb_step.specs.tsb_types.Lists.{first, among, later, not_later}
 use Rattle.tsb_step.specs.tsb_types.Sets.{all_off}
 use Rattle.tsb_step.specs.tsb_types.declared.row.Row.{Row}
 use Rattle.tsb_step.specs.tsb_plan.declared.object.Object.TheVariants.{PhaseMinRecall, PhaseMinimumGreen, PhaseMaximum1, PhaseMaximum2, PhaseMaximumInitial, PhaseWalk, PhasePedestrianClear, PhaseYellowChange, PhaseRedClear, PhaseRedRevert, UnitRedRevert, PhaseDynamicMaxLimit, UnitMax2}
 use Rattle.tsb_step.specs.tsb_plan.declared.object.Object.{Object}
 use Rattle.tsb_step.specs.tsb_plan.Objects.{greatest}
-use Rattle.tsb_step.specs.tsb_plan.Plan.{Plan, phases, with_values, is_enabled, is_concurrent, ring_of, side_of, has_variable_initial, minimum_green, maximum_initial, maximum, walk, pedestrian_clear}
+use Rattle.tsb_step.specs.tsb_plan.Plan.{Plan, phases, with_values, is_concurrent, ring_of, side_of, has_variable_initial, minimum_green, maximum_initial, maximum, walk, pedestrian_clear}
 use Rattle.tsb_step.specs.tsb_plan.Quad.{quad}
 use Rattle.tsb_step.specs.tsb_rules.Rules.{first_broken, may_be_concurrent}
 use Rattle.tsb_step.specs.tsb_phase.DynamicMaximum.{is_dynamic, highest_maximum}
@@ -26,7 +25,7 @@ use Rattle.tsb_step.specs.tsb_ring.Wants.{go_or, is_candidate, is_called_elsewhe
 use Rattle.tsb_step.proofs.tsb_ring.Examples.Scenes.{both}
 use Rattle.tsb_step.specs.declared.inputs.Input.{Input}
 use Rattle.tsb_step.specs.declared.inputs.Input.TheVariants.{Tick}
-use Rattle.tsb_step.specs.State.{State, interval}
+use Rattle.tsb_step.specs.State.{State}
 use Rattle.tsb_step.specs.Tick.{phases_given, phase_read, rings_given, ready}
 use Rattle.tsb_step.specs.Runs.{replay, AreTaken}
 use Rattle.tsb_step.specs.Laws.{IsConsistent}
@@ -165,8 +164,8 @@ goes_together r p q own_p own_q on_p on_q side =
     rw (on_q, across r (ring_of quad p) (ring_of quad q) own_p own_q) (eq-eqb (side_of quad p) (side_of quad q) side) in
     elim (or_cases (not (may_be_concurrent quad p q)) (is_concurrent quad p q)
     (all_at (λ y. not (may_be_concurrent quad p y) || is_concurrent quad p y) (phases quad) q row_p there_q)) [
-      | inl no ↦ absurd (false≢true (sym (ap not may) ∙ no))
-      | inr yes ↦ yes
+      | inl apart ↦ absurd (false≢true (sym (ap not may) ∙ apart))
+      | inr named ↦ named
     ]
 
 greens : (p : ℕ) → longest_green quad p ≤ 5100
