@@ -186,6 +186,8 @@ pub fn preempts_reach_their_stages()
 /// Witness: `a_dwell` of PreemptStageRuns.
 pub fn preempts_reach_dwell_in_time()
     ensures { DwellsAreReached }
+{}
+
 /// A green that has had a conflict for long enough may end. In free operation and with no preempt in service, once it
 /// has had one in each tick for its maximum, its initial time and its walk with clearance, it is ready in the next tick.
 /// So it is with maximum recall, with detectors that stay on, and whatever commits come meanwhile.

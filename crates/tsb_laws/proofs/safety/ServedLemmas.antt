@@ -17,7 +17,7 @@ use Rattle.tsb_step.proofs.tsb_ring.WaitLemmas.{is_serving}
 use Rattle.tsb_step.specs.declared.inputs.Input.{Input}
 use Rattle.tsb_step.specs.declared.inputs.Input.TheVariants.{Tick}
 use Rattle.tsb_step.specs.State.{State, interval}
-use Rattle.tsb_step.specs.Tick.{rings_given, phase_read, moves, over, reverted, yellow_done}
+use Rattle.tsb_step.specs.Tick.{rings_given, phase_read, moves, over, reverted, yellow_done, next}
 use Rattle.tsb_step.specs.Step.{step, kind_of}
 use Rattle.tsb_step.specs.Runs.{replay, AreTaken}
 use Rattle.tsb_step.specs.Past.{ticks_of}

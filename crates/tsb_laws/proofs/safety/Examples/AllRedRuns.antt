@@ -1,5 +1,5 @@
 -- A run from power-up that meets all premises of the law of all red, and a mistake that the law refuses.
-use Rattle.std.proofs.Common.{◌≡◌, ℕ, ◌≤◌, Bool, true, false, ◌&&◌, List, [], ◌∷◌, ◌++◌, Option, Some, None, refl, sym, ap, ap₂, inl, inr, arith, ◌∙◌}
+use Rattle.std.proofs.Common.{◌≡◌, ℕ, ◌+◌, ◌≤◌, Bool, true, false, ◌&&◌, List, [], ◌∷◌, ◌++◌, Option, Some, None, refl, sym, ap, ap₂, inl, inr, arith, ◌∙◌}
 use Rattle.std.proofs.lemmas.Bool.{cases_Bool, true≢false}
 use Rattle.tsb_step.specs.tsb_types.Intervals.{in_service}
 use Rattle.tsb_step.specs.tsb_types.Lists.{some_passes}
@@ -10,10 +10,10 @@ use Rattle.tsb_step.specs.tsb_plan.declared.object.Object.TheVariants.{PhaseRedR
 use Rattle.tsb_step.specs.tsb_plan.Objects.{greatest}
 use Rattle.tsb_step.specs.tsb_plan.Plan.{Plan, phases, red_revert}
 use Rattle.tsb_step.specs.tsb_ring.declared.want.Want.{Want}
-use Rattle.tsb_step.specs.tsb_ring.declared.want.Want.TheVariants.{Cross}
+use Rattle.tsb_step.specs.tsb_ring.declared.want.Want.TheVariants.{Go, Cross, Rest, Stop}
 use Rattle.tsb_step.specs.tsb_ring.Rings.{Ring1, serving}
 use Rattle.tsb_step.specs.tsb_ring.Wants.{want_of}
-use Rattle.tsb_step.specs.tsb_ring.Crossings.{wants_cross}
+use Rattle.tsb_step.specs.tsb_ring.Crossings.{wants_cross, joins_in}
 use Rattle.tsb_step.specs.declared.inputs.Input.{Input}
 use Rattle.tsb_step.specs.declared.inputs.Input.TheVariants.{Tick}
 use Rattle.tsb_step.specs.State.{State, start, interval}

@@ -1,6 +1,6 @@
 -- Runs from power-up that meet all premises of a law at once: of coordinated greens, of omitted phases, of greens that clear in
 -- time, and of trips.
-use Rattle.std.proofs.Common.{◌≡◌, ℕ, ◌≤◌, true, List, [], ◌∷◌, Some, None, is_some, refl, sym, arith, ◌∙◌}
+use Rattle.std.proofs.Common.{◌≡◌, ◌≢◌, ℕ, ◌+◌, ◌≤◌, true, false, List, [], ◌∷◌, ◌++◌, Some, None, is_some, refl, sym, ap, arith, ◌∙◌}
 use Rattle.tsb_step.specs.tsb_types.Sets.{all_off}
 use Rattle.tsb_step.specs.tsb_types.declared.interval.Interval.TheVariants.{Green, Yellow, Red}
 use Rattle.tsb_step.specs.tsb_types.declared.lamp.Lamp.TheVariants as lamps

@@ -1,6 +1,6 @@
 -- Runs that end in ticks of one row: each tick is taken, none trips the controller where no lamp was lit, and none changes the
 -- plan. By these lemmas a run of 40 ticks meets premises of the laws without being computed tick by tick.
-use Rattle.std.proofs.Common.{zero, suc, ◌≡◌, ℕ, ◌+◌, ◌≤◌, nat_lt, true, max, List, [], ◌∷◌, ◌++◌, None, refl, sym, ap, arith, append_assoc, ◌∙◌}
+use Rattle.std.proofs.Common.{zero, suc, ◌≡◌, ℕ, ◌+◌, ◌≤◌, nat_lt, Bool, true, ◌&&◌, max, List, [], ◌∷◌, ◌++◌, Option, Some, None, if◌then◌else◌, refl, sym, ap, arith, append_assoc, ◌∙◌}
 use Rattle.std.proofs.lemmas.Bool.Decides.{nat_tests}
 use Rattle.tsb_step.specs.tsb_types.declared.limits.TheConstants.{TICKS}
 use Rattle.tsb_step.specs.tsb_types.declared.row.Row.{Row}

@@ -1,6 +1,6 @@
 -- A run from power-up that meets all premises of the law of walks: 2 walks for 10 ticks and clears for 10, computed as far as the
 -- tick in which its green ends; 1, which is called meanwhile, starts within 40 ticks more.
-use Rattle.std.proofs.Common.{◌≡◌, ℕ, ◌+◌, ◌≤◌, true, false, max, List, [], ◌∷◌, ◌++◌, Some, None, refl, sym, ap, subst, arith, append_assoc, ◌∙◌}
+use Rattle.std.proofs.Common.{◌≡◌, ◌≢◌, ℕ, ◌+◌, ◌≤◌, true, false, max, List, [], ◌∷◌, ◌++◌, Some, None, refl, sym, ap, subst, arith, append_assoc, ◌∙◌}
 use Rattle.tsb_step.specs.tsb_types.Sets.{all_off}
 use Rattle.tsb_step.specs.tsb_types.declared.interval.Interval.TheVariants.{Green, Yellow}
 use Rattle.tsb_step.specs.tsb_types.declared.interval.PedestrianInterval.TheVariants.{DontWalk, Walk}
@@ -18,7 +18,7 @@ use Rattle.tsb_step.specs.State.{interval, pedestrian_part}
 use Rattle.tsb_step.specs.Runs.{replay, AreTaken}
 use Rattle.tsb_step.specs.Laws.{IsConsistent, is_unlit}
 use Rattle.tsb_step.proofs.Examples.Scenes.{opened, vehicle}
-use Rattle.tsb_laws.specs.Stretches.{StartsGreen}
+use Rattle.tsb_laws.specs.Stretches.{IsUntripped, EndsGreen, StartsGreen}
 use Rattle.tsb_laws.specs.Intergreens.{WalksBefore, walk_due, clearance_due}
 use Rattle.tsb_laws.specs.Commitments.{CommitsTo}
 use Rattle.tsb_laws.proofs.safety.Examples.PlanFits.{Fits, values_fit, quad_fits, consistent}
