@@ -1,0 +1,62 @@
+-- Advices on coordination: A27 to A32. Times are in tenths of a second.
+use Rattle.std.specs.Prelude.{ℕ, ◌+◌, ◌-◌, ◌*◌, ◌==◌, nat_lt, Bool, not, ◌&&◌, ◌||◌, Option, Some, None, is_some}
+use Rattle.std.specs.List.{list_any}
+use Rattle.tsb_types.specs.Lists.{first, run_from}
+use Rattle.tsb_plan.specs.declared.object.Object.TheVariants.{PatternCycleTime, PatternOffsetTime, PatternSplitNumber, PatternSequenceNumber}
+use Rattle.tsb_plan.specs.Parts.{is_used, cycle, offset}
+use Rattle.tsb_plan.specs.Plan.{Plan, phases, is_enabled, minimum_green, has_soft_recall}
+use Rattle.tsb_plan.specs.Running.{is_coordinated_now, is_omitted_now}
+use Rattle.tsb_review.specs.Calls.{is_recalled}
+use Rattle.tsb_review.specs.Pedestrians.{overruns_split, pedestrian_time}
+use Rattle.tsb_review.specs.Splits.{green_of_split, passed_by}
+
+-- what the split of p in pattern n leaves over its minimum green, yellow change and red clearance
+abbrev pub spare_time : Plan → ℕ → ℕ → ℕ
+spare_time plan n p = green_of_split plan n p - minimum_green plan p
+
+-- A27: in the used pattern n that is under 1 second
+abbrev pub has_tight_split : Plan → ℕ → ℕ → Bool
+has_tight_split plan n p =
+    is_used plan n && (is_enabled plan p && (not (is_omitted_now plan (Some n) p) && nat_lt (spare_time plan n p) 10))
+
+-- how long after the end of its split walk and clearance of p are over, where they begin with its split
+abbrev pub overrun : Plan → ℕ → ℕ → ℕ
+overrun plan n p = pedestrian_time plan p - green_of_split plan n p
+
+-- A28: walk and clearance of p overrun its split in pattern n, and the phase that waits then begins at its force-off
+-- instant or after it
+abbrev pub makes_late : Plan → ℕ → ℕ → Bool
+makes_late plan n p = overruns_split plan n p && is_some (passed_by plan n p (overrun plan n p))
+
+-- A29: the used pattern n omits p, whose recall has then no effect
+abbrev pub recalls_omitted : Plan → ℕ → ℕ → Bool
+recalls_omitted plan n p =
+    is_used plan n && (is_enabled plan p && (is_omitted_now plan (Some n) p && (is_recalled plan None p || has_soft_recall plan p)))
+
+-- pattern m comes before pattern n, and is used with the same cycle, offset, split table and sequence
+abbrev pub is_same_before : Plan → ℕ → ℕ → Bool
+is_same_before plan n m =
+    nat_lt m n && (plan.value PatternCycleTime m == plan.value PatternCycleTime n && (plan.value PatternOffsetTime m == plan.value PatternOffsetTime n &&
+    (plan.value PatternSplitNumber m == plan.value PatternSplitNumber n && plan.value PatternSequenceNumber m == plan.value PatternSequenceNumber n)))
+
+-- the first such pattern
+abbrev pub first_same : Plan → ℕ → Option ℕ
+first_same plan n = first (is_same_before plan n) (run_from 1 16)
+
+-- A30: the used pattern n is the same as one before it
+abbrev pub is_repeated : Plan → ℕ → Bool
+is_repeated plan n = is_used plan n && is_some (first_same plan n)
+
+-- A31: the offset of the used pattern n is beyond half of its cycle
+abbrev pub has_long_offset : Plan → ℕ → Bool
+has_long_offset plan n = is_used plan n && nat_lt (cycle plan n) (2 * offset plan n)
+
+-- p waits for a call in pattern n: it is neither coordinated, nor omitted, nor recalled
+abbrev pub is_actuated : Plan → ℕ → ℕ → Bool
+is_actuated plan n p =
+    is_enabled plan p && (not (is_coordinated_now plan (Some n) p) && (not (is_omitted_now plan (Some n) p) && not (is_recalled plan (Some n) p)))
+
+-- A32: the used pattern n has such a phase: a call of it that comes after the one tick in which the coordinated phases
+-- yield waits for the next cycle
+abbrev pub yields_once : Plan → ℕ → Bool
+yields_once plan n = is_used plan n && list_any (is_actuated plan n) (phases plan)

@@ -1,0 +1,23 @@
+-- what calls a phase, and which phases conflict with it
+pub mod Calls
+-- splits, and what a late green does to those that wait
+pub mod Splits
+-- the advices, by what they are on
+pub mod Service
+pub mod Pedestrians
+pub mod Clearance
+pub mod Actuation
+pub mod Coordination
+pub mod Preempts
+pub mod Overlaps
+-- the places that advices are given for
+pub mod Places
+-- THE ADVICES: which there are, and all that hold of a plan
+pub mod Advices
+-- findings one by one
+pub mod Findings
+-- the numbers that the line of a finding shows
+pub mod Numbers
+-- the names of crates below, for those above
+pub use Rattle.tsb_plan.specs as tsb_plan
+pub use Rattle.tsb_types.specs as tsb_types

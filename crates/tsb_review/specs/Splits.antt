@@ -1,0 +1,36 @@
+-- Splits of a used pattern, and what a green that ends late does to those that wait. Times are in tenths of a second.
+use Rattle.std.specs.Prelude.{ℕ, ◌+◌, ◌-◌, nat_le, Bool, not, ◌&&◌, Option, Some, None}
+use Rattle.tsb_types.specs.Lists.{first}
+use Rattle.tsb_plan.specs.Parts.{is_used, split_of, split_time}
+use Rattle.tsb_plan.specs.Plan.{Plan, phases, yellow_change, red_clear}
+use Rattle.tsb_plan.specs.Running.{is_coordinated_now, is_omitted_now}
+use Rattle.tsb_objects.specs.Instants.{instant_from}
+use Rattle.tsb_review.specs.Calls.{conflicts}
+
+-- by the split table that is named, if one is
+abbrev pub split_in : Plan → Option ℕ → ℕ → ℕ
+split_in plan None p = 0
+split_in plan (Some table) p = split_time plan table p
+
+-- the split of p in pattern n
+abbrev pub split_time_in : Plan → ℕ → ℕ → ℕ
+split_time_in plan n p = split_in plan (split_of plan n) p
+
+-- what its yellow change and red clearance leave of it
+abbrev pub green_of_split : Plan → ℕ → ℕ → ℕ
+green_of_split plan n p = split_time_in plan n p - (yellow_change plan p + red_clear plan p)
+
+-- q waits for p in pattern n, and its green ends by force-off alone or by a gap: it conflicts with p, and is neither
+-- coordinated nor omitted
+abbrev pub is_forced_after : Plan → ℕ → ℕ → ℕ → Bool
+is_forced_after plan n p q =
+    conflicts plan p q && (not (is_coordinated_now plan (Some n) q) && not (is_omitted_now plan (Some n) q))
+
+-- in the used pattern n a phase q that begins so long after the end of the split of p begins at its force-off instant or
+-- after it, and so is not forced off in this cycle
+abbrev pub is_passed : Plan → ℕ → ℕ → ℕ → ℕ → Bool
+is_passed plan n p late q = is_used plan n && (is_forced_after plan n p q && nat_le (instant_from plan n p q) late)
+
+-- the first such phase
+abbrev pub passed_by : Plan → ℕ → ℕ → ℕ → Option ℕ
+passed_by plan n p late = first (is_passed plan n p late) (phases plan)

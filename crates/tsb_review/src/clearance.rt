@@ -1,0 +1,57 @@
+//! Advices on clearance: A15 and A16. Times are in tenths of a second.
+#![tactic(auto, unfolding(tsb_plan::specs::PlanOf::plan_of))]
+
+ghost use Rattle.std.specs.Prelude.{◌≡◌};
+ghost use Rattle.tsb_plan.specs.PlanOf.{plan_of};
+ghost use Rattle.tsb_review.specs.Clearance.{is_across, clears_without_red, reverts_soon, reverting, has_short_revert};
+
+use crate::calls::is_for_pedestrians;
+use tsb_plan::Plan;
+use tsb_types::Phase;
+
+/// The shortest red revert that is usual.
+const SHORTEST_REVERT: u32 = 20;
+
+/// Whether `other` is an enabled phase of another side than the phase.
+fn is_across(plan: &Plan, phase: Phase, other: Phase) -> bool
+    ensures { result ≡ is_across (plan_of plan.now) phase other }
+{
+    plan.is_enabled(other) && plan.side(phase) != plan.side(other)
+}
+
+/// A15: whether the phase, which is not for pedestrians alone, has no red clearance, and there are phases across the
+/// barrier.
+pub(crate) fn clears_without_red(plan: &Plan, phase: Phase) -> bool
+    ensures { result ≡ clears_without_red (plan_of plan.now) phase }
+{
+    plan.is_enabled(phase)
+        && !is_for_pedestrians(plan, phase)
+        && plan.red_clear(phase) == 0
+        && Phase::all()
+            .iter()
+            .any(|other| is_across(plan, phase, *other))
+}
+
+/// Whether the phase is enabled, and its red revert is under 2 seconds.
+fn reverts_soon(plan: &Plan, phase: Phase) -> bool
+    ensures { result ≡ reverts_soon (plan_of plan.now) phase }
+{
+    plan.is_enabled(phase) && plan.red_revert(phase) < SHORTEST_REVERT
+}
+
+/// The first phase whose red revert is under 2 seconds.
+pub(crate) fn reverting(plan: &Plan) -> Option<Phase>
+    ensures { result ≡ reverting (plan_of plan.now) }
+{
+    Phase::all()
+        .iter()
+        .copied()
+        .find(|phase| reverts_soon(plan, *phase))
+}
+
+/// A16: whether the red revert of some phase is under 2 seconds.
+pub(crate) fn has_short_revert(plan: &Plan) -> bool
+    ensures { result ≡ has_short_revert (plan_of plan.now) }
+{
+    reverting(plan).is_some()
+}

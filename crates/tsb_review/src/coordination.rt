@@ -1,0 +1,130 @@
+//! Advices on coordination: A27 to A32. Times are in tenths of a second.
+#![tactic(auto, unfolding(tsb_plan::specs::PlanOf::plan_of))]
+
+ghost use Rattle.std.specs.Prelude.{◌≡◌, ◌==◌};
+ghost use Rattle.tsb_plan.specs.Objects.{indices};
+ghost use Rattle.tsb_plan.specs.PlanOf.{plan_of};
+ghost use Rattle.tsb_review.specs.Splits.{passed_by};
+ghost use Rattle.tsb_review.specs.Coordination.{spare_time, has_tight_split, overrun, makes_late, recalls_omitted, is_same_before, first_same, is_repeated, has_long_offset, is_actuated, yields_once};
+
+use crate::calls::is_recalled;
+use crate::pedestrians::{overruns_split, pedestrian_time};
+use crate::service::has_soft_recall;
+use crate::splits::{green_of_split, passed_by};
+use tsb_plan::{Object, Plan};
+use tsb_types::{Pattern, Phase};
+
+/// What a split has to leave over its least time.
+const SPARE_TIME: u32 = 10;
+
+/// What the split of the phase leaves over its minimum green, yellow change and red clearance in the pattern.
+pub(crate) fn spare_time(plan: &Plan, pattern: Pattern, phase: Phase) -> u32
+    ensures { result ≡ spare_time (plan_of plan.now) pattern phase }
+{
+    green_of_split(plan, pattern, phase).saturating_sub(plan.minimum_green(phase))
+}
+
+/// A27: whether that is under 1 second in the used pattern.
+pub(crate) fn has_tight_split(plan: &Plan, pattern: Pattern, phase: Phase) -> bool
+    ensures { result ≡ has_tight_split (plan_of plan.now) pattern phase }
+{
+    plan.is_used(pattern)
+        && plan.is_enabled(phase)
+        && !plan.is_omitted_now(Some(pattern), phase)
+        && spare_time(plan, pattern, phase) < SPARE_TIME
+}
+
+/// How long after the end of its split walk and clearance of the phase are over, where they begin with its split.
+fn overrun(plan: &Plan, pattern: Pattern, phase: Phase) -> u32
+    ensures { result ≡ overrun (plan_of plan.now) pattern phase }
+{
+    pedestrian_time(plan, phase).saturating_sub(green_of_split(plan, pattern, phase))
+}
+
+/// A28: whether walk and clearance of the phase overrun its split in the pattern, and the phase that waits then begins at
+/// its force-off instant or after it.
+pub(crate) fn makes_late(plan: &Plan, pattern: Pattern, phase: Phase) -> bool
+    ensures { result ≡ makes_late (plan_of plan.now) pattern phase }
+{
+    overruns_split(plan, pattern, phase) && passed_by_overrun(plan, pattern, phase).is_some()
+}
+
+/// The first phase that an overrun of the phase makes begin at its force-off instant or after it.
+pub(crate) fn passed_by_overrun(plan: &Plan, pattern: Pattern, phase: Phase) -> Option<Phase>
+    ensures { result ≡ passed_by (plan_of plan.now) pattern phase (overrun (plan_of plan.now) pattern phase) }
+{
+    passed_by(plan, pattern, phase, overrun(plan, pattern, phase))
+}
+
+/// A29: whether the used pattern omits the phase, which has a recall.
+pub(crate) fn recalls_omitted(plan: &Plan, pattern: Pattern, phase: Phase) -> bool
+    ensures { result ≡ recalls_omitted (plan_of plan.now) pattern phase }
+{
+    plan.is_used(pattern)
+        && plan.is_enabled(phase)
+        && plan.is_omitted_now(Some(pattern), phase)
+        && (is_recalled(plan, None, phase) || has_soft_recall(plan, phase))
+}
+
+/// Whether pattern `other` comes before the pattern, and is used with the same cycle, offset, split table and sequence.
+fn is_same_before(plan: &Plan, pattern: Pattern, other: Pattern) -> bool
+    ensures { result ≡ is_same_before (plan_of plan.now) pattern other }
+{
+    other.number() < pattern.number()
+        && has_same(plan, Object::PatternCycleTime, pattern, other)
+        && has_same(plan, Object::PatternOffsetTime, pattern, other)
+        && has_same(plan, Object::PatternSplitNumber, pattern, other)
+        && has_same(plan, Object::PatternSequenceNumber, pattern, other)
+}
+
+/// Whether two patterns have one value of an object of patterns.
+fn has_same(plan: &Plan, object: Object, pattern: Pattern, other: Pattern) -> bool
+    requires { indices object ≡ 16 }
+    ensures { result ≡ ((plan_of plan.now).value object other == (plan_of plan.now).value object pattern) }
+{
+    plan.at(object, u32::from(other.number())) == plan.at(object, u32::from(pattern.number()))
+}
+
+/// The first pattern that is the same as this one and comes before it.
+pub(crate) fn first_same(plan: &Plan, pattern: Pattern) -> Option<Pattern>
+    ensures { result ≡ first_same (plan_of plan.now) pattern }
+{
+    Pattern::all()
+        .iter()
+        .copied()
+        .find(|other| is_same_before(plan, pattern, *other))
+}
+
+/// A30: whether the used pattern is the same as one before it.
+pub(crate) fn is_repeated(plan: &Plan, pattern: Pattern) -> bool
+    ensures { result ≡ is_repeated (plan_of plan.now) pattern }
+{
+    plan.is_used(pattern) && first_same(plan, pattern).is_some()
+}
+
+/// A31: whether the offset of the used pattern is beyond half of its cycle.
+pub(crate) fn has_long_offset(plan: &Plan, pattern: Pattern) -> bool
+    ensures { result ≡ has_long_offset (plan_of plan.now) pattern }
+{
+    plan.is_used(pattern) && plan.cycle(pattern) < 2 * plan.offset(pattern)
+}
+
+/// Whether the phase waits for a call in the pattern: it is neither coordinated, nor omitted, nor recalled.
+fn is_actuated(plan: &Plan, pattern: Pattern, phase: Phase) -> bool
+    ensures { result ≡ is_actuated (plan_of plan.now) pattern phase }
+{
+    plan.is_enabled(phase)
+        && !plan.is_coordinated_now(Some(pattern), phase)
+        && !plan.is_omitted_now(Some(pattern), phase)
+        && !is_recalled(plan, Some(pattern), phase)
+}
+
+/// A32: whether the used pattern has a phase that waits for a call.
+pub(crate) fn yields_once(plan: &Plan, pattern: Pattern) -> bool
+    ensures { result ≡ yields_once (plan_of plan.now) pattern }
+{
+    plan.is_used(pattern)
+        && Phase::all()
+            .iter()
+            .any(|phase| is_actuated(plan, pattern, *phase))
+}

@@ -1,0 +1,205 @@
+//! What a review finds.
+#![tactic(auto, unfolding(tsb_plan::specs::PlanOf::plan_of))]
+
+ghost use Rattle.std.specs.Prelude.{◌≡◌, ◌≤◌};
+ghost use Rattle.tsb_plan.specs.PlanOf.{plan_of};
+ghost use Rattle.tsb_review.specs.Places.{firsts, seconds};
+ghost use Rattle.tsb_review.specs.Advices.{holds, shape, of_unit, of_phase, of_phases, of_detector, of_ring, of_pattern, of_split, of_preempt, of_preempt_phase, of_overlap, of_overlap_phase};
+ghost use Rattle.tsb_review.specs.Findings.{finding_at};
+
+use crate::advice::Advice;
+use crate::place::{Place, place_of};
+use crate::{actuation, clearance, coordination, overlaps, pedestrians, preempts, service};
+use tsb_plan::Plan;
+use tsb_types::{Detector, Overlap, Pattern, Phase, Preempt, Ring};
+
+/// An advice that holds, and what it is given for.
+#[derive(Clone, Copy, PartialEq, Eq)]
+pub struct Finding {
+    /// The advice.
+    pub advice: Advice,
+    /// What it is given for.
+    pub place: Place,
+}
+
+/// The advice for the place of these two numbers, where it holds. Going through both numbers in ascending order, the
+/// second faster, gives all findings of the advice, each once: `Shape::firsts` and `Shape::seconds` say how many.
+pub fn finding_at(plan: &Plan, advice: Advice, first: u8, second: u8) -> Option<Finding>
+    requires first_from { 1 ≤ first }
+    requires first_to { first ≤ firsts (shape advice) }
+    requires second_from { 1 ≤ second }
+    requires second_to { second ≤ seconds (shape advice) }
+    ensures { result ≡ finding_at (plan_of plan.now) advice first second }
+{
+    finding_of(plan, advice, place_of(advice.shape(), first, second))
+}
+
+/// The advice for the place, where it holds.
+fn finding_of(plan: &Plan, advice: Advice, place: Place) -> Option<Finding>
+    ensures { result ≡ finding_of (plan_of plan.now) advice place }
+{
+    if holds(plan, advice, place) {
+        Some(Finding { advice, place })
+    } else {
+        None
+    }
+}
+
+/// Whether the advice holds of the place.
+pub fn holds(plan: &Plan, advice: Advice, place: Place) -> bool
+    ensures { result ≡ holds (plan_of plan.now) advice place }
+{
+    match place {
+        Place::Unit => of_unit(plan, advice),
+        Place::Phase(phase) => of_phase(plan, advice, phase),
+        Place::Phases(phase, other) => of_phases(plan, advice, phase, other),
+        Place::Detector(detector) => of_detector(plan, advice, detector),
+        Place::Ring(ring) => of_ring(plan, advice, ring),
+        Place::Pattern(pattern) => of_pattern(plan, advice, pattern),
+        Place::Split(pattern, phase) => of_split(plan, advice, pattern, phase),
+        Place::Preempt(preempt) => of_preempt(plan, advice, preempt),
+        Place::PreemptPhase(preempt, phase) => of_preempt_phase(plan, advice, preempt, phase),
+        Place::Overlap(overlap) => of_overlap(plan, advice, overlap),
+        Place::OverlapPhase(overlap, phase) => of_overlap_phase(plan, advice, overlap, phase),
+    }
+}
+
+/// Whether the advice holds of the whole lan.
+fn of_unit(plan: &Plan, advice: Advice) -> bool
+    ensures { result ≡ of_unit (plan_of plan.now) advice }
+{
+    match advice {
+        Advice::A16 => clearance::has_short_revert(plan),
+        _ => false,
+    }
+}
+
+/// Whether the advice holds of phase.
+fn of_phase(plan: &Plan, advice: Advice, phase: Phase) -> bool
+    ensures { result ≡ of_phase (plan_of plan.now) advice phase }
+{
+    match advice {
+        Advice::A1 => service::is_never_called(plan, phase),
+        Advice::A6 => service::has_two_recalls(plan, phase),
+        Advice::A7 => service::never_recalls_softly(plan, phase),
+        Advice::A8 => pedestrians::has_no_clearance(plan, phase),
+        Advice::A9 => pedestrians::has_short_walk(plan, phase),
+        Advice::A10 => pedestrians::has_no_walk(plan, phase),
+        Advice::A11 => pedestrians::has_idle_walk(plan, phase),
+        Advice::A13 => pedestrians::overruns_maximum(plan, phase),
+        Advice::A15 => clearance::clears_without_red(plan, phase),
+        Advice::A17 => actuation::ends_at_any_gap(plan, phase),
+        Advice::A18 => actuation::has_gap_trap(plan, phase),
+        Advice::A19 => actuation::reduces_nothing(plan, phase),
+        Advice::A20 => actuation::reduces_too_late(plan, phase),
+        Advice::A21 => actuation::has_idle_initial(plan, phase),
+        Advice::A22 => actuation::adds_without_variable(plan, phase),
+        Advice::A23 => actuation::has_limit_alone(plan, phase),
+        Advice::A24 => actuation::has_step_alone(plan, phase),
+        _ => false,
+    }
+}
+
+/// Whether the advice holds of phases.
+fn of_phases(plan: &Plan, advice: Advice, phase: Phase, other: Phase) -> bool
+    ensures { result ≡ of_phases (plan_of plan.now) advice phase other }
+{
+    match advice {
+        Advice::A3 => service::can_wait_for(plan, phase, other),
+        _ => false,
+    }
+}
+
+/// Whether the advice holds of vehicleetector.
+fn of_detector(plan: &Plan, advice: Advice, detector: Detector) -> bool
+    ensures { result ≡ of_detector (plan_of plan.now) advice detector }
+{
+    match advice {
+        Advice::A2 => service::is_set_for_nothing(plan, detector),
+        Advice::A25 => actuation::delays_too_long(plan, detector),
+        Advice::A26 => actuation::extends_for_nothing(plan, detector),
+        _ => false,
+    }
+}
+
+/// Whether the advice holds of ring.
+fn of_ring(plan: &Plan, advice: Advice, ring: Ring) -> bool
+    ensures { result ≡ of_ring (plan_of plan.now) advice ring }
+{
+    match advice {
+        Advice::A5 => service::has_fixed_times(plan, ring),
+        _ => false,
+    }
+}
+
+/// Whether the advice holds of pattern.
+fn of_pattern(plan: &Plan, advice: Advice, pattern: Pattern) -> bool
+    ensures { result ≡ of_pattern (plan_of plan.now) advice pattern }
+{
+    match advice {
+        Advice::A30 => coordination::is_repeated(plan, pattern),
+        Advice::A31 => coordination::has_long_offset(plan, pattern),
+        Advice::A32 => coordination::yields_once(plan, pattern),
+        _ => false,
+    }
+}
+
+/// Whether the advice holds of phase  in attern.
+fn of_split(plan: &Plan, advice: Advice, pattern: Pattern, phase: Phase) -> bool
+    ensures { result ≡ of_split (plan_of plan.now) advice pattern phase }
+{
+    match advice {
+        Advice::A4 => service::may_lose_coordination(plan, pattern, phase),
+        Advice::A12 => pedestrians::overruns_split(plan, pattern, phase),
+        Advice::A14 => pedestrians::rests_too_long(plan, pattern, phase),
+        Advice::A27 => coordination::has_tight_split(plan, pattern, phase),
+        Advice::A28 => coordination::makes_late(plan, pattern, phase),
+        Advice::A29 => coordination::recalls_omitted(plan, pattern, phase),
+        _ => false,
+    }
+}
+
+/// Whether the advice holds of preempt.
+fn of_preempt(plan: &Plan, advice: Advice, preempt: Preempt) -> bool
+    ensures { result ≡ of_preempt (plan_of plan.now) advice preempt }
+{
+    match advice {
+        Advice::A34 => preempts::clears_no_track(plan, preempt),
+        Advice::A35 => preempts::lasts_too_long(plan, preempt),
+        Advice::A38 => preempts::is_never_served(plan, preempt),
+        _ => false,
+    }
+}
+
+/// Whether the advice holds of phase  ineempt.
+fn of_preempt_phase(plan: &Plan, advice: Advice, preempt: Preempt, phase: Phase) -> bool
+    ensures { result ≡ of_preempt_phase (plan_of plan.now) advice preempt phase }
+{
+    match advice {
+        Advice::A33 => preempts::fills_track(plan, preempt, phase),
+        Advice::A36 => preempts::cuts_walk(plan, preempt, phase),
+        Advice::A37 => preempts::cuts_clearance(plan, preempt, phase),
+        _ => false,
+    }
+}
+
+/// Whether the advice holds of overlap.
+fn of_overlap(plan: &Plan, advice: Advice, overlap: Overlap) -> bool
+    ensures { result ≡ of_overlap (plan_of plan.now) advice overlap }
+{
+    match advice {
+        Advice::A39 => overlaps::is_split(plan, overlap),
+        Advice::A41 => overlaps::adds_nothing(plan, overlap),
+        _ => false,
+    }
+}
+
+/// Whether the advice holds of phase  inverlap.
+fn of_overlap_phase(plan: &Plan, advice: Advice, overlap: Overlap, phase: Phase) -> bool
+    ensures { result ≡ of_overlap_phase (plan_of plan.now) advice overlap phase }
+{
+    match advice {
+        Advice::A40 => overlaps::modifies_itself(plan, overlap, phase),
+        _ => false,
+    }
+}

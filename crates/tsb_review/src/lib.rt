@@ -1,0 +1,24 @@
+//! A second pair of eyes on a plan: what can run and is still wrong, or may be.
+//!
+//! Each advice has a number, A1 to A41, and a definition of its own over the plan. `finding_at` goes through the places
+//! of each advice. Nothing here takes memory, and nothing is remembered but the plan.
+#![tactic(auto)]
+
+mod actuation;
+pub mod advice;
+mod calls;
+mod clearance;
+mod coordination;
+pub mod finding;
+pub mod numbers;
+mod overlaps;
+mod pedestrians;
+pub mod place;
+mod preempts;
+mod service;
+mod splits;
+
+pub use advice::Advice;
+pub use finding::{Finding, finding_at, holds};
+pub use numbers::{Numbers, numbers_of};
+pub use place::{Place, Shape};

@@ -1,0 +1,218 @@
+//! The numbers that the line of a finding shows. Times are in tenths of a second.
+#![tactic(auto, unfolding(tsb_plan::specs::PlanOf::plan_of))]
+
+ghost use Rattle.std.specs.Prelude.{◌≡◌};
+ghost use Rattle.tsb_plan.specs.PlanOf.{plan_of};
+ghost use Rattle.tsb_review.specs.Numbers.{four, number_of, revert_of, of_unit, of_phase, of_detector, of_split, of_pattern, of_preempt, of_overlap, at_place, numbers_of};
+
+use crate::advice::Advice;
+use crate::clearance::reverting;
+use crate::coordination::{first_same, passed_by_overrun, spare_time};
+use crate::finding::Finding;
+use crate::overlaps::{split_at, split_from};
+use crate::pedestrians::pedestrian_time;
+use crate::place::Place;
+use crate::service::{apart_from, rival_of, rivalled};
+use crate::splits::{green_of_split, passed_by};
+use tsb_plan::Plan;
+use tsb_types::{Detector, Overlap, Pattern, Phase, Preempt};
+
+/// The numbers that the line of a finding shows: those of its place, and times, phases or patterns. What an advice does
+/// not have is 0.
+#[derive(Clone, Copy, PartialEq, Eq)]
+pub struct Numbers {
+    /// The number of the place, or for a phase in a pattern that of the phase.
+    pub a: u32,
+    /// A time in tenths of a second, or the number of a phase or a pattern.
+    pub b: u32,
+    /// A time in tenths of a second, or the number of a phase.
+    pub c: u32,
+    /// The number of the pattern, for a phase in a pattern.
+    pub d: u32,
+}
+
+/// Four numbers.
+fn four(a: u32, b: u32, c: u32, d: u32) -> Numbers
+    ensures { result ≡ four a b c d }
+{
+    Numbers { a, b, c, d }
+}
+
+/// The number of a phase, 0 for none.
+fn phase_or_zero(phase: Option<Phase>) -> u32
+    ensures { result ≡ number_of phase }
+{
+    match phase {
+        Some(phase) => u32::from(phase.number()),
+        None => 0,
+    }
+}
+
+/// The number of a pattern, 0 for none.
+fn pattern_or_zero(pattern: Option<Pattern>) -> u32
+    ensures { result ≡ number_of pattern }
+{
+    match pattern {
+        Some(pattern) => u32::from(pattern.number()),
+        None => 0,
+    }
+}
+
+/// The red revert of a phase, 0 for none.
+fn revert_of(plan: &Plan, phase: Option<Phase>) -> u32
+    ensures { result ≡ revert_of (plan_of plan.now) phase }
+{
+    match phase {
+        Some(phase) => plan.red_revert(phase),
+        None => 0,
+    }
+}
+
+/// The numbers of a finding.
+pub fn numbers_of(plan: &Plan, finding: Finding) -> Numbers
+    ensures { result ≡ numbers_of (plan_of plan.now) finding }
+{
+    at_place(plan, finding.advice, finding.place)
+}
+
+/// The numbers of an advice for a place.
+fn at_place(plan: &Plan, advice: Advice, place: Place) -> Numbers
+    ensures { result ≡ at_place (plan_of plan.now) advice place }
+{
+    match place {
+        Place::Unit => of_unit(plan, advice),
+        Place::Phase(phase) => of_phase(plan, advice, phase),
+        Place::Phases(phase, other) => {
+            four(u32::from(phase.number()), u32::from(other.number()), 0, 0)
+        }
+        Place::Detector(detector) => of_detector(plan, advice, detector),
+        Place::Ring(ring) => four(u32::from(ring.number()), 0, 0, 0),
+        Place::Pattern(pattern) => of_pattern(plan, advice, pattern),
+        Place::Split(pattern, phase) => of_split(plan, advice, pattern, phase),
+        Place::Preempt(preempt) => of_preempt(plan, advice, preempt),
+        Place::PreemptPhase(preempt, phase) => {
+            four(u32::from(preempt.number()), u32::from(phase.number()), 0, 0)
+        }
+        Place::Overlap(overlap) => of_overlap(plan, advice, overlap),
+        Place::OverlapPhase(overlap, phase) => {
+            four(u32::from(overlap.number()), u32::from(phase.number()), 0, 0)
+        }
+    }
+}
+
+/// Of the whole plan: the first phase of which it is so, and its red revert.
+fn of_unit(plan: &Plan, advice: Advice) -> Numbers
+    ensures { result ≡ of_unit (plan_of plan.now) advice }
+{
+    match advice {
+        Advice::A16 => {
+            let phase = reverting(plan);
+            four(phase_or_zero(phase), revert_of(plan, phase), 0, 0)
+        }
+        _ => four(0, 0, 0, 0),
+    }
+}
+
+/// Of a phase: its number, and then times or phases.
+fn of_phase(plan: &Plan, advice: Advice, phase: Phase) -> Numbers
+    ensures { result ≡ of_phase (plan_of plan.now) advice phase }
+{
+    let p = u32::from(phase.number());
+    match advice {
+        Advice::A7 => {
+            let rivalled = rivalled(plan);
+            let rival = rival_of(plan, rivalled);
+            four(p, phase_or_zero(rivalled), phase_or_zero(rival), 0)
+        }
+        Advice::A8 => four(p, plan.walk(phase), 0, 0),
+        Advice::A9 => four(p, plan.walk(phase), 0, 0),
+        Advice::A10 => four(p, plan.pedestrian_clear(phase), 0, 0),
+        Advice::A11 => four(p, plan.walk(phase), 0, 0),
+        Advice::A13 => four(p, pedestrian_time(plan, phase), plan.maximum(phase), 0),
+        Advice::A18 => four(p, plan.minimum_gap(phase), plan.passage(phase), 0),
+        Advice::A19 => four(p, plan.passage(phase), 0, 0),
+        Advice::A20 => four(p, plan.time_before_reduction(phase), plan.maximum(phase), 0),
+        Advice::A21 => four(p, plan.minimum_green(phase), 0, 0),
+        _ => four(p, 0, 0, 0),
+    }
+}
+
+/// Of a vehicle detector: its number, a time, and the phase that it calls.
+fn of_detector(plan: &Plan, advice: Advice, detector: Detector) -> Numbers
+    ensures { result ≡ of_detector (plan_of plan.now) advice detector }
+{
+    let d = u32::from(detector.number());
+    let phase = phase_or_zero(plan.call_phase(detector));
+    match advice {
+        Advice::A25 => four(d, plan.detector_delay(detector), phase, 0),
+        Advice::A26 => four(d, plan.detector_extend(detector), phase, 0),
+        _ => four(d, 0, 0, 0),
+    }
+}
+
+/// Of a phase in a pattern: the phase, times or another phase, and last the pattern.
+fn of_split(plan: &Plan, advice: Advice, pattern: Pattern, phase: Phase) -> Numbers
+    ensures { result ≡ of_split (plan_of plan.now) advice pattern phase }
+{
+    let (n, p) = (u32::from(pattern.number()), u32::from(phase.number()));
+    match advice {
+        Advice::A4 => four(p, 0, phase_or_zero(apart_from(plan, pattern, phase)), n),
+        Advice::A12 => {
+            let green = green_of_split(plan, pattern, phase);
+            four(p, pedestrian_time(plan, phase), green, n)
+        }
+        Advice::A14 => {
+            let clearance = plan.pedestrian_clear(phase);
+            let passed = passed_by(plan, pattern, phase, clearance);
+            four(p, clearance, phase_or_zero(passed), n)
+        }
+        Advice::A27 => four(p, spare_time(plan, pattern, phase), 0, n),
+        Advice::A28 => {
+            let passed = passed_by_overrun(plan, pattern, phase);
+            four(p, 0, phase_or_zero(passed), n)
+        }
+        _ => four(p, 0, 0, n),
+    }
+}
+
+/// Of a pattern: its number, and another pattern or times.
+fn of_pattern(plan: &Plan, advice: Advice, pattern: Pattern) -> Numbers
+    ensures { result ≡ of_pattern (plan_of plan.now) advice pattern }
+{
+    let n = u32::from(pattern.number());
+    match advice {
+        Advice::A30 => four(n, pattern_or_zero(first_same(plan, pattern)), 0, 0),
+        Advice::A31 => four(n, plan.offset(pattern), plan.cycle(pattern), 0),
+        Advice::A32 => four(n, plan.cycle(pattern), 0, 0),
+        _ => four(n, 0, 0, 0),
+    }
+}
+
+/// Of a preempt: its number, and times.
+fn of_preempt(plan: &Plan, advice: Advice, preempt: Preempt) -> Numbers
+    ensures { result ≡ of_preempt (plan_of plan.now) advice preempt }
+{
+    let m = u32::from(preempt.number());
+    match advice {
+        Advice::A35 => {
+            let longest = plan.preempt_maximum_presence(preempt);
+            four(m, plan.minimum_duration(preempt), longest, 0)
+        }
+        _ => four(m, 0, 0, 0),
+    }
+}
+
+/// Of an overlap: its number, and two phases.
+fn of_overlap(plan: &Plan, advice: Advice, overlap: Overlap) -> Numbers
+    ensures { result ≡ of_overlap (plan_of plan.now) advice overlap }
+{
+    let o = u32::from(overlap.number());
+    match advice {
+        Advice::A39 => {
+            let phase = split_at(plan, overlap);
+            let other = split_from(plan, overlap, phase);
+            four(o, phase_or_zero(phase), phase_or_zero(other), 0)
+        }
+        _ => four(o, 0, 0, 0),
+    }
+}

@@ -1,0 +1,93 @@
+//! Advices on preempts: A33 to A38. Times are in tenths of a second.
+#![tactic(auto, unfolding(tsb_plan::specs::PlanOf::plan_of))]
+
+ghost use Rattle.std.specs.Prelude.{◌≡◌};
+ghost use Rattle.tsb_plan.specs.PlanOf.{plan_of};
+ghost use Rattle.tsb_review.specs.Preempts.{has_dwell, has_track, fills_track, clears_no_track, lasts_too_long, ends_pedestrians, cuts_walk, cuts_clearance, has_preempt_times, is_never_served};
+
+use crate::calls::serves_pedestrians;
+use tsb_plan::{Object, Plan};
+use tsb_types::{Phase, Preempt};
+
+/// Whether the preempt has a dwell phase.
+fn has_dwell(plan: &Plan, preempt: Preempt) -> bool
+    ensures { result ≡ has_dwell (plan_of plan.now) preempt }
+{
+    plan.at(Object::PreemptDwellPhase, u32::from(preempt.number())) != 0
+}
+
+/// Whether the preempt has a track phase.
+fn has_track(plan: &Plan, preempt: Preempt) -> bool
+    ensures { result ≡ has_track (plan_of plan.now) preempt }
+{
+    plan.at(Object::PreemptTrackPhase, u32::from(preempt.number())) != 0
+}
+
+/// A33: whether the phase clears the track of the preempt, and is served again in its dwell.
+pub(crate) fn fills_track(plan: &Plan, preempt: Preempt, phase: Phase) -> bool
+    ensures { result ≡ fills_track (plan_of plan.now) preempt phase }
+{
+    plan.track_phases(preempt).contains(phase) && plan.dwell_phases(preempt).contains(phase)
+}
+
+/// A34: whether the preempt has no delay and no track phase.
+pub(crate) fn clears_no_track(plan: &Plan, preempt: Preempt) -> bool
+    ensures { result ≡ clears_no_track (plan_of plan.now) preempt }
+{
+    has_dwell(plan, preempt) && !has_track(plan, preempt) && plan.preempt_delay(preempt) == 0
+}
+
+/// A35: whether the minimum duration of the preempt is longer than its maximum presence, which has a limit.
+pub(crate) fn lasts_too_long(plan: &Plan, preempt: Preempt) -> bool
+    ensures { result ≡ lasts_too_long (plan_of plan.now) preempt }
+{
+    has_dwell(plan, preempt)
+        && plan.preempt_maximum_presence(preempt) > 0
+        && plan.preempt_maximum_presence(preempt) < plan.minimum_duration(preempt)
+}
+
+/// Whether the preempt ends the pedestrians of the phase: it is no track phase where there are some, or no dwell phase.
+fn ends_pedestrians(plan: &Plan, preempt: Preempt, phase: Phase) -> bool
+    ensures { result ≡ ends_pedestrians (plan_of plan.now) preempt phase }
+{
+    has_dwell(plan, preempt)
+        && serves_pedestrians(plan, phase)
+        && (has_track(plan, preempt) && !plan.track_phases(preempt).contains(phase)
+            || !plan.dwell_phases(preempt).contains(phase))
+}
+
+/// A36: whether the preempt ends a walk of the phase at once.
+pub(crate) fn cuts_walk(plan: &Plan, preempt: Preempt, phase: Phase) -> bool
+    ensures { result ≡ cuts_walk (plan_of plan.now) preempt phase }
+{
+    ends_pedestrians(plan, preempt, phase) && plan.preempt_minimum_walk(preempt) == 0
+}
+
+/// A37: whether the preempt takes the whole pedestrian clearance of the phase away.
+pub(crate) fn cuts_clearance(plan: &Plan, preempt: Preempt, phase: Phase) -> bool
+    ensures { result ≡ cuts_clearance (plan_of plan.now) preempt phase }
+{
+    ends_pedestrians(plan, preempt, phase)
+        && plan.pedestrian_clear(phase) > 0
+        && plan.enter_pedestrian_clear(preempt) == 0
+}
+
+/// Whether the preempt has times.
+fn has_preempt_times(plan: &Plan, preempt: Preempt) -> bool
+    ensures { result ≡ has_preempt_times (plan_of plan.now) preempt }
+{
+    plan.preempt_delay(preempt) > 0
+        || plan.minimum_duration(preempt) > 0
+        || plan.preempt_maximum_presence(preempt) > 0
+        || plan.preempt_minimum_green(preempt) > 0
+        || plan.preempt_minimum_walk(preempt) > 0
+        || plan.enter_pedestrian_clear(preempt) > 0
+        || plan.track_green(preempt) > 0
+}
+
+/// A38: whether the preempt has times and no dwell phase.
+pub(crate) fn is_never_served(plan: &Plan, preempt: Preempt) -> bool
+    ensures { result ≡ is_never_served (plan_of plan.now) preempt }
+{
+    !has_dwell(plan, preempt) && has_preempt_times(plan, preempt)
+}

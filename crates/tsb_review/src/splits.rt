@@ -1,0 +1,99 @@
+//! Splits of a used pattern, and what a green that ends late does to those that wait. Times are in tenths of a second.
+#![tactic(auto, unfolding(tsb_plan::specs::PlanOf::plan_of))]
+
+ghost use Rattle.std.specs.Prelude.{◌≡◌, ◌≤◌, ◌<◌, ◌+◌, ◌%◌, true};
+ghost use Rattle.tsb_plan.specs.Parts.{cycle, is_used};
+ghost use Rattle.tsb_plan.specs.Plan.{yellow_change, red_clear};
+ghost use Rattle.tsb_plan.specs.PlanOf.{plan_of};
+ghost use Rattle.tsb_objects.specs.Instants.{end_of, instant_from};
+ghost use Rattle.tsb_review.specs.Splits.{split_time_in, green_of_split, is_forced_after, is_passed, passed_by};
+
+use crate::calls::conflicts;
+use tsb_plan::Plan;
+use tsb_rules::split_end;
+use tsb_types::{Pattern, Phase};
+
+/// The split of the phase in the pattern.
+pub(crate) fn split_time_in(plan: &Plan, pattern: Pattern, phase: Phase) -> u32
+    ensures { result ≡ split_time_in (plan_of plan.now) pattern phase }
+{
+    match plan.split_of(pattern) {
+        Some(split) => plan.split_time(split, phase),
+        None => 0,
+    }
+}
+
+/// Yellow change and red clearance of the phase.
+fn clearance(plan: &Plan, phase: Phase) -> u32
+    ensures value { result ≡ yellow_change (plan_of plan.now) phase + red_clear (plan_of plan.now) phase }
+    ensures range { result ≤ 510 }
+{
+    plan.yellow_change(phase) + plan.red_clear(phase)
+}
+
+/// What yellow change and red clearance leave of the split of the phase in the pattern.
+pub(crate) fn green_of_split(plan: &Plan, pattern: Pattern, phase: Phase) -> u32
+    ensures { result ≡ green_of_split (plan_of plan.now) pattern phase }
+{
+    split_time_in(plan, pattern, phase).saturating_sub(clearance(plan, phase))
+}
+
+/// The cycle of a pattern that is used.
+fn cycle_of(plan: &Plan, pattern: Pattern) -> u32
+    requires used { is_used (plan_of plan.now) pattern ≡ true }
+    ensures value { result ≡ cycle (plan_of plan.now) pattern }
+    ensures some { 1 ≤ result }
+    ensures range { result ≤ 2550 }
+{
+    plan.cycle(pattern)
+}
+
+/// When the split of the phase ends, from the beginning of side 1's first split.
+fn end_of(plan: &Plan, pattern: Pattern, phase: Phase) -> u32
+    ensures { result ≡ end_of (plan_of plan.now) pattern phase }
+{
+    match plan.split_of(pattern) {
+        Some(split) => split_end(plan, plan.sequence_in_effect(Some(pattern)), split, phase),
+        None => 0,
+    }
+}
+
+/// How long after the end of the split of the phase the force-off instant of the next one is, within the cycle.
+fn instant_from(plan: &Plan, pattern: Pattern, phase: Phase, next: Phase) -> u32
+    requires used { is_used (plan_of plan.now) pattern ≡ true }
+    ensures { result ≡ instant_from (plan_of plan.now) pattern phase next }
+{
+    let cycle = cycle_of(plan, pattern);
+    let end = end_of(plan, pattern, next) % cycle;
+    let before = (end_of(plan, pattern, phase) % cycle + clearance(plan, next)) % cycle;
+    (end + (cycle - before)) % cycle
+}
+
+/// Whether `next` waits for the phase in the pattern, and its green ends by force-off alone or by a gap.
+fn is_forced_after(plan: &Plan, pattern: Pattern, phase: Phase, next: Phase) -> bool
+    ensures { result ≡ is_forced_after (plan_of plan.now) pattern phase next }
+{
+    conflicts(plan, phase, next)
+        && !plan.is_coordinated_now(Some(pattern), next)
+        && !plan.is_omitted_now(Some(pattern), next)
+}
+
+/// Whether `next`, where it begins so long after the end of the split of the phase, begins at its force-off instant or
+/// after it.
+fn is_passed(plan: &Plan, pattern: Pattern, phase: Phase, late: u32, next: Phase) -> bool
+    ensures { result ≡ is_passed (plan_of plan.now) pattern phase late next }
+{
+    plan.is_used(pattern)
+        && is_forced_after(plan, pattern, phase, next)
+        && instant_from(plan, pattern, phase, next) <= late
+}
+
+/// The first phase that then begins at its force-off instant or after it.
+pub(crate) fn passed_by(plan: &Plan, pattern: Pattern, phase: Phase, late: u32) -> Option<Phase>
+    ensures { result ≡ passed_by (plan_of plan.now) pattern phase late }
+{
+    Phase::all()
+        .iter()
+        .copied()
+        .find(|next| is_passed(plan, pattern, phase, late, *next))
+}

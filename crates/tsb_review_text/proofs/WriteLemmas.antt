@@ -1,0 +1,126 @@
+-- What a writer has taken of a review, piece by piece.
+use Rattle.std.proofs.Common.{◌≡◌, ◌∙◌, ℕ, zero, suc, ◌+◌, ◌-◌, ◌<◌, ◌≤◌, Bool, true, false, if◌then◌else◌, List, [], ◌∷◌, ◌++◌, append_assoc, length, drop, drop-cons, get_or, map, flat_map, refl, sym, ap, arith, subst, OnOk, Option, Some, None}
+use Rattle.std.specs.declared.result.Result.{Result}
+use Rattle.std.specs.declared.result.Result.TheVariants.{Ok, Err}
+use Rattle.std.proofs.lemmas.List.{append-nil}
+use Rattle.std.proofs.lemmas.List.Concat.{flat_map-append}
+use Rattle.std.specs.Io.KnownBytes.{Appends}
+use Rattle.tsb_lines.proofs.StreamLemmas.{Gone, appends-more}
+use Rattle.tsb_lines.specs.Writes.{AppendsFront}
+use Rattle.tsb_lines.specs.declared.writes.WriteError.{WriteError}
+use Rattle.tsb_plan.specs.Plan.{Plan}
+use Rattle.tsb_types.specs.Lists.{run_from}
+use Rattle.tsb_review.specs.declared.advice.Advice.{Advice}
+use Rattle.tsb_review.specs.declared.finding.Finding.{Finding}
+use Rattle.tsb_review.specs.declared.place.Place.{Place}
+use Rattle.tsb_review.specs.Advices.{advices, findings, found, holds, shape}
+use Rattle.tsb_review.specs.Findings.{finding_of}
+use Rattle.tsb_review.specs.Places.{firsts, place_of, places, seconds}
+use Rattle.tsb_review_text.specs.Lines.{line_of, review_text}
+use Rattle.tsb_review_text.specs.Written.{Wrote, line_in, text_at, text_from, text_of}
+
+-- ## The text, part by part
+
+flat-same : {A B : Type 0} (f g : A → List B) → ((x : A) → f x ≡ g x) → (xs : List A) → flat_map f xs ≡ flat_map g xs
+flat-same f g same [] = refl
+flat-same f g same (x ∷ xs) = ap (λ ys. ys ++ flat_map f xs) (same x) ∙ ap (λ ys. g x ++ ys) (flat-same f g same xs)
+
+flat-flat : {A B C : Type 0} (g : B → List C) (f : A → List B) (xs : List A) → flat_map g (flat_map f xs) ≡ flat_map (λ x. flat_map g (f x)) xs
+flat-flat g f [] = refl
+flat-flat g f (x ∷ xs) = flat_map-append g (f x) (flat_map f xs) ∙ ap (λ ys. flat_map g (f x) ++ ys) (flat-flat g f xs)
+
+flat-map : {A B C : Type 0} (g : B → List C) (f : A → B) (xs : List A) → flat_map g (map f xs) ≡ flat_map (λ x. g (f x)) xs
+flat-map g f [] = refl
+flat-map g f (x ∷ xs) = ap (λ ys. g (f x) ++ ys) (flat-map g f xs)
+
+-- the line of a place, where the advice holds of it
+line-at : (plan : Plan) (a : Advice) (place : Place) → flat_map (line_of plan) (found plan a place) ≡ line_in plan (finding_of plan a place)
+line-at plan a place = go (holds plan a place)
+  where
+    go : (b : Bool) →
+        flat_map (line_of plan) (if b then (record { advice = a; place = place }) ∷ [] else [])
+        ≡ line_in plan (if b then Some (record { advice = a; place = place }) else None)
+    go true = append-nil _
+    go false = refl
+
+-- the lines of an advice for the places with a first number
+from-text : (plan : Plan) (a : Advice) (i : ℕ) →
+    flat_map (λ place. flat_map (line_of plan) (found plan a place)) (map (place_of (shape a) i) (run_from 1 (seconds (shape a)))) ≡ text_from plan a i
+unfolding text_from
+from-text plan a i =
+    flat-map (λ place. flat_map (line_of plan) (found plan a place)) (place_of (shape a) i) (run_from 1 (seconds (shape a)))
+    ∙ flat-same (λ k. flat_map (line_of plan) (found plan a (place_of (shape a) i k))) (text_at plan a i) (λ k. line-at plan a (place_of (shape a) i k)) (run_from 1 (seconds (shape a)))
+
+-- the lines of an advice
+advice-text : (plan : Plan) (a : Advice) → flat_map (line_of plan) (flat_map (found plan a) (places (shape a))) ≡ text_of plan a
+unfolding places text_of
+advice-text plan a =
+    let line : Place → List ℕ = λ place. flat_map (line_of plan) (found plan a place) in
+    let at : ℕ → List Place = λ i. map (place_of (shape a) i) (run_from 1 (seconds (shape a))) in
+    flat-flat (line_of plan) (found plan a) (places (shape a))
+    ∙ flat-flat line at (run_from 1 (firsts (shape a)))
+    ∙ flat-same (λ i. flat_map line (at i)) (text_from plan a) (from-text plan a) (run_from 1 (firsts (shape a)))
+
+-- the text of a review, advice by advice
+pub by-advices : (plan : Plan) → review_text plan ≡ flat_map (text_of plan) advices
+unfolding review_text findings
+by-advices plan =
+    flat-flat (line_of plan) (λ a. flat_map (found plan a) (places (shape a))) advices
+    ∙ flat-same (λ a. flat_map (line_of plan) (flat_map (found plan a) (places (shape a)))) (text_of plan) (advice-text plan) advices
+
+-- ## What has gone out
+
+-- nothing yet
+pub gone-none : (a : Option (List ℕ)) (text : List ℕ) (left : List ℕ) → Appends a a [] → text ≡ left → Gone a a text left
+gone-none a text left none is = record { gone = []; grown = none; whole = is }
+
+-- a piece more
+pub gone-piece : {a b c : Option (List ℕ)} {text piece left : List ℕ} → Gone a b text (piece ++ left) → Appends b c piece → Gone a c text left
+gone-piece {a} {b} {c} {text} {piece} {left} so added = record {
+  gone = so.gone ++ piece;
+  grown = appends-more a b c so.gone piece so.grown added;
+  whole = so.whole ∙ sym (append_assoc so.gone piece left);
+}
+
+-- all
+pub wrote-all : (a b : Option (List ℕ)) (text : List ℕ) → Gone a b text [] → Wrote (Ok tt) a b text
+wrote-all a b text so =
+    let same : text ≡ so.gone = so.whole ∙ append-nil so.gone in
+    record {
+      whole = subst (λ (ts : List ℕ). Appends a b ts) (sym same) so.grown;
+      front = (so.gone, [], so.grown, so.whole);
+    }
+
+-- the writer failed within a piece
+pub wrote-front : (a b c : Option (List ℕ)) (text piece left : List ℕ) (e : WriteError) → Gone a b text (piece ++ left) → AppendsFront b c piece → Wrote (Err e) a c text
+wrote-front a b c text piece left e so front = record {
+  whole = tt;
+  front = (
+    so.gone ++ front.0,
+    front.1 ++ left,
+    appends-more a b c so.gone front.0 so.grown front.2,
+    so.whole ∙ ap (λ (ts : List ℕ). so.gone ++ (ts ++ left)) front.3 ∙ ap (λ (ts : List ℕ). so.gone ++ ts) (append_assoc front.0 front.1 left)
+        ∙ sym (append_assoc so.gone front.0 (front.1 ++ left)),
+  );
+}
+
+-- ## Over numbers, and over a list
+
+-- what is left at a number, and behind it
+pub left-at : (f : ℕ → List ℕ) (k end : ℕ) → k < end → flat_map f (run_from k (end - k)) ≡ f k ++ flat_map f (run_from (k + 1) (end - (k + 1)))
+unfolding run_from
+left-at f k end below =
+    let e : end - k ≡ suc (end - (k + 1)) = omega (arith, below) in
+    ap (λ (n : ℕ). flat_map f (run_from k n)) e
+
+pub left-end : (f : ℕ → List ℕ) (k end : ℕ) → end ≤ k → flat_map f (run_from k (end - k)) ≡ []
+unfolding run_from
+left-end f k end over =
+    let e : end - k ≡ zero = omega (arith, over) in
+    ap (λ (n : ℕ). flat_map f (run_from k n)) e
+
+-- what is left of a list at a place
+pub left-of : {A : Type 0} (f : A → List ℕ) (xs : List A) (k : ℕ) (d : A) → k < length xs → flat_map f (drop k xs) ≡ f (get_or xs k d) ++ flat_map f (drop (k + 1) xs)
+left-of f xs k d below =
+    let next : suc k ≡ k + 1 = omega arith in
+    ap (flat_map f) (drop-cons xs k d below) ∙ ap (λ (n : ℕ). f (get_or xs k d) ++ flat_map f (drop n xs)) next

@@ -1,0 +1,14 @@
+use Rattle.std.proofs.Common.{◌∙◌, ◌++◌, ◌∷◌, [], ap, rules}
+use Rattle.tsb_plan.specs.PlanOf.{plan_of}
+use Rattle.tsb_review_text.specs.Lines.{filled, line_of}
+use Rattle.tsb_review_text.specs.Templates.{template}
+use Rattle.tsb_review_text.proofs.LineLemmas.{line-done}
+use Rattle.tsb_review_text.proofs.line.line_of.Goals as goal
+
+pub returns : goal.returns
+unfolding line_of
+returns c =
+    line-done c.numbers_of.result c.args.finding.advice _ _ _
+    (record { a = search rules; b = search rules; c = search rules; d = search rules })
+    c.new-line.ensures c.template.ensures c.push_parts.ensures
+    ∙ ap (λ n. filled n (template c.args.finding.advice) ++ 10 ∷ []) c.numbers_of.ensures

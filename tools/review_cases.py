@@ -1,0 +1,173 @@
+"""Plans that have each advice, and plans a step beside that have not, with the lines that were written by hand.
+
+Each case is a change of a plan without advices: the number of the advice, what is changed, the lines of that advice
+which it then has, and the last change that takes it away.
+"""
+import copy
+import dataclasses
+
+Table = dict[str, dict[str, int]]
+Change = dict[str, int]
+
+
+def per(phases: str, *values: int) -> dict[str, int]:
+    """Values of phases, or one for all of them."""
+    each = values if len(values) > 1 else values * len(phases)
+    return {phase: value for phase, value in zip(phases, each, strict=True)}
+
+
+# Two rings and two sides, a pattern in which all phases are recalled, a railroad preempt and an overlap.
+CLEAN: Table = {
+    "phaseEnabled": per("12345678", 1), "phaseRing": per("12345678", 1, 1, 1, 1, 2, 2, 2, 2),
+    "phaseSide": per("12345678", 1, 1, 2, 2, 1, 1, 2, 2),
+    "phaseConcurrency": per("12345678", 48, 48, 192, 192, 3, 3, 12, 12),
+    "sequenceData": {"1": 1, "2": 2, "3": 3, "4": 4, "17": 5, "18": 6, "19": 7, "20": 8},
+    "phaseMinimumGreen": per("12345678", 5), "phaseMaximum1": per("12345678", 25), "phaseMaximum2": per("12345678", 30),
+    "phasePassage": per("12345678", 25), "phaseMinimumGap": per("12345678", 25),
+    "phaseYellowChange": per("12345678", 35), "phaseRedClear": per("12345678", 15), "unitRedRevert": {"1": 20},
+    "phaseWalk": per("2468", 7), "phasePedestrianClear": per("2468", 9), "pedestrianDetectorCallPhase": per("2468", 2, 4, 6, 8),
+    "vehicleDetectorCallPhase": per("12345678", 1, 2, 3, 4, 5, 6, 7, 8),
+    "patternCycleTime": {"1": 90}, "patternOffsetTime": {"1": 45}, "patternSplitNumber": {"1": 1}, "patternSequenceNumber": {"1": 1},
+    "splitTime": per("12345678", 20, 25, 20, 25, 20, 25, 20, 25), "splitCoordPhase": per("26", 1), "splitMode": per("134578", 1),
+    "preemptTrackPhase": {"1": 136}, "preemptTrackGreen": {"1": 8}, "preemptDwellPhase": {"1": 34}, "preemptExitPhase": {"1": 136},
+    "preemptMinimumGreen": {"1": 5}, "preemptMinimumWalk": {"1": 4}, "preemptEnterPedClear": {"1": 6},
+    "overlapIncludedPhases": {"1": 9},
+}
+
+
+@dataclasses.dataclass(frozen=True)
+class Case:
+    """An advice, a change that brings it, its lines then, and a change after which it is gone."""
+
+    advice: int
+    change: Change
+    lines: list[str]
+    beside: Change
+
+
+LOST = "so a call of one can wait for ever while the other rests"
+CASES = [
+    Case(1, {"vehicleDetectorCallPhase.1": 0, "splitMode.1": 0}, ["phase 1: no detector, button, recall or split mode calls it"],
+         {"phaseSoftRecall.1": 1}),
+    Case(1, {"vehicleDetectorCallPhase.1": 0, "splitMode.1": 5}, ["phase 1: no detector, button, recall or split mode calls it"],
+         {"splitMode.1": 3, "phaseWalk.1": 7}),
+    Case(1, {"vehicleDetectorCallPhase.2": 0, "pedestrianDetectorCallPhase.2": 0, "splitCoordPhase.2": 0, "splitCoordPhase.6": 0,
+             "splitCoordPhase.1": 1, "splitCoordPhase.5": 1}, ["phase 2: no detector, button, recall or split mode calls it"],
+         {"pedestrianDetectorCallPhase.8": 2}),
+    Case(2, {"vehicleDetectorDelay.12": 5}, ["vehicle detector 12: it calls no phase, so its settings have no effect"],
+         {"vehicleDetectorCallPhase.12": 4}),
+    Case(2, {"vehicleDetectorErraticCounts.16": 1}, ["vehicle detector 16: it calls no phase, so its settings have no effect"],
+         {"vehicleDetectorErraticCounts.16": 0}),
+    Case(3, {"phaseConcurrency.1": 16, "phaseConcurrency.6": 2},
+         [f"phases 1 and 6: they are on one side and not concurrent, {LOST}"], {"phaseConcurrency.1": 48, "phaseConcurrency.6": 3}),
+    Case(4, {"phaseConcurrency.1": 16, "phaseConcurrency.6": 2},
+         ["phase 6: it is coordinated in pattern 1 and not concurrent with phase 1 of its side, so it may never be served"],
+         {"splitMode.1": 5}),
+    Case(5, {f"phaseMaxRecall.{p}": 1 for p in (5, 6, 7, 8)}, ["ring 2: all its phases have maximum recall, so its times are fixed"],
+         {"phaseMaxRecall.7": 0}),
+    Case(6, {"phaseSoftRecall.2": 1, "phaseMinRecall.2": 1},
+         ["phase 2: its soft recall never acts, since another recall calls it at all times"], {"phaseMinRecall.2": 0}),
+    Case(7, {"phaseSoftRecall.2": 1, "phaseMinRecall.4": 1, "phasePedRecall.6": 1},
+         ["phase 2: its soft recall never acts in free operation, since phases 4 and 6 are recalled and not concurrent"],
+         {"phaseMinRecall.4": 0, "phaseMinRecall.1": 1}),
+    Case(8, {"phasePedestrianClear.4": 0}, ["phase 4: its walk of 7 s has no pedestrian clearance"], {"phasePedestrianClear.4": 1}),
+    Case(9, {"phaseWalk.6": 3}, ["phase 6: its walk of 3 s is under 4 s"], {"phaseWalk.6": 4}),
+    Case(10, {"phasePedestrianClear.3": 9}, ["phase 3: its pedestrian clearance of 9 s is never shown, since it has no walk"],
+         {"phaseWalk.3": 4}),
+    Case(11, {"pedestrianDetectorCallPhase.8": 0},
+         ["phase 8: its walk of 7 s is never shown, since no button and no pedestrian recall calls it"], {"splitMode.8": 4}),
+    Case(12, {"phasePedestrianClear.4": 14},
+         ["phase 4: its walk and clearance of 21 s are longer than the 20 s of green that its split leaves in pattern 1"],
+         {"phasePedestrianClear.4": 13}),
+    Case(12, {"phaseRedClear.8": 56},
+         ["phase 8: its walk and clearance of 16 s are longer than the 15.9 s of green that its split leaves in pattern 1"],
+         {"phaseRedClear.8": 55}),
+    Case(13, {"phasePedestrianClear.2": 19}, ["phase 2: its walk and clearance of 26 s are longer than its maximum of 25 s"],
+         {"unitMax2.1": 1}),
+    # The instant of phases 3 and 7 is 15 s after the end of the coordinated splits.
+    Case(14, {"phaseRestInWalk.2": 1, "phasePedestrianClear.2": 15},
+         ["phase 2: it rests in walk, and its clearance of 15 s can end after the force-off of phase 3 in pattern 1"],
+         {"phasePedestrianClear.2": 14}),
+    Case(14, {"phaseRestInWalk.2": 1, "phasePedestrianClear.2": 15, "splitMode.3": 5},
+         ["phase 2: it rests in walk, and its clearance of 15 s can end after the force-off of phase 7 in pattern 1"],
+         {"splitMode.7": 5}),
+    Case(15, {"phaseRedClear.7": 0}, ["phase 7: its red clearance is 0 s, and phases across the barrier conflict with it"],
+         {"phaseRedClear.7": 1}),
+    Case(16, {"unitRedRevert.1": 19, "phaseRedRevert.1": 20}, ["unit: red reverts are under 2 s, that of phase 2 is 1.9 s"],
+         {"unitRedRevert.1": 20}),
+    Case(17, {"phasePassage.4": 0, "phaseMinimumGap.4": 0},
+         ["phase 4: its passage is 0 s and no detector extends it, so any gap between cars ends its green"],
+         {"vehicleDetectorExtend.4": 1}),
+    Case(18, {"phaseMinimumGap.2": 20},
+         ["phase 2: its gap is 2 s as soon as a conflict begins, and not its passage of 2.5 s, since its times of reduction are 0 s"],
+         {"phaseTimeToReduce.2": 1}),
+    Case(18, {"phaseMinimumGap.2": 20, "phaseCarsBeforeReduction.2": 5},
+         ["phase 2: its gap is 2 s as soon as a conflict begins, and not its passage of 2.5 s, since its times of reduction are 0 s"],
+         {"phaseTimeBeforeReduction.2": 1}),
+    Case(19, {"phaseCarsBeforeReduction.6": 3}, ["phase 6: its gap is never reduced, since its minimum gap is its passage of 2.5 s"],
+         {"phaseMinimumGap.6": 24}),
+    Case(20, {"phaseMinimumGap.2": 20, "phaseTimeBeforeReduction.2": 25},
+         ["phase 2: its time before reduction of 25 s is not below its maximum of 25 s, so its gap is not reduced in time"],
+         {"phaseTimeBeforeReduction.2": 24}),
+    Case(21, {"phaseVariableInitial.2": 1, "phaseAddedInitial.2": 20, "phaseMaximumInitial.2": 5},
+         ["phase 2: its variable initial is never over its minimum green of 5 s"], {"phaseMaximumInitial.2": 6}),
+    Case(21, {"phaseVariableInitial.2": 1, "phaseMaximumInitial.2": 15},
+         ["phase 2: its variable initial is never over its minimum green of 5 s"], {"phaseAddedInitial.2": 1}),
+    Case(22, {"phaseAddedInitial.8": 1}, ["phase 8: its added initial has no effect, since phaseVariableInitial is 0"],
+         {"phaseVariableInitial.8": 1, "phaseMaximumInitial.8": 12}),
+    Case(23, {"phaseDynamicMaxLimit.2": 50}, ["phase 2: its dynamic maximum has no effect, since its step is 0 s"],
+         {"phaseDynamicMaxStep.2": 1}),
+    Case(24, {"phaseDynamicMaxStep.2": 50}, ["phase 2: its dynamic maximum has no effect, since its limit is 0 s"],
+         {"phaseDynamicMaxLimit.2": 5}),
+    Case(25, {"vehicleDetectorDelay.3": 251},
+         ["vehicle detector 3: its delay of 25.1 s is longer than the maximum of each phase that conflicts with phase 3"],
+         {"vehicleDetectorDelay.3": 250}),
+    Case(26, {"vehicleDetectorExtend.9": 12, "vehicleDetectorCallPhase.9": 5, "phaseMaxRecall.5": 1},
+         ["vehicle detector 9: its extension of 1.2 s has no effect, since phase 5 has maximum recall"], {"phaseMaxRecall.5": 0}),
+    Case(27, {"phaseMinimumGreen.3": 15}, ["phase 3: its split leaves 0 s over minimum green, yellow and red clearance in pattern 1"],
+         {"phaseMinimumGreen.3": 14}),
+    Case(27, {"phaseMinimumGreen.3": 14, "phaseRedClear.3": 16},
+         ["phase 3: its split leaves 0.9 s over minimum green, yellow and red clearance in pattern 1"], {"phaseRedClear.3": 15}),
+    # Phases 1 and 5 have 15 s of green after phase 4: 20 s of its own green and 15 s more are 35 s.
+    Case(28, {"phasePedestrianClear.4": 28},
+         ["phase 4: its walk and clearance can end after the force-off of phase 1 in pattern 1, which then lasts up to a cycle"],
+         {"phasePedestrianClear.4": 27}),
+    Case(29, {"splitMode.3": 5, "phaseMinRecall.3": 1}, ["phase 3: its recall has no effect in pattern 1, which omits it"],
+         {"phaseMinRecall.3": 0}),
+    Case(30, {"patternCycleTime.4": 90, "patternOffsetTime.4": 45, "patternSplitNumber.4": 1, "patternSequenceNumber.4": 1},
+         ["pattern 4: it is the same as pattern 1"], {"patternOffsetTime.4": 44}),
+    Case(31, {"patternOffsetTime.1": 46}, ["pattern 1: its offset of 46 s is beyond half of its cycle of 90 s"],
+         {"patternOffsetTime.1": 45}),
+    Case(32, {"splitMode.7": 0},
+         ["pattern 1: its coordinated phases yield in one tick of each cycle of 90 s, so a later call waits for the next one"],
+         {"splitMode.7": 5}),
+    Case(33, {"preemptTrackPhase.1": 34}, [f"preempt 1: phase {p} is a track phase and a dwell phase, so cars go on to come over the track"
+                                           for p in (2, 6)], {"preemptDwellPhase.1": 17}),
+    Case(34, {"preemptTrackPhase.1": 0}, ["preempt 1: it has no delay and no track phases, so it clears no track"], {"preemptDelay.1": 1}),
+    Case(35, {"preemptMinimumDuration.1": 41, "preemptMaximumPresence.1": 40},
+         ["preempt 1: its minimum duration of 41 s is longer than its maximum presence of 40 s"], {"preemptMaximumPresence.1": 41}),
+    Case(36, {"preemptMinimumWalk.1": 0}, [f"preempt 1: its minimum walk is 0 s, so it can end a walk of phase {p} at once"
+                                           for p in (2, 4, 6, 8)], {"preemptMinimumWalk.1": 1}),
+    Case(37, {"preemptEnterPedClear.1": 0, "preemptTrackPhase.1": 0},
+         [f"preempt 1: its pedestrian clearance is 0 s, so phase {p} can end with people on its crossing" for p in (4, 8)],
+         {"preemptEnterPedClear.1": 1}),
+    Case(38, {"preemptDelay.2": 1}, ["preempt 2: it has no dwell phases, so its times have no effect"], {"preemptDelay.2": 0}),
+    Case(39, {"overlapIncludedPhases.1": 129},
+         ["overlap 1: it includes phases 1 and 8 of two rings that are not concurrent, so it turns yellow between them"],
+         {"overlapIncludedPhases.1": 33}),
+    Case(40, {"overlapType.1": 1, "overlapModifierPhases.1": 8},
+         ["overlap 1: phase 4 is an included and a modifier phase, so it is not green with it"], {"overlapModifierPhases.1": 4}),
+    Case(41, {"overlapIncludedPhases.1": 33}, ["overlap 1: no phase of it follows another in a ring, so it shows what its phases show"],
+         {"overlapIncludedPhases.1": 41}),
+    Case(41, {"overlapIncludedPhases.2": 1}, ["overlap 2: no phase of it follows another in a ring, so it shows what its phases show"],
+         {"overlapType.2": 1, "overlapModifierPhases.2": 2}),
+]
+
+
+def changed(plan: Table, change: Change) -> Table:
+    """A plan with values in place of its own."""
+    new = copy.deepcopy(plan)
+    for at, value in change.items():
+        name, index = at.split(".")
+        new.setdefault(name, {})[index] = value
+    return new

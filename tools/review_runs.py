@@ -1,0 +1,91 @@
+"""Runs of the bench that show what an advice warns of, and that it does not come a step beside.
+
+Each run is a plan with the advice or a step beside, what happens on the street, and commands with the answers that show
+it, worked by hand from docs/MANUAL.md. Display lines are left out.
+"""
+import dataclasses
+import json
+import pathlib
+
+from review_cases import CLEAN, Change, Table, changed
+
+EXAMPLES = pathlib.Path(__file__).resolve().parent.parent / "examples"
+
+
+@dataclasses.dataclass(frozen=True)
+class Run:
+    """An advice, whether the plan has it, the plan, the rows of a log, commands and what they are answered."""
+
+    advice: int
+    has: bool
+    plan: Table
+    log: str
+    commands: list[str]
+    answers: list[str]
+
+
+def row(tick: int, *detectors: int, button: int = 0) -> str:
+    """A row of a log with these vehicle detectors on, and this button or none."""
+    on = ("".join("1" if number in which else "0" for number in range(1, most + 1))
+          for most, which in [(16, detectors), (8, (button,)), (4, ())])
+    return f"{tick:07} {' '.join(on)}\n"
+
+
+def with_recalls(phases: str, change: Change) -> Table:
+    """The plan without advices, with minimum recalls and a change."""
+    return changed(CLEAN, {**{f"phaseMinRecall.{phase}": 1 for phase in phases}, **change})
+
+
+def example(name: str) -> Table:
+    """A plan of examples/."""
+    plan = json.loads((EXAMPLES / f"{name}.json").read_bytes())
+    return {name: table for name, table in plan.items() if name != "version"}
+
+
+# Each phase of side 1 is concurrent with one of the other ring alone.
+APART: Change = {"phaseConcurrency.1": 16, "phaseConcurrency.5": 1, "phaseConcurrency.2": 32, "phaseConcurrency.6": 2}
+# Cars of half a second, a second behind one another, from tick 31 to 115, while phase 4 waits.
+CARS = row(20, 4) + "".join(row(tick, 2, 4) + row(tick + 5, 4) for tick in range(31, 112, 15))
+# A car that comes to detector 3 and stays: at the instant of the coordinated phases, and a tick later.
+AT_INSTANT, LATE = row(1245, 3), row(1246, 3)
+# Someone presses button 4 in the first cycle, and cars stay on detectors 1 and 3.
+CROSSING = row(100, 1, 3, button=4) + row(103, 1, 3)
+
+RUNS = [
+    # Nothing calls phase 1, and it stays red. With a recall it is the first of its ring.
+    Run(1, True, with_recalls("26", {"vehicleDetectorCallPhase.1": 0, "splitMode.1": 0}), row(100, 1, 3, 4),
+        ["step 4000", "when interval 1"], ["never"]),
+    Run(1, False, with_recalls("126", {"vehicleDetectorCallPhase.1": 0, "splitMode.1": 0}), row(100, 1, 3, 4),
+        ["step 1", "when interval 1"], ["tick 0000001"]),
+    # Phases 2 and 6 rest, and a car waits at phase 1, which goes with 5 alone. Else phase 2 ends for it at once.
+    Run(3, True, with_recalls("26", APART), row(100, 1), ["step 4000", "when call 1", "when interval 1"], ["tick 0000100", "never"]),
+    Run(3, False, with_recalls("26", {}), row(100, 1), ["step 150", "when interval 1"], ["tick 0000150"]),
+    # A pattern is coordinated on phases 2 and 6, and 1 and 5 come before them whenever side 1 is served.
+    Run(4, True, with_recalls("145", APART), "", ["pattern 1", "step 4000", "when interval 2", "when interval 6"],
+        ["ok", "never", "never"]),
+    Run(4, False, with_recalls("145", {}), "", ["pattern 1", "step 101", "when interval 2", "when interval 6"],
+        ["ok", "tick 0000101", "tick 0000101"]),
+    # The recalls of phases 1 and 3 call one of them at all times. With that of 1 alone, phase 2 has its turn.
+    Run(7, True, with_recalls("13", {"phaseSoftRecall.2": 1}), "", ["step 4000", "when interval 2"], ["never"]),
+    Run(7, False, with_recalls("1", {"phaseSoftRecall.2": 1}), "", ["step 101", "when interval 2"], ["tick 0000101"]),
+    # The clearance of phase 2 begins at its instant and lasts 12 s, so phase 3 begins 1 s behind its own, and is green
+    # for 89 s. Its split and its maximum are 15 s.
+    Run(14, True, example("main_and_oak"), AT_INSTANT,
+        ["pattern 1", "step 2309", "when ped 2", "when interval 3", "step 1", "when interval 3"],
+        ["ok", "tick 0001365", "tick 0001420", "tick 0002310"]),
+    # A clearance of 10 s: phase 3 begins 1 s before its instant. It ends after the 7 s of phase 8, which is green beside it.
+    Run(14, False, changed(example("main_and_oak"), {"phasePedestrianClear.2": 10, "phasePedestrianClear.6": 10}), AT_INSTANT,
+        ["pattern 1", "step 1470", "when interval 3"], ["ok", "tick 0001470"]),
+    # The gap of phase 2 is half a second, not 2.5 s: the first gap between cars after its 5 s ends its green.
+    Run(18, True, with_recalls("26", {"phaseMinimumGap.2": 5}), CARS, ["step 56", "when interval 2"], ["tick 0000056"]),
+    Run(18, False, with_recalls("26", {}), CARS, ["step 136", "when interval 2"], ["tick 0000136"]),
+    # Walk and clearance of phase 4 overrun its split by 15 s, so phase 1 begins at its instant, local 600, and is green
+    # for a whole cycle. With a second less it begins a second before, and ends after its minimum of 5 s.
+    Run(28, True, changed(CLEAN, {"phasePedestrianClear.4": 28}), CROSSING,
+        ["pattern 1", "step 1949", "when interval 1", "step 1", "when interval 1"], ["ok", "tick 0001050", "tick 0001950"]),
+    Run(28, False, changed(CLEAN, {"phasePedestrianClear.4": 27}), CROSSING,
+        ["pattern 1", "step 1090", "when interval 1"], ["ok", "tick 0001090"]),
+    # The same car a tick later finds no yield, and waits for the next cycle.
+    Run(32, True, example("main_and_oak"), LATE, ["pattern 1", "step 2199", "when interval 3", "step 1", "when interval 3"],
+        ["ok", "never", "tick 0002200"]),
+]

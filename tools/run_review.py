@@ -1,0 +1,177 @@
+#!/usr/bin/env python3
+"""Compares the reviews of plans with lines that were written by hand, and with an independent reading.
+
+    tools/run_review.py PROGRAM TSB [PLANS [SEED]]
+
+PROGRAM is that of tsb_review_runs. It is given the plans of tools/review_cases.py, the plans of examples/, and as many
+at random as PLANS says (3,000): changes of these, of which those that break a rule are passed over. What it answers is
+compared with tools/review_rules.py, and of the cases also with their own lines. Each advice has to occur in both.
+TSB is the program tsb. It runs tools/review_runs.py, which show in runs what some advices warn of.
+"""
+import collections
+import json
+import pathlib
+import random
+import subprocess
+import sys
+import tempfile
+
+import review_cases
+import review_rules
+import review_runs
+from review_cases import Table
+
+TOP = pathlib.Path(__file__).resolve().parent.parent
+REFUSED, REVIEWED = "refused", "reviewed"
+ADVICES = 41
+# Display lines have so many characters.
+DISPLAY = 53
+# Objects of phases, detectors and so on, with the number of their indices and values that bring advices about.
+LIST = [0, 1, 2, 8, 9, 34, 33, 48, 72, 129, 132, 136, 192]
+VALUES = {
+    **{f"phase{it}": (8, [0, 1]) for it in ["MinRecall", "MaxRecall", "PedRecall", "SoftRecall", "RestInWalk", "VariableInitial",
+                                           "NonLock", "DualEntry"]},
+    "phaseEnabled": (9, [0, 1]), "phaseConcurrency": (8, [1, 2, 3, 4, 8, 12, 16, 32, 48, 64, 128, 192]),
+    "phaseWalk": (8, [0, 1, 3, 4, 5, 7, 10, 20]), "phasePedestrianClear": (8, [0, 1, 5, 9, 12, 15, 16, 20, 28, 40]),
+    "phaseMinimumGreen": (8, [0, 1, 5, 9, 10, 14, 15]), "phaseMaximum1": (8, [5, 10, 20, 25, 30]), "phaseMaximum2": (8, [15, 20, 40]),
+    "phaseMaximumInitial": (8, [0, 4, 5, 10, 20]), "phaseAddedInitial": (8, [0, 1, 20]),
+    "phaseTimeBeforeReduction": (8, [0, 1, 10, 20, 25, 30]), "phaseTimeToReduce": (8, [0, 1, 10]),
+    "phaseCarsBeforeReduction": (8, [0, 1, 5]), "phasePassage": (8, [0, 10, 20, 25, 30]), "phaseMinimumGap": (8, [0, 10, 20, 25]),
+    "phaseYellowChange": (8, [30, 35, 40]), "phaseRedClear": (8, [0, 1, 10, 15, 20, 55]), "phaseRedRevert": (8, [0, 10, 20]),
+    "phaseDynamicMaxLimit": (8, [0, 30]), "phaseDynamicMaxStep": (8, [0, 50]), "unitRedRevert": (1, [0, 19, 20]), "unitMax2": (1, [0, 1]),
+    "vehicleDetectorCallPhase": (16, list(range(9))), "vehicleDetectorDelay": (16, [0, 5, 150, 200, 250, 251, 400]),
+    "vehicleDetectorExtend": (16, [0, 5]), "vehicleDetectorMaxPresence": (16, [0, 5]), "pedestrianDetectorCallPhase": (8, list(range(9))),
+    "patternOffsetTime": (2, [0, 10, 40, 45, 46, 79]), "splitMode": (8, [0, 1, 2, 3, 4, 5]),
+    "splitTime": (8, [10, 15, 20, 25, 30, 35, 40]), "splitCoordPhase": (8, [0, 1]),
+    "preemptDelay": (4, [0, 1, 5]), "preemptMinimumDuration": (4, [0, 10, 30]), "preemptMaximumPresence": (4, [0, 20, 60]),
+    "preemptMinimumGreen": (4, [0, 5]), "preemptMinimumWalk": (4, [0, 4]), "preemptEnterPedClear": (4, [0, 8]),
+    "preemptTrackGreen": (4, [0, 8]), "preemptTrackPhase": (4, LIST), "preemptDwellPhase": (4, LIST), "preemptExitPhase": (4, LIST),
+    "overlapIncludedPhases": (4, LIST), "overlapType": (4, [0, 1]), "overlapModifierPhases": (4, LIST),
+}
+# A pattern, given as a whole, with what it may have of each.
+PATTERN = {"patternCycleTime": [80, 90], "patternOffsetTime": [0, 40, 45, 50], "patternSplitNumber": [1], "patternSequenceNumber": [1]}
+
+
+def examples() -> list[Table]:
+    """The plans of examples/ in version 2."""
+    plans = [json.loads(path.read_bytes()) for path in sorted((TOP / "examples").glob("*.json")) if path.stat().st_size]
+    return [{name: table for name, table in plan.items() if name != "version"} for plan in plans if plan["version"] == 2]
+
+
+def of_cases(source: random.Random) -> Table:
+    """The plan without advices with some of the cases on it, each with its last change or without."""
+    plan = review_cases.CLEAN
+    for case in source.sample(review_cases.CASES, source.randint(1, 4)):
+        plan = review_cases.changed(plan, case.change)
+        if source.random() < 0.25:
+            plan = review_cases.changed(plan, case.beside)
+    return plan
+
+
+def at_random(source: random.Random, bases: list[Table]) -> Table:
+    """A plan with some values changed."""
+    base = of_cases(source) if source.random() < 0.6 else source.choice(bases)
+    change: review_cases.Change = {}
+    for _ in range(source.choice([0, 1, 1, 2, 3, 5])):
+        name, (indices, values) = source.choice(list(VALUES.items()))
+        change[f"{name}.{source.randint(1, indices)}"] = source.choice(values)
+    if source.random() < 0.2:
+        pattern = source.randint(1, 16)
+        change |= {f"{name}.{pattern}": source.choice(values) for name, values in PATTERN.items()}
+    if source.random() < 0.3:
+        # (two splits of one ring and side, whose sum stays)
+        one, other = source.choice([(1, 2), (3, 4), (5, 6), (7, 8)])
+        first = source.randint(8, 37)
+        change |= {f"splitTime.{one}": first, f"splitTime.{other}": 45 - first}
+    return review_cases.changed(base, change)
+
+
+def answers(program: str, plans: list[Table]) -> list[list[str] | None]:
+    """What the program answers to each plan: its lines, or none where it breaks a rule."""
+    text = "".join(json.dumps({"version": 2, **plan}) + "\n" for plan in plans)
+    done = subprocess.run([program], input=text, capture_output=True, text=True, check=True)
+    given: list[list[str] | None] = []
+    lines: list[str] = []
+    for line in done.stdout.splitlines():
+        if line == REFUSED:
+            given.append(None)
+        elif line == REVIEWED:
+            given.append(lines)
+            lines = []
+        else:
+            lines.append(line)
+    assert len(given) == len(plans) and not lines, "an answer for each plan"
+    return given
+
+
+def case_faults(program: str) -> list[str]:
+    """What the cases have otherwise than they should."""
+    clean = review_cases.CLEAN
+    plans = [clean]
+    for case in review_cases.CASES:
+        has = review_cases.changed(clean, case.change)
+        plans += [has, review_cases.changed(has, case.beside)]
+    given = answers(program, plans)
+    faults = [] if given[0] == [] else [f"the clean plan: {given[0]}"]
+    for number, case in enumerate(review_cases.CASES):
+        name = f"A{case.advice} "
+        for lines, plan, wanted in zip(given[2 * number + 1:], plans[2 * number + 1:], [case.lines, []]):
+            found = [line.removeprefix(name) for line in lines or [] if line.startswith(name)]
+            if lines is None or found != wanted:
+                faults.append(f"A{case.advice} with {case.change}: {lines}, not {wanted}")
+            elif lines != review_rules.review(plan):
+                faults.append(f"A{case.advice}: {lines}, by the reading {review_rules.review(plan)}")
+    missing = set(range(1, ADVICES + 1)) - {case.advice for case in review_cases.CASES}
+    return [*faults, *(f"A{advice} has no case" for advice in sorted(missing))]
+
+
+def random_faults(program: str, plans: int, seed: int) -> list[str]:
+    """What plans at random have otherwise than by the reading, and which advices they do not have."""
+    source = random.Random(seed)
+    bases = [review_cases.CLEAN, *examples()]
+    drawn = [*bases, *(at_random(source, bases) for _ in range(plans))]
+    counted: collections.Counter[str] = collections.Counter()
+    faults: list[str] = []
+    passed = 0
+    for plan, lines in zip(drawn, answers(program, drawn)):
+        if lines is None:
+            continue
+        passed += 1
+        counted.update({line.split(" ")[0] for line in lines})
+        if lines != review_rules.review(plan):
+            faults.append(f"{json.dumps(plan)}: {lines}, by the reading {review_rules.review(plan)}")
+    print(f"{passed} of {len(drawn)} plans meet the rules; plans with each advice: "
+          + ", ".join(f"A{n} {counted[f'A{n}']}" for n in range(1, ADVICES + 1)))
+    return [*faults, *(f"no plan has A{n}" for n in range(1, ADVICES + 1) if not counted[f"A{n}"])]
+
+
+def run_faults(tsb: str) -> list[str]:
+    """What the runs of the bench show otherwise than they should."""
+    faults = []
+    with tempfile.TemporaryDirectory() as folder:
+        plan, log = (pathlib.Path(folder, name) for name in ("plan.json", "rows.log"))
+        for it in review_runs.RUNS:
+            plan.write_text(json.dumps({"version": 2, **it.plan}))
+            log.write_text(it.log)
+            done = subprocess.run([tsb, "run", plan, log], input="\n".join(it.commands) + "\n", capture_output=True, text=True, check=True)
+            answers = [line for line in done.stdout.splitlines() if len(line) < DISPLAY]
+            has = any(line.startswith(f"A{it.advice} ") for line in review_rules.review(it.plan))
+            if answers != it.answers or has != it.has:
+                faults.append(f"A{it.advice} in a run: {answers}, not {it.answers}")
+    return faults
+
+
+def main(words: list[str]) -> int:
+    """Runs all three, and says what differs."""
+    program, tsb = words[:2]
+    plans, seed = int(words[2]) if len(words) > 2 else 3_000, int(words[3]) if len(words) > 3 else 1
+    faults = [*case_faults(program), *random_faults(program, plans, seed), *run_faults(tsb)]
+    for fault in faults[:20]:
+        print(fault)
+    passed = len(review_cases.CASES) + len(review_runs.RUNS) + 1
+    print(f"0 passed, {len(faults)} failed" if faults else f"{passed} passed, 0 failed")
+    return 1 if faults else 0
+
+
+if __name__ == "__main__":
+    sys.exit(main(sys.argv[1:]))
