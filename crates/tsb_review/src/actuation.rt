@@ -1,10 +1,12 @@
 //! Advices on actuation: A17 to A26. Times are in tenths of a second.
 #![tactic(auto, unfolding(tsb_plan::specs::PlanOf::plan_of))]
 
-ghost use Rattle.std.specs.Prelude.{◌≡◌};
+ghost use Rattle.std.specs.Prelude.{◌≡◌, ◌||◌, not, nat_lt};
+ghost use Rattle.std.specs.List.{list_all};
 ghost use Rattle.tsb_plan.specs.Parts.{call_phase, detector_delay};
-ghost use Rattle.tsb_plan.specs.Plan.{has_maximum_recall};
+ghost use Rattle.tsb_plan.specs.Plan.{phases, has_maximum_recall, maximum};
 ghost use Rattle.tsb_plan.specs.PlanOf.{plan_of};
+ghost use Rattle.tsb_review.specs.Calls.{conflicts};
 ghost use Rattle.tsb_review.specs.Actuation.{has_extension, ends_at_any_gap, reduces_at_once, has_gap_trap, has_reduction, reduces_nothing, reduces_too_late, longest_initial, has_idle_initial, adds_without_variable, has_limit_alone, has_step_alone, waits_longer, phase_and, delays_too_long, extends_for_nothing};
 
 use crate::calls::{conflicts, detector_calls, has_conflicts, has_detector};
@@ -125,9 +127,14 @@ pub(crate) fn has_step_alone(plan: &Plan, phase: Phase) -> bool
 fn waits_longer(plan: &Plan, time: u32, phase: Phase) -> bool
     ensures { result ≡ waits_longer (plan_of plan.now) time phase }
 {
-    has_conflicts(plan, phase)
-        && Phase::all().iter().all(|other| !conflicts(plan, phase, *other)
-            || plan.maximum(*other) < time)
+    has_conflicts(plan, phase) && all_end_sooner(plan, time, phase)
+}
+
+/// Whether each phase that conflicts with the phase has a maximum below this time.
+fn all_end_sooner(plan: &Plan, time: u32, phase: Phase) -> bool
+    ensures { result ≡ list_all (λ q. not (conflicts (plan_of plan.now) phase q) || nat_lt (maximum (plan_of plan.now) q) time) (phases (plan_of plan.now)) }
+{
+    Phase::all().iter().all(|other| !conflicts(plan, phase, *other) || plan.maximum(*other) < time)
 }
 
 /// A25: whether the delay of the vehicle detector is longer than the maximum of each phase that conflicts with the one

@@ -1,7 +1,7 @@
 //! What calls a phase, and which phases conflict with it, as a plan says it for all runs.
 #![tactic(auto, unfolding(tsb_plan::specs::PlanOf::plan_of))]
 
-ghost use Rattle.std.specs.Prelude.{◌≡◌};
+ghost use Rattle.std.specs.Prelude.{◌≡◌, Some, None};
 ghost use Rattle.tsb_types.specs.Lists.{is};
 ghost use Rattle.tsb_plan.specs.Parts.{call_phase, pedestrian_call_phase};
 ghost use Rattle.tsb_plan.specs.PlanOf.{plan_of};
@@ -49,14 +49,23 @@ pub(crate) fn has_button(plan: &Plan, phase: Phase) -> bool
         .any(|button| button_calls(plan, *button, phase))
 }
 
-/// Whether the phase is called at all times while a pattern runs, or in free operation: by a recall of its own or of its
-/// split mode, for vehicles or pedestrians, or as a coordinated phase.
-pub(crate) fn is_recalled(plan: &Plan, runs: Option<Pattern>, phase: Phase) -> bool
-    ensures { result ≡ is_recalled (plan_of plan.now) runs phase }
+/// Whether the phase is called at all times in free operation, by a recall of its own for vehicles or pedestrians.
+pub(crate) fn is_recalled(plan: &Plan, phase: Phase) -> bool
+    ensures { result ≡ is_recalled (plan_of plan.now) None phase }
 {
-    plan.is_on_minimum_recall(runs, phase)
-        || plan.is_on_maximum_recall(runs, phase)
-        || plan.is_on_pedestrian_recall(runs, phase)
+    plan.is_on_minimum_recall(None, phase)
+        || plan.is_on_maximum_recall(None, phase)
+        || plan.is_on_pedestrian_recall(None, phase)
+}
+
+/// Whether the phase is called at all times while the pattern runs: by a recall of its own or of its split mode, for
+/// vehicles or pedestrians, or as a coordinated phase.
+pub(crate) fn is_recalled_in(plan: &Plan, pattern: Pattern, phase: Phase) -> bool
+    ensures { result ≡ is_recalled (plan_of plan.now) (Some pattern) phase }
+{
+    plan.is_on_minimum_recall(Some(pattern), phase)
+        || plan.is_on_maximum_recall(Some(pattern), phase)
+        || plan.is_on_pedestrian_recall(Some(pattern), phase)
 }
 
 /// Whether some used pattern recalls the phase.
@@ -64,7 +73,7 @@ pub(crate) fn is_recalled_by_pattern(plan: &Plan, phase: Phase) -> bool
     ensures { result ≡ is_recalled_by_pattern (plan_of plan.now) phase }
 {
     Pattern::all().iter().any(|pattern| {
-        plan.is_used(*pattern) && is_recalled(plan, Some(*pattern), phase)
+        plan.is_used(*pattern) && is_recalled_in(plan, *pattern, phase)
     })
 }
 

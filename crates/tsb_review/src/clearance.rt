@@ -2,6 +2,8 @@
 #![tactic(auto, unfolding(tsb_plan::specs::PlanOf::plan_of))]
 
 ghost use Rattle.std.specs.Prelude.{◌≡◌};
+ghost use Rattle.std.specs.List.{list_any};
+ghost use Rattle.tsb_plan.specs.Plan.{phases};
 ghost use Rattle.tsb_plan.specs.PlanOf.{plan_of};
 ghost use Rattle.tsb_review.specs.Clearance.{is_across, clears_without_red, reverts_soon, reverting, has_short_revert};
 
@@ -27,9 +29,16 @@ pub(crate) fn clears_without_red(plan: &Plan, phase: Phase) -> bool
     plan.is_enabled(phase)
         && !is_for_pedestrians(plan, phase)
         && plan.red_clear(phase) == 0
-        && Phase::all()
-            .iter()
-            .any(|other| is_across(plan, phase, *other))
+        && has_across(plan, phase)
+}
+
+/// Whether there are phases of another side than the phase.
+fn has_across(plan: &Plan, phase: Phase) -> bool
+    ensures { result ≡ list_any (is_across (plan_of plan.now) phase) (phases (plan_of plan.now)) }
+{
+    Phase::all()
+        .iter()
+        .any(|other| is_across(plan, phase, *other))
 }
 
 /// Whether the phase is enabled, and its red revert is under 2 seconds.

@@ -2,12 +2,14 @@
 #![tactic(auto, unfolding(tsb_plan::specs::PlanOf::plan_of))]
 
 ghost use Rattle.std.specs.Prelude.{◌≡◌, ◌==◌};
+ghost use Rattle.std.specs.List.{list_any};
 ghost use Rattle.tsb_plan.specs.Objects.{indices};
+ghost use Rattle.tsb_plan.specs.Plan.{phases};
 ghost use Rattle.tsb_plan.specs.PlanOf.{plan_of};
 ghost use Rattle.tsb_review.specs.Splits.{passed_by};
 ghost use Rattle.tsb_review.specs.Coordination.{spare_time, has_tight_split, overrun, makes_late, recalls_omitted, is_same_before, first_same, is_repeated, has_long_offset, is_actuated, yields_once};
 
-use crate::calls::is_recalled;
+use crate::calls::{is_recalled, is_recalled_in};
 use crate::pedestrians::{overruns_split, pedestrian_time};
 use crate::service::has_soft_recall;
 use crate::splits::{green_of_split, passed_by};
@@ -63,7 +65,7 @@ pub(crate) fn recalls_omitted(plan: &Plan, pattern: Pattern, phase: Phase) -> bo
     plan.is_used(pattern)
         && plan.is_enabled(phase)
         && plan.is_omitted_now(Some(pattern), phase)
-        && (is_recalled(plan, None, phase) || has_soft_recall(plan, phase))
+        && (is_recalled(plan, phase) || has_soft_recall(plan, phase))
 }
 
 /// Whether pattern `other` comes before the pattern, and is used with the same cycle, offset, split table and sequence.
@@ -116,15 +118,21 @@ fn is_actuated(plan: &Plan, pattern: Pattern, phase: Phase) -> bool
     plan.is_enabled(phase)
         && !plan.is_coordinated_now(Some(pattern), phase)
         && !plan.is_omitted_now(Some(pattern), phase)
-        && !is_recalled(plan, Some(pattern), phase)
+        && !is_recalled_in(plan, pattern, phase)
 }
 
 /// A32: whether the used pattern has a phase that waits for a call.
 pub(crate) fn yields_once(plan: &Plan, pattern: Pattern) -> bool
     ensures { result ≡ yields_once (plan_of plan.now) pattern }
 {
-    plan.is_used(pattern)
-        && Phase::all()
-            .iter()
-            .any(|phase| is_actuated(plan, pattern, *phase))
+    plan.is_used(pattern) && has_actuated(plan, pattern)
+}
+
+/// Whether the pattern has a phase that waits for a call.
+fn has_actuated(plan: &Plan, pattern: Pattern) -> bool
+    ensures { result ≡ list_any (is_actuated (plan_of plan.now) pattern) (phases (plan_of plan.now)) }
+{
+    Phase::all()
+        .iter()
+        .any(|phase| is_actuated(plan, pattern, *phase))
 }

@@ -5,7 +5,7 @@ ghost use Rattle.std.specs.Prelude.{◌≡◌, ◌≤◌};
 ghost use Rattle.tsb_plan.specs.PlanOf.{plan_of};
 ghost use Rattle.tsb_review.specs.Places.{firsts, seconds};
 ghost use Rattle.tsb_review.specs.Advices.{holds, shape, of_unit, of_phase, of_phases, of_detector, of_ring, of_pattern, of_split, of_preempt, of_preempt_phase, of_overlap, of_overlap_phase};
-ghost use Rattle.tsb_review.specs.Findings.{finding_at};
+ghost use Rattle.tsb_review.specs.Findings.{finding_at, finding_of};
 
 use crate::advice::Advice;
 use crate::place::{Place, place_of};
@@ -38,7 +38,7 @@ pub fn finding_at(plan: &Plan, advice: Advice, first: u8, second: u8) -> Option<
 fn finding_of(plan: &Plan, advice: Advice, place: Place) -> Option<Finding>
     ensures { result ≡ finding_of (plan_of plan.now) advice place }
 {
-    if holds(plan, advice, place) {
+    if holds(plan, advice, &place) {
         Some(Finding { advice, place })
     } else {
         None
@@ -46,21 +46,21 @@ fn finding_of(plan: &Plan, advice: Advice, place: Place) -> Option<Finding>
 }
 
 /// Whether the advice holds of the place.
-pub fn holds(plan: &Plan, advice: Advice, place: Place) -> bool
-    ensures { result ≡ holds (plan_of plan.now) advice place }
+pub fn holds(plan: &Plan, advice: Advice, place: &Place) -> bool
+    ensures { result ≡ holds (plan_of plan.now) advice place.now }
 {
     match place {
         Place::Unit => of_unit(plan, advice),
-        Place::Phase(phase) => of_phase(plan, advice, phase),
-        Place::Phases(phase, other) => of_phases(plan, advice, phase, other),
-        Place::Detector(detector) => of_detector(plan, advice, detector),
-        Place::Ring(ring) => of_ring(plan, advice, ring),
-        Place::Pattern(pattern) => of_pattern(plan, advice, pattern),
-        Place::Split(pattern, phase) => of_split(plan, advice, pattern, phase),
-        Place::Preempt(preempt) => of_preempt(plan, advice, preempt),
-        Place::PreemptPhase(preempt, phase) => of_preempt_phase(plan, advice, preempt, phase),
-        Place::Overlap(overlap) => of_overlap(plan, advice, overlap),
-        Place::OverlapPhase(overlap, phase) => of_overlap_phase(plan, advice, overlap, phase),
+        Place::Phase(phase) => of_phase(plan, advice, *phase),
+        Place::Phases(phase, other) => of_phases(plan, advice, *phase, *other),
+        Place::Detector(detector) => of_detector(plan, advice, *detector),
+        Place::Ring(ring) => of_ring(plan, advice, *ring),
+        Place::Pattern(pattern) => of_pattern(plan, advice, *pattern),
+        Place::Split(pattern, phase) => of_split(plan, advice, *pattern, *phase),
+        Place::Preempt(preempt) => of_preempt(plan, advice, *preempt),
+        Place::PreemptPhase(preempt, phase) => of_preempt_phase(plan, advice, *preempt, *phase),
+        Place::Overlap(overlap) => of_overlap(plan, advice, *overlap),
+        Place::OverlapPhase(overlap, phase) => of_overlap_phase(plan, advice, *overlap, *phase),
     }
 }
 

@@ -69,31 +69,31 @@ fn revert_of(plan: &Plan, phase: Option<Phase>) -> u32
 }
 
 /// The numbers of a finding.
-pub fn numbers_of(plan: &Plan, finding: Finding) -> Numbers
-    ensures { result ≡ numbers_of (plan_of plan.now) finding }
+pub fn numbers_of(plan: &Plan, finding: &Finding) -> Numbers
+    ensures { result ≡ numbers_of (plan_of plan.now) finding.now }
 {
-    at_place(plan, finding.advice, finding.place)
+    at_place(plan, finding.advice, &finding.place)
 }
 
 /// The numbers of an advice for a place.
-fn at_place(plan: &Plan, advice: Advice, place: Place) -> Numbers
-    ensures { result ≡ at_place (plan_of plan.now) advice place }
+fn at_place(plan: &Plan, advice: Advice, place: &Place) -> Numbers
+    ensures { result ≡ at_place (plan_of plan.now) advice place.now }
 {
     match place {
         Place::Unit => of_unit(plan, advice),
-        Place::Phase(phase) => of_phase(plan, advice, phase),
+        Place::Phase(phase) => of_phase(plan, advice, *phase),
         Place::Phases(phase, other) => {
             four(u32::from(phase.number()), u32::from(other.number()), 0, 0)
         }
-        Place::Detector(detector) => of_detector(plan, advice, detector),
+        Place::Detector(detector) => of_detector(plan, advice, *detector),
         Place::Ring(ring) => four(u32::from(ring.number()), 0, 0, 0),
-        Place::Pattern(pattern) => of_pattern(plan, advice, pattern),
-        Place::Split(pattern, phase) => of_split(plan, advice, pattern, phase),
-        Place::Preempt(preempt) => of_preempt(plan, advice, preempt),
+        Place::Pattern(pattern) => of_pattern(plan, advice, *pattern),
+        Place::Split(pattern, phase) => of_split(plan, advice, *pattern, *phase),
+        Place::Preempt(preempt) => of_preempt(plan, advice, *preempt),
         Place::PreemptPhase(preempt, phase) => {
             four(u32::from(preempt.number()), u32::from(phase.number()), 0, 0)
         }
-        Place::Overlap(overlap) => of_overlap(plan, advice, overlap),
+        Place::Overlap(overlap) => of_overlap(plan, advice, *overlap),
         Place::OverlapPhase(overlap, phase) => {
             four(u32::from(overlap.number()), u32::from(phase.number()), 0, 0)
         }
@@ -106,8 +106,8 @@ fn of_unit(plan: &Plan, advice: Advice) -> Numbers
 {
     match advice {
         Advice::A16 => {
-            let phase = reverting(plan);
-            four(phase_or_zero(phase), revert_of(plan, phase), 0, 0)
+            let number = phase_or_zero(reverting(plan));
+            four(number, revert_of(plan, reverting(plan)), 0, 0)
         }
         _ => four(0, 0, 0, 0),
     }
@@ -120,9 +120,9 @@ fn of_phase(plan: &Plan, advice: Advice, phase: Phase) -> Numbers
     let p = u32::from(phase.number());
     match advice {
         Advice::A7 => {
-            let rivalled = rivalled(plan);
-            let rival = rival_of(plan, rivalled);
-            four(p, phase_or_zero(rivalled), phase_or_zero(rival), 0)
+            let number = phase_or_zero(rivalled(plan));
+            let rival = rival_of(plan, rivalled(plan));
+            four(p, number, phase_or_zero(rival), 0)
         }
         Advice::A8 => four(p, plan.walk(phase), 0, 0),
         Advice::A9 => four(p, plan.walk(phase), 0, 0),
@@ -209,9 +209,9 @@ fn of_overlap(plan: &Plan, advice: Advice, overlap: Overlap) -> Numbers
     let o = u32::from(overlap.number());
     match advice {
         Advice::A39 => {
-            let phase = split_at(plan, overlap);
-            let other = split_from(plan, overlap, phase);
-            four(o, phase_or_zero(phase), phase_or_zero(other), 0)
+            let number = phase_or_zero(split_at(plan, overlap));
+            let other = split_from(plan, overlap, split_at(plan, overlap));
+            four(o, number, phase_or_zero(other), 0)
         }
         _ => four(o, 0, 0, 0),
     }

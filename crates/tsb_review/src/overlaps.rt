@@ -2,7 +2,9 @@
 #![tactic(auto, unfolding(tsb_plan::specs::PlanOf::plan_of))]
 
 ghost use Rattle.std.specs.Prelude.{◌≡◌, Some};
+ghost use Rattle.std.specs.List.{list_any};
 ghost use Rattle.tsb_plan.specs.Objects.{indices};
+ghost use Rattle.tsb_plan.specs.Plan.{phases};
 ghost use Rattle.tsb_plan.specs.PlanOf.{plan_of};
 ghost use Rattle.tsb_review.specs.Overlaps.{is_split_from, is_split_at, split_at, split_from, is_split, modifies_itself, is_beside, is_carried_at, adds_nothing};
 
@@ -22,10 +24,16 @@ fn is_split_from(plan: &Plan, overlap: Overlap, phase: Phase, other: Phase) -> b
 fn is_split_at(plan: &Plan, overlap: Overlap, phase: Phase) -> bool
     ensures { result ≡ is_split_at (plan_of plan.now) overlap phase }
 {
-    plan.included_phases(overlap).contains(phase)
-        && Phase::all()
-            .iter()
-            .any(|other| is_split_from(plan, overlap, phase, *other))
+    plan.included_phases(overlap).contains(phase) && has_split_from(plan, overlap, phase)
+}
+
+/// Whether the overlap includes a phase of the other ring that follows or precedes the phase.
+fn has_split_from(plan: &Plan, overlap: Overlap, phase: Phase) -> bool
+    ensures { result ≡ list_any (is_split_from (plan_of plan.now) overlap phase) (phases (plan_of plan.now)) }
+{
+    Phase::all()
+        .iter()
+        .any(|other| is_split_from(plan, overlap, phase, *other))
 }
 
 /// The first such phase.
@@ -85,10 +93,25 @@ fn is_beside(plan: &Plan, overlap: Overlap, phase: Phase, other: Phase) -> bool
 fn is_carried_at(plan: &Plan, overlap: Overlap, phase: Phase) -> bool
     ensures { result ≡ is_carried_at (plan_of plan.now) overlap phase }
 {
-    plan.included_phases(overlap).contains(phase)
-        && Phase::all()
-            .iter()
-            .any(|other| is_beside(plan, overlap, phase, *other))
+    plan.included_phases(overlap).contains(phase) && has_beside(plan, overlap, phase)
+}
+
+/// Whether the overlap includes another phase of the ring of the phase.
+fn has_beside(plan: &Plan, overlap: Overlap, phase: Phase) -> bool
+    ensures { result ≡ list_any (is_beside (plan_of plan.now) overlap phase) (phases (plan_of plan.now)) }
+{
+    Phase::all()
+        .iter()
+        .any(|other| is_beside(plan, overlap, phase, *other))
+}
+
+/// Whether the overlap includes two phases of one ring.
+fn is_carried(plan: &Plan, overlap: Overlap) -> bool
+    ensures { result ≡ list_any (is_carried_at (plan_of plan.now) overlap) (phases (plan_of plan.now)) }
+{
+    Phase::all()
+        .iter()
+        .any(|phase| is_carried_at(plan, overlap, *phase))
 }
 
 /// The value of a list of the overlap.
@@ -107,7 +130,5 @@ pub(crate) fn adds_nothing(plan: &Plan, overlap: Overlap) -> bool
     list_of(plan, Object::OverlapIncludedPhases, overlap) != 0
         && list_of(plan, Object::OverlapModifierPhases, overlap) == 0
         && split_at(plan, overlap).is_none()
-        && !Phase::all()
-            .iter()
-            .any(|phase| is_carried_at(plan, overlap, *phase))
+        && !is_carried(plan, overlap)
 }

@@ -1,8 +1,9 @@
 //! Advices on what is served: A1 to A7.
 #![tactic(auto, unfolding(tsb_plan::specs::PlanOf::plan_of))]
 
-ghost use Rattle.std.specs.Prelude.{◌≡◌, Some};
-ghost use Rattle.tsb_plan.specs.Plan.{has_soft_recall};
+ghost use Rattle.std.specs.Prelude.{◌≡◌, ◌||◌, not, Some};
+ghost use Rattle.std.specs.List.{list_all, list_any};
+ghost use Rattle.tsb_plan.specs.Plan.{phases, has_maximum_recall, has_soft_recall};
 ghost use Rattle.tsb_plan.specs.PlanOf.{plan_of};
 ghost use Rattle.tsb_review.specs.Service.{is_never_called, has_settings, is_set_for_nothing, is_kept_apart, can_wait_for, is_served_apart, apart_from, may_lose_coordination, is_in_ring, has_fixed_times, has_two_recalls, is_always_called, is_rival, has_rival, rivalled, rival_of, never_recalls_softly};
 
@@ -24,7 +25,7 @@ pub(crate) fn is_never_called(plan: &Plan, phase: Phase) -> bool
     plan.is_enabled(phase)
         && !(has_detector(plan, phase)
             || has_button(plan, phase)
-            || is_recalled(plan, None, phase)
+            || is_recalled(plan, phase)
             || has_soft_recall(plan, phase)
             || is_recalled_by_pattern(plan, phase))
 }
@@ -103,42 +104,61 @@ fn is_in_ring(plan: &Plan, ring: Ring, phase: Phase) -> bool
 pub(crate) fn has_fixed_times(plan: &Plan, ring: Ring) -> bool
     ensures { result ≡ has_fixed_times (plan_of plan.now) ring }
 {
-    let phases = Phase::all();
-    phases.iter().any(|phase| is_in_ring(plan, ring, *phase))
-        && phases.iter().all(|phase| {
-            !is_in_ring(plan, ring, *phase) || plan.has_maximum_recall(*phase)
-        })
+    has_phases(plan, ring) && all_have_maximum_recall(plan, ring)
+}
+
+/// Whether the ring has phases.
+fn has_phases(plan: &Plan, ring: Ring) -> bool
+    ensures { result ≡ list_any (is_in_ring (plan_of plan.now) ring) (phases (plan_of plan.now)) }
+{
+    Phase::all()
+        .iter()
+        .any(|phase| is_in_ring(plan, ring, *phase))
+}
+
+/// Whether all phases of the ring have maximum recall.
+fn all_have_maximum_recall(plan: &Plan, ring: Ring) -> bool
+    ensures { result ≡ list_all (λ p. not (is_in_ring (plan_of plan.now) ring p) || has_maximum_recall (plan_of plan.now) p) (phases (plan_of plan.now)) }
+{
+    Phase::all().iter().all(|phase| !is_in_ring(plan, ring, *phase)
+        || plan.has_maximum_recall(*phase))
 }
 
 /// A6: whether the phase has a soft recall, and another recall.
 pub(crate) fn has_two_recalls(plan: &Plan, phase: Phase) -> bool
     ensures { result ≡ has_two_recalls (plan_of plan.now) phase }
 {
-    plan.is_enabled(phase) && has_soft_recall(plan, phase) && is_recalled(plan, None, phase)
+    plan.is_enabled(phase) && has_soft_recall(plan, phase) && is_recalled(plan, phase)
 }
 
 /// Whether the phase is enabled, and called at all times in free operation.
 fn is_always_called(plan: &Plan, phase: Phase) -> bool
     ensures { result ≡ is_always_called (plan_of plan.now) phase }
 {
-    plan.is_enabled(phase) && is_recalled(plan, None, phase)
+    plan.is_enabled(phase) && is_recalled(plan, phase)
 }
 
 /// Whether `other` conflicts with the phase, and is called at all times in free operation.
 fn is_rival(plan: &Plan, phase: Phase, other: Phase) -> bool
     ensures { result ≡ is_rival (plan_of plan.now) phase other }
 {
-    conflicts(plan, phase, other) && is_recalled(plan, None, other)
+    conflicts(plan, phase, other) && is_recalled(plan, other)
 }
 
 /// Whether the phase is called at all times, and so is one that conflicts with it.
 fn has_rival(plan: &Plan, phase: Phase) -> bool
     ensures { result ≡ has_rival (plan_of plan.now) phase }
 {
-    is_always_called(plan, phase)
-        && Phase::all()
-            .iter()
-            .any(|other| is_rival(plan, phase, *other))
+    is_always_called(plan, phase) && has_rivals(plan, phase)
+}
+
+/// Whether some phase that is called at all times conflicts with the phase.
+fn has_rivals(plan: &Plan, phase: Phase) -> bool
+    ensures { result ≡ list_any (is_rival (plan_of plan.now) phase) (phases (plan_of plan.now)) }
+{
+    Phase::all()
+        .iter()
+        .any(|other| is_rival(plan, phase, *other))
 }
 
 /// The first phase that has a rival.
@@ -177,6 +197,6 @@ pub(crate) fn never_recalls_softly(plan: &Plan, phase: Phase) -> bool
 {
     plan.is_enabled(phase)
         && has_soft_recall(plan, phase)
-        && !is_recalled(plan, None, phase)
+        && !is_recalled(plan, phase)
         && rivalled(plan).is_some()
 }

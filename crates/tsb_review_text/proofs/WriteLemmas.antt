@@ -5,7 +5,7 @@ use Rattle.std.specs.declared.result.Result.TheVariants.{Ok, Err}
 use Rattle.std.proofs.lemmas.List.{append-nil}
 use Rattle.std.proofs.lemmas.List.Concat.{flat_map-append}
 use Rattle.std.specs.Io.KnownBytes.{Appends}
-use Rattle.tsb_lines.proofs.StreamLemmas.{Gone, appends-more}
+use Rattle.tsb_lines.proofs.StreamLemmas.{Gone, appends-more, appends-nothing}
 use Rattle.tsb_lines.specs.Writes.{AppendsFront}
 use Rattle.tsb_lines.specs.declared.writes.WriteError.{WriteError}
 use Rattle.tsb_plan.specs.Plan.{Plan}
@@ -70,10 +70,6 @@ by-advices plan =
 
 -- ## What has gone out
 
--- nothing yet
-pub gone-none : (a : Option (List ℕ)) (text : List ℕ) (left : List ℕ) → Appends a a [] → text ≡ left → Gone a a text left
-gone-none a text left none is = record { gone = []; grown = none; whole = is }
-
 -- a piece more
 pub gone-piece : {a b c : Option (List ℕ)} {text piece left : List ℕ} → Gone a b text (piece ++ left) → Appends b c piece → Gone a c text left
 gone-piece {a} {b} {c} {text} {piece} {left} so added = record {
@@ -104,23 +100,75 @@ wrote-front a b c text piece left e so front = record {
   );
 }
 
--- ## Over numbers, and over a list
+-- ## Over the numbers from 1 on
 
 -- what is left at a number, and behind it
-pub left-at : (f : ℕ → List ℕ) (k end : ℕ) → k < end → flat_map f (run_from k (end - k)) ≡ f k ++ flat_map f (run_from (k + 1) (end - (k + 1)))
+left-at : (f : ℕ → List ℕ) (k end : ℕ) → k < end → flat_map f (run_from k (end - k)) ≡ f k ++ flat_map f (run_from (k + 1) (end - (k + 1)))
 unfolding run_from
 left-at f k end below =
     let e : end - k ≡ suc (end - (k + 1)) = omega (arith, below) in
     ap (λ (n : ℕ). flat_map f (run_from k n)) e
 
-pub left-end : (f : ℕ → List ℕ) (k end : ℕ) → end ≤ k → flat_map f (run_from k (end - k)) ≡ []
+left-end : (f : ℕ → List ℕ) (k end : ℕ) → end ≤ k → flat_map f (run_from k (end - k)) ≡ []
 unfolding run_from
 left-end f k end over =
     let e : end - k ≡ zero = omega (arith, over) in
     ap (λ (n : ℕ). flat_map f (run_from k n)) e
 
--- what is left of a list at a place
-pub left-of : {A : Type 0} (f : A → List ℕ) (xs : List A) (k : ℕ) (d : A) → k < length xs → flat_map f (drop k xs) ≡ f (get_or xs k d) ++ flat_map f (drop (k + 1) xs)
+-- nothing has gone out yet
+pub start-run : (f : ℕ → List ℕ) (a : Option (List ℕ)) (text : List ℕ) (n end : ℕ) → text ≡ flat_map f (run_from 1 n) → end ≡ n + 1 →
+    Gone a a text (flat_map f (run_from 1 (end - 1)))
+start-run f a text n end is ends =
+    let e : end - 1 ≡ n = omega (arith, ends) in
+    record { gone = []; grown = appends-nothing a; whole = is ∙ ap (λ (m : ℕ). flat_map f (run_from 1 m)) (sym e) }
+
+-- one number more
+pub next-run : (f : ℕ → List ℕ) (a b c : Option (List ℕ)) (text : List ℕ) (k end : ℕ) → k < end →
+    Gone a b text (flat_map f (run_from k (end - k))) → Appends b c (f k) → Gone a c text (flat_map f (run_from (k + 1) (end - (k + 1))))
+next-run f a b c text k end below so added =
+    let left : Gone a b text (f k ++ flat_map f (run_from (k + 1) (end - (k + 1)))) = subst (λ (ts : List ℕ). Gone a b text ts) (left-at f k end below) so in
+    gone-piece left added
+
+-- the writer failed at one
+pub fail-run : (f : ℕ → List ℕ) (a b c : Option (List ℕ)) (text : List ℕ) (k end : ℕ) (e : WriteError) → k < end →
+    Gone a b text (flat_map f (run_from k (end - k))) → AppendsFront b c (f k) → Wrote (Err e) a c text
+fail-run f a b c text k end e below so front =
+    let left : Gone a b text (f k ++ flat_map f (run_from (k + 1) (end - (k + 1)))) = subst (λ (ts : List ℕ). Gone a b text ts) (left-at f k end below) so in
+    wrote-front a b c text (f k) (flat_map f (run_from (k + 1) (end - (k + 1)))) e left front
+
+-- all is written
+pub end-run : (f : ℕ → List ℕ) (a b : Option (List ℕ)) (text : List ℕ) (k end : ℕ) → end ≤ k →
+    Gone a b text (flat_map f (run_from k (end - k))) → Wrote (Ok tt) a b text
+end-run f a b text k end over so = wrote-all a b text (subst (λ (ts : List ℕ). Gone a b text ts) (left-end f k end over) so)
+
+-- ## Over a list
+
+left-of : {A : Type 0} (f : A → List ℕ) (xs : List A) (k : ℕ) (d : A) → k < length xs → flat_map f (drop k xs) ≡ f (get_or xs k d) ++ flat_map f (drop (k + 1) xs)
 left-of f xs k d below =
     let next : suc k ≡ k + 1 = omega arith in
     ap (flat_map f) (drop-cons xs k d below) ∙ ap (λ (n : ℕ). f (get_or xs k d) ++ flat_map f (drop n xs)) next
+
+drop-end : {A : Type 0} (xs : List A) (k : ℕ) → length xs ≤ k → drop k xs ≡ []
+drop-end [] zero over = refl
+drop-end [] (suc k) over = refl
+drop-end (x ∷ xs) zero over = absurd (omega (arith, over))
+drop-end (x ∷ xs) (suc k) over = drop-end xs k (omega (arith, over))
+
+pub start-list : {A : Type 0} (f : A → List ℕ) (xs : List A) (a : Option (List ℕ)) (text : List ℕ) → text ≡ flat_map f xs → Gone a a text (flat_map f (drop 0 xs))
+start-list f xs a text is = record { gone = []; grown = appends-nothing a; whole = is }
+
+pub next-list : {A : Type 0} (f : A → List ℕ) (xs : List A) (d : A) (a b c : Option (List ℕ)) (text : List ℕ) (k : ℕ) → k < length xs →
+    Gone a b text (flat_map f (drop k xs)) → Appends b c (f (get_or xs k d)) → Gone a c text (flat_map f (drop (k + 1) xs))
+next-list f xs d a b c text k below so added =
+    let left : Gone a b text (f (get_or xs k d) ++ flat_map f (drop (k + 1) xs)) = subst (λ (ts : List ℕ). Gone a b text ts) (left-of f xs k d below) so in
+    gone-piece left added
+
+pub fail-list : {A : Type 0} (f : A → List ℕ) (xs : List A) (d : A) (a b c : Option (List ℕ)) (text : List ℕ) (k : ℕ) (e : WriteError) → k < length xs →
+    Gone a b text (flat_map f (drop k xs)) → AppendsFront b c (f (get_or xs k d)) → Wrote (Err e) a c text
+fail-list f xs d a b c text k e below so front =
+    let left : Gone a b text (f (get_or xs k d) ++ flat_map f (drop (k + 1) xs)) = subst (λ (ts : List ℕ). Gone a b text ts) (left-of f xs k d below) so in
+    wrote-front a b c text (f (get_or xs k d)) (flat_map f (drop (k + 1) xs)) e left front
+
+pub end-list : {A : Type 0} (f : A → List ℕ) (xs : List A) (a b : Option (List ℕ)) (text : List ℕ) (k : ℕ) → length xs ≤ k →
+    Gone a b text (flat_map f (drop k xs)) → Wrote (Ok tt) a b text
+end-list f xs a b text k over so = wrote-all a b text (subst (λ (ts : List ℕ). Gone a b text ts) (ap (flat_map f) (drop-end xs k over)) so)

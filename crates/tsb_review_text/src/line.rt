@@ -17,8 +17,8 @@ pub const LONGEST: usize = 192;
 pub type Line = ArrayVec<u8, LONGEST>;
 
 /// The line of a finding, with its line feed. It takes no memory.
-pub fn line_of(plan: &Plan, finding: Finding) -> Line
-    ensures { result.items ≡ line_of (plan_of plan.now) finding }
+pub fn line_of(plan: &Plan, finding: &Finding) -> Line
+    ensures { result.items ≡ line_of (plan_of plan.now) finding.now }
 {
     let numbers = numbers_of(plan, finding);
     let mut line = ArrayVec::new();

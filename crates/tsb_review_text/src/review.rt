@@ -22,10 +22,7 @@ pub fn write_review<W: Write>(plan: &Plan, output: &mut W) -> Result<(), WriteEr
     ensures { Wrote result (W.contents output.old) (W.contents output.new) (review_text (plan_of plan.now)) }
 {
     for advice in &Advice::ALL {
-        match write_advice(plan, *advice, output) {
-            Ok(()) => {}
-            Err(fault) => return Err(fault),
-        }
+        write_advice(plan, *advice, output)?;
     }
     Ok(())
 }
@@ -35,10 +32,7 @@ fn write_advice<W: Write>(plan: &Plan, advice: Advice, output: &mut W) -> Result
     ensures { Wrote result (W.contents output.old) (W.contents output.new) (text_of (plan_of plan.now) advice) }
 {
     for first in 1..advice.shape().firsts() + 1 {
-        match write_from(plan, advice, first, output) {
-            Ok(()) => {}
-            Err(fault) => return Err(fault),
-        }
+        write_from(plan, advice, first, output)?;
     }
     Ok(())
 }
@@ -55,10 +49,7 @@ fn write_from<W: Write>(
     ensures { Wrote result (W.contents output.old) (W.contents output.new) (text_from (plan_of plan.now) advice first) }
 {
     for second in 1..advice.shape().seconds() + 1 {
-        match write_at(plan, advice, first, second, output) {
-            Ok(()) => {}
-            Err(fault) => return Err(fault),
-        }
+        write_at(plan, advice, first, second, output)?;
     }
     Ok(())
 }
@@ -78,7 +69,7 @@ fn write_at<W: Write>(
     ensures { Wrote result (W.contents output.old) (W.contents output.new) (text_at (plan_of plan.now) advice first second) }
 {
     match finding_at(plan, advice, first, second) {
-        Some(finding) => write_text(output, &line_of(plan, finding)),
+        Some(finding) => write_text(output, &line_of(plan, &finding)),
         None => Ok(()),
     }
 }

@@ -8,7 +8,7 @@ use Rattle.tsb_review_text.proofs.line.line_of.Goals as goal
 pub returns : goal.returns
 unfolding line_of
 returns c =
-    line-done c.numbers_of.result c.args.finding.advice _ _ _
+    line-done c.numbers_of.result c.args.finding.now.advice _ _ _
     (record { a = search rules; b = search rules; c = search rules; d = search rules })
     c.new-line.ensures c.template.ensures c.push_parts.ensures
-    ∙ ap (λ n. filled n (template c.args.finding.advice) ++ 10 ∷ []) c.numbers_of.ensures
+    ∙ ap (λ n. filled n (template c.args.finding.now.advice) ++ 10 ∷ []) c.numbers_of.ensures
