@@ -100,6 +100,22 @@ wrote-front a b c text piece left e so front = record {
   );
 }
 
+-- a text that is what was to be written
+pub wrote-said : (r : Result (Unit {0}) WriteError) (a b : Option (List ℕ)) (bytes text : List ℕ) → bytes ≡ text → OnOk r (Appends a b bytes) → AppendsFront a b bytes → Wrote r a b text
+wrote-said r a b bytes text same whole front =
+    subst (λ (ts : List ℕ). Wrote r a b ts) same (record { whole = whole; front = front })
+
+-- where there is no finding nothing is to be written
+pub wrote-none : (plan : Plan) (o p : Option Finding) (a : Option (List ℕ)) → o ≡ p → o ≡ None → Wrote (Ok tt) a a (line_in plan p)
+wrote-none plan o p a same none =
+    subst (λ (q : Option Finding). Wrote (Ok tt) a a (line_in plan q)) (sym none ∙ same)
+    (record { whole = appends-nothing a; front = ([], [], appends-nothing a, refl) })
+
+-- and where there is one its line
+pub wrote-some : (plan : Plan) (f : Finding) (o p : Option Finding) (r : Result (Unit {0}) WriteError) (a b : Option (List ℕ)) → o ≡ p → o ≡ Some f →
+    Wrote r a b (line_of plan f) → Wrote r a b (line_in plan p)
+wrote-some plan f o p r a b same some wrote = subst (λ (q : Option Finding). Wrote r a b (line_in plan q)) (sym some ∙ same) wrote
+
 -- ## Over the numbers from 1 on
 
 -- what is left at a number, and behind it

@@ -5,14 +5,14 @@ ghost use Rattle.std.specs.Prelude.{◌≡◌, ◌≤◌};
 ghost use Rattle.tsb_plan.specs.PlanOf.{plan_of};
 ghost use Rattle.tsb_review.specs.Advices.{shape};
 ghost use Rattle.tsb_review.specs.Places.{firsts, seconds};
-ghost use Rattle.tsb_review_text.specs.Lines.{review_text};
+ghost use Rattle.tsb_review_text.specs.Lines.{line_of, review_text};
 ghost use Rattle.tsb_review_text.specs.Written.{Wrote, text_at, text_from, text_of};
 
 use crate::line::line_of;
 use std::io::Write;
 use tsb_lines::{WriteError, write_text};
 use tsb_plan::Plan;
-use tsb_review::{Advice, finding_at};
+use tsb_review::{Advice, Finding, finding_at};
 
 /// Writes a line for each advice that holds of a part of the plan: advice by advice in order, and of each its places in
 /// order, so each once. At an error the first bytes of the text may have gone out. It takes no memory.
@@ -31,7 +31,8 @@ pub fn write_review<W: Write>(plan: &Plan, output: &mut W) -> Result<(), WriteEr
 fn write_advice<W: Write>(plan: &Plan, advice: Advice, output: &mut W) -> Result<(), WriteError>
     ensures { Wrote result (W.contents output.old) (W.contents output.new) (text_of (plan_of plan.now) advice) }
 {
-    for first in 1..advice.shape().firsts() + 1 {
+    let count = advice.shape().firsts();
+    for first in 1..count + 1 {
         write_from(plan, advice, first, output)?;
     }
     Ok(())
@@ -48,7 +49,8 @@ fn write_from<W: Write>(
     requires to { first ≤ firsts (shape advice) }
     ensures { Wrote result (W.contents output.old) (W.contents output.new) (text_from (plan_of plan.now) advice first) }
 {
-    for second in 1..advice.shape().seconds() + 1 {
+    let count = advice.shape().seconds();
+    for second in 1..count + 1 {
         write_at(plan, advice, first, second, output)?;
     }
     Ok(())
@@ -69,7 +71,15 @@ fn write_at<W: Write>(
     ensures { Wrote result (W.contents output.old) (W.contents output.new) (text_at (plan_of plan.now) advice first second) }
 {
     match finding_at(plan, advice, first, second) {
-        Some(finding) => write_text(output, &line_of(plan, &finding)),
+        Some(finding) => write_finding(plan, &finding, output),
         None => Ok(()),
     }
+}
+
+/// Writes the line of a finding.
+fn write_finding<W: Write>(plan: &Plan, finding: &Finding, output: &mut W) -> Result<(), WriteError>
+    ensures { Wrote result (W.contents output.old) (W.contents output.new) (line_of (plan_of plan.now) finding.now) }
+{
+    let line = line_of(plan, finding);
+    write_text(output, line.as_slice())
 }
