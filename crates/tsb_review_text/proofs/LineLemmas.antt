@@ -2,6 +2,7 @@
 use Rattle.std.proofs.Common.{◌≡◌, ◌∙◌, ℕ, suc, ◌+◌, ◌/◌, ◌%◌, ◌<◌, ◌≤◌, ◌==◌, nat_le, Bool, false, true, ◌&&◌, if◌then◌else◌, List, [], ◌∷◌, ◌++◌, append_assoc, length, length-append, drop, drop-cons, get_or, sum_by, flat_map, decimal, refl, sym, ap, subst, arith, rules}
 use Rattle.std.proofs.lemmas.Bool.Decides.{nat_tests}
 use Rattle.std.proofs.lemmas.Fmt.{length-decimal-le}
+use Rattle.std.proofs.lemmas.List.Sums.{sum_by-cons}
 use Rattle.tsb_review.specs.declared.advice.Advice.{Advice}
 use Rattle.tsb_review.specs.declared.numbers.Numbers.{Numbers}
 use Rattle.tsb_review_text.specs.declared.line.TheConstants.{LONGEST}
@@ -94,7 +95,7 @@ short-ended n small [] = omega arith
 short-ended n small (b ∷ bs) =
     let here : length (part n b) ≤ cost b = short-part n small b in
     let rest : length (ended n bs) ≤ sum_by cost bs + 1 = short-ended n small bs in
-    omega (arith, here, rest, length-append (part n b) (ended n bs))
+    omega (arith, here, rest, length-append (part n b) (ended n bs), sum_by-cons cost b bs)
 
 -- each text has room
 template-room : (x : Advice) → sum_by cost (template x) + 1 ≤ LONGEST

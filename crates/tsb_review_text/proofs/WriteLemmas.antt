@@ -71,8 +71,8 @@ by-advices plan =
 -- ## What has gone out
 
 -- a piece more
-pub gone-piece : {a b c : Option (List ℕ)} {text piece left : List ℕ} → Gone a b text (piece ++ left) → Appends b c piece → Gone a c text left
-gone-piece {a} {b} {c} {text} {piece} {left} so added = record {
+gone-piece : (a b c : Option (List ℕ)) (text piece left : List ℕ) → Gone a b text (piece ++ left) → Appends b c piece → Gone a c text left
+gone-piece a b c text piece left so added = record {
   gone = so.gone ++ piece;
   grown = appends-more a b c so.gone piece so.grown added;
   whole = so.whole ∙ sym (append_assoc so.gone piece left);
@@ -143,7 +143,7 @@ pub next-run : (f : ℕ → List ℕ) (a b c : Option (List ℕ)) (text : List �
     Gone a b text (flat_map f (run_from k (end - k))) → Appends b c (f k) → Gone a c text (flat_map f (run_from (k + 1) (end - (k + 1))))
 next-run f a b c text k end below so added =
     let left : Gone a b text (f k ++ flat_map f (run_from (k + 1) (end - (k + 1)))) = subst (λ (ts : List ℕ). Gone a b text ts) (left-at f k end below) so in
-    gone-piece left added
+    gone-piece a b c text (f k) (flat_map f (run_from (k + 1) (end - (k + 1)))) left added
 
 -- the writer failed at one
 pub fail-run : (f : ℕ → List ℕ) (a b c : Option (List ℕ)) (text : List ℕ) (k end : ℕ) (e : WriteError) → k < end →
@@ -177,7 +177,7 @@ pub next-list : {A : Type 0} (f : A → List ℕ) (xs : List A) (d : A) (a b c :
     Gone a b text (flat_map f (drop k xs)) → Appends b c (f (get_or xs k d)) → Gone a c text (flat_map f (drop (k + 1) xs))
 next-list f xs d a b c text k below so added =
     let left : Gone a b text (f (get_or xs k d) ++ flat_map f (drop (k + 1) xs)) = subst (λ (ts : List ℕ). Gone a b text ts) (left-of f xs k d below) so in
-    gone-piece left added
+    gone-piece a b c text (f (get_or xs k d)) (flat_map f (drop (k + 1) xs)) left added
 
 pub fail-list : {A : Type 0} (f : A → List ℕ) (xs : List A) (d : A) (a b c : Option (List ℕ)) (text : List ℕ) (k : ℕ) (e : WriteError) → k < length xs →
     Gone a b text (flat_map f (drop k xs)) → AppendsFront b c (f (get_or xs k d)) → Wrote (Err e) a c text

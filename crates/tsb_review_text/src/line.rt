@@ -1,5 +1,5 @@
 //! The line of a finding.
-ghost use Rattle.std.specs.Prelude.{◌≡◌, decimal};
+ghost use Rattle.std.specs.Prelude.{◌≡◌, ◌∷◌, decimal};
 ghost use Rattle.tsb_plan.specs.PlanOf.{plan_of};
 ghost use Rattle.tsb_review_text.specs.Bytes.{Adds, ended};
 ghost use Rattle.tsb_review_text.specs.Lines.{seconds, fraction, part, line_of};
@@ -84,7 +84,14 @@ fn push_fraction(line: &mut Line, tenths: u32)
     if tenths == 0 {
         push(line, b"");
     } else {
-        push(line, b".");
-        push_number(line, tenths);
+        push_point(line, tenths);
     }
+}
+
+/// Adds a point and tenths of a second.
+fn push_point(line: &mut Line, tenths: u32)
+    ensures { Adds line.old.items (46 ∷ decimal tenths) line.new.items }
+{
+    push(line, b".");
+    push_number(line, tenths);
 }
