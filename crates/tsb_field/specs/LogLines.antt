@@ -47,11 +47,17 @@ left_out_text left_out = if is_nothing left_out then [] else left_out_line left_
 abbrev pub IsTime : ℕ → List ℕ → Type 0
 IsTime nanos text = (moment_of text ≡ Some (record { nanos = nanos })) ⊎ ((IsWritten (record { nanos = nanos }) → ⊥) × (text ≡ codes "?"))
 
+-- how many rows were read
+abbrev pub span_begin : ℕ → List ℕ
+span_begin rows = codes "read: " ++ (decimal rows ++ codes " rows from ")
+
+-- of how many channels events were read
+abbrev pub span_end : ℕ → List ℕ
+span_end channels = codes ", events of " ++ (decimal channels ++ codes " channels\n")
+
 -- the line of so many rows between these times, with events of so many channels
 abbrev pub span_line : Summary → List ℕ → List ℕ → List ℕ
-span_line summary first last =
-    codes "read: " ++ (decimal summary.rows ++ (codes " rows from " ++ (first ++ (codes " to " ++ (last
-    ++ (codes ", events of " ++ (decimal summary.channels ++ codes " channels\n")))))))
+span_line summary first last = span_begin summary.rows ++ (first ++ (codes " to " ++ (last ++ span_end summary.channels)))
 
 -- that line, with the times of the first and the last row
 abbrev pub IsSpan : Summary → List ℕ → Type 0

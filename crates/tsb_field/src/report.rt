@@ -1,7 +1,7 @@
 //! What `log` tells of what it read.
 ghost use Rattle.std.specs.Prelude.{◌≡◌, ◌==◌, ◌++◌, IfOk, OnOk, string_bytes};
 ghost use Rattle.tsb_program.specs.Statuses.{number};
-ghost use Rattle.tsb_field.specs.LogLines.{IsCount, IsCounted, IsReport, IsSpan, IsTime, form_line, is_lost, is_told, left_out_line, left_out_text, span_line, status_of, verdict_line};
+ghost use Rattle.tsb_field.specs.LogLines.{IsCount, IsCounted, IsReport, IsSpan, IsTime, form_line, is_lost, is_told, left_out_line, left_out_text, span_begin, span_end, span_line, status_of, verdict_line};
 
 use std::alloc::{AllocError, Global};
 use tsb_event_text::{Moment, TimeForm, time_form_word, time_text};
@@ -135,17 +135,29 @@ fn line_between(
 ) -> Result<Vec<u8>, AllocError>
     ensures { IfOk result (λ text. text.items ≡ span_line summary first.now last.now) }
 {
-    let rows = summary.rows;
-    let channels = summary.channels;
     let mut text = Vec::new(alloc);
-    let begin = format!(in alloc; "read: {rows} rows from ")?;
+    let begin = span_begin(alloc, summary.rows)?;
     text.extend_from_slice(begin.as_bytes())?;
     text.extend_from_slice(first)?;
     text.extend_from_slice(b" to ")?;
     text.extend_from_slice(last)?;
-    let end = format!(in alloc; ", events of {channels} channels\n")?;
+    let end = span_end(alloc, summary.channels)?;
     text.extend_from_slice(end.as_bytes())?;
     Ok(text)
+}
+
+/// How many rows were read.
+fn span_begin(alloc: Global, rows: u32) -> Result<String, AllocError>
+    ensures { IfOk result (λ text. string_bytes text ≡ span_begin rows) }
+{
+    format!(in alloc; "read: {rows} rows from ")
+}
+
+/// Of how many channels events were read.
+fn span_end(alloc: Global, channels: usize) -> Result<String, AllocError>
+    ensures { IfOk result (λ text. string_bytes text ≡ span_end channels) }
+{
+    format!(in alloc; ", events of {channels} channels\n")
 }
 
 /// The time of a moment, in nanoseconds as a `Moment` counts them, or a question mark where no year of four digits has

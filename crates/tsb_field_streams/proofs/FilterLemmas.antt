@@ -7,6 +7,9 @@ use Rattle.std.proofs.lemmas.Bool.Decides.{leb_tells}
 use Rattle.std.proofs.lemmas.List.{append-nil}
 use Rattle.tsb_log_text.specs.declared.log.LogRow.{LogRow}
 use Rattle.tsb_log_text.specs.tsb_types.declared.limits.TheConstants.{TICKS}
+use Rattle.tsb_event_text.specs.Columns.{usual_of}
+use Rattle.tsb_event_text.specs.Faults.{is_preface}
+use Rattle.tsb_event_text.specs.declared.columns.Columns.{Columns}
 use Rattle.tsb_event_text.specs.declared.rows.EventRow.{EventRow}
 use Rattle.tsb_event_text.specs.declared.time_forms.TimeForm.{TimeForm}
 use Rattle.tsb_field_log.specs.declared.inputs.Wire.{Wire}
@@ -24,7 +27,7 @@ use Rattle.tsb_field_streams.specs.declared.error.FilterError.{FilterError}
 use Rattle.tsb_field_streams.specs.declared.error.FilterError.TheVariants.{TimeOrder, PastEnd, LogTooLarge}
 use Rattle.tsb_field_streams.specs.declared.filter.Filter.{Filter}
 use Rattle.tsb_field_streams.specs.declared.filter.TheConstants.{MOST_ROWS}
-use Rattle.tsb_field_streams.specs.Filtering.{Given, Stand, disorder, one_more, with_count, with_event, with_row, with_signal, with_used}
+use Rattle.tsb_field_streams.specs.Filtering.{Given, Stand, disorder, one_more, with_count, with_event, with_first, with_passed, with_row, with_row_line, with_signal, with_used}
 use Rattle.tsb_field_streams.specs.Standing.{StandsAt, Takes}
 
 pub none_known : (from : ℕ) (wires : List Wire) → length (rows_before from wires []) ≡ 0
@@ -179,3 +182,19 @@ used-takes g s place (Ok t) (Ok rows) f takes = takes
 used-takes g s place (Ok t) (Err d) f takes = takes
 used-takes g s place (Err e) (Ok rows) f takes = takes
 used-takes g s place (Err e) (Err d) f takes = takes
+
+-- the first row, with its columns in the usual places
+pub first-takes : (g : Given) (number : ℕ) (s : Stand) (text : List ℕ) (columns : Columns) (given : Result Rows FilterError) (f : Filter) → is_preface text ≡ false → columns ≡ usual_of text
+    → Takes g s (with_row_line g number (record s { columns = Some columns }) columns text) given f → Takes g s (with_first g number s text None) given f
+first-takes g number s text columns given f no_preface usual takes =
+    subst (λ (come : Result Stand FilterError). Takes g s come given f)
+    (sym (ap (λ (b : Bool). if b then with_passed s else with_row_line g number (record s { columns = Some (usual_of text) }) (usual_of text) text) no_preface))
+    (subst (λ (places : Columns). Takes g s (with_row_line g number (record s { columns = Some places }) places text) given f) usual takes)
+
+-- which rows were known before does not hang on where the columns are
+pub known-takes : (g : Given) (s : Stand) (columns : Columns) (come : Result Stand FilterError) (given : Result Rows FilterError) (f : Filter)
+    → Takes g (record s { columns = Some columns }) come given f → Takes g s come given f
+known-takes g s columns (Ok t) (Ok rows) f takes = takes
+known-takes g s columns (Ok t) (Err d) f takes = takes
+known-takes g s columns (Err e) (Ok rows) f takes = takes
+known-takes g s columns (Err e) (Err d) f takes = takes

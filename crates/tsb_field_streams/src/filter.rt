@@ -199,8 +199,20 @@ impl<'a> Filter<'a> {
             return Ok(self.pass());
         }
         let usual = Columns::usual_of(text);
-        self.know(usual);
-        self.take_row_line(number, usual, text)
+        self.take_first_row(number, usual, text)
+    }
+
+    /// Takes the first row, where no header came, with its columns in these places.
+    fn take_first_row(
+        &mut self,
+        number: u32,
+        columns: Columns,
+        text: &[u8],
+    ) -> Result<Rows, FilterError>
+        ensures takes { (g : Given) (s : Stand) → StandsAt g s self.old → Takes g s (with_row_line g number (record s { columns = Some columns }) columns text.now) result self.new }
+    {
+        self.know(columns);
+        self.take_row_line(number, columns, text)
     }
 
     /// Passes over a line.

@@ -1,0 +1,14 @@
+-- Texts of several pieces.
+use Rattle.std.proofs.Common.{◌≡◌, ℕ, List, [], ◌++◌, ap, ◌∙◌, append_assoc, refl}
+
+pub four-pieces : (t u v w x a b c d : List ℕ) → t ≡ [] → u ≡ t ++ a → v ≡ u ++ b → w ≡ v ++ c → x ≡ w ++ d → x ≡ a ++ (b ++ (c ++ d))
+four-pieces t u v w x a b c d empty first second third fourth =
+    fourth
+    ∙ (ap (λ (s : List ℕ). s ++ d) third
+    ∙ (append_assoc v c d
+    ∙ (ap (λ (s : List ℕ). s ++ (c ++ d)) second
+    ∙ (append_assoc u b (c ++ d) ∙ ap (λ (s : List ℕ). s ++ (b ++ (c ++ d))) (first ∙ ap (λ (s : List ℕ). s ++ a) empty)))))
+
+pub five-pieces : (t u v w x y a b c d e : List ℕ) → t ≡ [] → u ≡ t ++ a → v ≡ u ++ b → w ≡ v ++ c → x ≡ w ++ d → y ≡ x ++ e → y ≡ a ++ (b ++ (c ++ (d ++ e)))
+five-pieces t u v w x y a b c d e empty first second third fourth fifth =
+    fifth ∙ (ap (λ (s : List ℕ). s ++ e) fourth ∙ (append_assoc w d e ∙ four-pieces t u v w (w ++ (d ++ e)) a b c (d ++ e) empty first second third refl))
