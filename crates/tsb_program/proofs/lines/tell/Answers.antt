@@ -1,0 +1,5 @@
+use Rattle.tsb_program.proofs.TellLemmas.{line-told}
+use Rattle.tsb_program.proofs.lines.tell.Goals as goal
+
+pub returns-clause-line : goal.returns-clause-line
+returns-clause-line g c = line-told c.write_line.result _ _ c.args.line.now c.write_line.ensures.front c.write_line.ensures.whole c.write_line.ensures.blame
