@@ -80,8 +80,9 @@ impl Stream {
             (λ more. GoesOn more reader.new.failed input (R.remaining reader.new.device) self.new reads)
             (λ e. ReplayRead (Err e) reader.new.failed input (R.remaining reader.new.device)) }
     {
-        let Ok(count) = reader.read_once(chunk) else {
-            return Err(ReplayError::Read);
+        let count = match reader.read_once(chunk) {
+            Ok(count) => count,
+            Err(_) => return Err(ReplayError::Read),
         };
         let Ok(()) = self.feed_all(&chunk[..count]) else {
             return Err(ReplayError::Memory);

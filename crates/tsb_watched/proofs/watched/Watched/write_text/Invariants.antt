@@ -1,6 +1,6 @@
 use Rattle.std.proofs.Common.{◌≡◌, ◌≤◌, ◌-◌, drop, length}
 use Rattle.tsb_lines.proofs.StreamLemmas.{Gone}
-use Rattle.tsb_watched.proofs.writes.Watched.write_text.Given as goal
+use Rattle.tsb_watched.proofs.watched.Watched.write_text.Given as goal
 
 abbrev pub invariant-loop-gone : goal.invariant-loop-gone
 invariant-loop-gone g l = record {

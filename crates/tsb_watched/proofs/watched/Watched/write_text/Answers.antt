@@ -1,6 +1,6 @@
 use Rattle.std.proofs.Common.{◌∙◌, rules}
 use Rattle.tsb_lines.proofs.StreamLemmas.{gone-more}
-use Rattle.tsb_watched.proofs.writes.Watched.write_text.Goals as goal
+use Rattle.tsb_watched.proofs.watched.Watched.write_text.Goals as goal
 
 pub loop-gone-preserved : goal.loop-gone-preserved
 loop-gone-preserved g c = record {
