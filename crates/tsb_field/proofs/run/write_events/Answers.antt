@@ -7,7 +7,7 @@ use Rattle.tsb_field.proofs.EndLemmas.{events-are, not-drawn, stops}
 use Rattle.tsb_field.proofs.run.write_events.Goals as goal
 
 pub returns-in-Err : goal.returns-in-Err
-returns-in-Err g c = inl (refl, refl, stops c.in-Err.fault _ _ c.refuse_log.result _ _ c.in-Err.ensures c.refuse_log.ensures)
+returns-in-Err g c = inl (refl, refl, stops c.in-Err.fault _ _ c.refuse_log.result (seen g.E.Write.contents c.args.errors.now) (seen g.E.Write.contents c.refuse_log.new.errors) c.in-Err.ensures c.refuse_log.ensures)
 
 pub returns-in-Err-read_replay : goal.returns-in-Err-read_replay
 returns-in-Err-read_replay g c =
@@ -18,7 +18,7 @@ returns-in-Err-read_replay g c =
         c.in-Err-read_replay.ensures.bytes,
         c.in-Err-read_replay.ensures.taken,
         refl,
-        not-drawn c.in-Err-read_replay.fault c.failure_by.result _ _ c.in-Err-read_replay.ensures.bytes _ _ _ c.failure_by.ensures c.in-Err-read_replay.ensures.so c.fail.ensures,
+        not-drawn c.in-Err-read_replay.fault c.failure_by.result c.read_replay.new.reader.failed _ c.in-Err-read_replay.ensures.bytes c.fail.result (seen g.E.Write.contents c.args.errors.now) (seen g.E.Write.contents c.fail.new.errors) c.failure_by.ensures c.in-Err-read_replay.ensures.so c.fail.ensures,
       ),
     ))
 
