@@ -27,5 +27,5 @@ pub checks : (found : Result Checked (ReadError PlanError)) (file : Option (List
     → Checks status file old new told tells
 checks (Ok plan) file status old new told tells has judged = inl (0, codes "plan ok\n", inl (refl, refl, checked_plan plan, has), judged)
 checks (Err (faults.Refused fault)) file status old new told tells has (inl judged) = inl (1, plan_line fault, inr (refl, fault, refl, has), judged)
-checks (Err (faults.Refused fault)) file status old new told tells has (inr none) = inr (none.0, files.Memory, none.1)
-checks (Err (faults.Failed why)) file status old new told tells read stays = inr (stays.0, why, stays.1)
+checks (Err (faults.Refused fault)) file status old new told tells has (inr none) = inr (none.0, (files.Memory, none.1))
+checks (Err (faults.Failed why)) file status old new told tells read stays = inr (stays.0, (why, stays.1))

@@ -1,6 +1,6 @@
 -- How the program ends.
-use Rattle.std.proofs.Common.{◌≡◌, ℕ, Bool, List, subst, inl, inr}
-use Rattle.std.specs.Prelude.{Err}
+use Rattle.std.proofs.Common.{◌≡◌, ℕ, Bool, List, refl, subst, inl, inr}
+use Rattle.std.specs.Prelude.{Err, Some}
 use Rattle.std.specs.declared.option.Option.{Option}
 use Rattle.tsb_program.specs.Failures.{Fails}
 use Rattle.tsb_program.specs.declared.failure.Failure.{Failure}
@@ -20,12 +20,16 @@ use Rattle.tsb_field_display.specs.declared.shown.Shown.{Shown}
 use Rattle.tsb_text.specs.declared.faults.OnFault.{OnFault}
 use Rattle.tsb_field_events.specs.Merge.{session_events}
 use Rattle.tsb_field_events.specs.Texts.{IsLog}
+use Rattle.tsb_field_streams.specs.declared.error.FilterError.{FilterError}
+use Rattle.tsb_field_streams.specs.declared.error.FilterError.TheVariants as filters
+use Rattle.tsb_field_streams.specs.FaultLines.{filter_fault}
+use Rattle.tsb_field.specs.Lines.{Refuses, TellsFault}
 use Rattle.tsb_field.specs.Ends.{IsEvents, LogNamed, NoRun, NotDrawn, Pictured, Recorded, Stops, TellsNoLog, TellsNoPlan, failure_by}
 
 -- there is no log
 pub stops : (fault : ReadError LogError) (known : List ℕ → Option (List ℕ)) (path : Option (List ℕ)) (status : ℕ) (told tells : Seen) → LogNamed (Err fault) known path
     → TellsNoLog fault status told tells → Stops known path status told tells
-stops (faults.Failed why) known path status told tells named line = inr (named, why, line)
+stops (faults.Failed why) known path status told tells named line = inr (named, (why, line))
 stops (faults.Refused fault) known path status told tells none line = inl (fault, none, line)
 
 -- there is no plan, or no log beside one
@@ -61,3 +65,11 @@ pub not-drawn : (fault : ReplayError) (failure : Failure) (failed : Bool) (left 
     → ReadSo (Err fault) failed left bytes → Fails failure status told tells → NotDrawn failed bytes status told tells
 not-drawn replays.Memory failure failed left bytes status told tells is so fails = inr (so, subst (λ (f : Failure). Fails f status told tells) is fails)
 not-drawn replays.Read failure failed left bytes status told tells is so fails = inl (so, subst (λ (f : Failure). Fails f status told tells) is fails)
+
+-- a fault of a filter that is none of a device, nor of memory, is that of what was read
+pub told-fault : (fault : FilterError) (status : ℕ) (told tells : Seen) → (fault ≡ filters.Memory → ⊥) → (fault ≡ filters.Read → ⊥) → (fault ≡ filters.Write → ⊥)
+    → Refuses 1 (Some (filter_fault fault)) status told tells → TellsFault fault status told tells
+told-fault filters.Memory status told tells memory read write refuses = absurd (memory refl)
+told-fault filters.Read status told tells memory read write refuses = absurd (read refl)
+told-fault filters.Write status told tells memory read write refuses = absurd (write refl)
+told-fault fault status told tells memory read write refuses = refuses

@@ -1,5 +1,5 @@
 -- What is told of a line that was written or was not.
-use Rattle.std.proofs.Common.{◌≡◌, ℕ, List, OnOk, OnErr, Ok, Err, true, false, sym, ◌∙◌}
+use Rattle.std.proofs.Common.{◌≡◌, ℕ, List, OnOk, OnErr, Ok, Err, true, sym, ◌∙◌}
 use Rattle.std.proofs.lemmas.Bool.{true≢false}
 use Rattle.std.specs.declared.result.Result.{Result}
 use Rattle.tsb_lines.specs.Writes.{AppendsFront}
