@@ -1,5 +1,5 @@
 -- What reading a file comes to, by what its text gave, and what is told of it.
-use Rattle.std.proofs.Common.{◌≡◌, ℕ, List, Option, inl, inr, refl, codes}
+use Rattle.std.proofs.Common.{ℕ, List, Option, inl, inr, refl, codes}
 use Rattle.std.specs.Prelude.{Result, Ok, Err, Some}
 use Rattle.tsb_text.specs.tsb_objects.Checked.{checked_plan}
 use Rattle.tsb_text.specs.tsb_objects.declared.checked.Checked.{Checked}

@@ -5,7 +5,6 @@ use Rattle.std.specs.Prelude.{◌≡◌, ◌⊎◌, ℕ, List, [], Option, Resul
 use Rattle.tsb_words.specs.declared.bench.Asked.{Asked}
 use Rattle.tsb_words.specs.declared.bench.Asked.TheVariants as asks
 use Rattle.tsb_words.specs.declared.error.WordsError.{WordsError}
-use Rattle.tsb_text.specs.tsb_objects.Checked.{checked_plan}
 use Rattle.tsb_text.specs.tsb_objects.declared.checked.Checked.{Checked}
 use Rattle.tsb_text.specs.tsb_plan.Plan.{Plan}
 use Rattle.tsb_text.specs.tsb_plan.Two.{two}
