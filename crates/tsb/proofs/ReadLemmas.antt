@@ -1,19 +1,31 @@
 -- What reading a file comes to, by what its text gave, and what is told of it.
-use Rattle.std.proofs.Common.{ℕ, List, Option, inl, inr}
-use Rattle.std.specs.Prelude.{Err, Some}
+use Rattle.std.proofs.Common.{ℕ, List, Option, inl, inr, refl, codes}
+use Rattle.std.specs.Prelude.{Result, Ok, Err, Some}
+use Rattle.tsb_text.specs.tsb_objects.Checked.{checked_plan}
+use Rattle.tsb_text.specs.tsb_objects.declared.checked.Checked.{Checked}
 use Rattle.tsb_text.specs.tsb_plan.Plan.{Plan}
+use Rattle.tsb_text.specs.tsb_plan_text.declared.error.PlanError.{PlanError}
 use Rattle.tsb_program.specs.tsb_log_text.declared.error.LogError.{LogError}
 use Rattle.tsb_program.specs.tsb_log_text.FaultLines.{log_fault}
 use Rattle.tsb_program.specs.declared.files.FileError.TheVariants as files
 use Rattle.tsb_program.specs.declared.read.ReadError.{ReadError}
 use Rattle.tsb_program.specs.declared.read.ReadError.TheVariants as faults
-use Rattle.tsb.specs.Ends.{Stops}
-use Rattle.tsb_program.specs.Lines.{Refuses}
-use Rattle.tsb_program.specs.Read.{HasPlan, LogRead}
+use Rattle.tsb_program.specs.tsb_watched.Seen.{Seen}
+use Rattle.tsb.specs.Ends.{Checks, Reported, Stops}
+use Rattle.tsb_program.specs.Lines.{Refuses, plan_line}
+use Rattle.tsb_program.specs.Read.{HasPlan, LogRead, PlanRead}
 
 -- a log that is not had ends `run` where there is a plan
-pub stops-log : (fault : ReadError LogError) (found : Plan) (status : ℕ) (plan log told tells : Option (List ℕ)) → HasPlan plan found → LogRead (Err fault) log
+pub stops-log : (fault : ReadError LogError) (found : Plan) (status : ℕ) (plan log : Option (List ℕ)) (told tells : Seen) → HasPlan plan found → LogRead (Err fault) log
     → Refuses (λ (e : LogError). Some (log_fault e)) fault status told tells → Stops status plan log told tells
 stops-log (faults.Failed why) found status plan log old new has read fails = inr (inr (why, fails))
 stops-log (faults.Refused why) found status plan log old new has read (inl line) = inr (inl (line.0, found, has, why, read, line.1))
 stops-log (faults.Refused why) found status plan log old new has read (inr none) = inr (inr (files.Memory, none))
+
+-- what was found of a plan is that of its file
+pub checks : (found : Result Checked (ReadError PlanError)) (file : Option (List ℕ)) (status : ℕ) (old new told tells : Seen) → PlanRead found file → Reported found status old new told tells
+    → Checks status file old new told tells
+checks (Ok plan) file status old new told tells has judged = inl (0, codes "plan ok\n", inl (refl, refl, checked_plan plan, has), judged)
+checks (Err (faults.Refused fault)) file status old new told tells has (inl judged) = inl (1, plan_line fault, inr (refl, fault, refl, has), judged)
+checks (Err (faults.Refused fault)) file status old new told tells has (inr none) = inr (none.0, (files.Memory, none.1))
+checks (Err (faults.Failed why)) file status old new told tells read stays = inr (stays.0, (why, stays.1))

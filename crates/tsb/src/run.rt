@@ -1,20 +1,21 @@
 //! What the program does for its words.
 
-ghost use Rattle.std.specs.Prelude.{◌≡◌, [], Result, map};
+ghost use Rattle.std.specs.Prelude.{◌≡◌, [], Result, false, map, true};
 ghost use Rattle.tsb_words.specs.declared.bench.Asked.{Asked};
 ghost use Rattle.tsb_words.specs.declared.error.WordsError.{WordsError};
 ghost use Rattle.tsb_words.specs.BenchWords.{Spells};
 ghost use Rattle.tsb_text.specs.tsb_objects.Checked.{checked_plan};
 ghost use Rattle.tsb.specs.Lines.{TellsWords};
 ghost use Rattle.tsb_program.specs.Statuses.{number};
-ghost use Rattle.tsb.specs.Ends.{Checks, Judged, Ran, RanBuiltIn, Did, Talked};
+ghost use Rattle.tsb_program.specs.tsb_watched.Seen.{seen};
+ghost use Rattle.tsb.specs.Ends.{Checks, Judged, Ran, RanBuiltIn, Reported, Did, Talked};
 
 use std::alloc::Global;
 use std::convert::AsStr;
 use std::io::{Read, Write};
 use tsb_program::{
-    Failure, Files, ReadError, Status, fail, line_of, log_of, plan_of, refuse, tell, tell_end,
-    write_line,
+    Failure, Files, ReadError, Status, Watched, fail, line_of, log_of, plan_of, refuse, tell,
+    tell_end, write_line,
 };
 use tsb_text::{Checked, Log, Plan, PlanError, session};
 use tsb_words::WordsError;
@@ -29,12 +30,15 @@ pub fn run_words<S: AsStr, F: Files, R: Read, W: Write, E: Write>(
     alloc: Global,
     words: &[S],
     files: &F,
-    input: &mut R,
-    output: &mut W,
-    errors: &mut E,
+    input: &mut Watched<R>,
+    output: &mut Watched<W>,
+    errors: &mut Watched<E>,
 ) -> u8
+    requires reads { input.old.failed ≡ false }
+    requires writes { output.old.failed ≡ false }
+    requires flushed { output.old.flushed ≡ true }
     ensures { (answer : Result Asked WordsError) × Spells (map S.text words.now) answer × Did answer result (F.bytes files.now)
-        (R.remaining input.old) (R.remaining input.new) (W.contents output.old) (W.contents output.new) (E.contents errors.old) (E.contents errors.new) }
+        (seen R.remaining input.old) (seen R.remaining input.new) (seen W.contents output.old) (seen W.contents output.new) (seen E.contents errors.old) (seen E.contents errors.new) }
 {
     match read_words(alloc, words) {
         Ok(Asked::Check(plan)) => check(alloc, plan, files, output, errors),
@@ -45,8 +49,8 @@ pub fn run_words<S: AsStr, F: Files, R: Read, W: Write, E: Write>(
 }
 
 /// Says why words ask for nothing, and gives the status that the program ends with.
-pub fn tell_words_fault<E: Write>(errors: &mut E, fault: WordsError) -> u8
-    ensures { TellsWords fault result (E.contents errors.old) (E.contents errors.new) }
+pub fn tell_words_fault<E: Write>(errors: &mut Watched<E>, fault: WordsError) -> u8
+    ensures { TellsWords fault result (seen E.contents errors.old) (seen E.contents errors.new) }
 {
     match fault {
         WordsError::Memory => fail(errors, Failure::Memory),
@@ -63,13 +67,26 @@ fn check<F: Files, W: Write, E: Write>(
     alloc: Global,
     path: &str,
     files: &F,
-    output: &mut W,
-    errors: &mut E,
+    output: &mut Watched<W>,
+    errors: &mut Watched<E>,
 ) -> u8
     ensures { Checks result (F.bytes files.now path.now)
-        (W.contents output.old) (W.contents output.new) (E.contents errors.old) (E.contents errors.new) }
+        (seen W.contents output.old) (seen W.contents output.new) (seen E.contents errors.old) (seen E.contents errors.new) }
 {
-    match plan_of(alloc, files, path) {
+    report(alloc, plan_of(alloc, files, path), output, errors)
+}
+
+/// Reports what was found of a plan.
+fn report<W: Write, E: Write>(
+    alloc: Global,
+    found: Result<Checked, ReadError<PlanError>>,
+    output: &mut Watched<W>,
+    errors: &mut Watched<E>,
+) -> u8
+    ensures { Reported found result
+        (seen W.contents output.old) (seen W.contents output.new) (seen E.contents errors.old) (seen E.contents errors.new) }
+{
+    match found {
         Ok(_) => judge(output, errors, Status::Done, b"plan ok\n"),
         Err(ReadError::Refused(fault)) => match line_of(alloc, fault) {
             Ok(line) => judge(output, errors, Status::Refused, line.as_bytes()),
@@ -80,9 +97,14 @@ fn check<F: Files, W: Write, E: Write>(
 }
 
 /// Writes what was found in a plan.
-fn judge<W: Write, E: Write>(output: &mut W, errors: &mut E, status: Status, line: &[u8]) -> u8
+fn judge<W: Write, E: Write>(
+    output: &mut Watched<W>,
+    errors: &mut Watched<E>,
+    status: Status,
+    line: &[u8],
+) -> u8
     ensures { Judged result (number status) line.now
-        (W.contents output.old) (W.contents output.new) (E.contents errors.old) (E.contents errors.new) }
+        (seen W.contents output.old) (seen W.contents output.new) (seen E.contents errors.old) (seen E.contents errors.new) }
 {
     match write_line(output, line) {
         Ok(()) => status.number(),
@@ -96,12 +118,15 @@ fn run<F: Files, R: Read, W: Write, E: Write>(
     plan: &str,
     log: &str,
     files: &F,
-    input: &mut R,
-    output: &mut W,
-    errors: &mut E,
+    input: &mut Watched<R>,
+    output: &mut Watched<W>,
+    errors: &mut Watched<E>,
 ) -> u8
-    ensures { Ran result (F.bytes files.now plan.now) (F.bytes files.now log.now) (R.remaining input.old) (R.remaining input.new)
-        (W.contents output.old) (W.contents output.new) (E.contents errors.old) (E.contents errors.new) }
+    requires reads { input.old.failed ≡ false }
+    requires writes { output.old.failed ≡ false }
+    requires flushed { output.old.flushed ≡ true }
+    ensures { Ran result (F.bytes files.now plan.now) (F.bytes files.now log.now) (seen R.remaining input.old) (seen R.remaining input.new)
+        (seen W.contents output.old) (seen W.contents output.new) (seen E.contents errors.old) (seen E.contents errors.new) }
 {
     let checked = match plan_of(alloc, files, plan) {
         Ok(checked) => checked,
@@ -117,12 +142,15 @@ fn run<F: Files, R: Read, W: Write, E: Write>(
 /// Runs a session on the built-in plan of two phases with an empty log.
 fn run_built_in<R: Read, W: Write, E: Write>(
     alloc: Global,
-    input: &mut R,
-    output: &mut W,
-    errors: &mut E,
+    input: &mut Watched<R>,
+    output: &mut Watched<W>,
+    errors: &mut Watched<E>,
 ) -> u8
-    ensures { RanBuiltIn result (R.remaining input.old) (R.remaining input.new)
-        (W.contents output.old) (W.contents output.new) (E.contents errors.old) (E.contents errors.new) }
+    requires reads { input.old.failed ≡ false }
+    requires writes { output.old.failed ≡ false }
+    requires flushed { output.old.flushed ≡ true }
+    ensures { RanBuiltIn result (seen R.remaining input.old) (seen R.remaining input.new)
+        (seen W.contents output.old) (seen W.contents output.new) (seen E.contents errors.old) (seen E.contents errors.new) }
 {
     match Checked::new(Plan::two()) {
         Ok(plan) => talk(alloc, plan, &Log::empty(alloc), input, output, errors),
@@ -136,12 +164,15 @@ fn talk<R: Read, W: Write, E: Write>(
     alloc: Global,
     plan: Checked,
     log: &Log,
-    input: &mut R,
-    output: &mut W,
-    errors: &mut E,
+    input: &mut Watched<R>,
+    output: &mut Watched<W>,
+    errors: &mut Watched<E>,
 ) -> u8
-    ensures { Talked result (record { plan = checked_plan plan; log = log.now }) (R.remaining input.old) (R.remaining input.new)
-        (W.contents output.old) (W.contents output.new) (E.contents errors.old) (E.contents errors.new) }
+    requires reads { input.old.failed ≡ false }
+    requires writes { output.old.failed ≡ false }
+    requires flushed { output.old.flushed ≡ true }
+    ensures { Talked result (record { plan = checked_plan plan; log = log.now }) (seen R.remaining input.old) (seen R.remaining input.new)
+        (seen W.contents output.old) (seen W.contents output.new) (seen E.contents errors.old) (seen E.contents errors.new) }
 {
     match session(alloc, plan, log, input, output) {
         Ok(()) => Status::Done.number(),

@@ -1,5 +1,5 @@
 -- A dialog from its first read to its end.
-use Rattle.std.proofs.Common.{◌≡◌, ℕ, ◌+◌, ◌-◌, ◌<◌, ◌≤◌, List, [], ◌∷◌, ◌++◌, length, refl, sym, ap, ◌∙◌, append_assoc, length-append, take_all, Ok, Err, arith, subst, OnOk, take, zero, suc, inl, inr, false}
+use Rattle.std.proofs.Common.{◌≡◌, ℕ, ◌+◌, ◌-◌, ◌<◌, ◌≤◌, List, [], ◌∷◌, ◌++◌, length, refl, sym, ap, ◌∙◌, append_assoc, length-append, take_all, Ok, Err, arith, subst, OnOk, take, zero, suc, inl, inr, Bool, false, true}
 use Rattle.std.proofs.lemmas.List.{append-nil}
 use Rattle.std.specs.declared.option.Option.{Option}
 use Rattle.std.specs.declared.result.Result.{Result}
@@ -13,7 +13,7 @@ use Rattle.tsb_dialog.specs.declared.error.DialogError.TheVariants.{Read, Write,
 use Rattle.tsb_dialog.specs.Ended.{Ended, EndedSo, ReadsOn}
 use Rattle.tsb_dialog.specs.Going.{Fed, Finished, Going, as_dialog}
 use Rattle.tsb_dialog.specs.Heard.{Heard, IsAnswered, IsOver, IsSaid}
-use Rattle.tsb_dialog.specs.Pended.{AfterWrites, IsWell, Pended}
+use Rattle.tsb_dialog.specs.Blame.{AfterCalls, Blames}
 use Rattle.tsb_dialog.specs.Said.{Said}
 use Rattle.tsb_dialog.specs.Says.{Saying}
 use Rattle.tsb_dialog.proofs.HeardLemmas.{heard-start}
@@ -33,12 +33,6 @@ going-start most limit stands says from answers held i o n waits first empty non
   };
   fits = omega arith;
 }
-
--- nothing waits, before a read and after it
-pub going-read : {A S : Type 0} (most limit : ℕ) (stands : A → S → Type 0) (says : Saying S) (from : S) (answers : A) (n : ℕ) (held : List ℕ) (budget : ℕ) (i l o t : Option (List ℕ)) (waits after : List ℕ)
-    → waits ≡ [] → after ≡ [] → Going most limit stands says from answers n held budget i l o t waits → Going most limit stands says from answers n held budget i l o t after
-going-read most limit stands says from answers n held budget i l o t waits after none still g =
-    subst (λ (v : List ℕ). Going most limit stands says from answers n held budget i l o t v) (none ∙ sym still) g
 
 -- ## How it ends
 
@@ -254,6 +248,17 @@ going-same most limit stands says from answers n m held keeps budget i l o t wai
     (subst (λ (v : List ℕ). Going most limit stands says from answers n v budget i l o t waits) (sym bytes) g)
 
 -- after calls that did not fail no call has failed
-pub well-after : {T E : Type 0} (r : Result T E) (p : Pended) → is_err r ≡ false → AfterWrites r p → IsWell p
-well-after (Ok t) p none w = w
-well-after (Err e) p none w = absurd (cc)
+pub well-after : {T E : Type 0} (r : Result T E) (failed : Bool) → is_err r ≡ false → AfterCalls r failed → failed ≡ false
+well-after (Ok t) failed none after = after
+well-after (Err e) failed none after = absurd (cc)
+
+-- after calls of which one failed one has
+pub failed-after : {T E : Type 0} (r : Result T E) (failed : Bool) → is_err r ≡ true → AfterCalls r failed → failed ≡ true
+failed-after (Ok t) failed some after = absurd (cc)
+failed-after (Err e) failed some after = after
+
+-- a dialog that ends with its last write blames the writer for a fault of that
+pub blames-sent : (r : Result (Unit {0}) WriteError) (read_failed write_failed flushed : Bool) → read_failed ≡ false → AfterCalls r write_failed → OnOk r (flushed ≡ true)
+    → Blames (as_dialog r) read_failed write_failed flushed
+blames-sent (Ok u) read_failed write_failed flushed reads writes passed = (reads, writes, passed)
+blames-sent (Err e) read_failed write_failed flushed reads writes passed = (reads, writes)

@@ -1,10 +1,11 @@
 //! What answers lines.
-ghost use Rattle.tsb_dialog.specs.Pended.{AfterWrites, IsWell};
+ghost use Rattle.std.specs.Prelude.{◌≡◌, false};
+ghost use Rattle.tsb_dialog.specs.Blame.{AfterCalls};
 ghost use Rattle.tsb_dialog.specs.Says.{Answered};
 
 use crate::pending::Pending;
 use std::io::Write;
-use tsb_lines::WriteError;
+use tsb_watched::{Watched, WriteError};
 
 /// Whether a dialog goes on after a line.
 #[derive(Clone, Copy, PartialEq, Eq)]
@@ -36,9 +37,9 @@ pub trait Answers {
         number: u32,
         line: &[u8],
         pending: &mut Pending,
-        writer: &mut W,
+        writer: &mut Watched<W>,
     ) -> Result<Flow, WriteError>
         ensures answered { (s : State) → stands self.old s
-            → Answered stands (says s number line.now) result self.new (W.contents writer.old) (W.contents writer.new) pending.old.waits pending.new.waits }
-        ensures blame { IsWell pending.old → AfterWrites result pending.new };
+            → Answered stands (says s number line.now) result self.new (W.contents writer.old.device) (W.contents writer.new.device) pending.old pending.new }
+        ensures blame { writer.old.failed ≡ false → AfterCalls result writer.new.failed };
 }

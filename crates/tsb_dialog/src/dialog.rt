@@ -1,17 +1,18 @@
 //! Dialogs: lines in, answers out.
-ghost use Rattle.std.specs.Prelude.{◌≡◌, ◌∷◌, ◌++◌, ◌+◌, ◌<◌, ◌≤◌, [], ℕ, List, length, OnOk, true};
+ghost use Rattle.std.specs.Prelude.{◌≡◌, ◌∷◌, ◌++◌, ◌+◌, ◌<◌, ◌≤◌, [], ℕ, List, false, length, OnOk, true};
+ghost use Rattle.tsb_dialog.specs.Blame.{AfterCalls, Blames};
 ghost use Rattle.tsb_dialog.specs.Ended.{Ended};
 ghost use Rattle.tsb_dialog.specs.declared.dialog.TheConstants.{KEPT, LIMIT};
 ghost use Rattle.tsb_dialog.specs.Going.{Fed, Finished, as_dialog};
 ghost use Rattle.tsb_dialog.specs.Heard.{Heard};
-ghost use Rattle.tsb_dialog.specs.Pended.{AfterAll, AfterWrites, IsWell};
 ghost use Rattle.tsb_dialog.specs.Said.{Said};
 
 use crate::answers::{Answers, Flow};
 use crate::error::DialogError;
 use crate::pending::Pending;
 use std::io::{Read, Write};
-use tsb_lines::{KeptLine, WriteError};
+use tsb_lines::KeptLine;
+use tsb_watched::{Watched, WriteError};
 
 /// The most bytes that a dialog may be given leave to read: 1 GiB.
 pub const LIMIT: usize = 1_073_741_824;
@@ -36,9 +37,7 @@ impl Dialog {
     fn new() -> Dialog
         ensures line { result.line ≡ [] }
         ensures number { result.number ≡ 1 }
-        ensures waits { result.pending.waits ≡ [] }
-        ensures well { IsWell result.pending }
-        ensures flushed { result.pending.flushed ≡ true }
+        ensures waits { result.pending ≡ [] }
     {
         Dialog {
             line: KeptLine::new(),
@@ -52,14 +51,14 @@ impl Dialog {
         &mut self,
         answers: &mut A,
         byte: u8,
-        writer: &mut W,
+        writer: &mut Watched<W>,
     ) -> Result<Flow, WriteError>
         requires { self.old.number < 4294967295 }
         ensures fed { (from now : A.State) (bytes text : List ℕ) → A.stands answers.old now → Heard KEPT A.says from bytes text self.old.number now self.old.line
             → Fed KEPT A.stands A.says from (bytes ++ byte ∷ []) text result answers.new self.new.number self.new.line
-            (W.contents writer.old) (W.contents writer.new) self.old.pending.waits self.new.pending.waits }
+            (W.contents writer.old.device) (W.contents writer.new.device) self.old.pending self.new.pending }
         ensures number { self.new.number ≤ self.old.number + 1 }
-        ensures blame { IsWell self.old.pending → AfterWrites result self.new.pending }
+        ensures blame { writer.old.failed ≡ false → AfterCalls result writer.new.failed }
     {
         if byte == b'\n' {
             let number = self.number;
@@ -77,14 +76,14 @@ impl Dialog {
         &mut self,
         answers: &mut A,
         bytes: &[u8],
-        writer: &mut W,
+        writer: &mut Watched<W>,
     ) -> Result<Flow, WriteError>
         requires { self.old.number + length bytes.now < 4294967296 }
         ensures fed { (from now : A.State) (before text : List ℕ) → A.stands answers.old now → Heard KEPT A.says from before text self.old.number now self.old.line
             → Fed KEPT A.stands A.says from (before ++ bytes.now) text result answers.new self.new.number self.new.line
-            (W.contents writer.old) (W.contents writer.new) self.old.pending.waits self.new.pending.waits }
+            (W.contents writer.old.device) (W.contents writer.new.device) self.old.pending self.new.pending }
         ensures number { self.new.number ≤ self.old.number + length bytes.now }
-        ensures blame { IsWell self.old.pending → AfterWrites result self.new.pending }
+        ensures blame { writer.old.failed ≡ false → AfterCalls result writer.new.failed }
     {
         for byte in bytes {
             match self.feed(answers, *byte, writer)? {
@@ -95,27 +94,29 @@ impl Dialog {
         Ok(Flow::On)
     }
 
-    /// Answers what follows the last line feed, at the end of the input, and writes all that waits.
+    /// Answers what follows the last line feed, at the end of the input, writes all that waits, and has the writer pass it
+    /// on.
     fn finish<A: Answers, W: Write>(
         &mut self,
         answers: &mut A,
-        writer: &mut W,
+        writer: &mut Watched<W>,
     ) -> Result<(), WriteError>
         ensures finished { (from now : A.State) (bytes text : List ℕ) → A.stands answers.old now → Heard KEPT A.says from bytes text self.old.number now self.old.line
             → Finished KEPT A.stands A.says from bytes text result answers.new
-            (W.contents writer.old) (W.contents writer.new) self.old.pending.waits self.new.pending.waits }
-        ensures blame { IsWell self.old.pending → AfterWrites result self.new.pending }
+            (W.contents writer.old.device) (W.contents writer.new.device) self.old.pending self.new.pending }
+        ensures flushed { OnOk result (writer.new.flushed ≡ true) }
+        ensures blame { writer.old.failed ≡ false → AfterCalls result writer.new.failed }
     {
         let _ = answers.answer(self.number, self.line.last(), &mut self.pending, writer)?;
         self.send(writer)
     }
 
     /// Writes all that waits, and has the writer pass it on.
-    fn send<W: Write>(&mut self, writer: &mut W) -> Result<(), WriteError>
-        ensures said { Said (W.contents writer.old) (W.contents writer.new) self.old.pending.waits self.new.pending.waits [] }
-        ensures ok { OnOk result (self.new.pending.waits ≡ []) }
-        ensures flushed { OnOk result (self.new.pending.flushed ≡ true) }
-        ensures blame { IsWell self.old.pending → AfterWrites result self.new.pending }
+    fn send<W: Write>(&mut self, writer: &mut Watched<W>) -> Result<(), WriteError>
+        ensures said { Said (W.contents writer.old.device) (W.contents writer.new.device) self.old.pending self.new.pending [] }
+        ensures ok { OnOk result (self.new.pending ≡ []) }
+        ensures flushed { OnOk result (writer.new.flushed ≡ true) }
+        ensures blame { writer.old.failed ≡ false → AfterCalls result writer.new.failed }
         ensures rest { (self.new.line ≡ self.old.line) × (self.new.number ≡ self.old.number) }
     {
         self.pending.send(writer)
@@ -126,25 +127,26 @@ impl Dialog {
         &mut self,
         answers: &mut A,
         limit: usize,
-        reader: &mut R,
-        writer: &mut W,
+        reader: &mut Watched<R>,
+        writer: &mut Watched<W>,
     ) -> Result<(), DialogError>
         requires limited { limit ≤ LIMIT }
         requires line { self.old.line ≡ [] }
         requires number { self.old.number ≡ 1 }
-        requires waits { self.old.pending.waits ≡ [] }
-        requires well { IsWell self.old.pending }
-        requires flushed { self.old.pending.flushed ≡ true }
+        requires waits { self.old.pending ≡ [] }
+        requires reads { reader.old.failed ≡ false }
+        requires writes { writer.old.failed ≡ false }
+        requires flushed { writer.old.flushed ≡ true }
         ensures ended { (from : A.State) → A.stands answers.old from
-            → Ended KEPT limit A.stands A.says from result answers.new (R.remaining reader.old) (R.remaining reader.new) (W.contents writer.old) (W.contents writer.new) }
-        ensures blame { AfterAll result self.new.pending }
+            → Ended KEPT limit A.stands A.says from result answers.new (R.remaining reader.old.device) (R.remaining reader.new.device) (W.contents writer.old.device) (W.contents writer.new.device) }
+        ensures blame { Blames result reader.new.failed writer.new.failed writer.new.flushed }
     {
         let mut chunk = [0; CHUNK];
         let mut left = limit;
         loop {
             let most = left.min(CHUNK).max(1);
             let room = &mut chunk[..most];
-            let count = match self.pending.read(reader, room) {
+            let count = match self.pending.read(reader, writer, room) {
                 Ok(count) => count,
                 Err(_) => return Err(DialogError::Read),
             };
@@ -185,17 +187,23 @@ fn as_dialog(sent: Result<(), WriteError>) -> Result<(), DialogError>
 /// Reads lines and has each answered, up to one that ends the dialog or the end of what is read. At most `limit`
 /// bytes are read.
 ///
-/// What was said goes out before each read. A fault ends the dialog; what was written until then begins what may be
-/// said. `TooLarge` comes where there is a byte after the first `limit`, once the whole lines within them were answered.
+/// What was said goes out and is passed on before each read, and at the end. A fault ends the dialog; what was written
+/// until then begins what may be said. `Read` is answered exactly where a read has failed, and `Write` exactly where a
+/// write or a flush has. `TooLarge` comes where there is a byte after the first `limit`, once the whole lines within
+/// them were answered.
 pub fn converse<A: Answers, R: Read, W: Write>(
     answers: &mut A,
     limit: usize,
-    reader: &mut R,
-    writer: &mut W,
+    reader: &mut Watched<R>,
+    writer: &mut Watched<W>,
 ) -> Result<(), DialogError>
     requires limited { limit ≤ LIMIT }
-    ensures { (from : A.State) → A.stands answers.old from
-        → Ended KEPT limit A.stands A.says from result answers.new (R.remaining reader.old) (R.remaining reader.new) (W.contents writer.old) (W.contents writer.new) }
+    requires reads { reader.old.failed ≡ false }
+    requires writes { writer.old.failed ≡ false }
+    requires flushed { writer.old.flushed ≡ true }
+    ensures ended { (from : A.State) → A.stands answers.old from
+        → Ended KEPT limit A.stands A.says from result answers.new (R.remaining reader.old.device) (R.remaining reader.new.device) (W.contents writer.old.device) (W.contents writer.new.device) }
+    ensures blame { Blames result reader.new.failed writer.new.failed writer.new.flushed }
 {
     let mut dialog = Dialog::new();
     dialog.run(answers, limit, reader, writer)

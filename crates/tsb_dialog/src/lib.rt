@@ -7,11 +7,9 @@ mod answers;
 mod dialog;
 mod error;
 mod pending;
-mod waiting;
-mod watch;
 
 pub use answers::{Answers, Flow};
 pub use dialog::{KEPT, LIMIT, converse};
 pub use error::DialogError;
 pub use pending::Pending;
-pub use tsb_lines::WriteError;
+pub use tsb_watched::{Watched, WriteError};

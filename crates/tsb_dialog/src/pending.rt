@@ -1,92 +1,145 @@
 //! Answers on their way out.
+#![tactic(auto)]
 
-ghost use Rattle.std.specs.Prelude.{◌≡◌, ◌++◌, ◌≤◌, [], ℕ, List, length, OnOk, OnErr, true};
+ghost use Rattle.std.specs.Prelude.{◌≡◌, ◌∷◌, ◌++◌, ◌≤◌, [], ℕ, List, false, length, OnOk, OnErr, true};
 ghost use Rattle.std.specs.Io.{ReadsAtMost};
 ghost use Rattle.std.specs.Io.KnownBytes.{ReadConsumes};
-ghost use Rattle.tsb_dialog.specs.Pended.{AfterRead, AfterWrites, IsWell};
+ghost use Rattle.tsb_dialog.specs.Blame.{AfterCalls};
 ghost use Rattle.tsb_dialog.specs.Said.{Said, Wrote, with_feed};
 
-use crate::waiting::Waiting;
-use crate::watch::Watch;
+use arrayvec::ArrayVec;
 use std::io::{self, Read, Write};
 use std::marker::Model;
-use tsb_lines::WriteError;
+use tsb_watched::{Watched, WriteError};
 
-/// Answers that were said and have not gone out yet, and what has become of the calls of the reader and the writer.
+/// How many bytes of answers are put together before they are written.
+const ROOM: usize = 8192;
+
+/// Answers that were said and have not gone out yet.
 #[derive(Drop)]
 pub struct Pending {
-    waiting: Waiting,
-    watch: Watch,
+    bytes: ArrayVec<u8, ROOM>,
+    /// How many of the bytes have gone out.
+    gone: usize,
 }
 
 impl Model for Pending {
-    ghost use Rattle.tsb_dialog.specs.Pended.{Pended};
+    ghost use Rattle.std.specs.Prelude.{ℕ, List, drop, length, ◌≤◌};
 
-    ghost Value = { Pended };
+    ghost Value = { List ℕ };
 
-    ghost view = { λ p. record {
-      waits = p.waiting;
-      read_failed = p.watch.read_failed;
-      write_failed = p.watch.write_failed;
-      flushed = p.watch.flushed;
-    } };
+    ghost view = { λ a. drop a.gone a.bytes.items };
+
+    ghost invariant = { λ a. a.gone ≤ length a.bytes.items };
 }
 
 impl Pending {
+    /// The greatest length of a line with its line feed, in bytes.
+    const LINE: usize = 64;
+
     /// Nothing was said.
     pub fn new() -> Pending
-        ensures waits { result.waits ≡ [] }
-        ensures well { IsWell result }
-        ensures flushed { result.flushed ≡ true }
+        ensures { result ≡ [] }
     {
         Pending {
-            waiting: Waiting::new(),
-            watch: Watch::new(),
+            bytes: ArrayVec::new(),
+            gone: 0,
         }
     }
 
     /// Says a line of at most 63 bytes, and its line feed. Where there is no room for it, what waits is written first;
     /// where that fails, the line was not said.
-    pub fn say<W: Write>(&mut self, writer: &mut W, line: &[u8]) -> Result<(), WriteError>
+    pub fn say<W: Write>(&mut self, writer: &mut Watched<W>, line: &[u8]) -> Result<(), WriteError>
         requires { length line.now ≤ 63 }
-        ensures ok { OnOk result (Said (W.contents writer.old) (W.contents writer.new) self.old.waits self.new.waits (with_feed line.now)) }
-        ensures fault { OnErr result (Said (W.contents writer.old) (W.contents writer.new) self.old.waits self.new.waits []) }
-        ensures blame { IsWell self.old → AfterWrites result self.new }
+        ensures ok { OnOk result (Said (W.contents writer.old.device) (W.contents writer.new.device) self.old self.new (with_feed line.now)) }
+        ensures fault { OnErr result (Said (W.contents writer.old.device) (W.contents writer.new.device) self.old self.new []) }
+        ensures blame { writer.old.failed ≡ false → AfterCalls result writer.new.failed }
     {
-        self.waiting.say(&mut self.watch, writer, line)
+        if self.bytes.remaining_capacity() < Self::LINE {
+            self.write_out(writer)?;
+            self.gone = 0;
+            self.bytes.clear();
+            let _ = self.bytes.try_extend_from_slice(line);
+            self.bytes.push(b'\n');
+            return Ok(());
+        }
+        let _ = self.bytes.try_extend_from_slice(line);
+        self.bytes.push(b'\n');
+        Ok(())
     }
 
     /// Says a text of any length, as it is: no line feed is added. Where there is no room, what waits is written; where
     /// that fails, a first part of the text may have been said.
-    pub fn add<W: Write>(&mut self, writer: &mut W, text: &[u8]) -> Result<(), WriteError>
-        ensures ok { OnOk result (Said (W.contents writer.old) (W.contents writer.new) self.old.waits self.new.waits text.now) }
-        ensures front { Wrote (W.contents writer.old) (W.contents writer.new) self.old.waits self.new.waits (λ said. (rest : List ℕ) × (text.now ≡ said ++ rest)) }
-        ensures blame { IsWell self.old → AfterWrites result self.new }
+    pub fn add<W: Write>(&mut self, writer: &mut Watched<W>, text: &[u8]) -> Result<(), WriteError>
+        ensures ok { OnOk result (Said (W.contents writer.old.device) (W.contents writer.new.device) self.old self.new text.now) }
+        ensures front { Wrote (W.contents writer.old.device) (W.contents writer.new.device) self.old self.new (λ said. (rest : List ℕ) × (text.now ≡ said ++ rest)) }
+        ensures blame { writer.old.failed ≡ false → AfterCalls result writer.new.failed }
     {
-        self.waiting.add(&mut self.watch, writer, text)
+        for byte in text {
+            self.push(writer, *byte)?;
+        }
+        Ok(())
+    }
+
+    /// Says one byte. Where there is no room for it, what waits is written first; where that fails, it was not said.
+    fn push<W: Write>(&mut self, writer: &mut Watched<W>, byte: u8) -> Result<(), WriteError>
+        ensures ok { OnOk result (Said (W.contents writer.old.device) (W.contents writer.new.device) self.old self.new (byte ∷ [])) }
+        ensures fault { OnErr result (Said (W.contents writer.old.device) (W.contents writer.new.device) self.old self.new []) }
+        ensures blame { writer.old.failed ≡ false → AfterCalls result writer.new.failed }
+    {
+        if self.bytes.is_full() {
+            self.write_out(writer)?;
+            self.gone = 0;
+            self.bytes.clear();
+            self.bytes.push(byte);
+            return Ok(());
+        }
+        self.bytes.push(byte);
+        Ok(())
+    }
+
+    /// Writes all that waits.
+    pub(crate) fn write_out<W: Write>(&mut self, writer: &mut Watched<W>) -> Result<(), WriteError>
+        ensures said { Said (W.contents writer.old.device) (W.contents writer.new.device) self.old self.new [] }
+        ensures ok { OnOk result (self.new ≡ []) }
+        ensures blame { writer.old.failed ≡ false → AfterCalls result writer.new.failed }
+    {
+        while self.gone < self.bytes.len() {
+            match writer.write_once(&self.bytes[self.gone..]) {
+                Ok(count) => self.gone += count,
+                Err(fault) => return Err(fault),
+            }
+        }
+        Ok(())
     }
 
     /// Writes all that waits, and has the writer pass it on.
-    pub(crate) fn send<W: Write>(&mut self, writer: &mut W) -> Result<(), WriteError>
-        ensures said { Said (W.contents writer.old) (W.contents writer.new) self.old.waits self.new.waits [] }
-        ensures ok { OnOk result (self.new.waits ≡ []) }
-        ensures flushed { OnOk result (self.new.flushed ≡ true) }
-        ensures blame { IsWell self.old → AfterWrites result self.new }
+    pub(crate) fn send<W: Write>(&mut self, writer: &mut Watched<W>) -> Result<(), WriteError>
+        ensures said { Said (W.contents writer.old.device) (W.contents writer.new.device) self.old self.new [] }
+        ensures ok { OnOk result (self.new ≡ []) }
+        ensures flushed { OnOk result (writer.new.flushed ≡ true) }
+        ensures blame { writer.old.failed ≡ false → AfterCalls result writer.new.failed }
     {
-        self.waiting.send(&mut self.watch, writer)?;
-        self.watch.flush(writer)
+        match self.write_out(writer) {
+            Ok(()) => writer.pass_on(),
+            Err(fault) => Err(fault),
+        }
     }
 
-    /// Reads, once all that was said has gone out and was flushed.
-    pub(crate) fn read<R: Read>(&mut self, reader: &mut R, room: &mut [u8]) -> io::Result<usize>
-        requires sent { self.old.waits ≡ [] }
-        requires flushed { self.old.flushed ≡ true }
-        ensures waits { self.new.waits ≡ [] }
-        ensures flushed { self.new.flushed ≡ true }
+    /// Reads, once all that was said has gone out to the writer and was passed on.
+    pub(crate) fn read<R: Read, W>(
+        &self,
+        reader: &mut Watched<R>,
+        writer: &Watched<W>,
+        room: &mut [u8],
+    ) -> io::Result<usize>
+        requires sent { self.now ≡ [] }
+        requires flushed { writer.now.flushed ≡ true }
         ensures bound { ReadsAtMost result room.new }
-        ensures bytes { ReadConsumes (R.remaining reader.old) (R.remaining reader.new) result room.new }
-        ensures blame { IsWell self.old → AfterRead result self.new }
+        ensures bytes { ReadConsumes (R.remaining reader.old.device) (R.remaining reader.new.device) result room.new }
+        ensures blame { reader.old.failed ≡ false → AfterCalls result reader.new.failed }
     {
-        self.watch.read(reader, room)
+        let _ = writer;
+        reader.read_once(room)
     }
 }

@@ -1,8 +1,10 @@
 -- How the program ends.
-use Rattle.std.proofs.Common.{◌≡◌, ℕ, List, subst, inl, inr}
-use Rattle.std.specs.Prelude.{Err}
+use Rattle.std.proofs.Common.{◌≡◌, ℕ, Bool, List, refl, subst, inl, inr}
+use Rattle.std.specs.Prelude.{Err, Some}
 use Rattle.std.specs.declared.option.Option.{Option}
-use Rattle.tsb_program.specs.Failures.{failure_of}
+use Rattle.tsb_program.specs.Failures.{Fails}
+use Rattle.tsb_program.specs.declared.failure.Failure.{Failure}
+use Rattle.tsb_program.specs.tsb_watched.Seen.{Seen}
 use Rattle.tsb_program.specs.Read.{HasPlan, LogRead, PlanRead}
 use Rattle.tsb_text.specs.tsb_plan.Plan.{Plan}
 use Rattle.tsb_text.specs.tsb_plan_text.declared.error.PlanError.{PlanError}
@@ -11,26 +13,33 @@ use Rattle.tsb_program.specs.declared.read.ReadError.TheVariants as faults
 use Rattle.tsb_event_text.specs.declared.times.Moment.{Moment}
 use Rattle.tsb_log_text.specs.declared.error.LogError.{LogError}
 use Rattle.tsb_log_text.specs.declared.log.LogRow.{LogRow}
+use Rattle.tsb_field_display.specs.declared.error.ReplayError.{ReplayError}
+use Rattle.tsb_field_display.specs.declared.error.ReplayError.TheVariants as replays
+use Rattle.tsb_field_display.specs.Stream.{ReadSo}
 use Rattle.tsb_field_display.specs.declared.shown.Shown.{Shown}
 use Rattle.tsb_text.specs.declared.faults.OnFault.{OnFault}
 use Rattle.tsb_field_events.specs.Merge.{session_events}
 use Rattle.tsb_field_events.specs.Texts.{IsLog}
-use Rattle.tsb_field.specs.Ends.{IsEvents, LogNamed, NoRun, Pictured, Recorded, Stops, TellsNoLog, TellsNoPlan}
+use Rattle.tsb_field_streams.specs.declared.error.FilterError.{FilterError}
+use Rattle.tsb_field_streams.specs.declared.error.FilterError.TheVariants as filters
+use Rattle.tsb_field_streams.specs.FaultLines.{filter_fault}
+use Rattle.tsb_field.specs.Lines.{Refuses, TellsFault}
+use Rattle.tsb_field.specs.Ends.{IsEvents, LogNamed, NoRun, NotDrawn, Pictured, Recorded, Stops, TellsNoLog, TellsNoPlan, failure_by}
 
 -- there is no log
-pub stops : (fault : ReadError LogError) (known : List ℕ → Option (List ℕ)) (path : Option (List ℕ)) (status : ℕ) (told tells : Option (List ℕ)) → LogNamed (Err fault) known path
+pub stops : (fault : ReadError LogError) (known : List ℕ → Option (List ℕ)) (path : Option (List ℕ)) (status : ℕ) (told tells : Seen) → LogNamed (Err fault) known path
     → TellsNoLog fault status told tells → Stops known path status told tells
-stops (faults.Failed why) known path status told tells named line = inr (named, failure_of why, line)
+stops (faults.Failed why) known path status told tells named line = inr (named, (why, line))
 stops (faults.Refused fault) known path status told tells none line = inl (fault, none, line)
 
 -- there is no plan, or no log beside one
-pub no-plan : (fault : ReadError PlanError) (status : ℕ) (plan log told tells : Option (List ℕ)) → PlanRead (Err fault) plan → TellsNoPlan fault status told tells → NoRun plan log status told tells
-no-plan (faults.Failed why) status plan log told tells read line = inr (inr (failure_of why, line))
+pub no-plan : (fault : ReadError PlanError) (status : ℕ) (plan log : Option (List ℕ)) (told tells : Seen) → PlanRead (Err fault) plan → TellsNoPlan fault status told tells → NoRun plan log status told tells
+no-plan (faults.Failed why) status plan log told tells read line = inr (inr (why, line))
 no-plan (faults.Refused fault) status plan log told tells read line = inl (fault, read, line)
 
-pub no-log : (fault : ReadError LogError) (found : Plan) (status : ℕ) (plan log told tells : Option (List ℕ)) → HasPlan plan found → LogRead (Err fault) log → TellsNoLog fault status told tells
+pub no-log : (fault : ReadError LogError) (found : Plan) (status : ℕ) (plan log : Option (List ℕ)) (told tells : Seen) → HasPlan plan found → LogRead (Err fault) log → TellsNoLog fault status told tells
     → NoRun plan log status told tells
-no-log (faults.Failed why) found status plan log told tells has read line = inr (inr (failure_of why, line))
+no-log (faults.Failed why) found status plan log told tells has read line = inr (inr (why, line))
 no-log (faults.Refused fault) found status plan log told tells has read line = inr (inl (found, has, fault, read, line))
 
 -- what was handed on is the same
@@ -40,13 +49,27 @@ events-are from device other lines shown rows named last text same_device same_l
     subst (λ (d : List ℕ). IsLog from d (session_events lines rows) text) same_device
     (subst (λ (s : List Shown). IsLog from other (session_events s rows) text) same_lines (subst (λ (r : List LogRow). IsLog from other (session_events shown r) text) same_rows log))
 
-pub recorded-as : (status : ℕ) (from : Moment) (device : List ℕ) (other on_fault : OnFault) (plan rows input left old new told tells : Option (List ℕ)) → other ≡ on_fault
+pub recorded-as : (status : ℕ) (from : Moment) (device : List ℕ) (other on_fault : OnFault) (plan rows : Option (List ℕ)) (input left old new told tells : Seen) → other ≡ on_fault
     → Recorded status from device other plan rows input left old new told tells → Recorded status from device on_fault plan rows input left old new told tells
 recorded-as status from device other on_fault plan rows input left old new told tells same recorded =
     subst (λ (w : OnFault). Recorded status from device w plan rows input left old new told tells) same recorded
 
-pub pictured-as : (status : ℕ) (title other : List ℕ) (seconds more : ℕ) (known : List ℕ → Option (List ℕ)) (path input left old new told tells : Option (List ℕ)) → other ≡ title → more ≡ seconds
+pub pictured-as : (status : ℕ) (title other : List ℕ) (seconds more : ℕ) (known : List ℕ → Option (List ℕ)) (path : Option (List ℕ)) (input left old new told tells : Seen) → other ≡ title → more ≡ seconds
     → Pictured status other more known path input left old new told tells → Pictured status title seconds known path input left old new told tells
 pictured-as status title other seconds more known path input left old new told tells same_title same_seconds drawn =
     subst (λ (t : List ℕ). Pictured status t seconds known path input left old new told tells) same_title
     (subst (λ (s : ℕ). Pictured status other s known path input left old new told tells) same_seconds drawn)
+
+-- why a session was not read is told
+pub not-drawn : (fault : ReplayError) (failure : Failure) (failed : Bool) (left : Option (List ℕ)) (bytes : List ℕ) (status : ℕ) (told tells : Seen) → failure ≡ failure_by fault
+    → ReadSo (Err fault) failed left bytes → Fails failure status told tells → NotDrawn failed bytes status told tells
+not-drawn replays.Memory failure failed left bytes status told tells is so fails = inr (so, subst (λ (f : Failure). Fails f status told tells) is fails)
+not-drawn replays.Read failure failed left bytes status told tells is so fails = inl (so, subst (λ (f : Failure). Fails f status told tells) is fails)
+
+-- a fault of a filter that is none of a device, nor of memory, is that of what was read
+pub told-fault : (fault : FilterError) (status : ℕ) (told tells : Seen) → (fault ≡ filters.Memory → ⊥) → (fault ≡ filters.Read → ⊥) → (fault ≡ filters.Write → ⊥)
+    → Refuses 1 (Some (filter_fault fault)) status told tells → TellsFault fault status told tells
+told-fault filters.Memory status told tells memory read write refuses = absurd (memory refl)
+told-fault filters.Read status told tells memory read write refuses = absurd (read refl)
+told-fault filters.Write status told tells memory read write refuses = absurd (write refl)
+told-fault fault status told tells memory read write refuses = refuses

@@ -1,13 +1,15 @@
 -- How the program ends, and what it has then written on its output and of faults.
 --
--- Of each stream there are the bytes before and after: `input` and `left`, `old` and `new`, `told` and `tells`.
+-- Of each stream there is what is seen before and after: `input` and `left`, `old` and `new`, `told` and `tells`.
 use Rattle.std.specs.Prelude.{◌≡◌, ◌⊎◌, ℕ, Bool, true, false, List, [], IsSome, Option, Some, None, Result, Ok, Err, unwrap_or, codes}
-use Rattle.std.specs.Io.KnownBytes.{Appends, Consumes, IsAtEnd}
+use Rattle.std.specs.Io.KnownBytes.{Consumes, IsAtEnd, Keeps}
 use Rattle.tsb_lines.specs.Writes.{AppendsFront}
 use Rattle.tsb_program.specs.Read.{HasLog, HasPlan, RefusesLog, RefusesPlan}
 use Rattle.tsb_program.specs.Failures.{Fails, failure_of}
+use Rattle.tsb_program.specs.Lines.{FailsToRead}
 use Rattle.tsb_program.specs.declared.failure.Failure.{Failure}
-use Rattle.tsb_program.specs.declared.failure.Failure.TheVariants.{Write}
+use Rattle.tsb_program.specs.declared.failure.Failure.TheVariants.{Memory, Read, Write}
+use Rattle.tsb_program.specs.tsb_watched.Seen.{GoesOut, Seen}
 use Rattle.tsb_program.specs.declared.read.ReadError.{ReadError}
 use Rattle.tsb_program.specs.declared.read.ReadError.TheVariants as faults
 use Rattle.tsb_log_text.specs.declared.error.LogError.{LogError}
@@ -15,7 +17,9 @@ use Rattle.tsb_log_text.specs.declared.log.LogRow.{LogRow}
 use Rattle.tsb_log_text.specs.FaultLines.{log_fault}
 use Rattle.tsb_event_text.specs.declared.times.Moment.{Moment}
 use Rattle.tsb_field_display.specs.Remaining.{changes_of, last_tick, remaining}
-use Rattle.tsb_field_display.specs.Stream.{shown_lines}
+use Rattle.tsb_field_display.specs.Stream.{HasNoEnd, shown_lines}
+use Rattle.tsb_field_display.specs.declared.error.ReplayError.{ReplayError}
+use Rattle.tsb_field_display.specs.declared.error.ReplayError.TheVariants as replays
 use Rattle.tsb_field_display.specs.declared.shown.Shown.{Shown}
 use Rattle.tsb_field_diagram.specs.Page.{diagram_text}
 use Rattle.tsb_field_events.specs.Merge.{session_events}
@@ -28,6 +32,7 @@ use Rattle.tsb_record.specs.declared.recording.Outcome.{Outcome}
 use Rattle.tsb_record.specs.declared.recording.Outcome.TheVariants as outcomes
 use Rattle.tsb_record.specs.tsb_types.declared.event.Event.{Event}
 use Rattle.tsb_text.specs.Answers.{Setup}
+use Rattle.tsb_text.specs.Blame.{Blames}
 use Rattle.tsb_text.specs.declared.error.SessionError.{SessionError}
 use Rattle.tsb_text.specs.tsb_plan.Plan.{Plan}
 use Rattle.tsb_text.specs.tsb_plan_text.FaultLines.{plan_fault}
@@ -51,10 +56,10 @@ NamesNoLog files None fault = ⊥
 NamesNoLog files (Some path) fault = RefusesLog (files path) fault
 
 -- there is no log: with 1 because the one named is refused, or because its file or memory failed
-abbrev pub Stops : (List ℕ → Option (List ℕ)) → Option (List ℕ) → ℕ → Option (List ℕ) → Option (List ℕ) → Type 0
+abbrev pub Stops : (List ℕ → Option (List ℕ)) → Option (List ℕ) → ℕ → Seen → Seen → Type 0
 Stops files path status told tells =
     ((fault : LogError) × NamesNoLog files path fault × Refuses 1 (Some (log_fault fault)) status told tells)
-    ⊎ (IsSome path × (failure : Failure) × Fails failure status told tells)
+    ⊎ (IsSome path × FailsToRead status told tells)
 
 -- what came of reading the log that words name
 abbrev pub LogNamed : Result (List LogRow) (ReadError LogError) → (List ℕ → Option (List ℕ)) → Option (List ℕ) → Type 0
@@ -63,29 +68,40 @@ LogNamed (Err (faults.Refused fault)) files path = NamesNoLog files path fault
 LogNamed (Err (faults.Failed why)) files path = IsSome path
 
 -- why there is no log is told
-abbrev pub TellsNoLog : ReadError LogError → ℕ → Option (List ℕ) → Option (List ℕ) → Type 0
+abbrev pub TellsNoLog : ReadError LogError → ℕ → Seen → Seen → Type 0
 TellsNoLog (faults.Failed why) status told tells = Fails (failure_of why) status told tells
 TellsNoLog (faults.Refused fault) status told tells = Refuses 1 (Some (log_fault fault)) status told tells
 
 -- why there is no plan is told
-abbrev pub TellsNoPlan : ReadError PlanError → ℕ → Option (List ℕ) → Option (List ℕ) → Type 0
+abbrev pub TellsNoPlan : ReadError PlanError → ℕ → Seen → Seen → Type 0
 TellsNoPlan (faults.Failed why) status told tells = Fails (failure_of why) status told tells
 TellsNoPlan (faults.Refused fault) status told tells = Refuses 1 (Some (plan_fault fault)) status told tells
 
 -- ## Texts of a session
 
--- a text is written, nothing is told, and the program ends with 0; or the writer failed, which is told, with a prefix
-abbrev pub Written : ℕ → List ℕ → Option (List ℕ) → Option (List ℕ) → Option (List ℕ) → Option (List ℕ) → Type 0
+-- a text is written whole, nothing is told, and the program ends with 0; or the writer failed, which is told, with a prefix
+abbrev pub Written : ℕ → List ℕ → (old new told tells : Seen) → Type 0
 Written status text old new told tells =
-    ((status ≡ 0) × Appends old new text × (tells ≡ told)) ⊎ (AppendsFront old new text × Fails Write status told tells)
+    ((status ≡ 0) × GoesOut old new text × (tells ≡ told))
+    ⊎ ((new.failed ≡ true) × AppendsFront old.bytes new.bytes text × Fails Write status told tells)
+
+-- the failure of a session that was not read
+abbrev pub failure_by : ReplayError → Failure
+failure_by replays.Memory = Memory
+failure_by replays.Read = Read
+
+-- why these bytes were not drawn is told: reading failed, or had no end; or memory failed, and no read has
+abbrev pub NotDrawn : Bool → List ℕ → ℕ → Seen → Seen → Type 0
+NotDrawn failed bytes status told tells =
+    (HasNoEnd failed bytes × Fails Read status told tells) ⊎ ((failed ≡ false) × Fails Memory status told tells)
 
 -- all that a session answered was read, and of this text, which comes of its display lines and the log's rows, as much is
 -- written as the writer takes; or reading it or memory failed, and nothing is written
-abbrev pub Drawn : (List Shown → Option ℕ → List LogRow → List ℕ → Type 0) → ℕ → List LogRow → Option (List ℕ) → Option (List ℕ) → Option (List ℕ) → Option (List ℕ) → Option (List ℕ) → Option (List ℕ) → Type 0
+abbrev pub Drawn : (List Shown → Option ℕ → List LogRow → List ℕ → Type 0) → ℕ → List LogRow → (input left old new told tells : Seen) → Type 0
 Drawn Is status rows input left old new told tells =
-    ((bytes : List ℕ) × Consumes input left bytes × IsAtEnd left × (text : List ℕ)
+    ((bytes : List ℕ) × Consumes input.bytes left.bytes bytes × (left.failed ≡ false) × IsAtEnd left.bytes × (text : List ℕ)
     × Is (changes_of (remaining (shown_lines bytes))) (last_tick (shown_lines bytes)) rows text × Written status text old new told tells)
-    ⊎ ((bytes : List ℕ) × Consumes input left bytes × (new ≡ old) × (failure : Failure) × Fails failure status told tells)
+    ⊎ ((bytes : List ℕ) × Consumes input.bytes left.bytes bytes × (new ≡ old) × NotDrawn left.failed bytes status told tells)
 
 -- ## `events`
 
@@ -94,28 +110,28 @@ abbrev pub IsEvents : Moment → List ℕ → List Shown → Option ℕ → List
 IsEvents from device changes last rows text = IsLog from device (session_events changes rows) text
 
 -- the events of what was read are written; or nothing is: there is no log, or with 2 a tick has no time
-abbrev pub Told : ℕ → Moment → List ℕ → (List ℕ → Option (List ℕ)) → Option (List ℕ) → Option (List ℕ) → Option (List ℕ) → Option (List ℕ) → Option (List ℕ) → Option (List ℕ) → Option (List ℕ) → Type 0
+abbrev pub Told : ℕ → Moment → List ℕ → (List ℕ → Option (List ℕ)) → Option (List ℕ) → (input left old new told tells : Seen) → Type 0
 Told status from device files path input left old new told tells =
     ((left ≡ input) × (new ≡ old) × Stops files path status told tells)
     ⊎ (((rows : List LogRow) × NamesLog files path rows × Drawn (IsEvents from device) status rows input left old new told tells)
-    ⊎ ((bytes : List ℕ) × Consumes input left bytes × (AreWritten from → ⊥) × (new ≡ old)
+    ⊎ ((bytes : List ℕ) × Consumes input.bytes left.bytes bytes × (left.failed ≡ false) × (AreWritten from → ⊥) × (new ≡ old)
     × TellsLate status told tells))
 
 -- ## `record`
 
 -- there is no run: with 1 because the plan is refused, or because there is a plan and the log is refused; or because a file
 -- or memory failed
-abbrev pub NoRun : Option (List ℕ) → Option (List ℕ) → ℕ → Option (List ℕ) → Option (List ℕ) → Type 0
+abbrev pub NoRun : Option (List ℕ) → Option (List ℕ) → ℕ → Seen → Seen → Type 0
 NoRun plan rows status told tells =
     ((fault : PlanError) × RefusesPlan plan fault × Refuses 1 (Some (plan_fault fault)) status told tells)
     ⊎ (((found : Plan) × HasPlan plan found × (fault : LogError) × RefusesLog rows fault × Refuses 1 (Some (log_fault fault)) status told tells)
-    ⊎ ((failure : Failure) × Fails failure status told tells))
+    ⊎ FailsToRead status told tells)
 
 -- the events of the inputs that remain are written; or nothing is: memory failed, or with 2 a tick has no time
-abbrev pub Writes : ℕ → Moment → List ℕ → List Event → Option (List ℕ) → Option (List ℕ) → Option (List ℕ) → Option (List ℕ) → Type 0
+abbrev pub Writes : ℕ → Moment → List ℕ → List Event → (old new told tells : Seen) → Type 0
 Writes status from device all old new told tells =
     ((text : List ℕ) × IsLog from device all text × Written status text old new told tells)
-    ⊎ (((new ≡ old) × (failure : Failure) × Fails failure status told tells)
+    ⊎ (((new ≡ old) × Fails Memory status told tells)
     ⊎ ((AreWritten from → ⊥) × (new ≡ old) × TellsLate status told tells))
 
 -- what a record does after a line with which something is wrong, as words say
@@ -124,19 +140,20 @@ on_fault_of true = GoOn
 on_fault_of false = Stop
 
 -- a run ended well; or with nothing written: with 4 because a line ended it, of which no more is told, or by a fault
-abbrev pub WritesEnd : Result Outcome SessionError → ℕ → Moment → List ℕ → Option (List ℕ) → Option (List ℕ) → Option (List ℕ) → Option (List ℕ) → Type 0
+abbrev pub WritesEnd : Result Outcome SessionError → ℕ → Moment → List ℕ → (old new told tells : Seen) → Type 0
 WritesEnd (Ok (outcomes.Events all)) status from device old new told tells = Writes status from device all.items old new told tells
 WritesEnd (Ok (outcomes.Stopped line)) status from device old new told tells = (status ≡ 4) × (new ≡ old) × (tells ≡ told)
 WritesEnd (Err fault) status from device old new told tells = (new ≡ old) × TellsRunEnd fault status told tells
 
--- commands were run on a plan and a log, and told of what was refused; and then this was written
-abbrev pub RanSo : ℕ → Moment → List ℕ → OnFault → Setup → Option (List ℕ) → Option (List ℕ) → Option (List ℕ) → Option (List ℕ) → Option (List ℕ) → Option (List ℕ) → Type 0
+-- commands were run on a plan and a log, and told of what was refused, by a fault of a device exactly where a call of that
+-- device has failed; and then this was written
+abbrev pub RanSo : ℕ → Moment → List ℕ → OnFault → Setup → (input left old new told tells : Seen) → Type 0
 RanSo status from device on_fault given input left old new told tells =
-    (result : Result Outcome SessionError) × (mid : Option (List ℕ)) × recorded.Ended result on_fault given input left told mid
-    × WritesEnd result status from device old new mid tells
+    (result : Result Outcome SessionError) × (mid : Seen) × recorded.Ended result on_fault given input.bytes left.bytes told.bytes mid.bytes
+    × Blames result left.failed mid.failed mid.flushed × WritesEnd result status from device old new mid tells
 
 -- how `record` ended on the files of a plan and a log: after a run, or with nothing read and nothing written
-abbrev pub Recorded : ℕ → Moment → List ℕ → OnFault → Option (List ℕ) → Option (List ℕ) → Option (List ℕ) → Option (List ℕ) → Option (List ℕ) → Option (List ℕ) → Option (List ℕ) → Option (List ℕ) → Type 0
+abbrev pub Recorded : ℕ → Moment → List ℕ → OnFault → Option (List ℕ) → Option (List ℕ) → (input left old new told tells : Seen) → Type 0
 Recorded status from device on_fault plan rows input left old new told tells =
     ((given : Setup) × HasPlan plan given.plan × HasLog rows given.log × RanSo status from device on_fault given input left old new told tells)
     ⊎ ((left ≡ input) × (new ≡ old) × NoRun plan rows status told tells)
@@ -156,7 +173,7 @@ abbrev pub IsDiagram : List ℕ → ℕ → List Shown → Option ℕ → List L
 IsDiagram title seconds changes last rows text = text ≡ diagram_text title seconds changes last rows
 
 -- the picture of what was read is written; or nothing is, since there is no log
-abbrev pub Pictured : ℕ → List ℕ → ℕ → (List ℕ → Option (List ℕ)) → Option (List ℕ) → Option (List ℕ) → Option (List ℕ) → Option (List ℕ) → Option (List ℕ) → Option (List ℕ) → Option (List ℕ) → Type 0
+abbrev pub Pictured : ℕ → List ℕ → ℕ → (List ℕ → Option (List ℕ)) → Option (List ℕ) → (input left old new told tells : Seen) → Type 0
 Pictured status title seconds files path input left old new told tells =
     ((left ≡ input) × (new ≡ old) × Stops files path status told tells)
     ⊎ ((rows : List LogRow) × NamesLog files path rows × Drawn (IsDiagram title seconds) status rows input left old new told tells)
@@ -164,7 +181,7 @@ Pictured status title seconds files path input left old new told tells =
 -- ## What is done
 
 -- what was done for a wish, where files has the known bytes of each path
-abbrev pub DidWish : Wish → ℕ → (List ℕ → Option (List ℕ)) → Option (List ℕ) → Option (List ℕ) → Option (List ℕ) → Option (List ℕ) → Option (List ℕ) → Option (List ℕ) → Type 0
+abbrev pub DidWish : Wish → ℕ → (List ℕ → Option (List ℕ)) → (input left old new told tells : Seen) → Type 0
 DidWish (log wish) status files input left old new told tells = Logged status wish input left old new told tells
 DidWish (recording from device plan file goes_on) status files input left old new told tells =
     Recorded status from device (on_fault_of goes_on) (files plan) (files file) input left old new told tells
@@ -172,6 +189,6 @@ DidWish (events from device path) status files input left old new told tells = T
 DidWish (diagram path title seconds) status files input left old new told tells = Pictured status (title_of title) (seconds_of seconds) files path input left old new told tells
 
 -- what was done for what the words ask
-abbrev pub Did : Result Asked WordsError → ℕ → (List ℕ → Option (List ℕ)) → Option (List ℕ) → Option (List ℕ) → Option (List ℕ) → Option (List ℕ) → Option (List ℕ) → Option (List ℕ) → Type 0
+abbrev pub Did : Result Asked WordsError → ℕ → (List ℕ → Option (List ℕ)) → (input left old new told tells : Seen) → Type 0
 Did (Ok asked) status files input left old new told tells = DidWish (seen asked) status files input left old new told tells
 Did (Err fault) status files input left old new told tells = (left ≡ input) × (new ≡ old) × TellsWords fault status told tells

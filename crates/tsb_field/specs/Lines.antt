@@ -1,6 +1,6 @@
 -- The lines that the program tells, each with its end.
-use Rattle.std.specs.Prelude.{◌≡◌, ◌⊎◌, ℕ, List, [], ◌∷◌, ◌++◌, IfSome, Option, codes}
-use Rattle.tsb_lines.specs.Writes.{AppendsFront}
+use Rattle.std.specs.Prelude.{◌≡◌, ◌⊎◌, ℕ, List, [], ◌∷◌, ◌++◌, IfSome, Option, Some, codes}
+use Rattle.tsb_program.specs.tsb_watched.Seen.{Seen, Tells}
 use Rattle.tsb_text.specs.declared.error.SessionError.{SessionError}
 use Rattle.tsb_text.specs.declared.error.SessionError.TheVariants as sessions
 use Rattle.tsb_words.specs.declared.error.WordsError.{WordsError}
@@ -14,22 +14,22 @@ usage =
     codes "usage: tsb_field log --from TIME [--device ID] [--time-form FORM] [--zone OFFSET] [--count] [--allow-empty]\n          [--vehicle CHANNEL=DETECTOR].. [--pedestrian CHANNEL=DETECTOR].. [--preempt CHANNEL=INPUT]..\n    or tsb_field record --from TIME --device ID [--go-on] PLAN LOG\n    or tsb_field events --from TIME --device ID [--log LOG]\n    or tsb_field diagram [--log LOG] [--title TEXT] [--seconds-per-line N]\n"
 
 -- bad words end with 2 and how the program is used; words may run out of memory
-abbrev pub TellsWords : WordsError → ℕ → Option (List ℕ) → Option (List ℕ) → Type 0
+abbrev pub TellsWords : WordsError → ℕ → Seen → Seen → Type 0
 TellsWords words.Memory status told tells = Fails Memory status told tells
-TellsWords words.Bad status told tells = (status ≡ 2) × AppendsFront told tells usage
+TellsWords words.Bad status told tells = (status ≡ 2) × Tells told tells usage
 
 -- what was refused is told in its own words, with this status, where there is memory for the line
-abbrev pub Refuses : ℕ → Option (List ℕ) → ℕ → Option (List ℕ) → Option (List ℕ) → Type 0
+abbrev pub Refuses : ℕ → Option (List ℕ) → ℕ → Seen → Seen → Type 0
 Refuses wanted shown status told tells =
-    ((status ≡ wanted) × IfSome shown (λ line. AppendsFront told tells (line ++ 10 ∷ []))) ⊎ Fails Memory status told tells
+    ((status ≡ wanted) × IfSome shown (λ line. Tells told tells (line ++ 10 ∷ []))) ⊎ Fails Memory status told tells
 
 -- what ended a run before its commands did is told, with 3: a failure, or commands without end
-abbrev pub TellsEnd : SessionError → ℕ → Option (List ℕ) → Option (List ℕ) → Type 0
+abbrev pub TellsEnd : SessionError → ℕ → Seen → Seen → Type 0
 TellsEnd sessions.Memory status told tells = Fails Memory status told tells
 TellsEnd sessions.Read status told tells = Fails Read status told tells
 TellsEnd sessions.Write status told tells = Fails Write status told tells
-TellsEnd sessions.TooLarge status told tells = (status ≡ 3) × AppendsFront told tells (codes "commands: too large\n")
+TellsEnd sessions.TooLarge status told tells = (status ≡ 3) × Tells told tells (codes "commands: too large\n")
 
 -- a tick that has no time is told, as a fault of the words: with 2
-abbrev pub TellsLate : ℕ → Option (List ℕ) → Option (List ℕ) → Type 0
-TellsLate status told tells = (status ≡ 2) × AppendsFront told tells (codes "events: past the year 9999\n")
+abbrev pub TellsLate : ℕ → Seen → Seen → Type 0
+TellsLate status told tells = (status ≡ 2) × Tells told tells (codes "events: past the year 9999\n")

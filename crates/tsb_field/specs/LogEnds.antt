@@ -1,9 +1,9 @@
 -- How `log` ends, and what it has then written on its output and of faults.
 --
--- Of each stream there are the bytes before and after: `input` and `left`, `old` and `new`, `told` and `tells`.
+-- Of each stream there is what is seen before and after: `input` and `left`, `old` and `new`, `told` and `tells`.
 use Rattle.std.specs.Prelude.{◌≡◌, ◌⊎◌, ℕ, Bool, true, false, List, Option, Some, Result, Ok, Err, codes}
 use Rattle.std.specs.Io.KnownBytes.{Keeps}
-use Rattle.tsb_lines.specs.Writes.{AppendsFront}
+use Rattle.tsb_program.specs.tsb_watched.Seen.{Seen, Tells}
 use Rattle.tsb_program.specs.Failures.{Fails}
 use Rattle.tsb_program.specs.declared.failure.Failure.TheVariants.{Memory, Read, Write}
 use Rattle.tsb_field_log.specs.Mapping.{wires_of}
@@ -19,29 +19,29 @@ use Rattle.tsb_field.specs.Lines.{Refuses}
 use Rattle.tsb_field.specs.LogLines.{IsReport, is_lost, status_of}
 
 -- what ended a filter is told: a failure, or with 1 the fault of what was read
-abbrev pub TellsFault : FilterError → ℕ → Option (List ℕ) → Option (List ℕ) → Type 0
+abbrev pub TellsFault : FilterError → ℕ → Seen → Seen → Type 0
 TellsFault ends.Memory status told tells = Fails Memory status told tells
 TellsFault ends.Read status told tells = Fails Read status told tells
 TellsFault ends.Write status told tells = Fails Write status told tells
 TellsFault fault status told tells = Refuses 1 (Some (filter_fault fault)) status told tells
 
 -- what was read is told, where there is memory for that
-abbrev pub TellsReport : Manner → Summary → ℕ → Option (List ℕ) → Option (List ℕ) → Type 0
+abbrev pub TellsReport : Manner → Summary → ℕ → Seen → Seen → Type 0
 TellsReport manner summary status told tells =
-    ((text : List ℕ) × IsReport manner summary text × (status ≡ status_of manner summary) × AppendsFront told tells text) ⊎ Fails Memory status told tells
+    ((text : List ℕ) × IsReport manner summary text × (status ≡ status_of manner summary) × Tells told tells text) ⊎ Fails Memory status told tells
 
 -- a text without a header and a row is refused; of another it is told what was read
-abbrev pub TellsFound : Bool → Manner → Summary → ℕ → Option (List ℕ) → Option (List ℕ) → Type 0
+abbrev pub TellsFound : Bool → Manner → Summary → ℕ → Seen → Seen → Type 0
 TellsFound true manner summary status told tells =
-    (status ≡ 1) × AppendsFront told tells (codes "events: no header and no row (do commas part its fields?)\n")
+    (status ≡ 1) × Tells told tells (codes "events: no header and no row (do commas part its fields?)\n")
 TellsFound false manner summary status told tells = TellsReport manner summary status told tells
 
 -- what was read is told
-abbrev pub TellsSummary : Manner → Summary → ℕ → Option (List ℕ) → Option (List ℕ) → Type 0
+abbrev pub TellsSummary : Manner → Summary → ℕ → Seen → Seen → Type 0
 TellsSummary manner summary status told tells = TellsFound (is_lost summary.left_out) manner summary status told tells
 
 -- what ended a filter is told: what was read, or its fault
-abbrev pub TellsLogEnd : Manner → Result Summary FilterError → ℕ → Option (List ℕ) → Option (List ℕ) → Type 0
+abbrev pub TellsLogEnd : Manner → Result Summary FilterError → ℕ → Seen → Seen → Type 0
 TellsLogEnd manner (Ok summary) status told tells = TellsSummary manner summary status told tells
 TellsLogEnd manner (Err fault) status told tells = TellsFault fault status told tells
 
@@ -56,7 +56,7 @@ given_by wish = record {
 }
 
 -- the log of what was read is written, or after a fault a prefix of it
-abbrev pub Logged : ℕ → LogWish → Option (List ℕ) → Option (List ℕ) → Option (List ℕ) → Option (List ℕ) → Option (List ℕ) → Option (List ℕ) → Type 0
+abbrev pub Logged : ℕ → LogWish → (input left old new told tells : Seen) → Type 0
 Logged status wish input left old new told tells =
-    (result : Result Summary FilterError) × (written : Option (List ℕ)) × Ended result (given_by wish) input left old written × Keeps written new
+    (result : Result Summary FilterError) × (written : Option (List ℕ)) × Ended result (given_by wish) input.bytes left.bytes old.bytes written × Keeps written new.bytes
     × TellsLogEnd wish.manner result status told tells

@@ -1,11 +1,12 @@
 //! How the program ends, and the lines that it writes then.
 ghost use Rattle.tsb_field.specs.Lines.{Refuses, TellsEnd, TellsLate, TellsWords};
 ghost use Rattle.tsb_field.specs.Ends.{Written};
+ghost use Rattle.tsb_program.specs.tsb_watched.Seen.{seen};
 
 use std::alloc::Global;
 use std::fmt::Display;
 use std::io::Write;
-use tsb_program::{Failure, Status, fail, line_of, tell, write_line};
+use tsb_program::{Failure, Status, Watched, fail, line_of, tell, write_line};
 use tsb_text::SessionError;
 use tsb_words::WordsError;
 
@@ -19,8 +20,8 @@ const USAGE: &[u8] =
 ";
 
 /// Says why words ask for nothing, and gives the status that the program ends with.
-pub(crate) fn tell_words_fault<E: Write>(errors: &mut E, fault: WordsError) -> u8
-    ensures { TellsWords fault result (E.contents errors.old) (E.contents errors.new) }
+pub(crate) fn tell_words_fault<E: Write>(errors: &mut Watched<E>, fault: WordsError) -> u8
+    ensures { TellsWords fault result (seen E.contents errors.old) (seen E.contents errors.new) }
 {
     match fault {
         WordsError::Memory => fail(errors, Failure::Memory),
@@ -29,8 +30,8 @@ pub(crate) fn tell_words_fault<E: Write>(errors: &mut E, fault: WordsError) -> u
 }
 
 /// Says what ended a run before its commands did.
-pub(crate) fn tell_end<E: Write>(errors: &mut E, fault: SessionError) -> u8
-    ensures { TellsEnd fault result (E.contents errors.old) (E.contents errors.new) }
+pub(crate) fn tell_end<E: Write>(errors: &mut Watched<E>, fault: SessionError) -> u8
+    ensures { TellsEnd fault result (seen E.contents errors.old) (seen E.contents errors.new) }
 {
     match fault {
         SessionError::Memory => fail(errors, Failure::Memory),
@@ -41,15 +42,19 @@ pub(crate) fn tell_end<E: Write>(errors: &mut E, fault: SessionError) -> u8
 }
 
 /// Says that a tick has no time, as a fault of the words.
-pub(crate) fn tell_late<E: Write>(errors: &mut E) -> u8
-    ensures { TellsLate result (E.contents errors.old) (E.contents errors.new) }
+pub(crate) fn tell_late<E: Write>(errors: &mut Watched<E>) -> u8
+    ensures { TellsLate result (seen E.contents errors.old) (seen E.contents errors.new) }
 {
     tell(errors, Status::BadWords, b"events: past the year 9999\n")
 }
 
 /// Says why what was read was refused.
-pub(crate) fn refuse<E: Write, T: Display + Drop>(alloc: Global, errors: &mut E, fault: T) -> u8
-    ensures { Refuses 1 (T.output fault) result (E.contents errors.old) (E.contents errors.new) }
+pub(crate) fn refuse<E: Write, T: Display + Drop>(
+    alloc: Global,
+    errors: &mut Watched<E>,
+    fault: T,
+) -> u8
+    ensures { Refuses 1 (T.output fault) result (seen E.contents errors.old) (seen E.contents errors.new) }
 {
     match line_of(alloc, fault) {
         Ok(line) => tell(errors, Status::Refused, line.as_bytes()),
@@ -58,8 +63,12 @@ pub(crate) fn refuse<E: Write, T: Display + Drop>(alloc: Global, errors: &mut E,
 }
 
 /// Writes a text, and gives the status that the program ends with.
-pub(crate) fn write_all<W: Write, E: Write>(output: &mut W, errors: &mut E, text: &[u8]) -> u8
-    ensures { Written result text.now (W.contents output.old) (W.contents output.new) (E.contents errors.old) (E.contents errors.new) }
+pub(crate) fn write_all<W: Write, E: Write>(
+    output: &mut Watched<W>,
+    errors: &mut Watched<E>,
+    text: &[u8],
+) -> u8
+    ensures { Written result text.now (seen W.contents output.old) (seen W.contents output.new) (seen E.contents errors.old) (seen E.contents errors.new) }
 {
     match write_line(output, text) {
         Ok(()) => Status::Done.number(),

@@ -1,5 +1,6 @@
 //! `log`: a controller's event log in, a log of inputs out.
 ghost use Rattle.std.specs.Prelude.{◌≡◌, option_map};
+ghost use Rattle.tsb_program.specs.tsb_watched.Seen.{seen};
 ghost use Rattle.tsb_words.specs.FieldWords.{seen_log};
 ghost use Rattle.tsb_field.specs.LogEnds.{Logged, TellsFault, TellsReport, TellsSummary};
 
@@ -7,8 +8,7 @@ use crate::report::{is_lost, report, status_of};
 use std::alloc::Global;
 use std::io::{Read, Write};
 use tsb_field_streams::{FilterError, Reading, Summary, fault_line, log};
-use tsb_lines::pass_on;
-use tsb_program::{Failure, Status, fail, tell};
+use tsb_program::{Failure, Status, Watched, fail, tell};
 use tsb_words::field_files::{LogAsked, Manner};
 
 /// What is told of a text of events without a header and without a row.
@@ -18,12 +18,12 @@ const NOTHING: &[u8] = b"events: no header and no row (do commas part its fields
 pub(crate) fn write_log<R: Read, W: Write, E: Write>(
     alloc: Global,
     asked: &LogAsked<'_>,
-    input: &mut R,
-    output: &mut W,
-    errors: &mut E,
+    input: &mut Watched<R>,
+    output: &mut Watched<W>,
+    errors: &mut Watched<E>,
 ) -> u8
     ensures { Logged result (seen_log asked.now)
-        (R.remaining input.old) (R.remaining input.new) (W.contents output.old) (W.contents output.new) (E.contents errors.old) (E.contents errors.new) }
+        (seen R.remaining input.old) (seen R.remaining input.new) (seen W.contents output.old) (seen W.contents output.new) (seen E.contents errors.old) (seen E.contents errors.new) }
 {
     let reading = Reading {
         from: asked.from,
@@ -35,7 +35,7 @@ pub(crate) fn write_log<R: Read, W: Write, E: Write>(
         Ok(summary) => tell_summary(alloc, errors, asked.manner, summary),
         Err(fault) => {
             // What is known goes out. If that fails, the fault that is reported matters more.
-            let _ = pass_on(output);
+            let _ = output.pass_on();
             tell_fault(alloc, errors, fault)
         }
     }
@@ -52,8 +52,8 @@ fn bytes_of(name: Option<&str>) -> Option<&[u8]>
 }
 
 /// Says what ended a filter.
-fn tell_fault<E: Write>(alloc: Global, errors: &mut E, fault: FilterError) -> u8
-    ensures { TellsFault fault result (E.contents errors.old) (E.contents errors.new) }
+fn tell_fault<E: Write>(alloc: Global, errors: &mut Watched<E>, fault: FilterError) -> u8
+    ensures { TellsFault fault result (seen E.contents errors.old) (seen E.contents errors.new) }
 {
     match fault {
         FilterError::Memory => fail(errors, Failure::Memory),
@@ -67,8 +67,8 @@ fn tell_fault<E: Write>(alloc: Global, errors: &mut E, fault: FilterError) -> u8
 }
 
 /// Says what was read, as far as it has to be told, and gives the status that the program ends with.
-fn tell_summary<E: Write>(alloc: Global, errors: &mut E, manner: Manner, summary: Summary) -> u8
-    ensures { TellsSummary manner summary result (E.contents errors.old) (E.contents errors.new) }
+fn tell_summary<E: Write>(alloc: Global, errors: &mut Watched<E>, manner: Manner, summary: Summary) -> u8
+    ensures { TellsSummary manner summary result (seen E.contents errors.old) (seen E.contents errors.new) }
 {
     if is_lost(summary.left_out) {
         return tell(errors, Status::Refused, NOTHING);
@@ -77,8 +77,8 @@ fn tell_summary<E: Write>(alloc: Global, errors: &mut E, manner: Manner, summary
 }
 
 /// Says what was read, where a header or a row was found, and gives the status that the program ends with.
-fn tell_report<E: Write>(alloc: Global, errors: &mut E, manner: Manner, summary: Summary) -> u8
-    ensures { TellsReport manner summary result (E.contents errors.old) (E.contents errors.new) }
+fn tell_report<E: Write>(alloc: Global, errors: &mut Watched<E>, manner: Manner, summary: Summary) -> u8
+    ensures { TellsReport manner summary result (seen E.contents errors.old) (seen E.contents errors.new) }
 {
     match report(alloc, manner, summary) {
         Ok(text) => tell(errors, status_of(manner, summary), &text),

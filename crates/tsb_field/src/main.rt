@@ -13,7 +13,7 @@ use std::convert::AsStr;
 use std::env;
 use std::io::BufWriter;
 use std::process::ExitCode;
-use tsb_program::{Disk, Failure, fail};
+use tsb_program::{Disk, Failure, Watched, fail};
 use tsb_words::WordsError;
 
 /// How many bytes wait before they are written.
@@ -22,7 +22,7 @@ const BUFFER: usize = 65_536;
 fn main(rt: HostRuntime) -> ExitCode {
     let status = match words_given(&rt) {
         Ok(words) => run_buffered(&rt, words.as_slice()),
-        Err(fault) => tell_words_fault(&mut rt.stderr(), fault),
+        Err(fault) => tell_words_fault(&mut Watched::new(rt.stderr()), fault),
     };
     ExitCode::from(status)
 }
@@ -35,14 +35,14 @@ fn words_given(rt: &HostRuntime) -> Result<Vec<String>, WordsError> {
 /// Does what the words ask for, with a buffer before the output, and gives the status that the program ends with.
 fn run_buffered<S: AsStr>(rt: &HostRuntime, words: &[S]) -> u8 {
     match BufWriter::with_capacity(rt.alloc(), BUFFER, rt.stdout()) {
-        Ok(mut output) => run_words(
+        Ok(output) => run_words(
             rt.alloc(),
             words,
             &Disk { rt },
-            &mut rt.stdin(),
-            &mut output,
-            &mut rt.stderr(),
+            &mut Watched::new(rt.stdin()),
+            &mut Watched::new(output),
+            &mut Watched::new(rt.stderr()),
         ),
-        Err(_) => fail(&mut rt.stderr(), Failure::Memory),
+        Err(_) => fail(&mut Watched::new(rt.stderr()), Failure::Memory),
     }
 }

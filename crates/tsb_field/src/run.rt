@@ -1,11 +1,12 @@
 //! What the program does for its words.
-ghost use Rattle.std.specs.Prelude.{◌≡◌, Result, map, option_map};
+ghost use Rattle.std.specs.Prelude.{◌≡◌, Result, false, map, option_map, true};
 ghost use Rattle.tsb_words.specs.declared.field_files.Asked.{Asked};
 ghost use Rattle.tsb_words.specs.declared.error.WordsError.{WordsError};
 ghost use Rattle.tsb_words.specs.FieldProgram.{Spells};
 ghost use Rattle.tsb_text.specs.Answers.{Setup};
 ghost use Rattle.tsb_text.specs.tsb_objects.Checked.{checked_plan};
-ghost use Rattle.tsb_field.specs.Ends.{Did, LogNamed, Pictured, RanSo, Recorded, on_fault_of, TellsNoLog, TellsNoPlan, Told, title_of};
+ghost use Rattle.tsb_program.specs.tsb_watched.Seen.{seen};
+ghost use Rattle.tsb_field.specs.Ends.{Did, LogNamed, Pictured, RanSo, Recorded, failure_by, on_fault_of, TellsNoLog, TellsNoPlan, Told, title_of};
 
 use crate::end::{refuse, tell_end, tell_late, tell_words_fault, write_all};
 use crate::log_run::write_log;
@@ -17,7 +18,7 @@ use tsb_field_diagram::diagram_text;
 use tsb_field_display::{ReplayError, read_replay};
 use tsb_field_events::{EventsError, events_text, log_text};
 use tsb_log_text::{Log, LogError};
-use tsb_program::{Failure, Files, ReadError, Status, fail, log_of, plan_of};
+use tsb_program::{Failure, Files, ReadError, Status, Watched, fail, log_of, plan_of};
 use tsb_record::{OnFault, Outcome, record};
 use tsb_text::{Checked, PlanError};
 use tsb_words::field_files::{Asked, read_words};
@@ -37,12 +38,15 @@ pub fn run_words<S: AsStr, F: Files, R: Read, W: Write, E: Write>(
     alloc: Global,
     words: &[S],
     files: &F,
-    input: &mut R,
-    output: &mut W,
-    errors: &mut E,
+    input: &mut Watched<R>,
+    output: &mut Watched<W>,
+    errors: &mut Watched<E>,
 ) -> u8
+    requires reads { input.old.failed ≡ false }
+    requires writes { errors.old.failed ≡ false }
+    requires flushed { errors.old.flushed ≡ true }
     ensures { (answer : Result Asked WordsError) × Spells (map S.text words.now) answer × Did answer result (F.bytes files.now)
-        (R.remaining input.old) (R.remaining input.new) (W.contents output.old) (W.contents output.new) (E.contents errors.old) (E.contents errors.new) }
+        (seen R.remaining input.old) (seen R.remaining input.new) (seen W.contents output.old) (seen W.contents output.new) (seen E.contents errors.old) (seen E.contents errors.new) }
 {
     match read_words(alloc, words) {
         Ok(Asked::Log(asked)) => write_log(alloc, &asked, input, output, errors),
@@ -98,12 +102,15 @@ fn write_record<F: Files, R: Read, W: Write, E: Write>(
     log: &str,
     on_fault: OnFault,
     files: &F,
-    input: &mut R,
-    output: &mut W,
-    errors: &mut E,
+    input: &mut Watched<R>,
+    output: &mut Watched<W>,
+    errors: &mut Watched<E>,
 ) -> u8
+    requires reads { input.old.failed ≡ false }
+    requires writes { errors.old.failed ≡ false }
+    requires flushed { errors.old.flushed ≡ true }
     ensures { Recorded result from device.now on_fault (F.bytes files.now plan.now) (F.bytes files.now log.now)
-        (R.remaining input.old) (R.remaining input.new) (W.contents output.old) (W.contents output.new) (E.contents errors.old) (E.contents errors.new) }
+        (seen R.remaining input.old) (seen R.remaining input.new) (seen W.contents output.old) (seen W.contents output.new) (seen E.contents errors.old) (seen E.contents errors.new) }
 {
     let checked = match plan_of(alloc, files, plan) {
         Ok(checked) => checked,
@@ -127,12 +134,15 @@ fn record_run<R: Read, W: Write, E: Write>(
     plan: Checked,
     rows: &Log,
     on_fault: OnFault,
-    input: &mut R,
-    output: &mut W,
-    errors: &mut E,
+    input: &mut Watched<R>,
+    output: &mut Watched<W>,
+    errors: &mut Watched<E>,
 ) -> u8
+    requires reads { input.old.failed ≡ false }
+    requires writes { errors.old.failed ≡ false }
+    requires flushed { errors.old.flushed ≡ true }
     ensures { RanSo result from device.now on_fault (record { plan = checked_plan plan; log = rows.now })
-        (R.remaining input.old) (R.remaining input.new) (W.contents output.old) (W.contents output.new) (E.contents errors.old) (E.contents errors.new) }
+        (seen R.remaining input.old) (seen R.remaining input.new) (seen W.contents output.old) (seen W.contents output.new) (seen E.contents errors.old) (seen E.contents errors.new) }
 {
     let events = match record(alloc, plan, rows, on_fault, input, errors) {
         Ok(Outcome::Events(events)) => events,
@@ -153,12 +163,13 @@ fn write_events<F: Files, R: Read, W: Write, E: Write>(
     device: &str,
     path: Option<&str>,
     files: &F,
-    input: &mut R,
-    output: &mut W,
-    errors: &mut E,
+    input: &mut Watched<R>,
+    output: &mut Watched<W>,
+    errors: &mut Watched<E>,
 ) -> u8
+    requires reads { input.old.failed ≡ false }
     ensures { Told result from device.now (F.bytes files.now) (option_map (λ path. path.now) path.entry)
-        (R.remaining input.old) (R.remaining input.new) (W.contents output.old) (W.contents output.new) (E.contents errors.old) (E.contents errors.new) }
+        (seen R.remaining input.old) (seen R.remaining input.new) (seen W.contents output.old) (seen W.contents output.new) (seen E.contents errors.old) (seen E.contents errors.new) }
 {
     let rows = match log_named(alloc, files, path) {
         Ok(rows) => rows,
@@ -166,7 +177,7 @@ fn write_events<F: Files, R: Read, W: Write, E: Write>(
     };
     let replay = match read_replay(alloc, input) {
         Ok(replay) => replay,
-        Err(fault) => return fail(errors, failure_of(fault)),
+        Err(fault) => return fail(errors, failure_by(fault)),
     };
     match events_text(
         alloc,
@@ -198,12 +209,13 @@ fn write_diagram<F: Files, R: Read, W: Write, E: Write>(
     title: &[u8],
     seconds: u32,
     files: &F,
-    input: &mut R,
-    output: &mut W,
-    errors: &mut E,
+    input: &mut Watched<R>,
+    output: &mut Watched<W>,
+    errors: &mut Watched<E>,
 ) -> u8
+    requires reads { input.old.failed ≡ false }
     ensures { Pictured result title.now seconds (F.bytes files.now) (option_map (λ path. path.now) path.entry)
-        (R.remaining input.old) (R.remaining input.new) (W.contents output.old) (W.contents output.new) (E.contents errors.old) (E.contents errors.new) }
+        (seen R.remaining input.old) (seen R.remaining input.new) (seen W.contents output.old) (seen W.contents output.new) (seen E.contents errors.old) (seen E.contents errors.new) }
 {
     let rows = match log_named(alloc, files, path) {
         Ok(rows) => rows,
@@ -211,7 +223,7 @@ fn write_diagram<F: Files, R: Read, W: Write, E: Write>(
     };
     let replay = match read_replay(alloc, input) {
         Ok(replay) => replay,
-        Err(fault) => return fail(errors, failure_of(fault)),
+        Err(fault) => return fail(errors, failure_by(fault)),
     };
     match diagram_text(
         alloc,
@@ -241,8 +253,8 @@ fn log_named<F: Files>(
 }
 
 /// Says why there is no plan.
-fn refuse_plan<E: Write>(alloc: Global, errors: &mut E, fault: ReadError<PlanError>) -> u8
-    ensures { TellsNoPlan fault result (E.contents errors.old) (E.contents errors.new) }
+fn refuse_plan<E: Write>(alloc: Global, errors: &mut Watched<E>, fault: ReadError<PlanError>) -> u8
+    ensures { TellsNoPlan fault result (seen E.contents errors.old) (seen E.contents errors.new) }
 {
     match fault {
         ReadError::Failed(fault) => fail(errors, fault.failure()),
@@ -251,8 +263,8 @@ fn refuse_plan<E: Write>(alloc: Global, errors: &mut E, fault: ReadError<PlanErr
 }
 
 /// Says why there is no log.
-fn refuse_log<E: Write>(alloc: Global, errors: &mut E, fault: ReadError<LogError>) -> u8
-    ensures { TellsNoLog fault result (E.contents errors.old) (E.contents errors.new) }
+fn refuse_log<E: Write>(alloc: Global, errors: &mut Watched<E>, fault: ReadError<LogError>) -> u8
+    ensures { TellsNoLog fault result (seen E.contents errors.old) (seen E.contents errors.new) }
 {
     match fault {
         ReadError::Failed(fault) => fail(errors, fault.failure()),
@@ -261,7 +273,9 @@ fn refuse_log<E: Write>(alloc: Global, errors: &mut E, fault: ReadError<LogError
 }
 
 /// The failure of a session that was not read.
-fn failure_of(fault: ReplayError) -> Failure {
+fn failure_by(fault: ReplayError) -> Failure
+    ensures { result ≡ failure_by fault }
+{
     match fault {
         ReplayError::Memory => Failure::Memory,
         ReplayError::Read => Failure::Read,

@@ -1,8 +1,8 @@
 -- Bytes that come one after the other, and the display lines in them.
-use Rattle.std.proofs.Common.{◌≡◌, ℕ, ◌≤◌, ◌==◌, List, [], ◌∷◌, ◌++◌, length, Bool, true, false, not, refl, sym, ap, ◌∙◌, append_assoc, Some, None, Ok, Err, arith, subst, inl, inr}
+use Rattle.std.proofs.Common.{◌≡◌, ℕ, ◌+◌, ◌≤◌, ◌==◌, List, [], ◌∷◌, ◌++◌, length, length-append, Bool, true, false, not, refl, sym, ap, ◌∙◌, append_assoc, Some, None, Ok, Err, arith, subst, inl, inr}
 use Rattle.std.specs.declared.option.Option.{Option}
 use Rattle.std.specs.List.{cons_option, filter_map}
-use Rattle.std.specs.Io.KnownBytes.{Consumes, IsAtEnd}
+use Rattle.std.specs.Io.KnownBytes.{Consumes, IsAtEnd, Keeps as KeepsBytes}
 use Rattle.std.proofs.lemmas.Bool.{true≢false}
 use Rattle.std.proofs.lemmas.Bool.Decides.{eqb_tells}
 use Rattle.std.proofs.lemmas.List.{append-nil}
@@ -10,8 +10,8 @@ use Rattle.std.proofs.lemmas.List.Sums.{fold-append}
 use Rattle.tsb_lines.specs.Lines.{HasNoFeed, kept, without_return}
 use Rattle.tsb_lines.proofs.KeptLemmas.{kept-more, kept-tells}
 use Rattle.tsb_lines.proofs.LineLemmas.{feedless-more, length-return, split-alone, split-joined}
-use Rattle.tsb_lines.proofs.StreamLemmas.{consumes-more, consumes-nothing}
-use Rattle.tsb_field_display.specs.declared.error.ReplayError.{ReplayError}
+use Rattle.tsb_lines.proofs.StreamLemmas.{consumes-kept, consumes-more, consumes-nothing}
+use Rattle.tsb_field_display.specs.declared.error.ReplayError.TheVariants.{Memory, Read}
 use Rattle.tsb_field_display.specs.declared.shown.Shown.{Shown}
 use Rattle.tsb_field_display.specs.declared.stream.Stream.{Stream}
 use Rattle.tsb_field_display.specs.Reading.{is_display, shown_of}
@@ -83,40 +83,74 @@ lines-taken bytes = lines-on bytes [] [] tt
 
 -- ## Reading
 
-pub going_start : (i : Option (List ℕ)) (stream : Stream) → StandsAt start stream → Going i i stream
-going_start i stream stands = record { bytes = []; taken = consumes-nothing i; stands = stands }
+pub going_start : (i : Option (List ℕ)) (failed : Bool) (stream : Stream) → failed ≡ false → StandsAt start stream → Going failed i i stream 0
+going_start i failed stream well stands = record { well = well; bytes = []; taken = consumes-nothing i; stands = stands; many = omega arith }
 
-pub going_more : (i l m : Option (List ℕ)) (old new : Stream) (bytes : List ℕ) → Going i l old → Consumes l m bytes
-    → ((s : Stand) → StandsAt s old → StandsAt (with_bytes s bytes) new) → Going i m new
-going_more i l m old new bytes going taken stands = record {
-  bytes = going.bytes ++ bytes;
-  taken = consumes-more i l m going.bytes bytes going.taken taken;
-  stands = subst (λ (s : Stand). StandsAt s new) (sym (fold-append with_byte start going.bytes bytes)) (stands (with_bytes start going.bytes) going.stands);
+-- a read that there may be more after brought a byte
+pub going_next : (more failed : Bool) (i l : Option (List ℕ)) (stream : Stream) (reads : ℕ) → more ≡ true → GoesOn more failed i l stream reads → Going failed i l stream (reads + 1)
+going_next more failed i l stream reads is on = record {
+  well = on.going.well;
+  bytes = on.going.bytes;
+  taken = on.going.taken;
+  stands = on.going.stands;
+  many = let grown = on.grows is in omega (arith, grown);
 }
 
-pub read_fault : (i l m : Option (List ℕ)) (stream : Stream) (bytes : List ℕ) (e : ReplayError) → Going i l stream → Consumes l m bytes → ReplayRead (Err e) i m
-read_fault i l m stream bytes e going taken =
-    record { bytes = going.bytes ++ bytes; taken = consumes-more i l m going.bytes bytes going.taken taken; so = tt }
+-- bytes more
+more-stands : (old new : Stream) (bytes more : List ℕ) → StandsAt (with_bytes start bytes) old → ((s : Stand) → StandsAt s old → StandsAt (with_bytes s more) new) → StandsAt (with_bytes start (bytes ++ more)) new
+more-stands old new bytes more stands step = subst (λ (s : Stand). StandsAt s new) (sym (fold-append with_byte start bytes more)) (step (with_bytes start bytes) stands)
 
-pub read_end : (i l : Option (List ℕ)) (old new : Stream) → Going i l old → IsAtEnd l → ((s : Stand) → StandsAt s old → StandsAt (with_line s) new)
-    → ReplayRead (Ok new.replay) i l
-read_end i l old new going end ends = record {
+-- a read failed
+pub read_failed : (was failed : Bool) (i l m : Option (List ℕ)) (stream : Stream) (reads : ℕ) → Going was i l stream reads → KeepsBytes l m → failed ≡ true → ReplayRead (Err Read) failed i m
+read_failed was failed i l m stream reads going still is = record { bytes = going.bytes; taken = consumes-kept i l m going.bytes going.taken still; so = inl is }
+
+-- so many bytes were read that no read more is made
+pub read_endless : (failed : Bool) (i l : Option (List ℕ)) (stream : Stream) (reads : ℕ) → 18446744073709551615 ≤ reads → Going failed i l stream reads → ReplayRead (Err Read) failed i l
+read_endless failed i l stream reads all going = record { bytes = going.bytes; taken = going.taken; so = inr (let many = going.many in omega (arith, all, many)) }
+
+-- there was no memory for what was read
+pub read_wanting : (was failed : Bool) (i l m : Option (List ℕ)) (stream : Stream) (reads : ℕ) (bytes : List ℕ) → Going was i l stream reads → Consumes l m bytes → failed ≡ was → ReplayRead (Err Memory) failed i m
+read_wanting was failed i l m stream reads bytes going taken still =
+    record { bytes = going.bytes ++ bytes; taken = consumes-more i l m going.bytes bytes going.taken taken; so = still ∙ going.well }
+
+pub read_end : (failed : Bool) (i l : Option (List ℕ)) (old new : Stream) (reads : ℕ) → Going failed i l old reads → IsAtEnd l → ((s : Stand) → StandsAt s old → StandsAt (with_line s) new)
+    → ReplayRead (Ok new.replay) failed i l
+read_end failed i l old new reads going end ends = record {
   bytes = going.bytes;
   taken = going.taken;
   so = (
+    going.well,
     end,
     subst (λ (lines : List Shown). Keeps new.replay lines) (lines-taken going.bytes) (ends (with_bytes start going.bytes) going.stands).shown,
   );
 }
 
+-- there was no memory for the last line
+pub end_wanting : (failed : Bool) (i l : Option (List ℕ)) (stream : Stream) (reads : ℕ) → Going failed i l stream reads → ReplayRead (Err Memory) failed i l
+end_wanting failed i l stream reads going = record { bytes = going.bytes; taken = going.taken; so = going.well }
+
 -- the bytes of one read more, of which none is the end
-pub going_on : (i l m : Option (List ℕ)) (old new : Stream) (count : ℕ) (bytes : List ℕ) → Going i l old → Consumes l m bytes
-    → ((s : Stand) → StandsAt s old → StandsAt (with_bytes s bytes) new) → (count ≡ 0 → IsAtEnd m) → GoesOn (not (count == 0)) i m new
-going_on i l m old new count bytes going taken stands end = record {
-  going = going_more i l m old new bytes going taken stands;
+pub going_on : (was failed : Bool) (i l m : Option (List ℕ)) (old new : Stream) (reads count : ℕ) (bytes : List ℕ) → Going was i l old reads → failed ≡ was → Consumes l m bytes
+    → ((s : Stand) → StandsAt s old → StandsAt (with_bytes s bytes) new) → count ≡ length bytes → (count ≡ 0 → IsAtEnd m) → GoesOn (not (count == 0)) failed i m new reads
+going_on was failed i l m old new reads count bytes going still taken stands long end = record {
+  going = record {
+    well = still ∙ going.well;
+    bytes = going.bytes ++ bytes;
+    taken = consumes-more i l m going.bytes bytes going.taken taken;
+    stands = more-stands old new going.bytes bytes going.stands stands;
+    many = let all = length-append going.bytes bytes in let many = going.many in omega (arith, all, many);
+  };
   end = λ none. elim (eqb_tells count 0) [ inl on ↦ end on.1 | inr off ↦ absurd (more (count == 0) off.0 none) ];
+  grows = λ some. elim (eqb_tells count 0) [
+    | inl on ↦ absurd (less (count == 0) on.0 some)
+    | inr off ↦ let one = off.1 in let all = length-append going.bytes bytes in let many = going.many in omega (arith, one, all, many, long)
+  ];
 }
   where
     more : (is : Bool) → is ≡ false → not is ≡ false → ⊥
     more true off none = true≢false off
     more false off none = true≢false none
+
+    less : (is : Bool) → is ≡ true → not is ≡ true → ⊥
+    less true on some = true≢false (sym some)
+    less false on some = true≢false (sym on)

@@ -1,9 +1,10 @@
 -- The display lines in what a session answers, and how far one has come who takes it byte after byte.
-use Rattle.std.specs.Prelude.{◌≡◌, ℕ, ◌==◌, Bool, false, List, [], ◌∷◌, ◌++◌, if◌then◌else◌, Option, Some, None, Result, Ok, Err}
+use Rattle.std.specs.Prelude.{◌≡◌, ◌⊎◌, ℕ, suc, ◌==◌, ◌≤◌, Bool, true, false, List, [], ◌∷◌, ◌++◌, length, if◌then◌else◌, Option, Some, None, Result, Ok, Err}
 use Rattle.std.specs.List.{filter_map, fold}
 use Rattle.std.specs.Io.KnownBytes.{Consumes, IsAtEnd}
 use Rattle.tsb_lines.specs.Lines.{kept, split, without_return}
 use Rattle.tsb_field_display.specs.declared.error.ReplayError.{ReplayError}
+use Rattle.tsb_field_display.specs.declared.error.ReplayError.TheVariants.{Memory, Read}
 use Rattle.tsb_field_display.specs.declared.replay.Replay.{Replay}
 use Rattle.tsb_field_display.specs.declared.shown.Shown.{Shown}
 use Rattle.tsb_field_display.specs.declared.stream.Stream.{Stream}
@@ -21,16 +22,22 @@ shown_in line = shown_of (without_return line)
 abbrev pub shown_lines : List ℕ → List Shown
 shown_lines bytes = filter_map shown_in (split bytes)
 
--- these bytes were read, up to the end, and the replay keeps their display lines; or reading them was ended by a fault
-abbrev pub ReadSo : Result Replay ReplayError → Option (List ℕ) → List ℕ → Type 0
-ReadSo (Ok replay) left bytes = IsAtEnd left × Keeps replay (shown_lines bytes)
-ReadSo (Err e) left bytes = Unit {0}
+-- a read has failed, or there were 2^64 - 1 of them, each of which brought a byte
+abbrev pub HasNoEnd : Bool → List ℕ → Type 0
+HasNoEnd failed bytes = (failed ≡ true) ⊎ (18446744073709551615 ≤ length bytes)
 
--- the bytes that were read
-pub record ReplayRead (result : Result Replay ReplayError) (input left : Option (List ℕ)) : Type 0 where
+-- these bytes were read, up to the end, and the replay keeps their display lines; or reading them was ended by a fault: a
+-- read fault where a read has failed, and no memory where none has
+abbrev pub ReadSo : Result Replay ReplayError → Bool → Option (List ℕ) → List ℕ → Type 0
+ReadSo (Ok replay) failed left bytes = (failed ≡ false) × IsAtEnd left × Keeps replay (shown_lines bytes)
+ReadSo (Err Memory) failed left bytes = failed ≡ false
+ReadSo (Err Read) failed left bytes = HasNoEnd failed bytes
+
+-- the bytes that were read, and whether a read has failed
+pub record ReplayRead (result : Result Replay ReplayError) (failed : Bool) (input left : Option (List ℕ)) : Type 0 where
   pub bytes : List ℕ
   pub taken : Consumes input left bytes
-  pub so : ReadSo result left bytes
+  pub so : ReadSo result failed left bytes
 
 -- ## Byte after byte
 
@@ -71,13 +78,17 @@ pub record StandsAt (s : Stand) (stream : Stream) : Type 0 where
   pub shown : Keeps stream.replay s.shown
   pub held : stream.line ≡ s.held
 
--- these bytes were read so far, and a stream has taken them
-pub record Going (input left : Option (List ℕ)) (stream : Stream) : Type 0 where
+-- these bytes were read so far, by so many reads at least, none of which has failed, and a stream has taken them
+pub record Going (failed : Bool) (input left : Option (List ℕ)) (stream : Stream) (reads : ℕ) : Type 0 where
+  pub well : failed ≡ false
   pub bytes : List ℕ
   pub taken : Consumes input left bytes
   pub stands : StandsAt (with_bytes start bytes) stream
+  -- each of the reads brought a byte or more
+  pub many : reads ≤ length bytes
 
 -- one read more was taken: there may be more, or it was the end
-pub record GoesOn (more : Bool) (input left : Option (List ℕ)) (stream : Stream) : Type 0 where
-  pub going : Going input left stream
+pub record GoesOn (more failed : Bool) (input left : Option (List ℕ)) (stream : Stream) (reads : ℕ) : Type 0 where
+  pub going : Going failed input left stream reads
   pub end : more ≡ false → IsAtEnd left
+  pub grows : more ≡ true → suc reads ≤ length going.bytes

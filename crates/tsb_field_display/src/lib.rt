@@ -15,3 +15,4 @@ pub use reading::read_line;
 pub use replay::Replay;
 pub use shown::{PedestrianHeads, Shown, Signals, VehicleHeads};
 pub use stream::read_replay;
+pub use tsb_watched::Watched;

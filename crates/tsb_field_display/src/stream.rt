@@ -1,5 +1,5 @@
 //! Reading the display lines among what a session answers.
-ghost use Rattle.std.specs.Prelude.{ℕ, Err, List, MatchResult, OnOk, Option};
+ghost use Rattle.std.specs.Prelude.{◌≡◌, ℕ, Bool, Err, List, MatchResult, OnOk, Option, false};
 ghost use Rattle.std.specs.Io.KnownBytes.{IsAtEnd};
 ghost use Rattle.tsb_field_display.specs.Stream.{GoesOn, Going, ReplayRead, Stand, StandsAt, with_byte, with_bytes, with_line, start};
 
@@ -10,6 +10,7 @@ use std::alloc::{AllocError, Global};
 use std::io::Read;
 use tsb_display_text::WIDTH;
 use tsb_lines::KeptLine;
+use tsb_watched::Watched;
 
 /// How many bytes of a line are kept: those of a display line, the carriage return after them, and one more, by which
 /// a longer line is known.
@@ -70,18 +71,18 @@ impl Stream {
     }
 
     /// Takes what one read gives, and says whether there may be more.
-    #[tactic(auto, using(crate::proofs::StreamLemmas::going_more))]
     fn take_read<R: Read>(
         &mut self,
-        reader: &mut R,
+        reader: &mut Watched<R>,
         chunk: &mut [u8; CHUNK],
     ) -> Result<bool, ReplayError>
-        ensures { (input : Option (List ℕ)) → Going input (R.remaining reader.old) self.old → MatchResult result
-            (λ more. GoesOn more input (R.remaining reader.new) self.new)
-            (λ e. ReplayRead (Err e) input (R.remaining reader.new)) }
+        ensures { (input : Option (List ℕ)) (reads : ℕ) → Going reader.old.failed input (R.remaining reader.old.device) self.old reads → MatchResult result
+            (λ more. GoesOn more reader.new.failed input (R.remaining reader.new.device) self.new reads)
+            (λ e. ReplayRead (Err e) reader.new.failed input (R.remaining reader.new.device)) }
     {
-        let Ok(count) = reader.read(chunk) else {
-            return Err(ReplayError::Read);
+        let count = match reader.read_once(chunk) {
+            Ok(count) => count,
+            Err(_) => return Err(ReplayError::Read),
         };
         let Ok(()) = self.feed_all(&chunk[..count]) else {
             return Err(ReplayError::Memory);
@@ -91,7 +92,7 @@ impl Stream {
 
     /// Ends the last line, which no line feed ends, and gives the replay.
     fn finish(mut self) -> Result<Replay, ReplayError>
-        ensures { (input left : Option (List ℕ)) → Going input left self → IsAtEnd left → ReplayRead result input left }
+        ensures { (failed : Bool) (input left : Option (List ℕ)) (reads : ℕ) → Going failed input left self reads → IsAtEnd left → ReplayRead result failed input left }
     {
         let Ok(()) = self.end_line() else {
             return Err(ReplayError::Memory);
@@ -104,15 +105,16 @@ impl Stream {
 /// however long. What follows the last line feed is a line too, and one carriage return at the end of a line is not
 /// part of it.
 ///
-/// `Read` comes where a read fails or is interrupted, or after 2^64 - 1 reads, and `Memory` where there is none to keep
-/// a change. Nothing is read after either, and what was read until then is lost.
+/// `Read` comes exactly where a read fails or is interrupted, or after 2^64 - 1 reads, and `Memory` where there is none
+/// to keep a change. Nothing is read after either, and what was read until then is lost.
 #[tactic(auto, using(crate::proofs::StreamLemmas::going_start))]
-pub fn read_replay<R: Read>(alloc: Global, reader: &mut R) -> Result<Replay, ReplayError>
-    ensures { ReplayRead result (R.remaining reader.old) (R.remaining reader.new) }
+pub fn read_replay<R: Read>(alloc: Global, reader: &mut Watched<R>) -> Result<Replay, ReplayError>
+    requires reads { reader.old.failed ≡ false }
+    ensures { ReplayRead result reader.new.failed (R.remaining reader.old.device) (R.remaining reader.new.device) }
 {
     let mut stream = Stream::new(alloc);
     let mut chunk = [0; CHUNK];
-    for _ in 0..u64::MAX {
+    for _read in 0..u64::MAX {
         if !stream.take_read(reader, &mut chunk)? {
             return stream.finish();
         }

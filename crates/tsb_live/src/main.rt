@@ -6,7 +6,7 @@ mod run;
 use crate::run::{run_words, tell_words_fault};
 use std::env;
 use std::process::ExitCode;
-use tsb_program::Disk;
+use tsb_program::{Disk, Watched};
 use tsb_words::WordsError;
 
 fn main(rt: HostRuntime) -> ExitCode {
@@ -15,11 +15,11 @@ fn main(rt: HostRuntime) -> ExitCode {
             rt.alloc(),
             words.as_slice(),
             &Disk { rt: &rt },
-            &mut rt.stdin(),
-            &mut rt.stdout(),
-            &mut rt.stderr(),
+            &mut Watched::new(rt.stdin()),
+            &mut Watched::new(rt.stdout()),
+            &mut Watched::new(rt.stderr()),
         ),
-        Err(fault) => tell_words_fault(&mut rt.stderr(), fault),
+        Err(fault) => tell_words_fault(&mut Watched::new(rt.stderr()), fault),
     };
     ExitCode::from(status)
 }

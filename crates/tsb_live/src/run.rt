@@ -1,10 +1,11 @@
 //! What the program does for its words.
 
-ghost use Rattle.std.specs.Prelude.{◌≡◌, Result, map};
+ghost use Rattle.std.specs.Prelude.{◌≡◌, Result, false, map, true};
 ghost use Rattle.tsb_words.specs.declared.live.Asked.{Asked};
 ghost use Rattle.tsb_words.specs.declared.error.WordsError.{WordsError};
 ghost use Rattle.tsb_words.specs.LiveWords.{Spells};
 ghost use Rattle.tsb_text.specs.tsb_objects.Checked.{checked_plan};
+ghost use Rattle.tsb_program.specs.tsb_watched.Seen.{seen};
 ghost use Rattle.tsb_live.specs.Lines.{TellsWords};
 ghost use Rattle.tsb_live.specs.Ends.{Did, Ran, Talked, after_fault};
 
@@ -12,7 +13,7 @@ use std::alloc::Global;
 use std::convert::AsStr;
 use std::io::{Read, Write};
 use tsb_live_text::live;
-use tsb_program::{Failure, Files, Status, fail, plan_of, refuse, tell, tell_end};
+use tsb_program::{Failure, Files, Status, Watched, fail, plan_of, refuse, tell, tell_end};
 use tsb_text::{Checked, OnFault, fault_line};
 use tsb_words::WordsError;
 use tsb_words::live::read_words;
@@ -27,12 +28,15 @@ pub fn run_words<S: AsStr, F: Files, R: Read, W: Write, E: Write>(
     alloc: Global,
     words: &[S],
     files: &F,
-    input: &mut R,
-    output: &mut W,
-    errors: &mut E,
+    input: &mut Watched<R>,
+    output: &mut Watched<W>,
+    errors: &mut Watched<E>,
 ) -> u8
+    requires reads { input.old.failed ≡ false }
+    requires writes { output.old.failed ≡ false }
+    requires flushed { output.old.flushed ≡ true }
     ensures { (answer : Result Asked WordsError) × Spells (map S.text words.now) answer × Did answer result (F.bytes files.now)
-        (R.remaining input.old) (R.remaining input.new) (W.contents output.old) (W.contents output.new) (E.contents errors.old) (E.contents errors.new) }
+        (seen R.remaining input.old) (seen R.remaining input.new) (seen W.contents output.old) (seen W.contents output.new) (seen E.contents errors.old) (seen E.contents errors.new) }
 {
     match read_words(alloc, words) {
         Ok(asked) => {
@@ -44,8 +48,8 @@ pub fn run_words<S: AsStr, F: Files, R: Read, W: Write, E: Write>(
 }
 
 /// Says why words ask for nothing, and gives the status that the program ends with.
-pub fn tell_words_fault<E: Write>(errors: &mut E, fault: WordsError) -> u8
-    ensures { TellsWords fault result (E.contents errors.old) (E.contents errors.new) }
+pub fn tell_words_fault<E: Write>(errors: &mut Watched<E>, fault: WordsError) -> u8
+    ensures { TellsWords fault result (seen E.contents errors.old) (seen E.contents errors.new) }
 {
     match fault {
         WordsError::Memory => fail(errors, Failure::Memory),
@@ -74,12 +78,15 @@ fn run<F: Files, R: Read, W: Write, E: Write>(
     path: &str,
     on_fault: OnFault,
     files: &F,
-    input: &mut R,
-    output: &mut W,
-    errors: &mut E,
+    input: &mut Watched<R>,
+    output: &mut Watched<W>,
+    errors: &mut Watched<E>,
 ) -> u8
-    ensures { Ran result on_fault (F.bytes files.now path.now) (R.remaining input.old) (R.remaining input.new)
-        (W.contents output.old) (W.contents output.new) (E.contents errors.old) (E.contents errors.new) }
+    requires reads { input.old.failed ≡ false }
+    requires writes { output.old.failed ≡ false }
+    requires flushed { output.old.flushed ≡ true }
+    ensures { Ran result on_fault (F.bytes files.now path.now) (seen R.remaining input.old) (seen R.remaining input.new)
+        (seen W.contents output.old) (seen W.contents output.new) (seen E.contents errors.old) (seen E.contents errors.new) }
 {
     match plan_of(alloc, files, path) {
         Ok(plan) => talk(alloc, plan, on_fault, input, output, errors),
@@ -92,12 +99,15 @@ fn talk<R: Read, W: Write, E: Write>(
     alloc: Global,
     plan: Checked,
     on_fault: OnFault,
-    input: &mut R,
-    output: &mut W,
-    errors: &mut E,
+    input: &mut Watched<R>,
+    output: &mut Watched<W>,
+    errors: &mut Watched<E>,
 ) -> u8
-    ensures { Talked result on_fault (checked_plan plan) (R.remaining input.old) (R.remaining input.new)
-        (W.contents output.old) (W.contents output.new) (E.contents errors.old) (E.contents errors.new) }
+    requires reads { input.old.failed ≡ false }
+    requires writes { output.old.failed ≡ false }
+    requires flushed { output.old.flushed ≡ true }
+    ensures { Talked result on_fault (checked_plan plan) (seen R.remaining input.old) (seen R.remaining input.new)
+        (seen W.contents output.old) (seen W.contents output.new) (seen E.contents errors.old) (seen E.contents errors.new) }
 {
     match live(alloc, plan, on_fault, input, output) {
         Ok(None) => Status::Done.number(),

@@ -2,7 +2,7 @@
 ghost use Rattle.std.specs.Prelude.{◌≡◌, ◌++◌, List, Ok, OnOk, Some, false};
 ghost use Rattle.tsb_bench.specs.Held.{state_of};
 ghost use Rattle.tsb_dialog.specs.Said.{SaidUntilFault, with_feed};
-ghost use Rattle.tsb_dialog.specs.Pended.{AfterWrites, IsWell};
+ghost use Rattle.tsb_dialog.specs.Blame.{AfterCalls};
 ghost use Rattle.tsb_live_text.specs.Changes.{Changes, owed, shows_same};
 ghost use Rattle.tsb_log_text.specs.declared.log.LogRow.{LogRow};
 ghost use Rattle.tsb_step.specs.declared.inputs.Input.{Input as InputValue};
@@ -11,7 +11,7 @@ ghost use Rattle.tsb_text.specs.Obeyed.{Done, Stands, besides_of, news_in};
 
 use std::io::Write;
 use tsb_bench::Input;
-use tsb_dialog::{Pending, WriteError};
+use tsb_dialog::{Pending, Watched, WriteError};
 use tsb_display_text::LineBytes;
 use tsb_objects::Refusal;
 use tsb_text::{Course, line_bytes, say_refusal};
@@ -31,12 +31,12 @@ pub(crate) fn changes<W: Write>(
     ticks: u32,
     echo: &[u8],
     pending: &mut Pending,
-    writer: &mut W,
+    writer: &mut Watched<W>,
 ) -> Result<Option<Refusal>, WriteError>
     ensures done { (given : Setup) (log : List LogRow) (inputs : List InputValue) → Stands given log course.old inputs
-        → Done result given log course.new (Changes given.plan (besides_of course.old echo.now) row inputs (display_line (state_of course.old.bench)) false ticks) (W.contents writer.old) (W.contents writer.new) pending.old.waits pending.new.waits }
+        → Done result given log course.new (Changes given.plan (besides_of course.old echo.now) row inputs (display_line (state_of course.old.bench)) false ticks) (W.contents writer.old.device) (W.contents writer.new.device) pending.old pending.new }
     ensures mode { course.new.mode ≡ course.old.mode }
-    ensures blame { IsWell pending.old → AfterWrites result pending.new }
+    ensures blame { writer.old.failed ≡ false → AfterCalls result writer.new.failed }
 {
     let mut before = line_bytes(course.bench());
     let mut is_owed = false;
@@ -59,10 +59,10 @@ fn say_tick<W: Write>(
     line: &LineBytes,
     is_owed: bool,
     pending: &mut Pending,
-    writer: &mut W,
+    writer: &mut Watched<W>,
 ) -> Result<(), WriteError>
-    ensures said { SaidUntilFault result (W.contents writer.old) (W.contents writer.new) pending.old.waits pending.new.waits (news_in course.now ++ owed is_owed line.now) }
-    ensures blame { IsWell pending.old → AfterWrites result pending.new }
+    ensures said { SaidUntilFault result (W.contents writer.old.device) (W.contents writer.new.device) pending.old pending.new (news_in course.now ++ owed is_owed line.now) }
+    ensures blame { writer.old.failed ≡ false → AfterCalls result writer.new.failed }
 {
     course.say_news(pending, writer)?;
     say_owed(line, is_owed, pending, writer)
@@ -76,11 +76,11 @@ fn say_stop<W: Write>(
     refusal: &Refusal,
     echo: &[u8],
     pending: &mut Pending,
-    writer: &mut W,
+    writer: &mut Watched<W>,
 ) -> Result<Option<Refusal>, WriteError>
-    ensures said { SaidUntilFault result (W.contents writer.old) (W.contents writer.new) pending.old.waits pending.new.waits (owed is_owed line.now ++ (echo.now ++ with_feed (refused_line refusal.now))) }
+    ensures said { SaidUntilFault result (W.contents writer.old.device) (W.contents writer.new.device) pending.old pending.new (owed is_owed line.now ++ (echo.now ++ with_feed (refused_line refusal.now))) }
     ensures told { OnOk result (result ≡ Ok (Some refusal.now)) }
-    ensures blame { IsWell pending.old → AfterWrites result pending.new }
+    ensures blame { writer.old.failed ≡ false → AfterCalls result writer.new.failed }
 {
     say_owed(line, is_owed, pending, writer)?;
     say_refusal(refusal, echo, pending, writer)
@@ -91,10 +91,10 @@ fn say_owed<W: Write>(
     line: &LineBytes,
     is_owed: bool,
     pending: &mut Pending,
-    writer: &mut W,
+    writer: &mut Watched<W>,
 ) -> Result<(), WriteError>
-    ensures said { SaidUntilFault result (W.contents writer.old) (W.contents writer.new) pending.old.waits pending.new.waits (owed is_owed line.now) }
-    ensures blame { IsWell pending.old → AfterWrites result pending.new }
+    ensures said { SaidUntilFault result (W.contents writer.old.device) (W.contents writer.new.device) pending.old pending.new (owed is_owed line.now) }
+    ensures blame { writer.old.failed ≡ false → AfterCalls result writer.new.failed }
 {
     if is_owed {
         return pending.say(writer, line);

@@ -1,10 +1,11 @@
 //! A live run, line by line.
-ghost use Rattle.std.specs.Prelude.{◌≡◌, ◌++◌, None, Some};
+ghost use Rattle.std.specs.Prelude.{◌≡◌, ◌++◌, None, Some, false, true};
 ghost use Rattle.tsb_bench.specs.Held.{state_of};
-ghost use Rattle.tsb_dialog.specs.Pended.{AfterWrites, IsWell};
+ghost use Rattle.tsb_dialog.specs.Blame.{AfterCalls};
 ghost use Rattle.tsb_dialog.specs.Said.{with_feed};
 ghost use Rattle.tsb_objects.specs.Checked.{checked_plan};
 ghost use Rattle.tsb_live_lines.specs.declared.command.LiveCommand.TheVariants as asks;
+ghost use Rattle.tsb_text.specs.Blame.{Blames};
 ghost use Rattle.tsb_text.specs.Faults.{fault_words};
 ghost use Rattle.tsb_saved.specs.Saved.{saved_text};
 ghost use Rattle.tsb_live_text.specs.Live.{AsksLive, Live as LiveState, Obeys, Reads, echo_of, fault_by, flow_in, stop_in};
@@ -18,7 +19,7 @@ use std::alloc::Global;
 use std::io::{Read, Write};
 use tsb_bench::Bench;
 use tsb_command_text::Command;
-use tsb_dialog::{Answers, DialogError, Flow, Pending, WriteError, converse};
+use tsb_dialog::{Answers, DialogError, Flow, Pending, Watched, WriteError, converse};
 use tsb_live_lines::{LiveCommand, LiveReading, live_reading_of};
 use tsb_objects::{Checked, Refusal};
 use tsb_plan_line::{edits_line, plan_line};
@@ -66,7 +67,7 @@ impl Answers for LiveRun {
         number: u32,
         line: &[u8],
         pending: &mut Pending,
-        writer: &mut W,
+        writer: &mut Watched<W>,
     ) -> Result<Flow, WriteError> {
         let reading = live_reading_of(line);
         let fault = self.read(&reading, line, pending, writer)?;
@@ -82,12 +83,12 @@ impl LiveRun {
         reading: &LiveReading,
         line: &[u8],
         pending: &mut Pending,
-        writer: &mut W,
+        writer: &mut Watched<W>,
     ) -> Result<Option<LineFault>, WriteError>
         ensures done { (s : LiveState) → StandsLive self.old s
-            → Does result self.new (Reads s line.now reading.now) (W.contents writer.old) (W.contents writer.new) pending.old.waits pending.new.waits }
+            → Does result self.new (Reads s line.now reading.now) (W.contents writer.old.device) (W.contents writer.new.device) pending.old pending.new }
         ensures strict { self.new.on_fault ≡ self.old.on_fault }
-        ensures blame { IsWell pending.old → AfterWrites result pending.new }
+        ensures blame { writer.old.failed ≡ false → AfterCalls result writer.new.failed }
     {
         match *reading {
             LiveReading::Skip => Ok(None),
@@ -122,12 +123,12 @@ impl LiveRun {
         command: Command,
         line: &[u8],
         pending: &mut Pending,
-        writer: &mut W,
+        writer: &mut Watched<W>,
     ) -> Result<Option<LineFault>, WriteError>
         ensures done { (s : LiveState) → StandsLive self.old s
-            → Does result self.new (Obeys s line.now command) (W.contents writer.old) (W.contents writer.new) pending.old.waits pending.new.waits }
+            → Does result self.new (Obeys s line.now command) (W.contents writer.old.device) (W.contents writer.new.device) pending.old pending.new }
         ensures strict { self.new.on_fault ≡ self.old.on_fault }
-        ensures blame { IsWell pending.old → AfterWrites result pending.new }
+        ensures blame { writer.old.failed ≡ false → AfterCalls result writer.new.failed }
     {
         let echo = self.echo(line);
         let mut rows = Rows::Held(self.row);
@@ -141,12 +142,12 @@ impl LiveRun {
         command: LiveCommand,
         line: &[u8],
         pending: &mut Pending,
-        writer: &mut W,
+        writer: &mut Watched<W>,
     ) -> Result<Option<LineFault>, WriteError>
         ensures done { (s : LiveState) → StandsLive self.old s
-            → Does result self.new (AsksLive s line.now command) (W.contents writer.old) (W.contents writer.new) pending.old.waits pending.new.waits }
+            → Does result self.new (AsksLive s line.now command) (W.contents writer.old.device) (W.contents writer.new.device) pending.old pending.new }
         ensures strict { self.new.on_fault ≡ self.old.on_fault }
-        ensures blame { IsWell pending.old → AfterWrites result pending.new }
+        ensures blame { writer.old.failed ≡ false → AfterCalls result writer.new.failed }
     {
         let echo = self.echo(line);
         match command {
@@ -183,12 +184,12 @@ impl LiveRun {
         ticks: u32,
         line: &[u8],
         pending: &mut Pending,
-        writer: &mut W,
+        writer: &mut Watched<W>,
     ) -> Result<Option<LineFault>, WriteError>
         ensures done { (s : LiveState) → StandsLive self.old s
-            → Does result self.new (AsksLive s line.now (asks.Changes ticks)) (W.contents writer.old) (W.contents writer.new) pending.old.waits pending.new.waits }
+            → Does result self.new (AsksLive s line.now (asks.Changes ticks)) (W.contents writer.old.device) (W.contents writer.new.device) pending.old pending.new }
         ensures strict { self.new.on_fault ≡ self.old.on_fault }
-        ensures blame { IsWell pending.old → AfterWrites result pending.new }
+        ensures blame { writer.old.failed ≡ false → AfterCalls result writer.new.failed }
     {
         let echo = self.echo(line);
         let refusal = changes(&mut self.course, self.row, ticks, &echo, pending, writer)?;
@@ -200,10 +201,10 @@ impl LiveRun {
         &self,
         echo: &[u8],
         pending: &mut Pending,
-        writer: &mut W,
+        writer: &mut Watched<W>,
     ) -> Result<Option<LineFault>, WriteError>
-        ensures told { TellsPlan result (state_of self.now.course.bench).plan echo.now (W.contents writer.old) (W.contents writer.new) pending.old.waits pending.new.waits }
-        ensures blame { IsWell pending.old → AfterWrites result pending.new }
+        ensures told { TellsPlan result (state_of self.now.course.bench).plan echo.now (W.contents writer.old.device) (W.contents writer.new.device) pending.old pending.new }
+        ensures blame { writer.old.failed ≡ false → AfterCalls result writer.new.failed }
     {
         match plan_line(self.alloc, self.course.bench().plan()) {
             Ok(plan) => tell(echo, &plan, None, pending, writer),
@@ -219,10 +220,10 @@ impl LiveRun {
         &self,
         echo: &[u8],
         pending: &mut Pending,
-        writer: &mut W,
+        writer: &mut Watched<W>,
     ) -> Result<Option<LineFault>, WriteError>
-        ensures told { TellsOnce result None (echo.now ++ with_feed (saved_text self.now.course.kept self.now.course.bench.tick)) (W.contents writer.old) (W.contents writer.new) pending.old.waits pending.new.waits }
-        ensures blame { IsWell pending.old → AfterWrites result pending.new }
+        ensures told { TellsOnce result None (echo.now ++ with_feed (saved_text self.now.course.kept self.now.course.bench.tick)) (W.contents writer.old.device) (W.contents writer.new.device) pending.old pending.new }
+        ensures blame { writer.old.failed ≡ false → AfterCalls result writer.new.failed }
     {
         pending.add(writer, echo)?;
         say_saved(
@@ -240,10 +241,10 @@ fn tell_fault<W: Write>(
     echo: &[u8],
     fault: &LineFault,
     pending: &mut Pending,
-    writer: &mut W,
+    writer: &mut Watched<W>,
 ) -> Result<Option<LineFault>, WriteError>
-    ensures told { TellsOnce result (Some fault.now) (echo.now ++ with_feed (fault_words fault.now)) (W.contents writer.old) (W.contents writer.new) pending.old.waits pending.new.waits }
-    ensures blame { IsWell pending.old → AfterWrites result pending.new }
+    ensures told { TellsOnce result (Some fault.now) (echo.now ++ with_feed (fault_words fault.now)) (W.contents writer.old.device) (W.contents writer.new.device) pending.old pending.new }
+    ensures blame { writer.old.failed ≡ false → AfterCalls result writer.new.failed }
 {
     tell(echo, fault_words(*fault), Some(*fault), pending, writer)
 }
@@ -254,10 +255,10 @@ fn tell<W: Write>(
     line: &[u8],
     fault: Option<LineFault>,
     pending: &mut Pending,
-    writer: &mut W,
+    writer: &mut Watched<W>,
 ) -> Result<Option<LineFault>, WriteError>
-    ensures told { TellsOnce result fault (echo.now ++ with_feed line.now) (W.contents writer.old) (W.contents writer.new) pending.old.waits pending.new.waits }
-    ensures blame { IsWell pending.old → AfterWrites result pending.new }
+    ensures told { TellsOnce result fault (echo.now ++ with_feed line.now) (W.contents writer.old.device) (W.contents writer.new.device) pending.old pending.new }
+    ensures blame { writer.old.failed ≡ false → AfterCalls result writer.new.failed }
 {
     pending.add(writer, echo)?;
     pending.add(writer, line)?;
@@ -287,18 +288,23 @@ fn flow_after(reading: &LiveReading, stop: &Option<Stop>) -> Flow
 /// is read. The bench begins at power-up with the plan, at tick 0, and each row of inputs takes one tick, 0.1 s. A strict
 /// run ends as well at the first line that is no command or that is refused, once it was answered, and gives that line.
 ///
-/// What was answered goes out before each read. A fault ends the run; what was written until then is the beginning of
-/// what may be said. `TooLarge` comes where there is a byte after the first `BYTES`, once the whole lines within them
+/// What was answered goes out and is passed on before each read, and at the end. A fault ends the run; what was written
+/// until then is the beginning of what may be said. `Read` is answered exactly where a read has failed, and `Write`
+/// exactly where a write or a flush has. `TooLarge` comes where there is a byte after the first `BYTES`, once the whole lines within them
 /// were answered. `Memory` comes where there is none for the bench at power-up: nothing was read then, and nothing
 /// written. A run that has begun goes on where memory runs out, and answers E1.
 pub fn live<R: Read, W: Write>(
     alloc: Global,
     plan: Checked,
     on_fault: OnFault,
-    reader: &mut R,
-    writer: &mut W,
+    reader: &mut Watched<R>,
+    writer: &mut Watched<W>,
 ) -> Result<Option<Stop>, SessionError>
-    ensures { LiveEnded result on_fault (checked_plan plan) (R.remaining reader.old) (R.remaining reader.new) (W.contents writer.old) (W.contents writer.new) }
+    requires reads { reader.old.failed ≡ false }
+    requires writes { writer.old.failed ≡ false }
+    requires flushed { writer.old.flushed ≡ true }
+    ensures ended { LiveEnded result on_fault (checked_plan plan) (R.remaining reader.old.device) (R.remaining reader.new.device) (W.contents writer.old.device) (W.contents writer.new.device) }
+    ensures blame { Blames result reader.new.failed writer.new.failed writer.new.flushed }
 {
     let Ok(bench) = Bench::power_up(alloc, plan) else {
         return Err(SessionError::Memory);

@@ -1,2 +1,4 @@
 -- what reading a file comes to
 pub mod ReadLemmas
+-- what is told of a line
+pub mod TellLemmas

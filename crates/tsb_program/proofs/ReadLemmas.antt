@@ -1,6 +1,6 @@
 -- What reading a file comes to, by what its text gave.
 use Rattle.std.proofs.Common.{ℕ, List, Option}
-use Rattle.std.specs.Prelude.{Result, Ok, Err}
+use Rattle.std.specs.Prelude.{IfOk, Result, Ok, Err}
 use Rattle.tsb_log_text.specs.declared.error.LogError.{LogError}
 use Rattle.tsb_log_text.specs.declared.error.LogError.TheVariants as logs
 use Rattle.tsb_log_text.specs.declared.log.LogRow.{LogRow}
@@ -11,9 +11,11 @@ use Rattle.tsb_plan_text.specs.PlanErrors as plans
 use Rattle.tsb_plan_text.specs.PlanText.{reading}
 use Rattle.tsb_objects.specs.Checked.{checked_plan}
 use Rattle.tsb_objects.specs.declared.checked.Checked.{Checked}
-use Rattle.tsb_program.specs.Read.{IsFront, LogRead, PlanRead, log_made, plan_made}
+use Rattle.tsb_program.specs.declared.files.FileError.{FileError}
+use Rattle.tsb_program.specs.declared.read.ReadError.{ReadError}
+use Rattle.tsb_program.specs.Read.{IsFront, LogIn, LogRead, PlanIn, PlanRead, log_made, plan_made}
 
-pub log-read : (answer : Result (List LogRow) LogError) (known : Option (List ℕ)) (text : List ℕ) → IsFront known 67108865 text
+log-read : (answer : Result (List LogRow) LogError) (known : Option (List ℕ)) (text : List ℕ) → IsFront known 67108865 text
     → Gives answer (log_of text) → LogRead (log_made answer) known
 log-read (Ok rows) known text front gives = (text, front, gives)
 log-read (Err logs.Memory) known text front gives = tt
@@ -21,7 +23,7 @@ log-read (Err logs.TooLarge) known text front gives = (text, front, gives)
 log-read (Err (logs.Malformed n)) known text front gives = (text, front, gives)
 log-read (Err (logs.TickOrder n)) known text front gives = (text, front, gives)
 
-pub plan-read : (answer : Result Checked PlanError) (known : Option (List ℕ)) (text : List ℕ) → IsFront known 1048577 text
+plan-read : (answer : Result Checked PlanError) (known : Option (List ℕ)) (text : List ℕ) → IsFront known 1048577 text
     → plans.Gives checked_plan answer (reading text) → PlanRead (plan_made answer) known
 plan-read (Ok plan) known text front gives = (text, front, gives)
 plan-read (Err told.Memory) known text front gives = tt
@@ -35,3 +37,13 @@ plan-read (Err (told.NoSuchIndex o index)) known text front gives = (text, front
 plan-read (Err (told.NotAWholeNumber o index)) known text front gives = (text, front, gives, λ is. cc)
 plan-read (Err (told.OutOfRange o index)) known text front gives = (text, front, gives, λ is. cc)
 plan-read (Err (told.Rule r)) known text front gives = (text, front, gives, λ is. cc)
+
+pub log-came : {V : Type 0} (text_of : V → List ℕ) (read : Result V FileError) (result : Result (List LogRow) (ReadError LogError)) (known : Option (List ℕ))
+    → IfOk read (λ v. IsFront known 67108865 (text_of v)) → LogIn text_of read result → LogRead result known
+log-came text_of (Ok v) result known front came = rw came.2 (log-read came.0 known (text_of v) front came.1)
+log-came text_of (Err why) result known front came = rw came tt
+
+pub plan-came : {V : Type 0} (text_of : V → List ℕ) (read : Result V FileError) (result : Result Checked (ReadError PlanError)) (known : Option (List ℕ))
+    → IfOk read (λ v. IsFront known 1048577 (text_of v)) → PlanIn text_of read result → PlanRead result known
+plan-came text_of (Ok v) result known front came = rw came.2 (plan-read came.0 known (text_of v) front came.1)
+plan-came text_of (Err why) result known front came = rw came tt

@@ -1,10 +1,10 @@
 -- What fails a program, and how it ends then.
-use Rattle.std.specs.Prelude.{◌≡◌, ℕ, List, Option, codes}
-use Rattle.tsb_lines.specs.Writes.{AppendsFront}
+use Rattle.std.specs.Prelude.{◌≡◌, ℕ, List, codes}
 use Rattle.tsb_program.specs.declared.failure.Failure.{Failure}
 use Rattle.tsb_program.specs.declared.failure.Failure.TheVariants.{Memory, Read, Write}
 use Rattle.tsb_program.specs.declared.files.FileError.{FileError}
 use Rattle.tsb_program.specs.declared.files.FileError.TheVariants as files
+use Rattle.tsb_watched.specs.Seen.{Seen, Tells}
 
 -- the line of a failure: of memory, of a read or of a write
 abbrev pub failure_line : Failure → List ℕ
@@ -13,8 +13,8 @@ failure_line Read = codes "read fault\n"
 failure_line Write = codes "write fault\n"
 
 -- the program ends with 3, and this failure is told
-abbrev pub Fails : Failure → ℕ → Option (List ℕ) → Option (List ℕ) → Type 0
-Fails failure status told tells = (status ≡ 3) × AppendsFront told tells (failure_line failure)
+abbrev pub Fails : Failure → ℕ → Seen → Seen → Type 0
+Fails failure status told tells = (status ≡ 3) × Tells told tells (failure_line failure)
 
 -- the failure of a file that was not read
 abbrev pub failure_of : FileError → Failure

@@ -8,4 +8,5 @@ pub mod Read
 pub mod Lines
 -- the names of crates below, for those above
 pub use Rattle.tsb_lines.specs as tsb_lines
+pub use Rattle.tsb_watched.specs as tsb_watched
 pub use Rattle.tsb_log_text.specs as tsb_log_text

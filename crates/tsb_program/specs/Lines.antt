@@ -1,6 +1,5 @@
 -- The lines that a program writes of what ended its run, each with its end.
 use Rattle.std.specs.Prelude.{◌≡◌, ◌⊎◌, ℕ, List, [], ◌∷◌, ◌++◌, IfSome, Option, codes}
-use Rattle.tsb_lines.specs.Writes.{AppendsFront}
 use Rattle.tsb_plan_text.specs.declared.error.PlanError.{PlanError}
 use Rattle.tsb_plan_text.specs.FaultLines.{plan_fault}
 use Rattle.tsb_log_text.specs.declared.error.LogError.{LogError}
@@ -12,16 +11,17 @@ use Rattle.tsb_program.specs.declared.failure.Failure.TheVariants.{Memory, Read,
 use Rattle.tsb_program.specs.declared.files.FileError.{FileError}
 use Rattle.tsb_program.specs.declared.read.ReadError.{ReadError}
 use Rattle.tsb_program.specs.declared.read.ReadError.TheVariants as faults
+use Rattle.tsb_watched.specs.Seen.{Seen, Tells}
 
 -- what ended a session is told, with 3: a failure, or commands without end
-abbrev pub TellsEnd : SessionError → ℕ → Option (List ℕ) → Option (List ℕ) → Type 0
+abbrev pub TellsEnd : SessionError → ℕ → Seen → Seen → Type 0
 TellsEnd ends.Memory status told tells = Fails Memory status told tells
 TellsEnd ends.Read status told tells = Fails Read status told tells
 TellsEnd ends.Write status told tells = Fails Write status told tells
-TellsEnd ends.TooLarge status told tells = (status ≡ 3) × AppendsFront told tells (codes "commands: too large\n")
+TellsEnd ends.TooLarge status told tells = (status ≡ 3) × Tells told tells (codes "commands: too large\n")
 
 -- a file or memory failed
-abbrev pub FailsToRead : ℕ → Option (List ℕ) → Option (List ℕ) → Type 0
+abbrev pub FailsToRead : ℕ → Seen → Seen → Type 0
 FailsToRead status told tells = (why : FileError) × Fails (failure_of why) status told tells
 
 -- the line of a plan's fault
@@ -33,7 +33,7 @@ abbrev pub log_line : LogError → List ℕ
 log_line fault = log_fault fault ++ 10 ∷ []
 
 -- why there is no plan or log is told: a refusal by its own line, with 1, where there is memory for the line
-abbrev pub Refuses : {A : Type 0} → (A → Option (List ℕ)) → ReadError A → ℕ → Option (List ℕ) → Option (List ℕ) → Type 0
+abbrev pub Refuses : {A : Type 0} → (A → Option (List ℕ)) → ReadError A → ℕ → Seen → Seen → Type 0
 Refuses shown (faults.Failed why) status told tells = Fails (failure_of why) status told tells
 Refuses shown (faults.Refused why) status told tells =
-    ((status ≡ 1) × IfSome (shown why) (λ line. AppendsFront told tells (line ++ 10 ∷ []))) ⊎ Fails Memory status told tells
+    ((status ≡ 1) × IfSome (shown why) (λ line. Tells told tells (line ++ 10 ∷ []))) ⊎ Fails Memory status told tells

@@ -5,9 +5,10 @@ use Rattle.std.specs.declared.io.ErrorKind.TheVariants as device
 use Rattle.tsb_log_text.specs.declared.error.LogError.{LogError}
 use Rattle.tsb_log_text.specs.declared.error.LogError.TheVariants as logs
 use Rattle.tsb_log_text.specs.declared.log.LogRow.{LogRow}
-use Rattle.tsb_log_text.specs.Logs.{log_of}
+use Rattle.tsb_log_text.specs.Logs.{Gives, log_of}
 use Rattle.tsb_plan_text.specs.declared.error.PlanError.{PlanError}
 use Rattle.tsb_plan_text.specs.declared.error.PlanError.TheVariants as told
+use Rattle.tsb_plan_text.specs.PlanErrors as plans
 use Rattle.tsb_plan_text.specs.PlanErrors.{Tells}
 use Rattle.tsb_plan_text.specs.PlanText.{reading}
 use Rattle.tsb_objects.specs.Checked.{checked_plan}
@@ -41,6 +42,11 @@ log_made (Ok rows) = Ok rows
 log_made (Err logs.Memory) = Err (faults.Failed files.Memory)
 log_made (Err fault) = Err (faults.Refused fault)
 
+-- what came of what was read of a log's file: why it was not read, or what was made of its text
+abbrev pub LogIn : {V : Type 0} → (V → List ℕ) → Result V FileError → Result (List LogRow) (ReadError LogError) → Type 0
+LogIn text_of (Ok read) result = (answer : Result (List LogRow) LogError) × Gives answer (log_of (text_of read)) × (result ≡ log_made answer)
+LogIn text_of (Err why) result = result ≡ Err (faults.Failed why)
+
 -- what came of reading a log's file
 abbrev pub LogRead : Result (List LogRow) (ReadError LogError) → Option (List ℕ) → Type 0
 LogRead (Ok rows) known = HasLog known rows
@@ -61,6 +67,11 @@ abbrev pub plan_made : Result Checked PlanError → Result Checked (ReadError Pl
 plan_made (Ok plan) = Ok plan
 plan_made (Err told.Memory) = Err (faults.Failed files.Memory)
 plan_made (Err fault) = Err (faults.Refused fault)
+
+-- what came of what was read of a plan's file: why it was not read, or what was made of its text
+abbrev pub PlanIn : {V : Type 0} → (V → List ℕ) → Result V FileError → Result Checked (ReadError PlanError) → Type 0
+PlanIn text_of (Ok read) result = (answer : Result Checked PlanError) × plans.Gives checked_plan answer (reading (text_of read)) × (result ≡ plan_made answer)
+PlanIn text_of (Err why) result = result ≡ Err (faults.Failed why)
 
 -- what came of reading a plan's file
 abbrev pub PlanRead : Result Checked (ReadError PlanError) → Option (List ℕ) → Type 0

@@ -1,5 +1,6 @@
 //! What a program says of what ended its run.
 ghost use Rattle.tsb_program.specs.Lines.{Refuses, TellsEnd};
+ghost use Rattle.tsb_watched.specs.Seen.{seen};
 
 use crate::failure::{Failure, fail};
 use crate::lines::{line_of, tell};
@@ -9,10 +10,15 @@ use std::alloc::Global;
 use std::fmt::Display;
 use std::io::Write;
 use tsb_text::SessionError;
+use tsb_watched::Watched;
 
 /// Says why there is no plan or log, and gives the status that the program ends with.
-pub fn refuse<E: Write, T: Display + Drop>(alloc: Global, errors: &mut E, fault: ReadError<T>) -> u8
-    ensures { Refuses T.output fault result (E.contents errors.old) (E.contents errors.new) }
+pub fn refuse<E: Write, T: Display + Drop>(
+    alloc: Global,
+    errors: &mut Watched<E>,
+    fault: ReadError<T>,
+) -> u8
+    ensures { Refuses T.output fault result (seen E.contents errors.old) (seen E.contents errors.new) }
 {
     match fault {
         ReadError::Failed(fault) => fail(errors, fault.failure()),
@@ -24,8 +30,8 @@ pub fn refuse<E: Write, T: Display + Drop>(alloc: Global, errors: &mut E, fault:
 }
 
 /// Says what ended a session before its commands did, and gives the status that the program ends with.
-pub fn tell_end<E: Write>(errors: &mut E, fault: SessionError) -> u8
-    ensures { TellsEnd fault result (E.contents errors.old) (E.contents errors.new) }
+pub fn tell_end<E: Write>(errors: &mut Watched<E>, fault: SessionError) -> u8
+    ensures { TellsEnd fault result (seen E.contents errors.old) (seen E.contents errors.new) }
 {
     match fault {
         SessionError::Memory => fail(errors, Failure::Memory),

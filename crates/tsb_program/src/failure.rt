@@ -1,10 +1,12 @@
 //! What fails a program, and the line that it writes then.
 ghost use Rattle.std.specs.Prelude.{◌≡◌};
 ghost use Rattle.tsb_program.specs.Failures.{Fails, failure_line};
+ghost use Rattle.tsb_watched.specs.Seen.{seen};
 
 use crate::lines::tell;
 use crate::status::Status;
 use std::io::Write;
+use tsb_watched::Watched;
 
 /// What failed.
 #[derive(Clone, Copy, PartialEq, Eq)]
@@ -18,8 +20,8 @@ pub enum Failure {
 }
 
 /// Says that a read, a write or memory failed, and gives the status that the program ends with.
-pub fn fail<E: Write>(errors: &mut E, failure: Failure) -> u8
-    ensures { Fails failure result (E.contents errors.old) (E.contents errors.new) }
+pub fn fail<E: Write>(errors: &mut Watched<E>, failure: Failure) -> u8
+    ensures { Fails failure result (seen E.contents errors.old) (seen E.contents errors.new) }
 {
     tell(errors, Status::Failed, failure_line(failure))
 }

@@ -14,3 +14,4 @@ pub use files::{Disk, FileError, Files, read_file};
 pub use lines::{line_of, tell, write_line};
 pub use read::{ReadError, log_of, plan_of};
 pub use status::Status;
+pub use tsb_watched::Watched;

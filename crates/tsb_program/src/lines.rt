@@ -1,31 +1,34 @@
 //! Lines that a program writes.
-ghost use Rattle.std.specs.Prelude.{◌≡◌, ◌++◌, ◌∷◌, [], IfOk, IfSome, OnOk, string_bytes};
-ghost use Rattle.std.specs.Io.KnownBytes.{Appends};
+ghost use Rattle.std.specs.Prelude.{◌≡◌, ◌++◌, ◌∷◌, [], IfOk, IfSome, OnErr, OnOk, string_bytes, true};
 ghost use Rattle.tsb_lines.specs.Writes.{AppendsFront};
 ghost use Rattle.tsb_program.specs.Statuses.{number};
+ghost use Rattle.tsb_watched.specs.Seen.{GoesOut, Tells, seen};
 
 use crate::status::Status;
 use std::alloc::{AllocError, Global};
 use std::fmt::Display;
 use std::io::Write;
-use tsb_lines::{WriteError, pass_on, write_text};
+use tsb_watched::{Watched, WriteError};
 
-/// Writes a line of faults, and gives the number of the status. Where the line can't be written, nobody can be told of it.
-pub fn tell<E: Write>(errors: &mut E, status: Status, line: &[u8]) -> u8
+/// Writes a line of faults, has the writer pass it on, and gives the number of the status. Where the line can't be
+/// written, nobody can be told of it.
+pub fn tell<E: Write>(errors: &mut Watched<E>, status: Status, line: &[u8]) -> u8
     ensures status { result ≡ number status }
-    ensures line { AppendsFront (E.contents errors.old) (E.contents errors.new) line.now }
+    ensures line { Tells (seen E.contents errors.old) (seen E.contents errors.new) line.now }
 {
     let _ = write_line(errors, line);
     status.number()
 }
 
 /// Writes a line or a whole text, and has the writer pass it on. At an error its first bytes may have gone out.
-pub fn write_line<W: Write>(writer: &mut W, line: &[u8]) -> Result<(), WriteError>
-    ensures whole { OnOk result (Appends (W.contents writer.old) (W.contents writer.new) line.now) }
-    ensures front { AppendsFront (W.contents writer.old) (W.contents writer.new) line.now }
+pub fn write_line<W: Write>(writer: &mut Watched<W>, line: &[u8]) -> Result<(), WriteError>
+    ensures whole { OnOk result (GoesOut (seen W.contents writer.old) (seen W.contents writer.new) line.now) }
+    ensures front { AppendsFront (W.contents writer.old.device) (W.contents writer.new.device) line.now }
+    ensures blame { OnErr result (writer.new.failed ≡ true) }
+    ensures well { OnOk result (writer.new.failed ≡ writer.old.failed) }
 {
-    match write_text(writer, line) {
-        Ok(()) => pass_on(writer),
+    match writer.write_text(line) {
+        Ok(()) => writer.pass_on(),
         Err(fault) => Err(fault),
     }
 }

@@ -1,6 +1,6 @@
 //! Files that are read, and what they give.
-ghost use Rattle.std.specs.Prelude.{◌≡◌};
-ghost use Rattle.tsb_program.specs.Read.{LogRead, PlanRead, log_made, plan_made};
+ghost use Rattle.std.specs.Prelude.{◌≡◌, vec_items};
+ghost use Rattle.tsb_program.specs.Read.{LogIn, LogRead, PlanIn, PlanRead, log_made, plan_made};
 
 use crate::files::{FileError, Files, read_file};
 use std::alloc::Global;
@@ -21,8 +21,17 @@ pub enum ReadError<T> {
 pub fn log_of<F: Files>(alloc: Global, files: &F, path: &str) -> Result<Log, ReadError<LogError>>
     ensures { LogRead result (F.bytes files.now path.now) }
 {
-    let text = read_file(alloc, files, path, LIMIT + 1).map_err(ReadError::Failed)?;
-    log_made(read_log(alloc, &text))
+    log_in(alloc, read_file(alloc, files, path, LIMIT + 1))
+}
+
+/// The log in what was read of a file.
+fn log_in(alloc: Global, read: Result<Vec<u8>, FileError>) -> Result<Log, ReadError<LogError>>
+    ensures { LogIn vec_items read result }
+{
+    match read {
+        Ok(text) => log_made(read_log(alloc, &text)),
+        Err(fault) => Err(ReadError::Failed(fault)),
+    }
 }
 
 /// What reading a log's text gave.
@@ -44,8 +53,17 @@ pub fn plan_of<F: Files>(
 ) -> Result<Checked, ReadError<PlanError>>
     ensures { PlanRead result (F.bytes files.now path.now) }
 {
-    let text = read_file(alloc, files, path, PLAN_LIMIT + 1).map_err(ReadError::Failed)?;
-    plan_made(read_plan(alloc, &text))
+    plan_in(alloc, read_file(alloc, files, path, PLAN_LIMIT + 1))
+}
+
+/// The plan in what was read of a file.
+fn plan_in(alloc: Global, read: Result<Vec<u8>, FileError>) -> Result<Checked, ReadError<PlanError>>
+    ensures { PlanIn vec_items read result }
+{
+    match read {
+        Ok(text) => plan_made(read_plan(alloc, &text)),
+        Err(fault) => Err(ReadError::Failed(fault)),
+    }
 }
 
 /// What reading a plan's text gave.

@@ -1,5 +1,5 @@
 -- How a record ends, from how its dialog did.
-use Rattle.std.proofs.Common.{◌≡◌, ◌∙◌, ℕ, List, [], ◌++◌, take, drop, refl, sym, ap, subst, Some, None, Ok, Err, arith, inl, inr, ◌⊎◌}
+use Rattle.std.proofs.Common.{◌≡◌, ◌∙◌, ℕ, Bool, List, [], ◌++◌, take, drop, refl, sym, ap, subst, Some, None, Ok, Err, arith, inl, inr, ◌⊎◌}
 use Rattle.std.proofs.lemmas.List.{append-nil, take-append-drop}
 use Rattle.std.specs.declared.option.Option.{Option}
 use Rattle.tsb_types.specs.declared.event.Event.{Event}
@@ -13,9 +13,11 @@ use Rattle.tsb_lines.proofs.StreamLemmas.{appends-nothing, consumes-nothing}
 use Rattle.tsb_log_text.specs.declared.log.LogRow.{LogRow}
 use Rattle.tsb_dialog.specs.declared.error.DialogError.{DialogError}
 use Rattle.tsb_dialog.specs.declared.error.DialogError.TheVariants as dialog
+use Rattle.tsb_dialog.specs.Blame as dialog_blame
 use Rattle.tsb_dialog.specs.Ended as dialogs
 use Rattle.tsb_dialog.specs.Heard.{Heard, IsOver, IsSaid}
 use Rattle.tsb_text.specs.Answers.{Setup}
+use Rattle.tsb_text.specs.Blame.{Blames}
 use Rattle.tsb_text.specs.declared.error.SessionError.TheVariants.{Memory}
 use Rattle.tsb_lines.specs.Lines.{lines_of}
 use Rattle.tsb_record.specs.declared.faults.FaultyLine.{FaultyLine}
@@ -176,3 +178,9 @@ stands-told given log bench told is events same s = same ∙ ap (λ (t : Telling
 pub outcome-told : (outcome : Outcome) (stop found : Option FaultyLine) (events told : List Event) → IsOutcome outcome stop events → stop ≡ found → events ≡ told → IsOutcome outcome found told
 outcome-told (Events all) stop found events told is same tells = (sym same ∙ is.0, is.1 ∙ tells)
 outcome-told (Stopped line) stop found events told is same tells = sym same ∙ is
+
+-- the device that a dialog blames for its fault is the one to blame for that of the record
+pub blames-fault : (fault : DialogError) (read_failed write_failed flushed : Bool) → dialog_blame.Blames (Err fault) read_failed write_failed flushed → Blames {T = Outcome} (Err (session_fault fault)) read_failed write_failed flushed
+blames-fault dialog.Read read_failed write_failed flushed blames = blames
+blames-fault dialog.Write read_failed write_failed flushed blames = blames
+blames-fault dialog.TooLarge read_failed write_failed flushed blames = blames

@@ -1,8 +1,9 @@
 //! The commands of a record: they are carried out, and what is refused is told.
-ghost use Rattle.std.specs.Prelude.{◌≡◌, ◌++◌, ℕ, List, OnOk};
+ghost use Rattle.std.specs.Prelude.{◌≡◌, ◌++◌, ℕ, List, OnOk, false, true};
 ghost use Rattle.tsb_objects.specs.Checked.{checked_plan};
-ghost use Rattle.tsb_dialog.specs.Pended.{AfterWrites, IsWell};
+ghost use Rattle.tsb_dialog.specs.Blame.{AfterCalls};
 ghost use Rattle.tsb_dialog.specs.Said.{Said, Wrote};
+ghost use Rattle.tsb_text.specs.Blame.{Blames};
 ghost use Rattle.tsb_record.specs.Ended.{Ended};
 ghost use Rattle.tsb_record.specs.Faults.{fault_text};
 ghost use Rattle.tsb_record.specs.Leaves.{flow_after, quits};
@@ -14,7 +15,7 @@ use std::alloc::Global;
 use std::io::{Read, Write};
 use tsb_bench::Bench;
 use tsb_command_text::{Command, Reading, reading_of};
-use tsb_dialog::{Answers, DialogError, Flow, Pending, WriteError, converse};
+use tsb_dialog::{Answers, DialogError, Flow, Pending, Watched, WriteError, converse};
 use tsb_log_text::Log;
 use tsb_objects::Checked;
 use tsb_text::{COMMANDS, LineFault, OnFault, SessionError};
@@ -57,7 +58,7 @@ impl Answers for Recording<'_> {
         number: u32,
         line: &[u8],
         pending: &mut Pending,
-        writer: &mut W,
+        writer: &mut Watched<W>,
     ) -> Result<Flow, WriteError> {
         let reading = reading_of(line);
         let is_quit = quits(&reading);
@@ -94,11 +95,11 @@ fn tell<W: Write>(
     line: &[u8],
     fault: &Option<LineFault>,
     pending: &mut Pending,
-    writer: &mut W,
+    writer: &mut Watched<W>,
 ) -> Result<(), WriteError>
-    ensures ok { OnOk result (Said (W.contents writer.old) (W.contents writer.new) pending.old.waits pending.new.waits (fault_text number line.now fault.now)) }
-    ensures front { Wrote (W.contents writer.old) (W.contents writer.new) pending.old.waits pending.new.waits (λ said. (rest : List ℕ) × (fault_text number line.now fault.now ≡ said ++ rest)) }
-    ensures blame { IsWell pending.old → AfterWrites result pending.new }
+    ensures ok { OnOk result (Said (W.contents writer.old.device) (W.contents writer.new.device) pending.old pending.new (fault_text number line.now fault.now)) }
+    ensures front { Wrote (W.contents writer.old.device) (W.contents writer.new.device) pending.old pending.new (λ said. (rest : List ℕ) × (fault_text number line.now fault.now ≡ said ++ rest)) }
+    ensures blame { writer.old.failed ≡ false → AfterCalls result writer.new.failed }
 {
     match fault {
         Some(fault) => pending.add(writer, &fault_line(number, line, *fault)),
@@ -137,19 +138,23 @@ fn outcome_of(recorder: Recorder, stop: Option<FaultyLine>) -> Outcome
 /// told goes out before the next read. The first such line ends a strict record (`OnFault::Stop`), which has no events
 /// then, and nothing more is read. What a command only asks is not answered.
 ///
-/// A fault ends the record; what was told until then is a prefix of what is to be told. `TooLarge` comes where there is a
-/// byte after the first 16 MiB, once the whole lines within them were carried out, and `Memory` where there is none for
+/// A fault ends the record; what was told until then is a prefix of what is to be told. `Read` comes exactly where a read
+/// has failed, and `Write` exactly where a write or a flush has. `TooLarge` comes where there is a byte after the first 16 MiB, once the whole lines within them were carried out, and `Memory` where there is none for
 /// the bench at power-up: nothing was read then. Where there is none for the events of an input it is refused with E1.
 pub fn record<R: Read, E: Write>(
     alloc: Global,
     plan: Checked,
     log: &Log,
     on_fault: OnFault,
-    reader: &mut R,
-    errors: &mut E,
+    reader: &mut Watched<R>,
+    errors: &mut Watched<E>,
 ) -> Result<Outcome, SessionError>
-    ensures { Ended result on_fault (record { plan = checked_plan plan; log = log.now })
-        (R.remaining reader.old) (R.remaining reader.new) (E.contents errors.old) (E.contents errors.new) }
+    requires reads { reader.old.failed ≡ false }
+    requires writes { errors.old.failed ≡ false }
+    requires flushed { errors.old.flushed ≡ true }
+    ensures ended { Ended result on_fault (record { plan = checked_plan plan; log = log.now })
+        (R.remaining reader.old.device) (R.remaining reader.new.device) (E.contents errors.old.device) (E.contents errors.new.device) }
+    ensures blame { Blames result reader.new.failed errors.new.failed errors.new.flushed }
 {
     let Ok(bench) = Bench::power_up(alloc, plan) else {
         return Err(SessionError::Memory);

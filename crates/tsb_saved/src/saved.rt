@@ -1,7 +1,7 @@
 //! The line that tells the log and the commands of what is kept.
-ghost use Rattle.std.specs.Prelude.{◌≡◌, true};
+ghost use Rattle.std.specs.Prelude.{◌≡◌, false, true};
 ghost use Rattle.json.specs.Print.{escape};
-ghost use Rattle.tsb_dialog.specs.Pended.{AfterWrites, IsWell};
+ghost use Rattle.tsb_dialog.specs.Blame.{AfterCalls};
 ghost use Rattle.tsb_dialog.specs.Said.{with_feed};
 ghost use Rattle.tsb_log_text.specs.LogText.{log_text, row_line};
 ghost use Rattle.tsb_saved.specs.Saved.{commands_from, input_text, saved_text, step_text};
@@ -9,9 +9,8 @@ ghost use Rattle.tsb_saved.specs.Says.{SaysLine, SaysText, are_plain};
 
 use crate::input_line::{input_line, number_line};
 use std::io::Write;
-use tsb_dialog::Pending;
+use tsb_dialog::{Pending, Watched, WriteError};
 use tsb_kept::{Kept, Other};
-use tsb_lines::WriteError;
 use tsb_log_text::{LogRow, row_line};
 use tsb_step::Input;
 
@@ -28,10 +27,10 @@ pub fn say_saved<W: Write>(
     kept: &Kept,
     now: u32,
     pending: &mut Pending,
-    writer: &mut W,
+    writer: &mut Watched<W>,
 ) -> Result<(), WriteError>
-    ensures told { SaysLine result (saved_text kept.now now) (W.contents writer.old) (W.contents writer.new) pending.old.waits pending.new.waits }
-    ensures blame { IsWell pending.old → AfterWrites result pending.new }
+    ensures told { SaysLine result (saved_text kept.now now) (W.contents writer.old.device) (W.contents writer.new.device) pending.old pending.new }
+    ensures blame { writer.old.failed ≡ false → AfterCalls result writer.new.failed }
 {
     pending.add(writer, b"{\"log\":\"")?;
     say_rows(kept.rows(), pending, writer)?;
@@ -44,10 +43,10 @@ pub fn say_saved<W: Write>(
 fn say_rows<W: Write>(
     rows: &[LogRow],
     pending: &mut Pending,
-    writer: &mut W,
+    writer: &mut Watched<W>,
 ) -> Result<(), WriteError>
-    ensures told { SaysText result (escape (log_text rows.now)) (W.contents writer.old) (W.contents writer.new) pending.old.waits pending.new.waits }
-    ensures blame { IsWell pending.old → AfterWrites result pending.new }
+    ensures told { SaysText result (escape (log_text rows.now)) (W.contents writer.old.device) (W.contents writer.new.device) pending.old pending.new }
+    ensures blame { writer.old.failed ≡ false → AfterCalls result writer.new.failed }
 {
     for row in rows {
         say_row(*row, pending, writer)?;
@@ -56,9 +55,13 @@ fn say_rows<W: Write>(
 }
 
 /// Says the line of a row, as it stands in a string of JSON.
-fn say_row<W: Write>(row: LogRow, pending: &mut Pending, writer: &mut W) -> Result<(), WriteError>
-    ensures told { SaysText result (escape (with_feed (row_line row))) (W.contents writer.old) (W.contents writer.new) pending.old.waits pending.new.waits }
-    ensures blame { IsWell pending.old → AfterWrites result pending.new }
+fn say_row<W: Write>(
+    row: LogRow,
+    pending: &mut Pending,
+    writer: &mut Watched<W>,
+) -> Result<(), WriteError>
+    ensures told { SaysText result (escape (with_feed (row_line row))) (W.contents writer.old.device) (W.contents writer.new.device) pending.old pending.new }
+    ensures blame { writer.old.failed ≡ false → AfterCalls result writer.new.failed }
 {
     let line = row_line(row);
     let (line, _) = line.as_slice().split_at(ROW);
@@ -70,10 +73,10 @@ fn say_commands<W: Write>(
     others: &[Other],
     now: u32,
     pending: &mut Pending,
-    writer: &mut W,
+    writer: &mut Watched<W>,
 ) -> Result<(), WriteError>
-    ensures told { SaysText result (escape (commands_from now others.now 0)) (W.contents writer.old) (W.contents writer.new) pending.old.waits pending.new.waits }
-    ensures blame { IsWell pending.old → AfterWrites result pending.new }
+    ensures told { SaysText result (escape (commands_from now others.now 0)) (W.contents writer.old.device) (W.contents writer.new.device) pending.old pending.new }
+    ensures blame { writer.old.failed ≡ false → AfterCalls result writer.new.failed }
 {
     let mut tick: u32 = 0;
     for other in others {
@@ -85,9 +88,13 @@ fn say_commands<W: Write>(
 }
 
 /// Says the line of so many ticks, where there are any.
-fn say_step<W: Write>(ticks: u32, pending: &mut Pending, writer: &mut W) -> Result<(), WriteError>
-    ensures told { SaysText result (escape (step_text ticks)) (W.contents writer.old) (W.contents writer.new) pending.old.waits pending.new.waits }
-    ensures blame { IsWell pending.old → AfterWrites result pending.new }
+fn say_step<W: Write>(
+    ticks: u32,
+    pending: &mut Pending,
+    writer: &mut Watched<W>,
+) -> Result<(), WriteError>
+    ensures told { SaysText result (escape (step_text ticks)) (W.contents writer.old.device) (W.contents writer.new.device) pending.old pending.new }
+    ensures blame { writer.old.failed ≡ false → AfterCalls result writer.new.failed }
 {
     if ticks == 0 {
         return Ok(());
@@ -99,10 +106,10 @@ fn say_step<W: Write>(ticks: u32, pending: &mut Pending, writer: &mut W) -> Resu
 fn say_input<W: Write>(
     input: &Input,
     pending: &mut Pending,
-    writer: &mut W,
+    writer: &mut Watched<W>,
 ) -> Result<(), WriteError>
-    ensures told { SaysText result (escape (input_text input.now)) (W.contents writer.old) (W.contents writer.new) pending.old.waits pending.new.waits }
-    ensures blame { IsWell pending.old → AfterWrites result pending.new }
+    ensures told { SaysText result (escape (input_text input.now)) (W.contents writer.old.device) (W.contents writer.new.device) pending.old pending.new }
+    ensures blame { writer.old.failed ≡ false → AfterCalls result writer.new.failed }
 {
     match input {
         Input::Tick(_) => Ok(()),
@@ -111,10 +118,14 @@ fn say_input<W: Write>(
 }
 
 /// Says a line of plain bytes as it stands in a string of JSON: its line feed is told as `\n`.
-fn say_line<W: Write>(line: &[u8], pending: &mut Pending, writer: &mut W) -> Result<(), WriteError>
+fn say_line<W: Write>(
+    line: &[u8],
+    pending: &mut Pending,
+    writer: &mut Watched<W>,
+) -> Result<(), WriteError>
     ensures told { are_plain line.now ≡ true
-        → SaysText result (escape (with_feed line.now)) (W.contents writer.old) (W.contents writer.new) pending.old.waits pending.new.waits }
-    ensures blame { IsWell pending.old → AfterWrites result pending.new }
+        → SaysText result (escape (with_feed line.now)) (W.contents writer.old.device) (W.contents writer.new.device) pending.old pending.new }
+    ensures blame { writer.old.failed ≡ false → AfterCalls result writer.new.failed }
 {
     pending.add(writer, line)?;
     pending.add(writer, b"\\n")

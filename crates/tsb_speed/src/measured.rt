@@ -6,7 +6,7 @@ use anyhow::Result;
 use std::alloc::AllocError;
 use std::time::Instant;
 use tsb_step::Input;
-use tsb_text::{Bench, Checked, Log, line, session};
+use tsb_text::{Bench, Checked, Log, Watched, line, session};
 
 /// How many times the last change of each watched value is asked for. A tick is taken back between one time and the
 /// next.
@@ -89,8 +89,8 @@ impl Measured<'_> {
     /// Steps through the ticks in a session, and writes how many lines and bytes it writes.
     pub fn step(&self) -> Result<()> {
         let commands = format!(in self.rt.alloc(); "step {}\n", self.ticks)?;
-        let mut reader = commands.as_bytes();
-        let mut writer = Counted::none();
+        let mut reader = Watched::new(commands.as_bytes());
+        let mut writer = Watched::new(Counted::none());
         let start = Instant::now(self.rt)?;
         session(
             self.rt.alloc(),
@@ -100,7 +100,7 @@ impl Measured<'_> {
             &mut writer,
         )?;
         self.tell("lines", start)?;
-        let Counted { lines, bytes, sum } = writer;
+        let Counted { lines, bytes, sum } = *writer.device();
         println!(self.rt; "{lines} lines of {bytes} bytes, sum {sum}")?;
         Ok(())
     }

@@ -5,7 +5,7 @@ use crate::ticks::write_rows;
 use anyhow::Result;
 use std::alloc::Global;
 use std::io::Write;
-use tsb_text::{read_log, read_plan, session};
+use tsb_text::{Watched, read_log, read_plan, session};
 
 /// Writes the answer to a case. For a plan text it is its first fault, or `plan ok`; for a log its first fault, or a
 /// line for each tick that is asked for; for a session the first fault of its plan or else of its log, or else its
@@ -58,7 +58,8 @@ fn talk<W: Write>(
             return Ok(());
         }
     };
-    let mut reader = commands;
-    session(alloc, plan, &log, &mut reader, output)?;
+    let mut reader = Watched::new(commands);
+    let mut writer = Watched::new(output);
+    session(alloc, plan, &log, &mut reader, &mut writer)?;
     Ok(())
 }

@@ -2,7 +2,7 @@
 
 use std::alloc::Global;
 use std::io::{self, ErrorKind, Read, Write};
-use tsb_text::{Checked, Log, Plan, SessionError, session};
+use tsb_text::{Checked, Log, Plan, SessionError, Watched, session};
 
 const INPUT: &[u8] =
     b"step 2\nshow\r\n\n# none\nback 1\nwhat\nundo\nundo\nundo\nbegin 1\npattern 3\nstep 3\nabort 1\nwhen interval 2\nshow";
@@ -155,7 +155,9 @@ fn talk<R: Read, W: Write>(
     writer: &mut W,
 ) -> Option<Result<(), SessionError>> {
     let plan = Checked::new(Plan::two()).ok()?;
-    Some(session(alloc, plan, &Log::empty(alloc), reader, writer))
+    let mut reader = Watched::new(reader);
+    let mut writer = Watched::new(writer);
+    Some(session(alloc, plan, &Log::empty(alloc), &mut reader, &mut writer))
 }
 
 /// How many bytes the answers to these commands have, if `OUTPUT` begins with them.

@@ -2,7 +2,7 @@
 
 use std::alloc::Global;
 use std::io::{self, ErrorKind, Read, Write};
-use tsb_dialog::{Answers, DialogError, Flow, KEPT, LIMIT, Pending, WriteError, converse};
+use tsb_dialog::{Answers, DialogError, Flow, KEPT, LIMIT, Pending, Watched, WriteError, converse};
 use tsb_lines::seven_digits;
 
 /// Answers a line with its number, the line and this text. A line `over` ends the dialog.
@@ -23,7 +23,7 @@ impl Answers for Echo<'_> {
         number: u32,
         line: &[u8],
         pending: &mut Pending,
-        writer: &mut W,
+        writer: &mut Watched<W>,
     ) -> Result<Flow, WriteError> {
         pending.say(writer, &seven_digits(number))?;
         pending.add(writer, line)?;
@@ -134,7 +134,14 @@ const ECHOED: &[u8] = b"0000001\none\n0000002\ntwo\n0000003\n\n0000004\nlast\r\n
 
 /// How a dialog ends in which lines are echoed.
 fn echo_lines(source: &mut Source, sink: &mut Sink, limit: usize) -> Result<(), DialogError> {
-    converse(&mut Echo { end: b"\n" }, limit.min(LIMIT), source, sink)
+    let mut reader = Watched::new(source);
+    let mut writer = Watched::new(sink);
+    converse(
+        &mut Echo { end: b"\n" },
+        limit.min(LIMIT),
+        &mut reader,
+        &mut writer,
+    )
 }
 
 /// Whether these lines are echoed so, by pieces of these lengths.
@@ -338,7 +345,9 @@ fn are_long_texts_said(alloc: Global, piece: usize) -> bool {
     let mut source = Source::new(b"one\ntwo\nover\n", 5000);
     let mut sink = Sink::new(alloc, piece);
     let mut answers = Echo { end: &text };
-    let is_done = converse(&mut answers, LIMIT, &mut source, &mut sink) == Ok(());
+    let mut reader = Watched::new(&mut source);
+    let mut writer = Watched::new(&mut sink);
+    let is_done = converse(&mut answers, LIMIT, &mut reader, &mut writer) == Ok(());
     let mut rest = sink.taken.as_slice();
     for head in [
         b"0000001\none".as_slice(),
@@ -361,4 +370,74 @@ fn long_texts_are_said(rt: HostRuntime) {
     for piece in [1, 4096, 100_000] {
         assert!(rt; are_long_texts_said(rt.alloc(), piece));
     }
+}
+
+/// Whether a read and whether a write has failed, and whether all was passed on, after a dialog whose reader gives so many
+/// bytes and whose writer takes so many.
+fn seen_after(alloc: Global, good: usize, room: usize, flushes: bool) -> (bool, bool, bool) {
+    let mut source = Source::new(LINES, 4);
+    source.good = good;
+    let mut sink = Sink::new(alloc, 1);
+    sink.room = room;
+    sink.flushes = flushes;
+    let mut reader = Watched::new(source);
+    let mut writer = Watched::new(sink);
+    let _ = converse(&mut Echo { end: b"\n" }, LIMIT, &mut reader, &mut writer);
+    (
+        reader.has_failed(),
+        writer.has_failed(),
+        writer.is_flushed(),
+    )
+}
+
+/// What became of the calls is seen at the end.
+#[test]
+fn the_device_that_failed_is_seen(rt: HostRuntime) {
+    let all = usize::MAX;
+    for (good, room, flushes, wanted) in [
+        (all, all, true, (false, false, true)),
+        (5, all, true, (true, false, true)),
+        (all, 3, true, (false, true, false)),
+        (all, all, false, (false, true, false)),
+    ] {
+        assert!(rt;
+            seen_after(rt.alloc(), good, room, flushes) == wanted,
+            "{good} {room}"
+        );
+    }
+}
+
+/// Whether a write has failed, and whether all was passed on, after a write of three bytes and a flush through the traits.
+fn seen_by_traits(alloc: Global, room: usize, full: Full, flushes: bool) -> (bool, bool) {
+    let mut sink = Sink::new(alloc, 5000);
+    sink.room = room;
+    sink.full = full;
+    sink.flushes = flushes;
+    let mut writer = Watched::new(sink);
+    let _ = writer.write(b"one");
+    let was_flushed = writer.is_flushed();
+    let _ = writer.flush();
+    (writer.has_failed(), !was_flushed && writer.is_flushed())
+}
+
+/// Calls through the traits are seen as well.
+#[test]
+fn calls_through_traits_are_seen(rt: HostRuntime) {
+    for (room, full, flushes, wanted) in [
+        (5, Full::Fails, true, (false, true)),
+        (0, Full::Fails, true, (true, true)),
+        (0, Full::TakesNothing, true, (true, true)),
+        (5, Full::Fails, false, (true, false)),
+    ] {
+        assert!(rt;
+            seen_by_traits(rt.alloc(), room, full, flushes) == wanted,
+            "{room}"
+        );
+    }
+    let mut source = Source::new(b"one", 2);
+    source.good = 2;
+    let mut reader = Watched::new(source);
+    let mut room = [0; 4];
+    assert!(rt; reader.read(&mut room).ok() == Some(2) && !reader.has_failed());
+    assert!(rt; reader.read(&mut room).is_err() && reader.has_failed());
 }

@@ -4,7 +4,7 @@ use std::alloc::Global;
 use std::io::{self, ErrorKind, Read, Write};
 use tsb_log_text::LogError;
 use tsb_program::{
-    FileError, Files, ReadError, Status, line_of, log_of, read_file, tell, write_line,
+    FileError, Files, ReadError, Status, Watched, line_of, log_of, read_file, tell, write_line,
 };
 use tsb_types::Row;
 
@@ -187,14 +187,14 @@ fn nothing_taken(alloc: Global) -> Buffered {
 
 /// Whether a line is passed on.
 fn is_written(alloc: Global) -> bool {
-    let mut output = nothing_taken(alloc);
-    write_line(&mut output, LINE).is_ok() && output.passed_on.as_slice() == LINE
+    let mut output = Watched::new(nothing_taken(alloc));
+    write_line(&mut output, LINE).is_ok() && output.device().passed_on.as_slice() == LINE
 }
 
 /// Whether a line is passed on with a status, which has this number.
 fn is_told(alloc: Global, status: Status, number: u8) -> bool {
-    let mut errors = nothing_taken(alloc);
-    tell(&mut errors, status, LINE) == number && errors.passed_on.as_slice() == LINE
+    let mut errors = Watched::new(nothing_taken(alloc));
+    tell(&mut errors, status, LINE) == number && errors.device().passed_on.as_slice() == LINE
 }
 
 /// What a writer did not pass on is not written.
@@ -252,15 +252,17 @@ fn with_room(alloc: Global, room: usize) -> Narrow {
 
 /// Whether a writer that takes so many bytes of a line has them, and the line is written only if those are all.
 fn is_written_in_part(alloc: Global, room: usize) -> bool {
-    let mut output = with_room(alloc, room);
+    let mut output = Watched::new(with_room(alloc, room));
     let is_whole = write_line(&mut output, LINE).is_ok();
-    is_whole == (room == LINE.len()) && output.taken.as_slice() == &LINE[..room.min(LINE.len())]
+    is_whole == (room == LINE.len())
+        && output.device().taken.as_slice() == &LINE[..room.min(LINE.len())]
 }
 
 /// Whether a status has its number where its line is not written.
 fn has_number(alloc: Global, status: Status, number: u8) -> bool {
-    let mut errors = with_room(alloc, 3);
-    tell(&mut errors, status, LINE) == number && tell(&mut Stuck, status, LINE) == number
+    let mut errors = Watched::new(with_room(alloc, 3));
+    tell(&mut errors, status, LINE) == number
+        && tell(&mut Watched::new(Stuck), status, LINE) == number
 }
 
 /// Whether each status has its number there.
@@ -279,5 +281,5 @@ fn a_writer_that_fails_is_told_of(rt: HostRuntime) {
     for room in 0..=LINE.len() {
         assert!(rt; is_written_in_part(rt.alloc(), room), "{room}");
     }
-    assert!(rt; write_line(&mut Stuck, LINE).is_err() && have_numbers(rt.alloc()));
+    assert!(rt; write_line(&mut Watched::new(Stuck), LINE).is_err() && have_numbers(rt.alloc()));
 }

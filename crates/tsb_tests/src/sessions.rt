@@ -3,7 +3,9 @@
 use std::alloc::Global;
 use std::cell::Cell;
 use std::io::{self, Read, Write};
-use tsb_text::{Bench, Checked, Log, Plan, SessionError, line, read_log, read_plan, session};
+use tsb_text::{
+    Bench, Checked, Log, Plan, SessionError, Watched, line, read_log, read_plan, session,
+};
 
 /// Gives its bytes in pieces, and fails at one of its reads.
 #[derive(Drop)]
@@ -108,7 +110,9 @@ fn talk<R: Read, W: Write>(
     writer: &mut W,
 ) -> Option<Result<(), SessionError>> {
     let plan = Checked::new(Plan::two()).ok()?;
-    Some(session(alloc, plan, &Log::empty(alloc), reader, writer))
+    let mut reader = Watched::new(reader);
+    let mut writer = Watched::new(writer);
+    Some(session(alloc, plan, &Log::empty(alloc), &mut reader, &mut writer))
 }
 
 /// Whether the session of a reader and a writer ends with the commands.
@@ -251,10 +255,10 @@ fn answers_on_quad(alloc: Global, log: &[u8], commands: &[u8], text: &[u8]) -> b
     let (Ok(plan), Ok(log)) = (Checked::new(Plan::quad()), read_log(alloc, log)) else {
         return false;
     };
-    let mut reader = commands;
-    let mut out = Vec::new(alloc);
-    match session(alloc, plan, &log, &mut reader, &mut out) {
-        Ok(()) => out.as_slice() == text,
+    let mut reader = Watched::new(commands);
+    let mut writer = Watched::new(Vec::new(alloc));
+    match session(alloc, plan, &log, &mut reader, &mut writer) {
+        Ok(()) => writer.device().as_slice() == text,
         Err(_) => false,
     }
 }
@@ -382,9 +386,9 @@ const TWO: &[u8] =
 fn answered(alloc: Global, plan: &[u8], log: &[u8], commands: &[u8]) -> Option<Vec<u8>> {
     let plan = read_plan(alloc, plan).ok()?;
     let log = read_log(alloc, log).ok()?;
-    let mut reader = commands;
+    let mut reader = Watched::new(commands);
     let mut out = Vec::new(alloc);
-    session(alloc, plan, &log, &mut reader, &mut out).ok()?;
+    session(alloc, plan, &log, &mut reader, &mut Watched::new(&mut out)).ok()?;
     Some(out)
 }
 

@@ -1,17 +1,19 @@
 -- A session ends as its dialog does.
-use Rattle.std.proofs.Common.{◌≡◌, ℕ, List, [], ◌++◌, refl, subst, inl, inr, ◌⊎◌, Ok, Err, take, drop, arith}
+use Rattle.std.proofs.Common.{◌≡◌, ℕ, Bool, List, [], ◌++◌, refl, subst, inl, inr, ◌⊎◌, Ok, Err, take, drop, arith}
 use Rattle.std.proofs.lemmas.List.{take-append-drop}
 use Rattle.std.specs.declared.option.Option.{Option}
 use Rattle.std.specs.declared.result.Result.{Result}
 use Rattle.tsb_lines.proofs.StreamLemmas.{appends-nothing, consumes-nothing}
 use Rattle.tsb_dialog.specs.declared.error.DialogError.{DialogError}
 use Rattle.tsb_dialog.specs.declared.error.DialogError.TheVariants as dialogs
+use Rattle.tsb_dialog.specs.Blame as dialog_blame
 use Rattle.tsb_dialog.specs.Ended as dialog
 use Rattle.tsb_dialog.specs.Heard.{Heard}
 use Rattle.tsb_text.specs.declared.error.SessionError.TheVariants.{Memory, Read, TooLarge}
 use Rattle.tsb_text.specs.Answers.{Setup}
 use Rattle.tsb_text.specs.Ended.{AnswersWhole, Ended, EndedSo, IsBegun, ReadsOn}
-use Rattle.tsb_text.specs.Replies.{Stand, as_session, says}
+use Rattle.tsb_text.specs.Blame.{Blames}
+use Rattle.tsb_text.specs.Replies.{Stand, as_session, fault_of, says}
 use Rattle.tsb_text.proofs.HeardLemmas.{answered-text, begun-front, begun-more, heard-begun, heard-whole, over-begun, over-quits, over-whole, said-begun}
 
 -- at power-up
@@ -105,3 +107,9 @@ ended r stands given new i l o n e = record {
     going = heard-whole given e.reads.before e.reads.text e.reads.number e.reads.now e.reads.held e.reads.heard;
   };
 }
+
+-- the device that a dialog blames for its fault is the one to blame for that of the session
+pub blames-fault : (fault : DialogError) (read_failed write_failed flushed : Bool) → dialog_blame.Blames (Err fault) read_failed write_failed flushed → Blames {T = Unit {0}} (Err (fault_of fault)) read_failed write_failed flushed
+blames-fault dialogs.Read read_failed write_failed flushed blames = blames
+blames-fault dialogs.Write read_failed write_failed flushed blames = blames
+blames-fault dialogs.TooLarge read_failed write_failed flushed blames = blames

@@ -16,6 +16,8 @@ pub mod Replies
 pub mod Text
 -- what a session has written where it ends
 pub mod Ended
+-- which device is blamed for its fault
+pub mod Blame
 -- the names of crates below, for those above
 pub use Rattle.tsb_dialog.specs.Said as Written
 pub use Rattle.tsb_lines.specs as tsb_lines

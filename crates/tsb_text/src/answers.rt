@@ -1,6 +1,6 @@
 //! Answers to commands.
 
-ghost use Rattle.std.specs.Prelude.{◌≡◌, ◌+◌, ◌++◌, List, Ok, OnOk, Some};
+ghost use Rattle.std.specs.Prelude.{◌≡◌, ◌+◌, ◌++◌, List, Ok, OnOk, Some, false};
 ghost use Rattle.tsb_bench.specs.tsb_step.declared.inputs.Input.{Input as InputValue};
 ghost use Rattle.tsb_bench.specs.Held.{state_of};
 ghost use Rattle.tsb_log_text.specs.declared.log.LogRow.{LogRow};
@@ -9,7 +9,7 @@ ghost use Rattle.tsb_text.specs.Obeyed.{Done, Stands, besides_of, news_in};
 ghost use Rattle.tsb_text.specs.Obeys.{AsksOnce, Obeys, TakesTicks, before_line, refusal_in};
 ghost use Rattle.tsb_text.specs.Rows.{rows_in};
 ghost use Rattle.tsb_text.specs.Tasks.{task_of};
-ghost use Rattle.tsb_dialog.specs.Pended.{AfterWrites, IsWell};
+ghost use Rattle.tsb_dialog.specs.Blame.{AfterCalls};
 ghost use Rattle.tsb_dialog.specs.Said.{SaidUntilFault, with_feed};
 
 use crate::course::Course;
@@ -19,7 +19,7 @@ use crate::task::{Task, task_of};
 use std::io::Write;
 use tsb_bench::{Answer, Bench, Cmd, Input};
 use tsb_command_text::Command;
-use tsb_dialog::{Pending, WriteError};
+use tsb_dialog::{Pending, Watched, WriteError};
 use tsb_objects::Refusal;
 
 /// Carries out a command, says its answer, and tells why it was refused, if it was. Ticks take their rows from `rows`;
@@ -31,13 +31,13 @@ pub fn obey<W: Write>(
     command: Command,
     echo: &[u8],
     pending: &mut Pending,
-    writer: &mut W,
+    writer: &mut Watched<W>,
 ) -> Result<Option<Refusal>, WriteError>
     ensures done { (given : Setup) (inputs : List InputValue) → Stands given (rows_in rows.old) course.old inputs
-        → Done result given (rows_in rows.old) course.new (Obeys given (besides_of course.old echo.now) inputs (task_of command)) (W.contents writer.old) (W.contents writer.new) pending.old.waits pending.new.waits }
+        → Done result given (rows_in rows.old) course.new (Obeys given (besides_of course.old echo.now) inputs (task_of command)) (W.contents writer.old.device) (W.contents writer.new.device) pending.old pending.new }
     ensures rows { rows_in rows.new ≡ rows_in rows.old }
     ensures mode { course.new.mode ≡ course.old.mode }
-    ensures blame { IsWell pending.old → AfterWrites result pending.new }
+    ensures blame { writer.old.failed ≡ false → AfterCalls result writer.new.failed }
 {
     match task_of(command) {
         Task::Ticks(ticks) => step(course, rows, ticks, echo, pending, writer),
@@ -57,13 +57,13 @@ fn step<W: Write>(
     ticks: u32,
     echo: &[u8],
     pending: &mut Pending,
-    writer: &mut W,
+    writer: &mut Watched<W>,
 ) -> Result<Option<Refusal>, WriteError>
     ensures done { (given : Setup) (inputs : List InputValue) → Stands given (rows_in rows.old) course.old inputs
-        → Done result given (rows_in rows.old) course.new (TakesTicks given (besides_of course.old echo.now) inputs ticks) (W.contents writer.old) (W.contents writer.new) pending.old.waits pending.new.waits }
+        → Done result given (rows_in rows.old) course.new (TakesTicks given (besides_of course.old echo.now) inputs ticks) (W.contents writer.old.device) (W.contents writer.new.device) pending.old pending.new }
     ensures rows { rows_in rows.new ≡ rows_in rows.old }
     ensures mode { course.new.mode ≡ course.old.mode }
-    ensures blame { IsWell pending.old → AfterWrites result pending.new }
+    ensures blame { writer.old.failed ≡ false → AfterCalls result writer.new.failed }
 {
     for _i in 0..ticks {
         let row = rows.row(next_tick(course.bench()));
@@ -86,10 +86,10 @@ fn next_tick(bench: &Bench) -> u32
 pub fn say_tick<W: Write>(
     course: &Course,
     pending: &mut Pending,
-    writer: &mut W,
+    writer: &mut Watched<W>,
 ) -> Result<(), WriteError>
-    ensures said { SaidUntilFault result (W.contents writer.old) (W.contents writer.new) pending.old.waits pending.new.waits (news_in course.now ++ with_feed (display_line (state_of course.now.bench))) }
-    ensures blame { IsWell pending.old → AfterWrites result pending.new }
+    ensures said { SaidUntilFault result (W.contents writer.old.device) (W.contents writer.new.device) pending.old pending.new (news_in course.now ++ with_feed (display_line (state_of course.now.bench))) }
+    ensures blame { writer.old.failed ≡ false → AfterCalls result writer.new.failed }
 {
     course.say_news(pending, writer)?;
     pending.say(writer, &line_bytes(course.bench()))
@@ -100,11 +100,11 @@ pub fn say_refusal<W: Write>(
     refusal: &Refusal,
     echo: &[u8],
     pending: &mut Pending,
-    writer: &mut W,
+    writer: &mut Watched<W>,
 ) -> Result<Option<Refusal>, WriteError>
-    ensures said { SaidUntilFault result (W.contents writer.old) (W.contents writer.new) pending.old.waits pending.new.waits (echo.now ++ with_feed (refused_line refusal.now)) }
+    ensures said { SaidUntilFault result (W.contents writer.old.device) (W.contents writer.new.device) pending.old pending.new (echo.now ++ with_feed (refused_line refusal.now)) }
     ensures told { OnOk result (result ≡ Ok (Some refusal.now)) }
-    ensures blame { IsWell pending.old → AfterWrites result pending.new }
+    ensures blame { writer.old.failed ≡ false → AfterCalls result writer.new.failed }
 {
     pending.add(writer, echo)?;
     pending.say(writer, refused_line(*refusal))?;
@@ -117,12 +117,12 @@ fn ask<W: Write>(
     command: Cmd,
     echo: &[u8],
     pending: &mut Pending,
-    writer: &mut W,
+    writer: &mut Watched<W>,
 ) -> Result<Option<Refusal>, WriteError>
     ensures done { (given : Setup) (log : List LogRow) (inputs : List InputValue) → Stands given log course.old inputs
-        → Done result given log course.new (AsksOnce given (besides_of course.old echo.now) inputs command) (W.contents writer.old) (W.contents writer.new) pending.old.waits pending.new.waits }
+        → Done result given log course.new (AsksOnce given (besides_of course.old echo.now) inputs command) (W.contents writer.old.device) (W.contents writer.new.device) pending.old pending.new }
     ensures mode { course.new.mode ≡ course.old.mode }
-    ensures blame { IsWell pending.old → AfterWrites result pending.new }
+    ensures blame { writer.old.failed ≡ false → AfterCalls result writer.new.failed }
 {
     let answer = course.answer(command);
     say_before(course, &answer, echo, pending, writer)?;
@@ -136,10 +136,10 @@ fn say_before<W: Write>(
     answer: &Answer,
     echo: &[u8],
     pending: &mut Pending,
-    writer: &mut W,
+    writer: &mut Watched<W>,
 ) -> Result<(), WriteError>
-    ensures said { SaidUntilFault result (W.contents writer.old) (W.contents writer.new) pending.old.waits pending.new.waits (before_line echo.now answer.now (news_in course.now)) }
-    ensures blame { IsWell pending.old → AfterWrites result pending.new }
+    ensures said { SaidUntilFault result (W.contents writer.old.device) (W.contents writer.new.device) pending.old pending.new (before_line echo.now answer.now (news_in course.now)) }
+    ensures blame { writer.old.failed ≡ false → AfterCalls result writer.new.failed }
 {
     match *answer {
         Answer::Took => {
@@ -157,10 +157,10 @@ fn say_answer<W: Write>(
     command: &Cmd,
     answer: &Answer,
     pending: &mut Pending,
-    writer: &mut W,
+    writer: &mut Watched<W>,
 ) -> Result<(), WriteError>
-    ensures said { SaidUntilFault result (W.contents writer.old) (W.contents writer.new) pending.old.waits pending.new.waits (with_feed (told command.now answer.now (state_of bench.now))) }
-    ensures blame { IsWell pending.old → AfterWrites result pending.new }
+    ensures said { SaidUntilFault result (W.contents writer.old.device) (W.contents writer.new.device) pending.old pending.new (with_feed (told command.now answer.now (state_of bench.now))) }
+    ensures blame { writer.old.failed ≡ false → AfterCalls result writer.new.failed }
 {
     match *answer {
         Answer::Took => pending.say(writer, taken_line(command, bench)),

@@ -1,5 +1,5 @@
 //! A bench, with what is kept and told of the inputs that it takes.
-ghost use Rattle.std.specs.Prelude.{◌≡◌, ◌≤◌, ◌∷◌, IfErr, List, OnErr, OnOk};
+ghost use Rattle.std.specs.Prelude.{◌≡◌, ◌≤◌, ◌∷◌, IfErr, List, OnErr, OnOk, false};
 ghost use Rattle.tsb_bench.specs.Held.{whole};
 ghost use Rattle.tsb_bench.specs.tsb_history.History.{Change};
 ghost use Rattle.tsb_bench.specs.tsb_step.Past.{earlier};
@@ -7,7 +7,7 @@ ghost use Rattle.tsb_bench.specs.tsb_step.Step.{last_tick};
 ghost use Rattle.tsb_kept.specs.Kept.{with_input};
 ghost use Rattle.tsb_objects.specs.tsb_types.declared.refusal.Refusal.TheVariants.{Memory};
 ghost use Rattle.tsb_bench.specs.tsb_step.declared.inputs.Input.{Input as InputValue};
-ghost use Rattle.tsb_dialog.specs.Pended.{AfterWrites, IsWell};
+ghost use Rattle.tsb_dialog.specs.Blame.{AfterCalls};
 ghost use Rattle.tsb_dialog.specs.Said.{SaidUntilFault};
 ghost use Rattle.tsb_kept.specs.Kept.{nothing_kept};
 ghost use Rattle.tsb_log_text.specs.declared.log.LogRow.{LogRow};
@@ -19,7 +19,7 @@ use std::alloc::Global;
 use std::io::Write;
 use std::marker::Model;
 use tsb_bench::{Answer, Bench, Cmd, Input, Kind, answer};
-use tsb_dialog::{Pending, WriteError};
+use tsb_dialog::{Pending, Watched, WriteError};
 use tsb_events::Events;
 use tsb_kept::Kept;
 use tsb_objects::Refusal;
@@ -169,10 +169,10 @@ impl Course {
     pub fn say_news<W: Write>(
         &self,
         pending: &mut Pending,
-        writer: &mut W,
+        writer: &mut Watched<W>,
     ) -> Result<(), WriteError>
-        ensures said { SaidUntilFault result (W.contents writer.old) (W.contents writer.new) pending.old.waits pending.new.waits (news_in self.now) }
-        ensures blame { IsWell pending.old → AfterWrites result pending.new }
+        ensures said { SaidUntilFault result (W.contents writer.old.device) (W.contents writer.new.device) pending.old pending.new (news_in self.now) }
+        ensures blame { writer.old.failed ≡ false → AfterCalls result writer.new.failed }
     {
         match self.mode {
             Mode::Telling => say_events(&self.news, pending, writer),

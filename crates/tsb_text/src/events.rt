@@ -1,13 +1,13 @@
 //! The lines of events.
-ghost use Rattle.std.specs.Prelude.{◌≡◌, ◌≤◌, length};
-ghost use Rattle.tsb_dialog.specs.Pended.{AfterWrites, IsWell};
+ghost use Rattle.std.specs.Prelude.{◌≡◌, ◌≤◌, false, length};
+ghost use Rattle.tsb_dialog.specs.Blame.{AfterCalls};
 ghost use Rattle.tsb_dialog.specs.Said.{SaidUntilFault};
 ghost use Rattle.tsb_text.specs.Obeys.{event_line, events_text};
 
 use arrayvec::ArrayVec;
 use itoa::Buffer;
 use std::io::Write;
-use tsb_dialog::{Pending, WriteError};
+use tsb_dialog::{Pending, Watched, WriteError};
 use tsb_lines::seven_digits;
 use tsb_types::Event;
 
@@ -18,10 +18,10 @@ const LINE: usize = 63;
 pub(crate) fn say_events<W: Write>(
     events: &[Event],
     pending: &mut Pending,
-    writer: &mut W,
+    writer: &mut Watched<W>,
 ) -> Result<(), WriteError>
-    ensures said { SaidUntilFault result (W.contents writer.old) (W.contents writer.new) pending.old.waits pending.new.waits (events_text events.now) }
-    ensures blame { IsWell pending.old → AfterWrites result pending.new }
+    ensures said { SaidUntilFault result (W.contents writer.old.device) (W.contents writer.new.device) pending.old pending.new (events_text events.now) }
+    ensures blame { writer.old.failed ≡ false → AfterCalls result writer.new.failed }
 {
     for event in events {
         pending.say(writer, &event_line(event))?;

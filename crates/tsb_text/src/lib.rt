@@ -24,7 +24,7 @@ pub use run::{COMMANDS, session};
 pub use task::{Task, task_of};
 pub use tsb_bench::{Answer, Bench, Cmd, Input, Kind};
 pub use tsb_command_text::{Command, read_command};
-pub use tsb_dialog::{Pending, WriteError};
+pub use tsb_dialog::{Pending, Watched, WriteError};
 pub use tsb_display_text::LineBytes;
 pub use tsb_kept::Kept;
 pub use tsb_log_text::{LIMIT as LOG_LIMIT, Log, LogError, read_log};

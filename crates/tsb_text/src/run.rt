@@ -1,7 +1,8 @@
 //! Sessions: commands in, answers out.
 
-ghost use Rattle.std.specs.Prelude.{◌≡◌};
+ghost use Rattle.std.specs.Prelude.{◌≡◌, false, true};
 ghost use Rattle.tsb_objects.specs.Checked.{checked_plan};
+ghost use Rattle.tsb_text.specs.Blame.{Blames};
 ghost use Rattle.tsb_text.specs.Ended.{Ended};
 ghost use Rattle.tsb_text.specs.Replies.{fault_of, flow_after};
 
@@ -13,7 +14,7 @@ use std::alloc::Global;
 use std::io::{Read, Write};
 use tsb_bench::Bench;
 use tsb_command_text::{Command, LINE, Reading, reading_of};
-use tsb_dialog::{Answers, DialogError, Flow, KEPT, Pending, WriteError, converse};
+use tsb_dialog::{Answers, DialogError, Flow, KEPT, Pending, Watched, WriteError, converse};
 use tsb_log_text::Log;
 use tsb_objects::Checked;
 
@@ -46,7 +47,7 @@ impl Answers for Machine<'_> {
         _number: u32,
         line: &[u8],
         pending: &mut Pending,
-        writer: &mut W,
+        writer: &mut Watched<W>,
     ) -> Result<Flow, WriteError> {
         match reading_of(line) {
             Reading::Skip => Ok(Flow::On),
@@ -94,18 +95,23 @@ fn fault_of(fault: DialogError) -> SessionError
 /// Runs a session: reads commands, and writes their answers, up to a line `quit` or the end of what is read. The bench
 /// begins at power-up with the plan, and its ticks take the rows of the log.
 ///
-/// What was answered goes out before each read. A fault ends the session; what was written until then is a prefix of
-/// its text. `TooLarge` comes where there is a byte after the first 16 MiB, once the whole lines within them were
+/// What was answered goes out and is passed on before each read, and at the end. A fault ends the session; what was
+/// written until then is a prefix of its text. `Read` is answered exactly where a read has failed, and `Write` exactly
+/// where a write or a flush has. `TooLarge` comes where there is a byte after the first 16 MiB, once the whole lines within them were
 /// answered. `Memory` comes where there is none for the bench at power-up: nothing was read then, and nothing written.
 pub fn session<R: Read, W: Write>(
     alloc: Global,
     plan: Checked,
     log: &Log,
-    reader: &mut R,
-    writer: &mut W,
+    reader: &mut Watched<R>,
+    writer: &mut Watched<W>,
 ) -> Result<(), SessionError>
-    ensures { Ended result (record { plan = checked_plan plan; log = log.now })
-        (R.remaining reader.old) (R.remaining reader.new) (W.contents writer.old) (W.contents writer.new) }
+    requires reads { reader.old.failed ≡ false }
+    requires writes { writer.old.failed ≡ false }
+    requires flushed { writer.old.flushed ≡ true }
+    ensures ended { Ended result (record { plan = checked_plan plan; log = log.now })
+        (R.remaining reader.old.device) (R.remaining reader.new.device) (W.contents writer.old.device) (W.contents writer.new.device) }
+    ensures blame { Blames result reader.new.failed writer.new.failed writer.new.flushed }
 {
     let Ok(bench) = Bench::power_up(alloc, plan) else {
         return Err(SessionError::Memory);

@@ -1,6 +1,8 @@
-use Rattle.std.proofs.Common.{inl, refl, codes}
-use Rattle.tsb_text.specs.tsb_objects.Checked.{checked_plan}
+use Rattle.tsb_program.specs.tsb_watched.Seen.{seen}
+use Rattle.tsb.proofs.ReadLemmas.{checks}
 use Rattle.tsb.proofs.run.check.Goals as goal
 
-pub returns-in-Ok : goal.returns-in-Ok
-returns-in-Ok g c = inl (0, codes "plan ok\n", inl (refl, refl, checked_plan c.in-Ok.field-0, c.in-Ok.ensures), c.judge.ensures)
+pub returns : goal.returns
+returns g c =
+    checks c.plan_of.result (g.F.Files.bytes c.args.files.now c.args.path.now) c.report.result (seen g.W.Write.contents c.args.output.now) (seen g.W.Write.contents c.report.new.output)
+    (seen g.E.Write.contents c.args.errors.now) (seen g.E.Write.contents c.report.new.errors) c.plan_of.ensures c.report.ensures

@@ -1,4 +1,5 @@
 use Rattle.std.proofs.Common.{◌∙◌, Ok, Some, ap}
+use Rattle.tsb_program.specs.tsb_watched.Seen.{seen as seen_of}
 use Rattle.tsb_words.specs.FieldWords.{seen}
 use Rattle.tsb_words.specs.declared.field_files.Asked.{Asked}
 use Rattle.tsb_words.specs.declared.field_files.Asked.TheVariants as asks
@@ -9,7 +10,9 @@ pub returns-in-Ok-Record : goal.returns-in-Ok-Record
 returns-in-Ok-Record g c = (
   Ok (asks.Record c.in-Ok-Record.from c.in-Ok-Record.device c.in-Ok-Record.plan c.in-Ok-Record.log c.in-Ok-Record.goes_on),
   c.in-Ok-Record.ensures ∙ ap (λ (asked : Asked). Some (seen asked)) c.in-Ok-Record.field-0-is,
-  recorded-as c.write_record.result c.in-Ok-Record.from _ c.on_fault_of-on_fault.result _ _ _ _ _ _ _ _ _ c.on_fault_of-on_fault.ensures c.write_record.ensures,
+  recorded-as c.write_record.result c.in-Ok-Record.from _ c.on_fault_of-on_fault.result _ _ _ (seen_of g.R.Read.remaining c.args.input.now) (seen_of g.R.Read.remaining c.write_record.new.input) (seen_of g.W.Write.contents c.args.output.now)
+      (seen_of g.W.Write.contents c.write_record.new.output) (seen_of g.E.Write.contents c.args.errors.now) (seen_of g.E.Write.contents c.write_record.new.errors)
+      c.on_fault_of-on_fault.ensures c.write_record.ensures,
 )
 
 pub returns-in-Ok-Events : goal.returns-in-Ok-Events
@@ -19,5 +22,7 @@ pub returns-in-Ok-Diagram : goal.returns-in-Ok-Diagram
 returns-in-Ok-Diagram g c = (
   Ok (asks.Diagram c.in-Ok-Diagram.log c.in-Ok-Diagram.title c.in-Ok-Diagram.seconds_per_line),
   c.in-Ok-Diagram.ensures ∙ ap (λ (asked : Asked). Some (seen asked)) c.in-Ok-Diagram.field-0-is,
-  pictured-as c.write_diagram.result _ c.title_of-title.result.now _ c.unwrap_or-seconds.result _ _ _ _ _ _ _ _ c.title_of-title.ensures c.unwrap_or-seconds.ensures c.write_diagram.ensures,
+  pictured-as c.write_diagram.result _ c.title_of-title.result.now _ c.unwrap_or-seconds.result _ _ (seen_of g.R.Read.remaining c.args.input.now) (seen_of g.R.Read.remaining c.write_diagram.new.input) (seen_of g.W.Write.contents c.args.output.now)
+      (seen_of g.W.Write.contents c.write_diagram.new.output) (seen_of g.E.Write.contents c.args.errors.now) (seen_of g.E.Write.contents c.write_diagram.new.errors)
+      c.title_of-title.ensures c.unwrap_or-seconds.ensures c.write_diagram.ensures,
 )

@@ -1,5 +1,6 @@
 use Rattle.std.proofs.Common.{inl, inr, refl}
 use Rattle.tsb_text.specs.tsb_objects.Checked.{checked_plan}
+use Rattle.tsb_program.specs.tsb_watched.Seen.{seen}
 use Rattle.tsb_field.proofs.EndLemmas.{no-log, no-plan}
 use Rattle.tsb_field.proofs.run.write_record.Goals as goal
 
@@ -7,8 +8,7 @@ pub returns-in-Err : goal.returns-in-Err
 returns-in-Err g c = inr (
   refl,
   refl,
-  no-plan c.in-Err.fault c.refuse_plan.result (g.F.Files.bytes c.args.files.now c.args.plan.now) (g.F.Files.bytes c.args.files.now c.args.log.now) (g.E.Write.contents c.args.errors.now)
-      (g.E.Write.contents c.refuse_plan.new.errors) c.in-Err.ensures c.refuse_plan.ensures,
+  no-plan c.in-Err.fault c.refuse_plan.result (g.F.Files.bytes c.args.files.now c.args.plan.now) (g.F.Files.bytes c.args.files.now c.args.log.now) (seen g.E.Write.contents c.args.errors.now) (seen g.E.Write.contents c.refuse_plan.new.errors) c.in-Err.ensures c.refuse_plan.ensures,
 )
 
 pub returns-in-Err-log_of : goal.returns-in-Err-log_of
@@ -16,7 +16,7 @@ returns-in-Err-log_of g c = inr (
   refl,
   refl,
   no-log c.in-Err-log_of.fault (checked_plan c.in-Ok.checked) c.refuse_log.result (g.F.Files.bytes c.args.files.now c.args.plan.now) (g.F.Files.bytes c.args.files.now c.args.log.now)
-      (g.E.Write.contents c.args.errors.now) (g.E.Write.contents c.refuse_log.new.errors) c.in-Ok.ensures c.in-Err-log_of.ensures c.refuse_log.ensures,
+      (seen g.E.Write.contents c.args.errors.now) (seen g.E.Write.contents c.refuse_log.new.errors) c.in-Ok.ensures c.in-Err-log_of.ensures c.refuse_log.ensures,
 )
 
 pub returns : goal.returns

@@ -1,6 +1,5 @@
-use Rattle.std.proofs.Common.{◌≡◌, ◌-◌, List}
+use Rattle.std.proofs.Common.{◌≡◌, ◌-◌, List, false}
 use Rattle.tsb_bench.specs.Held.{state_of}
-use Rattle.tsb_dialog.specs.Pended.{IsWell}
 use Rattle.tsb_log_text.specs.declared.log.LogRow.{LogRow}
 use Rattle.tsb_step.specs.declared.inputs.Input.{Input}
 use Rattle.tsb_text.specs.Answers.{Setup, display_line}
@@ -12,7 +11,7 @@ abbrev pub invariant-loop-i : goal.invariant-loop-i
 invariant-loop-i g l = record {
   changing : (given : Setup) (log : List LogRow) (is : List Input) → Stands given log l.fn.course is
       → Changing given log (besides_of l.fn.course l.fn.echo) l.row is (display_line (state_of l.fn.course.bench)) l.ticks l.course l.before l.is_owed (l.ticks - l._i)
-      (g.W.Write.contents l.fn.writer) (g.W.Write.contents l.writer) l.fn.pending.waits l.pending.waits;
+      (g.W.Write.contents l.fn.writer.device) (g.W.Write.contents l.writer.device) l.fn.pending l.pending;
   mode : l.course.mode ≡ l.fn.course.mode;
-  well : IsWell l.fn.pending → IsWell l.pending;
+  well : l.fn.writer.failed ≡ false → l.writer.failed ≡ false;
 }

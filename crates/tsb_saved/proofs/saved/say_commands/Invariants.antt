@@ -1,12 +1,11 @@
-use Rattle.std.proofs.Common.{drop}
+use Rattle.std.proofs.Common.{◌≡◌, drop, false}
 use Rattle.json.specs.Print.{escape}
-use Rattle.tsb_dialog.specs.Pended.{IsWell}
 use Rattle.tsb_saved.specs.Saved.{commands_from}
 use Rattle.tsb_saved.proofs.SaysLemmas.{Saying}
 use Rattle.tsb_saved.proofs.saved.say_commands.Given as goal
 
 abbrev pub invariant-loop-other : goal.invariant-loop-other
 invariant-loop-other g l = record {
-  saying : Saying (escape (commands_from l.now l.others 0)) (escape (commands_from l.now (drop l.other-index l.others) l.tick)) (g.W.Write.contents l.fn.writer) (g.W.Write.contents l.writer) l.fn.pending.waits l.pending.waits;
-  well : IsWell l.fn.pending → IsWell l.pending;
+  saying : Saying (escape (commands_from l.now l.others 0)) (escape (commands_from l.now (drop l.other-index l.others) l.tick)) (g.W.Write.contents l.fn.writer.device) (g.W.Write.contents l.writer.device) l.fn.pending l.pending;
+  well : l.fn.writer.failed ≡ false → l.writer.failed ≡ false;
 }

@@ -1,12 +1,11 @@
-use Rattle.std.proofs.Common.{drop}
+use Rattle.std.proofs.Common.{◌≡◌, drop, false}
 use Rattle.json.specs.Print.{escape}
-use Rattle.tsb_dialog.specs.Pended.{IsWell}
 use Rattle.tsb_log_text.specs.LogText.{log_text}
 use Rattle.tsb_saved.proofs.SaysLemmas.{Saying}
 use Rattle.tsb_saved.proofs.saved.say_rows.Given as goal
 
 abbrev pub invariant-loop-row : goal.invariant-loop-row
 invariant-loop-row g l = record {
-  saying : Saying (escape (log_text l.rows)) (escape (log_text (drop l.row-index l.rows))) (g.W.Write.contents l.fn.writer) (g.W.Write.contents l.writer) l.fn.pending.waits l.pending.waits;
-  well : IsWell l.fn.pending → IsWell l.pending;
+  saying : Saying (escape (log_text l.rows)) (escape (log_text (drop l.row-index l.rows))) (g.W.Write.contents l.fn.writer.device) (g.W.Write.contents l.writer.device) l.fn.pending l.pending;
+  well : l.fn.writer.failed ≡ false → l.writer.failed ≡ false;
 }

@@ -8,7 +8,7 @@ use Rattle.tsb_text.proofs.answers.step.Goals as goal
 
 pub loop-i-init : goal.loop-i-init
 loop-i-init g c = record {
-  steps = λ given is s. steps-start given (rows_in c.args.rows.now) (besides_of c.args.course.now c.args.echo.now) is c.args.ticks _ c.args.course.now _ c.args.pending.now.waits (omega arith) s;
+  steps = λ given is s. steps-start given (rows_in c.args.rows.now) (besides_of c.args.course.now c.args.echo.now) is c.args.ticks _ c.args.course.now _ c.args.pending.now (omega arith) s;
   rows = refl;
   mode = refl;
   well = λ w. w;

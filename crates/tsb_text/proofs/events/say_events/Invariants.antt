@@ -1,10 +1,10 @@
-use Rattle.tsb_dialog.specs.Pended.{IsWell}
+use Rattle.std.proofs.Common.{◌≡◌, false}
 use Rattle.tsb_dialog.specs.Said.{Wrote}
 use Rattle.tsb_text.proofs.EventLemmas.{SaidTo}
 use Rattle.tsb_text.proofs.events.say_events.Given as goal
 
 abbrev pub invariant-loop-event : goal.invariant-loop-event
 invariant-loop-event g l = record {
-  wrote : Wrote (g.W.Write.contents l.fn.writer) (g.W.Write.contents l.writer) l.fn.pending.waits l.pending.waits (SaidTo l.events l.event-index);
-  well : IsWell l.fn.pending → IsWell l.pending;
+  wrote : Wrote (g.W.Write.contents l.fn.writer.device) (g.W.Write.contents l.writer.device) l.fn.pending l.pending (SaidTo l.events l.event-index);
+  well : l.fn.writer.failed ≡ false → l.writer.failed ≡ false;
 }

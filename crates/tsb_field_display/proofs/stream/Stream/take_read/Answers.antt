@@ -1,12 +1,14 @@
 use Rattle.std.proofs.Common.{rules, take}
-use Rattle.tsb_field_display.specs.declared.error.ReplayError.TheVariants.{Memory}
-use Rattle.tsb_field_display.proofs.StreamLemmas.{going_on, read_fault}
+use Rattle.tsb_field_display.proofs.StreamLemmas.{going_on, read_failed, read_wanting}
 use Rattle.tsb_field_display.proofs.stream.Stream.take_read.Goals as goal
 
-pub returns-in_default-feed_all : goal.returns-in_default-feed_all
-returns-in_default-feed_all g c input going = read_fault input _ _ c.args.self.now (take c.in-Ok.count c.read.new.buf) Memory going c.in-Ok.ensures.bytes.0
+pub returns-in-Err : goal.returns-in-Err
+returns-in-Err g c input reads going = read_failed _ _ input _ _ c.args.self.now reads going c.in-Err.ensures.bytes c.in-Err.ensures.blame
+
+pub returns-in_default : goal.returns-in_default
+returns-in_default g c input reads going = read_wanting _ _ input _ _ c.args.self.now reads (take c.in-Ok.count c.read_once.new.room) going c.in-Ok.ensures.bytes.0 c.in-Ok.ensures.well
 
 pub returns : goal.returns
-returns g c input going =
-    going_on input _ _ c.args.self.now c.feed_all.new.self c.in-Ok.count (take c.in-Ok.count c.read.new.buf) going c.in-Ok.ensures.bytes.0
-    c.in-Ok-feed_all.ensures (λ none. c.in-Ok.ensures.bytes.1 none (search rules))
+returns g c input reads going =
+    going_on _ _ input _ _ c.args.self.now c.feed_all.new.self reads c.in-Ok.count (take c.in-Ok.count c.read_once.new.room) going c.in-Ok.ensures.well c.in-Ok.ensures.bytes.0
+    c.in-Ok-feed_all.ensures (search rules) (λ none. c.in-Ok.ensures.bytes.1 none (search rules))

@@ -8,8 +8,8 @@ use Rattle.tsb_live_text.proofs.run.LiveRun.read.Goals as goal
 
 pub returns-in-Skip-clause-done : goal.returns-in-Skip-clause-done
 returns-in-Skip-clause-done g c s stands =
-    does-read (Ok None) s c.args.self.now c.args.line.now c.args.reading.now reads.Skip (g.W.Write.contents c.args.writer.now) (g.W.Write.contents c.args.writer.now) c.args.pending.now.waits c.args.pending.now.waits c.in-Skip.is
-    (does-skip s c.args.self.now c.args.line.now (g.W.Write.contents c.args.writer.now) c.args.pending.now.waits stands)
+    does-read (Ok None) s c.args.self.now c.args.line.now c.args.reading.now reads.Skip (g.W.Write.contents c.args.writer.now.device) (g.W.Write.contents c.args.writer.now.device) c.args.pending.now c.args.pending.now c.in-Skip.is
+    (does-skip s c.args.self.now c.args.line.now (g.W.Write.contents c.args.writer.now.device) c.args.pending.now stands)
 
 pub returns-in-Bad-clause-done : goal.returns-in-Bad-clause-done
 returns-in-Bad-clause-done g c s stands =

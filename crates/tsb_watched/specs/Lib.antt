@@ -1,0 +1,2 @@
+-- what is seen of a reader or a writer
+pub mod Seen
