@@ -67,7 +67,12 @@ fn tell_fault<E: Write>(alloc: Global, errors: &mut Watched<E>, fault: FilterErr
 }
 
 /// Says what was read, as far as it has to be told, and gives the status that the program ends with.
-fn tell_summary<E: Write>(alloc: Global, errors: &mut Watched<E>, manner: Manner, summary: Summary) -> u8
+fn tell_summary<E: Write>(
+    alloc: Global,
+    errors: &mut Watched<E>,
+    manner: Manner,
+    summary: Summary,
+) -> u8
     ensures { TellsSummary manner summary result (seen E.contents errors.old) (seen E.contents errors.new) }
 {
     if is_lost(summary.left_out) {
@@ -77,7 +82,12 @@ fn tell_summary<E: Write>(alloc: Global, errors: &mut Watched<E>, manner: Manner
 }
 
 /// Says what was read, where a header or a row was found, and gives the status that the program ends with.
-fn tell_report<E: Write>(alloc: Global, errors: &mut Watched<E>, manner: Manner, summary: Summary) -> u8
+fn tell_report<E: Write>(
+    alloc: Global,
+    errors: &mut Watched<E>,
+    manner: Manner,
+    summary: Summary,
+) -> u8
     ensures { TellsReport manner summary result (seen E.contents errors.old) (seen E.contents errors.new) }
 {
     match report(alloc, manner, summary) {
