@@ -30,3 +30,8 @@ pub mod TurnStepLemmas
 pub mod TurnLemmas
 pub mod BarrierStepLemmas
 pub mod BarrierLemmas
+pub mod CoordinatedCallLemmas
+pub mod CoordinatedInstantLemmas
+pub mod CoordinatedForceLemmas
+pub mod CoordinatedRunLemmas
+pub mod CoordinatedBarrierLemmas

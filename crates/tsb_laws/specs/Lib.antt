@@ -64,6 +64,8 @@ pub mod OneAnswer
 pub mod SavedRuns
 -- what the events of runs tell
 pub mod Told
+-- that coordinated phases are awaited and other greens forced off, and within which time a coordinated phase is Green again
+pub mod CoordinatedGreens
 -- what the laws of runs, and those of cells and records, say of one run
 pub mod PlayLaws
 pub mod PlayRecords

@@ -11,11 +11,12 @@ use Rattle.tsb_step.specs.tsb_types.Intervals.{is_green, is_yellow}
 use Rattle.tsb_step.specs.tsb_plan.Parts.{is_minus_green_yellow, track_green}
 use Rattle.tsb_step.specs.tsb_plan.Plan.{Plan, red_revert}
 use Rattle.tsb_step.specs.tsb_plan.Parts.{is_minus_green_yellow}
-use Rattle.tsb_step.specs.tsb_plan.Plan.{Plan, side_of, red_revert}
+use Rattle.tsb_step.specs.tsb_plan.Plan.{Plan, is_enabled, side_of, red_revert}
 use Rattle.tsb_step.specs.tsb_heads.Monitoring.{conflict, gives_way}
 use Rattle.tsb_step.specs.tsb_preempt.Service.{has_track}
 use Rattle.tsb_step.specs.tsb_ring.Moves.{is_started}
-use Rattle.tsb_step.specs.tsb_ring.Rings.{Ring}
+use Rattle.tsb_step.specs.tsb_rules.Consistent.{IsPhase}
+use Rattle.tsb_step.specs.tsb_ring.Rings.{Ring, other, in_ring}
 use Rattle.tsb_step.specs.declared.inputs.Input.{Input}
 use Rattle.tsb_step.specs.declared.inputs.Input.TheVariants.{Tick}
 use Rattle.tsb_step.specs.ClearanceLaws.{EndsNow, ClearsInTime, IsForcedOff, IsOverAtZero}
@@ -24,7 +25,7 @@ use Rattle.tsb_step.specs.Runs.{replay}
 use Rattle.tsb_step.specs.Signs.{display, field, IsSafe}
 use Rattle.tsb_step.specs.State.{State, interval}
 use Rattle.tsb_step.specs.Step.{step, verdict}
-use Rattle.tsb_step.specs.Tick.{service, must_end, hold, forced, omitted, ready, moves}
+use Rattle.tsb_step.specs.Tick.{service, must_end, runs, hold, forced, omitted, conflict as has_conflict, ready, moves}
 use Rattle.tsb_step.specs.TimeLaws.{held_for, is_tick, is_yellow_head, EndsInTime, HasHeld, IsSided, Rests, TellsTime}
 use Rattle.tsb_step.specs.WaitLaws.{IsKeptNext}
 use Rattle.tsb_laws.specs.AllRed.{HasBeenRed, HasBeenWanted}
@@ -47,6 +48,7 @@ use Rattle.tsb_laws.specs.Stretches.{IsUntripped, has_held_since, largest, EndsG
 use Rattle.tsb_laws.specs.ServedCalls.{HasBeenPressed, IsDoneWithin, IsFullyConcurrent, HasWaited, TurnsTakeAtMost, IsToCome, time_to_come, is_outside, time_to_cross}
 use Rattle.tsb_laws.specs.UnwantedGreens.{WaitsFor}
 use Rattle.tsb_laws.specs.WantedStarts.{MayStart, IsKeptBy}
+use Rattle.tsb_laws.specs.CoordinatedGreens.{HasGoneOn, IsAwaited, ComesInCycle, is_pressed_in_pattern, IsForcedWithin, KeepsAtBarrier}
 
 -- ## Of a state, and of the next input
 
@@ -240,6 +242,29 @@ BeginsCrossings plan is = (base later : List Input) (q k h : ℕ) → is ≡ lat
     side_of (replay plan base).plan q ≢ (replay plan base).rings.side → HasWaited plan q base later →
     has_held_since is_outside plan base later ≡ true → (replay plan is).now ≤ (replay plan base).now + time_to_cross (replay plan base) k h
 
+-- a green that has had a conflict for so long in a pattern, and is forced off, is ready in the next tick
+abbrev pub ForcesGreensOff : Plan → List Input → Type 0
+ForcesGreensOff plan is = (base later : List Input) (row : Row) (p n : ℕ) → is ≡ later ++ base → IsUntripped plan base later →
+    HasGoneOn (is_pressed_in_pattern p) plan base (Tick row ∷ later) → IsForcedWithin (replay plan base) p n →
+    (replay plan base).now + n ≤ (replay plan is).now → ready (replay plan is) row p ≡ true
+
+-- ## Of the pattern that runs, and of greens that may end
+
+-- each of its coordinated phases that is not Green is called
+abbrev pub AwaitsCoordinated : State → Type 0
+AwaitsCoordinated s = (row : Row) (c : ℕ) → IsPhase s.plan c → hold s c ≡ true → is_green (interval s c) ≡ false → IsAwaited s row c
+
+-- and each enabled phase has its force-off instant within a cycle
+abbrev pub HasInstants : State → Type 0
+HasInstants s = (k p : ℕ) → runs s ≡ Some k → is_enabled s.plan p ≡ true → ComesInCycle s k p
+
+-- a green that is ready and has a conflict ends by the next tick, or the other ring keeps it at the barrier
+abbrev pub MakesWay : Plan → List Input → Type 0
+MakesWay plan is = (row : Row) (r : Ring) (p : ℕ) → service (replay plan is) row ≡ None → IsFullyConcurrent (replay plan is).plan →
+    in_ring (replay plan is).plan r p ≡ true → interval (replay plan is) p ≡ Green → ready (replay plan is) row p ≡ true →
+    has_conflict (replay plan is) row p ≡ true →
+    (interval (replay plan (Tick row ∷ is)) p ≢ Green) ⊎ KeepsAtBarrier (replay plan is) row (other r)
+
 -- ## All laws of runs, each by the name of its function
 
 -- of the state s after the inputs `is` from power-up with `plan`
@@ -303,3 +328,7 @@ pub record KeepsLaws (plan : Plan) (is : List Input) (s : State) : Type 0 where
   pub pressed_greens_may_end : ReadiesPressedGreens plan is
   pub called_phases_come : BringsCalledPhases plan is
   pub crossings_begin : BeginsCrossings plan is
+  pub coordination_goes_on_awaited : AwaitsCoordinated s
+  pub coordination_goes_on_instants : HasInstants s
+  pub coordination_goes_on_forced : ForcesGreensOff plan is
+  pub coordination_goes_on_ends : Untripped MakesWay plan is

@@ -11,6 +11,7 @@ ghost use Rattle.tsb_laws.specs.RunningMaximum.{MaximumsAreBounded, MaximumsMove
 ghost use Rattle.tsb_laws.specs.UnwantedGreens.{UnwantedGreensEnd};
 ghost use Rattle.tsb_laws.specs.WantedStarts.{WantedPhasesStart};
 ghost use Rattle.tsb_laws.specs.ServedCalls.{PressedGreensMayEnd, CalledPhasesCome, CrossingsBegin};
+ghost use Rattle.tsb_laws.specs.CoordinatedGreens.{CoordinatedAreAwaited, ForceOffsCome, ForcedGreensMayEnd, ReadyGreensMakeWay};
 
 /// `remembered`: What calls is remembered, or served at once. An output that calls an enabled, locking phase which was
 /// not Green is in vehicle memory after the tick, or the phase turns Green in it; a button that calls an enabled phase
@@ -227,4 +228,45 @@ pub fn called_phases_come()
 /// Witness: `a_barrier` of ServedRuns.
 pub fn crossings_begin()
     ensures { CrossingsBegin }
+{}
+
+/// `awaited`: A coordinated phase is called whenever it is not Green. While a pattern runs each of its coordinated phases
+/// is callable in every tick in which it is not Green, also where nothing else calls it. So each green that is not
+/// concurrent with it has a conflict.
+///
+/// Not said: when it turns Green (`CoordinatedPhasesReturn`, which is stated and not proved).
+/// Mistake: a pattern that gives its coordinated phases no recall, `by_itself` (`would_not_be_called`).
+/// Witness: `an_awaited` of CoordinatedRuns.
+///
+/// `instants`: A force-off comes in each cycle. While a pattern runs the local counter is at the force-off instant of each
+/// enabled phase within a cycle, if plan and pattern stay as they are.
+///
+/// Mistake: an instant that is not taken within the cycle, `past_the_cycle` (`would_never_come`).
+/// Witness: `a_pattern` of CoordinatedRuns.
+///
+/// `forced`: A green that is forced off may end, whatever calls it. Where it has a conflict in each tick, and its force-off
+/// instant has come, it is ready as soon as its initial time, its walk and its pedestrian clearance have passed. That is so
+/// of coordinated phases and all others, also where a green began behind its instant and waited for the next one.
+///
+/// Needs: a pattern that runs, and no preempt in service; no pattern selected and nothing committed meanwhile; an untripped
+/// run; at most 16 phases.
+/// Not said: that it ends then, as it may wait for the other ring at the barrier.
+/// Mistake: a force-off that counts in the tick of its instant alone (`is_ready`, `would_not_be`).
+/// Witness: `a_forced_green` of CoordinatedRuns.
+///
+/// `ends`: A green that may end makes way for what waits, or the other ring keeps it at the barrier. With no preempt in
+/// service, a green that is ready and has a conflict ends in the tick. Otherwise the other ring is committed, a green of
+/// it is not ready, or a phase of it on this side is called. So it is in a pattern and in free operation.
+///
+/// Needs: a plan in which all phases of one side and of different rings are concurrent; an untripped run; at most 16
+/// phases.
+/// Not said: for how long the other ring keeps it.
+/// Mistake: a ring that looks across the barrier for its own phases alone, `by_own_ring` (`may_end_2`, `has_conflict_2`,
+/// `would_rest`).
+/// Witness: `a_ready_green` of CoordinatedRuns.
+pub fn coordination_goes_on()
+    ensures awaited { CoordinatedAreAwaited }
+    ensures instants { ForceOffsCome }
+    ensures forced { ForcedGreensMayEnd }
+    ensures ends { ReadyGreensMakeWay }
 {}

@@ -10,3 +10,4 @@ pub mod UnwantedGreenRuns
 pub mod WantedPhaseRuns
 pub mod PreemptStageRuns
 pub mod ServedRuns
+pub mod CoordinatedRuns

@@ -67,7 +67,7 @@ module _ (plan : Plan) (given : Given) (p : ℕ) (w : Phase) (ends : ended_by gi
       go false = refl
 
   -- what a tick makes of the pedestrians, and how long they take then
-  walks_down : (a b : ℕ) → walk plan p ≤ a → pedestrian_clear plan p ≤ b → (t : Timer) → w.pedestrian_timer ≡ advanced t →
+  pub walks_down : (a b : ℕ) → walk plan p ≤ a → pedestrian_clear plan p ≤ b → (t : Timer) → w.pedestrian_timer ≡ advanced t →
       (w.pedestrian ≡ Walk → Runs t) → (w.pedestrian ≡ PedestrianClear → Runs t) →
       walking_in a b (pedestrian_timer_in w.pedestrian (pedestrian_now plan given p w) w.pedestrian_timer) (pedestrian_now plan given p w)
       ≤ walking_in a b t w.pedestrian - 1
@@ -112,7 +112,7 @@ module _ (plan : Plan) (given : Given) (p : ℕ) (w : Phase) (ends : ended_by gi
       go PedestrianClear e = rw e (in_clear e (clearance_has_ended plan given p w) refl)
 
   -- where none is left, the pedestrians are in DontWalk now
-  walks_no_more : (a b : ℕ) → walk plan p ≤ a → pedestrian_clear plan p ≤ b → (t : Timer) → w.pedestrian_timer ≡ advanced t →
+  pub walks_no_more : (a b : ℕ) → walk plan p ≤ a → pedestrian_clear plan p ≤ b → (t : Timer) → w.pedestrian_timer ≡ advanced t →
       (w.pedestrian ≡ Walk → Runs t) → (w.pedestrian ≡ PedestrianClear → Runs t) → walking_in a b t w.pedestrian ≡ 0 →
       pedestrian_now plan given p w ≡ DontWalk
   unfolding pedestrian_now

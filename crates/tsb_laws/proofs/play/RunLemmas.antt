@@ -40,6 +40,10 @@ use Rattle.tsb_laws.proofs.operation.StageServiceLemmas.{dwells_reached}
 use Rattle.tsb_laws.proofs.operation.TurnLemmas.{comes_in_time}
 use Rattle.tsb_laws.proofs.operation.UnwantedGreenLemmas.{waits_or_ends}
 use Rattle.tsb_laws.proofs.operation.WantedPhaseLemmas.{wanted_starts}
+use Rattle.tsb_laws.proofs.operation.CoordinatedCallLemmas.{awaited}
+use Rattle.tsb_laws.proofs.operation.CoordinatedInstantLemmas.{instants_come}
+use Rattle.tsb_laws.proofs.operation.CoordinatedRunLemmas.{forced_may_end}
+use Rattle.tsb_laws.proofs.operation.CoordinatedBarrierLemmas.{makes_way_or_kept}
 use Rattle.tsb_laws.proofs.safety.AllRedLemmas.{all_red_ends}
 use Rattle.tsb_laws.proofs.safety.CoordinationLemmas.{ends_by_force_off, omits_hold}
 use Rattle.tsb_laws.proofs.safety.CrossingLemmas.{completes_in_time}
@@ -118,6 +122,12 @@ module _ (plan : Plan) (held : IsHeld plan) where
         rw e (comes_in_time plan base later r q k h ok (few plan held) (rw e at taken) dark full takes due waited);
     crossings_begin = λ base later q k h e dark full takes apart waited out.
         rw e (begins_in_time plan base later q k h ok (few plan held) (rw e at taken) dark full takes apart waited out);
+    coordination_goes_on_awaited = λ row c phase held dark. awaited plan is row c ok taken phase held dark;
+    coordination_goes_on_instants = λ k p running on. instants_come plan is k p ok taken running on;
+    coordination_goes_on_forced = λ base later row p n e dark pressed most long.
+        rw e (forced_may_end plan base later row p n ok (few plan held) (rw e at taken) dark pressed most (rw e at long));
+    coordination_goes_on_ends = λ dark row r p quiet full own green fit pressed.
+        makes_way_or_kept plan is row r p ok (few plan held) taken dark quiet full own green fit pressed;
   }
     where
       ok : IsConsistent plan

@@ -142,7 +142,7 @@ goes_with_all : (list_all (λ p. list_all (λ q. not (may_be_concurrent quad p q
 unfolding opened
 goes_with_all = refl
 
-all_at : (test : ℕ → Bool) (ps : List ℕ) (p : ℕ) → list_all test ps ≡ true → among p ps ≡ true → test p ≡ true
+pub all_at : (test : ℕ → Bool) (ps : List ℕ) (p : ℕ) → list_all test ps ≡ true → among p ps ≡ true → test p ≡ true
 all_at test [] p all there = absurd (false≢true there)
 all_at test (x ∷ xs) p all there =
     let both = and_parts (test x) (list_all test xs) all in
@@ -151,7 +151,7 @@ all_at test (x ∷ xs) p all there =
       | inr k ↦ all_at test xs p both.1 k
     ]
 
-across : (r : Ring) (a b : ℕ) → (a == rings.number r) ≡ true → (b == rings.number (other r)) ≡ true → (a == b) ≡ false
+pub across : (r : Ring) (a b : ℕ) → (a == rings.number r) ≡ true → (b == rings.number (other r)) ≡ true → (a == b) ≡ false
 across Ring1 a b h k = (let one : a ≡ 1 = eqb-true a 1 h in let two : b ≡ 2 = eqb-true b 2 k in rw (one, two) refl)
 across Ring2 a b h k = (let two : a ≡ 2 = eqb-true a 2 h in let one : b ≡ 1 = eqb-true b 1 k in rw (two, one) refl)
 
