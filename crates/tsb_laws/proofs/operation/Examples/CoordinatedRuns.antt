@@ -199,8 +199,8 @@ goes_together r p q own_p own_q on_p on_q side =
     rw (on_q, across r (ring_of prompt p) (ring_of prompt q) own_p own_q) (eq-eqb (side_of prompt p) (side_of prompt q) side) in
     elim (or_cases (not (may_be_concurrent prompt p q)) (is_concurrent prompt p q)
     (all_at (λ y. not (may_be_concurrent prompt p y) || is_concurrent prompt p y) (phases prompt) q row_p there_q)) [
-      | inl no ↦ absurd (false≢true (sym (ap not may) ∙ no))
-      | inr yes ↦ yes
+      | inl h ↦ absurd (false≢true (sym (ap not may) ∙ h))
+      | inr h ↦ h
     ]
 
 plan_is : (replay prompt started).plan ≡ prompt
