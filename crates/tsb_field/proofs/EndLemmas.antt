@@ -23,7 +23,8 @@ use Rattle.tsb_field_events.specs.Texts.{IsLog}
 use Rattle.tsb_field_streams.specs.declared.error.FilterError.{FilterError}
 use Rattle.tsb_field_streams.specs.declared.error.FilterError.TheVariants as filters
 use Rattle.tsb_field_streams.specs.FaultLines.{filter_fault}
-use Rattle.tsb_field.specs.Lines.{Refuses, TellsFault}
+use Rattle.tsb_field.specs.Lines.{Refuses}
+use Rattle.tsb_field.specs.LogEnds.{TellsFault}
 use Rattle.tsb_field.specs.Ends.{IsEvents, LogNamed, NoRun, NotDrawn, Pictured, Recorded, Stops, TellsNoLog, TellsNoPlan, failure_by}
 
 -- there is no log

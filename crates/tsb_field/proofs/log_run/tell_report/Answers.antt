@@ -1,5 +1,5 @@
 use Rattle.std.proofs.Common.{◌∙◌, List, ℕ, inl, subst}
-use Rattle.tsb_lines.specs.Writes.{AppendsFront}
+use Rattle.tsb_program.specs.tsb_watched.Seen.{Tells, seen}
 use Rattle.tsb_field.proofs.log_run.tell_report.Goals as goal
 
 pub returns-in-Ok : goal.returns-in-Ok
@@ -7,5 +7,5 @@ returns-in-Ok g c = inl (
   c.in-Ok.text.items,
   c.in-Ok.ensures,
   c.tell.ensures.status ∙ c.status_of.ensures,
-  subst (λ (line : List ℕ). AppendsFront (g.E.Write.contents c.args.errors.now) (g.E.Write.contents c.tell.new.errors) line) c.deref.ensures.value c.tell.ensures.line,
+  subst (λ (line : List ℕ). Tells (seen g.E.Write.contents c.args.errors.now) (seen g.E.Write.contents c.tell.new.errors) line) c.deref.ensures.value c.tell.ensures.line,
 )

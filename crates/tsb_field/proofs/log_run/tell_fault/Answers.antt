@@ -1,7 +1,7 @@
 use Rattle.std.proofs.Common.{◌∙◌, List, ℕ, inl, subst}
 use Rattle.tsb_program.specs.tsb_watched.Seen.{Tells, seen}
 use Rattle.tsb_field.proofs.EndLemmas.{told-fault}
-use Rattle.tsb_field.proofs.end.tell_fault.Goals as goal
+use Rattle.tsb_field.proofs.log_run.tell_fault.Goals as goal
 
 pub returns-in-Ok : goal.returns-in-Ok
 returns-in-Ok g c =
