@@ -1,6 +1,7 @@
 pub mod StretchLemmas
 pub mod IntergreenLemmas
 pub mod WalkLemmas
+pub mod FreshStartLemmas
 pub mod RevertLemmas
 pub mod ChoiceLemmas
 pub mod EnabledLemmas

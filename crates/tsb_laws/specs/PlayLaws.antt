@@ -42,7 +42,7 @@ use Rattle.tsb_laws.specs.PreemptDwells.{BeginsService, is_served}
 use Rattle.tsb_laws.specs.PreemptEntries.{EntersByPreempt}
 use Rattle.tsb_laws.specs.PreemptStages.{is_in_stage, StageTakesAtMost, time_to_stage, ReachesWithin, time_to_dwell, ReachesDwell}
 use Rattle.tsb_laws.specs.PreemptTurns.{GivesWay, EndsFrom}
-use Rattle.tsb_laws.specs.RedReverts.{StartsAgain, HasReverted, RevertsAtOnce}
+use Rattle.tsb_laws.specs.RedReverts.{StartsAgain, HasReverted}
 use Rattle.tsb_laws.specs.RunningMaximum.{maximum_of, IsBounded, MovesByAStep}
 use Rattle.tsb_laws.specs.Stretches.{IsUntripped, has_held_since, largest, EndsGreen}
 use Rattle.tsb_laws.specs.ServedCalls.{HasBeenPressed, IsDoneWithin, IsFullyConcurrent, HasWaited, TurnsTakeAtMost, IsToCome, time_to_come, is_outside, time_to_cross}
@@ -169,7 +169,7 @@ ClearsWalks plan is = (older later : List Input) (row next : Row) (p q : ℕ) �
 -- between a yellow and the next tick, if that starts its phase again, lies the red revert
 abbrev pub KeepsRedReverts : Plan → List Input → Type 0
 KeepsRedReverts plan is = (base later : List Input) (row : Row) (p : ℕ) → is ≡ later ++ base → StartsAgain plan base later row p →
-    HasReverted plan base later row p ⊎ RevertsAtOnce plan base later p
+    HasReverted plan base later row p
 
 -- a commitment that was made as a green ended is served in time
 abbrev pub ServesCommitments : Plan → List Input → Type 0

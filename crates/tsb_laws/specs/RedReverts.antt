@@ -1,6 +1,6 @@
 -- Red revert: what lies between the yellow of a phase and the next tick that starts it. The law here is the contract of a
 -- function in src/safety.rt, and proved there. Times are in tenths of a second, which are ticks.
-use Rattle.std.specs.Prelude.{◌≡◌, ℕ, ◌+◌, ◌≤◌, Bool, true, not, ◌||◌, List, ◌∷◌, ◌++◌, ◌⊎◌}
+use Rattle.std.specs.Prelude.{◌≡◌, ℕ, ◌+◌, ◌≤◌, Bool, true, not, ◌||◌, List, ◌∷◌, ◌++◌}
 use Rattle.tsb_step.specs.tsb_types.declared.interval.Interval.TheVariants.{Yellow}
 use Rattle.tsb_step.specs.tsb_types.declared.row.Row.{Row}
 use Rattle.tsb_step.specs.tsb_plan.Plan.{Plan, is_enabled, red_revert}
@@ -38,13 +38,8 @@ pub record HasReverted (plan : Plan) (base later : List Input) (row : Row) (p : 
   pub waited : (replay plan (Tick last ∷ (older ++ base))).now + red_revert (replay plan (later ++ base)).plan p
       ≤ (replay plan (Tick row ∷ (later ++ base))).now
 
--- Or its yellow ends in the very tick that starts it, and its red revert is 0.
-pub record RevertsAtOnce (plan : Plan) (base later : List Input) (p : ℕ) : Type 0 where
-  pub is_yellow : interval (replay plan (later ++ base)) p ≡ Yellow
-  pub no_wait : red_revert (replay plan (later ++ base)).plan p ≡ 0
-
--- So it is of every start after a yellow, across inputs of every kind.
+-- So it is of every start after a yellow, across inputs of every kind. No phase starts in the very tick that ends its yellow.
 abbrev pub RedRevertsHold : Type 0
 RedRevertsHold = (plan : Plan) (base later : List Input) (row : Row) (p : ℕ) → IsConsistent plan →
     AreTaken plan (later ++ base) → StartsAgain plan base later row p →
-    HasReverted plan base later row p ⊎ RevertsAtOnce plan base later p
+    HasReverted plan base later row p

@@ -29,7 +29,7 @@ pub fn intergreens_hold()
 
 /// The red revert holds. Between the tick that ends the yellow of a phase and the next one that starts it there is at
 /// least its red revert, the larger of its own and the unit's by the plan in effect at the start. From the end of that
-/// yellow its head is red, or it is not enabled. If one tick ends the yellow and starts the phase, its red revert is 0.
+/// yellow its head is red, or it is not enabled. No tick ends the yellow of a phase and starts the phase as well.
 ///
 /// Needs: that the phase was Yellow, and an untripped stretch since then.
 /// Mistake: a timer that never starts, `never_reverts` (`waits_2`, `is_too_early`, `would_start_2`).

@@ -20,13 +20,13 @@ use Rattle.tsb_step.specs.Step.{step}
 use Rattle.tsb_step.specs.Runs.{replay, AreTaken}
 use Rattle.tsb_step.specs.Laws.{IsConsistent}
 use Rattle.tsb_step.specs.TimeLaws.{is_tick, is_reset}
-use Rattle.tsb_step.proofs.ClearLemmas.{phases_then, one_later, started_was_over}
-use Rattle.tsb_step.proofs.GoodLemmas.{good_run}
+use Rattle.tsb_step.proofs.ClearLemmas.{phases_then, one_later}
 use Rattle.tsb_step.proofs.LeaveLemmas.{others_leave}
 use Rattle.tsb_step.proofs.TimerLemmas.{is_shown}
 use Rattle.tsb_step.proofs.WaitedLemmas.{cleared_was_over, started_has_reverted}
 use Rattle.tsb_laws.specs.Stretches.{IsUntripped, has_held_since}
-use Rattle.tsb_laws.specs.RedReverts.{StartsAgain, is_red_or_off, HasReverted, RevertsAtOnce}
+use Rattle.tsb_laws.specs.RedReverts.{StartsAgain, is_red_or_off, HasReverted}
+use Rattle.tsb_laws.proofs.safety.FreshStartLemmas.{fresh_start}
 use Rattle.tsb_laws.proofs.safety.IntergreenLemmas.{over_in_yellow, started_now}
 use Rattle.tsb_laws.proofs.safety.StretchLemmas.{dark_now, since_on, Goes, ticks, stays, goes}
 
@@ -207,11 +207,6 @@ module _ (plan : Plan) (base : List Input) (p : ℕ) (ok : IsConsistent plan) wh
 
 -- ## The start
 
--- where the yellow ends in this very tick, no time has passed
-passed_at_once : (s : State) (p : ℕ) → yellow_is_done s.plan p (phase_read s p) ≡ true → reverted s p ≡ true → red_revert s.plan p ≤ 0
-unfolding red_revert_passed
-passed_at_once s p done h = leb-true (red_revert s.plan p) 0 (rw done at h)
-
 passed_by : (s : State) (p n : ℕ) → is_shown (interval s p) ≡ false → (s.phases p).red_revert ≡ On n → reverted s p ≡ true →
     red_revert s.plan p ≤ n + 1
 unfolding red_revert_passed
@@ -224,7 +219,7 @@ passed_by s p n out e h = go (interval s p) refl
     go Yellow k = absurd (true≢false (sym (ap is_shown k) ∙ out))
 
 pub reverts_hold : (plan : Plan) (base later : List Input) (row : Row) (p : ℕ) → IsConsistent plan → AreTaken plan (later ++ base) →
-    StartsAgain plan base later row p → HasReverted plan base later row p ⊎ RevertsAtOnce plan base later p
+    StartsAgain plan base later row p → HasReverted plan base later row p
 reverts_hold plan base later row p ok taken x = go (course plan base p ok later x.untripped x.was_yellow)
   where
     starts : is_started (moves (replay plan (later ++ base)) row) p ≡ true
@@ -233,28 +228,24 @@ reverts_hold plan base later row p ok taken x = go (course plan base p ok later 
     passes : reverted (replay plan (later ++ base)) p ≡ true
     passes = started_has_reverted (replay plan (later ++ base)) row p starts
 
-    at_once : interval (replay plan (later ++ base)) p ≡ Yellow → RevertsAtOnce plan base later p
-    at_once e =
-        let is_over : over (replay plan (later ++ base)) p ≡ true =
-        started_was_over (replay plan (later ++ base)) row p (good_run plan (later ++ base) ok taken) (ap in_service e) starts in
-        let none : red_revert (replay plan (later ++ base)).plan p ≤ 0 =
-        passed_at_once (replay plan (later ++ base)) p (yellow_done (replay plan (later ++ base)) p e is_over) passes in
-        record { is_yellow = e; no_wait = omega (arith, none) }
+    -- it was out of service before that tick
+    fresh : in_service (interval (replay plan (later ++ base)) p) ≡ false
+    fresh = fresh_start plan (later ++ base) row p ok taken starts
 
-    lit : (i : Interval) → interval (replay plan (later ++ base)) p ≡ i → is_shown (interval (replay plan (later ++ base)) p) ≡ true → RevertsAtOnce plan base later p
-    lit Yellow e h = at_once e
-    lit Green e h = absurd (x.started.was_not e)
-    lit Red e h = absurd (true≢false (sym h ∙ ap is_shown e))
-    lit RedClear e h = absurd (true≢false (sym h ∙ ap is_shown e))
+    was_out : (i : Interval) → interval (replay plan (later ++ base)) p ≡ i → is_shown (interval (replay plan (later ++ base)) p) ≡ false
+    was_out Yellow e = absurd (false≢true (sym fresh ∙ ap in_service e))
+    was_out Green e = absurd (false≢true (sym fresh ∙ ap in_service e))
+    was_out Red e = ap is_shown e
+    was_out RedClear e = ap is_shown e
 
-    go : Course plan base later p → HasReverted plan base later row p ⊎ RevertsAtOnce plan base later p
-    go (inl h) = inr (lit (interval (replay plan (later ++ base)) p) refl h)
+    go : Course plan base later p → HasReverted plan base later row p
+    go (inl h) = absurd (false≢true (sym (was_out (interval (replay plan (later ++ base)) p) refl) ∙ h))
     go (inr y) =
         let wait : red_revert (replay plan (later ++ base)).plan p ≤ y.count + 1 =
         passed_by (replay plan (later ++ base)) p y.count y.out y.timer passes in
         let before : (replay plan (later ++ base)).now ≡ (replay plan (Tick y.last ∷ (y.older ++ base))).now + y.count = y.clock in
         let clock : (replay plan (Tick row ∷ (later ++ base))).now ≡ (replay plan (later ++ base)).now + 1 = one_later (replay plan (later ++ base)) row in
-        inl (record {
+        record {
           older = y.older;
           last = y.last;
           newer = y.newer;
@@ -262,4 +253,4 @@ reverts_hold plan base later row p ok taken x = go (course plan base p ok later 
           was_yellow = y.was_yellow;
           red_since = y.red_since;
           waited = omega (arith, wait, before, clock);
-        })
+        }
