@@ -51,7 +51,7 @@ NO_ROW = b"events: no row counts (give --allow-empty where that is right)\n"
 NO_EVENT = b"events: no event of an input from --from on (give --allow-empty where that is right)\n"
 
 # What is told of a text without a header and without a row.
-NOTHING = b"events: no header and no row (do commas part its fields?)\n"
+NOTHING = b"events: no header and no row (do commas, semicolons or tabs part its fields?)\n"
 
 # Forms of times by the words that name them: where a day has its year, its month and its day, and a time in each.
 ORDERS = {"year-first": (0, 1, 2), "month-first": (2, 0, 1), "day-first": (2, 1, 0)}

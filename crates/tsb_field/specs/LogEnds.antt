@@ -33,7 +33,7 @@ TellsReport manner summary status told tells =
 -- a text without a header and a row is refused; of another it is told what was read
 abbrev pub TellsFound : Bool → Manner → Summary → ℕ → Seen → Seen → Type 0
 TellsFound true manner summary status told tells =
-    (status ≡ 1) × Tells told tells (codes "events: no header and no row (do commas part its fields?)\n")
+    (status ≡ 1) × Tells told tells (codes "events: no header and no row (do commas, semicolons or tabs part its fields?)\n")
 TellsFound false manner summary status told tells = TellsReport manner summary status told tells
 
 -- what was read is told

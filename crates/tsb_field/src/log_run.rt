@@ -12,7 +12,8 @@ use tsb_program::{Failure, Status, Watched, fail, tell};
 use tsb_words::field_files::{LogAsked, Manner};
 
 /// What is told of a text of events without a header and without a row.
-const NOTHING: &[u8] = b"events: no header and no row (do commas part its fields?)\n";
+const NOTHING: &[u8] =
+    b"events: no header and no row (do commas, semicolons or tabs part its fields?)\n";
 
 /// Makes a log from a controller's event log, and gives the status that the program ends with.
 pub(crate) fn write_log<R: Read, W: Write, E: Write>(
