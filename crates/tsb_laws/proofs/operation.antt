@@ -30,6 +30,16 @@ pub mod TurnStepLemmas
 pub mod TurnLemmas
 pub mod BarrierStepLemmas
 pub mod BarrierLemmas
+pub mod BarrierWishLemmas
+pub mod SideSumLemmas
+pub mod SideRangeLemmas
+pub mod CrossingTickLemmas
+pub mod PassedListLemmas
+pub mod PassedRingLemmas
+pub mod PassedTickLemmas
+pub mod ServedArrivalLemmas
+pub mod ServedTickLemmas
+pub mod ServedRunLemmas
 pub mod CoordinatedCallLemmas
 pub mod CoordinatedInstantLemmas
 pub mod CoordinatedForceLemmas

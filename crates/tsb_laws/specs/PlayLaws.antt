@@ -45,7 +45,7 @@ use Rattle.tsb_laws.specs.PreemptTurns.{GivesWay, EndsFrom}
 use Rattle.tsb_laws.specs.RedReverts.{StartsAgain, HasReverted}
 use Rattle.tsb_laws.specs.RunningMaximum.{maximum_of, IsBounded, MovesByAStep}
 use Rattle.tsb_laws.specs.Stretches.{IsUntripped, has_held_since, largest, EndsGreen}
-use Rattle.tsb_laws.specs.ServedCalls.{HasBeenPressed, IsDoneWithin, IsFullyConcurrent, HasWaited, TurnsTakeAtMost, IsToCome, time_to_come, is_outside, time_to_cross}
+use Rattle.tsb_laws.specs.ServedCalls.{HasBeenPressed, IsDoneWithin, IsFullyConcurrent, HasWaited, TurnsTakeAtMost, IsToCome, time_to_come, is_outside, time_to_cross, time_to_serve}
 use Rattle.tsb_laws.specs.UnwantedGreens.{WaitsFor}
 use Rattle.tsb_laws.specs.WantedStarts.{MayStart, IsKeptBy}
 use Rattle.tsb_laws.specs.CoordinatedGreens.{HasGoneOn, IsAwaited, ComesInCycle, is_pressed_in_pattern, IsForcedWithin, KeepsAtBarrier}
@@ -242,6 +242,12 @@ BeginsCrossings plan is = (base later : List Input) (q k h : ℕ) → is ≡ lat
     side_of (replay plan base).plan q ≢ (replay plan base).rings.side → HasWaited plan q base later →
     has_held_since is_outside plan base later ≡ true → (replay plan is).now ≤ (replay plan base).now + time_to_cross (replay plan base) k h
 
+-- a called phase has not waited for longer than it may, on whatever side it is
+abbrev pub ServesCalledPhases : Plan → List Input → Type 0
+ServesCalledPhases plan is = (base later : List Input) (r : Ring) (q k h : ℕ) → is ≡ later ++ base → IsUntripped plan base later →
+    IsFullyConcurrent (replay plan base).plan → TurnsTakeAtMost (replay plan base).plan k h → in_ring (replay plan base).plan r q ≡ true →
+    HasWaited plan q base later → (replay plan is).now ≤ (replay plan base).now + time_to_serve (replay plan base).plan r q k h
+
 -- a green that has had a conflict for so long in a pattern, and is forced off, is ready in the next tick
 abbrev pub ForcesGreensOff : Plan → List Input → Type 0
 ForcesGreensOff plan is = (base later : List Input) (row : Row) (p n : ℕ) → is ≡ later ++ base → IsUntripped plan base later →
@@ -328,6 +334,7 @@ pub record KeepsLaws (plan : Plan) (is : List Input) (s : State) : Type 0 where
   pub pressed_greens_may_end : ReadiesPressedGreens plan is
   pub called_phases_come : BringsCalledPhases plan is
   pub crossings_begin : BeginsCrossings plan is
+  pub called_phases_are_served : ServesCalledPhases plan is
   pub coordination_goes_on_awaited : AwaitsCoordinated s
   pub coordination_goes_on_instants : HasInstants s
   pub coordination_goes_on_forced : ForcesGreensOff plan is

@@ -1,6 +1,6 @@
--- Calls are served in time, in free operation and with no preempt in service. The first three laws here are the
--- contracts of functions in src/operation.rt, and proved there; the last is STATED, NOT PROVED, and tested on runs at random by
--- `tools/test_stated_laws.py`. Times are in tenths of a second, which are ticks.
+-- Calls are served in time, in free operation and with no preempt in service. Each law here is the contract of a function in
+-- src/operation.rt, and proved there; `tools/test_stated_laws.py` tests them on runs at random besides. Times are in tenths of
+-- a second, which are ticks.
 --
 -- All but the first are of plans in which all phases of one side and of different rings are concurrent. Where they
 -- are not, a ring can wait for ever for a phase across that its own next phase does not go with.
@@ -172,9 +172,8 @@ time_to_serve plan r q k h =
     2 * all_turns plan k (phases plan) + 2 * (h + 2 * k + 1) + plan.side_count * (3 * k + 3)
     + places plan (side_of plan q) (order plan r) * (turns plan k (side_of plan q) (order plan (other r)) + h + k + 1)
 
--- NOT PROVED: a called phase waits for so long at most, on whatever side it is.
---
--- Without the last product it is FALSE: docs/SAFETY.md has a run.
+-- A called phase waits for so long at most, on whatever side it is: a stretch in which it is called in each tick, and not
+-- Green, is no longer. Without the last product that is FALSE: docs/SAFETY.md has a run.
 abbrev pub CalledPhasesAreServed : Type 0
 CalledPhasesAreServed = (plan : Plan) (base later : List Input) (r : Ring) (q k h : ℕ) → IsConsistent plan → plan.phase_count ≤ 16 →
     AreTaken plan (later ++ base) → IsUntripped plan base later → IsFullyConcurrent (replay plan base).plan →

@@ -10,7 +10,7 @@ ghost use Rattle.tsb_laws.specs.PreemptTurns.{PreemptsGiveWay, ServicesEnd};
 ghost use Rattle.tsb_laws.specs.RunningMaximum.{MaximumsAreBounded, MaximumsMoveByAStep, OthersLeaveMaximums};
 ghost use Rattle.tsb_laws.specs.UnwantedGreens.{UnwantedGreensEnd};
 ghost use Rattle.tsb_laws.specs.WantedStarts.{WantedPhasesStart};
-ghost use Rattle.tsb_laws.specs.ServedCalls.{PressedGreensMayEnd, CalledPhasesCome, CrossingsBegin};
+ghost use Rattle.tsb_laws.specs.ServedCalls.{PressedGreensMayEnd, CalledPhasesCome, CrossingsBegin, CalledPhasesAreServed};
 ghost use Rattle.tsb_laws.specs.CoordinatedGreens.{CoordinatedAreAwaited, ForceOffsCome, ForcedGreensMayEnd, ReadyGreensMakeWay};
 
 /// `remembered`: What calls is remembered, or served at once. An output that calls an enabled, locking phase which was
@@ -207,7 +207,7 @@ pub fn pressed_greens_may_end()
 ///
 /// Needs: a plan in which all phases of one side and of different rings are concurrent; a call that stays, and no commit;
 /// an untripped run; at most 16 phases.
-/// Not said: that a phase of another side is served, or one that its ring has passed; that is stated and tested.
+/// Not said: that a phase of another side is served, or one that its ring has passed (`called_phases_are_served`).
 /// Mistake: a ring that crosses the barrier as soon as another side is called, `crosses_first` (`goes_to_2`,
 /// `would_cross`).
 /// Witness: `a_turn` of ServedRuns.
@@ -228,6 +228,21 @@ pub fn called_phases_come()
 /// Witness: `a_barrier` of ServedRuns.
 pub fn crossings_begin()
     ensures { CrossingsBegin }
+{}
+
+/// A called phase is served in time. In free operation and with no preempt in service, a phase that stays called is
+/// Green within a time that the plan gives (`time_to_serve`), on whatever side it is, and wherever the rings have come.
+/// That time is twice the turns of all phases, what both rings have begun, and a crossing for each side; and for each
+/// phase of its ring on its side all turns of the other ring there. A preempt may have left the rings as it likes.
+///
+/// Needs: a plan in which all phases of one side and of different rings are concurrent; a call that stays, and no commit;
+/// an untripped run; at most 16 phases.
+/// Not said: that its walk begins; anything while a pattern runs or a preempt is in service.
+/// Mistake: a crossing that goes to the lowest side that is called, `lowest_side` (`goes_to_side_3`,
+/// `would_go_to_side_1`).
+/// Witness: `a_service` of ServedRuns.
+pub fn called_phases_are_served()
+    ensures { CalledPhasesAreServed }
 {}
 
 /// `awaited`: A coordinated phase is called whenever it is not Green. While a pattern runs each of its coordinated phases

@@ -47,7 +47,7 @@ use Rattle.tsb_laws.proofs.operation.BarrierStepLemmas.{Remains, bound_for, clea
 
 -- ## An input that leaves plan, rings and phases
 
-remains_stays : (k : ℕ) (s after : State) (r : Ring) (n : ℕ) → IsKeptBy s after → Remains k s r n → Remains k after r n
+pub remains_stays : (k : ℕ) (s after : State) (r : Ring) (n : ℕ) → IsKeptBy s after → Remains k s r n → Remains k after r n
 remains_stays k s after r n same (bound_for it) = bound_for (left_stays k s after r same n it)
 remains_stays k s after r n same (clearing_out p m e own serves dark clears reverts all) =
     clearing_out p m (promise_same k s after r same None e) (own_after k s after r same p own) (ap in_service (interval_same k s after r same p) ∙ serves)
@@ -124,7 +124,7 @@ module _ (s : State) (r : Ring) (k h : ℕ) (good : IsGood s) (calm : IsCalm s.p
           let both = and_parts (in_ring s.plan r p) (in_service (interval s p)) (first-passes test (phases s.plan) p f) in
           by_interval p e both.0 both.1 (is_green (interval s p)) refl
 
-  remains_now : Remains k s r most
+  pub remains_now : Remains k s r most
   remains_now = go (s.rings.commitment r) refl
     where
       go : (o : Option ℕ) → s.rings.commitment r ≡ o → Remains k s r most

@@ -10,7 +10,7 @@ use Rattle.tsb_laws.specs.ServedCalls.{turn, turns}
 -- ## Lists without repeats
 
 -- the head of a list is not in its tail
-head_once : (x : ℕ) (xs : List ℕ) → x ≢ 0 → lists_once (x ∷ xs) ≡ true → among x xs ≡ false
+pub head_once : (x : ℕ) (xs : List ℕ) → x ≢ 0 → lists_once (x ∷ xs) ≡ true → among x xs ≡ false
 head_once x xs some h = go (x == 0) (among x xs) refl refl (and_parts (x == 0 || not (among x xs)) (lists_once xs) h).0
   where
     go : (z a : Bool) → (x == 0) ≡ z → among x xs ≡ a → (z || not a) ≡ true → among x xs ≡ false
@@ -18,7 +18,7 @@ head_once x xs some h = go (x == 0) (among x xs) refl refl (and_parts (x == 0 ||
     go false true k l m = absurd (false≢true m)
     go false false k l m = l
 
-tail_once : (x : ℕ) (xs : List ℕ) → lists_once (x ∷ xs) ≡ true → lists_once xs ≡ true
+pub tail_once : (x : ℕ) (xs : List ℕ) → lists_once (x ∷ xs) ≡ true → lists_once xs ≡ true
 tail_once x xs h = (and_parts (x == 0 || not (among x xs)) (lists_once xs) h).1
 
 -- what is in the tail is not the head
@@ -34,7 +34,7 @@ not_head y x xs some h k = go (y == x) refl
 after_tail : (y x : ℕ) (xs : List ℕ) → (y == x) ≡ false → after x (y ∷ xs) ≡ after x xs
 after_tail y x xs e = rw e refl
 
-among_tail : (y x : ℕ) (xs : List ℕ) → among x xs ≡ true → among x (y ∷ xs) ≡ true
+pub among_tail : (y x : ℕ) (xs : List ℕ) → among x xs ≡ true → among x (y ∷ xs) ≡ true
 among_tail y x xs h = go (y == x)
   where
     go : (b : Bool) → (b || among x xs) ≡ true

@@ -35,6 +35,7 @@ use Rattle.tsb_laws.proofs.operation.PreemptEntryLemmas.{lets_in_its_own}
 use Rattle.tsb_laws.proofs.operation.PreemptTurnLemmas.{gives_way, ends_from}
 use Rattle.tsb_laws.proofs.operation.PressedRunLemmas.{pressed_may_end}
 use Rattle.tsb_laws.proofs.operation.RunningMaximumLemmas.{bounded, moves_by_a_step, others_leave_it}
+use Rattle.tsb_laws.proofs.operation.ServedRunLemmas.{served_in_time}
 use Rattle.tsb_laws.proofs.operation.StageRunLemmas.{stages_reached, exits_end}
 use Rattle.tsb_laws.proofs.operation.StageServiceLemmas.{dwells_reached}
 use Rattle.tsb_laws.proofs.operation.TurnLemmas.{comes_in_time}
@@ -122,6 +123,8 @@ module _ (plan : Plan) (held : IsHeld plan) where
         rw e (comes_in_time plan base later r q k h ok (few plan held) (rw e at taken) dark full takes due waited);
     crossings_begin = λ base later q k h e dark full takes apart waited out.
         rw e (begins_in_time plan base later q k h ok (few plan held) (rw e at taken) dark full takes apart waited out);
+    called_phases_are_served = λ base later r q k h e dark full takes own waited.
+        rw e (served_in_time plan base later r q k h ok (few plan held) (rw e at taken) dark full takes own waited);
     coordination_goes_on_awaited = λ row c phase held dark. awaited plan is row c ok taken phase held dark;
     coordination_goes_on_instants = λ k p running on. instants_come plan is k p ok taken running on;
     coordination_goes_on_forced = λ base later row p n e dark pressed most long.

@@ -4,10 +4,10 @@ use Rattle.std.proofs.Common.{◌≡◌, ◌≢◌, ℕ, ◌+◌, ◌≤◌, ◌
 use Rattle.std.specs.List.{list_all}
 use Rattle.std.proofs.lemmas.Bool.{and_parts, or_cases, eqb-true, eq-eqb, false≢true}
 use Rattle.tsb_step.specs.tsb_cells.declared.timer.Timer.TheVariants.{On}
-use Rattle.tsb_step.specs.tsb_types.Lists.{first, among, later, not_later}
+use Rattle.tsb_step.specs.tsb_types.Lists.{first, among, run_from, later, not_later, or_number}
 use Rattle.tsb_step.specs.tsb_types.Sets.{all_off}
 use Rattle.tsb_step.specs.tsb_types.declared.row.Row.{Row}
-use Rattle.tsb_step.specs.tsb_plan.declared.object.Object.TheVariants.{PhaseMinRecall, PhaseMinimumGreen, PhaseMaximum1, PhaseMaximum2, PhaseMaximumInitial, PhaseWalk, PhasePedestrianClear, PhaseYellowChange, PhaseRedClear, PhaseRedRevert, UnitRedRevert, PhaseDynamicMaxLimit, UnitMax2}
+use Rattle.tsb_step.specs.tsb_plan.declared.object.Object.TheVariants.{PhaseEnabled, PhaseRing, PhaseSide, SequenceData, PatternCycleTime, PhaseMinRecall, PhaseMinimumGreen, PhaseMaximum1, PhaseMaximum2, PhaseMaximumInitial, PhaseWalk, PhasePedestrianClear, PhaseYellowChange, PhaseRedClear, PhaseRedRevert, UnitRedRevert, PhaseDynamicMaxLimit, UnitMax2}
 use Rattle.tsb_step.specs.tsb_plan.declared.object.Object.{Object}
 use Rattle.tsb_step.specs.tsb_plan.Objects.{greatest}
 use Rattle.tsb_step.specs.tsb_plan.Plan.{Plan, phases, with_values, is_concurrent, ring_of, side_of, has_variable_initial, minimum_green, maximum_initial, maximum, walk, pedestrian_clear}
@@ -18,6 +18,7 @@ use Rattle.tsb_step.specs.tsb_phase.Phase.{held_of}
 use Rattle.tsb_step.specs.tsb_phase.Green.{is_gapped}
 use Rattle.tsb_step.specs.tsb_ring.declared.want.Want.{Want}
 use Rattle.tsb_step.specs.tsb_ring.declared.want.Want.TheVariants.{Go, Cross, Rest}
+use Rattle.tsb_step.specs.tsb_ring.Crossings.{is_called_on, side_sought}
 use Rattle.tsb_step.specs.tsb_ring.Laws.{IsListed}
 use Rattle.tsb_step.specs.tsb_ring.Rings as rings
 use Rattle.tsb_step.specs.tsb_ring.Rings.{Ring, Ring1, Ring2, other, in_ring}
@@ -291,6 +292,34 @@ a_barrier = record {
   outside = stays_outside;
 }
 
+-- ## A phase of another side that is served: 3 of side 2 is called
+
+ringed_3 : in_ring (replay quad []).plan Ring1 3 ≡ true
+unfolding opened
+ringed_3 = refl
+
+record Service (plan : Plan) (base later : List Input) (r : Ring) (q k h : ℕ) : Type 0 where
+  consistent : IsConsistent plan
+  few : plan.phase_count ≤ 16
+  taken : AreTaken plan (later ++ base)
+  untripped : IsUntripped plan base later
+  full : IsFullyConcurrent (replay plan base).plan
+  takes : TurnsTakeAtMost (replay plan base).plan k h
+  ringed : in_ring (replay plan base).plan r q ≡ true
+  waited : HasWaited plan q base later
+
+a_service : Service quad [] called_3 Ring1 3 510 5100
+a_service = record {
+  consistent = quad_consistent;
+  few = (let count = quad_count in omega (arith, count));
+  taken = call_taken;
+  untripped = (power_up_dark, call_dark);
+  full = goes_together;
+  takes = takes;
+  ringed = ringed_3;
+  waited = (tt, waits_3);
+}
+
 -- ## A green that extends while an output is on
 
 -- 2 has been Green for 250 ticks, all with a conflict, and its detector is on
@@ -349,3 +378,38 @@ goes_round s row =
 would_go_to_1 : goes_round rounded all_off ≡ Go 1
 unfolding opened
 would_go_to_1 = refl
+
+-- ## A crossing that goes to the lowest side that is called
+
+-- phase 9 is on side 3; the patterns are not used
+abbrev third_values : List (Object × ℕ × ℕ)
+third_values =
+    (PhaseEnabled, 9, 1) ∷ (PhaseRing, 9, 1) ∷ (PhaseSide, 9, 3) ∷ (SequenceData, 5, 9) ∷ (PhaseMaximum1, 9, 20) ∷ (PhaseMaximum2, 9, 20) ∷
+    (PhaseYellowChange, 9, 30) ∷ (PatternCycleTime, 1, 0) ∷ (PatternCycleTime, 2, 0) ∷ []
+
+unfoldable third : Plan
+third = with_values quad third_values
+
+third_breaks_none : first_broken third ≡ None
+unfolding opened third
+third_breaks_none = refl
+
+-- 4 and 8 of side 2 are Green, 1 of side 1 and 9 of side 3 are called
+abbrev between : State
+between = record resting {
+  plan = third;
+  phases = these (4 ∷ 8 ∷ []) (green 59) all_red;
+  memories = called (1 ∷ 9 ∷ []);
+  rings = record rings.power_up { last = both (Some 4) (Some 8); side = 2 };
+}
+
+goes_to_side_3 : side_sought third between.rings (rings_given between all_off) None ≡ 3
+unfolding opened third
+goes_to_side_3 = refl
+
+abbrev lowest_side : State → Row → ℕ
+lowest_side s row = or_number (first (is_called_on s.plan (rings_given s row)) (run_from 1 s.plan.side_count)) s.rings.side
+
+would_go_to_side_1 : lowest_side between all_off ≡ 1
+unfolding opened third
+would_go_to_side_1 = refl
