@@ -45,3 +45,13 @@ pub mod CoordinatedInstantLemmas
 pub mod CoordinatedForceLemmas
 pub mod CoordinatedRunLemmas
 pub mod CoordinatedBarrierLemmas
+pub mod RingPlaceLemmas
+pub mod OpenTickLemmas
+pub mod RingStepLemmas
+pub mod PatternSideLemmas
+pub mod HomeEntryLemmas
+pub mod PatternGreenLemmas
+pub mod ReturnStageLemmas
+pub mod ReturnTickLemmas
+pub mod ReturnCrossLemmas
+pub mod ReturnRunLemmas

@@ -1,19 +1,20 @@
--- Coordinated phases are served again, while a pattern runs and no preempt is in service. The laws here are the contract of a
--- function in src/operation.rt, and proved there, but for the last: that is STATED, NOT PROVED, and tested on runs at
+-- Coordinated phases are served again, while a pattern runs and no preempt is in service. The laws here are the contracts of
+-- functions in src/operation.rt, and proved there, but for the last: that is STATED, NOT PROVED, and tested on runs at
 -- random by `tools/test_coordination.py`. Times are in tenths of a second, which are ticks.
 --
 -- Meanwhile no pattern is selected and nothing is committed. A pattern that is selected takes force-offs back, be it the
 -- one that runs; and a commit can move an instant away each time before the local counter comes to it. So over these no
 -- time bounds how long a coordinated phase waits.
-use Rattle.std.specs.Prelude.{◌≡◌, ◌≢◌, ℕ, ◌+◌, ◌*◌, ◌<◌, ◌≤◌, ◌==◌, Bool, true, false, not, ◌&&◌, if◌then◌else◌, max, sum_by, count_by, List, [], ◌∷◌, ◌++◌, Some, None, is_some, is_none, ◌⊎◌}
+use Rattle.std.specs.Prelude.{◌≡◌, ◌≢◌, ℕ, ◌+◌, ◌-◌, ◌*◌, ◌<◌, ◌≤◌, ◌==◌, Bool, true, false, not, ◌&&◌, if◌then◌else◌, max, sum_by, count_by, List, [], ◌∷◌, ◌++◌, Some, None, is_some, is_none, ◌⊎◌}
 use Rattle.tsb_step.specs.tsb_types.declared.row.Row.{Row}
 use Rattle.tsb_step.specs.tsb_types.declared.interval.Interval.TheVariants.{Green}
 use Rattle.tsb_step.specs.tsb_types.Intervals.{is_green}
 use Rattle.tsb_step.specs.tsb_plan.Parts.{cycle}
 use Rattle.tsb_step.specs.tsb_plan.Plan.{Plan, phases, is_enabled, is_concurrent, side_of, walk, pedestrian_clear, yellow_change, red_clear, red_revert}
 use Rattle.tsb_step.specs.tsb_rules.Consistent.{IsPhase}
-use Rattle.tsb_step.specs.tsb_coord.Coordinated.{asks_force_off}
-use Rattle.tsb_step.specs.tsb_ring.Rings.{Ring, other, in_ring}
+use Rattle.tsb_step.specs.tsb_coord.Coordinated.{asks_force_off, serving_order}
+use Rattle.tsb_step.specs.tsb_ring.Rings.{Ring, Ring1, Ring2, other, number, in_ring}
+use Rattle.tsb_step.specs.tsb_ring.Wants.{is_on_side}
 use Rattle.tsb_step.specs.declared.inputs.Input.{Input}
 use Rattle.tsb_step.specs.declared.inputs.Input.TheVariants.{Tick, Pattern, Commit}
 use Rattle.tsb_step.specs.State.{State, interval}
@@ -118,9 +119,89 @@ pub record ClearsWithin (plan : Plan) (j : ℕ) : Type 0 where
   pub clearance : (p : ℕ) → yellow_change plan p + red_clear plan p ≤ j
   pub revert : (p : ℕ) → red_revert plan p ≤ j
 
--- the turn of p in pattern k: until it is forced off and may end, and until what comes after it starts
+-- the longest that p is Green in pattern k once it has a conflict: until it is forced off and may end
+unfoldable pub longest_in_pattern : Plan → ℕ → ℕ → ℕ
+longest_in_pattern plan k p = max (cycle plan k) (max (longest_initial plan p) (walk plan p + pedestrian_clear plan p))
+
+-- its turn: until then, and until what comes after it starts
 abbrev pub turn_in_pattern : Plan → ℕ → ℕ → ℕ → ℕ
-turn_in_pattern plan k j p = max (cycle plan k) (max (longest_initial plan p) (walk plan p + pedestrian_clear plan p)) + j + 2
+turn_in_pattern plan k j p = longest_in_pattern plan k p + j + 2
+
+-- ## Within what time
+
+-- the times of those of a list that pass a test
+abbrev pub times_where : (ℕ → Bool) → (ℕ → ℕ) → List ℕ → ℕ
+times_where test time [] = 0
+times_where test time (p ∷ ps) = (if test p then time p else 0) + times_where test time ps
+
+-- of those that are on side d
+abbrev pub times_on : (ℕ → ℕ) → Plan → ℕ → List ℕ → ℕ
+times_on time plan d ps = times_where (is_on_side plan d) time ps
+
+-- the order of a ring by the sequence in effect
+abbrev pub order_in_effect : State → Ring → List ℕ
+order_in_effect s r = serving_order s.plan s.pattern (number r)
+
+-- j is as large as each clearance and each red revert, and h as the longest green of each phase in pattern k
+pub record TurnsInPattern (plan : Plan) (k j h : ℕ) : Type 0 where
+  pub clears : ClearsWithin plan j
+  pub green : (p : ℕ) → longest_in_pattern plan k p ≤ h
+
+-- what a ring has begun takes so long at most
+abbrev pub time_begun : ℕ → ℕ → ℕ
+time_begun j h = h + 2 * j + 1
+
+-- the other ring comes to the barrier in so long: what it has begun, and the turns beside c
+abbrev pub time_across : State → ℕ → ℕ → ℕ → Ring → ℕ → ℕ
+time_across s k j h r c = times_on (turn_in_pattern s.plan k j) s.plan (side_of s.plan c) (order_in_effect s (other r)) + time_begun j h
+
+-- both rings leave the side of c in so long, where ring r has passed c: it may be called on to each phase beside c, and find
+-- the other ring anywhere in its order
+abbrev pub time_to_leave : State → ℕ → ℕ → ℕ → Ring → ℕ → ℕ
+time_to_leave s k j h r c =
+    time_begun j h + 1 + time_across s k j h r c
+    + times_on (λ p. turn_in_pattern s.plan k j p + time_across s k j h r c + 1) s.plan (side_of s.plan c) (order_in_effect s r)
+
+-- both come through all other sides in so long, with the crossings to them
+abbrev pub time_elsewhere : State → ℕ → ℕ → ℕ → ℕ
+time_elsewhere s k j c =
+    times_where (λ p. is_enabled s.plan p && not (is_on_side s.plan (side_of s.plan c) p)) (turn_in_pattern s.plan k j) (phases s.plan)
+    + s.plan.side_count * (3 * j + 3)
+
+-- and c comes in its turn in so long, after the crossing to its side
+abbrev pub time_to_come_home : State → ℕ → ℕ → Ring → ℕ → ℕ
+time_to_come_home s k j r c = times_on (turn_in_pattern s.plan k j) s.plan (side_of s.plan c) (order_in_effect s r) + j + 2
+
+-- Within which time a called phase c of ring r is Green, wherever the rings stand: a crossing that is under way, the way from
+-- its side, all other sides, and its turn.
+abbrev pub time_to_be_served : State → ℕ → ℕ → ℕ → Ring → ℕ → ℕ
+time_to_be_served s k j h r c = j + 1 + time_to_leave s k j h r c + time_elsewhere s k j c + time_to_come_home s k j r c
+
+-- c is callable in the tick, a pattern runs and no preempt is in service; no other input selects a pattern or commits
+abbrev pub is_called_in_pattern : ℕ → State → Input → Bool
+is_called_in_pattern c s (Tick row) = callable s row c && (is_some (runs s) && is_none (service s row))
+is_called_in_pattern c s (Pattern n) = false
+is_called_in_pattern c s (Commit station) = false
+is_called_in_pattern c s i = true
+
+-- Where all phases of one side and of different rings are concurrent, a called phase waits for so long at most, whatever
+-- other calls come: a stretch of a pattern that runs, in which it is called in each tick, is no longer.
+abbrev pub CalledPhasesAreServedInPatterns : Type 0
+CalledPhasesAreServedInPatterns = (plan : Plan) (base later : List Input) (k j h : ℕ) (r : Ring) (c : ℕ) → IsConsistent plan → plan.phase_count ≤ 16 →
+    AreTaken plan (later ++ base) → IsUntripped plan base later → IsFullyConcurrent (replay plan base).plan →
+    runs (replay plan base) ≡ Some k → in_ring (replay plan base).plan r c ≡ true →
+    TurnsInPattern (replay plan base).plan k j h → HasGoneOn (is_called_in_pattern c) plan base later →
+    (replay plan (later ++ base)).now ≤ (replay plan base).now + time_to_be_served (replay plan base) k j h r c
+
+-- So a coordinated phase is not Green for so long at most.
+abbrev pub CoordinatedPhasesAreServed : Type 0
+CoordinatedPhasesAreServed = (plan : Plan) (base later : List Input) (k j h : ℕ) (r : Ring) (c : ℕ) → IsConsistent plan → plan.phase_count ≤ 16 →
+    AreTaken plan (later ++ base) → IsUntripped plan base later → IsFullyConcurrent (replay plan base).plan →
+    runs (replay plan base) ≡ Some k → in_ring (replay plan base).plan r c ≡ true →
+    TurnsInPattern (replay plan base).plan k j h → HasGoneOn (is_out c) plan base later →
+    (replay plan (later ++ base)).now ≤ (replay plan base).now + time_to_be_served (replay plan base) k j h r c
+
+-- ## Within what time it may be as well
 
 -- p is an enabled phase of ring r on the side of c, and not c
 abbrev pub is_beside : Plan → Ring → ℕ → ℕ → Bool

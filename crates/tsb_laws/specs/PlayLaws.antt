@@ -48,7 +48,7 @@ use Rattle.tsb_laws.specs.Stretches.{IsUntripped, has_held_since, largest, EndsG
 use Rattle.tsb_laws.specs.ServedCalls.{HasBeenPressed, IsDoneWithin, IsFullyConcurrent, HasWaited, TurnsTakeAtMost, IsToCome, time_to_come, is_outside, time_to_cross, time_to_serve}
 use Rattle.tsb_laws.specs.UnwantedGreens.{WaitsFor}
 use Rattle.tsb_laws.specs.WantedStarts.{MayStart, IsKeptBy}
-use Rattle.tsb_laws.specs.CoordinatedGreens.{HasGoneOn, IsAwaited, ComesInCycle, is_pressed_in_pattern, IsForcedWithin, KeepsAtBarrier}
+use Rattle.tsb_laws.specs.CoordinatedGreens.{HasGoneOn, IsAwaited, ComesInCycle, is_pressed_in_pattern, IsForcedWithin, KeepsAtBarrier, is_out, is_called_in_pattern, TurnsInPattern, time_to_be_served}
 
 -- ## Of a state, and of the next input
 
@@ -254,6 +254,13 @@ ForcesGreensOff plan is = (base later : List Input) (row : Row) (p n : ℕ) → 
     HasGoneOn (is_pressed_in_pattern p) plan base (Tick row ∷ later) → IsForcedWithin (replay plan base) p n →
     (replay plan base).now + n ≤ (replay plan is).now → ready (replay plan is) row p ≡ true
 
+-- while a pattern ran, a phase that stayed called has not waited for longer than it may, nor has a coordinated one
+abbrev pub ServesInPatterns : (ℕ → State → Input → Bool) → Plan → List Input → Type 0
+ServesInPatterns waits plan is = (base later : List Input) (k j h : ℕ) (r : Ring) (c : ℕ) → is ≡ later ++ base → IsUntripped plan base later →
+    IsFullyConcurrent (replay plan base).plan → runs (replay plan base) ≡ Some k → in_ring (replay plan base).plan r c ≡ true →
+    TurnsInPattern (replay plan base).plan k j h → HasGoneOn (waits c) plan base later →
+    (replay plan is).now ≤ (replay plan base).now + time_to_be_served (replay plan base) k j h r c
+
 -- ## Of the pattern that runs, and of greens that may end
 
 -- each of its coordinated phases that is not Green is called
@@ -339,3 +346,5 @@ pub record KeepsLaws (plan : Plan) (is : List Input) (s : State) : Type 0 where
   pub coordination_goes_on_instants : HasInstants s
   pub coordination_goes_on_forced : ForcesGreensOff plan is
   pub coordination_goes_on_ends : Untripped MakesWay plan is
+  pub phases_are_served_in_patterns_called : ServesInPatterns is_called_in_pattern plan is
+  pub phases_are_served_in_patterns_coordinated : ServesInPatterns is_out plan is

@@ -11,7 +11,7 @@ ghost use Rattle.tsb_laws.specs.RunningMaximum.{MaximumsAreBounded, MaximumsMove
 ghost use Rattle.tsb_laws.specs.UnwantedGreens.{UnwantedGreensEnd};
 ghost use Rattle.tsb_laws.specs.WantedStarts.{WantedPhasesStart};
 ghost use Rattle.tsb_laws.specs.ServedCalls.{PressedGreensMayEnd, CalledPhasesCome, CrossingsBegin, CalledPhasesAreServed};
-ghost use Rattle.tsb_laws.specs.CoordinatedGreens.{CoordinatedAreAwaited, ForceOffsCome, ForcedGreensMayEnd, ReadyGreensMakeWay};
+ghost use Rattle.tsb_laws.specs.CoordinatedGreens.{CalledPhasesAreServedInPatterns, CoordinatedAreAwaited, CoordinatedPhasesAreServed, ForceOffsCome, ForcedGreensMayEnd, ReadyGreensMakeWay};
 
 /// `remembered`: What calls is remembered, or served at once. An output that calls an enabled, locking phase which was
 /// not Green is in vehicle memory after the tick, or the phase turns Green in it; a button that calls an enabled phase
@@ -249,7 +249,7 @@ pub fn called_phases_are_served()
 /// is callable in every tick in which it is not Green, also where nothing else calls it. So each green that is not
 /// concurrent with it has a conflict.
 ///
-/// Not said: when it turns Green (`CoordinatedPhasesReturn`, which is stated and not proved).
+/// Not said: when it turns Green, which is in `phases_are_served_in_patterns`.
 /// Mistake: a pattern that gives its coordinated phases no recall, `by_itself` (`would_not_be_called`).
 /// Witness: `an_awaited` of CoordinatedRuns.
 ///
@@ -284,4 +284,30 @@ pub fn coordination_goes_on()
     ensures instants { ForceOffsCome }
     ensures forced { ForcedGreensMayEnd }
     ensures ends { ReadyGreensMakeWay }
+{}
+
+/// `called`: A called phase is served in time in a pattern. While a pattern runs and no preempt is in service, a phase that
+/// stays called is Green within a time that the plan gives, wherever the rings stand and whatever other calls come. That
+/// time is a crossing that is under way, the time to leave its side, the turns of all phases of other sides with a crossing
+/// for each side, and the turns of its ring on its own. To leave its side its ring may be called on to each phase beside
+/// it, and wait each time for all turns across. A turn is a cycle, or what the phase asks for if that is longer, and what
+/// its ring may clear.
+///
+/// Needs: a plan in which all phases of one side and of different rings are concurrent; no pattern selected and nothing
+/// committed meanwhile; an untripped run; at most 16 phases.
+/// Not said: that it is Green in every cycle; docs/SAFETY.md says why that is false.
+/// Mistake: a ring that looks across the barrier for its own phases alone, `by_own_ring` (`may_end_2`, `has_conflict_2`,
+/// `would_rest`).
+/// Witness: `a_wait` of CoordinatedRuns.
+///
+/// `coordinated`: A coordinated phase is served again in time. It is Green within that time, also where nothing calls it,
+/// as it is called by its pattern.
+///
+/// Needs: as `called`.
+/// Not said: as `called`.
+/// Mistake: a pattern that gives its coordinated phases no recall, `by_itself` (`would_not_be_called`).
+/// Witness: `a_return` of CoordinatedRuns.
+pub fn phases_are_served_in_patterns()
+    ensures called { CalledPhasesAreServedInPatterns }
+    ensures coordinated { CoordinatedPhasesAreServed }
 {}

@@ -59,7 +59,7 @@ remains_stays k s after r n same (clearing_out p m e own serves dark clears reve
 -- ## As it begins
 
 -- the red revert of a phase, in whatever interval
-back_all : (plan : Plan) (p k : ℕ) (x : Phase) → yellow_change plan p + red_clear plan p ≤ k → red_revert plan p ≤ k → back_left plan p x ≤ 2 * k
+pub back_all : (plan : Plan) (p k : ℕ) (x : Phase) → yellow_change plan p + red_clear plan p ≤ k → red_revert plan p ≤ k → back_left plan p x ≤ 2 * k
 back_all plan p k x most_y most_r = go x.interval
   where
     first : left (yellow_change plan p) x.timer ≤ yellow_change plan p
@@ -133,11 +133,11 @@ module _ (s : State) (r : Ring) (k h : ℕ) (good : IsGood s) (calm : IsCalm s.p
 
 -- ## Crossings that begin
 
-begun_crosses : (plan : Plan) (s : rings.State) (given : Given) → begins plan s given ≡ true → (rings_after plan s given).crossing ≡ Some (target_side plan s given)
+pub begun_crosses : (plan : Plan) (s : rings.State) (given : Given) → begins plan s given ≡ true → (rings_after plan s given).crossing ≡ Some (target_side plan s given)
 unfolding rings_after new_crossing
 begun_crosses plan s given b = rw b refl
 
-begins_now : (plan : Plan) (s : rings.State) (given : Given) → ring_joins plan s given Ring1 ≡ true → ring_joins plan s given Ring2 ≡ true →
+pub begins_now : (plan : Plan) (s : rings.State) (given : Given) → ring_joins plan s given Ring1 ≡ true → ring_joins plan s given Ring2 ≡ true →
     want_of plan s given Ring1 ≡ Some Cross → begins plan s given ≡ true
 unfolding begins
 begins_now plan s given one two w = rw (one, two, w) refl

@@ -55,22 +55,22 @@ and_false : (b : Bool) → (b && false) ≡ false
 and_false true = refl
 and_false false = refl
 
-clear_none : (plan : Plan) (p : ℕ) (s : State) → interval s p ≡ Red → clear_left plan p (s.phases p) ≡ 0
+pub clear_none : (plan : Plan) (p : ℕ) (s : State) → interval s p ≡ Red → clear_left plan p (s.phases p) ≡ 0
 clear_none plan p s e = rw e refl
 
 -- ## A ring that wants to cross
 
 -- it takes nothing
-picks_cross : (plan : Plan) (s : rings.State) (given : Given) (r : Ring) → want_of plan s given r ≡ Some Cross → pick plan s given r ≡ None
+pub picks_cross : (plan : Plan) (s : rings.State) (given : Given) (r : Ring) → want_of plan s given r ≡ Some Cross → pick plan s given r ≡ None
 unfolding pick
 picks_cross plan s given r w = rw w refl
 
 -- and joins, with a green that is ready or none
-joins_green : (plan : Plan) (s : rings.State) (given : Given) (r : Ring) (p : ℕ) → serving plan given r ≡ Some p → given.interval p ≡ Green →
+pub joins_green : (plan : Plan) (s : rings.State) (given : Given) (r : Ring) (p : ℕ) → serving plan given r ≡ Some p → given.interval p ≡ Green →
     given.ready p ≡ true → want_of plan s given r ≡ Some Cross → ring_joins plan s given r ≡ true
 joins_green plan s given r p e green ready w = rw (e, green, ready, w) refl
 
-joins_idle : (plan : Plan) (s : rings.State) (given : Given) (r : Ring) → serving plan given r ≡ None → want_of plan s given r ≡ Some Cross →
+pub joins_idle : (plan : Plan) (s : rings.State) (given : Given) (r : Ring) → serving plan given r ≡ None → want_of plan s given r ≡ Some Cross →
     ring_joins plan s given r ≡ true
 joins_idle plan s given r e w = rw (e, w) refl
 
@@ -86,13 +86,13 @@ ended_is plan s given p h =
     one : (r : Ring) → is p (ring_moves plan s given r).ends ≡ true → ends plan s given p ≡ true
     one r k = (and_parts (is_green (given.interval p)) (ends plan s given p) (passed (λ q. is_green (given.interval q) && ends plan s given q) (serving plan given r) p k).1).1
 
-cross_keeps : (plan : Plan) (s : rings.State) (given : Given) (r : Ring) (p : ℕ) → in_ring plan r p ≡ true → want_of plan s given r ≡ Some Cross →
+pub cross_keeps : (plan : Plan) (s : rings.State) (given : Given) (r : Ring) (p : ℕ) → in_ring plan r p ≡ true → want_of plan s given r ≡ Some Cross →
     begins plan s given ≡ false → ends plan s given p ≡ false
 unfolding ends
 cross_keeps plan s given r p own w none = rw (none, ring_of_is plan r p own, w) (and_false (given.ready p))
 
 -- a ring that clears wants nothing, and takes nothing
-picks_clearing : (plan : Plan) (s : rings.State) (given : Given) (r : Ring) (p : ℕ) → serving plan given r ≡ Some p → is_green (given.interval p) ≡ false →
+pub picks_clearing : (plan : Plan) (s : rings.State) (given : Given) (r : Ring) (p : ℕ) → serving plan given r ≡ Some p → is_green (given.interval p) ≡ false →
     pick plan s given r ≡ None
 picks_clearing plan s given r p e dark = go (pick plan s given r) refl
   where
@@ -103,36 +103,36 @@ picks_clearing plan s given r p e dark = go (pick plan s given r) refl
         absurd (true≢false (sym (rw e at idle) ∙ dark)))
 
 -- what is over clears where its ring has no commitment
-clears_over_one : (plan : Plan) (s : rings.State) (given : Given) (r : Ring) (p : ℕ) → serving plan given r ≡ Some p → in_ring plan r p ≡ true →
+pub clears_over_one : (plan : Plan) (s : rings.State) (given : Given) (r : Ring) (p : ℕ) → serving plan given r ≡ Some p → in_ring plan r p ≡ true →
     s.commitment r ≡ None → begins plan s given ≡ false → is_green (given.interval p) ≡ false → given.over p ≡ true → clears plan s given p ≡ true
 unfolding clears committed_to
 clears_over_one plan s given r p e own free none dark over =
     rw (over, ring_of_is plan r p own, none, free, e, picks_clearing plan s given r p e dark) refl
 
-given_interval : (s : State) (row : Row) (p : ℕ) → (rings_given s row).interval p ≡ interval s p
+pub given_interval : (s : State) (row : Row) (p : ℕ) → (rings_given s row).interval p ≡ interval s p
 unfolding rings_given
 given_interval s row p = refl
 
-told_back : (s : State) (row : Row) (p : ℕ) → (rings_given s row).callable p ≡ true → callable s row p ≡ true
+pub told_back : (s : State) (row : Row) (p : ℕ) → (rings_given s row).callable p ≡ true → callable s row p ≡ true
 unfolding rings_given
 told_back s row p h = clipped_holds (callable s row) p h
 
-ended_none : (s : State) (row : Row) (p : ℕ) → ends s.plan s.rings (rings_given s row) p ≡ false → is_ended (moves s row) p ≡ false
+pub ended_none : (s : State) (row : Row) (p : ℕ) → ends s.plan s.rings (rings_given s row) p ≡ false → is_ended (moves s row) p ≡ false
 unfolding moves
 ended_none s row p h = false_from_ne_true _ (λ g. true≢false (sym (ended_is s.plan s.rings (rings_given s row) p g) ∙ h))
 
-cleared_is : (s : State) (row : Row) (r : Ring) (p : ℕ) → IsGood s → serving s.plan (rings_given s row) r ≡ Some p → clears s.plan s.rings (rings_given s row) p ≡ true →
+pub cleared_is : (s : State) (row : Row) (r : Ring) (p : ℕ) → IsGood s → serving s.plan (rings_given s row) r ≡ Some p → clears s.plan s.rings (rings_given s row) p ≡ true →
     is_cleared (moves s row) p ≡ true
 unfolding moves rings_given
 cleared_is s row r p good e h =
     is_cleared_in s.plan s.rings (rings_given s row) (yellow_done s) (symmetric s.plan good.plan.rules) good.rings (given s row good) r p e h
 
-cleared_over : (s : State) (row : Row) (p : ℕ) → is_cleared (moves s row) p ≡ true → (rings_given s row).over p ≡ true
+pub cleared_over : (s : State) (row : Row) (p : ℕ) → is_cleared (moves s row) p ≡ true → (rings_given s row).over p ≡ true
 unfolding moves
 cleared_over s row p h = clears_over s.plan s.rings (rings_given s row) p h
 
 -- a phase that clears and is cleared is Red; otherwise it clears on
-cleared_red : (s : State) (row : Row) (p : ℕ) → is_green (interval s p) ≡ false → is_started (moves s row) p ≡ false → is_cleared (moves s row) p ≡ true →
+pub cleared_red : (s : State) (row : Row) (p : ℕ) → is_green (interval s p) ≡ false → is_started (moves s row) p ≡ false → is_cleared (moves s row) p ≡ true →
     interval (next s row) p ≡ Red
 cleared_red s row p dark no_start cleared = go (interval s p) refl
   where
@@ -142,7 +142,7 @@ cleared_red s row p dark no_start cleared = go (interval s p) refl
     go Yellow e = rw (no_start, e, cleared) refl
     go RedClear e = rw (no_start, e, cleared) refl
 
-still_clearing : (s : State) (row : Row) (p : ℕ) → in_service (interval s p) ≡ true → is_green (interval s p) ≡ false → is_started (moves s row) p ≡ false →
+pub still_clearing : (s : State) (row : Row) (p : ℕ) → in_service (interval s p) ≡ true → is_green (interval s p) ≡ false → is_started (moves s row) p ≡ false →
     is_cleared (moves s row) p ≡ false → (in_service (interval (next s row) p) ≡ true) × (is_green (interval (next s row) p) ≡ false)
 still_clearing s row p serves dark no_start kept = go (interval s p) refl
   where

@@ -74,7 +74,7 @@ in_either_of p q (x ∷ xs) k =
     by false l (inl m) = inl m
     by false l (inr m) = inr (or_right (x == q) (among q (up_to p xs)) m)
 
-in_either : (p : Option ℕ) (q : ℕ) (ps : List ℕ) → among q ps ≡ true → (among q (later p ps) ≡ true) ⊎ (among q (not_later p ps) ≡ true)
+pub in_either : (p : Option ℕ) (q : ℕ) (ps : List ℕ) → among q ps ≡ true → (among q (later p ps) ≡ true) ⊎ (among q (not_later p ps) ≡ true)
 in_either None q ps h = inl h
 in_either (Some p) q ps h = in_either_of p q ps h
 
@@ -116,7 +116,7 @@ module _ (plan : Plan) (s : rings.State) (given : rings.Given) (fair : IsFair pl
       go None None k e = idle k e (wishes plan s given fair r away k (rw e refl))
       go None (Some q) k e = by q k e (given.interval q) refl (serving_is plan given r q e).1
 
-  begins_when : (r : Ring) → ring_joins plan s given r ≡ true → ring_joins plan s given (other r) ≡ true → want_of plan s given r ≡ Some Cross →
+  pub begins_when : (r : Ring) → ring_joins plan s given r ≡ true → ring_joins plan s given (other r) ≡ true → want_of plan s given r ≡ Some Cross →
       begins plan s given ≡ true
   unfolding begins
   begins_when Ring1 one two w = rw (one, two, w) refl

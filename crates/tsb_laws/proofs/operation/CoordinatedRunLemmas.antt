@@ -55,7 +55,7 @@ pub record Leaves (s after : State) (p : ℕ) : Type 0 where
   pub now : after.now ≡ s.now
   pub phase : after.phases p ≡ s.phases p
 
-lit_leaves : (s : State) (lamp : Option Lamp) (p : ℕ) → Leaves s (with_lamp lamp s) p
+pub lit_leaves : (s : State) (lamp : Option Lamp) (p : ℕ) → Leaves s (with_lamp lamp s) p
 unfolding watched
 lit_leaves s lamp p = go (is_some s.trip)
   where
@@ -87,7 +87,7 @@ record IsPressed (s : State) (row : Row) (p : ℕ) : Type 0 where
   runs : is_some (runs s) ≡ true
   quiet : service s row ≡ None
 
-none_is : (o : Option ℕ) → is_none o ≡ true → o ≡ None
+pub none_is : (o : Option ℕ) → is_none o ≡ true → o ≡ None
 none_is None h = refl
 none_is (Some x) h = absurd (false≢true h)
 
@@ -98,11 +98,11 @@ pressed_parts s row p h =
     let other = and_parts (is_some (runs s)) (is_none (service s row)) outer.1 in
     record { green = green_is (interval s p) inner.0; conflict = inner.1; runs = other.0; quiet = none_is (service s row) other.1 }
 
-left_most : (limit : ℕ) (t : Timer) → left limit t ≤ limit
+pub left_most : (limit : ℕ) (t : Timer) → left limit t ≤ limit
 left_most limit Off = omega arith
 left_most limit (On n) = omega arith
 
-walking_most : (a b : ℕ) (t : Timer) (x : PedestrianInterval) → walking_in a b t x ≤ a + b
+pub walking_most : (a b : ℕ) (t : Timer) (x : PedestrianInterval) → walking_in a b t x ≤ a + b
 walking_most a b t DontWalk = omega arith
 walking_most a b t Walk = let most = left_most a t in omega (arith, most)
 walking_most a b t PedestrianClear = let most = left_most b t in omega (arith, most)

@@ -22,7 +22,7 @@ abbrev pub sum_of : (ℕ → Bool) → (ℕ → ℕ) → List ℕ → ℕ
 sum_of test f [] = 0
 sum_of test f (p ∷ ps) = (if test p then f p else 0) + sum_of test f ps
 
-and_both : (a b : Bool) → a ≡ true → b ≡ true → (a && b) ≡ true
+pub and_both : (a b : Bool) → a ≡ true → b ≡ true → (a && b) ≡ true
 and_both a b h k = rw (h, k) refl
 
 -- two tests that nothing passes both
@@ -60,7 +60,7 @@ sum_one test f e (p ∷ ps) there h =
     ]
 
 -- a list in which none is twice has no more than one that has all of it
-sum_within : (test : ℕ → Bool) (f : ℕ → ℕ) (base ps : List ℕ) → test 0 ≡ false → lists_once ps ≡ true →
+pub sum_within : (test : ℕ → Bool) (f : ℕ → ℕ) (base ps : List ℕ) → test 0 ≡ false → lists_once ps ≡ true →
     ((p : ℕ) → among p ps ≡ true → p ≢ 0 → among p base ≡ true) → sum_of test f ps ≤ sum_of (λ p. among p ps && test p) f base
 sum_within test f base [] zero_out once there = omega arith
 sum_within test f base (y ∷ ys) zero_out once there =
@@ -214,18 +214,18 @@ away_apart n d e t one two three other same =
 abbrev pub is_before : ℕ → ℕ → ℕ → ℕ → Bool
 is_before n d t x = not (nat_le (away n d t) (away n d x))
 
-before_is : (n d t x : ℕ) → is_before n d t x ≡ true → away n d x + 1 ≤ away n d t
+pub before_is : (n d t x : ℕ) → is_before n d t x ≡ true → away n d x + 1 ≤ away n d t
 before_is n d t x h = go (nat_le (away n d t) (away n d x)) refl
   where
     go : (b : Bool) → nat_le (away n d t) (away n d x) ≡ b → away n d x + 1 ≤ away n d t
     go true e = absurd (false≢true (rw e at h))
     go false e = let over = leb-false (away n d t) (away n d x) e in omega (arith, over)
 
-to_before : (n d t x : ℕ) → away n d x + 1 ≤ away n d t → is_before n d t x ≡ true
+pub to_before : (n d t x : ℕ) → away n d x + 1 ≤ away n d t → is_before n d t x ≡ true
 to_before n d t x h = rw (lt-leb (away n d t) (away n d x) (omega (arith, h))) refl
 
 -- from a side on the way, the way is shorter by it
-way_on : (n d e t : ℕ) → IsSide n d → IsSide n e → IsSide n t → e ≢ t → away n d e + 1 ≤ away n d t → away n d e + away n e t ≡ away n d t
+pub way_on : (n d e t : ℕ) → IsSide n d → IsSide n e → IsSide n t → e ≢ t → away n d e + 1 ≤ away n d t → away n d e + away n e t ≡ away n d t
 way_on n d e t one two three other sooner =
     let low_d = one.from_one in let high_d = one.within in let low_e = two.from_one in let high_e = two.within in let low_t = three.from_one in let high_t = three.within in
     elim (away_is n d e) [
@@ -287,7 +287,7 @@ way_by n d e x one two three =
     ]
 
 -- what comes before t from there comes before it from here
-goes_by : (n d e t x : ℕ) → IsSide n d → IsSide n e → IsSide n t → IsSide n x → e ≢ t → away n d e + 1 ≤ away n d t → away n e x + 1 ≤ away n e t →
+pub goes_by : (n d e t x : ℕ) → IsSide n d → IsSide n e → IsSide n t → IsSide n x → e ≢ t → away n d e + 1 ≤ away n d t → away n e x + 1 ≤ away n e t →
     away n d x + 1 ≤ away n d t
 goes_by n d e t x one two three four other sooner later =
     let whole = way_on n d e t one two three other sooner in let most = way_by n d e x one two four in omega (arith, whole, most, later)

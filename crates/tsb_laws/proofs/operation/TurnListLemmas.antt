@@ -41,7 +41,7 @@ among_tail y x xs h = go (y == x)
     go true = refl
     go false = h
 
-after_among : (l x : ℕ) (xs : List ℕ) → among x (after l xs) ≡ true → among x xs ≡ true
+pub after_among : (l x : ℕ) (xs : List ℕ) → among x (after l xs) ≡ true → among x xs ≡ true
 after_among l x [] h = h
 after_among l x (y ∷ ys) h =
     elim (cases_Bool (y == l)) [
@@ -61,7 +61,7 @@ after_within l x (y ∷ ys) some o k =
     ]
 
 -- a phase that comes later than `last`: what comes after it comes after it in the whole order too
-after_later : (last : Option ℕ) (x : ℕ) (ps : List ℕ) → x ≢ 0 → lists_once ps ≡ true → among x (later last ps) ≡ true →
+pub after_later : (last : Option ℕ) (x : ℕ) (ps : List ℕ) → x ≢ 0 → lists_once ps ≡ true → among x (later last ps) ≡ true →
     after x ps ≡ after x (later last ps)
 after_later None x ps some once h = refl
 after_later (Some l) x ps some once h = after_within l x ps some once h
@@ -79,7 +79,7 @@ before_tail c q y ys (inr k) =
     elim (cases_Bool (y == c)) [ inl e ↦ inr (rw e (after_among c q ys k)) | inr e ↦ inr (rw e k) ]
 
 -- the first that passes a test comes no later than any that does
-first_before : (test : ℕ → Bool) (c q : ℕ) (ps : List ℕ) → first test ps ≡ Some c → among q ps ≡ true → test q ≡ true →
+pub first_before : (test : ℕ → Bool) (c q : ℕ) (ps : List ℕ) → first test ps ≡ Some c → among q ps ≡ true → test q ≡ true →
     (c ≡ q) ⊎ (among q (after c ps) ≡ true)
 first_before test c q [] h there passes = absurd (false≢true there)
 first_before test c q (y ∷ ys) h there passes =

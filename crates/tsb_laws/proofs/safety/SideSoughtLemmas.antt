@@ -89,14 +89,14 @@ run_has x a (suc n) h =
     ]
 
 -- the other sides are all the others
-others_are_other : (plan : Plan) (side x : ℕ) → among x (sides_after plan side) ≡ true → x ≡ side → ⊥
+pub others_are_other : (plan : Plan) (side x : ℕ) → among x (sides_after plan side) ≡ true → x ≡ side → ⊥
 others_are_other plan side x h same =
     elim (in_runs x (side + 1) (plan.side_count - side) (run_from 1 (side - 1)) h) [
       | inl both ↦ (let low : side + 1 ≤ x = both.0 in omega (arith, low, same))
       | inr k ↦ (let both = run_has x 1 (side - 1) k in let low : 1 ≤ x = both.0 in let high : x < 1 + (side - 1) = both.1 in omega (arith, low, high, same))
     ]
 
-other_is_among : (plan : Plan) (side x : ℕ) → 1 ≤ x → x ≤ plan.side_count → x ≢ side → among x (sides_after plan side) ≡ true
+pub other_is_among : (plan : Plan) (side x : ℕ) → 1 ≤ x → x ≤ plan.side_count → x ≢ side → among x (sides_after plan side) ≡ true
 other_is_among plan side x low high apart =
     elim above_or_below [
       | inl k ↦ to_runs x (side + 1) (plan.side_count - side) (run_from 1 (side - 1)) k (omega (arith, k, high))

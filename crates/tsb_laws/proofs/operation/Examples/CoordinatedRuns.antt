@@ -1,5 +1,5 @@
 -- Runs from power-up that meet the premises of the laws of coordinated phases, and mistakes that these laws refuse.
-use Rattle.std.proofs.Common.{◌≡◌, ℕ, ◌+◌, ◌-◌, ◌*◌, ◌<◌, ◌≤◌, ◌==◌, nat_lt, Bool, true, false, not, ◌&&◌, ◌||◌, List, [], ◌∷◌, Some, None, refl, sym, ap, subst, arith, ◌∙◌, inl, inr}
+use Rattle.std.proofs.Common.{◌≡◌, ℕ, ◌+◌, ◌-◌, ◌*◌, ◌<◌, ◌≤◌, ◌==◌, nat_lt, Bool, true, false, not, ◌&&◌, ◌||◌, if◌then◌else◌, max, List, [], ◌∷◌, ◌++◌, Some, None, refl, sym, ap, subst, arith, ◌∙◌, inl, inr}
 use Rattle.std.specs.List.{list_all}
 use Rattle.std.proofs.lemmas.Bool.{or_cases, eq-eqb, false≢true}
 use Rattle.tsb_step.specs.tsb_types.Sets.{all_off}
@@ -8,10 +8,10 @@ use Rattle.tsb_step.specs.tsb_types.Intervals.{is_green}
 use Rattle.tsb_step.specs.tsb_types.Lists.{some_passes}
 use Rattle.tsb_step.specs.tsb_types.declared.row.Row.{Row}
 use Rattle.tsb_step.specs.tsb_plan.declared.object.Object.{Object}
-use Rattle.tsb_step.specs.tsb_plan.declared.object.Object.TheVariants.{PhaseMinimumGreen, PhaseYellowChange, PatternOffsetTime}
+use Rattle.tsb_step.specs.tsb_plan.declared.object.Object.TheVariants.{PhaseMinimumGreen, PhaseMaximumInitial, PhaseWalk, PhasePedestrianClear, PhaseYellowChange, PhaseRedClear, PhaseRedRevert, UnitRedRevert, PatternCycleTime, PatternOffsetTime}
 use Rattle.tsb_step.specs.tsb_plan.Objects.{greatest}
 use Rattle.tsb_step.specs.tsb_plan.Parts.{cycle}
-use Rattle.tsb_step.specs.tsb_plan.Plan.{Plan, phases, is_enabled, is_concurrent, ring_of, side_of, yellow_change, red_clear, walk, pedestrian_clear, has_minimum_recall, with_values}
+use Rattle.tsb_step.specs.tsb_plan.Plan.{Plan, phases, is_enabled, is_concurrent, ring_of, side_of, yellow_change, red_clear, has_variable_initial, minimum_green, maximum_initial, walk, pedestrian_clear, has_minimum_recall, with_values}
 use Rattle.tsb_step.specs.tsb_plan.Quad.{quad}
 use Rattle.tsb_step.specs.tsb_plan.Running.{mode_in_effect, recalls_minimum, is_on_maximum_recall}
 use Rattle.tsb_step.specs.tsb_rules.Consistent.{IsPhase}
@@ -33,7 +33,7 @@ use Rattle.tsb_step.proofs.GivenLemmas.{enabled_is_listed}
 use Rattle.tsb_step.proofs.Examples.Scenes.{opened, vehicle, called, resting, coordinated}
 use Rattle.tsb_laws.specs.Stretches.{IsUntripped}
 use Rattle.tsb_laws.specs.ServedCalls.{longest_initial, IsFullyConcurrent}
-use Rattle.tsb_laws.specs.CoordinatedGreens.{HasGoneOn, is_pressed_in_pattern, IsForcedWithin}
+use Rattle.tsb_laws.specs.CoordinatedGreens.{HasGoneOn, is_pressed_in_pattern, IsForcedWithin, is_out, is_called_in_pattern, longest_in_pattern, TurnsInPattern}
 use Rattle.tsb_laws.proofs.safety.Examples.PlanFits.{Fits, values_fit, quad_fits, consistent}
 use Rattle.tsb_laws.proofs.safety.Examples.CoordinationRuns.{omits, omits_count, omits_consistent}
 use Rattle.tsb_laws.proofs.operation.Examples.ServedRuns.{all_at, across}
@@ -251,6 +251,90 @@ a_ready_green = record {
   green = was_green;
   fit = fit;
   pressed = has_conflict_6;
+}
+
+-- ## 2 is to be served: it is Red as pattern 1 is selected
+
+picked_dark : (replay prompt selected).trip ≡ None
+unfolding opened prompt
+picked_dark = refl
+
+picked_runs : runs (replay prompt selected) ≡ Some 1
+unfolding opened prompt
+picked_runs = refl
+
+picked_plan : (replay prompt selected).plan ≡ prompt
+unfolding opened
+picked_plan = refl
+
+picked_ring : in_ring (replay prompt selected).plan Ring1 2 ≡ true
+unfolding opened prompt
+picked_ring = refl
+
+is_out_2 : is_out 2 (replay prompt selected) (Tick all_off) ≡ true
+unfolding opened prompt
+is_out_2 = refl
+
+longest : (p : ℕ) → longest_in_pattern prompt 1 p ≤ 5100
+unfolding longest_in_pattern
+longest p =
+    go (has_variable_initial prompt p) (prompt_fits.bounded PatternCycleTime 1) (prompt_fits.bounded PhaseMinimumGreen p)
+    (prompt_fits.bounded PhaseMaximumInitial p) (prompt_fits.bounded PhaseWalk p) (prompt_fits.bounded PhasePedestrianClear p)
+  where
+    go : (v : Bool) → prompt.value PatternCycleTime 1 ≤ 255 → prompt.value PhaseMinimumGreen p ≤ 255 → prompt.value PhaseMaximumInitial p ≤ 255 →
+        prompt.value PhaseWalk p ≤ 255 → prompt.value PhasePedestrianClear p ≤ 255 →
+        max (cycle prompt 1) (max (if v then max (minimum_green prompt p) (maximum_initial prompt p) else minimum_green prompt p) (walk prompt p + pedestrian_clear prompt p)) ≤ 5100
+    go true one two three four five = omega (arith, one, two, three, four, five)
+    go false one two three four five = omega (arith, one, two, three, four, five)
+
+turns_in_1 : TurnsInPattern prompt 1 510 5100
+turns_in_1 = record {
+  clears = record {
+    clearance = λ p. (let y = prompt_fits.bounded PhaseYellowChange p in let z = prompt_fits.bounded PhaseRedClear p in omega (arith, y, z));
+    revert = λ p. (let own = prompt_fits.bounded PhaseRedRevert p in let unit = prompt_fits.bounded UnitRedRevert 1 in omega (arith, own, unit));
+  };
+  green = longest;
+}
+
+record Return (test : State → Input → Bool) (plan : Plan) (base later : List Input) (k j h : ℕ) (r : Ring) (c : ℕ) : Type 0 where
+  consistent : IsConsistent plan
+  few : plan.phase_count ≤ 16
+  taken : AreTaken plan (later ++ base)
+  untripped : IsUntripped plan base later
+  full : IsFullyConcurrent (replay plan base).plan
+  runs : runs (replay plan base) ≡ Some k
+  ringed : in_ring (replay plan base).plan r c ≡ true
+  times : TurnsInPattern (replay plan base).plan k j h
+  out : HasGoneOn test plan base later
+
+a_return : Return (is_out 2) prompt selected (Tick all_off ∷ []) 1 510 5100 Ring1 2
+a_return = record {
+  consistent = prompt_consistent;
+  few = (let count = prompt_count in omega (arith, count));
+  taken = taken;
+  untripped = (picked_dark, dark);
+  full = subst IsFullyConcurrent (sym picked_plan) goes_together;
+  runs = picked_runs;
+  ringed = picked_ring;
+  times = subst (λ (x : Plan). TurnsInPattern x 1 510 5100) (sym picked_plan) turns_in_1;
+  out = (tt, is_out_2);
+}
+
+is_called_2 : is_called_in_pattern 2 (replay prompt selected) (Tick all_off) ≡ true
+unfolding opened prompt
+is_called_2 = refl
+
+a_wait : Return (is_called_in_pattern 2) prompt selected (Tick all_off ∷ []) 1 510 5100 Ring1 2
+a_wait = record {
+  consistent = prompt_consistent;
+  few = (let count = prompt_count in omega (arith, count));
+  taken = taken;
+  untripped = (picked_dark, dark);
+  full = subst IsFullyConcurrent (sym picked_plan) goes_together;
+  runs = picked_runs;
+  ringed = picked_ring;
+  times = subst (λ (x : Plan). TurnsInPattern x 1 510 5100) (sym picked_plan) turns_in_1;
+  out = (tt, is_called_2);
 }
 
 -- ## A ring that looks across the barrier for its own phases alone
