@@ -1,5 +1,5 @@
 -- What a filter takes, from line to line.
-use Rattle.std.proofs.Common.{◌≡◌, ℕ, ◌+◌, ◌-◌, ◌*◌, ◌/◌, ◌<◌, ◌≤◌, nat_lt, Bool, true, false, not, List, [], ◌∷◌, ◌++◌, length, length-append, refl, sym, ap, ◌∙◌, arith, subst, Some, None, Result, Ok, Err, inl, inr, if◌then◌else◌}
+use Rattle.std.proofs.Common.{Option, ◌≡◌, ℕ, ◌+◌, ◌-◌, ◌*◌, ◌/◌, ◌<◌, ◌≤◌, nat_lt, Bool, true, false, not, nat_le, max, List, [], ◌∷◌, ◌++◌, length, length-append, refl, sym, ap, ◌∙◌, arith, subst, Some, None, Result, Ok, Err, inl, inr, if◌then◌else◌}
 use Rattle.std.proofs.Math.Nat.{div-mul-le_self}
 use Rattle.std.proofs.lemmas.Nat.{le-div}
 use Rattle.std.proofs.lemmas.Bool.{lt-ltb, le-ltb}
@@ -23,11 +23,14 @@ use Rattle.tsb_field_log.specs.Streets.{tick_at, rows_in}
 use Rattle.tsb_field_log.specs.Pushed.{last_tick, rows_before}
 use Rattle.tsb_field_log.specs.Taken.{HasTaken}
 use Rattle.tsb_field_log.proofs.PushedLemmas.{last-push, order-last}
+use Rattle.tsb_held_rows.specs.Holding.{held_rows, most_rows}
+use Rattle.tsb_held_rows.specs.Order.{placed}
+use Rattle.tsb_held_rows.specs.declared.held.Held.{Held}
 use Rattle.tsb_field_streams.specs.declared.error.FilterError.{FilterError}
-use Rattle.tsb_field_streams.specs.declared.error.FilterError.TheVariants.{TimeOrder, PastEnd, LogTooLarge}
+use Rattle.tsb_field_streams.specs.declared.error.FilterError.TheVariants.{TimeOrder, TooManyRows, PastEnd, LogTooLarge}
 use Rattle.tsb_field_streams.specs.declared.filter.Filter.{Filter}
 use Rattle.tsb_field_streams.specs.declared.filter.TheConstants.{MOST_ROWS}
-use Rattle.tsb_field_streams.specs.Filtering.{Given, Stand, disorder, one_more, with_count, with_event, with_first, with_passed, with_row, with_row_line, with_signal, with_used}
+use Rattle.tsb_field_streams.specs.Filtering.{Given, Stand, bound_of, disorder, lateness, most_held, one_more, with_count, with_counted, with_due, with_event, with_first, with_given, with_held, with_in_order, with_late, with_passed, with_row, with_row_line, with_signal, with_used}
 use Rattle.tsb_field_streams.specs.Standing.{StandsAt, Takes}
 
 pub none_known : (from : ℕ) (wires : List Wire) → length (rows_before from wires []) ≡ 0
@@ -74,6 +77,9 @@ stands_counted g s f moment counted first at le counts begins = record {
       omega (arith, b, t);
   rows = at.rows;
   few = at.few;
+  held = at.held;
+  most = at.most;
+  latest = at.latest;
 }
 
 -- a form of times that is known changes nothing else
@@ -96,6 +102,9 @@ stands_formed g s f form at = record {
   behind = at.behind;
   rows = at.rows;
   few = at.few;
+  held = at.held;
+  most = at.most;
+  latest = at.latest;
 }
 
 -- which rows were known before does not hang on it
@@ -146,29 +155,27 @@ takes-same g s moment (Ok t) (Err d) f takes = takes
 takes-same g s moment (Err e) (Ok rows) f takes = takes
 takes-same g s moment (Err e) (Err d) f takes = takes
 
--- a row that counts is taken by what it says
-pub row-takes : (g : Given) (number : ℕ) (s : Stand) (row : EventRow) (signal : Signal) (given : Result Rows FilterError) (f : Filter) → row.ours ≡ true → s.last ≤ row.moment.nanos
+-- a row that is in order is taken by what it says
+pub row-takes : (g : Given) (number : ℕ) (s : Stand) (row : EventRow) (signal : Signal) (given : Result Rows FilterError) (f : Filter) → s.last ≤ row.moment.nanos
     → signal_of row.code ≡ Some signal → Takes g (with_count s row.moment.nanos) (with_signal g (with_count s row.moment.nanos) row (Some signal)) given f
-    → Takes g s (with_row g number s row) given f
-row-takes g number s row signal given f ours later told takes =
+    → Takes g s (with_in_order g number s row) given f
+row-takes g number s row signal given f later told takes =
     let in_order : nat_lt row.moment.nanos s.last ≡ false = le-ltb row.moment.nanos s.last later in
     let fault : Result Stand FilterError = Err (TimeOrder (disorder number s row.moment.nanos)) in
-    let is : with_row g number s row ≡ with_signal g (with_count s row.moment.nanos) row (Some signal) =
-    ap (λ (o : Bool). if not o then Ok (record s { others = one_more s.others }) else if nat_lt row.moment.nanos s.last then fault else with_signal g (with_count s row.moment.nanos) row (signal_of row.code)) ours
-    ∙ ap (λ (b : Bool). if b then fault else with_signal g (with_count s row.moment.nanos) row (signal_of row.code)) in_order
+    let is : with_in_order g number s row ≡ with_signal g (with_count s row.moment.nanos) row (Some signal) =
+    ap (λ (b : Bool). if b then fault else with_signal g (with_count s row.moment.nanos) row (signal_of row.code)) in_order
     ∙ ap (with_signal g (with_count s row.moment.nanos) row) told in
     subst (λ (come : Result Stand FilterError). Takes g s come given f) (sym is)
     (takes-same g s row.moment.nanos (with_signal g (with_count s row.moment.nanos) row (Some signal)) given f takes)
 
--- a row that counts and says nothing of an input
-pub row-passes : (g : Given) (number : ℕ) (s : Stand) (row : EventRow) (rows : Rows) (f : Filter) → row.ours ≡ true → s.last ≤ row.moment.nanos → signal_of row.code ≡ None → rows_in rows ≡ []
-    → StandsAt g (with_count s row.moment.nanos) f → Takes g s (with_row g number s row) (Ok rows) f
-row-passes g number s row rows f ours later told none stands =
+-- a row that is in order and says nothing of an input
+pub row-passes : (g : Given) (number : ℕ) (s : Stand) (row : EventRow) (rows : Rows) (f : Filter) → s.last ≤ row.moment.nanos → signal_of row.code ≡ None → rows_in rows ≡ []
+    → StandsAt g (with_count s row.moment.nanos) f → Takes g s (with_in_order g number s row) (Ok rows) f
+row-passes g number s row rows f later told none stands =
     let in_order : nat_lt row.moment.nanos s.last ≡ false = le-ltb row.moment.nanos s.last later in
     let fault : Result Stand FilterError = Err (TimeOrder (disorder number s row.moment.nanos)) in
-    let is : with_row g number s row ≡ Ok (with_count s row.moment.nanos) =
-    ap (λ (o : Bool). if not o then Ok (record s { others = one_more s.others }) else if nat_lt row.moment.nanos s.last then fault else with_signal g (with_count s row.moment.nanos) row (signal_of row.code)) ours
-    ∙ ap (λ (b : Bool). if b then fault else with_signal g (with_count s row.moment.nanos) row (signal_of row.code)) in_order
+    let is : with_in_order g number s row ≡ Ok (with_count s row.moment.nanos) =
+    ap (λ (b : Bool). if b then fault else with_signal g (with_count s row.moment.nanos) row (signal_of row.code)) in_order
     ∙ ap (with_signal g (with_count s row.moment.nanos) row) told in
     subst (λ (come : Result Stand FilterError). Takes g s come (Ok rows) f) (sym is) (stands, known)
   where
@@ -198,3 +205,92 @@ known-takes g s columns (Ok t) (Ok rows) f takes = takes
 known-takes g s columns (Ok t) (Err d) f takes = takes
 known-takes g s columns (Err e) (Ok rows) f takes = takes
 known-takes g s columns (Err e) (Err d) f takes = takes
+
+-- ## Rows that are held
+
+-- other rows are held
+pub stands_given : (g : Given) (s : Stand) (f : Filter) (held : Held) (rows : List EventRow) → StandsAt g s f → held_rows held ≡ rows → most_rows held ≡ most_rows f.held
+    → StandsAt g (record s { held = rows }) (record f { held = held })
+stands_given g s f held rows at is most = record {
+  reading = at.reading;
+  device = at.device;
+  wires = at.wires;
+  columns = at.columns;
+  times = at.times;
+  counted = at.counted;
+  first = at.first;
+  last = at.last;
+  used = at.used;
+  others = at.others;
+  unwired = at.unwired;
+  passed = at.passed;
+  found = at.found;
+  street = at.street;
+  behind = at.behind;
+  rows = at.rows;
+  few = at.few;
+  held = is;
+  most = most ∙ at.most;
+  latest = at.latest;
+}
+
+-- one more row is held
+pub stands_held : (g : Given) (s : Stand) (f : Filter) (held : Held) (row : EventRow) (latest : ℕ) → StandsAt g s f → held_rows held ≡ placed row (held_rows f.held) → most_rows held ≡ most_rows f.held
+    → latest ≡ max f.latest row.moment.nanos → StandsAt g (with_held s row) (record f { held = held; latest = latest })
+stands_held g s f held row latest at is most later = record {
+  reading = at.reading;
+  device = at.device;
+  wires = at.wires;
+  columns = at.columns;
+  times = at.times;
+  counted = at.counted;
+  first = at.first;
+  last = at.last;
+  used = at.used;
+  others = at.others;
+  unwired = at.unwired;
+  passed = at.passed;
+  found = at.found;
+  street = at.street;
+  behind = at.behind;
+  rows = at.rows;
+  few = at.few;
+  held = is ∙ ap (placed row) at.held;
+  most = most ∙ at.most;
+  latest = later ∙ ap (λ (n : ℕ). max n row.moment.nanos) at.latest;
+}
+
+-- which rows of the log were known before does not hang on what is held
+held-takes : (g : Given) (s : Stand) (rows : List EventRow) (latest : ℕ) (come : Result Stand FilterError) (given : Result Rows FilterError) (f : Filter)
+    → Takes g (record s { held = rows; latest = latest }) come given f → Takes g s come given f
+held-takes g s rows latest (Ok t) (Ok more) f takes = takes
+held-takes g s rows latest (Ok t) (Err d) f takes = takes
+held-takes g s rows latest (Err e) (Ok more) f takes = takes
+held-takes g s rows latest (Err e) (Err d) f takes = takes
+
+-- a row that is given out is taken in order
+pub given-takes : (g : Given) (number : ℕ) (s : Stand) (rows : List EventRow) (first : Option EventRow) (row : EventRow) (given : Result Rows FilterError) (f : Filter) → first ≡ Some row
+    → Takes g (record s { held = rows }) (with_in_order g number (record s { held = rows }) row) given f → Takes g s (with_given g number (record s { held = rows }) first) given f
+given-takes g number s rows first row given f is takes =
+    subst (λ (o : Option EventRow). Takes g s (with_given g number (record s { held = rows }) o) given f) (sym is)
+    (held-takes g s rows s.latest (with_in_order g number (record s { held = rows }) row) given f takes)
+
+-- a row that is not too late, and for which there is room, is held
+pub late-takes : (g : Given) (number : ℕ) (s : Stand) (row : EventRow) (seconds bound : ℕ) (given : Result Rows FilterError) (f : Filter) → bound ≡ bound_of s.latest seconds → bound ≤ row.moment.nanos
+    → nat_le (most_held g.window) (length s.held) ≡ false → Takes g (with_held s row) (with_due g number (with_held s row) seconds) given f → Takes g s (with_late g number s row seconds) given f
+late-takes g number s row seconds bound given f is in_time room takes =
+    let fault : Result Stand FilterError = Err (TimeOrder (lateness number s row.moment.nanos seconds)) in
+    let due : Result Stand FilterError = with_due g number (with_held s row) seconds in
+    let early : bound_of s.latest seconds ≤ row.moment.nanos = subst (λ (n : ℕ). n ≤ row.moment.nanos) is in_time in
+    let is : with_late g number s row seconds ≡ due =
+    ap (λ (b : Bool). if b then fault else if nat_le (most_held g.window) (length s.held) then Err (TooManyRows number) else due) (le-ltb row.moment.nanos (bound_of s.latest seconds) early)
+    ∙ ap (λ (b : Bool). if b then Err (TooManyRows number) else due) room in
+    subst (λ (come : Result Stand FilterError). Takes g s come given f) (sym is)
+    (held-takes g s (placed row s.held) (max s.latest row.moment.nanos) due given f takes)
+
+-- a row that counts
+pub counted-takes : (g : Given) (number : ℕ) (s : Stand) (row : EventRow) (window : Option ℕ) (given : Result Rows FilterError) (f : Filter) → row.ours ≡ true → g.window ≡ window
+    → Takes g s (with_counted g number s row window) given f → Takes g s (with_row g number s row) given f
+counted-takes g number s row window given f ours is takes =
+    subst (λ (come : Result Stand FilterError). Takes g s come given f)
+    (sym (ap (λ (o : Bool). if not o then Ok (record s { others = one_more s.others }) else with_counted g number s row g.window) ours ∙ ap (with_counted g number s row) is)) takes

@@ -1,6 +1,7 @@
 -- What a stream has written, and how it ends.
-use Rattle.std.proofs.Common.{◌≡◌, ◌⊎◌, ℕ, ◌+◌, ◌-◌, ◌*◌, ◌<◌, ◌≤◌, List, [], ◌∷◌, ◌++◌, length, min, max, take, take_all, get_or, drop, refl, sym, ap, ◌∙◌, append_assoc, length-append, arith, subst, inl, inr, OnOk, OnErr}
+use Rattle.std.proofs.Common.{◌≡◌, ◌⊎◌, ℕ, zero, suc, ◌+◌, ◌-◌, ◌*◌, ◌<◌, ◌≤◌, List, [], ◌∷◌, ◌++◌, length, min, max, take, take_all, get_or, drop, refl, sym, ap, ◌∙◌, append_assoc, length-append, arith, subst, inl, inr, OnOk, OnErr}
 use Rattle.std.proofs.lemmas.List.{append-nil}
+use Rattle.std.proofs.lemmas.Bool.{cases_eq}
 use Rattle.std.specs.declared.option.Option.{Option}
 use Rattle.std.specs.declared.result.Result.{Result}
 use Rattle.std.specs.declared.result.Result.TheVariants.{Ok, Err}
@@ -25,10 +26,10 @@ use Rattle.tsb_field_streams.specs.declared.error.FilterError.TheVariants.{Read,
 use Rattle.tsb_field_streams.specs.declared.filter.Filter.{Filter}
 use Rattle.tsb_field_streams.specs.declared.filter.Summary.{Summary}
 use Rattle.tsb_field_streams.specs.declared.stream.Stream.{Stream}
-use Rattle.tsb_field_streams.specs.Filtering.{Given, Stand, one_more, start, summary_at, with_line}
-use Rattle.tsb_field_streams.specs.Lines.{HasRead, filtered}
+use Rattle.tsb_field_streams.specs.Filtering.{Given, Stand, next_after, one_more, start, summary_at, with_line, with_next, with_nexts}
+use Rattle.tsb_field_streams.specs.Lines.{HasRead, all_of, ended, filtered}
 use Rattle.tsb_field_streams.specs.Standing.{StandsAt, Takes}
-use Rattle.tsb_field_streams.specs.Streaming.{Follows, WroteFront, Went, Sticks, Finished, EndedBehind, EndedSo, known_log, whole_log}
+use Rattle.tsb_field_streams.specs.Streaming.{Follows, WroteFront, Went, Sticks, Finished, EndedBehind, EndedSo, Known, known_log, whole_log}
 use Rattle.tsb_field_streams.proofs.ReadLemmas.{all-comes, front-comes, kept-last, kept-line, read-byte, read-fault, read-line, read-start, sticks-more}
 
 -- ## What is written
@@ -49,11 +50,14 @@ wrote-before g bytes stream old new f =
     record {
       front = f.read.front;
       behind = f.held;
+      before = f.stand;
+      count = 0;
       stand = f.stand;
       written = known_log g f.stand;
       rest = tail.0;
       whole = f.read.whole;
       comes = front-comes g bytes stream.number f.stand f.held f.read;
+      taken = refl;
       grown = f.grown;
       begins = tail.1;
     }
@@ -63,11 +67,14 @@ pub wrote-more : (g : Given) (bytes more : List ℕ) (old new : Option (List ℕ
 wrote-more g bytes more old new w = record {
   front = w.front;
   behind = w.behind ++ more;
+  before = w.before;
+  count = w.count;
   stand = w.stand;
   written = w.written;
   rest = w.rest;
   whole = ap (λ (v : List ℕ). v ++ more) w.whole ∙ append_assoc w.front w.behind more;
   comes = w.comes;
+  taken = w.taken;
   grown = w.grown;
   begins = w.begins;
 }
@@ -78,16 +85,19 @@ known-grows : (g : Given) (s t : Stand) (rows : Rows) → rows_before g.from g.w
 known-grows g s t rows grown = ap log_text grown ∙ text-append (rows_before g.from g.wires s.events) (rows_in rows)
 
 -- of a text after one that was written the first bytes have gone, and it begins a log
-front-of : (g : Given) (bytes : List ℕ) (t : Stand) (before text tail : List ℕ) (a b c : Option (List ℕ)) → filtered g bytes ≡ Ok t → Appends a b before → AppendsFront b c text
-    → whole_log g t ≡ (before ++ text) ++ tail → WroteFront g bytes a c
-front-of g bytes t before text tail a b c comes grown front is = record {
+front-of : (g : Given) (bytes : List ℕ) (s : Stand) (count : ℕ) (t : Stand) (before text tail : List ℕ) (a b c : Option (List ℕ)) → filtered g bytes ≡ Ok s → with_nexts g count s ≡ Ok t
+    → Appends a b before → AppendsFront b c text → whole_log g t ≡ (before ++ text) ++ tail → WroteFront g bytes a c
+front-of g bytes s count t before text tail a b c comes taken grown front is = record {
   front = bytes;
   behind = [];
+  before = s;
+  count = count;
   stand = t;
   written = before ++ front.0;
   rest = front.1 ++ tail;
   whole = sym (append-nil bytes);
   comes = comes;
+  taken = taken;
   grown = appends-more a b c before front.0 grown front.2;
   begins =
       is ∙ ap (λ (v : List ℕ). (before ++ v) ++ tail) front.3 ∙ ap (λ (v : List ℕ). v ++ tail) (sym (append_assoc before front.0 front.1))
@@ -116,7 +126,7 @@ rows-went (Ok u) g bytes s t stream rows a b c read comes empty stands grown mor
 }
 rows-went (Err e) g bytes s t stream rows a b c read comes empty stands grown more ok front fault =
     let tail = known-begins g t stream.filter stands in (
-      front-of g bytes t (known_log g s) (log_text (rows_in rows)) tail.0 a b c comes grown front (tail.1 ∙ ap (λ (v : List ℕ). v ++ tail.0) (known-grows g s t rows more)),
+      front-of g bytes t 0 t (known_log g s) (log_text (rows_in rows)) tail.0 a b c comes refl grown front (tail.1 ∙ ap (λ (v : List ℕ). v ++ tail.0) (known-grows g s t rows more)),
       inl (let is : e ≡ Write = cc in is),
     )
 
@@ -217,7 +227,7 @@ last-taken g bytes line old rows filter a b f is takes = goes (with_line g old.n
 
 pub last-fault : (g : Given) (bytes line : List ℕ) (old : Stream) (filter : Filter) (e : FilterError) (a b : Option (List ℕ)) → (f : Follows g bytes old a b) → line ≡ old.line
     → Takes g f.stand (with_line g old.number f.stand line) (Err e) filter → Finished (Err e) g bytes a b
-last-fault g bytes line old filter e a b f is takes = (wrote-before g bytes old a b f, inr (inl (goes (with_line g old.number f.stand line) refl takes)))
+last-fault g bytes line old filter e a b f is takes = (wrote-before g bytes old a b f, inr (inl (ap (ended g) (goes (with_line g old.number f.stand line) refl takes))))
   where
     same : with_line g old.number f.stand line ≡ with_line g old.number f.stand f.held
     same = ap (with_line g old.number f.stand) (is ∙ f.kept) ∙ kept-last g old.number f.stand f.held
@@ -231,25 +241,128 @@ pub last-unwritten : (g : Given) (bytes : List ℕ) (old : Stream) (rows : Rows)
     → AppendsFront b c (log_text (rows_in rows)) → e ≡ Write → Finished (Err e) g bytes a c
 last-unwritten g bytes old rows filter e a b c l front is =
     let tail = known-begins g l.stand filter l.stands in (
-      front-of g bytes l.stand (known_log g l.before) (log_text (rows_in rows)) tail.0 a b c l.comes l.grown front
+      front-of g bytes l.stand 0 l.stand (known_log g l.before) (log_text (rows_in rows)) tail.0 a b c l.comes refl l.grown front
           (tail.1 ∙ ap (λ (v : List ℕ). v ++ tail.0) (known-grows g l.before l.stand rows l.more)),
       inl is,
     )
 
+-- all that is known by the lines is written
+pub known-last : (g : Given) (bytes : List ℕ) (old : Stream) (rows : Rows) (filter : Filter) (a b c : Option (List ℕ)) → (l : LastTaken g bytes old rows filter a b)
+    → Appends b c (log_text (rows_in rows)) → Known g bytes l.stand 0 filter a c
+known-last g bytes old rows filter a b c l ok = record {
+  stand = l.stand;
+  comes = l.comes;
+  taken = refl;
+  stands = l.stands;
+  grown = subst (λ (v : List ℕ). Appends a c v) (sym (known-grows g l.before l.stand rows l.more)) (appends-more a b c (known_log g l.before) (log_text (rows_in rows)) l.grown ok);
+}
+
+-- ## The rows that are held
+
+-- none is taken yet
+pub none-taken : (g : Given) (bytes : List ℕ) (before : Stand) (count n : ℕ) (filter : Filter) (a c : Option (List ℕ)) → Known g bytes before 0 filter a c
+    → ((s : Stand) → StandsAt g s filter → count ≡ length s.held) → n ≡ 0 → Known g bytes before n filter a c × (count ≡ length before.held)
+none-taken g bytes before count n filter a c k counts is =
+    let same : before ≡ k.stand = (let e : Ok before ≡ Ok k.stand = k.taken in cc) in
+    (subst (λ (m : ℕ). Known g bytes before m filter a c) (sym is) k, counts k.stand k.stands ∙ ap (λ (s : Stand). length s.held) (sym same))
+
+-- what was written is a prefix
+known-wrote : (g : Given) (bytes : List ℕ) (before : Stand) (n : ℕ) (filter : Filter) (a c : Option (List ℕ)) → Known g bytes before n filter a c → WroteFront g bytes a c
+known-wrote g bytes before n filter a c k =
+    let tail = known-begins g k.stand filter k.stands in
+    record {
+      front = bytes;
+      behind = [];
+      before = before;
+      count = n;
+      stand = k.stand;
+      written = known_log g k.stand;
+      rest = tail.0;
+      whole = sym (append-nil bytes);
+      comes = k.comes;
+      taken = k.taken;
+      grown = k.grown;
+      begins = tail.1;
+    }
+
+-- one more is taken
+pub next-taken : (g : Given) (bytes : List ℕ) (before : Stand) (n : ℕ) (old new : Filter) (rows : Rows) (a b c : Option (List ℕ)) → (k : Known g bytes before n old a b)
+    → Takes g k.stand (with_next g k.stand) (Ok rows) new → Appends b c (log_text (rows_in rows)) → Known g bytes before (n + 1) new a c
+next-taken g bytes before n old new rows a b c k takes ok =
+    let more : suc n ≡ n + 1 = omega arith in
+    subst (λ (m : ℕ). Known g bytes before m new a c) more (goes (with_next g k.stand) refl takes)
+  where
+    goes : (x : Result Stand FilterError) → with_next g k.stand ≡ x → Takes g k.stand x (Ok rows) new → Known g bytes before (suc n) new a c
+    goes (Err e) is t = absurd t
+    goes (Ok t) is stands = record {
+      stand = t;
+      comes = k.comes;
+      taken = ap (next_after g) k.taken ∙ is;
+      stands = stands.0;
+      grown = subst (λ (v : List ℕ). Appends a c v) (sym (known-grows g k.stand t rows stands.1)) (appends-more a b c (known_log g k.stand) (log_text (rows_in rows)) k.grown ok);
+    }
+
+-- its rows are not written
+pub next-unwritten : (g : Given) (bytes : List ℕ) (before : Stand) (n : ℕ) (old new : Filter) (rows : Rows) (e : FilterError) (a b c : Option (List ℕ)) → (k : Known g bytes before n old a b)
+    → Takes g k.stand (with_next g k.stand) (Ok rows) new → AppendsFront b c (log_text (rows_in rows)) → e ≡ Write → WroteFront g bytes a c × ((e ≡ Write) ⊎ (all_of g bytes ≡ Err e))
+next-unwritten g bytes before n old new rows e a b c k takes front write = (goes (with_next g k.stand) refl takes, inl write)
+  where
+    goes : (x : Result Stand FilterError) → with_next g k.stand ≡ x → Takes g k.stand x (Ok rows) new → WroteFront g bytes a c
+    goes (Err d) is t = absurd t
+    goes (Ok t) is stands =
+        let tail = known-begins g t new stands.0 in
+        front-of g bytes before (suc n) t (known_log g k.stand) (log_text (rows_in rows)) tail.0 a b c k.comes (ap (next_after g) k.taken ∙ is) k.grown front
+        (tail.1 ∙ ap (λ (v : List ℕ). v ++ tail.0) (known-grows g k.stand t rows stands.1))
+
+-- a fault stays, whatever is held behind it
+stuck : (g : Given) (s : Stand) (e : FilterError) (n m : ℕ) → with_nexts g n s ≡ Err e → n ≤ m → with_nexts g m s ≡ Err e
+stuck g s e n zero is le = let none : n ≡ 0 = omega (arith, le) in subst (λ (k : ℕ). with_nexts g k s ≡ Err e) none is
+stuck g s e n (suc m) is le = elim (cases_eq n (suc m)) [
+  | inl same ↦ subst (λ (k : ℕ). with_nexts g k s ≡ Err e) same is
+  | inr other ↦ ap (next_after g) (stuck g s e n m is (omega (arith, le, other)))
+]
+
+-- one that is held has a fault
+pub next-fault : (g : Given) (bytes : List ℕ) (before : Stand) (n : ℕ) (old new : Filter) (e : FilterError) (a b : Option (List ℕ)) → (k : Known g bytes before n old a b)
+    → Takes g k.stand (with_next g k.stand) (Err e) new → n < length before.held → WroteFront g bytes a b × ((e ≡ Write) ⊎ (all_of g bytes ≡ Err e))
+next-fault g bytes before n old new e a b k takes lt = (known-wrote g bytes before n old a b k, inr (goes (with_next g k.stand) refl takes))
+  where
+    goes : (x : Result Stand FilterError) → with_next g k.stand ≡ x → Takes g k.stand x (Err e) new → all_of g bytes ≡ Err e
+    goes (Ok t) is takes = absurd takes
+    goes (Err d) is takes =
+        let here : with_nexts g (suc n) before ≡ Err e = ap (next_after g) k.taken ∙ is ∙ ap Err (sym takes) in
+        ap (ended g) k.comes ∙ stuck g before e (suc n) (length before.held) here (omega (arith, lt))
+
+-- all are taken
+pub all-taken : (g : Given) (bytes : List ℕ) (before : Stand) (count n : ℕ) (filter : Filter) (a c : Option (List ℕ)) → Known g bytes before n filter a c × (count ≡ length before.held) → count ≡ n
+    → Known g bytes before (length before.held) filter a c
+all-taken g bytes before count n filter a c k is = subst (λ (m : ℕ). Known g bytes before m filter a c) (sym is ∙ k.1) k.0
+
+-- a fault of a row that is held, at the end
+pub gave-fault : (g : Given) (bytes : List ℕ) (e : FilterError) (a c : Option (List ℕ)) → WroteFront g bytes a c × ((e ≡ Write) ⊎ (all_of g bytes ≡ Err e)) → Finished (Err e) g bytes a c
+gave-fault g bytes e a c w = (w.0, elim w.1 [ inl write ↦ inl write | inr all ↦ inr (inl all) ])
+
 -- all that is known is written
 pub record AllKnown (g : Given) (bytes : List ℕ) (filter : Filter) (a c : Option (List ℕ)) : Type 0 where
+  pub before : Stand
+  pub count : ℕ
   pub stand : Stand
-  pub comes : filtered g bytes ≡ Ok stand
+  pub first : filtered g bytes ≡ Ok before
+  pub taken : with_nexts g count before ≡ Ok stand
+  pub comes : all_of g bytes ≡ Ok stand
   pub stands : StandsAt g stand filter
   pub grown : Appends a c (known_log g stand)
 
-pub all-known : (g : Given) (bytes : List ℕ) (old : Stream) (rows : Rows) (filter : Filter) (a b c : Option (List ℕ)) → LastTaken g bytes old rows filter a b
-    → Appends b c (log_text (rows_in rows)) → AllKnown g bytes filter a c
-all-known g bytes old rows filter a b c l ok = record {
-  stand = l.stand;
-  comes = l.comes;
-  stands = l.stands;
-  grown = subst (λ (v : List ℕ). Appends a c v) (sym (known-grows g l.before l.stand rows l.more)) (appends-more a b c (known_log g l.before) (log_text (rows_in rows)) l.grown ok);
+pub all-known : (g : Given) (bytes : List ℕ) (before : Stand) (filter : Filter) (a c : Option (List ℕ)) → Known g bytes before (length before.held) filter a c → AllKnown g bytes filter a c
+all-known g bytes before filter a c k = record {
+  before = before;
+  count = length before.held;
+  stand = k.stand;
+  first = k.comes;
+  taken = k.taken;
+  comes = ap (ended g) k.comes ∙ k.taken;
+  stands = k.stands;
+  grown = k.grown;
 }
 
 -- the log is too long
@@ -260,11 +373,14 @@ end-long g bytes filter e a c k is long =
       record {
         front = bytes;
         behind = [];
+        before = k.before;
+        count = k.count;
         stand = k.stand;
         written = known_log g k.stand;
         rest = tail.0;
         whole = sym (append-nil bytes);
-        comes = k.comes;
+        comes = k.first;
+        taken = k.taken;
         grown = k.grown;
         begins = tail.1;
       },
@@ -280,7 +396,7 @@ whole-is g s rest is = ap log_text (sym is) ∙ text-append (rows_before g.from 
 pub end-unwritten : (g : Given) (bytes : List ℕ) (filter : Filter) (rest : Rows) (e : FilterError) (a b c : Option (List ℕ)) → (k : AllKnown g bytes filter a b)
     → rows_before g.from g.wires k.stand.events ++ rows_in rest ≡ rows_of (row_in g.from g.wires k.stand.events) → AppendsFront b c (log_text (rows_in rest)) → e ≡ Write → Finished (Err e) g bytes a c
 end-unwritten g bytes filter rest e a b c k whole front is =
-    (front-of g bytes k.stand (known_log g k.stand) (log_text (rows_in rest)) [] a b c k.comes k.grown front (whole-is g k.stand rest whole ∙ sym (append-nil (known_log g k.stand ++ log_text (rows_in rest)))), inl is)
+    (front-of g bytes k.before k.count k.stand (known_log g k.stand) (log_text (rows_in rest)) [] a b c k.first k.taken k.grown front (whole-is g k.stand rest whole ∙ sym (append-nil (known_log g k.stand ++ log_text (rows_in rest)))), inl is)
 
 grown-whole : (g : Given) (s : Stand) (rest : Rows) (a b c d : Option (List ℕ)) → rows_before g.from g.wires s.events ++ rows_in rest ≡ rows_of (row_in g.from g.wires s.events)
     → Appends a b (known_log g s) → Appends b c (log_text (rows_in rest)) → Keeps c d → Appends a d (whole_log g s)
@@ -294,11 +410,14 @@ end-kept g bytes filter rest e a b c d k whole ok kept is = (
   record {
     front = bytes;
     behind = [];
+    before = k.before;
+    count = k.count;
     stand = k.stand;
     written = whole_log g k.stand;
     rest = [];
     whole = sym (append-nil bytes);
-    comes = k.comes;
+    comes = k.first;
+    taken = k.taken;
     grown = grown-whole g k.stand rest a b c d whole k.grown ok kept;
     begins = sym (append-nil (whole_log g k.stand));
   },

@@ -1,5 +1,5 @@
 -- The line that tells what ended a filter, without its end. Lines of events count from 1.
-use Rattle.std.specs.Prelude.{ℕ, ◌+◌, ◌/◌, ◌==◌, ◌||◌, nat_lt, List, [], ◌∷◌, ◌++◌, take, min, map, if◌then◌else◌, codes, decimal}
+use Rattle.std.specs.Prelude.{ℕ, ◌+◌, ◌/◌, ◌==◌, ◌||◌, nat_lt, List, [], ◌∷◌, ◌++◌, take, min, map, if◌then◌else◌, codes, decimal, Option, Some, None}
 use Rattle.tsb_event_text.specs.declared.columns.Column.{Column}
 use Rattle.tsb_event_text.specs.declared.columns.Column.TheVariants.{Device, Time, Code, Parameter}
 use Rattle.tsb_event_text.specs.declared.columns.Separator.{Separator}
@@ -12,7 +12,7 @@ use Rattle.tsb_event_text.specs.declared.time_forms.TimeForm.{TimeForm}
 use Rattle.tsb_event_text.specs.declared.time_forms.TimeForm.TheVariants.{YearFirst, MonthFirst, DayFirst, Seconds, Milliseconds}
 use Rattle.tsb_field_streams.specs.declared.error.Disorder.{Disorder}
 use Rattle.tsb_field_streams.specs.declared.error.FilterError.{FilterError}
-use Rattle.tsb_field_streams.specs.declared.error.FilterError.TheVariants.{Memory, Read, Write, TooLarge, LongLine, Malformed, TimeOrder, PastEnd, LogTooLarge}
+use Rattle.tsb_field_streams.specs.declared.error.FilterError.TheVariants.{Memory, Read, Write, TooLarge, LongLine, Malformed, TimeOrder, TooManyRows, PastEnd, LogTooLarge}
 use Rattle.tsb_field_streams.specs.Clocks.{clock_text}
 
 -- which line it is
@@ -95,11 +95,23 @@ row_fault_text line why = line_number line ++ (codes ": " ++ why_text why)
 abbrev pub day_between : Disorder → List ℕ
 day_between d = if nat_lt (d.moment / 86400000000000) (d.last / 86400000000000) then codes " of a later day" else []
 
--- a row that is earlier than one before it: both times, and the column to sort by
+-- how late a row may be where rows are sorted, and what to do
+abbrev pub late_text : ℕ → List ℕ
+late_text seconds = codes ": over " ++ (decimal seconds ++ codes " s late: give a larger --sort-within, or sort by column ")
+
+-- what is said of a row that is out of order, where rows have to be in order or are sorted
+abbrev pub sort_text : Option ℕ → List ℕ
+sort_text None = codes ": sort by column "
+sort_text (Some seconds) = late_text seconds
+
+-- what to do, with the column to sort by
+abbrev pub cure_text : Disorder → List ℕ
+cure_text d = sort_text d.within ++ decimal (d.column + 1)
+
+-- a row that is earlier than one before it: both times, and what to do
 abbrev pub disorder_text : Disorder → List ℕ
 disorder_text d =
-    line_number d.line ++ (codes ": time order: " ++ (clock_text d.moment ++ (codes " after " ++ (clock_text d.last
-    ++ (day_between d ++ (codes ": sort by column " ++ decimal (d.column + 1)))))))
+    line_number d.line ++ (codes ": time order: " ++ (clock_text d.moment ++ (codes " after " ++ (clock_text d.last ++ (day_between d ++ cure_text d)))))
 
 -- what ended a filter is told as
 abbrev pub filter_fault : FilterError → List ℕ
@@ -110,5 +122,6 @@ filter_fault TooLarge = codes "events: too large"
 filter_fault (LongLine line) = line_number line ++ codes ": over 1000 bytes (is it a text with lines?)"
 filter_fault (Malformed line why) = row_fault_text line why
 filter_fault (TimeOrder disorder) = disorder_text disorder
+filter_fault (TooManyRows line) = line_number line ++ codes ": over 1000000 rows to sort: give a smaller --sort-within, or a --device"
 filter_fault PastEnd = codes "events: past tick 6000000"
 filter_fault LogTooLarge = codes "log: too large"

@@ -1,6 +1,6 @@
 -- What lines of events come to, one after another: the events of inputs that they tell, what they leave out, or the first
 -- fault.
-use Rattle.std.specs.Prelude.{ℕ, ◌+◌, ◌==◌, ◌&&◌, min, filter, nat_lt, not, position, replicate, set, Bool, true, false, List, [], ◌∷◌, ◌++◌, length, if◌then◌else◌, Option, Some, None, Result, Ok, Err}
+use Rattle.std.specs.Prelude.{ℕ, zero, suc, ◌+◌, ◌-◌, ◌*◌, ◌==◌, ◌&&◌, min, max, nat_le, filter, nat_lt, not, position, replicate, set, Bool, true, false, List, [], ◌∷◌, ◌++◌, length, if◌then◌else◌, Option, Some, None, Result, Ok, Err}
 use Rattle.tsb_log_text.specs.tsb_types.declared.limits.TheConstants.{TICKS}
 use Rattle.tsb_lines.specs.Lines.{is_skipped}
 use Rattle.tsb_event_text.specs.declared.columns.Columns.{Columns}
@@ -25,24 +25,30 @@ use Rattle.tsb_field_log.specs.Inputs.{signal_of}
 use Rattle.tsb_field_log.specs.Mapping.{leads_from}
 use Rattle.tsb_field_log.specs.Streets.{tick_at}
 use Rattle.tsb_field_log.specs.Pushed.{last_tick, rows_before}
+use Rattle.tsb_held_rows.specs.Order.{first_before, first_of, placed, rest_before, rest_of}
 use Rattle.tsb_field_streams.specs.declared.error.Disorder.{Disorder}
 use Rattle.tsb_field_streams.specs.declared.error.FilterError.{FilterError}
-use Rattle.tsb_field_streams.specs.declared.error.FilterError.TheVariants.{LongLine, Malformed, TimeOrder, PastEnd, LogTooLarge}
+use Rattle.tsb_field_streams.specs.declared.error.FilterError.TheVariants.{LongLine, Malformed, TimeOrder, TooManyRows, PastEnd, LogTooLarge}
 use Rattle.tsb_field_streams.specs.declared.filter.Summary.{Summary}
 use Rattle.tsb_field_streams.specs.declared.filter.TheConstants.{LINE, MOST_ROWS}
+use Rattle.tsb_field_streams.specs.declared.filter.late.TheConstants.{MOST_HELD}
 
 -- what a filter is asked for: the moment at which tick 1 begins, the device whose rows count, the form of times, the zone
--- by which moments are told, and the wires
+-- by which moments are told, how many seconds a row may be behind the latest one above it where rows are sorted, and the
+-- wires
 pub record Given : Type 0 where
   pub from : ℕ
   pub device : Option (List ℕ)
   pub times : Option TimeForm
   pub zone : Option Zone
+  pub window : Option ℕ
   pub wires : List Wire
 
 -- what is known after some lines: where the columns stand, the form of times, how many rows counted, the moments of the
 -- first and the last of them, for each wire whether it is the first of its channel and had an event, how many rows were of
--- other devices, how many events had no wire and how many lines were passed over, and the events of inputs
+-- other devices, how many events had no wire and how many lines were passed over, and the events of inputs. Where rows are
+-- sorted, all this is told of those that were taken: others are held, in the order of time, and the latest row was of this
+-- moment
 pub record Stand : Type 0 where
   pub columns : Option Columns
   pub times : Option TimeForm
@@ -54,6 +60,8 @@ pub record Stand : Type 0 where
   pub unwired : ℕ
   pub passed : ℕ
   pub events : List InputEvent
+  pub held : List EventRow
+  pub latest : ℕ
 
 -- before the first line
 abbrev pub start : Given → Stand
@@ -68,6 +76,8 @@ start g = record {
   unwired = 0;
   passed = 0;
   events = [];
+  held = [];
+  latest = 0;
 }
 
 -- what is counted fits 32 bits: a count stays at the greatest
@@ -113,14 +123,80 @@ time_place (Some columns) = columns.time
 
 -- a row of this moment, on the line with this number, is earlier than the last that counted
 abbrev pub disorder : ℕ → Stand → ℕ → Disorder
-disorder number s moment = record { line = number; moment = moment; last = s.last; column = time_place s.columns }
+disorder number s moment = record { line = number; moment = moment; last = s.last; column = time_place s.columns; within = None }
 
--- a row: one of another device is counted; of the others each is no earlier than the one before
+-- a row that counts is no earlier than the one taken before it
+abbrev pub with_in_order : Given → ℕ → Stand → EventRow → Result Stand FilterError
+with_in_order g number s row =
+    if nat_lt row.moment.nanos s.last then Err (TimeOrder (disorder number s row.moment.nanos))
+    else with_signal g (with_count s row.moment.nanos) row (signal_of row.code)
+
+-- ## Rows that are a little out of order
+
+-- how many rows may be held
+abbrev pub most_held : Option ℕ → ℕ
+most_held None = 0
+most_held (Some seconds) = MOST_HELD
+
+-- the moment before which no row may come any more, where the latest one was of this moment
+abbrev pub bound_of : ℕ → ℕ → ℕ
+bound_of latest seconds = latest - seconds * 1000000000
+
+-- the row on the line with this number, of this moment, is further behind the latest one than so many seconds
+abbrev pub lateness : ℕ → Stand → ℕ → ℕ → Disorder
+lateness number s moment seconds =
+    record { line = number; moment = moment; last = s.latest; column = time_place s.columns; within = Some seconds }
+
+-- one more row is held
+abbrev pub with_held : Stand → EventRow → Stand
+with_held s row = record s { held = placed row s.held; latest = max s.latest row.moment.nanos }
+
+-- this row is taken, where there is one
+abbrev pub with_given : Given → ℕ → Stand → Option EventRow → Result Stand FilterError
+with_given g number s None = Ok s
+with_given g number s (Some row) = with_in_order g number s row
+
+-- the first row that is held is taken, where no row that may still come is before it
+abbrev pub with_due : Given → ℕ → Stand → ℕ → Result Stand FilterError
+with_due g number s seconds =
+    with_given g number (record s { held = rest_before (bound_of s.latest seconds) s.held }) (first_before (bound_of s.latest seconds) s.held)
+
+-- a row that counts, where it may be so many seconds behind the latest one: it is held
+abbrev pub with_late : Given → ℕ → Stand → EventRow → ℕ → Result Stand FilterError
+with_late g number s row seconds =
+    if nat_lt row.moment.nanos (bound_of s.latest seconds) then Err (TimeOrder (lateness number s row.moment.nanos seconds))
+    else if nat_le (most_held g.window) (length s.held) then Err (TooManyRows number)
+    else with_due g number (with_held s row) seconds
+
+-- the first row that is held is taken, where no line follows: it is no earlier than the one taken before it
+abbrev pub with_next : Given → Stand → Result Stand FilterError
+with_next g s = with_given g 0 (record s { held = rest_of s.held }) (first_of s.held)
+
+-- what follows after that
+abbrev pub next_after : Given → Result Stand FilterError → Result Stand FilterError
+next_after g (Err e) = Err e
+next_after g (Ok s) = with_next g s
+
+-- so many rows that are held are taken, where no line follows
+abbrev pub with_nexts : Given → ℕ → Stand → Result Stand FilterError
+with_nexts g zero s = Ok s
+with_nexts g (suc count) s = next_after g (with_nexts g count s)
+
+-- all of them
+abbrev pub with_rest : Given → Stand → Result Stand FilterError
+with_rest g s = with_nexts g (length s.held) s
+
+-- ## Rows
+
+-- a row that counts, in order or sorted
+abbrev pub with_counted : Given → ℕ → Stand → EventRow → Option ℕ → Result Stand FilterError
+with_counted g number s row None = with_in_order g number s row
+with_counted g number s row (Some seconds) = with_late g number s row seconds
+
+-- a row: one of another device is counted
 abbrev pub with_row : Given → ℕ → Stand → EventRow → Result Stand FilterError
 with_row g number s row =
-    if not row.ours then Ok (record s { others = one_more s.others })
-    else if nat_lt row.moment.nanos s.last then Err (TimeOrder (disorder number s row.moment.nanos))
-    else with_signal g (with_count s row.moment.nanos) row (signal_of row.code)
+    if not row.ours then Ok (record s { others = one_more s.others }) else with_counted g number s row g.window
 
 -- a row whose time has this form
 abbrev pub with_formed : Given → ℕ → Stand → TimeForm → EventRow → Result Stand FilterError

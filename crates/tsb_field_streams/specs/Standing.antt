@@ -6,12 +6,13 @@ use Rattle.tsb_field_log.specs.declared.street.Rows.{Rows}
 use Rattle.tsb_field_log.specs.Streets.{tick_at, rows_in}
 use Rattle.tsb_field_log.specs.Pushed.{last_tick, rows_before}
 use Rattle.tsb_field_log.specs.Taken.{HasTaken}
+use Rattle.tsb_held_rows.specs.Holding.{held_rows, most_rows}
 use Rattle.tsb_field_streams.specs.declared.error.FilterError.{FilterError}
 use Rattle.tsb_field_streams.specs.declared.filter.Filter.{Filter}
 use Rattle.tsb_field_streams.specs.declared.filter.Reading.{Reading}
 use Rattle.tsb_field_streams.specs.declared.filter.LeftOut.{LeftOut}
 use Rattle.tsb_field_streams.specs.declared.filter.TheConstants.{MOST_ROWS}
-use Rattle.tsb_field_streams.specs.Filtering.{Given, Stand}
+use Rattle.tsb_field_streams.specs.Filtering.{Given, Stand, most_held}
 
 -- what a filter left out so far
 abbrev pub left_out_of : Filter → LeftOut
@@ -24,6 +25,7 @@ given_of reading device wires = record {
   device = device;
   times = reading.times;
   zone = reading.zone;
+  window = reading.window;
   wires = wires;
 }
 
@@ -32,6 +34,7 @@ pub record IsRead (g : Given) (reading : Reading) : Type 0 where
   pub from : g.from ≡ reading.from.nanos
   pub times : g.times ≡ reading.times
   pub zone : g.zone ≡ reading.zone
+  pub window : g.window ≡ reading.window
 
 -- a filter of what is given has come to this
 pub record StandsAt (g : Given) (s : Stand) (f : Filter) : Type 0 where
@@ -52,6 +55,9 @@ pub record StandsAt (g : Given) (s : Stand) (f : Filter) : Type 0 where
   pub behind : last_tick g.from s.events ≤ tick_at g.from s.last
   pub rows : f.rows ≡ length (rows_before g.from g.wires s.events)
   pub few : f.rows ≤ MOST_ROWS
+  pub held : held_rows f.held ≡ s.held
+  pub most : most_rows f.held ≡ most_held g.window
+  pub latest : f.latest ≡ s.latest
 
 -- a filter that stood there has taken what comes to this, with these rows of the log become known; or it has its fault
 abbrev pub Takes : Given → Stand → Result Stand FilterError → Result Rows FilterError → Filter → Type 0

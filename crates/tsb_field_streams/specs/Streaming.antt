@@ -9,12 +9,13 @@ use Rattle.tsb_field_log.specs.Pushed.{rows_before}
 use Rattle.tsb_field_log.specs.Ticks.{row_in}
 use Rattle.tsb_field_streams.specs.declared.error.FilterError.{FilterError}
 use Rattle.tsb_field_streams.specs.declared.error.FilterError.TheVariants.{Memory, Read, Write, TooLarge, LogTooLarge}
+use Rattle.tsb_field_streams.specs.declared.filter.Filter.{Filter}
 use Rattle.tsb_field_streams.specs.declared.filter.Summary.{Summary}
 use Rattle.tsb_field_streams.specs.declared.filter.TheConstants.{MOST_ROWS}
 use Rattle.tsb_field_streams.specs.declared.stream.Stream.{Stream}
 use Rattle.tsb_field_streams.specs.declared.stream.TheConstants.{EVENTS, KEPT}
-use Rattle.tsb_field_streams.specs.Filtering.{Given, Stand, summary_at}
-use Rattle.tsb_field_streams.specs.Lines.{HasRead, filtered}
+use Rattle.tsb_field_streams.specs.Filtering.{Given, Stand, summary_at, with_nexts}
+use Rattle.tsb_field_streams.specs.Lines.{HasRead, all_of, filtered}
 use Rattle.tsb_field_streams.specs.Standing.{StandsAt}
 
 -- the log as far as it is known where a text has come to this
@@ -35,15 +36,19 @@ pub record Follows (g : Given) (bytes : List ℕ) (stream : Stream) (old new : O
   pub stands : StandsAt g stand stream.filter
   pub grown : Appends old new (known_log g stand)
 
--- what was written is a prefix of the log that the first of these bytes tell, were they all
+-- what was written is a prefix of the log that the first of these bytes tell, were they all; where rows are sorted, of
+-- the log of those rows of them that were taken, so many of them as if no line followed
 pub record WroteFront (g : Given) (bytes : List ℕ) (old new : Option (List ℕ)) : Type 0 where
   pub front : List ℕ
   pub behind : List ℕ
+  pub before : Stand
+  pub count : ℕ
   pub stand : Stand
   pub written : List ℕ
   pub rest : List ℕ
   pub whole : bytes ≡ front ++ behind
-  pub comes : filtered g front ≡ Ok stand
+  pub comes : filtered g front ≡ Ok before
+  pub taken : with_nexts g count before ≡ Ok stand
   pub grown : Appends old new written
   pub begins : whole_log g stand ≡ written ++ rest
 
@@ -56,10 +61,24 @@ abbrev pub Went : Result (Unit {0}) FilterError → Given → List ℕ → Strea
 Went (Ok u) g bytes stream old new = Follows g bytes stream old new
 Went (Err fault) g bytes stream old new = WroteFront g bytes old new × ((fault ≡ Write) ⊎ Sticks g bytes fault)
 
+-- these bytes are all, so many of the rows that were held then are taken, and all of the log is written that is known by
+-- them
+pub record Known (g : Given) (bytes : List ℕ) (before : Stand) (count : ℕ) (filter : Filter) (old new : Option (List ℕ)) : Type 0 where
+  pub stand : Stand
+  pub comes : filtered g bytes ≡ Ok before
+  pub taken : with_nexts g count before ≡ Ok stand
+  pub stands : StandsAt g stand filter
+  pub grown : Appends old new (known_log g stand)
+
+-- all rows that were held are taken; or a fault of theirs came, or of the writer
+abbrev pub Gave : Result (Unit {0}) FilterError → Given → List ℕ → Stand → Filter → Option (List ℕ) → Option (List ℕ) → Type 0
+Gave (Ok u) g bytes before filter old new = Known g bytes before (length before.held) filter old new
+Gave (Err fault) g bytes before filter old new = WroteFront g bytes old new × ((fault ≡ Write) ⊎ (all_of g bytes ≡ Err fault))
+
 -- these bytes are all: this is their log, which readers of logs take, and what was read of them
 pub record IsWhole (g : Given) (bytes : List ℕ) (summary : Summary) (written : List ℕ) : Type 0 where
   pub stand : Stand
-  pub comes : filtered g bytes ≡ Ok stand
+  pub comes : all_of g bytes ≡ Ok stand
   pub told : summary ≡ summary_at g stand
   pub log : written ≡ whole_log g stand
   pub taken : log_of written ≡ Ok (rows_of (row_in g.from g.wires stand.events))
@@ -67,12 +86,12 @@ pub record IsWhole (g : Given) (bytes : List ℕ) (summary : Summary) (written :
 -- these bytes are all, and their log would be too large
 pub record IsTooLong (g : Given) (bytes : List ℕ) : Type 0 where
   pub stand : Stand
-  pub comes : filtered g bytes ≡ Ok stand
+  pub comes : all_of g bytes ≡ Ok stand
   pub long : MOST_ROWS < length (rows_of (row_in g.from g.wires stand.events))
 
 -- the fault of bytes that are all: of their last line, or of the length of their log
 abbrev pub IsFaultOfAll : Given → List ℕ → FilterError → Type 0
-IsFaultOfAll g bytes fault = (filtered g bytes ≡ Err fault) ⊎ ((fault ≡ LogTooLarge) × IsTooLong g bytes)
+IsFaultOfAll g bytes fault = (all_of g bytes ≡ Err fault) ⊎ ((fault ≡ LogTooLarge) × IsTooLong g bytes)
 
 -- these bytes are all: their whole log is written; or a fault of theirs came, or of the writer
 abbrev pub Finished : Result Summary FilterError → Given → List ℕ → Option (List ℕ) → Option (List ℕ) → Type 0

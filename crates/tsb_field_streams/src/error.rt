@@ -1,7 +1,7 @@
 //! What ends a filter before its events do.
 use tsb_event_text::RowFault;
 
-/// A row that is earlier than one before it.
+/// A row that is earlier than one before it, or where rows are sorted, by more than they may be.
 #[derive(Clone, Copy, Debug, PartialEq, Eq)]
 pub struct Disorder {
     /// The number of its line, counted from 1.
@@ -12,6 +12,8 @@ pub struct Disorder {
     pub last: u128,
     /// The place of the column that has the times, counted from 0.
     pub column: usize,
+    /// How many seconds it might have been earlier, where rows are sorted.
+    pub within: Option<u32>,
 }
 
 /// What ends a filter before its events do. What was written until then is a prefix of the log.
@@ -29,8 +31,10 @@ pub enum FilterError {
     LongLine(u32),
     /// This line, counted from 1, is neither skipped nor a header nor a row of an event, and why.
     Malformed(u32, RowFault),
-    /// A row is earlier than one before it.
+    /// A row is earlier than one before it, or where rows are sorted, by more than it may be.
     TimeOrder(Disorder),
+    /// With the row of this line, counted from 1, more rows would wait to be sorted than may.
+    TooManyRows(u32),
     /// An event of an input is past tick 6,000,000.
     PastEnd,
     /// The log has more than 64 MiB, which no reader of logs takes.

@@ -1,6 +1,6 @@
 //! The line that tells what ended a filter.
 ghost use Rattle.std.specs.Prelude.{◌≡◌, ◌+◌, ◌++◌, ◌∷◌, [], decimal, map, IfOk, OnOk};
-ghost use Rattle.tsb_field_streams.specs.FaultLines.{column_name, day_between, disorder_text, example, field_text, filter_fault, line_number, no_time_text, other_form_text, own_text, parted_text, row_fault_text, safe, separator_name, why_text};
+ghost use Rattle.tsb_field_streams.specs.FaultLines.{column_name, cure_text, day_between, disorder_text, example, field_text, filter_fault, late_text, line_number, no_time_text, other_form_text, own_text, parted_text, row_fault_text, safe, separator_name, sort_text, why_text};
 
 use crate::clocks::{DAY, append_clock};
 use crate::error::{Disorder, FilterError};
@@ -33,12 +33,18 @@ fn append_fault(text: &mut Vec<u8>, fault: FilterError) -> Result<(), AllocError
         }
         FilterError::Malformed(line, why) => append_malformed(text, line, why),
         FilterError::TimeOrder(disorder) => append_disorder(text, disorder),
+        FilterError::TooManyRows(line) => {
+            append_line(text, line)?;
+            text.extend_from_slice(
+                b": over 1000000 rows to sort: give a smaller --sort-within, or a --device",
+            )
+        }
         FilterError::PastEnd => text.extend_from_slice(b"events: past tick 6000000"),
         FilterError::LogTooLarge => text.extend_from_slice(b"log: too large"),
     }
 }
 
-/// Adds that a row is earlier than one before it, with both times, and which column to sort by.
+/// Adds that a row is earlier than one before it, with both times, and what to do.
 fn append_disorder(text: &mut Vec<u8>, disorder: Disorder) -> Result<(), AllocError>
     ensures { OnOk result (text.new.items ≡ text.old.items ++ disorder_text disorder) }
 {
@@ -48,8 +54,42 @@ fn append_disorder(text: &mut Vec<u8>, disorder: Disorder) -> Result<(), AllocEr
     text.extend_from_slice(b" after ")?;
     append_clock(text, disorder.last)?;
     text.extend_from_slice(day_between(disorder))?;
-    text.extend_from_slice(b": sort by column ")?;
+    append_cure(text, disorder)
+}
+
+/// Adds what to do where a row is out of order: which column to sort by, and where rows are sorted, what else.
+fn append_cure(text: &mut Vec<u8>, disorder: Disorder) -> Result<(), AllocError>
+    ensures { OnOk result (text.new.items ≡ text.old.items ++ cure_text disorder) }
+{
+    append_sort(text, disorder.within)?;
     append_place(text, disorder.column)
+}
+
+/// Adds what is said before the column to sort by, where rows have to be in order or are sorted.
+fn append_sort(text: &mut Vec<u8>, within: Option<u32>) -> Result<(), AllocError>
+    ensures { OnOk result (text.new.items ≡ text.old.items ++ sort_text within) }
+{
+    match within {
+        None => text.extend_from_slice(b": sort by column "),
+        Some(seconds) => append_late(text, seconds),
+    }
+}
+
+/// Adds how late a row may be, where rows are sorted.
+fn append_late(text: &mut Vec<u8>, seconds: u32) -> Result<(), AllocError>
+    ensures { OnOk result (text.new.items ≡ text.old.items ++ late_text seconds) }
+{
+    text.extend_from_slice(b": over ")?;
+    append_seconds(text, seconds)?;
+    text.extend_from_slice(b" s late: give a larger --sort-within, or sort by column ")
+}
+
+/// Adds a number of seconds.
+fn append_seconds(text: &mut Vec<u8>, seconds: u32) -> Result<(), AllocError>
+    ensures { OnOk result (text.new.items ≡ text.old.items ++ decimal seconds) }
+{
+    let mut buffer = Buffer::new();
+    text.extend_from_slice(buffer.format(seconds).as_bytes())
 }
 
 /// Adds the number of the column at a place, counted from 1.

@@ -7,15 +7,21 @@ ghost use Rattle.tsb_field_log.specs.Streets.{rows_in};
 ghost use Rattle.tsb_field_log.specs.Pushed.{rows_before};
 ghost use Rattle.tsb_field_log.specs.Ticks.{row_in};
 ghost use Rattle.tsb_field_log.specs.Taken.{HasTaken};
-ghost use Rattle.tsb_field_streams.specs.Filtering.{Given, Stand, how_many, may_be_plain, parameter_of, start, summary_at, text_of, time_place, wire_place, with_count, with_event, with_first, with_formed, with_header, with_line, with_other_line, with_passed, with_row, with_row_line, with_signal, with_text, with_used, with_wide, without_mark};
+ghost use Rattle.tsb_held_rows.specs.Holding.{held_rows, most_rows};
+ghost use Rattle.tsb_field_streams.specs.Filtering.{Given, Stand, how_many, may_be_plain, most_held, parameter_of, start, summary_at, text_of, time_place, wire_place, with_count, with_event, with_first, with_formed, with_header, with_in_order, with_line, with_other_line, with_passed, with_row, with_row_line, with_signal, with_text, with_used, with_wide, without_mark};
 ghost use Rattle.tsb_field_streams.specs.declared.error.FilterError.TheVariants.{LogTooLarge};
 
+mod late;
+
 use crate::error::{Disorder, FilterError};
+pub use late::MOST_HELD;
+pub(crate) use late::most_held;
 use tsb_event_text::{
     Column, Columns, EventRow, Moment, RowFault, TimeForm, WideRow, Zone, event_row, header,
     is_passed, is_preface, row_fault, wide_row,
 };
 use tsb_field_log::{InputEvent, Kind, Rows, Signal, Street, Wire};
+use tsb_held_rows::Held;
 use tsb_lines::is_skipped;
 
 /// The greatest length of a line, in bytes.
@@ -33,6 +39,8 @@ pub struct Reading {
     pub times: Option<TimeForm>,
     /// The zone of the clock by which moments are told, or `None` where each is what its own clock shows.
     pub zone: Option<Zone>,
+    /// How many seconds a row may be behind the latest row above it, or `None` where each has to be in order.
+    pub window: Option<u32>,
 }
 
 /// What a filter left out. A count stays at 4,294,967,295 once it has come to it.
@@ -91,6 +99,10 @@ pub struct Filter<'a> {
     rows: u32,
     left_out: LeftOut,
     street: Street,
+    /// Rows that count and wait until none can come before them any more. None where each has to be in order.
+    held: Held,
+    /// The moment of the latest row that was held, in nanoseconds, and 0 before any.
+    latest: u128,
 }
 
 /// No row of a log.
@@ -104,7 +116,7 @@ impl<'a> Filter<'a> {
 
     /// A filter before the first line, where the street has taken no event yet. Rows of `device` count, byte for byte, or
     /// all where it is `None`. `wires` are those that the street was made with, and `used` says of none of them that it had
-    /// an event.
+    /// an event. `held` holds no row yet, and as many as are held in such a reading (`most_held`).
     #[tactic(auto, using(crate::proofs::FilterLemmas::none_known))]
     pub fn new(
         reading: Reading,
@@ -112,9 +124,10 @@ impl<'a> Filter<'a> {
         wires: &'a [Wire],
         used: Vec<bool>,
         street: Street,
+        held: Held,
     ) -> Filter<'a>
         ensures { (g : Given) → IsRead g reading → g.device ≡ option_map (λ d. d.now) device.entry → g.wires ≡ wires.now → used.items ≡ replicate (length g.wires) false → HasTaken g.from g.wires [] street
-            → StandsAt g (start g) result }
+            → held_rows held ≡ [] → most_rows held ≡ most_held g.window → StandsAt g (start g) result }
     {
         Filter {
             reading,
@@ -134,6 +147,8 @@ impl<'a> Filter<'a> {
                 found: false,
             },
             street,
+            held,
+            latest: 0,
         }
     }
 
@@ -143,8 +158,9 @@ impl<'a> Filter<'a> {
     /// those are passed over that a maker writes before the header (`is_preface`); the next names the columns, or is a row
     /// with its columns in the usual places. Behind it each is a row, or one that is passed over (`is_passed`). The first
     /// row says in which form times are. Rows of other devices have only to be rows; each of the rest is no earlier than
-    /// the one before it. The errors are `LongLine`, `Malformed`,
-    /// `TimeOrder`, `PastEnd` and `LogTooLarge`; no line is taken after one.
+    /// the one before it. Where there is a window, it may be so many seconds earlier than the latest one: it is then held,
+    /// and the first row that is held is taken once no other may come before it. The errors are `LongLine`, `Malformed`,
+    /// `TimeOrder`, `TooManyRows`, `PastEnd` and `LogTooLarge`; no line is taken after one.
     #[tactic(auto, unfolding(crate::specs::Filtering::with_line))]
     pub fn take_line(&mut self, number: u32, line: &[u8]) -> Result<Rows, FilterError>
         ensures takes { (g : Given) (s : Stand) → StandsAt g s self.old → Takes g s (with_line g number s line.now) result self.new }
@@ -310,12 +326,23 @@ impl<'a> Filter<'a> {
             self.left_out.of_other_devices = self.left_out.of_other_devices.saturating_add(1);
             return Ok(NO_ROWS);
         }
+        match self.reading.window {
+            None => self.take_in_order(number, row),
+            Some(seconds) => self.take_late(number, row, seconds),
+        }
+    }
+
+    /// Takes a row that counts, and has to be no earlier than the one taken before it.
+    fn take_in_order(&mut self, number: u32, row: EventRow) -> Result<Rows, FilterError>
+        ensures takes { (g : Given) (s : Stand) → StandsAt g s self.old → Takes g s (with_in_order g number s row) result self.new }
+    {
         if row.moment.nanos < self.last {
             return Err(FilterError::TimeOrder(Disorder {
                 line: number,
                 moment: row.moment.nanos,
                 last: self.last,
                 column: time_place(self.columns),
+                within: None,
             }));
         }
         self.count(row.moment.nanos);

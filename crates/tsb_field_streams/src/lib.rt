@@ -10,5 +10,5 @@ mod stream;
 
 pub use error::{Disorder, FilterError};
 pub use fault_lines::fault_line;
-pub use filter::{Filter, LINE, LeftOut, MOST_ROWS, Reading, Summary};
+pub use filter::{Filter, LINE, LeftOut, MOST_HELD, MOST_ROWS, Reading, Summary};
 pub use stream::{EVENTS, log};

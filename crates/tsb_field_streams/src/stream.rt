@@ -1,16 +1,17 @@
 //! Lines of events as a stream of bytes, and the log that they make known.
 ghost use Rattle.std.specs.Prelude.{◌≡◌, ◌∷◌, [], ◌++◌, false, ℕ, IfOk, List, Option, length, option_map, replicate};
 ghost use Rattle.tsb_field_log.specs.Mapping.{wires_of};
-ghost use Rattle.tsb_field_streams.specs.Filtering.{Given};
+ghost use Rattle.tsb_field_streams.specs.Filtering.{Given, Stand};
 ghost use Rattle.tsb_field_streams.specs.Standing.{given_of};
-ghost use Rattle.tsb_field_streams.specs.Streaming.{Ended, EndedBehind, Finished, Follows, Went};
+ghost use Rattle.tsb_field_streams.specs.Streaming.{Ended, EndedBehind, Finished, Follows, Gave, Known, Went};
 
 use crate::error::FilterError;
-use crate::filter::{Filter, LINE, Reading, Summary};
+use crate::filter::{Filter, LINE, Reading, Summary, most_held};
 use crate::rows::{pass_rows_on, write_rows};
 use std::alloc::{AllocError, Global};
 use std::io::{Read, Write};
 use tsb_field_log::{Street, Wire, wires};
+use tsb_held_rows::Held;
 use tsb_lines::KeptLine;
 
 /// The most events of a stream, in bytes: 1 GiB.
@@ -74,11 +75,25 @@ impl Stream<'_> {
     {
         let rows = self.filter.take_line(self.number, self.line.last())?;
         write_rows(writer, rows)?;
+        self.take_held(writer)?;
         let summary = self.filter.summary();
         let rest = self.filter.finish()?;
         write_rows(writer, rest)?;
         pass_rows_on(writer)?;
         Ok(summary)
+    }
+
+    /// Takes the rows that are held, where no line follows, and writes what becomes known of the log.
+    fn take_held<W: Write>(&mut self, writer: &mut W) -> Result<(), FilterError>
+        ensures gave { (g : Given) (bytes : List ℕ) (begun : Option (List ℕ)) (before : Stand) → Known g bytes before 0 self.old.filter begun (W.contents writer.old)
+            → Gave result g bytes before self.new.filter begun (W.contents writer.new) }
+    {
+        let count = self.filter.held_count();
+        for _ in 0..count {
+            let rows = self.filter.take_next()?;
+            write_rows(writer, rows)?;
+        }
+        Ok(())
     }
 
     /// Reads events up to their end, and writes their log.
@@ -115,9 +130,10 @@ impl Stream<'_> {
 /// where it is `None`. `mapped` are the wires that are asked for; from each channel without one a wire leads to the input
 /// of its own number, where there is one. It gives what was read.
 ///
-/// No more is held than a line of events and the rows of two ticks, so the caller has to buffer what is written. A
-/// fault ends it; what was written until then is a prefix of the log of the events read. `Memory` comes before anything
-/// is read or written.
+/// Where there is a window, rows are sorted by time: one may be so many seconds behind the latest row above it. No more is
+/// held than a line of events, the rows of two ticks and these rows of events, so the caller has to buffer what is
+/// written. A fault ends it; what was written until then is a prefix of the log of the events read. `Memory` comes before
+/// anything is read or written.
 pub fn log<R: Read, W: Write>(
     alloc: Global,
     reading: Reading,
@@ -138,8 +154,11 @@ pub fn log<R: Read, W: Write>(
     let Ok(used) = none_used(alloc, &all) else {
         return Err(FilterError::Memory);
     };
+    let Ok(held) = Held::new(alloc, most_held(reading.window)) else {
+        return Err(FilterError::Memory);
+    };
     let mut stream = Stream {
-        filter: Filter::new(reading, device, &all, used, street),
+        filter: Filter::new(reading, device, &all, used, street, held),
         number: 1,
         line: KeptLine::new(),
     };

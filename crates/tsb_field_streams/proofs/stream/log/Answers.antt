@@ -17,4 +17,4 @@ returns g c =
     subst (λ (wires : List Wire). HasTaken c.args.reading.from.nanos wires [] c.in-Ok-new.street) first c.in-Ok-new.ensures.taken in
     let used : c.in-Ok-none_used.used.items ≡ replicate (length (wires_of c.args.mapped.now)) false =
     c.in-Ok-none_used.ensures ∙ ap (λ (wires : List Wire). replicate (length wires) false) second in
-    inl (c.run.ensures.ended given (follows-start given _ _ (c.new-2.ensures given (record { from = refl; times = refl; zone = refl }) refl (sym third) used taken) refl c.new-3.ensures))
+    inl (c.run.ensures.ended given (follows-start given _ _ (c.new-3.ensures given (record { from = refl; times = refl; zone = refl; window = refl }) refl (sym third) used taken c.in-Ok-new-2.ensures.empty (c.in-Ok-new-2.ensures.most ∙ c.most_held.ensures)) refl c.new-4.ensures))

@@ -1,25 +1,17 @@
-use Rattle.std.proofs.Common.{◌≡◌, ◌≤◌, ◌∙◌, true, refl, sym, arith, rules}
-use Rattle.tsb_field_streams.specs.Filtering.{with_count}
-use Rattle.tsb_field_streams.proofs.FilterLemmas.{row-passes, row-takes}
+use Rattle.std.proofs.Common.{◌≡◌, ◌∙◌, true, Some, None, rules}
+use Rattle.tsb_field_streams.proofs.FilterLemmas.{counted-takes}
 use Rattle.tsb_field_streams.proofs.filter.Filter.take_row.Goals as goal
-
-pub returns-in-Some : goal.returns-in-Some
-returns-in-Some c = record {
-  takes = λ g s at.
-      let ours : c.args.row.ours ≡ true = search (rules, c.if-not-row.false) in
-      let last : c.args.self.now.last ≡ s.last = at.last in
-      let in_order : c.args.self.now.last ≤ c.args.row.moment.nanos = search (rules, c.if-row-self.false) in
-      let later : s.last ≤ c.args.row.moment.nanos = omega (arith, last, in_order) in
-      row-takes g c.args.number s c.args.row c.in-Some.signal c.take_signal.result c.take_signal.new.self ours later (sym c.of_code.ensures ∙ c.in-Some.is)
-      (c.take_signal.ensures.takes g (with_count s c.args.row.moment.nanos) (c.count.ensures.stands g s at later) refl);
-}
 
 pub returns-in-None : goal.returns-in-None
 returns-in-None c = record {
   takes = λ g s at.
       let ours : c.args.row.ours ≡ true = search (rules, c.if-not-row.false) in
-      let last : c.args.self.now.last ≡ s.last = at.last in
-      let in_order : c.args.self.now.last ≤ c.args.row.moment.nanos = search (rules, c.if-row-self.false) in
-      let later : s.last ≤ c.args.row.moment.nanos = omega (arith, last, in_order) in
-      row-passes g c.args.number s c.args.row _ _ ours later (sym c.of_code.ensures ∙ c.in-None.is) refl (c.count.ensures.stands g s at later);
+      counted-takes g c.args.number s c.args.row None c.take_in_order.result c.take_in_order.new.self ours (at.reading.window ∙ c.in-None.is) (c.take_in_order.ensures.takes g s at);
+}
+
+pub returns-in-Some : goal.returns-in-Some
+returns-in-Some c = record {
+  takes = λ g s at.
+      let ours : c.args.row.ours ≡ true = search (rules, c.if-not-row.false) in
+      counted-takes g c.args.number s c.args.row (Some c.in-Some.seconds) c.take_late.result c.take_late.new.self ours (at.reading.window ∙ c.in-Some.is) (c.take_late.ensures.takes g s at);
 }
