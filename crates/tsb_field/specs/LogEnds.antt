@@ -52,6 +52,7 @@ given_by wish = record {
   device = wish.device;
   times = wish.manner.times;
   zone = wish.manner.zone;
+  window = wish.manner.window;
   wires = wires_of wish.wires;
 }
 

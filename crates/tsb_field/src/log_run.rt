@@ -30,6 +30,7 @@ pub(crate) fn write_log<R: Read, W: Write, E: Write>(
         from: asked.from,
         times: asked.manner.times,
         zone: asked.manner.zone,
+        window: asked.manner.window,
     };
     let device = bytes_of(asked.device);
     match log(alloc, reading, device, &asked.wires, input, output) {

@@ -1,5 +1,5 @@
 -- What options say, by what the getters of `clap` answer.
-use Rattle.std.proofs.Common.{◌≡◌, ◌∙◌, Bool, List, Option, Some, None, [], ap, sym, codes, option_and_then, option_map, unwrap_or}
+use Rattle.std.proofs.Common.{◌≡◌, ◌∙◌, ℕ, Bool, List, Option, Some, None, [], ap, sym, codes, option_and_then, option_map, unwrap_or}
 use Rattle.clap.specs.Matches.{first_value, matched_of, raw_values}
 use Rattle.clap.specs.Walk.{Text, first_of, rows_of}
 use Rattle.clap.specs.declared.parser.matches.Found.{Found}
@@ -9,7 +9,7 @@ use Rattle.tsb_event_text.specs.declared.time_forms.TimeForm.{TimeForm}
 use Rattle.tsb_event_text.specs.declared.times.Moment.{Moment}
 use Rattle.tsb_event_text.specs.declared.zones.Zone.{Zone}
 use Rattle.tsb_words.specs.declared.field_files.Manner.{Manner}
-use Rattle.tsb_words.specs.FieldProgram.{diagram_in, diagram_with, events_in, events_with, form_said, is_set, log_in, log_with, manner_in, manner_with, moment_in, record_in, record_with, seconds_said, texts_in, wires_in, zone_said}
+use Rattle.tsb_words.specs.FieldProgram.{diagram_in, diagram_with, events_in, events_with, form_said, is_set, log_in, log_with, manner_in, manner_with, moment_in, record_in, record_with, seconds_said, texts_in, window_in, window_said, wires_in, zone_said}
 use Rattle.tsb_field_log.specs.declared.inputs.Wire.{Wire}
 use Rattle.tsb_words.specs.FieldWords.{Wish, log}
 
@@ -59,16 +59,20 @@ pub texts_is : (f : Found) (id : Text) (o : Option (List Text)) → o ≡ option
 texts_is f id o e = ap (λ (p : Option (List Text)). unwrap_or p []) (e ∙ raw_values-rows f id)
 
 -- how events are read and what is told of them, by what the getters answer
-pub getters_manner : (f : Found) (found : Option Manner) (form zone count empty : Option Text) (times : Option (Option TimeForm)) (zones : Option (Option Zone)) (counts may_be_empty : Bool)
-    → form ≡ first_value f (codes "time-form") → times ≡ form_said form → zone ≡ first_value f (codes "zone") → zones ≡ zone_said zone
+pub getters_manner : (f : Found) (found : Option Manner) (form zone sort within count empty : Option Text) (times : Option (Option TimeForm)) (zones : Option (Option Zone)) (sorts : Bool)
+    (window : Option (Option ℕ)) (counts may_be_empty : Bool) → form ≡ first_value f (codes "time-form") → times ≡ form_said form → zone ≡ first_value f (codes "zone") → zones ≡ zone_said zone
+    → sort ≡ first_value f (codes "sort") → sorts ≡ is_set sort → within ≡ first_value f (codes "sort-within") → window ≡ window_said sorts within
     → count ≡ first_value f (codes "count") → counts ≡ is_set count → empty ≡ first_value f (codes "allow-empty") → may_be_empty ≡ is_set empty
-    → found ≡ manner_with times zones counts may_be_empty → found ≡ manner_in (rows_of f)
-getters_manner f found form zone count empty times zones counts may_be_empty form-is times-is zone-is zones-is count-is counts-is empty-is may-is is =
+    → found ≡ manner_with times zones window counts may_be_empty → found ≡ manner_in (rows_of f)
+getters_manner f found form zone sort within count empty times zones sorts window counts may_be_empty form-is times-is zone-is zones-is sort-is sorts-is within-is window-is count-is counts-is empty-is may-is is =
     let times-there : times ≡ form_said (first_of (codes "time-form") (rows_of f)) = times-is ∙ ap form_said (sym (first_is f (codes "time-form") form form-is)) in
     let zones-there : zones ≡ zone_said (first_of (codes "zone") (rows_of f)) = zones-is ∙ ap zone_said (sym (first_is f (codes "zone") zone zone-is)) in
+    let sorts-there : sorts ≡ is_set (first_of (codes "sort") (rows_of f)) = sorts-is ∙ ap is_set (sym (first_is f (codes "sort") sort sort-is)) in
+    let within-there : within ≡ first_of (codes "sort-within") (rows_of f) = sym (first_is f (codes "sort-within") within within-is) in
+    let window-there : window ≡ window_in (rows_of f) = window-is ∙ (λ j. window_said (sorts-there j) (within-there j)) in
     let counts-there : counts ≡ is_set (first_of (codes "count") (rows_of f)) = counts-is ∙ ap is_set (sym (first_is f (codes "count") count count-is)) in
     let may-there : may_be_empty ≡ is_set (first_of (codes "allow-empty") (rows_of f)) = may-is ∙ ap is_set (sym (first_is f (codes "allow-empty") empty empty-is)) in
-    is ∙ (λ j. manner_with (times-there j) (zones-there j) (counts-there j) (may-there j))
+    is ∙ (λ j. manner_with (times-there j) (zones-there j) (window-there j) (counts-there j) (may-there j))
 
 -- what `log` asks for
 pub getters_log : (f : Found) (from : Moment) (device : Option Text) (manner : Manner) (wires : List Wire)

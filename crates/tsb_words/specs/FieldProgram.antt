@@ -13,10 +13,11 @@ use Rattle.tsb_event_text.specs.declared.times.Moment.{Moment}
 use Rattle.tsb_event_text.specs.declared.zones.Zone.{Zone}
 use Rattle.tsb_field_log.specs.declared.inputs.Kind.TheVariants.{Vehicle, Pedestrian, Preempt}
 use Rattle.tsb_field_log.specs.declared.inputs.Wire.{Wire}
+use Rattle.tsb_words.specs.declared.field_files.options.TheConstants.{USUAL_WINDOW}
 use Rattle.tsb_words.specs.declared.field_files.Asked.{Asked}
 use Rattle.tsb_words.specs.declared.field_files.Manner.{Manner}
 use Rattle.tsb_words.specs.declared.error.WordsError.{WordsError}
-use Rattle.tsb_words.specs.FieldWords.{Wish, diagram, events, log, recording, seconds_of, seen}
+use Rattle.tsb_words.specs.FieldWords.{Wish, diagram, events, log, recording, seconds_of, seen, window_of}
 use Rattle.tsb_words.specs.Words.{SpelledBy, met_by}
 use Rattle.tsb_words.specs.Wires.{joined, wires_of}
 
@@ -53,10 +54,14 @@ abbrev pub manner_rules : List Rule
 manner_rules =
     option_rule (codes "time-form") ∷ option_rule (codes "zone") ∷ flag_rule (codes "count") ∷ flag_rule (codes "allow-empty") ∷ []
 
+-- the options by which rows are sorted
+abbrev pub sort_rules : List Rule
+sort_rules = flag_rule (codes "sort") ∷ option_rule (codes "sort-within") ∷ []
+
 -- the words of `log`
 abbrev pub log_shape : Shape
 log_shape = shape_with (codes "log")
-    (required_rule (codes "from") ∷ option_rule (codes "device") ∷ (manner_rules ++ wire_rules))
+    (required_rule (codes "from") ∷ option_rule (codes "device") ∷ (manner_rules ++ (sort_rules ++ wire_rules)))
 
 -- the options of events that are written
 abbrev pub source_rules : List Rule
@@ -133,16 +138,29 @@ abbrev pub zone_said : Option Text → Option (Option Zone)
 zone_said None = Some None
 zone_said (Some word) = option_map (λ (zone : Zone). Some zone) (zone_named word)
 
--- how events are read and what is told of them, where a form and a zone are spelled
-abbrev pub manner_with : Option (Option TimeForm) → Option (Option Zone) → Bool → Bool → Option Manner
-manner_with (Some times) (Some zone) counts may_be_empty =
-    Some (record { times = times; zone = zone; counts = counts; may_be_empty = may_be_empty })
-manner_with times offset counts may_be_empty = None
+-- how many seconds a row may be late, where no number of them is said
+abbrev pub usual_window : Bool → Option ℕ
+usual_window sorts = if sorts then Some USUAL_WINDOW else None
+
+-- how many seconds a row may be late, where rows are to be sorted and by an option that may be left out
+abbrev pub window_said : Bool → Option Text → Option (Option ℕ)
+window_said sorts None = Some (usual_window sorts)
+window_said sorts (Some digits) = option_map (λ (n : ℕ). Some n) (window_of digits)
+
+-- the same by these options
+abbrev pub window_in : List Row → Option (Option ℕ)
+window_in rows = window_said (is_set (first_of (codes "sort") rows)) (first_of (codes "sort-within") rows)
+
+-- how events are read and what is told of them, where a form, a zone and a window are spelled
+abbrev pub manner_with : Option (Option TimeForm) → Option (Option Zone) → Option (Option ℕ) → Bool → Bool → Option Manner
+manner_with (Some times) (Some zone) (Some window) counts may_be_empty =
+    Some (record { times = times; zone = zone; window = window; counts = counts; may_be_empty = may_be_empty })
+manner_with times offset window counts may_be_empty = None
 
 -- the same by these options
 abbrev pub manner_in : List Row → Option Manner
 manner_in rows =
-    manner_with (form_said (first_of (codes "time-form") rows)) (zone_said (first_of (codes "zone") rows))
+    manner_with (form_said (first_of (codes "time-form") rows)) (zone_said (first_of (codes "zone") rows)) (window_in rows)
     (is_set (first_of (codes "count") rows)) (is_set (first_of (codes "allow-empty") rows))
 
 -- a log, where it is said from when, in which manner and on which wires

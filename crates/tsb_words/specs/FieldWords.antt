@@ -3,7 +3,7 @@ use Rattle.std.specs.Prelude.{◌≡◌, ℕ, Bool, ◌&&◌, nat_le, List, Opti
 use Rattle.tsb_lines.specs.Words.{number_of}
 use Rattle.tsb_event_text.specs.declared.times.Moment.{Moment}
 use Rattle.tsb_field_log.specs.declared.inputs.Wire.{Wire}
-use Rattle.tsb_words.specs.declared.field_files.options.TheConstants.{MOST_SECONDS}
+use Rattle.tsb_words.specs.declared.field_files.options.TheConstants.{MOST_SECONDS, MOST_WINDOW}
 use Rattle.tsb_words.specs.declared.field_files.Asked.{Asked}
 use Rattle.tsb_words.specs.declared.field_files.LogAsked.{LogAsked}
 use Rattle.tsb_words.specs.declared.field_files.Manner.{Manner}
@@ -36,6 +36,15 @@ seconds_at (Some n) = if nat_le 1 n && nat_le n MOST_SECONDS then Some n else No
 -- the seconds that digits spell
 abbrev pub seconds_of : List ℕ → Option ℕ
 seconds_of digits = seconds_at (number_of digits)
+
+-- so many seconds, where rows may be late by them: from 1 on
+abbrev pub window_at : Option ℕ → Option ℕ
+window_at None = None
+window_at (Some n) = if nat_le 1 n && nat_le n MOST_WINDOW then Some n else None
+
+-- the seconds of a window that digits spell
+abbrev pub window_of : List ℕ → Option ℕ
+window_of digits = window_at (number_of digits)
 
 -- what was answered of `log`
 abbrev pub seen_log : LogAsked → LogWish

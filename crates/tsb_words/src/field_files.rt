@@ -15,8 +15,8 @@ use crate::error::WordsError;
 use crate::matches::matches_of;
 use clap::ArgMatches;
 use commands::program;
-pub use options::MOST_SECONDS;
-use options::{form_said, moment, seconds_said, zone_said};
+pub use options::{MOST_SECONDS, MOST_WINDOW, USUAL_WINDOW};
+use options::{form_said, moment, seconds_said, window_said, zone_said};
 use std::alloc::Global;
 use std::convert::AsStr;
 use tsb_event_text::{Moment, TimeForm, Zone, can_be_written};
@@ -42,6 +42,9 @@ pub struct Manner {
     pub times: Option<TimeForm>,
     /// The zone of the clock by which moments are told, or `None` where each is what its own clock shows.
     pub zone: Option<Zone>,
+    /// How many seconds a row may be behind the latest row above it, 1 to 3,600, where rows are sorted; `None` where each
+    /// has to be in order.
+    pub window: Option<u32>,
     /// Whether it is told how much was read.
     pub counts: bool,
     /// Whether no row that counts, and no event of an input from tick 1 on, is no fault.
@@ -88,8 +91,8 @@ pub enum Asked<'a> {
 
 /// What the words ask for, the first of which is the program's name.
 ///
-/// `log` has `--from TIME`, and may have `--device ID`, `--time-form FORM`, `--zone OFFSET`, `--count`, `--allow-empty`
-/// and any number of `--vehicle CHANNEL=DETECTOR`, `--pedestrian CHANNEL=DETECTOR` and `--preempt CHANNEL=INPUT`; `record` has `--from TIME`, `--device ID`, and the
+/// `log` has `--from TIME`, and may have `--device ID`, `--time-form FORM`, `--zone OFFSET`, `--count`, `--allow-empty`,
+/// `--sort`, `--sort-within SECONDS` and any number of `--vehicle CHANNEL=DETECTOR`, `--pedestrian CHANNEL=DETECTOR` and `--preempt CHANNEL=INPUT`; `record` has `--from TIME`, `--device ID`, and the
 /// files of a plan and a log, and may have `--go-on`; `events` has `--from TIME` and `--device ID`, and may have `--log LOG`; `diagram` may have
 /// `--log LOG`, `--title TEXT` and `--seconds-per-line N`. Options come in any order, and `--NAME=VALUE` is
 /// `--NAME VALUE`. A value that begins with a hyphen comes after `=`. All else is `Bad`, and so are a request for help
@@ -152,25 +155,30 @@ fn manner_asked(options: &ArgMatches<'_>) -> Option<Manner>
 {
     let times = form_said(options.get_str("time-form"));
     let zone = zone_said(options.get_str("zone"));
+    let sorts = is_set(options.get_str("sort"));
+    let window = window_said(sorts, options.get_str("sort-within"));
     let counts = is_set(options.get_str("count"));
     let may_be_empty = is_set(options.get_str("allow-empty"));
-    manner_with(times, zone, counts, may_be_empty)
+    manner_with(times, zone, window, counts, may_be_empty)
 }
 
-/// How `log` reads events and what it tells of them, where a form and a zone are spelled.
+/// How `log` reads events and what it tells of them, where a form, a zone and a window are spelled.
 fn manner_with(
     times: Option<Option<TimeForm>>,
     zone: Option<Option<Zone>>,
+    window: Option<Option<u32>>,
     counts: bool,
     may_be_empty: bool,
 ) -> Option<Manner>
-    ensures { result ≡ manner_with times zone counts may_be_empty }
+    ensures { result ≡ manner_with times zone window counts may_be_empty }
 {
     let times = times?;
     let zone = zone?;
+    let window = window?;
     Some(Manner {
         times,
         zone,
+        window,
         counts,
         may_be_empty,
     })

@@ -1,7 +1,7 @@
 //! The command of the program, as `clap` reads it.
 ghost use Rattle.std.specs.Prelude.{◌≡◌, IfOk, false};
 ghost use Rattle.clap.specs.Words.{app_of, rule_of};
-ghost use Rattle.tsb_words.specs.FieldProgram.{IsLeaf, diagram_shape, events_shape, file_rule, flag_rule, log_shape, manner_rules, option_rule, program, has_globals, record_shape, repeated_rule, required_rule, source_rules, wire_rules, with_rules};
+ghost use Rattle.tsb_words.specs.FieldProgram.{IsLeaf, diagram_shape, events_shape, file_rule, flag_rule, log_shape, manner_rules, option_rule, program, has_globals, record_shape, repeated_rule, required_rule, sort_rules, source_rules, wire_rules, with_rules};
 
 use clap::{Arg, ArgAction, Command};
 use std::alloc::{AllocError, Global};
@@ -29,6 +29,7 @@ fn log_command<'a>(alloc: Global) -> Result<Command<'a>, AllocError>
         .arg(required(alloc, "from"))?
         .arg(option(alloc, "device"))?;
     let sources = with_manner(alloc, sources)?;
+    let sources = with_sort(alloc, sources)?;
     with_wires(alloc, sources)
 }
 
@@ -41,6 +42,15 @@ fn with_manner<'a>(alloc: Global, command: Command<'a>) -> Result<Command<'a>, A
         .arg(option(alloc, "zone"))?
         .arg(flag(alloc, "count"))?
         .arg(flag(alloc, "allow-empty"))
+}
+
+/// The command with the options by which rows are sorted.
+fn with_sort<'a>(alloc: Global, command: Command<'a>) -> Result<Command<'a>, AllocError>
+    ensures { IfOk result (λ more. (app_of more ≡ with_rules sort_rules (app_of command.entry)) × (has_globals more ≡ has_globals command.entry)) }
+{
+    command
+        .arg(flag(alloc, "sort"))?
+        .arg(option(alloc, "sort-within"))
 }
 
 /// The command with the options of wires.

@@ -1,8 +1,8 @@
 //! What options say, by the matches of a subcommand.
 ghost use Rattle.std.specs.Prelude.{◌≡◌, option_map};
 ghost use Rattle.clap.specs.Words.{found_of, rows_of};
-ghost use Rattle.tsb_words.specs.FieldProgram.{form_said, moment_in, seconds_said, zone_said};
-ghost use Rattle.tsb_words.specs.FieldWords.{seconds_of};
+ghost use Rattle.tsb_words.specs.FieldProgram.{form_said, moment_in, seconds_said, usual_window, window_said, zone_said};
+ghost use Rattle.tsb_words.specs.FieldWords.{seconds_of, window_of};
 
 use clap::ArgMatches;
 use tsb_event_text::{Moment, TimeForm, Zone, read_moment, time_form_named, zone_named};
@@ -10,6 +10,12 @@ use tsb_lines::number;
 
 /// The most seconds that a line of a diagram shows: a day.
 pub const MOST_SECONDS: u32 = 86_400;
+
+/// How many seconds a row may be late where rows are sorted, if nothing else is said.
+pub const USUAL_WINDOW: u32 = 60;
+
+/// The most seconds that a row may be late where rows are sorted: an hour.
+pub const MOST_WINDOW: u32 = 3_600;
 
 /// What `--from` says.
 pub(crate) fn moment(matches: &ArgMatches<'_>) -> Option<Moment>
@@ -43,6 +49,38 @@ pub(crate) fn zone_said(text: Option<&str>) -> Option<Option<Zone>>
             Some(Some(zone))
         }
     }
+}
+
+/// What `--sort` and `--sort-within` say of how many seconds a row may be late: `None` where the second says no such
+/// number.
+pub(crate) fn window_said(sorts: bool, text: Option<&str>) -> Option<Option<u32>>
+    ensures { result ≡ window_said sorts (option_map (λ text. text.now) text.entry) }
+{
+    match text {
+        None => Some(usual_window(sorts)),
+        Some(text) => {
+            let seconds = window(text.as_bytes())?;
+            Some(Some(seconds))
+        }
+    }
+}
+
+/// How many seconds a row may be late, where no number of them is said.
+fn usual_window(sorts: bool) -> Option<u32>
+    ensures { result ≡ usual_window sorts }
+{
+    if sorts { Some(USUAL_WINDOW) } else { None }
+}
+
+/// The seconds of a window that digits spell.
+fn window(digits: &[u8]) -> Option<u32>
+    ensures { result ≡ window_of digits.now }
+{
+    let seconds = number(digits)?;
+    if seconds < 1 || seconds > MOST_WINDOW {
+        return None;
+    }
+    Some(seconds)
 }
 
 /// What `--seconds-per-line` says, where it came: `None` where it says no number of seconds.
