@@ -1,3 +1,4 @@
+pub mod Examples
 pub mod FilterLemmas
 -- the text of rows
 pub mod RowLemmas
@@ -7,3 +8,5 @@ pub mod ReadLemmas
 pub mod StreamLemmas
 -- texts that grow piece by piece
 pub mod PieceLemmas
+-- rows that are sorted within a window
+pub mod SortLemmas

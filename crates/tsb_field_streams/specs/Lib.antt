@@ -8,5 +8,7 @@ pub mod Lines
 pub mod Streaming
 -- times of day as faults show them
 pub mod Clocks
+-- what holds of rows that are sorted within a window
+pub mod SortLaws
 -- the line that tells what ended a filter
 pub mod FaultLines

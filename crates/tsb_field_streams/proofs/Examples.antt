@@ -1,0 +1,2 @@
+-- Mistakes that the definitions refuse.
+pub mod SortMistakes
