@@ -12,6 +12,7 @@ from run_program import ENDLESS, EXAMPLES, FULL, READ, TORN, WRITE, Run
 
 USAGE = (
     b"usage: tsb_field log --from TIME [--device ID] [--time-form FORM] [--zone OFFSET] [--count] [--allow-empty]\n"
+    b"          [--sort] [--sort-within SECONDS]\n"
     b"          [--vehicle CHANNEL=DETECTOR].. [--pedestrian CHANNEL=DETECTOR].. [--preempt CHANNEL=INPUT]..\n"
     b"    or tsb_field record --from TIME --device ID [--go-on] PLAN LOG\n"
     b"    or tsb_field events --from TIME --device ID [--log LOG]\n"
@@ -371,6 +372,47 @@ def manner_runs():
     wires = [*("--vehicle 9=1 --vehicle 9=2 --vehicle 8=1 --pedestrian 9=1".split()), "--count"]
     events = told("07:00:00 82 9", "07:00:00 82 8", "07:00:00 90 9", "07:00:00 81 9")
     yield logged(events, row(1, [1, 2], [1]) + row(2, [1], [1]), *wires, errors=read % (4, b"07:00:00.0", b"07:00:00.0", 3))
+
+
+def sort_runs():
+    """Rows that are a little out of order."""
+    order = b"events line %d: time order: %b after %b: over %d s late: give a larger --sort-within, or sort by column 2\n"
+    turned = CAR_SECOND + CAR_FIRST
+    yield refused(turned, b"events line 2: time order: 07:00:01.0 after 07:00:03.0: sort by column 2\n")
+    for words, window in [(["--sort"], 60), (["--sort-within", "2"], 2), (["--sort-within=0300"], 300), (["--sort", "--sort-within=3600"], 3600)]:
+        for text in [CAR, turned, HEADER + turned, turned.replace(b"\n", b"\r\n")]:
+            yield logged(text, CAR_LOG, *words)
+        # A row may be as late as the window, and no later.
+        late = field_rules.time_text(BEGIN + (window + 1) * field_rules.SECOND).decode()
+        yield logged(told(f"{late} 1 1", "07:00:01 82 2", "07:00:03 81 2") if window > 2 else told("07:00:03 81 2", "07:00:01 82 2"), CAR_LOG, *words)
+        later = field_rules.clock(BEGIN + (window + 1) * field_rules.SECOND + 1)
+        at = field_rules.time_text(BEGIN + (window + 1) * field_rules.SECOND + 1).decode()
+        yield refused(told(f"{at} 1 1", "07:00:01 82 2"), order % (2, b"07:00:01.0", later, window), b"", *words)
+    # Rows of one moment stay as they stand: a pulse, and a pause that is not seen.
+    yield logged(told("07:00:04 1 1", "07:00:02 82 3", "07:00:02 81 3"), row(21, [3]) + row(22), "--sort")
+    yield logged(told("07:00:04 1 1", "07:00:02 81 3", "07:00:02 82 3"), row(21, [3]), "--sort")
+    # What is told is that of the sorted rows.
+    read = b"read: 3 rows from 2026-11-22 %b to 2026-11-22 %b, events of 1 channels\n"
+    yield logged(CAR_SECOND + told("07:00:09.5 1 1") + CAR_FIRST, CAR_LOG, "--sort", "--count", errors=read % (b"07:00:01.0", b"07:00:09.5"))
+    # Rows of other devices, and rows before the header, say nothing of the time.
+    other = HEADER + b"8,2026-11-23 07:00:00,1,1\n" + turned
+    yield logged(other, CAR_LOG, "--sort", "--device=7", errors=LEFT % (1, 0, 0))
+    # With each row one is given out at most. What a fault leaves is known by those.
+    fault = b"events line %d: " + ENDS % b"time" + b"\n"
+    yield refused(CAR + b"x\n", fault % 3, b"", "--sort")
+    yield refused(CAR + told("07:00:05 1 1", "07:00:05.1 1 1") + b"x\n", fault % 5, CAR_KNOWN, "--sort-within=2")
+    yield refused(CAR + told("07:01:05 1 1") + b"x\n", fault % 4, b"", "--sort")
+    yield refused(CAR + told("07:01:05 1 1", "07:01:05 1 1") + b"x\n", fault % 5, CAR_KNOWN, "--sort")
+    # An event past the last tick is refused as it is given out.
+    yield refused(told(f"{BEHIND} 82 2") + CAR, order % (2, b"07:00:01.0", b"05:40:00.0 of a later day", 60), b"", "--sort")
+    yield refused(CAR + told(f"{BEHIND} 82 2"), b"events: past tick 6000000\n", CAR_KNOWN, "--sort")
+    far = b"Time,Device Id,Code,Param\n2026-11-23 00:00:00.001,7,1,1\n2026-11-22 23:58:59.9,7,1,1\n"
+    yield refused(far, b"events line 3: time order: 23:58:59.9 after 00:00:00.001 of a later day: over 60 s late: "
+                       b"give a larger --sort-within, or sort by column 1\n", b"", "--sort")
+    yield logged((EXPORT_FOLDER / "a23_unsorted.csv").read_bytes(), ticked(BOTH), "--sort-within=1")
+    for words in [["--sort=1"], ["--sort", "--sort"], ["--sort-within"], ["--sort-within=0"], ["--sort-within=3601"], ["--sort-within=1.5"],
+                  ["--sort-within="], ["--sort-within=1", "--sort-within=1"], ["--sort-within=60s"], ["--sorted"]]:
+        yield Run([*LOG, *words], 2, b"", USAGE, CAR)
 
 
 def line_faults():

@@ -46,6 +46,10 @@ NO_SECONDS = b" has no seconds (was it opened in a spreadsheet?)"
 TWO_WAYS = b" can be read in two ways: give --time-form month-first or --time-form day-first"
 NO_NUMBER = b" is no whole number up to 4294967295"
 
+# How many rows are held at a time where they are sorted, and what is told of a row that is one too many.
+MOST_HELD = 1_000_000
+TOO_MANY = b" line %d: over 1000000 rows to sort: give a smaller --sort-within, or a --device"
+
 # What is told where no row counts, and where no input has an event from tick 1 on.
 NO_ROW = b"events: no row counts (give --allow-empty where that is right)\n"
 NO_EVENT = b"events: no event of an input from --from on (give --allow-empty where that is right)\n"
@@ -370,11 +374,14 @@ def clock(nanos):
     return f"{clock}.{part.ljust(next(n for n in (1, 3, 9) if len(part) <= n), '0')}".encode()
 
 
-def order_fault(count, at, last, place):
-    """What is told of a row that is earlier than one before it."""
+def order_fault(count, at, last, place, window=None):
+    """What is told of a row that is earlier than one before it, or by more than a window of seconds."""
     day = 86400 * SECOND
     later = b" of a later day" if at // day < last // day else b""
-    return b" line %d: time order: %b after %b%b: sort by column %d" % (count, clock(at), clock(last), later, place + 1)
+    cure = b"sort by column %d" % (place + 1)
+    if window is not None:
+        cure = b"over %d s late: give a larger --sort-within, or %b" % (window, cure)
+    return b" line %d: time order: %b after %b%b: %b" % (count, clock(at), clock(last), later, cure)
 
 
 class Read:
@@ -387,13 +394,23 @@ class Read:
         self.is_found, self.form = False, None
 
 
-def taken(lines, begin, device, wires, form=None, zone=None):
-    """What was read of lines. A fault is raised."""
+def taken(lines, begin, device, wires, form=None, zone=None, window=None):
+    """What was read of lines; where there is a window of seconds, rows are sorted that are no later. A fault is raised."""
     read, is_named, places, mark = Read(), form is not None, None, None
-    events = read.events
+    events, held, latest = read.events, [], 0
 
     def fault(told):
         raise Fault(b"events" + told + b"\n", known_log(begin, wires, events))
+
+    def give(at, code, channel):
+        read.moments.append(at)
+        kind, on = CODES.get(code, (None, None))
+        if kind and any(wire[:2] == (kind, channel) for wire in wires):
+            if tick_of(begin, at) > TICKS:
+                fault(b": past tick %d" % TICKS)
+            events.append((at, kind, channel, on))
+        elif kind:
+            read.lost += 1
 
     for count, line in enumerate(lines, 1):
         if len(line) > 1000:
@@ -427,16 +444,21 @@ def taken(lines, begin, device, wires, form=None, zone=None):
         if not counts:
             read.others += 1
             continue
-        if read.moments and at < read.moments[-1]:
-            fault(order_fault(count, at, read.moments[-1], places[1]))
-        read.moments.append(at)
-        kind, on = CODES.get(code, (None, None))
-        if kind and any(wire[:2] == (kind, channel) for wire in wires):
-            if tick_of(begin, at) > TICKS:
-                fault(b": past tick %d" % TICKS)
-            events.append((at, kind, channel, on))
-        elif kind:
-            read.lost += 1
+        if window is None:
+            if read.moments and at < read.moments[-1]:
+                fault(order_fault(count, at, read.moments[-1], places[1]))
+            give(at, code, channel)
+            continue
+        if at < latest - window * SECOND:
+            fault(order_fault(count, at, latest, places[1], window))
+        if len(held) == MOST_HELD:
+            fault(TOO_MANY % count)
+        bisect.insort_right(held, (at, code, channel), key=lambda row: row[0])
+        latest = max(latest, at)
+        if held[0][0] < latest - window * SECOND:
+            give(*held.pop(0))
+    for row in held:
+        give(*row)
     return read
 
 
@@ -449,11 +471,11 @@ def counted(read):
     return b"read: %d rows from %b to %b, events of %d channels\n" % (len(read.moments), *span, len(channels))
 
 
-def log(text, begin, device=None, mapped=(), form=None, zone=None, is_counted=False, may_be_empty=False):
+def log(text, begin, device=None, mapped=(), form=None, zone=None, is_counted=False, may_be_empty=False, window=None):
     """The status of `log` for a text of events, its log from a moment on, and what standard error has. A fault is
     raised."""
     wires = wires_of(mapped)
-    read = taken(lines_of(text), begin, device, wires, form, zone)
+    read = taken(lines_of(text), begin, device, wires, form, zone, window)
     if read.passed and not read.is_found:
         raise Fault(NOTHING, b"")
     told = b"" if read.form in (None, "year-first") else f"times: {read.form}, by the first row\n".encode()

@@ -24,7 +24,7 @@ from field_cases import BEGIN, FROM, GIB, MOST_ROWS
 from run_program import EXAMPLES, shown
 
 # How many texts there are of each kind.
-TRIPS, TEXTS, EXPORTS = 200, 200, 2000
+TRIPS, TEXTS, EXPORTS, LATE = 200, 200, 2000, 1000
 DEVICES = ["1001", "Main, 5th", "-7", "x y", "#7"]
 KINDS = list(field_rules.MOST)
 
@@ -156,8 +156,13 @@ def row_text(chance, said, places, width, space, mark):
     return mark.join(row)
 
 
-def random_export(chance):
-    """An export in a form at random, with a fault now and then."""
+# How late a row comes, in tenths of a second, and words by which rows are sorted, with their window in seconds.
+LATENESS = [0, 0, 0, 0, 0, 1, 3, 9, 9, 10, 10, 11, 25]
+SORTED = [(["--sort"], 60), (["--sort-within", "1"], 1), (["--sort-within=2"], 2), (["--sort", "--sort-within", "3600"], 3600)]
+
+
+def random_export(chance, is_late=False):
+    """An export in a form at random, with a fault now and then; rows may come a little late."""
     header, form, mark = chance.choice(HEADERS), chance.choice(list(field_rules.FORM_TIMES)), chance.choice(",,,;;\t")
     places = (field_rules.columns(header) or [field_rules.USUAL])[0]
     width = max(place for place in places if place is not None) + 1 + chance.choice([0, 0, 1])
@@ -174,7 +179,8 @@ def random_export(chance):
         channel = str(chance.choice([1, 1, 2, 4, 17])) + zeros
         if chance.randrange(150 if code in field_rules.CODES else 3) == 0:
             channel = chance.choice(["NULL", "-1", ""])
-        time = random_time(chance, now, form, suffix, point)
+        at = now - chance.choice(LATENESS) * 10 ** 8 if is_late else now
+        time = random_time(chance, at, form, suffix, point)
         said = [chance.choice([device, device, "8"]), time, f"{code}{zeros}", channel]
         lines.append(row_text(chance, said, places, width, space, mark).encode())
         spoilt = chance.randrange(120)
@@ -206,6 +212,21 @@ def logs_of_exports(program):
         words += [f"--{name}={it}" for name, it in [("device", device), ("time-form", form), ("zone", zone)] if it]
         words += [word for word, is_asked in zip(["--count", "--allow-empty"], told) if is_asked]
         yield from difference(f"log of export {count}", answer(program, words, text), wanted)
+
+
+def sorted_exports(program):
+    """Exports at random, a little out of order, of which the program makes another log than the rule."""
+    for count in range(LATE):
+        chance = random.Random(f"late {count}")
+        text, device = random_export(chance, chance.randrange(8) > 0), chance.choice([None, None, "7"])
+        told, (more, window) = [chance.randrange(4) == 0, chance.randrange(2) == 0], chance.choice(SORTED)
+        try:
+            wanted = field_rules.log(text, BEGIN, device and device.encode(), (), None, None, *told, window)
+        except field_rules.Fault as fault:
+            wanted = 1, fault.known, fault.line
+        words = ["log", *FROM, *more, *([f"--device={device}"] if device else [])]
+        words += [word for word, is_asked in zip(["--count", "--allow-empty"], told) if is_asked]
+        yield from difference(f"log of late export {count}", answer(program, words, text), wanted)
 
 
 def random_display(chance):
@@ -359,6 +380,13 @@ def greatest(program):
     # The rows before the last event's tick are known, and fit; that of its tick would be one too many.
     more, _ = field_cases.switching(MOST_ROWS + 1)
     yield from difference("a longer log", answer(program, field_cases.LOG, more), (1, log, b"log: too large\n"))
+    # As many rows of one moment as may be held, and one more.
+    row = field_cases.told("07:00:01 1 1")
+    most = row * field_rules.MOST_HELD + field_cases.CAR
+    line = b"events line %d: over 1000000 rows to sort: give a smaller --sort-within, or a --device\n" % (field_rules.MOST_HELD + 1)
+    yield from difference("too many rows to sort", answer(program, [*field_cases.LOG, "--sort"], most), (1, b"", line))
+    few = most[2 * len(row):]
+    yield from difference("as many rows as are sorted", answer(program, [*field_cases.LOG, "--sort"], few), (0, field_cases.CAR_LOG, b""))
     feeds = bytes([10]) * (1 << 20)
     begun = field_cases.CAR.ljust(len(feeds), b"\n")
     for over, wanted in [(b"", (field_cases.CAR_LOG, b"", 0)),
@@ -393,7 +421,7 @@ def worked_runs():
     """All worked runs."""
     return [
         *field_cases.form_runs(), *field_cases.wide_runs(), *field_cases.separator_runs(), *field_cases.export_runs(),
-        *field_cases.moment_runs(), *field_cases.wire_runs(), *field_cases.manner_runs(), *field_cases.fault_runs(),
+        *field_cases.moment_runs(), *field_cases.wire_runs(), *field_cases.manner_runs(), *field_cases.sort_runs(), *field_cases.fault_runs(),
         *field_cases.event_runs(), *field_cases.record_runs(), *field_cases.record_faults(), *field_cases.word_runs(),
         *field_cases.stream_runs(),
     ]
@@ -413,13 +441,14 @@ def main(words):
         wrong = [f"{run.words} {run.places or ''}{shown(run.commands)}: {it}" for run in runs
                  for it in run.differences(program, folder)]
         wrong += [*round_trips(program, folder), *logs_of_events(program), *logs_of_exports(program)]
+        wrong += sorted_exports(program)
         wrong += events_of_displays(program, folder)
         wrong += [*diagrams(program, folder), *closed_pipes(program), *one_stream(program)]
         wrong += [*long_session(program), *greatest(program)]
     wrong += hour(program, bench)
     of_sessions, count = sessions(program)
     wrong += of_sessions
-    told = f"{len(runs)} worked runs, {count} sessions, {TRIPS} round trips, {EXPORTS} exports and {2 * TEXTS} texts " \
+    told = f"{len(runs)} worked runs, {count} sessions, {TRIPS} round trips, {EXPORTS + LATE} exports and {2 * TEXTS} texts " \
            f"at random as expected"
     print("\n".join(wrong) if wrong else f"tsb_field: {told}")
     return 1 if wrong else 0

@@ -1,5 +1,5 @@
 -- Rows that are sorted within a window.
-use Rattle.std.proofs.Common.{◌≡◌, ℕ, zero, suc, ◌+◌, ◌-◌, ◌*◌, ◌<◌, ◌≤◌, nat_lt, nat_le, max, Bool, true, false, cond, List, [], ◌∷◌, ◌++◌, length, refl, sym, ap, ◌∙◌, arith, subst, inl, inr, Option, Some, None, Result, Ok, Err, if◌then◌else◌}
+use Rattle.std.proofs.Common.{◌≡◌, ℕ, zero, suc, ◌-◌, ◌*◌, ◌<◌, ◌≤◌, nat_lt, nat_le, max, Bool, true, false, List, [], ◌∷◌, ◌++◌, length, refl, sym, ap, ◌∙◌, arith, subst, inl, inr, Option, Some, None, Result, Ok, Err, if◌then◌else◌}
 use Rattle.std.proofs.lemmas.Bool.{cases_lt, lt-ltb, le-ltb}
 use Rattle.tsb_event_text.specs.declared.rows.EventRow.{EventRow}
 use Rattle.tsb_field_log.specs.declared.inputs.InputEvent.{InputEvent}
@@ -13,9 +13,9 @@ use Rattle.tsb_held_rows.proofs.OrderLemmas.{AllFrom, first-stays, stay-in-order
 use Rattle.tsb_field_streams.specs.declared.error.FilterError.{FilterError}
 use Rattle.tsb_field_streams.specs.declared.error.FilterError.TheVariants.{TimeOrder, TooManyRows, PastEnd, LogTooLarge}
 use Rattle.tsb_field_streams.specs.declared.filter.TheConstants.{MOST_ROWS}
-use Rattle.tsb_field_streams.specs.Filtering.{Given, Stand, bound_of, disorder, lateness, most_held, next_after, start, wire_place, with_count, with_counted, with_due, with_event, with_events, with_given, with_held, with_in_order, with_late, with_next, with_nexts, with_rest, with_signal, with_used, with_wire}
+use Rattle.tsb_field_streams.specs.Filtering.{Given, Stand, bound_of, disorder, lateness, most_held, next_after, start, wire_place, with_count, with_counted, with_due, with_event, with_events, with_given, with_held, with_in_order, with_next, with_nexts, with_signal, with_used, with_wire}
 use Rattle.tsb_field_streams.specs.Lines.{ended}
-use Rattle.tsb_field_streams.specs.SortLaws.{AreWithin, Fit, TellTheSameInOrder, TellWhatSortedRowsTell, rows_behind, rows_taken, told, unsorted}
+use Rattle.tsb_field_streams.specs.SortLaws.{AreWithin, TellTheSameInOrder, TellWhatSortedRowsTell, rows_behind, rows_taken, told, unsorted}
 
 -- ## What is held makes no difference to a row that is taken in order
 
@@ -49,7 +49,7 @@ signal-carry g h l s row (Some signal) = wire-carry g h l s row signal (wire_pla
 in-order-carry : (g : Given) (h : List EventRow) (l : ℕ) (s : Stand) (row : EventRow) → with_in_order g 0 (put h l s) row ≡ carry h l (with_in_order g 0 s row)
 in-order-carry g h l s row =
     elim (nat_lt row.moment.nanos s.last) as (λ b. (if b then Err (TimeOrder (disorder 0 s row.moment.nanos)) else with_signal g (put h l (with_count s row.moment.nanos)) row (signal_of row.code))
-        ≡ carry h l (if b then Err (TimeOrder (disorder 0 s row.moment.nanos)) else with_signal g (with_count s row.moment.nanos) row (signal_of row.code)))
+    ≡ carry h l (if b then Err (TimeOrder (disorder 0 s row.moment.nanos)) else with_signal g (with_count s row.moment.nanos) row (signal_of row.code)))
     [ true ↦ refl | false ↦ signal-carry g h l (with_count s row.moment.nanos) row (signal_of row.code) ]
 
 -- and stays as it was

@@ -1,5 +1,5 @@
 -- What holds of rows that are sorted within a window. Each law here is a clause of a function in src/laws.rt.
-use Rattle.std.specs.Prelude.{◌≡◌, ℕ, ◌≤◌, max, List, [], ◌∷◌, Option, Some, None, Result, Ok, Err}
+use Rattle.std.specs.Prelude.{◌≡◌, ℕ, ◌≤◌, max, List, [], ◌∷◌, Some, None, Result, Ok, Err}
 use Rattle.tsb_event_text.specs.declared.rows.EventRow.{EventRow}
 use Rattle.tsb_held_rows.specs.Order.{IsInOrder, sorted, time_of}
 use Rattle.tsb_field_streams.specs.declared.error.FilterError.{FilterError}

@@ -4,6 +4,7 @@ use std::alloc::{AllocError, Global};
 use tsb_event_text::{Column, Moment, RowFault, TimeForm, read_moment};
 use tsb_field_log::{Kind, Rows, Street, Wire, wires};
 use tsb_field_streams::{Disorder, Filter, FilterError, LeftOut, Reading, Summary};
+use tsb_held_rows::Held;
 use tsb_log_text::row_line;
 
 /// What a filter gives for lines from 07:00:00 on.
@@ -42,12 +43,14 @@ fn said(
         from: begin(),
         times: None,
         zone: None,
+        window: None,
     };
     let all = wires(alloc, mapped)?;
     let mut used = Vec::new(alloc);
     used.resize(all.len(), false)?;
     let street = Street::new(alloc, reading.from.nanos, &all)?;
-    let mut filter = Filter::new(reading, device, &all, used, street);
+    let held = Held::new(alloc, 0)?;
+    let mut filter = Filter::new(reading, device, &all, used, street, held);
     let mut text = Vec::new(alloc);
     let mut number: u32 = 0;
     let mut fault = None;
@@ -200,6 +203,7 @@ fn faults_have_lines(alloc: Global, first: &[u8]) -> bool {
             moment: begin().nanos + 900_000_000,
             last: begin().nanos + 1_000_000_000,
             column: 1,
+            within: None,
         })),
     ) && has_fault(
         alloc,

@@ -10,6 +10,7 @@ use tsb_words::field_files::{Asked, Manner, read_words};
 const PLAIN: Manner = Manner {
     times: None,
     zone: None,
+    window: None,
     counts: false,
     may_be_empty: false,
 };
@@ -307,8 +308,34 @@ fn forms_are_named(alloc: Global) -> bool {
     true
 }
 
+/// Words by which rows are sorted, each with the seconds that a row may be late.
+const WINDOWS: [(&str, u32); 4] = [
+    ("--sort", 60),
+    ("--sort-within=1", 1),
+    ("--sort-within=0060", 60),
+    ("--sort-within=3600", 3600),
+];
+
+/// Whether each window has its words, also behind `--sort`.
+fn windows_are_named(alloc: Global) -> bool {
+    for (word, seconds) in WINDOWS {
+        let mut wanted = PLAIN;
+        wanted.window = Some(seconds);
+        if !ask_for_manner(alloc, &[word], Some(wanted)) {
+            return false;
+        }
+        if word != "--sort" && !ask_for_manner(alloc, &["--sort", word], Some(wanted)) {
+            return false;
+        }
+    }
+    true
+}
+
 /// Words that name no manner.
-const NO_MANNERS: [[&str; 2]; 8] = [
+const NO_MANNERS: [[&str; 2]; 11] = [
+    ["--sort-within=0", "--sort"],
+    ["--sort-within", "3601"],
+    ["--sort=60", "--count"],
     ["--time-form", "plain"],
     ["--time-form", "Year-First"],
     ["--time-form", ""],
@@ -322,10 +349,12 @@ const NO_MANNERS: [[&str; 2]; 8] = [
 #[test]
 fn log_words_name_a_manner(rt: HostRuntime) {
     assert!(rt; forms_are_named(rt.alloc()));
+    assert!(rt; windows_are_named(rt.alloc()));
     let all = ["--allow-empty", "--zone=-07:00", "--count"];
     let wanted = Manner {
         times: None,
         zone: Some(Zone { east: 0, west: 420 }),
+        window: None,
         counts: true,
         may_be_empty: true,
     };

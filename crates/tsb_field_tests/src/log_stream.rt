@@ -79,6 +79,7 @@ fn usual() -> Reading {
         from: begin(),
         times: None,
         zone: None,
+        window: None,
     }
 }
 
@@ -263,6 +264,7 @@ fn is_written_before_faults(alloc: Global) -> bool {
             moment: begin().nanos + 1_000_000_000,
             last: begin().nanos + 2_000_000_000,
             column: 1,
+            within: None,
         }),
     ) && ends_after_a_row(
         alloc,
@@ -273,6 +275,49 @@ fn is_written_before_faults(alloc: Global) -> bool {
         b"7,2026-11-22 07:00:01,82,2\n7,2026-11-22 07:00:02,81,2\n7,2026-11-22 07:00:02,81",
         FilterError::Malformed(3, RowFault::Missing(Column::Parameter)),
     )
+}
+
+/// Whether a text gives this log where rows may be so many seconds late.
+fn sorts(alloc: Global, seconds: u32, text: &'static [u8], wanted: &[u8]) -> bool {
+    let mut reading = usual();
+    reading.window = Some(seconds);
+    let mut log_text = Vec::new(alloc);
+    match log(alloc, reading, None, &[], &mut whole(text), &mut log_text) {
+        Ok(summary) => is_whole(summary.left_out) && log_text.as_slice() == wanted,
+        Err(_) => false,
+    }
+}
+
+/// How a text ends where rows may be so many seconds late.
+fn sorted_end(alloc: Global, seconds: u32, text: &'static [u8]) -> Option<FilterError> {
+    let mut reading = usual();
+    reading.window = Some(seconds);
+    let mut log_text = Vec::new(alloc);
+    match log(alloc, reading, None, &[], &mut whole(text), &mut log_text) {
+        Ok(_) => None,
+        Err(error) => Some(error),
+    }
+}
+
+/// A car on detector 2, told 2 s late, from tick 11 to tick 30.
+const LATE_CAR: &[u8] = b"7,2026-11-22 07:00:03,81,2\n7,2026-11-22 07:00:01,82,2\n";
+
+#[test]
+fn rows_are_sorted_within_a_window(rt: HostRuntime) {
+    let wanted =
+        b"0000011 0100000000000000 00000000 0000\n0000031 0000000000000000 00000000 0000\n";
+    assert!(rt; sorts(rt.alloc(), 2, LATE_CAR, wanted));
+    assert!(rt; sorts(rt.alloc(), 3600, LATE_CAR, wanted));
+    assert!(rt;
+        sorted_end(rt.alloc(), 1, LATE_CAR)
+            == Some(FilterError::TimeOrder(Disorder {
+                line: 2,
+                moment: begin().nanos + 1_000_000_000,
+                last: begin().nanos + 3_000_000_000,
+                column: 1,
+                within: Some(1),
+            }))
+    );
 }
 
 #[test]

@@ -1,11 +1,10 @@
 -- One-line mistakes, each with an example that tells it from the definition.
-use Rattle.std.specs.Prelude.{◌≡◌, ℕ, ◌+◌, ◌*◌, ◌≤◌, nat_lt, Bool, true, List, [], ◌∷◌, Option, Some, None, Result, Ok, Err, refl}
+use Rattle.std.specs.Prelude.{◌≡◌, ℕ, ◌*◌, true, List, [], ◌∷◌, Option, Some, None, Result, Ok, Err, refl}
 use Rattle.std.proofs.Common.{arith}
 use Rattle.tsb_event_text.specs.declared.rows.EventRow.{EventRow}
 use Rattle.tsb_held_rows.specs.Order.{first_before, rest_before}
 use Rattle.tsb_field_streams.specs.declared.error.FilterError.{FilterError}
-use Rattle.tsb_field_streams.specs.declared.error.FilterError.TheVariants.{TimeOrder}
-use Rattle.tsb_field_streams.specs.Filtering.{Given, Stand, disorder, start, with_given, with_held}
+use Rattle.tsb_field_streams.specs.Filtering.{Given, Stand, start, with_given, with_held}
 use Rattle.tsb_field_streams.specs.SortLaws.{AreWithin, rows_behind, rows_taken}
 
 -- a row that says nothing of an input, of so many seconds

@@ -1,7 +1,7 @@
 -- One-line mistakes, each with an example that tells it from the definition.
-use Rattle.std.specs.Prelude.{◌≡◌, ℕ, ◌==◌, nat_lt, nat_le, Bool, true, List, [], ◌∷◌, ◌++◌, map, if◌then◌else◌, refl}
+use Rattle.std.specs.Prelude.{◌≡◌, ℕ, ◌==◌, nat_lt, nat_le, true, List, [], ◌∷◌, ◌++◌, map, if◌then◌else◌, refl}
 use Rattle.tsb_event_text.specs.declared.rows.EventRow.{EventRow}
-use Rattle.tsb_held_rows.specs.Order.{placed, sorted, time_of}
+use Rattle.tsb_held_rows.specs.Order.{sorted, time_of}
 use Rattle.tsb_held_rows.specs.Laws.{rows_at}
 
 -- the row of this moment and code

@@ -1,4 +1,4 @@
-use Rattle.std.proofs.Common.{leb, leb-true, leb-false, arith, rules}
+use Rattle.std.proofs.Common.{leb, leb-true, leb-false, rules}
 use Rattle.std.proofs.lemmas.List.Sorted.{IsPartitionPoint-from_clause, IsPartitionedBy-leb}
 use Rattle.tsb_held_rows.specs.Order.{time_of}
 use Rattle.tsb_held_rows.proofs.held.place_of.Goals as goal

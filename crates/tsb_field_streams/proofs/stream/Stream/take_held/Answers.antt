@@ -1,4 +1,4 @@
-use Rattle.std.proofs.Common.{◌≡◌, ◌<◌, ◌∙◌, length, refl, rules, arith, Err}
+use Rattle.std.proofs.Common.{◌≡◌, ◌<◌, length, refl, rules, arith, Err}
 use Rattle.tsb_field_streams.proofs.StreamLemmas.{all-taken, next-fault, next-taken, next-unwritten, none-taken, write-fault}
 use Rattle.tsb_field_streams.proofs.stream.Stream.take_held.Goals as goal
 
