@@ -1,0 +1,4 @@
+-- places, by texts
+pub mod PlaceExamples
+-- mistakes, each with a text that shows it
+pub mod Mistakes

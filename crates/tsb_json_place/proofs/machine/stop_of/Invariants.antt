@@ -1,0 +1,10 @@
+use Rattle.std.proofs.Common.{◌≡◌, ◌≤◌, drop, length}
+use Rattle.tsb_json_place.specs.Places.{start, stop}
+use Rattle.tsb_json_place.proofs.machine.stop_of.Given as goal
+
+-- what is left stops where all does
+abbrev pub invariant-loop-at : goal.invariant-loop-at
+invariant-loop-at l = record {
+  stops : stop l.machine l.at (drop l.at l.text) ≡ stop start 0 l.text;
+  within : l.at ≤ length l.text;
+}
