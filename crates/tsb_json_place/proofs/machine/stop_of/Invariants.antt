@@ -1,4 +1,4 @@
-use Rattle.std.proofs.Common.{◌≡◌, ◌≤◌, drop, length}
+use Rattle.std.proofs.Common.{◌≡◌, ◌≤◌, ◌-◌, drop, length}
 use Rattle.tsb_json_place.specs.Places.{start, stop}
 use Rattle.tsb_json_place.proofs.machine.stop_of.Given as goal
 
@@ -8,3 +8,6 @@ invariant-loop-at l = record {
   stops : stop l.machine l.at (drop l.at l.text) ≡ stop start 0 l.text;
   within : l.at ≤ length l.text;
 }
+
+abbrev pub decreases-loop-at : goal.decreases-loop-at
+decreases-loop-at l = length l.text - l.at
