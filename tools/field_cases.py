@@ -8,7 +8,7 @@ import shutil
 
 import field_rules
 from field_rules import HEADER
-from run_program import ENDLESS, EXAMPLES, FULL, READ, TORN, WRITE, Run
+from run_program import ENDLESS, EXAMPLES, FULL, INPUT, NOT_JSON, TORN, WRITE, Run, not_read
 
 USAGE = (
     b"usage: tsb_field log --from TIME [--device ID] [--time-form FORM] [--zone OFFSET] [--count] [--allow-empty]\n"
@@ -614,7 +614,7 @@ def event_runs():
     yield Run(latest, 0, HEADER + b"1001,9999-12-20 10:13:20.199999999,1,1\n", b"", display(1, "G"))
     late = [*latest[:4], "9999-12-20 10:13:20.2"]
     yield Run(late, 2, b"", b"events: past the year 9999\n", display(1))
-    yield Run(late, 3, b"", READ, stdin=TORN)
+    yield Run(late, 3, b"", INPUT, stdin=TORN)
     yield Run([*late, "--log", "cut_short.log"], 1, b"", b"log line 1: malformed\n", display(1))
 
 
@@ -736,8 +736,8 @@ def record_faults():
     """Plans and logs that `record` refuses or can't read, and streams that fail."""
     plan = ["record", *FROM, "--device", "1001"]
     for path, status, line in [
-        ("none.json", 3, READ), ("folder", 3, READ), (TORN, 3, READ), ("car.log", 1, b"plan: not JSON\n"),
-        (ENDLESS, 1, b"plan: too large\n"), ("two_short_yellow.json", 1, b"plan: rule K8\n"),
+        *((path, 3, not_read(path)) for path in ["none.json", "folder", TORN]),
+        ("car.log", 1, NOT_JSON + b"plan line 1, column 2: expected nothing more\n"), (ENDLESS, 1, b"plan: too large\n"), ("two_short_yellow.json", 1, b"plan: rule K8\n"),
     ]:
         yield Run([*plan, path, "none.log"], status, b"", line, b"step 1\n")
     for path, status, line in log_faults():
@@ -752,7 +752,7 @@ def record_faults():
     ]:
         yield Run(words, 2, b"", USAGE, b"step 1\n")
     words = [*RECORD, "empty.log"]
-    yield Run(words, 3, b"", READ, stdin=TORN)
+    yield Run(words, 3, b"", INPUT, stdin=TORN)
     yield Run(words, 3, b"", WRITE, b"step 1\n", stdout=FULL)
     yield Run(words, 3, b"", b"", b"x\nstep 1\n", stderr=FULL)
     yield Run([*words, "--go-on"], 3, b"", b"", b"x\nstep 1\n", stderr=FULL)
@@ -763,7 +763,7 @@ def record_faults():
 
 def log_faults():
     """A log that `events` and `diagram` refuse, or can't read: its file, the status, and the line."""
-    yield from ((path, 3, READ) for path in ["none.log", "folder", TORN])
+    yield from ((path, 3, not_read(path)) for path in ["none.log", "folder", TORN])
     yield "cut_short.log", 1, b"log line 1: malformed\n"
     yield "same_tick.log", 1, b"log line 2: tick order\n"
     yield "tick_zero.log", 1, b"log line 1: malformed\n"
@@ -775,9 +775,9 @@ def stream_runs():
     """Reads and writes that fail, and which of several faults is told."""
     for words in [LOG, EVENTS, ["diagram"]]:
         text = CAR if words == LOG else ALL_LINES
-        yield Run(words, 3, b"", READ, stdin=TORN)
+        yield Run(words, 3, b"", INPUT, stdin=TORN)
         yield Run(words, 3, b"", WRITE, text, stdout=FULL)
-        yield Run(words, 3, b"", READ, stdin=TORN, stdout=FULL)
+        yield Run(words, 3, b"", INPUT, stdin=TORN, stdout=FULL)
         yield Run([*words, "more"], 2, stderr=FULL, commands=text)
         yield Run(words, 3, stdin=TORN, stderr=FULL)
         yield Run([*words, *([EMPTY] if words == LOG else [])], 0, stdin="/dev/null", stdout="/dev/null")

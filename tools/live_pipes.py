@@ -9,11 +9,12 @@ import subprocess
 import threading
 from types import TracebackType
 
+import json_places
 from live_kit import SECONDS, Ended, a_row, difference, ran
 
 PLAN, COMMANDS = pathlib.Path("examples/quad.json"), "examples/step_and_back.commands"
 LIVE_USAGE = re.compile(rb"usage: tsb_live (\[--strict\] )?PLAN\n")
-READ, WRITE, TOO_LARGE = b"read fault\n", b"write fault\n", b"commands: too large\n"
+INPUT, WRITE, TOO_LARGE = b"read fault\nstandard input\n", b"write fault\n", b"commands: too large\n"
 # Each read of the first fails, also for root; the second never ends; each write to the third fails.
 TORN, ENDLESS, FULL = "/proc/self/mem", "/dev/zero", "/dev/full"
 # The seconds in which an answer has to come, and how long one is waited for that may not.
@@ -158,7 +159,7 @@ def streams(live: pathlib.Path) -> list[str]:
     """Streams that fail, and lines without an end."""
     wrong = []
     for name, given, taken, wanted in [
-        ("a read that fails", TORN, None, (3, READ)), ("a write that fails", COMMANDS, FULL, (3, WRITE)),
+        ("a read that fails", TORN, None, (3, INPUT)), ("a write that fails", COMMANDS, FULL, (3, WRITE)),
         ("no input", os.devnull, None, (0, b"")),
     ]:
         with open(given, "rb") as source, open(taken or os.devnull, "wb") as target:
@@ -221,15 +222,25 @@ def killed_caller(live: pathlib.Path) -> list[str]:
     return [] if found == wanted else [f"a caller that is killed: {found}, not {wanted}"]
 
 
+def second_line(path: str, first: bytes) -> bytes:
+    """What is told behind the first line: which file was not read, or where its text stops being JSON."""
+    if first == b"plan: not JSON\n":
+        return json_places.second_line(pathlib.Path(path).read_bytes()) or b""
+    cause = {"none.json": ": no such file", "examples": ": a folder"}.get(path, "")
+    return f'file "{path}"{cause}\n'.encode() if first == b"read fault\n" else b""
+
+
 def plans(live: pathlib.Path, tsb: pathlib.Path) -> list[str]:
-    """Plans that are refused or cannot be read, as `tsb run` has them."""
+    """Plans that are refused or cannot be read, as `tsb run` has them, with a line more."""
     wrong = []
     names = ["two_short_yellow", "blank", *(f"main_and_oak_{number}" for number in range(1, 6))]
     others = ["none.json", "examples", TORN, ENDLESS, "examples/first_plan.log"]
     for path in [*(f"examples/{name}.json" for name in names), *others]:
         wanted = ran([tsb, "run", path, "examples/empty.log"], b"show\n")
         found = ran([live, path], b"show\n")
-        wrong += [] if found == wanted and wanted[0] in (1, 3) else [f"plan {path}: {found}, not {wanted}"]
+        lines = wanted[2] + second_line(path, wanted[2])
+        if found != (*wanted[:2], lines) or wanted[0] not in (1, 3):
+            wrong.append(f"plan {path}: {found}, not {wanted} and {lines!r}")
     return wrong
 
 

@@ -14,7 +14,8 @@ import tempfile
 
 import field_rules
 from field_cases import ALL_LINES, BEGIN, FROM
-from refused_calls import MEMORY, PIECE, READ, WRITE, Differences, Program, built
+from refused_calls import MEMORY, PIECE, WRITE, Differences, Program, built
+from run_program import INPUT, not_read
 
 LOG = "examples/one_row.log"
 
@@ -87,18 +88,19 @@ def reads_of_log(program, wrong):
         for error in [errno.EIO, errno.EINTR]:
             for number, ended in program.sweep(words, text, kind="read", error=error, piece=PIECE):
                 known = field_rules.begun_log(text[:PIECE * (number - 1)], BEGIN, *asked)
-                wrong.compare(f"{words}, read {number}, error {error}", ended, (3, known, READ))
+                wrong.compare(f"{words}, read {number}, error {error}", ended, (3, known, INPUT))
 
 
 def reads(program, wrong):
     """Fails each other read. One of a file that is interrupted is tried again; one of standard input is not."""
     for words, text in OTHERS:
         whole = program.run(words, text)[:3]
+        files = [word for word in words if word.endswith((".json", ".log"))]
         for error in [errno.EIO, errno.EINTR]:
             for number, ended in program.sweep(words, text, kind="read", error=error, piece=PIECE):
-                again = [whole] if error == errno.EINTR else []
-                wrong.compare(f"{words}, read {number}, error {error}", ended, *again,
-                              *((3, front, READ) for front in fronts(whole[1])))
+                others = [whole] if error == errno.EINTR else [(3, b"", not_read(path)) for path in files]
+                wrong.compare(f"{words}, read {number}, error {error}", ended, *others,
+                              *((3, front, INPUT) for front in fronts(whole[1])))
 
 
 def writes(program, wrong):

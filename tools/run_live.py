@@ -11,6 +11,7 @@ cases that were worked by hand; tools/run_status.py has the statuses. The last l
 import pathlib
 import sys
 
+import json_places
 import live_logs
 import live_pipes
 import live_stored
@@ -38,6 +39,7 @@ def checks(live: pathlib.Path, tsb: pathlib.Path, field: pathlib.Path) -> dict[s
         "ends of input and of lines": lambda: live_pipes.ends(live),
         "streams that fail": lambda: live_pipes.streams(live),
         "plans that are refused": lambda: live_pipes.plans(live, tsb),
+        "where plan texts stop being JSON": lambda: json_places.compare(live),
         "words": lambda: live_pipes.words(live),
     }
 

@@ -22,7 +22,10 @@ EXAMPLES = pathlib.Path("examples")
 USAGE = b"usage: tsb check PLAN or tsb run PLAN LOG\n"
 LIVE_USAGE = b"usage: tsb_live [--strict] PLAN\n"
 READ, WRITE = b"read fault\n", b"write fault\n"
-OK, RULE = b"plan ok\n", b"plan: rule K8\n"
+# What tsb_live and tsb_field tell of standard input, and why they don't read some paths; of others nothing is known.
+INPUT = READ + b"standard input\n"
+CAUSES = {"folder": b": a folder"} | dict.fromkeys(["", "help", "none.json", "none.log"], b": no such file")
+OK, RULE, NOT_JSON = b"plan ok\n", b"plan: rule K8\n", b"plan: not JSON\n"
 LONGEST_PLAN, LONGEST_COMMANDS = 1 << 20, 16 << 20
 
 # A name beyond ASCII.
@@ -40,6 +43,11 @@ MANY = 1_100_000
 # green, 3 of yellow, 1 of red clearance.
 SHOWN = [("G", "R", 100), ("Y", "R", 30), ("R", "R", 10), ("R", "G", 80), ("R", "Y", 30), ("R", "R", 10)]
 CYCLE = [f"-{second}-{fourth}" for second, fourth, ticks in SHOWN for _ in range(ticks)]
+
+
+def not_read(path):
+    """What tsb_live and tsb_field tell of a file that they don't read."""
+    return READ + b'file "%s"%s\n' % (path.encode(), CAUSES.get(path, b""))
 
 
 class Run:
@@ -184,7 +192,7 @@ def live_runs():
         ["--strict", "--strict", "two.json"], ["--"], ["--", "two.json", "--"], ["--", "two.json", "--strict"],
         ["--strict", "--"], [b"\xff"], ["two.json", b"\xc3"],
     ]:
-        yield Run(words, 3 if words == [""] else 2, b"", READ if words == [""] else LIVE_USAGE, commands)
+        yield Run(words, 3 if words == [""] else 2, b"", not_read("") if words == [""] else LIVE_USAGE, commands)
     for words in [
         ["two.json"], ["--", "two.json"], ["two.json", "--"], ["--", "--help"], ["./two.json"],
         ["with spaces/two.json"], [TWELVE], ["check"], ["--strict", "two.json"], ["two.json", "--strict"],
@@ -192,14 +200,19 @@ def live_runs():
     ]:
         yield Run(words, 0, session, b"", commands)
     for path in ["none.json", "folder", "two.json/none", TORN, "help"]:
-        yield Run([path], 3, b"", READ, commands)
+        yield Run([path], 3, b"", not_read(path), commands)
     for path in ["too_long.json", ENDLESS]:
         yield Run([path], 1, b"", b"plan: too large\n", commands)
     yield Run(["two_short_yellow.json"], 1, b"", RULE, commands)
+    long = "n" * 180 + ".json"
+    yield Run([long + "/" + long], 3, b"", READ + b'file "' + f"{long}/{long}"[:200].encode() + b'": no such file\n', commands)
+    yield Run(['"two".json'], 3, b"", READ + b'file "?two?.json": no such file\n', commands)
+    yield Run(["blank.json"], 1, b"", NOT_JSON + b"plan line 1, column 1, where the text ends: expected a value\n", commands)
+    yield Run(["same_tick.log"], 1, b"", NOT_JSON + b"plan line 1, column 2: expected nothing more\n", commands)
     yield Run(["longest.json"], 0, session, b"", commands)
     yield Run(["two.json"], 0)
     yield Run(["two.json"], 0, session, b"", commands[:-1])
-    yield Run(["two.json"], 3, b"", READ, stdin=TORN)
+    yield Run(["two.json"], 3, b"", INPUT, stdin=TORN)
     yield Run(["two.json"], 3, b"", WRITE, b"show\n", stdout=FULL)
     yield Run(["--what"], 2, stderr=FULL)
     yield Run(["none.json"], 3, stderr=FULL)

@@ -1,11 +1,15 @@
 -- How the program ends.
-use Rattle.std.proofs.Common.{◌≡◌, ℕ, Bool, List, refl, subst, inl, inr}
-use Rattle.std.specs.Prelude.{Err, Some}
+use Rattle.std.proofs.Common.{◌≡◌, ℕ, Bool, List, refl, subst, sym, inl, inr}
+use Rattle.std.proofs.lemmas.Bool.{true≢false}
+use Rattle.std.specs.Prelude.{Err, None, Some}
 use Rattle.std.specs.declared.option.Option.{Option}
 use Rattle.tsb_program.specs.Failures.{Fails}
 use Rattle.tsb_program.specs.declared.failure.Failure.{Failure}
 use Rattle.tsb_program.specs.tsb_watched.Seen.{Seen}
-use Rattle.tsb_program.specs.Read.{HasPlan, LogRead, PlanRead}
+use Rattle.tsb_program.specs.Read.{HasNoPlan, HasPlan, LogRead}
+use Rattle.tsb_program.specs.Told.{FailsFile, TellsNoLog, TellsNoPlan, TellsWhy}
+use Rattle.tsb_program.specs.declared.read.PlanFault.{PlanFault}
+use Rattle.tsb_program.specs.tsb_json_place.declared.place.JsonPlace.{JsonPlace}
 use Rattle.tsb_text.specs.tsb_plan.Plan.{Plan}
 use Rattle.tsb_text.specs.tsb_plan_text.declared.error.PlanError.{PlanError}
 use Rattle.tsb_program.specs.declared.read.ReadError.{ReadError}
@@ -25,23 +29,30 @@ use Rattle.tsb_field_streams.specs.declared.error.FilterError.TheVariants as fil
 use Rattle.tsb_field_streams.specs.FaultLines.{filter_fault}
 use Rattle.tsb_field.specs.Lines.{Refuses}
 use Rattle.tsb_field.specs.LogEnds.{TellsFault}
-use Rattle.tsb_field.specs.Ends.{IsEvents, LogNamed, NoRun, NotDrawn, Pictured, Recorded, Stops, TellsNoLog, TellsNoPlan, failure_by}
+use Rattle.tsb_field.specs.Ends.{IsEvents, LogNamed, NoRun, NotDrawn, Pictured, Recorded, Stops, failure_by, name_of}
 
 -- there is no log
-pub stops : (fault : ReadError LogError) (known : List ℕ → Option (List ℕ)) (path : Option (List ℕ)) (status : ℕ) (told tells : Seen) → LogNamed (Err fault) known path
-    → TellsNoLog fault status told tells → Stops known path status told tells
-stops (faults.Failed why) known path status told tells named line = inr (named, (why, line))
-stops (faults.Refused fault) known path status told tells none line = inl (fault, none, line)
+pub stops : (fault : ReadError LogError) (known : List ℕ → Option (List ℕ)) (path : Option (List ℕ)) (name : List ℕ) (status : ℕ) (told tells : Seen) → name ≡ name_of path → LogNamed (Err fault) known path
+    → TellsNoLog name fault status told tells → Stops known path status told tells
+stops (faults.Failed why) known None name status told tells is named line = absurd (true≢false (sym named))
+stops (faults.Failed why) known (Some path) name status told tells is named line =
+    inr (why, subst (λ (n : List ℕ). FailsFile n why status told tells) is line)
+stops (faults.Refused fault) known path name status told tells is none line = inl (fault, none, line)
 
 -- there is no plan, or no log beside one
-pub no-plan : (fault : ReadError PlanError) (status : ℕ) (plan log : Option (List ℕ)) (told tells : Seen) → PlanRead (Err fault) plan → TellsNoPlan fault status told tells → NoRun plan log status told tells
-no-plan (faults.Failed why) status plan log told tells read line = inr (inr (why, line))
-no-plan (faults.Refused fault) status plan log told tells read line = inl (fault, read, line)
+no-plan-by : (why : ReadError PlanError) (place : Option JsonPlace) (status : ℕ) (plan rows : List ℕ) (files : List ℕ → Option (List ℕ)) (told tells : Seen) → HasNoPlan why place (files plan)
+    → TellsWhy plan why place status told tells → NoRun plan rows files status told tells
+no-plan-by (faults.Failed why) place status plan rows files told tells has line = inr (inr (inl (why, line)))
+no-plan-by (faults.Refused fault) place status plan rows files told tells has line = inl (fault, place, has, line)
 
-pub no-log : (fault : ReadError LogError) (found : Plan) (status : ℕ) (plan log : Option (List ℕ)) (told tells : Seen) → HasPlan plan found → LogRead (Err fault) log → TellsNoLog fault status told tells
-    → NoRun plan log status told tells
-no-log (faults.Failed why) found status plan log told tells has read line = inr (inr (why, line))
-no-log (faults.Refused fault) found status plan log told tells has read line = inr (inl (found, has, fault, read, line))
+pub no-plan : (fault : PlanFault) (status : ℕ) (plan rows : List ℕ) (files : List ℕ → Option (List ℕ)) (told tells : Seen) → HasNoPlan fault.why fault.place (files plan)
+    → TellsNoPlan plan fault status told tells → NoRun plan rows files status told tells
+no-plan fault status plan rows files told tells has line = no-plan-by fault.why fault.place status plan rows files told tells has line
+
+pub no-log : (fault : ReadError LogError) (found : Plan) (status : ℕ) (plan rows : List ℕ) (files : List ℕ → Option (List ℕ)) (told tells : Seen) → HasPlan (files plan) found → LogRead (Err fault) (files rows)
+    → TellsNoLog rows fault status told tells → NoRun plan rows files status told tells
+no-log (faults.Failed why) found status plan rows files told tells has read line = inr (inr (inr (found, has, (why, line))))
+no-log (faults.Refused fault) found status plan rows files told tells has read line = inr (inl (found, has, fault, read, line))
 
 -- what was handed on is the same
 pub events-are : (from : Moment) (device other : List ℕ) (lines shown : List Shown) (rows named : List LogRow) (last : Option ℕ) (text : List ℕ) → other ≡ device → shown ≡ lines → named ≡ rows
@@ -50,10 +61,10 @@ events-are from device other lines shown rows named last text same_device same_l
     subst (λ (d : List ℕ). IsLog from d (session_events lines rows) text) same_device
     (subst (λ (s : List Shown). IsLog from other (session_events s rows) text) same_lines (subst (λ (r : List LogRow). IsLog from other (session_events shown r) text) same_rows log))
 
-pub recorded-as : (status : ℕ) (from : Moment) (device : List ℕ) (other on_fault : OnFault) (plan rows : Option (List ℕ)) (input left old new told tells : Seen) → other ≡ on_fault
-    → Recorded status from device other plan rows input left old new told tells → Recorded status from device on_fault plan rows input left old new told tells
-recorded-as status from device other on_fault plan rows input left old new told tells same recorded =
-    subst (λ (w : OnFault). Recorded status from device w plan rows input left old new told tells) same recorded
+pub recorded-as : (status : ℕ) (from : Moment) (device : List ℕ) (other on_fault : OnFault) (plan rows : List ℕ) (files : List ℕ → Option (List ℕ)) (input left old new told tells : Seen) → other ≡ on_fault
+    → Recorded status from device other plan rows files input left old new told tells → Recorded status from device on_fault plan rows files input left old new told tells
+recorded-as status from device other on_fault plan rows files input left old new told tells same recorded =
+    subst (λ (w : OnFault). Recorded status from device w plan rows files input left old new told tells) same recorded
 
 pub pictured-as : (status : ℕ) (title other : List ℕ) (seconds more : ℕ) (known : List ℕ → Option (List ℕ)) (path : Option (List ℕ)) (input left old new told tells : Seen) → other ≡ title → more ≡ seconds
     → Pictured status other more known path input left old new told tells → Pictured status title seconds known path input left old new told tells

@@ -4,17 +4,17 @@
 use Rattle.std.specs.Prelude.{◌≡◌, ◌⊎◌, ℕ, Bool, true, false, List, [], IsSome, Option, Some, None, Result, Ok, Err, unwrap_or, codes}
 use Rattle.std.specs.Io.KnownBytes.{Consumes, IsAtEnd, Keeps}
 use Rattle.tsb_lines.specs.Writes.{AppendsFront}
-use Rattle.tsb_program.specs.Read.{HasLog, HasPlan, RefusesLog, RefusesPlan}
-use Rattle.tsb_program.specs.Failures.{Fails, failure_of}
-use Rattle.tsb_program.specs.Lines.{FailsToRead}
+use Rattle.tsb_program.specs.Read.{HasLog, HasPlan, RefusesLog, RefusesPlanAt}
+use Rattle.tsb_program.specs.Failures.{Fails}
+use Rattle.tsb_program.specs.Told.{FailsToReadFile, RefusesAt, RefusesLogText, TellsInputEnd}
+use Rattle.tsb_program.specs.tsb_json_place.declared.place.JsonPlace.{JsonPlace}
 use Rattle.tsb_program.specs.declared.failure.Failure.{Failure}
-use Rattle.tsb_program.specs.declared.failure.Failure.TheVariants.{Memory, Read, Write}
+use Rattle.tsb_program.specs.declared.failure.Failure.TheVariants.{Memory, Input, Write}
 use Rattle.tsb_program.specs.tsb_watched.Seen.{GoesOut, Seen}
 use Rattle.tsb_program.specs.declared.read.ReadError.{ReadError}
 use Rattle.tsb_program.specs.declared.read.ReadError.TheVariants as faults
 use Rattle.tsb_log_text.specs.declared.error.LogError.{LogError}
 use Rattle.tsb_log_text.specs.declared.log.LogRow.{LogRow}
-use Rattle.tsb_log_text.specs.FaultLines.{log_fault}
 use Rattle.tsb_event_text.specs.declared.times.Moment.{Moment}
 use Rattle.tsb_field_display.specs.Remaining.{changes_of, last_tick, remaining}
 use Rattle.tsb_field_display.specs.Stream.{HasNoEnd, shown_lines}
@@ -35,12 +35,11 @@ use Rattle.tsb_text.specs.Answers.{Setup}
 use Rattle.tsb_text.specs.Blame.{Blames}
 use Rattle.tsb_text.specs.declared.error.SessionError.{SessionError}
 use Rattle.tsb_text.specs.tsb_plan.Plan.{Plan}
-use Rattle.tsb_text.specs.tsb_plan_text.FaultLines.{plan_fault}
 use Rattle.tsb_text.specs.tsb_plan_text.declared.error.PlanError.{PlanError}
 use Rattle.tsb_words.specs.FieldWords.{Wish, diagram, events, log, recording, seen}
 use Rattle.tsb_words.specs.declared.field_files.Asked.{Asked}
 use Rattle.tsb_words.specs.declared.error.WordsError.{WordsError}
-use Rattle.tsb_field.specs.Lines.{Refuses, TellsEnd as TellsRunEnd, TellsLate, TellsWords}
+use Rattle.tsb_field.specs.Lines.{TellsLate, TellsWords}
 use Rattle.tsb_field.specs.LogEnds.{Logged}
 
 -- ## What words name
@@ -55,11 +54,15 @@ abbrev pub NamesNoLog : (List ℕ → Option (List ℕ)) → Option (List ℕ) �
 NamesNoLog files None fault = ⊥
 NamesNoLog files (Some path) fault = RefusesLog (files path) fault
 
+-- the file at this path, where words name one, was not read, which is told with its name
+abbrev pub FailsNamed : Option (List ℕ) → ℕ → Seen → Seen → Type 0
+FailsNamed None status told tells = ⊥
+FailsNamed (Some path) status told tells = FailsToReadFile path status told tells
+
 -- there is no log: with 1 because the one named is refused, or because its file or memory failed
 abbrev pub Stops : (List ℕ → Option (List ℕ)) → Option (List ℕ) → ℕ → Seen → Seen → Type 0
 Stops files path status told tells =
-    ((fault : LogError) × NamesNoLog files path fault × Refuses 1 (Some (log_fault fault)) status told tells)
-    ⊎ (IsSome path × FailsToRead status told tells)
+    ((fault : LogError) × NamesNoLog files path fault × RefusesLogText fault status told tells) ⊎ FailsNamed path status told tells
 
 -- what came of reading the log that words name
 abbrev pub LogNamed : Result (List LogRow) (ReadError LogError) → (List ℕ → Option (List ℕ)) → Option (List ℕ) → Type 0
@@ -67,15 +70,9 @@ LogNamed (Ok rows) files path = NamesLog files path rows
 LogNamed (Err (faults.Refused fault)) files path = NamesNoLog files path fault
 LogNamed (Err (faults.Failed why)) files path = IsSome path
 
--- why there is no log is told
-abbrev pub TellsNoLog : ReadError LogError → ℕ → Seen → Seen → Type 0
-TellsNoLog (faults.Failed why) status told tells = Fails (failure_of why) status told tells
-TellsNoLog (faults.Refused fault) status told tells = Refuses 1 (Some (log_fault fault)) status told tells
-
--- why there is no plan is told
-abbrev pub TellsNoPlan : ReadError PlanError → ℕ → Seen → Seen → Type 0
-TellsNoPlan (faults.Failed why) status told tells = Fails (failure_of why) status told tells
-TellsNoPlan (faults.Refused fault) status told tells = Refuses 1 (Some (plan_fault fault)) status told tells
+-- the name of a file that words name, or none
+abbrev pub name_of : Option (List ℕ) → List ℕ
+name_of path = unwrap_or path []
 
 -- ## Texts of a session
 
@@ -88,12 +85,12 @@ Written status text old new told tells =
 -- the failure of a session that was not read
 abbrev pub failure_by : ReplayError → Failure
 failure_by replays.Memory = Memory
-failure_by replays.Read = Read
+failure_by replays.Read = Input
 
 -- why these bytes were not drawn is told: reading failed, or had no end; or memory failed, and no read has
 abbrev pub NotDrawn : Bool → List ℕ → ℕ → Seen → Seen → Type 0
 NotDrawn failed bytes status told tells =
-    (HasNoEnd failed bytes × Fails Read status told tells) ⊎ ((failed ≡ false) × Fails Memory status told tells)
+    (HasNoEnd failed bytes × Fails Input status told tells) ⊎ ((failed ≡ false) × Fails Memory status told tells)
 
 -- all that a session answered was read, and of this text, which comes of its display lines and the log's rows, as much is
 -- written as the writer takes; or reading it or memory failed, and nothing is written
@@ -119,13 +116,13 @@ Told status from device files path input left old new told tells =
 
 -- ## `record`
 
--- there is no run: with 1 because the plan is refused, or because there is a plan and the log is refused; or because a file
--- or memory failed
-abbrev pub NoRun : Option (List ℕ) → Option (List ℕ) → ℕ → Seen → Seen → Type 0
-NoRun plan rows status told tells =
-    ((fault : PlanError) × RefusesPlan plan fault × Refuses 1 (Some (plan_fault fault)) status told tells)
-    ⊎ (((found : Plan) × HasPlan plan found × (fault : LogError) × RefusesLog rows fault × Refuses 1 (Some (log_fault fault)) status told tells)
-    ⊎ FailsToRead status told tells)
+-- there is no run on the files of these names: with 1 because the plan is refused, which is told with the place at which its
+-- text stops being JSON, or because there is a plan and the log is refused; or because a file or memory failed
+abbrev pub NoRun : (plan rows : List ℕ) → (List ℕ → Option (List ℕ)) → ℕ → Seen → Seen → Type 0
+NoRun plan rows files status told tells =
+    ((fault : PlanError) × (place : Option JsonPlace) × RefusesPlanAt (files plan) fault place × RefusesAt fault place status told tells)
+    ⊎ (((found : Plan) × HasPlan (files plan) found × (fault : LogError) × RefusesLog (files rows) fault × RefusesLogText fault status told tells)
+    ⊎ (FailsToReadFile plan status told tells ⊎ ((found : Plan) × HasPlan (files plan) found × FailsToReadFile rows status told tells)))
 
 -- the events of the inputs that remain are written; or nothing is: memory failed, or with 2 a tick has no time
 abbrev pub Writes : ℕ → Moment → List ℕ → List Event → (old new told tells : Seen) → Type 0
@@ -143,7 +140,7 @@ on_fault_of false = Stop
 abbrev pub WritesEnd : Result Outcome SessionError → ℕ → Moment → List ℕ → (old new told tells : Seen) → Type 0
 WritesEnd (Ok (outcomes.Events all)) status from device old new told tells = Writes status from device all.items old new told tells
 WritesEnd (Ok (outcomes.Stopped line)) status from device old new told tells = (status ≡ 4) × (new ≡ old) × (tells ≡ told)
-WritesEnd (Err fault) status from device old new told tells = (new ≡ old) × TellsRunEnd fault status told tells
+WritesEnd (Err fault) status from device old new told tells = (new ≡ old) × TellsInputEnd fault status told tells
 
 -- commands were run on a plan and a log, and told of what was refused, by a fault of a device exactly where a call of that
 -- device has failed; and then this was written
@@ -152,11 +149,11 @@ RanSo status from device on_fault given input left old new told tells =
     (result : Result Outcome SessionError) × (mid : Seen) × recorded.Ended result on_fault given input.bytes left.bytes told.bytes mid.bytes
     × Blames result left.failed mid.failed mid.flushed × WritesEnd result status from device old new mid tells
 
--- how `record` ended on the files of a plan and a log: after a run, or with nothing read and nothing written
-abbrev pub Recorded : ℕ → Moment → List ℕ → OnFault → Option (List ℕ) → Option (List ℕ) → (input left old new told tells : Seen) → Type 0
-Recorded status from device on_fault plan rows input left old new told tells =
-    ((given : Setup) × HasPlan plan given.plan × HasLog rows given.log × RanSo status from device on_fault given input left old new told tells)
-    ⊎ ((left ≡ input) × (new ≡ old) × NoRun plan rows status told tells)
+-- how `record` ended on the files of a plan and a log, of these names: after a run, or with nothing read and nothing written
+abbrev pub Recorded : ℕ → Moment → List ℕ → OnFault → (plan rows : List ℕ) → (List ℕ → Option (List ℕ)) → (input left old new told tells : Seen) → Type 0
+Recorded status from device on_fault plan rows files input left old new told tells =
+    ((given : Setup) × HasPlan (files plan) given.plan × HasLog (files rows) given.log × RanSo status from device on_fault given input left old new told tells)
+    ⊎ ((left ≡ input) × (new ≡ old) × NoRun plan rows files status told tells)
 
 -- ## `diagram`
 
@@ -184,7 +181,7 @@ Pictured status title seconds files path input left old new told tells =
 abbrev pub DidWish : Wish → ℕ → (List ℕ → Option (List ℕ)) → (input left old new told tells : Seen) → Type 0
 DidWish (log wish) status files input left old new told tells = Logged status wish input left old new told tells
 DidWish (recording from device plan file goes_on) status files input left old new told tells =
-    Recorded status from device (on_fault_of goes_on) (files plan) (files file) input left old new told tells
+    Recorded status from device (on_fault_of goes_on) plan file files input left old new told tells
 DidWish (events from device path) status files input left old new told tells = Told status from device files path input left old new told tells
 DidWish (diagram path title seconds) status files input left old new told tells = Pictured status (title_of title) (seconds_of seconds) files path input left old new told tells
 

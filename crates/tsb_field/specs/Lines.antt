@@ -1,12 +1,10 @@
 -- The lines that the program tells, each with its end.
 use Rattle.std.specs.Prelude.{◌≡◌, ◌⊎◌, ℕ, List, [], ◌∷◌, ◌++◌, IfSome, Option, Some, codes}
 use Rattle.tsb_program.specs.tsb_watched.Seen.{Seen, Tells}
-use Rattle.tsb_text.specs.declared.error.SessionError.{SessionError}
-use Rattle.tsb_text.specs.declared.error.SessionError.TheVariants as sessions
 use Rattle.tsb_words.specs.declared.error.WordsError.{WordsError}
 use Rattle.tsb_words.specs.declared.error.WordsError.TheVariants as words
 use Rattle.tsb_program.specs.Failures.{Fails}
-use Rattle.tsb_program.specs.declared.failure.Failure.TheVariants.{Memory, Read, Write}
+use Rattle.tsb_program.specs.declared.failure.Failure.TheVariants.{Memory}
 
 -- how the program is used
 abbrev pub usage : List ℕ
@@ -22,13 +20,6 @@ TellsWords words.Bad status told tells = (status ≡ 2) × Tells told tells usag
 abbrev pub Refuses : ℕ → Option (List ℕ) → ℕ → Seen → Seen → Type 0
 Refuses wanted shown status told tells =
     ((status ≡ wanted) × IfSome shown (λ line. Tells told tells (line ++ 10 ∷ []))) ⊎ Fails Memory status told tells
-
--- what ended a run before its commands did is told, with 3: a failure, or commands without end
-abbrev pub TellsEnd : SessionError → ℕ → Seen → Seen → Type 0
-TellsEnd sessions.Memory status told tells = Fails Memory status told tells
-TellsEnd sessions.Read status told tells = Fails Read status told tells
-TellsEnd sessions.Write status told tells = Fails Write status told tells
-TellsEnd sessions.TooLarge status told tells = (status ≡ 3) × Tells told tells (codes "commands: too large\n")
 
 -- a tick that has no time is told, as a fault of the words: with 2
 abbrev pub TellsLate : ℕ → Seen → Seen → Type 0

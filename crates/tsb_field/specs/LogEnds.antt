@@ -5,7 +5,7 @@ use Rattle.std.specs.Prelude.{◌≡◌, ◌⊎◌, ℕ, Bool, true, false, List
 use Rattle.std.specs.Io.KnownBytes.{Keeps}
 use Rattle.tsb_program.specs.tsb_watched.Seen.{Seen, Tells}
 use Rattle.tsb_program.specs.Failures.{Fails}
-use Rattle.tsb_program.specs.declared.failure.Failure.TheVariants.{Memory, Read, Write}
+use Rattle.tsb_program.specs.declared.failure.Failure.TheVariants.{Memory, Input, Write}
 use Rattle.tsb_field_log.specs.Mapping.{wires_of}
 use Rattle.tsb_field_streams.specs.FaultLines.{filter_fault}
 use Rattle.tsb_field_streams.specs.Filtering.{Given}
@@ -21,7 +21,7 @@ use Rattle.tsb_field.specs.LogLines.{IsReport, is_lost, status_of}
 -- what ended a filter is told: a failure, or with 1 the fault of what was read
 abbrev pub TellsFault : FilterError → ℕ → Seen → Seen → Type 0
 TellsFault ends.Memory status told tells = Fails Memory status told tells
-TellsFault ends.Read status told tells = Fails Read status told tells
+TellsFault ends.Read status told tells = Fails Input status told tells
 TellsFault ends.Write status told tells = Fails Write status told tells
 TellsFault fault status told tells = Refuses 1 (Some (filter_fault fault)) status told tells
 

@@ -1,13 +1,10 @@
 //! How the program ends, and the lines that it writes then.
-ghost use Rattle.tsb_field.specs.Lines.{Refuses, TellsEnd, TellsLate, TellsWords};
+ghost use Rattle.tsb_field.specs.Lines.{TellsLate, TellsWords};
 ghost use Rattle.tsb_field.specs.Ends.{Written};
 ghost use Rattle.tsb_program.specs.tsb_watched.Seen.{seen};
 
-use std::alloc::Global;
-use std::fmt::Display;
 use std::io::Write;
-use tsb_program::{Failure, Status, Watched, fail, line_of, tell, write_line};
-use tsb_text::SessionError;
+use tsb_program::{Failure, Status, Watched, fail, tell, write_line};
 use tsb_words::WordsError;
 
 /// How the program is used.
@@ -30,37 +27,11 @@ pub(crate) fn tell_words_fault<E: Write>(errors: &mut Watched<E>, fault: WordsEr
     }
 }
 
-/// Says what ended a run before its commands did.
-pub(crate) fn tell_end<E: Write>(errors: &mut Watched<E>, fault: SessionError) -> u8
-    ensures { TellsEnd fault result (seen E.contents errors.old) (seen E.contents errors.new) }
-{
-    match fault {
-        SessionError::Memory => fail(errors, Failure::Memory),
-        SessionError::Read => fail(errors, Failure::Read),
-        SessionError::Write => fail(errors, Failure::Write),
-        SessionError::TooLarge => tell(errors, Status::Failed, b"commands: too large\n"),
-    }
-}
-
 /// Says that a tick has no time, as a fault of the words.
 pub(crate) fn tell_late<E: Write>(errors: &mut Watched<E>) -> u8
     ensures { TellsLate result (seen E.contents errors.old) (seen E.contents errors.new) }
 {
     tell(errors, Status::BadWords, b"events: past the year 9999\n")
-}
-
-/// Says why what was read was refused.
-pub(crate) fn refuse<E: Write, T: Display + Drop>(
-    alloc: Global,
-    errors: &mut Watched<E>,
-    fault: T,
-) -> u8
-    ensures { Refuses 1 (T.output fault) result (seen E.contents errors.old) (seen E.contents errors.new) }
-{
-    match line_of(alloc, fault) {
-        Ok(line) => tell(errors, Status::Refused, line.as_bytes()),
-        Err(_) => fail(errors, Failure::Memory),
-    }
 }
 
 /// Writes a text, and gives the status that the program ends with.

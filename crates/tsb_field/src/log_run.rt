@@ -59,7 +59,7 @@ fn tell_fault<E: Write>(alloc: Global, errors: &mut Watched<E>, fault: FilterErr
 {
     match fault {
         FilterError::Memory => fail(errors, Failure::Memory),
-        FilterError::Read => fail(errors, Failure::Read),
+        FilterError::Read => fail(errors, Failure::Input),
         FilterError::Write => fail(errors, Failure::Write),
         _ => match fault_line(alloc, fault) {
             Ok(line) => tell(errors, Status::Refused, &line),

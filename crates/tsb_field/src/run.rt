@@ -6,9 +6,9 @@ ghost use Rattle.tsb_words.specs.FieldProgram.{Spells};
 ghost use Rattle.tsb_text.specs.Answers.{Setup};
 ghost use Rattle.tsb_text.specs.tsb_objects.Checked.{checked_plan};
 ghost use Rattle.tsb_program.specs.tsb_watched.Seen.{seen};
-ghost use Rattle.tsb_field.specs.Ends.{Did, LogNamed, Pictured, RanSo, Recorded, failure_by, on_fault_of, TellsNoLog, TellsNoPlan, Told, title_of};
+ghost use Rattle.tsb_field.specs.Ends.{Did, LogNamed, Pictured, RanSo, Recorded, failure_by, name_of, on_fault_of, Told, title_of};
 
-use crate::end::{refuse, tell_end, tell_late, tell_words_fault, write_all};
+use crate::end::{tell_late, tell_words_fault, write_all};
 use crate::log_run::write_log;
 use std::alloc::Global;
 use std::convert::AsStr;
@@ -18,9 +18,12 @@ use tsb_field_diagram::diagram_text;
 use tsb_field_display::{ReplayError, read_replay};
 use tsb_field_events::{EventsError, events_text, log_text};
 use tsb_log_text::{Log, LogError};
-use tsb_program::{Failure, Files, ReadError, Status, Watched, fail, log_of, plan_of};
+use tsb_program::{
+    Failure, Files, ReadError, Status, Watched, fail, log_of, plan_or_place, refuse_log,
+    refuse_plan, tell_input_end,
+};
 use tsb_record::{OnFault, Outcome, record};
-use tsb_text::{Checked, PlanError};
+use tsb_text::Checked;
 use tsb_words::field_files::{Asked, read_words};
 
 /// The title of a diagram where words give none.
@@ -34,6 +37,7 @@ const SECONDS: u32 = 300;
 /// ended a strict record.
 ///
 /// The log, the events or the diagram go to `output`, and what was left out, faults, bad words and failures to `errors`.
+/// A second line has where the text of a plan stops being JSON, or what was not read.
 pub fn run_words<S: AsStr, F: Files, R: Read, W: Write, E: Write>(
     alloc: Global,
     words: &[S],
@@ -109,16 +113,16 @@ fn write_record<F: Files, R: Read, W: Write, E: Write>(
     requires reads { input.old.failed ≡ false }
     requires writes { errors.old.failed ≡ false }
     requires flushed { errors.old.flushed ≡ true }
-    ensures { Recorded result from device.now on_fault (F.bytes files.now plan.now) (F.bytes files.now log.now)
+    ensures { Recorded result from device.now on_fault plan.now log.now (F.bytes files.now)
         (seen R.remaining input.old) (seen R.remaining input.new) (seen W.contents output.old) (seen W.contents output.new) (seen E.contents errors.old) (seen E.contents errors.new) }
 {
-    let checked = match plan_of(alloc, files, plan) {
+    let checked = match plan_or_place(alloc, files, plan) {
         Ok(checked) => checked,
-        Err(fault) => return refuse_plan(alloc, errors, fault),
+        Err(fault) => return refuse_plan(alloc, errors, plan, fault),
     };
     let rows = match log_of(alloc, files, log) {
         Ok(rows) => rows,
-        Err(fault) => return refuse_log(alloc, errors, fault),
+        Err(fault) => return refuse_log(alloc, errors, log, fault),
     };
     record_run(
         alloc, from, device, checked, &rows, on_fault, input, output, errors,
@@ -147,7 +151,7 @@ fn record_run<R: Read, W: Write, E: Write>(
     let events = match record(alloc, plan, rows, on_fault, input, errors) {
         Ok(Outcome::Events(events)) => events,
         Ok(Outcome::Stopped(_)) => return Status::Stopped.number(),
-        Err(fault) => return tell_end(errors, fault),
+        Err(fault) => return tell_input_end(errors, fault),
     };
     match log_text(alloc, from, device.as_bytes(), &events) {
         Ok(text) => write_all(output, errors, &text),
@@ -173,7 +177,7 @@ fn write_events<F: Files, R: Read, W: Write, E: Write>(
 {
     let rows = match log_named(alloc, files, path) {
         Ok(rows) => rows,
-        Err(fault) => return refuse_log(alloc, errors, fault),
+        Err(fault) => return refuse_log(alloc, errors, name_of(path), fault),
     };
     let replay = match read_replay(alloc, input) {
         Ok(replay) => replay,
@@ -219,7 +223,7 @@ fn write_diagram<F: Files, R: Read, W: Write, E: Write>(
 {
     let rows = match log_named(alloc, files, path) {
         Ok(rows) => rows,
-        Err(fault) => return refuse_log(alloc, errors, fault),
+        Err(fault) => return refuse_log(alloc, errors, name_of(path), fault),
     };
     let replay = match read_replay(alloc, input) {
         Ok(replay) => replay,
@@ -252,23 +256,13 @@ fn log_named<F: Files>(
     }
 }
 
-/// Says why there is no plan.
-fn refuse_plan<E: Write>(alloc: Global, errors: &mut Watched<E>, fault: ReadError<PlanError>) -> u8
-    ensures { TellsNoPlan fault result (seen E.contents errors.old) (seen E.contents errors.new) }
+/// The name of a file that words name, or none.
+fn name_of(path: Option<&str>) -> &str
+    ensures { result.now ≡ name_of (option_map (λ path. path.now) path.entry) }
 {
-    match fault {
-        ReadError::Failed(fault) => fail(errors, fault.failure()),
-        ReadError::Refused(fault) => refuse(alloc, errors, fault),
-    }
-}
-
-/// Says why there is no log.
-fn refuse_log<E: Write>(alloc: Global, errors: &mut Watched<E>, fault: ReadError<LogError>) -> u8
-    ensures { TellsNoLog fault result (seen E.contents errors.old) (seen E.contents errors.new) }
-{
-    match fault {
-        ReadError::Failed(fault) => fail(errors, fault.failure()),
-        ReadError::Refused(fault) => refuse(alloc, errors, fault),
+    match path {
+        Some(path) => path,
+        None => "",
     }
 }
 
@@ -278,6 +272,6 @@ fn failure_by(fault: ReplayError) -> Failure
 {
     match fault {
         ReplayError::Memory => Failure::Memory,
-        ReplayError::Read => Failure::Read,
+        ReplayError::Read => Failure::Input,
     }
 }

@@ -14,16 +14,17 @@ use Rattle.tsb_text.specs.Faults.{fault_line}
 use Rattle.tsb_live_text.specs.LiveEnded.{LiveEnded}
 use Rattle.tsb_live_text.specs.declared.stop.Stop.{Stop}
 use Rattle.tsb_program.specs.tsb_watched.Seen.{Seen, Tells}
-use Rattle.tsb_program.specs.Lines.{FailsToRead, TellsEnd, plan_line}
-use Rattle.tsb_program.specs.Read.{HasPlan, RefusesPlan}
+use Rattle.tsb_program.specs.Read.{HasPlan, RefusesPlanAt}
+use Rattle.tsb_program.specs.Told.{FailsToReadFile, RefusesAt, TellsInputEnd}
+use Rattle.tsb_program.specs.tsb_json_place.declared.place.JsonPlace.{JsonPlace}
 use Rattle.tsb_live.specs.Lines.{TellsWords}
 
 -- a live run ended well with 0 and nothing told; or at a line with which something is wrong, with 4 and that line; or by
--- a fault, with 3 and its line
+-- a fault, with 3 and its lines
 abbrev pub EndsSo : Result (Option Stop) SessionError → ℕ → Seen → Seen → Type 0
 EndsSo (Ok None) status told tells = (status ≡ 0) × (tells ≡ told)
 EndsSo (Ok (Some stop)) status told tells = (status ≡ 4) × Tells told tells (fault_line (codes "line ") stop.number stop.line.items stop.fault)
-EndsSo (Err fault) status told tells = TellsEnd fault status told tells
+EndsSo (Err fault) status told tells = TellsInputEnd fault status told tells
 
 -- a live run on this plan ended so: by a fault of a device exactly where a call of that device has failed
 abbrev pub Talked : ℕ → OnFault → Plan → (input left old new told tells : Seen) → Type 0
@@ -31,17 +32,18 @@ Talked status on_fault plan input left old new told tells =
     (result : Result (Option Stop) SessionError) × LiveEnded result on_fault plan input.bytes left.bytes old.bytes new.bytes
     × Blames result left.failed new.failed new.flushed × EndsSo result status told tells
 
--- there is no run: with 1 because the plan is refused, which is told by its own line; or because its file or memory failed
-abbrev pub Stops : ℕ → Option (List ℕ) → Seen → Seen → Type 0
-Stops status file told tells =
-    ((status ≡ 1) × (fault : PlanError) × RefusesPlan file fault × Tells told tells (plan_line fault))
-    ⊎ FailsToRead status told tells
+-- there is no run: with 1 because the plan is refused, which is told by its own line, and with the place at which its text
+-- stops being JSON; or because the file of this name, or memory, failed
+abbrev pub Stops : List ℕ → ℕ → Option (List ℕ) → Seen → Seen → Type 0
+Stops name status file told tells =
+    ((fault : PlanError) × (place : Option JsonPlace) × RefusesPlanAt file fault place × RefusesAt fault place status told tells)
+    ⊎ FailsToReadFile name status told tells
 
--- how the program ended on the file of a plan: after a live run, or with nothing read and nothing answered
-abbrev pub Ran : ℕ → OnFault → Option (List ℕ) → (input left old new told tells : Seen) → Type 0
-Ran status on_fault file input left old new told tells =
+-- how the program ended on the file of a plan, of this name: after a live run, or with nothing read and nothing answered
+abbrev pub Ran : List ℕ → ℕ → OnFault → Option (List ℕ) → (input left old new told tells : Seen) → Type 0
+Ran name status on_fault file input left old new told tells =
     ((plan : Plan) × HasPlan file plan × Talked status on_fault plan input left old new told tells)
-    ⊎ ((left ≡ input) × (new ≡ old) × Stops status file told tells)
+    ⊎ ((left ≡ input) × (new ≡ old) × Stops name status file told tells)
 
 -- what a run does after a line with which something is wrong: a strict one ends
 abbrev pub after_fault : Bool → OnFault
@@ -50,5 +52,6 @@ after_fault false = GoOn
 
 -- what was done for what the words ask, where files has the known bytes of each path
 abbrev pub Did : Result Asked WordsError → ℕ → (List ℕ → Option (List ℕ)) → (input left old new told tells : Seen) → Type 0
-Did (Ok asked) status files input left old new told tells = Ran status (after_fault asked.is_strict) (files asked.plan.now) input left old new told tells
+Did (Ok asked) status files input left old new told tells =
+    Ran asked.plan.now status (after_fault asked.is_strict) (files asked.plan.now) input left old new told tells
 Did (Err fault) status files input left old new told tells = (left ≡ input) × (new ≡ old) × TellsWords fault status told tells

@@ -13,7 +13,9 @@ use std::alloc::Global;
 use std::convert::AsStr;
 use std::io::{Read, Write};
 use tsb_live_text::live;
-use tsb_program::{Failure, Files, Status, Watched, fail, plan_of, refuse, tell, tell_end};
+use tsb_program::{
+    Failure, Files, Status, Watched, fail, plan_or_place, refuse_plan, tell, tell_input_end,
+};
 use tsb_text::{Checked, OnFault, fault_line};
 use tsb_words::WordsError;
 use tsb_words::live::read_words;
@@ -23,7 +25,7 @@ use tsb_words::live::read_words;
 /// the lines are too large, 4 where a line ended a strict run.
 ///
 /// What is answered goes to `output`. The fault that ends a run goes to `errors`, and so do the line that ends a strict
-/// one, bad words and failures.
+/// one, bad words and failures. A second line has where the text of a plan stops being JSON, or what was not read.
 pub fn run_words<S: AsStr, F: Files, R: Read, W: Write, E: Write>(
     alloc: Global,
     words: &[S],
@@ -85,12 +87,12 @@ fn run<F: Files, R: Read, W: Write, E: Write>(
     requires reads { input.old.failed ≡ false }
     requires writes { output.old.failed ≡ false }
     requires flushed { output.old.flushed ≡ true }
-    ensures { Ran result on_fault (F.bytes files.now path.now) (seen R.remaining input.old) (seen R.remaining input.new)
+    ensures { Ran path.now result on_fault (F.bytes files.now path.now) (seen R.remaining input.old) (seen R.remaining input.new)
         (seen W.contents output.old) (seen W.contents output.new) (seen E.contents errors.old) (seen E.contents errors.new) }
 {
-    match plan_of(alloc, files, path) {
+    match plan_or_place(alloc, files, path) {
         Ok(plan) => talk(alloc, plan, on_fault, input, output, errors),
-        Err(fault) => refuse(alloc, errors, fault),
+        Err(fault) => refuse_plan(alloc, errors, path, fault),
     }
 }
 
@@ -115,6 +117,6 @@ fn talk<R: Read, W: Write, E: Write>(
             let line = fault_line(b"line ", stop.number, &stop.line, stop.fault);
             tell(errors, Status::Stopped, &line)
         }
-        Err(fault) => tell_end(errors, fault),
+        Err(fault) => tell_input_end(errors, fault),
     }
 }

@@ -1,15 +1,16 @@
 -- What fails a program, and how it ends then.
 use Rattle.std.specs.Prelude.{◌≡◌, ℕ, List, codes}
 use Rattle.tsb_program.specs.declared.failure.Failure.{Failure}
-use Rattle.tsb_program.specs.declared.failure.Failure.TheVariants.{Memory, Read, Write}
+use Rattle.tsb_program.specs.declared.failure.Failure.TheVariants.{Memory, Read, Input, Write}
 use Rattle.tsb_program.specs.declared.files.FileError.{FileError}
 use Rattle.tsb_program.specs.declared.files.FileError.TheVariants as files
 use Rattle.tsb_watched.specs.Seen.{Seen, Tells}
 
--- the line of a failure: of memory, of a read or of a write
+-- the line of a failure: of memory, of a read or of a write; of standard input it is told which read it was
 abbrev pub failure_line : Failure → List ℕ
 failure_line Memory = codes "memory\n"
 failure_line Read = codes "read fault\n"
+failure_line Input = codes "read fault\nstandard input\n"
 failure_line Write = codes "write fault\n"
 
 -- the program ends with 3, and this failure is told
@@ -19,4 +20,4 @@ Fails failure status told tells = (status ≡ 3) × Tells told tells (failure_li
 -- the failure of a file that was not read
 abbrev pub failure_of : FileError → Failure
 failure_of files.Memory = Memory
-failure_of files.Read = Read
+failure_of (files.Read cause) = Read

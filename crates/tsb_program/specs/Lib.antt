@@ -6,7 +6,10 @@ pub mod Failures
 pub mod Read
 -- the lines of what ended a run
 pub mod Lines
+-- second lines: where a plan's text stops being JSON, and which file was not read
+pub mod Told
 -- the names of crates below, for those above
 pub use Rattle.tsb_lines.specs as tsb_lines
 pub use Rattle.tsb_watched.specs as tsb_watched
 pub use Rattle.tsb_log_text.specs as tsb_log_text
+pub use Rattle.tsb_json_place.specs as tsb_json_place

@@ -1,7 +1,9 @@
 -- What a program has of the files that it read. The bytes of a file are known or not.
-use Rattle.std.specs.Prelude.{◌≡◌, ℕ, List, take, IfSome, Option, Result, Ok, Err}
+use Rattle.std.specs.Prelude.{◌≡◌, ℕ, List, take, IfSome, Option, None, Result, Ok, Err}
 use Rattle.std.specs.declared.io.ErrorKind.{ErrorKind}
 use Rattle.std.specs.declared.io.ErrorKind.TheVariants as device
+use Rattle.tsb_json_place.specs.Places.{json_place}
+use Rattle.tsb_json_place.specs.declared.place.JsonPlace.{JsonPlace}
 use Rattle.tsb_log_text.specs.declared.error.LogError.{LogError}
 use Rattle.tsb_log_text.specs.declared.error.LogError.TheVariants as logs
 use Rattle.tsb_log_text.specs.declared.log.LogRow.{LogRow}
@@ -14,8 +16,10 @@ use Rattle.tsb_plan_text.specs.PlanText.{reading}
 use Rattle.tsb_objects.specs.Checked.{checked_plan}
 use Rattle.tsb_objects.specs.declared.checked.Checked.{Checked}
 use Rattle.tsb_objects.specs.tsb_plan.Plan.{Plan}
+use Rattle.tsb_program.specs.declared.files.Cause.TheVariants.{NoSuchFile, NotPermitted, Folder, Other}
 use Rattle.tsb_program.specs.declared.files.FileError.{FileError}
 use Rattle.tsb_program.specs.declared.files.FileError.TheVariants as files
+use Rattle.tsb_program.specs.declared.read.PlanFault.{PlanFault}
 use Rattle.tsb_program.specs.declared.read.ReadError.{ReadError}
 use Rattle.tsb_program.specs.declared.read.ReadError.TheVariants as faults
 
@@ -34,7 +38,10 @@ RefusesLog known fault = (text : List ℕ) × IsFront known 67108865 text × (lo
 -- out of memory is told as such, and each other fault of a device as a file that was not read
 abbrev pub file_fault : ErrorKind → FileError
 file_fault device.OutOfMemory = files.Memory
-file_fault kind = files.Read
+file_fault device.NotFound = files.Read NoSuchFile
+file_fault device.PermissionDenied = files.Read NotPermitted
+file_fault device.IsADirectory = files.Read Folder
+file_fault kind = files.Read Other
 
 -- what was made of a log's text: out of memory is no refusal
 abbrev pub log_made : Result (List LogRow) LogError → Result (List LogRow) (ReadError LogError)
@@ -78,3 +85,34 @@ abbrev pub PlanRead : Result Checked (ReadError PlanError) → Option (List ℕ)
 PlanRead (Ok found) known = HasPlan known (checked_plan found)
 PlanRead (Err (faults.Refused fault)) known = RefusesPlan known fault
 PlanRead (Err (faults.Failed why)) known = Unit {0}
+
+-- where the text of a plan stops being JSON, where it is refused as none
+abbrev pub place_of : ReadError PlanError → List ℕ → Option JsonPlace
+place_of (faults.Refused told.NotJson) text = json_place text
+place_of why text = None
+
+-- the same beside why a text gives no plan
+abbrev pub placed : Result Checked (ReadError PlanError) → List ℕ → Result Checked PlanFault
+placed (Ok plan) text = Ok plan
+placed (Err why) text = Err (record { why = why; place = place_of why text })
+
+-- what came of what was read of a plan's file, with the place in its text
+abbrev pub PlanPlaced : {V : Type 0} → (V → List ℕ) → Result V FileError → Result Checked PlanFault → Type 0
+PlanPlaced text_of (Ok read) result =
+    (answer : Result Checked PlanError) × plans.Gives checked_plan answer (reading (text_of read)) × (result ≡ placed (plan_made answer) (text_of read))
+PlanPlaced text_of (Err why) result = result ≡ Err (record { why = faults.Failed why; place = None })
+
+-- the file has a text that gives no plan, for this fault, which is not out of memory; and this is its place
+abbrev pub RefusesPlanAt : Option (List ℕ) → PlanError → Option JsonPlace → Type 0
+RefusesPlanAt known fault place =
+    (text : List ℕ) × IsFront known 1048577 text × Tells fault (reading text) × (fault ≡ told.Memory → ⊥) × (place ≡ place_of (faults.Refused fault) text)
+
+-- why the file gives no plan, and the place in its text
+abbrev pub HasNoPlan : ReadError PlanError → Option JsonPlace → Option (List ℕ) → Type 0
+HasNoPlan (faults.Refused fault) place known = RefusesPlanAt known fault place
+HasNoPlan (faults.Failed why) place known = Unit {0}
+
+-- what came of reading a plan's file, with the place in its text
+abbrev pub PlanFound : Result Checked PlanFault → Option (List ℕ) → Type 0
+PlanFound (Ok found) known = HasPlan known (checked_plan found)
+PlanFound (Err fault) known = HasNoPlan fault.why fault.place known

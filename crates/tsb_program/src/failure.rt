@@ -15,6 +15,8 @@ pub enum Failure {
     Memory,
     /// A read.
     Read,
+    /// A read of standard input, which is told.
+    Input,
     /// A write.
     Write,
 }
@@ -26,13 +28,14 @@ pub fn fail<E: Write>(errors: &mut Watched<E>, failure: Failure) -> u8
     tell(errors, Status::Failed, failure_line(failure))
 }
 
-/// The line of a failure.
+/// The line of a failure, or both lines.
 fn failure_line(failure: Failure) -> &'static [u8]
     ensures { result.now ≡ failure_line failure }
 {
     match failure {
         Failure::Memory => b"memory\n",
         Failure::Read => b"read fault\n",
+        Failure::Input => b"read fault\nstandard input\n",
         Failure::Write => b"write fault\n",
     }
 }

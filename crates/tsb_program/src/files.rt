@@ -37,13 +37,26 @@ impl Files for Disk<'_> {
     }
 }
 
+/// What a machine says of a file that it does not open or read.
+#[derive(Clone, Copy, Debug, PartialEq, Eq)]
+pub enum Cause {
+    /// There is none of that name.
+    NoSuchFile,
+    /// It may not be read.
+    NotPermitted,
+    /// It is a folder.
+    Folder,
+    /// Anything else.
+    Other,
+}
+
 /// Why a file was not read.
 #[derive(Clone, Copy, PartialEq, Eq)]
 pub enum FileError {
     /// There was no memory for it.
     Memory,
     /// It could not be opened or read.
-    Read,
+    Read(Cause),
 }
 
 impl FileError {
@@ -53,7 +66,7 @@ impl FileError {
     {
         match self {
             FileError::Memory => Failure::Memory,
-            FileError::Read => Failure::Read,
+            FileError::Read(_) => Failure::Read,
         }
     }
 }
@@ -64,7 +77,10 @@ impl From<io::Error> for FileError {
     fn from(error: io::Error) -> FileError {
         match error.kind() {
             ErrorKind::OutOfMemory => FileError::Memory,
-            _ => FileError::Read,
+            ErrorKind::NotFound => FileError::Read(Cause::NoSuchFile),
+            ErrorKind::PermissionDenied => FileError::Read(Cause::NotPermitted),
+            ErrorKind::IsADirectory => FileError::Read(Cause::Folder),
+            _ => FileError::Read(Cause::Other),
         }
     }
 }

@@ -7,11 +7,13 @@ mod files;
 mod lines;
 mod read;
 mod status;
+mod told;
 
 pub use end::{refuse, tell_end};
 pub use failure::{Failure, fail};
-pub use files::{Disk, FileError, Files, read_file};
+pub use files::{Cause, Disk, FileError, Files, read_file};
 pub use lines::{line_of, tell, write_line};
-pub use read::{ReadError, log_of, plan_of};
+pub use read::{PlanFault, ReadError, log_of, plan_of, plan_or_place};
 pub use status::Status;
+pub use told::{refuse_log, refuse_plan, tell_input_end};
 pub use tsb_watched::Watched;

@@ -1,9 +1,10 @@
 //! Files that are read, and what they give.
 ghost use Rattle.std.specs.Prelude.{◌≡◌, vec_items};
-ghost use Rattle.tsb_program.specs.Read.{LogIn, LogRead, PlanIn, PlanRead, log_made, plan_made};
+ghost use Rattle.tsb_program.specs.Read.{LogIn, LogRead, PlanFound, PlanIn, PlanPlaced, PlanRead, log_made, place_of, placed, plan_made};
 
 use crate::files::{FileError, Files, read_file};
 use std::alloc::Global;
+use tsb_json_place::{JsonPlace, json_place};
 use tsb_log_text::{LIMIT, Log, LogError, read_log};
 use tsb_objects::Checked;
 use tsb_plan_text::{LIMIT as PLAN_LIMIT, PlanError, read_plan};
@@ -15,6 +16,14 @@ pub enum ReadError<T> {
     Failed(FileError),
     /// It was refused.
     Refused(T),
+}
+
+/// Why a file gives no plan, and where its text stops being JSON.
+#[derive(Drop)]
+pub struct PlanFault {
+    pub why: ReadError<PlanError>,
+    /// `None` where the text is JSON, where no place of it is at fault, or where there is no text.
+    pub place: Option<JsonPlace>,
 }
 
 /// The log in the file at this path. Where it is too large, one byte more than the longest log has is read.
@@ -74,5 +83,58 @@ fn plan_made(answer: Result<Checked, PlanError>) -> Result<Checked, ReadError<Pl
         Ok(plan) => Ok(plan),
         Err(PlanError::Memory) => Err(ReadError::Failed(FileError::Memory)),
         Err(fault) => Err(ReadError::Refused(fault)),
+    }
+}
+
+/// The plan in the file at this path, as `plan_of` gives it, or why there is none and where the text stops being JSON.
+pub fn plan_or_place<F: Files>(
+    alloc: Global,
+    files: &F,
+    path: &str,
+) -> Result<Checked, PlanFault>
+    ensures { PlanFound result (F.bytes files.now path.now) }
+{
+    plan_placed(alloc, read_file(alloc, files, path, PLAN_LIMIT + 1))
+}
+
+/// The plan in what was read of a file, or why there is none.
+fn plan_placed(
+    alloc: Global,
+    read: Result<Vec<u8>, FileError>,
+) -> Result<Checked, PlanFault>
+    ensures { PlanPlaced vec_items read result }
+{
+    match read {
+        Ok(text) => placed(plan_made(read_plan(alloc, &text)), &text),
+        Err(fault) => Err(PlanFault {
+            why: ReadError::Failed(fault),
+            place: None,
+        }),
+    }
+}
+
+/// What a text gave, with the place at which it stops being JSON.
+fn placed(
+    found: Result<Checked, ReadError<PlanError>>,
+    text: &[u8],
+) -> Result<Checked, PlanFault>
+    ensures { result ≡ placed found text.now }
+{
+    match found {
+        Ok(plan) => Ok(plan),
+        Err(why) => {
+            let place = place_of(&why, text);
+            Err(PlanFault { why, place })
+        }
+    }
+}
+
+/// Where a text stops being JSON, where it is refused as none.
+fn place_of(why: &ReadError<PlanError>, text: &[u8]) -> Option<JsonPlace>
+    ensures { result ≡ place_of why.now text.now }
+{
+    match why {
+        ReadError::Refused(PlanError::NotJson) => json_place(text),
+        _ => None,
     }
 }

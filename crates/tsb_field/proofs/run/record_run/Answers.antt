@@ -6,7 +6,7 @@ use Rattle.tsb_field.specs.Ends.{Written}
 use Rattle.tsb_field.proofs.run.record_run.Goals as goal
 
 pub returns-in-Err : goal.returns-in-Err
-returns-in-Err g c = (Err c.in-Err.fault, seen g.E.Write.contents c.record.new.errors, c.in-Err.ensures.ended, c.in-Err.ensures.blame, (refl, c.tell_end.ensures))
+returns-in-Err g c = (Err c.in-Err.fault, seen g.E.Write.contents c.record.new.errors, c.in-Err.ensures.ended, c.in-Err.ensures.blame, (refl, c.tell_input_end.ensures))
 
 pub returns-in-Ok-Stopped : goal.returns-in-Ok-Stopped
 returns-in-Ok-Stopped g c = (Ok c.in-Ok-Stopped.field-0, seen g.E.Write.contents c.record.new.errors, c.in-Ok-Stopped.ensures.ended, c.in-Ok-Stopped.ensures.blame, rw c.in-Ok-Stopped.field-0-is (c.number.ensures, refl, refl))

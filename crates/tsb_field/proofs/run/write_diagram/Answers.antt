@@ -4,7 +4,7 @@ use Rattle.tsb_field.proofs.EndLemmas.{not-drawn, stops}
 use Rattle.tsb_field.proofs.run.write_diagram.Goals as goal
 
 pub returns-in-Err : goal.returns-in-Err
-returns-in-Err g c = inl (refl, refl, stops c.in-Err.fault _ _ c.refuse_log.result (seen g.E.Write.contents c.args.errors.now) (seen g.E.Write.contents c.refuse_log.new.errors) c.in-Err.ensures c.refuse_log.ensures)
+returns-in-Err g c = inl (refl, refl, stops c.in-Err.fault _ _ c.name_of.result.now c.refuse_log.result (seen g.E.Write.contents c.args.errors.now) (seen g.E.Write.contents c.refuse_log.new.errors) c.name_of.ensures c.in-Err.ensures c.refuse_log.ensures)
 
 pub returns-in-Err-read_replay : goal.returns-in-Err-read_replay
 returns-in-Err-read_replay g c =

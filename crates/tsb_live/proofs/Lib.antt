@@ -1,0 +1,2 @@
+-- why there is no run
+pub mod StopLemmas

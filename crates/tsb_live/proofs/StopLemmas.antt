@@ -1,0 +1,21 @@
+-- Why there is no run is told.
+use Rattle.std.proofs.Common.{ℕ, List, inl, inr}
+use Rattle.std.specs.declared.option.Option.{Option}
+use Rattle.tsb_text.specs.tsb_plan_text.declared.error.PlanError.{PlanError}
+use Rattle.tsb_program.specs.Read.{HasNoPlan}
+use Rattle.tsb_program.specs.Told.{TellsNoPlan, TellsWhy}
+use Rattle.tsb_program.specs.declared.read.PlanFault.{PlanFault}
+use Rattle.tsb_program.specs.declared.read.ReadError.{ReadError}
+use Rattle.tsb_program.specs.declared.read.ReadError.TheVariants as faults
+use Rattle.tsb_program.specs.tsb_json_place.declared.place.JsonPlace.{JsonPlace}
+use Rattle.tsb_program.specs.tsb_watched.Seen.{Seen}
+use Rattle.tsb_live.specs.Ends.{Stops}
+
+stops-by : (why : ReadError PlanError) (place : Option JsonPlace) (name : List ℕ) (file : Option (List ℕ)) (status : ℕ) (told tells : Seen) → HasNoPlan why place file
+    → TellsWhy name why place status told tells → Stops name status file told tells
+stops-by (faults.Failed why) place name file status told tells has line = inr (why, line)
+stops-by (faults.Refused fault) place name file status told tells has line = inl (fault, place, has, line)
+
+pub stops : (fault : PlanFault) (name : List ℕ) (file : Option (List ℕ)) (status : ℕ) (told tells : Seen) → HasNoPlan fault.why fault.place file → TellsNoPlan name fault status told tells
+    → Stops name status file told tells
+stops fault name file status told tells has line = stops-by fault.why fault.place name file status told tells has line

@@ -1,0 +1,11 @@
+use Rattle.std.proofs.Common.{◌∙◌, ◌++◌, List, ℕ, codes, subst}
+use Rattle.tsb_watched.specs.Seen.{Tells, seen}
+use Rattle.tsb_program.proofs.told.fail_file.Goals as goal
+
+pub returns-in-Read : goal.returns-in-Read
+returns-in-Read g c =
+    rw c.in-Read.is (
+      c.tell_both.ensures.status,
+      subst (λ (line : List ℕ). Tells (seen g.E.Write.contents c.args.errors.now) (seen g.E.Write.contents c.tell_both.new.errors) (codes "read fault\n" ++ line))
+          (c.deref.ensures.0 ∙ c.file_line-second.ensures) c.tell_both.ensures.lines,
+    )

@@ -1,0 +1,15 @@
+use Rattle.std.proofs.Common.{◌∙◌, ◌++◌, List, ℕ, inl, subst}
+use Rattle.tsb_watched.specs.Seen.{Tells, seen}
+use Rattle.tsb_program.specs.Lines.{plan_line}
+use Rattle.tsb_program.proofs.TellLemmas.{refused-so}
+use Rattle.tsb_program.proofs.told.refuse_plan.Goals as goal
+
+pub returns-in-Ok : goal.returns-in-Ok
+returns-in-Ok g c =
+    let old = seen g.E.Write.contents c.args.errors.now in
+    let new = seen g.E.Write.contents c.tell_both.new.errors in
+    refused-so c.args.fault c.args.path.now c.in-Refused.why c.tell_both.result old new c.in-Refused.is (inl (
+      c.tell_both.ensures.status,
+      subst (λ (line : List ℕ). Tells old new (plan_line c.in-Refused.why ++ line)) (c.deref.ensures.0 ∙ c.place_line-second.ensures)
+          (subst (λ (line : List ℕ). Tells old new (line ++ c.deref.result.now)) (c.as_bytes.ensures.value ∙ c.in-Ok.ensures) c.tell_both.ensures.lines),
+    ))

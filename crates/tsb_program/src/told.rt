@@ -1,0 +1,191 @@
+//! Second lines: where a plan's text stops being JSON, and which file was not read.
+ghost use Rattle.std.specs.Prelude.{◌≡◌, ◌++◌, ◌≤◌, length, OnErr, OnOk, true};
+ghost use Rattle.tsb_lines.specs.Writes.{AppendsFront};
+ghost use Rattle.tsb_program.specs.Statuses.{number};
+ghost use Rattle.tsb_program.specs.Told.{FailsFile, TellsInputEnd, TellsNoLog, TellsNoPlan, cause_text, file_line, place_line, safe, shown};
+ghost use Rattle.tsb_watched.specs.Seen.{GoesOut, Tells, seen};
+
+use crate::failure::{Failure, fail};
+use crate::files::{Cause, FileError};
+use crate::lines::{line_of, tell, write_line};
+use crate::read::{PlanFault, ReadError};
+use crate::status::Status;
+use arrayvec::ArrayVec;
+use std::alloc::Global;
+use std::io::Write;
+use tsb_json_place::{JsonPlace, TOLD, place_text};
+use tsb_log_text::LogError;
+use tsb_text::SessionError;
+use tsb_watched::{Watched, WriteError};
+
+/// How many bytes of the name of a file are told at most.
+const SHOWN: usize = 200;
+
+/// The greatest length of the line of a file, in bytes.
+const FILE_LINE: usize = 240;
+
+/// The greatest length of the line of a place, in bytes.
+const PLACE_LINE: usize = TOLD + 6;
+
+/// Says why there is no plan, in a second line where its text stops being JSON or which file was not read, and gives the
+/// status that the program ends with.
+pub fn refuse_plan<E: Write>(
+    alloc: Global,
+    errors: &mut Watched<E>,
+    path: &str,
+    fault: PlanFault,
+) -> u8
+    ensures { TellsNoPlan path.now fault result (seen E.contents errors.old) (seen E.contents errors.new) }
+{
+    let PlanFault { why, place } = fault;
+    match why {
+        ReadError::Failed(why) => fail_file(errors, path, why),
+        ReadError::Refused(why) => match line_of(alloc, why) {
+            Ok(line) => {
+                let second = place_line(place);
+                tell_both(errors, Status::Refused, line.as_bytes(), &second)
+            }
+            Err(_) => fail(errors, Failure::Memory),
+        },
+    }
+}
+
+/// Says why there is no log, in a second line which file was not read, and gives the status that the program ends with.
+pub fn refuse_log<E: Write>(
+    alloc: Global,
+    errors: &mut Watched<E>,
+    path: &str,
+    fault: ReadError<LogError>,
+) -> u8
+    ensures { TellsNoLog path.now fault result (seen E.contents errors.old) (seen E.contents errors.new) }
+{
+    match fault {
+        ReadError::Failed(why) => fail_file(errors, path, why),
+        ReadError::Refused(why) => match line_of(alloc, why) {
+            Ok(line) => tell(errors, Status::Refused, line.as_bytes()),
+            Err(_) => fail(errors, Failure::Memory),
+        },
+    }
+}
+
+/// Says what ended a run on standard input before that did, and gives the status that the program ends with.
+pub fn tell_input_end<E: Write>(errors: &mut Watched<E>, fault: SessionError) -> u8
+    ensures { TellsInputEnd fault result (seen E.contents errors.old) (seen E.contents errors.new) }
+{
+    match fault {
+        SessionError::Memory => fail(errors, Failure::Memory),
+        SessionError::Read => fail(errors, Failure::Input),
+        SessionError::Write => fail(errors, Failure::Write),
+        SessionError::TooLarge => tell(errors, Status::Failed, b"commands: too large\n"),
+    }
+}
+
+/// Says that a file was not read, in a second line which and why, and gives the status that the program ends with.
+fn fail_file<E: Write>(errors: &mut Watched<E>, path: &str, why: FileError) -> u8
+    ensures { FailsFile path.now why result (seen E.contents errors.old) (seen E.contents errors.new) }
+{
+    match why {
+        FileError::Memory => fail(errors, Failure::Memory),
+        FileError::Read(cause) => {
+            let second = file_line(path, cause);
+            tell_both(errors, Status::Failed, b"read fault\n", &second)
+        }
+    }
+}
+
+/// Writes two lines of faults, the second where the first was written, and gives the number of the status.
+fn tell_both<E: Write>(
+    errors: &mut Watched<E>,
+    status: Status,
+    first: &[u8],
+    second: &[u8],
+) -> u8
+    ensures status { result ≡ number status }
+    ensures lines { Tells (seen E.contents errors.old) (seen E.contents errors.new) (first.now ++ second.now) }
+{
+    let _ = write_both(errors, first, second);
+    status.number()
+}
+
+/// Writes two texts, and has the writer pass them on. At an error the first bytes of both may have gone out.
+fn write_both<W: Write>(
+    writer: &mut Watched<W>,
+    first: &[u8],
+    second: &[u8],
+) -> Result<(), WriteError>
+    ensures whole { OnOk result (GoesOut (seen W.contents writer.old) (seen W.contents writer.new) (first.now ++ second.now)) }
+    ensures front { AppendsFront (W.contents writer.old.device) (W.contents writer.new.device) (first.now ++ second.now) }
+    ensures blame { OnErr result (writer.new.failed ≡ true) }
+{
+    match writer.write_text(first) {
+        Ok(()) => write_line(writer, second),
+        Err(fault) => Err(fault),
+    }
+}
+
+/// The line of a file that was not read.
+fn file_line(path: &str, cause: Cause) -> ArrayVec<u8, FILE_LINE>
+    ensures { result.items ≡ file_line path.now cause }
+{
+    let name = shown(path.as_bytes());
+    let mut text = ArrayVec::new();
+    let _ = text.try_extend_from_slice(b"file \"");
+    let _ = text.try_extend_from_slice(&name);
+    let _ = text.try_extend_from_slice(b"\"");
+    let _ = text.try_extend_from_slice(cause_text(cause));
+    text
+}
+
+/// Why a file was not read, and the end of its line.
+fn cause_text(cause: Cause) -> &'static [u8]
+    ensures text { result.now ≡ cause_text cause }
+    ensures short { length result.now ≤ 16 }
+{
+    match cause {
+        Cause::NoSuchFile => b": no such file\n",
+        Cause::NotPermitted => b": not permitted\n",
+        Cause::Folder => b": a folder\n",
+        Cause::Other => b"\n",
+    }
+}
+
+/// The line of a place at which a plan's text stops being JSON: nothing where there is none.
+fn place_line(place: Option<JsonPlace>) -> ArrayVec<u8, PLACE_LINE>
+    ensures { result.items ≡ place_line place }
+{
+    let mut text = ArrayVec::new();
+    match place {
+        None => {}
+        Some(place) => {
+            let _ = text.try_extend_from_slice(b"plan ");
+            let _ = text.try_extend_from_slice(&place_text(place));
+            let _ = text.try_extend_from_slice(b"\n");
+        }
+    }
+    text
+}
+
+/// The name of a file as it is told: its first 200 bytes, with `?` for a double quote and for all that is no printed
+/// character of ASCII.
+fn shown(name: &[u8]) -> ArrayVec<u8, SHOWN>
+    ensures text { result.items ≡ shown name.now }
+    ensures short { length result.items ≤ SHOWN }
+{
+    let front = &name[..SHOWN.min(name.len())];
+    let mut text = ArrayVec::new();
+    for byte in front {
+        text.push(safe(*byte));
+    }
+    text
+}
+
+/// A byte of a name as it is told.
+fn safe(byte: u8) -> u8
+    ensures { result ≡ safe byte }
+{
+    if byte < b' ' || byte > b'~' || byte == b'"' {
+        b'?'
+    } else {
+        byte
+    }
+}
