@@ -65,6 +65,13 @@ def test_other_faults_say_when_they_come() -> None:
     line = "plan: phaseWalk.2: out of range"
     assert str(PlanFault(line)) == f"{line}: over the greatest value of the object"
     assert PlanFault("plan: not JSON").rule is None
+    placed = PlanFault("plan: not JSON\nplan line 1, column 2: expected nothing more")
+    assert placed.line == "plan: not JSON"
+    assert placed.place == "line 1, column 2: expected nothing more"
+    assert str(placed).endswith("; line 1, column 2: expected nothing more")
+    assert "\n" not in str(placed)
+    named = PlanFault("plan: a\nb: no such object")
+    assert (named.line, named.place) == ("plan: a\nb: no such object", None)
 
 
 def test_errors_are_told_to_other_processes() -> None:

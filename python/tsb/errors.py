@@ -9,6 +9,9 @@ from typing import Any
 
 from tsb.manual import REFUSALS, RULES, Refusal, Rule, plan_fault
 
+#: The line of a text that is no plan, behind which a second one has the place.
+NOT_JSON = "plan: not JSON"
+
 
 class Error(Exception):
     """Whatever goes wrong with a plan, a log, a bench or its programs."""
@@ -90,11 +93,16 @@ class PlanFault(Error):
     """The first fault of a plan, as docs/MANUAL.md has it in chapters 2 and 4.
 
     `line` is that of `tsb check`, as `plan: rule K8`. `rule` is the rule that the
-    plan breaks, with its cure, and None where the text is no plan.
+    plan breaks, with its cure, and None where the text is no plan. `place` is where the
+    text stops being JSON, as the programs tell it in a second line, and else None.
     """
 
-    def __init__(self, line: str) -> None:
+    def __init__(self, lines: str) -> None:
+        # A name in a line may have a line feed, but this one has no name.
+        is_placed = lines.startswith(f"{NOT_JSON}\n")
+        line, place = lines.split("\n", 1) if is_placed else (lines, "")
         self.line = line
+        self.place: str | None = place.removeprefix("plan ") or None
         self.rule: Rule | None = RULES.get(line.removeprefix("plan: rule "))
         if self.rule is not None:
             told = (
@@ -102,6 +110,7 @@ class PlanFault(Error):
             )
         else:
             told = plan_fault(line) or ""
+        told = "; ".join(filter(None, [told, self.place]))
         super().__init__(f"{line}: {told}" if told else line)
 
     @property
