@@ -51,16 +51,19 @@ exponent byte = if byte == 43 then To Sign else if byte == 45 then To Sign else 
 abbrev pub power_mark : ℕ → Option Next
 power_mark byte = if byte == 101 then Some Exponent else if byte == 69 then Some Exponent else None
 
--- with what a number goes on behind a zero, behind a digit before the point, behind one behind it, and in its exponent
+-- with what a number goes on behind a zero
 abbrev pub zero : ℕ → Option Next
 zero byte = if byte == 46 then Some Point else power_mark byte
 
+-- behind a digit before the point
 abbrev pub whole : ℕ → Option Next
 whole byte = if is_digit byte then Some Whole else zero byte
 
+-- behind one behind the point
 abbrev pub fraction : ℕ → Option Next
 fraction byte = if is_digit byte then Some Fraction else power_mark byte
 
+-- and behind one of its exponent
 abbrev pub digit_of : ℕ → Option Next
 digit_of byte = if is_digit byte then Some Power else None
 

@@ -66,6 +66,7 @@ abbrev pub TellsWhy : List ℕ → ReadError PlanError → Option JsonPlace → 
 TellsWhy name (faults.Failed why) place status told tells = FailsFile name why status told tells
 TellsWhy name (faults.Refused fault) place status told tells = RefusesAt fault place status told tells
 
+-- the same of a fault with its place
 abbrev pub TellsNoPlan : List ℕ → PlanFault → ℕ → Seen → Seen → Type 0
 TellsNoPlan name fault status told tells = TellsWhy name fault.why fault.place status told tells
 

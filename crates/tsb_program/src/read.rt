@@ -87,21 +87,14 @@ fn plan_made(answer: Result<Checked, PlanError>) -> Result<Checked, ReadError<Pl
 }
 
 /// The plan in the file at this path, as `plan_of` gives it, or why there is none and where the text stops being JSON.
-pub fn plan_or_place<F: Files>(
-    alloc: Global,
-    files: &F,
-    path: &str,
-) -> Result<Checked, PlanFault>
+pub fn plan_or_place<F: Files>(alloc: Global, files: &F, path: &str) -> Result<Checked, PlanFault>
     ensures { PlanFound result (F.bytes files.now path.now) }
 {
     plan_placed(alloc, read_file(alloc, files, path, PLAN_LIMIT + 1))
 }
 
 /// The plan in what was read of a file, or why there is none.
-fn plan_placed(
-    alloc: Global,
-    read: Result<Vec<u8>, FileError>,
-) -> Result<Checked, PlanFault>
+fn plan_placed(alloc: Global, read: Result<Vec<u8>, FileError>) -> Result<Checked, PlanFault>
     ensures { PlanPlaced vec_items read result }
 {
     match read {
@@ -114,10 +107,7 @@ fn plan_placed(
 }
 
 /// What a text gave, with the place at which it stops being JSON.
-fn placed(
-    found: Result<Checked, ReadError<PlanError>>,
-    text: &[u8],
-) -> Result<Checked, PlanFault>
+fn placed(found: Result<Checked, ReadError<PlanError>>, text: &[u8]) -> Result<Checked, PlanFault>
     ensures { result ≡ placed found text.now }
 {
     match found {

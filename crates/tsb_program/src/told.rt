@@ -94,12 +94,7 @@ fn fail_file<E: Write>(errors: &mut Watched<E>, path: &str, why: FileError) -> u
 }
 
 /// Writes two lines of faults, the second where the first was written, and gives the number of the status.
-fn tell_both<E: Write>(
-    errors: &mut Watched<E>,
-    status: Status,
-    first: &[u8],
-    second: &[u8],
-) -> u8
+fn tell_both<E: Write>(errors: &mut Watched<E>, status: Status, first: &[u8], second: &[u8]) -> u8
     ensures status { result ≡ number status }
     ensures lines { Tells (seen E.contents errors.old) (seen E.contents errors.new) (first.now ++ second.now) }
 {
