@@ -1,5 +1,6 @@
 -- How the program ends.
-use Rattle.std.proofs.Common.{◌≡◌, ℕ, Bool, List, refl, subst, sym, inl, inr}
+use Rattle.std.proofs.Common.{◌≡◌, ℕ, Bool, List, OnErr, OnOk, Ok, true, refl, subst, sym, inl, inr}
+use Rattle.std.specs.declared.result.Result.{Result}
 use Rattle.std.proofs.lemmas.Bool.{true≢false}
 use Rattle.std.specs.Prelude.{Err, None, Some}
 use Rattle.std.specs.declared.option.Option.{Option}
@@ -28,7 +29,13 @@ use Rattle.tsb_field_streams.specs.declared.error.FilterError.{FilterError}
 use Rattle.tsb_field_streams.specs.declared.error.FilterError.TheVariants as filters
 use Rattle.tsb_field_streams.specs.FaultLines.{filter_fault}
 use Rattle.tsb_field.specs.Lines.{Refuses}
-use Rattle.tsb_field.specs.LogEnds.{TellsFault}
+use Rattle.tsb_field_log.specs.Mapping.{wires_of}
+use Rattle.tsb_field_log.specs.declared.inputs.Wire.{Wire}
+use Rattle.tsb_field_streams.specs.Standing.{given_of}
+use Rattle.tsb_field_streams.specs.Streaming.{Ended}
+use Rattle.tsb_field_streams.specs.declared.filter.Reading.{Reading}
+use Rattle.tsb_field_streams.specs.declared.filter.Summary.{Summary}
+use Rattle.tsb_field.specs.LogEnds.{IsPassedOn, TellsFault}
 use Rattle.tsb_field.specs.Ends.{IsEvents, LogNamed, NoRun, NotDrawn, Pictured, Recorded, Stops, failure_by, name_of}
 
 -- there is no log
@@ -85,3 +92,15 @@ told-fault filters.Memory status told tells memory read write refuses = absurd (
 told-fault filters.Read status told tells memory read write refuses = absurd (read refl)
 told-fault filters.Write status told tells memory read write refuses = absurd (write refl)
 told-fault fault status told tells memory read write refuses = refuses
+
+-- a filter ended so with what it was given
+pub ended-as : (result : Result Summary FilterError) (reading : Reading) (device other : Option (List ℕ)) (wires more : List Wire) (input left old new : Option (List ℕ)) → other ≡ device → more ≡ wires
+    → Ended result (given_of reading other (wires_of more)) input left old new → Ended result (given_of reading device (wires_of wires)) input left old new
+ended-as result reading device other wires more input left old new same_device same_wires ended =
+    subst (λ (d : Option (List ℕ)). Ended result (given_of reading d (wires_of wires)) input left old new) same_device
+    (subst (λ (ws : List Wire). Ended result (given_of reading other (wires_of ws)) input left old new) same_wires ended)
+
+-- once a writer was asked to pass on
+pub passed-on : {T E : Type 0} (r : Result T E) (s : Seen) → OnErr r (s.failed ≡ true) → OnOk r (s.flushed ≡ true) → IsPassedOn s
+passed-on (Ok t) s blame flushed = inr flushed
+passed-on (Err e) s blame flushed = inl blame

@@ -1,10 +1,11 @@
 -- How `log` ends, and what it has then written on its output and of faults.
 --
 -- Of each stream there is what is seen before and after: `input` and `left`, `old` and `new`, `told` and `tells`.
-use Rattle.std.specs.Prelude.{◌≡◌, ◌⊎◌, ℕ, Bool, true, false, List, Option, Some, Result, Ok, Err, codes}
+use Rattle.std.specs.Prelude.{◌≡◌, ◌⊎◌, ℕ, Bool, true, false, List, Option, Some, None, Result, Ok, Err, codes}
 use Rattle.std.specs.Io.KnownBytes.{Keeps}
 use Rattle.tsb_program.specs.tsb_watched.Seen.{Seen, Tells}
 use Rattle.tsb_program.specs.Failures.{Fails}
+use Rattle.tsb_program.specs.declared.failure.Failure.{Failure}
 use Rattle.tsb_program.specs.declared.failure.Failure.TheVariants.{Memory, Input, Write}
 use Rattle.tsb_field_log.specs.Mapping.{wires_of}
 use Rattle.tsb_field_streams.specs.FaultLines.{filter_fault}
@@ -18,11 +19,17 @@ use Rattle.tsb_words.specs.declared.field_files.Manner.{Manner}
 use Rattle.tsb_field.specs.Lines.{Refuses}
 use Rattle.tsb_field.specs.LogLines.{IsReport, is_lost, status_of}
 
--- what ended a filter is told: a failure, or with 1 the fault of what was read
+-- the device that has failed, where one has: of both standard input
+abbrev pub failed_device : (read_failed write_failed : Bool) → Option Failure
+failed_device true write_failed = Some Input
+failed_device false true = Some Write
+failed_device false false = None
+
+-- what ended a filter where no device has failed is told: out of memory, or with 1 the fault of what was read
 abbrev pub TellsFault : FilterError → ℕ → Seen → Seen → Type 0
 TellsFault ends.Memory status told tells = Fails Memory status told tells
-TellsFault ends.Read status told tells = Fails Input status told tells
-TellsFault ends.Write status told tells = Fails Write status told tells
+TellsFault ends.Read status told tells = Fails Memory status told tells
+TellsFault ends.Write status told tells = Fails Memory status told tells
 TellsFault fault status told tells = Refuses 1 (Some (filter_fault fault)) status told tells
 
 -- what was read is told, where there is memory for that
@@ -40,10 +47,21 @@ TellsFound false manner summary status told tells = TellsReport manner summary s
 abbrev pub TellsSummary : Manner → Summary → ℕ → Seen → Seen → Type 0
 TellsSummary manner summary status told tells = TellsFound (is_lost summary.left_out) manner summary status told tells
 
--- what ended a filter is told: what was read, or its fault
-abbrev pub TellsLogEnd : Manner → Result Summary FilterError → ℕ → Seen → Seen → Type 0
-TellsLogEnd manner (Ok summary) status told tells = TellsSummary manner summary status told tells
-TellsLogEnd manner (Err fault) status told tells = TellsFault fault status told tells
+-- what was read is told, or that the last of the log was not passed on
+abbrev pub TellsRead : Manner → Summary → Bool → ℕ → Seen → Seen → Type 0
+TellsRead manner summary true status told tells = Fails Write status told tells
+TellsRead manner summary false status told tells = TellsSummary manner summary status told tells
+
+-- what ended a filter is told: the device that has failed, and where none has, what was read or its fault. The last says
+-- whether the output has failed since.
+abbrev pub TellsLogEnd : Manner → Result Summary FilterError → Option Failure → Bool → ℕ → Seen → Seen → Type 0
+TellsLogEnd manner result (Some failure) failed status told tells = Fails failure status told tells
+TellsLogEnd manner (Ok summary) None failed status told tells = TellsRead manner summary failed status told tells
+TellsLogEnd manner (Err fault) None failed status told tells = TellsFault fault status told tells
+
+-- all that was written was passed on, or the writer has failed
+abbrev pub IsPassedOn : Seen → Type 0
+IsPassedOn seen = (seen.failed ≡ true) ⊎ (seen.flushed ≡ true)
 
 -- what words ask a filter for
 abbrev pub given_by : LogWish → Given
@@ -56,8 +74,9 @@ given_by wish = record {
   wires = wires_of wish.wires;
 }
 
--- the log of what was read is written, or after a fault a prefix of it
+-- the log of what was read is written, or after a fault a prefix of it, and passed on before anything is told: a device by
+-- which the filter ended, exactly where one has failed
 abbrev pub Logged : ℕ → LogWish → (input left old new told tells : Seen) → Type 0
 Logged status wish input left old new told tells =
-    (result : Result Summary FilterError) × (written : Option (List ℕ)) × Ended result (given_by wish) input.bytes left.bytes old.bytes written × Keeps written new.bytes
-    × TellsLogEnd wish.manner result status told tells
+    (result : Result Summary FilterError) × (mid : Seen) × Ended result (given_by wish) input.bytes left.bytes old.bytes mid.bytes × Keeps mid.bytes new.bytes
+    × IsPassedOn new × TellsLogEnd wish.manner result (failed_device left.failed mid.failed) new.failed status told tells

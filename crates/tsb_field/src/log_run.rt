@@ -1,8 +1,8 @@
 //! `log`: a controller's event log in, a log of inputs out.
-ghost use Rattle.std.specs.Prelude.{◌≡◌, option_map};
+ghost use Rattle.std.specs.Prelude.{◌≡◌, ◌⊎◌, option_map, false, true};
 ghost use Rattle.tsb_program.specs.tsb_watched.Seen.{seen};
 ghost use Rattle.tsb_words.specs.FieldWords.{seen_log};
-ghost use Rattle.tsb_field.specs.LogEnds.{Logged, TellsFault, TellsReport, TellsSummary};
+ghost use Rattle.tsb_field.specs.LogEnds.{Logged, TellsFault, TellsLogEnd, TellsRead, TellsReport, TellsSummary, failed_device};
 
 use crate::report::{is_lost, report, status_of};
 use std::alloc::Global;
@@ -33,13 +33,62 @@ pub(crate) fn write_log<R: Read, W: Write, E: Write>(
         window: asked.manner.window,
     };
     let device = bytes_of(asked.device);
-    match log(alloc, reading, device, &asked.wires, input, output) {
-        Ok(summary) => tell_summary(alloc, errors, asked.manner, summary),
-        Err(fault) => {
-            // What is known goes out. If that fails, the fault that is reported matters more.
-            let _ = output.pass_on();
-            tell_fault(alloc, errors, fault)
-        }
+    let ended = log(alloc, reading, device, &asked.wires, input, output);
+    let failed = failed_device(input, output);
+    // What is known goes out before anything is told. If that fails, a fault that came before matters more.
+    let _ = output.pass_on();
+    tell_end(alloc, asked.manner, ended, failed, output, errors)
+}
+
+/// The device that has failed: of both standard input, of which less was written then.
+fn failed_device<R, W>(input: &Watched<R>, output: &Watched<W>) -> Option<Failure>
+    ensures { result ≡ failed_device input.now.failed output.now.failed }
+{
+    if input.has_failed() {
+        return Some(Failure::Input);
+    }
+    if output.has_failed() {
+        return Some(Failure::Write);
+    }
+    None
+}
+
+/// Says what ended a filter, once all that it wrote was passed on or can't be, and gives the status that the program ends
+/// with. A device that has failed is told whatever ended the filter.
+fn tell_end<W, E: Write>(
+    alloc: Global,
+    manner: Manner,
+    ended: Result<Summary, FilterError>,
+    failed: Option<Failure>,
+    output: &Watched<W>,
+    errors: &mut Watched<E>,
+) -> u8
+    requires passed { (output.now.failed ≡ true) ⊎ (output.now.flushed ≡ true) }
+    ensures { TellsLogEnd manner ended failed output.now.failed result (seen E.contents errors.old) (seen E.contents errors.new) }
+{
+    if let Some(failure) = failed {
+        return fail(errors, failure);
+    }
+    match ended {
+        Ok(summary) => tell_read(alloc, manner, summary, output.has_failed(), errors),
+        Err(fault) => tell_fault(alloc, errors, fault),
+    }
+}
+
+/// Says what was read, or that the last of the log was not passed on.
+fn tell_read<E: Write>(
+    alloc: Global,
+    manner: Manner,
+    summary: Summary,
+    has_failed: bool,
+    errors: &mut Watched<E>,
+) -> u8
+    ensures { TellsRead manner summary has_failed result (seen E.contents errors.old) (seen E.contents errors.new) }
+{
+    if has_failed {
+        fail(errors, Failure::Write)
+    } else {
+        tell_summary(alloc, errors, manner, summary)
     }
 }
 
@@ -53,14 +102,15 @@ fn bytes_of(name: Option<&str>) -> Option<&[u8]>
     }
 }
 
-/// Says what ended a filter.
+/// Says what ended a filter, where no device has failed.
 fn tell_fault<E: Write>(alloc: Global, errors: &mut Watched<E>, fault: FilterError) -> u8
     ensures { TellsFault fault result (seen E.contents errors.old) (seen E.contents errors.new) }
 {
     match fault {
-        FilterError::Memory => fail(errors, Failure::Memory),
-        FilterError::Read => fail(errors, Failure::Input),
-        FilterError::Write => fail(errors, Failure::Write),
+        // The filter answers the last two only where a device has failed, which its contract does not say.
+        FilterError::Memory | FilterError::Read | FilterError::Write => {
+            fail(errors, Failure::Memory)
+        }
         _ => match fault_line(alloc, fault) {
             Ok(line) => tell(errors, Status::Refused, &line),
             Err(_) => fail(errors, Failure::Memory),

@@ -10,7 +10,8 @@ pub returns-in-Ok-Record : goal.returns-in-Ok-Record
 returns-in-Ok-Record g c = (
   Ok (asks.Record c.in-Ok-Record.from c.in-Ok-Record.device c.in-Ok-Record.plan c.in-Ok-Record.log c.in-Ok-Record.goes_on),
   c.in-Ok-Record.ensures ∙ ap (λ (asked : Asked). Some (seen asked)) c.in-Ok-Record.field-0-is,
-  recorded-as c.write_record.result c.in-Ok-Record.from _ c.on_fault_of-on_fault.result _ _ _ _ (seen_of g.R.Read.remaining c.args.input.now) (seen_of g.R.Read.remaining c.write_record.new.input) (seen_of g.W.Write.contents c.args.output.now)
+  recorded-as c.write_record.result c.in-Ok-Record.from _ c.on_fault_of-on_fault.result _ c.in-Ok-Record.plan.now c.in-Ok-Record.log.now (g.F.Files.bytes c.args.files.now)
+      (seen_of g.R.Read.remaining c.args.input.now) (seen_of g.R.Read.remaining c.write_record.new.input) (seen_of g.W.Write.contents c.args.output.now)
       (seen_of g.W.Write.contents c.write_record.new.output) (seen_of g.E.Write.contents c.args.errors.now) (seen_of g.E.Write.contents c.write_record.new.errors)
       c.on_fault_of-on_fault.ensures c.write_record.ensures,
 )
