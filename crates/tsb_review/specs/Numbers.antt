@@ -16,9 +16,9 @@ use Rattle.tsb_review.specs.Clearance.{reverting}
 use Rattle.tsb_review.specs.Coordination.{spare_time, overrun, first_same}
 use Rattle.tsb_review.specs.Overlaps.{split_at, split_from}
 
--- four numbers
+-- four numbers, and no fifth, which breaches of rules alone have
 abbrev pub four : ℕ → ℕ → ℕ → ℕ → Numbers
-four a b c d = record { a = a; b = b; c = c; d = d }
+four a b c d = record { a = a; b = b; c = c; d = d; e = 0 }
 
 -- a number of a phase or of a pattern, 0 where there is none
 abbrev pub number_of : Option ℕ → ℕ

@@ -29,13 +29,15 @@ pub struct Numbers {
     pub c: u32,
     /// The number of the pattern, for a phase in a pattern.
     pub d: u32,
+    /// No advice has a fifth number; breaches of rules do.
+    pub e: u32,
 }
 
-/// Four numbers.
+/// Four numbers, and 0 for the fifth.
 fn four(a: u32, b: u32, c: u32, d: u32) -> Numbers
     ensures { result ≡ four a b c d }
 {
-    Numbers { a, b, c, d }
+    Numbers { a, b, c, d, e: 0 }
 }
 
 /// The number of a phase, 0 for none.

@@ -1,0 +1,2 @@
+pub use Rattle.tsb_plan.proofs as tsb_plan
+pub use Rattle.tsb_types.proofs as tsb_types

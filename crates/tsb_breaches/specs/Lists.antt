@@ -1,0 +1,53 @@
+-- What of detectors, overlaps and preempts breaks a rule (profile): K12 to K16 and K21.
+use Rattle.std.specs.Prelude.{ℕ, ◌==◌, nat_lt, Bool, not, ◌&&◌}
+use Rattle.tsb_plan.specs.declared.object.Object.{Object}
+use Rattle.tsb_plan.specs.declared.object.Object.TheVariants.{PreemptDwellPhase, OverlapModifierPhases}
+use Rattle.tsb_types.specs.Sets.{names}
+use Rattle.tsb_plan.specs.Parts.{call_phase, pedestrian_call_phase, is_minus_green_yellow}
+use Rattle.tsb_plan.specs.Plan.{Plan, is_enabled, is_concurrent}
+use Rattle.tsb_rules.specs.PatternRules.{some_and}
+use Rattle.tsb_rules.specs.Rules.{has_walk}
+
+-- p is not enabled
+abbrev pub is_unused : Plan → ℕ → Bool
+is_unused plan p = not (is_enabled plan p)
+
+-- p is enabled and has no walk
+abbrev pub has_no_walk : Plan → ℕ → Bool
+has_no_walk plan p = is_enabled plan p && not (has_walk plan p)
+
+-- K12: vehicle detector d calls a phase that is not enabled
+abbrev pub calls_unused : Plan → ℕ → Bool
+calls_unused plan d = some_and (is_unused plan) (call_phase plan d)
+
+-- K13: pedestrian detector d calls a phase that is not enabled
+abbrev pub button_calls_unused : Plan → ℕ → Bool
+button_calls_unused plan d = some_and (is_unused plan) (pedestrian_call_phase plan d)
+
+-- K13: it calls an enabled phase without walk
+abbrev pub button_calls_no_walk : Plan → ℕ → Bool
+button_calls_no_walk plan d = some_and (has_no_walk plan) (pedestrian_call_phase plan d)
+
+-- K14, K15, K21: the list that object o has at index i names p, which is not enabled
+abbrev pub lists_unused : Plan → Object → ℕ → ℕ → Bool
+lists_unused plan o i p = names (plan.value o i) p && not (is_enabled plan p)
+
+-- the list that object o has at index i names p, which is enabled
+abbrev pub lists_used : Plan → Object → ℕ → ℕ → Bool
+lists_used plan o i p = names (plan.value o i) p && is_enabled plan p
+
+-- each of p and q is in the concurrency list of the other
+abbrev pub go_together : Plan → ℕ → ℕ → Bool
+go_together plan p q = is_concurrent plan p q && is_concurrent plan q p
+
+-- K15: it names p and q, the lower number first, which are enabled and not concurrent
+abbrev pub lists_apart : Plan → Object → ℕ → ℕ → ℕ → Bool
+lists_apart plan o i p q = nat_lt p q && (lists_used plan o i p && (lists_used plan o i q && not (go_together plan p q)))
+
+-- K16: preempt m has no dwell phases, and the list that object o has for it is not empty
+abbrev pub has_no_dwell : Plan → Object → ℕ → Bool
+has_no_dwell plan o m = plan.value PreemptDwellPhase m == 0 && not (plan.value o m == 0)
+
+-- K21: overlap o is not minusGreenYellow, and has modifier phases
+abbrev pub modifies_nothing : Plan → ℕ → Bool
+modifies_nothing plan o = not (is_minus_green_yellow plan o) && not (plan.value OverlapModifierPhases o == 0)

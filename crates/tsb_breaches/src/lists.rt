@@ -1,0 +1,116 @@
+//! What of detectors, overlaps and preempts breaks a rule: K12 to K16 and K21.
+#![tactic(auto, unfolding(tsb_plan::specs::PlanOf::plan_of))]
+
+ghost use Rattle.std.specs.Prelude.{◌≡◌, ◌&&◌, true};
+ghost use Rattle.tsb_plan.specs.Objects.{has_index, indices};
+ghost use Rattle.tsb_plan.specs.PlanOf.{plan_of};
+ghost use Rattle.tsb_types.specs.Sets.{names};
+ghost use Rattle.tsb_breaches.specs.Lists.{calls_unused, has_no_walk, button_calls_unused, button_calls_no_walk, lists_unused, lists_used, go_together, lists_apart, has_no_dwell, modifies_nothing};
+
+use crate::phases::has_walk;
+use tsb_plan::{Object, Plan};
+use tsb_types::{Detector, Overlap, PedestrianDetector, Phase, PhaseSet, Preempt};
+
+/// Whether the vehicle detector calls a phase that is not enabled.
+pub(crate) fn calls_unused(plan: &Plan, detector: Detector) -> bool
+    ensures { result ≡ calls_unused (plan_of plan.now) detector }
+{
+    match plan.call_phase(detector) {
+        Some(phase) => !plan.is_enabled(phase),
+        None => false,
+    }
+}
+
+/// Whether the pedestrian detector calls a phase that is not enabled.
+pub(crate) fn button_calls_unused(plan: &Plan, detector: PedestrianDetector) -> bool
+    ensures { result ≡ button_calls_unused (plan_of plan.now) detector }
+{
+    match plan.pedestrian_call_phase(detector) {
+        Some(phase) => !plan.is_enabled(phase),
+        None => false,
+    }
+}
+
+/// Whether the phase is enabled and has no walk.
+fn has_no_walk(plan: &Plan, phase: Phase) -> bool
+    ensures { result ≡ has_no_walk (plan_of plan.now) phase }
+{
+    plan.is_enabled(phase) && !has_walk(plan, phase)
+}
+
+/// Whether it calls an enabled phase without walk.
+pub(crate) fn button_calls_no_walk(plan: &Plan, detector: PedestrianDetector) -> bool
+    ensures { result ≡ button_calls_no_walk (plan_of plan.now) detector }
+{
+    match plan.pedestrian_call_phase(detector) {
+        Some(phase) => has_no_walk(plan, phase),
+        None => false,
+    }
+}
+
+/// Whether the list of the object at the index names the phase.
+fn is_listed(plan: &Plan, object: Object, index: u32, phase: Phase) -> bool
+    requires index { has_index object index ≡ true }
+    requires four { indices object ≡ 4 }
+    ensures { result ≡ names ((plan_of plan.now).value object index) phase }
+{
+    PhaseSet::from_list(plan.at(object, index) as u16).contains(phase)
+}
+
+/// Whether the list of the object at the index names the phase, which is not enabled.
+pub(crate) fn lists_unused(plan: &Plan, object: Object, index: u32, phase: Phase) -> bool
+    requires index { has_index object index ≡ true }
+    requires four { indices object ≡ 4 }
+    ensures { result ≡ lists_unused (plan_of plan.now) object index phase }
+{
+    is_listed(plan, object, index, phase) && !plan.is_enabled(phase)
+}
+
+/// Whether the list of the object for the preempt names the phase, which is enabled.
+fn lists_used(plan: &Plan, object: Object, preempt: Preempt, phase: Phase) -> bool
+    requires four { indices object ≡ 4 }
+    ensures { result ≡ lists_used (plan_of plan.now) object preempt phase }
+{
+    is_listed(plan, object, u32::from(preempt.number()), phase) && plan.is_enabled(phase)
+}
+
+/// Whether each of the two phases is in the concurrency list of the other.
+pub(crate) fn go_together(plan: &Plan, phase: Phase, other: Phase) -> bool
+    ensures { result ≡ go_together (plan_of plan.now) phase other }
+{
+    plan.concurrency(phase).contains(other) && plan.concurrency(other).contains(phase)
+}
+
+/// Whether the list names both, the lower number first, which are enabled and not concurrent.
+pub(crate) fn lists_apart(
+    plan: &Plan,
+    object: Object,
+    preempt: Preempt,
+    phase: Phase,
+    other: Phase,
+) -> bool
+    requires four { indices object ≡ 4 }
+    ensures { result ≡ lists_apart (plan_of plan.now) object preempt phase other }
+{
+    phase.number() < other.number()
+        && lists_used(plan, object, preempt, phase)
+        && lists_used(plan, object, preempt, other)
+        && !go_together(plan, phase, other)
+}
+
+/// Whether the preempt has no dwell phases, and its list of the object is not empty.
+pub(crate) fn has_no_dwell(plan: &Plan, object: Object, preempt: Preempt) -> bool
+    requires four { indices object ≡ 4 }
+    ensures { result ≡ has_no_dwell (plan_of plan.now) object preempt }
+{
+    let index = u32::from(preempt.number());
+    plan.at(Object::PreemptDwellPhase, index) == 0 && plan.at(object, index) != 0
+}
+
+/// Whether the overlap is not minusGreenYellow, and has modifier phases.
+pub(crate) fn modifies_nothing(plan: &Plan, overlap: Overlap) -> bool
+    ensures { result ≡ modifies_nothing (plan_of plan.now) overlap }
+{
+    !plan.is_minus_green_yellow(overlap)
+        && plan.at(Object::OverlapModifierPhases, u32::from(overlap.number())) != 0
+}
