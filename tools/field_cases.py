@@ -17,6 +17,7 @@ USAGE = (
     b"    or tsb_field record --from TIME --device ID [--go-on] PLAN LOG\n"
     b"    or tsb_field events --from TIME --device ID [--log LOG]\n"
     b"    or tsb_field diagram [--log LOG] [--title TEXT] [--seconds-per-line N]\n"
+    b"    or tsb_field review PLAN\n"
 )
 MARK = b"\xef\xbb\xbf"
 

@@ -45,6 +45,9 @@ OTHERS = [
     (["events", "--from", "9999-12-31 00:00:00", "--device", "7"], ALL_LINES),
     (["diagram", "--log", LOG, "--title", "A & B"], ALL_LINES),
     (["diagram", "--log", "none.log"], ALL_LINES),
+    (["review", "examples/main_and_oak.json"], b""),
+    (["review", "examples/two_short_yellow.json"], b""),
+    (["review", "none.json"], b""),
     (["what"], b""),
 ]
 RUNS = [*((words, text) for words, text, *_ in LOGS), *OTHERS]

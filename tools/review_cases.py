@@ -5,34 +5,23 @@ which it then has, and the last change that takes it away.
 """
 import copy
 import dataclasses
+import json
+import pathlib
 
 Table = dict[str, dict[str, int]]
 Change = dict[str, int]
 
+EXAMPLES = pathlib.Path(__file__).resolve().parent.parent / "examples"
 
-def per(phases: str, *values: int) -> dict[str, int]:
-    """Values of phases, or one for all of them."""
-    each = values if len(values) > 1 else values * len(phases)
-    return {phase: value for phase, value in zip(phases, each, strict=True)}
+
+def example(name: str) -> Table:
+    """A plan of examples/, which is of version 2."""
+    plan = json.loads((EXAMPLES / f"{name}.json").read_bytes())
+    return {name: table for name, table in plan.items() if name != "version"}
 
 
 # Two rings and two sides, a pattern in which all phases are recalled, a railroad preempt and an overlap.
-CLEAN: Table = {
-    "phaseEnabled": per("12345678", 1), "phaseRing": per("12345678", 1, 1, 1, 1, 2, 2, 2, 2),
-    "phaseSide": per("12345678", 1, 1, 2, 2, 1, 1, 2, 2),
-    "phaseConcurrency": per("12345678", 48, 48, 192, 192, 3, 3, 12, 12),
-    "sequenceData": {"1": 1, "2": 2, "3": 3, "4": 4, "17": 5, "18": 6, "19": 7, "20": 8},
-    "phaseMinimumGreen": per("12345678", 5), "phaseMaximum1": per("12345678", 25), "phaseMaximum2": per("12345678", 30),
-    "phasePassage": per("12345678", 25), "phaseMinimumGap": per("12345678", 25),
-    "phaseYellowChange": per("12345678", 35), "phaseRedClear": per("12345678", 15), "unitRedRevert": {"1": 20},
-    "phaseWalk": per("2468", 7), "phasePedestrianClear": per("2468", 9), "pedestrianDetectorCallPhase": per("2468", 2, 4, 6, 8),
-    "vehicleDetectorCallPhase": per("12345678", 1, 2, 3, 4, 5, 6, 7, 8),
-    "patternCycleTime": {"1": 90}, "patternOffsetTime": {"1": 45}, "patternSplitNumber": {"1": 1}, "patternSequenceNumber": {"1": 1},
-    "splitTime": per("12345678", 20, 25, 20, 25, 20, 25, 20, 25), "splitCoordPhase": per("26", 1), "splitMode": per("134578", 1),
-    "preemptTrackPhase": {"1": 136}, "preemptTrackGreen": {"1": 8}, "preemptDwellPhase": {"1": 34}, "preemptExitPhase": {"1": 136},
-    "preemptMinimumGreen": {"1": 5}, "preemptMinimumWalk": {"1": 4}, "preemptEnterPedClear": {"1": 6},
-    "overlapIncludedPhases": {"1": 9},
-}
+CLEAN: Table = example("no_advice")
 
 
 @dataclasses.dataclass(frozen=True)

@@ -1,4 +1,4 @@
-"""The advices on a plan, read a second time: from docs/REVIEW.md and the plan's JSON, and from nothing of the crates.
+"""The advices on a plan, read a second time: from docs/MANUAL.md and the plan's JSON, and from nothing of the crates.
 
 `review(plan)` gives the lines that a review of a plan writes. The plan is a plan text of version 2 that meets the rules
 of docs/MANUAL.md, as Python reads its JSON. Times are kept in tenths of a second.

@@ -4,12 +4,8 @@ Each run is a plan with the advice or a step beside, what happens on the street,
 it, worked by hand from docs/MANUAL.md. Display lines are left out.
 """
 import dataclasses
-import json
-import pathlib
 
-from review_cases import CLEAN, Change, Table, changed
-
-EXAMPLES = pathlib.Path(__file__).resolve().parent.parent / "examples"
+from review_cases import CLEAN, Change, Table, changed, example
 
 
 @dataclasses.dataclass(frozen=True)
@@ -34,12 +30,6 @@ def row(tick: int, *detectors: int, button: int = 0) -> str:
 def with_recalls(phases: str, change: Change) -> Table:
     """The plan without advices, with minimum recalls and a change."""
     return changed(CLEAN, {**{f"phaseMinRecall.{phase}": 1 for phase in phases}, **change})
-
-
-def example(name: str) -> Table:
-    """A plan of examples/."""
-    plan = json.loads((EXAMPLES / f"{name}.json").read_bytes())
-    return {name: table for name, table in plan.items() if name != "version"}
 
 
 # Each phase of side 1 is concurrent with one of the other ring alone.

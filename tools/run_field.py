@@ -20,6 +20,7 @@ import xml.etree.ElementTree
 
 import field_cases
 import field_rules
+import review_words
 from field_cases import BEGIN, FROM, GIB, MOST_ROWS
 from run_program import EXAMPLES, shown
 
@@ -423,7 +424,7 @@ def worked_runs():
         *field_cases.form_runs(), *field_cases.wide_runs(), *field_cases.separator_runs(), *field_cases.export_runs(),
         *field_cases.moment_runs(), *field_cases.wire_runs(), *field_cases.manner_runs(), *field_cases.sort_runs(), *field_cases.fault_runs(),
         *field_cases.event_runs(), *field_cases.record_runs(), *field_cases.record_faults(), *field_cases.word_runs(),
-        *field_cases.stream_runs(),
+        *field_cases.stream_runs(), *review_words.runs(),
     ]
 
 

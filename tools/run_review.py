@@ -1,17 +1,21 @@
 #!/usr/bin/env python3
 """Compares the reviews of plans with lines that were written by hand, and with an independent reading.
 
-    tools/run_review.py PROGRAM TSB [PLANS [SEED]]
+    tools/run_review.py FIELD TSB [PLANS [SEED]]
 
-PROGRAM is that of tsb_review_runs. It is given the plans of tools/review_cases.py, the plans of examples/, and as many
-at random as PLANS says (3,000): changes of these, of which those that break a rule are passed over. What it answers is
-compared with tools/review_rules.py, and of the cases also with their own lines. Each advice has to occur in both.
-TSB is the program tsb. It runs tools/review_runs.py, which show in runs what some advices warn of.
+FIELD is the program tsb_field. It reviews the plans of tools/review_cases.py, the plans of examples/, and as many at
+random as PLANS says (3,000): changes of these. What it answers is compared with tools/review_rules.py, and of the cases
+also with their own lines. Each advice has to occur in both. Of a plan that breaks a rule it has to answer what TSB, the
+program tsb, says to `check`. The example of each advice in docs/MANUAL.md, and the reviews of its plans, have to be what
+it answers. TSB also runs tools/review_runs.py, which show in runs what some advices warn of.
 """
 import collections
+import concurrent.futures
+import dataclasses
 import json
 import pathlib
 import random
+import re
 import subprocess
 import sys
 import tempfile
@@ -22,7 +26,10 @@ import review_runs
 from review_cases import Table
 
 TOP = pathlib.Path(__file__).resolve().parent.parent
-REFUSED, REVIEWED = "refused", "reviewed"
+# The plans that the manual reviews.
+REVIEWED_PLANS = ["first_plan.json", "main_and_oak.json", "tee.json", "one_way_pair.json"]
+# What a review ends with.
+REVIEWED, REFUSED = 0, 1
 ADVICES = 41
 # Display lines have so many characters.
 DISPLAY = 53
@@ -86,32 +93,42 @@ def at_random(source: random.Random, bases: list[Table]) -> Table:
     return review_cases.changed(base, change)
 
 
-def answers(program: str, plans: list[Table]) -> list[list[str] | None]:
-    """What the program answers to each plan: its lines, or none where it breaks a rule."""
-    text = "".join(json.dumps({"version": 2, **plan}) + "\n" for plan in plans)
-    done = subprocess.run([program], input=text, capture_output=True, text=True, check=True)
-    given: list[list[str] | None] = []
-    lines: list[str] = []
-    for line in done.stdout.splitlines():
-        if line == REFUSED:
-            given.append(None)
-        elif line == REVIEWED:
-            given.append(lines)
-            lines = []
-        else:
-            lines.append(line)
-    assert len(given) == len(plans) and not lines, "an answer for each plan"
-    return given
+@dataclasses.dataclass(frozen=True)
+class Programs:
+    """The programs tsb_field and tsb."""
+
+    field: str
+    tsb: str
+
+    def told(self, *words: str, text: str) -> tuple[int, str, str]:
+        """The status of a program that reads this text as its last file, and what it writes."""
+        done = subprocess.run([*words, "/dev/stdin"], input=text, capture_output=True, text=True)
+        return done.returncode, done.stdout, done.stderr
+
+    def answer(self, plan: Table) -> list[str] | None:
+        """The lines of a review, or none where the plan breaks a rule, as `tsb check` says."""
+        text = json.dumps({"version": 2, **plan})
+        status, written, errors = self.told(self.field, "review", text=text)
+        assert not errors, errors
+        if status == REVIEWED:
+            return written.splitlines()
+        assert (status, written, "") == self.told(self.tsb, "check", text=text) and status == REFUSED, (text, status, written)
+        return None
+
+    def answers(self, plans: list[Table]) -> list[list[str] | None]:
+        """The same of each plan."""
+        with concurrent.futures.ThreadPoolExecutor() as pool:
+            return list(pool.map(self.answer, plans))
 
 
-def case_faults(program: str) -> list[str]:
+def case_faults(programs: Programs) -> list[str]:
     """What the cases have otherwise than they should."""
     clean = review_cases.CLEAN
     plans = [clean]
     for case in review_cases.CASES:
         has = review_cases.changed(clean, case.change)
         plans += [has, review_cases.changed(has, case.beside)]
-    given = answers(program, plans)
+    given = programs.answers(plans)
     faults = [] if given[0] == [] else [f"the clean plan: {given[0]}"]
     for number, case in enumerate(review_cases.CASES):
         name = f"A{case.advice} "
@@ -125,7 +142,7 @@ def case_faults(program: str) -> list[str]:
     return [*faults, *(f"A{advice} has no case" for advice in sorted(missing))]
 
 
-def random_faults(program: str, plans: int, seed: int) -> list[str]:
+def random_faults(programs: Programs, plans: int, seed: int) -> list[str]:
     """What plans at random have otherwise than by the reading, and which advices they do not have."""
     source = random.Random(seed)
     bases = [review_cases.CLEAN, *examples()]
@@ -133,7 +150,7 @@ def random_faults(program: str, plans: int, seed: int) -> list[str]:
     counted: collections.Counter[str] = collections.Counter()
     faults: list[str] = []
     passed = 0
-    for plan, lines in zip(drawn, answers(program, drawn)):
+    for plan, lines in zip(drawn, programs.answers(drawn)):
         if lines is None:
             continue
         passed += 1
@@ -145,7 +162,26 @@ def random_faults(program: str, plans: int, seed: int) -> list[str]:
     return [*faults, *(f"no plan has A{n}" for n in range(1, ADVICES + 1) if not counted[f"A{n}"])]
 
 
-def run_faults(tsb: str) -> list[str]:
+def manual_faults(programs: Programs) -> list[str]:
+    """What the manual has otherwise: the reviews of its plans, and the example of each advice."""
+    text = (TOP / "docs/MANUAL.md").read_text()
+    blocks = dict(re.findall(r"^```review (\S+)\n(.*?)^```$", text, re.M | re.S))
+    faults = [f"no review of {name} in the manual" for name in REVIEWED_PLANS if name not in blocks]
+    for name, block in blocks.items():
+        told = programs.told(programs.field, "review", text=(TOP / "examples" / name).read_text())
+        if told != (REVIEWED, block, ""):
+            faults.append(f"the manual's review of {name}: {told}")
+    shown = set()
+    for change, advice, line in re.findall(r"((?:`\w+\.\d+` \d+(?:, )?)+): `A(\d+) ([^`]+)`", text):
+        shown.add(int(advice))
+        values = {at: int(value) for at, value in re.findall(r"`(\w+\.\d+)` (\d+)", change)}
+        lines = programs.answer(review_cases.changed(review_cases.CLEAN, values)) or []
+        if not [it for it in lines if it.startswith(f"A{advice} ")][:1] == [f"A{advice} {line}"]:
+            faults.append(f"the manual's example of A{advice}: {lines}")
+    return [*faults, *(f"no example of A{n} in the manual" for n in range(1, ADVICES + 1) if n not in shown)]
+
+
+def run_faults(programs: Programs) -> list[str]:
     """What the runs of the bench show otherwise than they should."""
     faults = []
     with tempfile.TemporaryDirectory() as folder:
@@ -153,7 +189,7 @@ def run_faults(tsb: str) -> list[str]:
         for it in review_runs.RUNS:
             plan.write_text(json.dumps({"version": 2, **it.plan}))
             log.write_text(it.log)
-            done = subprocess.run([tsb, "run", plan, log], input="\n".join(it.commands) + "\n", capture_output=True, text=True, check=True)
+            done = subprocess.run([programs.tsb, "run", plan, log], input="\n".join(it.commands) + "\n", capture_output=True, text=True, check=True)
             answers = [line for line in done.stdout.splitlines() if len(line) < DISPLAY]
             has = any(line.startswith(f"A{it.advice} ") for line in review_rules.review(it.plan))
             if answers != it.answers or has != it.has:
@@ -162,13 +198,13 @@ def run_faults(tsb: str) -> list[str]:
 
 
 def main(words: list[str]) -> int:
-    """Runs all three, and says what differs."""
-    program, tsb = words[:2]
+    """Runs all four, and says what differs."""
+    programs = Programs(*(str(pathlib.Path(word).resolve()) for word in words[:2]))
     plans, seed = int(words[2]) if len(words) > 2 else 3_000, int(words[3]) if len(words) > 3 else 1
-    faults = [*case_faults(program), *random_faults(program, plans, seed), *run_faults(tsb)]
+    faults = [*case_faults(programs), *random_faults(programs, plans, seed), *manual_faults(programs), *run_faults(programs)]
     for fault in faults[:20]:
         print(fault)
-    passed = len(review_cases.CASES) + len(review_runs.RUNS) + 1
+    passed = len(review_cases.CASES) + len(review_runs.RUNS) + 2
     print(f"0 passed, {len(faults)} failed" if faults else f"{passed} passed, 0 failed")
     return 1 if faults else 0
 

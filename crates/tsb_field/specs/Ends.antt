@@ -2,7 +2,7 @@
 --
 -- Of each stream there is what is seen before and after: `input` and `left`, `old` and `new`, `told` and `tells`.
 use Rattle.std.specs.Prelude.{◌≡◌, ◌⊎◌, ℕ, Bool, true, false, List, [], IsSome, Option, Some, None, Result, Ok, Err, unwrap_or, codes}
-use Rattle.std.specs.Io.KnownBytes.{Consumes, IsAtEnd, Keeps}
+use Rattle.std.specs.Io.KnownBytes.{Consumes, IsAtEnd}
 use Rattle.tsb_lines.specs.Writes.{AppendsFront}
 use Rattle.tsb_program.specs.Read.{HasLog, HasPlan, RefusesLog, RefusesPlanAt}
 use Rattle.tsb_program.specs.Failures.{Fails}
@@ -36,11 +36,12 @@ use Rattle.tsb_text.specs.Blame.{Blames}
 use Rattle.tsb_text.specs.declared.error.SessionError.{SessionError}
 use Rattle.tsb_text.specs.tsb_plan.Plan.{Plan}
 use Rattle.tsb_text.specs.tsb_plan_text.declared.error.PlanError.{PlanError}
-use Rattle.tsb_words.specs.FieldWords.{Wish, diagram, events, log, recording, seen}
+use Rattle.tsb_words.specs.FieldWords.{Wish, diagram, events, log, recording, reviewing, seen}
 use Rattle.tsb_words.specs.declared.field_files.Asked.{Asked}
 use Rattle.tsb_words.specs.declared.error.WordsError.{WordsError}
 use Rattle.tsb_field.specs.Lines.{TellsLate, TellsWords}
 use Rattle.tsb_field.specs.LogEnds.{Logged}
+use Rattle.tsb_field.specs.ReviewEnds.{Reviewed}
 
 -- ## What words name
 
@@ -184,6 +185,7 @@ DidWish (recording from device plan file goes_on) status files input left old ne
     Recorded status from device (on_fault_of goes_on) plan file files input left old new told tells
 DidWish (events from device path) status files input left old new told tells = Told status from device files path input left old new told tells
 DidWish (diagram path title seconds) status files input left old new told tells = Pictured status (title_of title) (seconds_of seconds) files path input left old new told tells
+DidWish (reviewing plan) status files input left old new told tells = (left ≡ input) × Reviewed status (files plan) old new told tells
 
 -- what was done for what the words ask
 abbrev pub Did : Result Asked WordsError → ℕ → (List ℕ → Option (List ℕ)) → (input left old new told tells : Seen) → Type 0

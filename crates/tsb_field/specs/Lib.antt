@@ -4,5 +4,7 @@ pub mod Lines
 pub mod LogLines
 -- how `log` ends
 pub mod LogEnds
+-- how `review` ends
+pub mod ReviewEnds
 -- what the program has done and written for the words that it was given
 pub mod Ends

@@ -15,6 +15,7 @@ const USAGE: &[u8] =
     or tsb_field record --from TIME --device ID [--go-on] PLAN LOG
     or tsb_field events --from TIME --device ID [--log LOG]
     or tsb_field diagram [--log LOG] [--title TEXT] [--seconds-per-line N]
+    or tsb_field review PLAN
 ";
 
 /// Says why words ask for nothing, and gives the status that the program ends with.

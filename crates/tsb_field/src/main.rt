@@ -1,10 +1,12 @@
 //! Field files in, events and pictures out: `tsb_field log` makes a log for `tsb` from a controller's event log, and
-//! `tsb_field events` and `tsb_field diagram` make an event log and a phase diagram from what `tsb` answers.
+//! `tsb_field events` and `tsb_field diagram` make an event log and a phase diagram from what `tsb` answers. `tsb_field
+//! review` says what can be wrong with a plan that runs.
 #![tactic(auto)]
 
 mod end;
 mod log_run;
 mod report;
+mod review_run;
 mod run;
 
 use crate::end::tell_words_fault;

@@ -10,6 +10,7 @@ ghost use Rattle.tsb_field.specs.Ends.{Did, LogNamed, Pictured, RanSo, Recorded,
 
 use crate::end::{tell_late, tell_words_fault, write_all};
 use crate::log_run::write_log;
+use crate::review_run::review_plan;
 use std::alloc::Global;
 use std::convert::AsStr;
 use std::io::{Read, Write};
@@ -36,8 +37,8 @@ const SECONDS: u32 = 300;
 /// with: 0 where all was done, 1 for bad input, 2 for bad words, 3 where a read, a write or memory failed, 4 where a line
 /// ended a strict record.
 ///
-/// The log, the events or the diagram go to `output`, and what was left out, faults, bad words and failures to `errors`.
-/// A second line has where the text of a plan stops being JSON, or what was not read.
+/// The log, the events, the diagram or the review go to `output`, and what was left out, faults, bad words and failures to
+/// `errors`. A second line has where the text of a plan stops being JSON, or what was not read.
 pub fn run_words<S: AsStr, F: Files, R: Read, W: Write, E: Write>(
     alloc: Global,
     words: &[S],
@@ -82,6 +83,7 @@ pub fn run_words<S: AsStr, F: Files, R: Read, W: Write, E: Write>(
             let seconds = seconds_per_line.unwrap_or(SECONDS);
             write_diagram(alloc, log, title, seconds, files, input, output, errors)
         }
+        Ok(Asked::Review { plan }) => review_plan(alloc, plan, files, output, errors),
         Err(fault) => tell_words_fault(errors, fault),
     }
 }

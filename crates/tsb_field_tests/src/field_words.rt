@@ -201,10 +201,25 @@ fn diagram_words(rt: HostRuntime) {
     assert!(rt; ask_for_diagram(rt.alloc(), &alone, None, None, None));
 }
 
+/// Whether the words ask for a review of this plan.
+fn ask_for_review(alloc: Global, words: &[&str], file: &str) -> bool {
+    match read_words(alloc, words) {
+        Ok(Asked::Review { plan }) => plan == file,
+        _ => false,
+    }
+}
+
+#[test]
+fn review_words(rt: HostRuntime) {
+    assert!(rt; ask_for_review(rt.alloc(), &["tsb_field", "review", "a.json"], "a.json"));
+    let hyphen = ["tsb_field", "review", "--", "-a.json"];
+    assert!(rt; ask_for_review(rt.alloc(), &hyphen, "-a.json"));
+}
+
 const FROM: &str = "--from=2026-11-22T07:00:00";
 
 /// Words that ask for nothing.
-const BAD: [&[&str]; 27] = [
+const BAD: [&[&str]; 30] = [
     &["tsb_field"],
     &["tsb_field", "help"],
     &["tsb_field", "log"],
@@ -256,6 +271,9 @@ const BAD: [&[&str]; 27] = [
     &["tsb_field", "events", "--device=1"],
     &["tsb_field", "diagram", "--seconds-per-line=0"],
     &["tsb_field", "diagram", "--seconds-per-line=86401"],
+    &["tsb_field", "review"],
+    &["tsb_field", "review", "a.json", "a.log"],
+    &["tsb_field", "review", "--log=a.log", "a.json"],
 ];
 
 /// Whether all these words are bad.

@@ -1,5 +1,5 @@
 -- What a writer has taken of a review, piece by piece.
-use Rattle.std.proofs.Common.{◌≡◌, ◌∙◌, ℕ, zero, suc, ◌+◌, ◌-◌, ◌<◌, ◌≤◌, Bool, true, false, if◌then◌else◌, List, [], ◌∷◌, ◌++◌, append_assoc, length, drop, drop-cons, get_or, map, flat_map, refl, sym, ap, arith, subst, OnOk, Option, Some, None}
+use Rattle.std.proofs.Common.{◌≡◌, ◌∙◌, ℕ, zero, suc, ◌+◌, ◌-◌, ◌<◌, ◌≤◌, Bool, true, false, if◌then◌else◌, List, [], ◌∷◌, ◌++◌, append_assoc, length, drop, drop-cons, get_or, map, flat_map, refl, sym, ap, arith, subst, OnErr, OnOk, Option, Some, None}
 use Rattle.std.specs.declared.result.Result.{Result}
 use Rattle.std.specs.declared.result.Result.TheVariants.{Ok, Err}
 use Rattle.std.proofs.lemmas.List.{append-nil}
@@ -8,6 +8,7 @@ use Rattle.std.specs.Io.KnownBytes.{Appends}
 use Rattle.tsb_lines.proofs.StreamLemmas.{Gone, appends-more, appends-nothing}
 use Rattle.tsb_lines.specs.Writes.{AppendsFront}
 use Rattle.tsb_lines.specs.declared.writes.WriteError.{WriteError}
+use Rattle.tsb_watched.specs.Seen.{Seen}
 use Rattle.tsb_plan.specs.Plan.{Plan}
 use Rattle.tsb_types.specs.Lists.{run_from}
 use Rattle.tsb_review.specs.declared.advice.Advice.{Advice}
@@ -70,49 +71,62 @@ by-advices plan =
 
 -- ## What has gone out
 
+-- what has gone out to a writer that has not failed since, and what is left
+pub record Went (a b : Seen) (text left : List ℕ) : Type 0 where
+  pub gone : Gone a.bytes b.bytes text left
+  pub well : b.failed ≡ a.failed
+
 -- a piece more
-gone-piece : (a b c : Option (List ℕ)) (text piece left : List ℕ) → Gone a b text (piece ++ left) → Appends b c piece → Gone a c text left
-gone-piece a b c text piece left so added = record {
-  gone = so.gone ++ piece;
-  grown = appends-more a b c so.gone piece so.grown added;
-  whole = so.whole ∙ sym (append_assoc so.gone piece left);
+went-piece : (a b c : Seen) (text piece left : List ℕ) → Went a b text (piece ++ left) → Appends b.bytes c.bytes piece → c.failed ≡ b.failed → Went a c text left
+went-piece a b c text piece left so added well = record {
+  gone = record {
+    gone = so.gone.gone ++ piece;
+    grown = appends-more a.bytes b.bytes c.bytes so.gone.gone piece so.gone.grown added;
+    whole = so.gone.whole ∙ sym (append_assoc so.gone.gone piece left);
+  };
+  well = well ∙ so.well;
 }
 
 -- all
-pub wrote-all : (a b : Option (List ℕ)) (text : List ℕ) → Gone a b text [] → Wrote (Ok tt) a b text
+pub wrote-all : (a b : Seen) (text : List ℕ) → Went a b text [] → Wrote (Ok tt) a b text
 wrote-all a b text so =
-    let same : text ≡ so.gone = so.whole ∙ append-nil so.gone in
+    let same : text ≡ so.gone.gone = so.gone.whole ∙ append-nil so.gone.gone in
     record {
-      whole = subst (λ (ts : List ℕ). Appends a b ts) (sym same) so.grown;
-      front = (so.gone, [], so.grown, so.whole);
+      whole = subst (λ (ts : List ℕ). Appends a.bytes b.bytes ts) (sym same) so.gone.grown;
+      front = (so.gone.gone, [], so.gone.grown, so.gone.whole);
+      blame = tt;
+      well = so.well;
     }
 
 -- the writer failed within a piece
-pub wrote-front : (a b c : Option (List ℕ)) (text piece left : List ℕ) (e : WriteError) → Gone a b text (piece ++ left) → AppendsFront b c piece → Wrote (Err e) a c text
-wrote-front a b c text piece left e so front = record {
+pub wrote-front : (a b c : Seen) (text piece left : List ℕ) (e : WriteError) → Went a b text (piece ++ left) → AppendsFront b.bytes c.bytes piece → c.failed ≡ true → Wrote (Err e) a c text
+wrote-front a b c text piece left e so front failed = record {
   whole = tt;
   front = (
-    so.gone ++ front.0,
+    so.gone.gone ++ front.0,
     front.1 ++ left,
-    appends-more a b c so.gone front.0 so.grown front.2,
-    so.whole ∙ ap (λ (ts : List ℕ). so.gone ++ (ts ++ left)) front.3 ∙ ap (λ (ts : List ℕ). so.gone ++ ts) (append_assoc front.0 front.1 left)
-        ∙ sym (append_assoc so.gone front.0 (front.1 ++ left)),
+    appends-more a.bytes b.bytes c.bytes so.gone.gone front.0 so.gone.grown front.2,
+    so.gone.whole ∙ ap (λ (ts : List ℕ). so.gone.gone ++ (ts ++ left)) front.3 ∙ ap (λ (ts : List ℕ). so.gone.gone ++ ts) (append_assoc front.0 front.1 left)
+        ∙ sym (append_assoc so.gone.gone front.0 (front.1 ++ left)),
   );
+  blame = failed;
+  well = tt;
 }
 
 -- a text that is what was to be written
-pub wrote-said : (r : Result (Unit {0}) WriteError) (a b : Option (List ℕ)) (bytes text : List ℕ) → bytes ≡ text → OnOk r (Appends a b bytes) → AppendsFront a b bytes → Wrote r a b text
-wrote-said r a b bytes text same whole front =
-    subst (λ (ts : List ℕ). Wrote r a b ts) same (record { whole = whole; front = front })
+pub wrote-said : (r : Result (Unit {0}) WriteError) (a b : Seen) (bytes text : List ℕ) → bytes ≡ text → OnOk r (Appends a.bytes b.bytes bytes) → AppendsFront a.bytes b.bytes bytes
+    → OnErr r (b.failed ≡ true) → OnOk r (b.failed ≡ a.failed) → Wrote r a b text
+wrote-said r a b bytes text same whole front blame well =
+    subst (λ (ts : List ℕ). Wrote r a b ts) same (record { whole = whole; front = front; blame = blame; well = well })
 
 -- where there is no finding nothing is to be written
-pub wrote-none : (plan : Plan) (o p : Option Finding) (a : Option (List ℕ)) → o ≡ p → o ≡ None → Wrote (Ok tt) a a (line_in plan p)
+pub wrote-none : (plan : Plan) (o p : Option Finding) (a : Seen) → o ≡ p → o ≡ None → Wrote (Ok tt) a a (line_in plan p)
 wrote-none plan o p a same none =
     subst (λ (q : Option Finding). Wrote (Ok tt) a a (line_in plan q)) (sym none ∙ same)
-    (record { whole = appends-nothing a; front = ([], [], appends-nothing a, refl) })
+    (record { whole = appends-nothing a.bytes; front = ([], [], appends-nothing a.bytes, refl); blame = tt; well = refl })
 
 -- and where there is one its line
-pub wrote-some : (plan : Plan) (f : Finding) (o p : Option Finding) (r : Result (Unit {0}) WriteError) (a b : Option (List ℕ)) → o ≡ p → o ≡ Some f →
+pub wrote-some : (plan : Plan) (f : Finding) (o p : Option Finding) (r : Result (Unit {0}) WriteError) (a b : Seen) → o ≡ p → o ≡ Some f →
     Wrote r a b (line_of plan f) → Wrote r a b (line_in plan p)
 wrote-some plan f o p r a b same some wrote = subst (λ (q : Option Finding). Wrote r a b (line_in plan q)) (sym some ∙ same) wrote
 
@@ -131,31 +145,36 @@ left-end f k end over =
     let e : end - k ≡ zero = omega (arith, over) in
     ap (λ (n : ℕ). flat_map f (run_from k n)) e
 
+-- what is left, told otherwise
+went-as : (a b : Seen) (text left other : List ℕ) → left ≡ other → Went a b text left → Went a b text other
+went-as a b text left other same so = subst (λ (ts : List ℕ). Went a b text ts) same so
+
 -- nothing has gone out yet
-pub start-run : (f : ℕ → List ℕ) (a : Option (List ℕ)) (text : List ℕ) (n end : ℕ) → text ≡ flat_map f (run_from 1 n) → end ≡ n + 1 →
-    Gone a a text (flat_map f (run_from 1 (end - 1)))
+pub start-run : (f : ℕ → List ℕ) (a : Seen) (text : List ℕ) (n end : ℕ) → text ≡ flat_map f (run_from 1 n) → end ≡ n + 1 →
+    Went a a text (flat_map f (run_from 1 (end - 1)))
 start-run f a text n end is ends =
     let e : end - 1 ≡ n = omega (arith, ends) in
-    record { gone = []; grown = appends-nothing a; whole = is ∙ ap (λ (m : ℕ). flat_map f (run_from 1 m)) (sym e) }
+    record {
+      gone = record { gone = []; grown = appends-nothing a.bytes; whole = is ∙ ap (λ (m : ℕ). flat_map f (run_from 1 m)) (sym e) };
+      well = refl;
+    }
 
 -- one number more
-pub next-run : (f : ℕ → List ℕ) (a b c : Option (List ℕ)) (text : List ℕ) (k end : ℕ) → k < end →
-    Gone a b text (flat_map f (run_from k (end - k))) → Appends b c (f k) → Gone a c text (flat_map f (run_from (k + 1) (end - (k + 1))))
-next-run f a b c text k end below so added =
-    let left : Gone a b text (f k ++ flat_map f (run_from (k + 1) (end - (k + 1)))) = subst (λ (ts : List ℕ). Gone a b text ts) (left-at f k end below) so in
-    gone-piece a b c text (f k) (flat_map f (run_from (k + 1) (end - (k + 1)))) left added
+pub next-run : (f : ℕ → List ℕ) (a b c : Seen) (text : List ℕ) (k end : ℕ) → k < end → Went a b text (flat_map f (run_from k (end - k)))
+    → Appends b.bytes c.bytes (f k) → c.failed ≡ b.failed → Went a c text (flat_map f (run_from (k + 1) (end - (k + 1))))
+next-run f a b c text k end below so added well =
+    went-piece a b c text (f k) (flat_map f (run_from (k + 1) (end - (k + 1)))) (went-as a b text _ _ (left-at f k end below) so) added well
 
 -- the writer failed at one
-pub fail-run : (f : ℕ → List ℕ) (a b c : Option (List ℕ)) (text : List ℕ) (k end : ℕ) (e : WriteError) → k < end →
-    Gone a b text (flat_map f (run_from k (end - k))) → AppendsFront b c (f k) → Wrote (Err e) a c text
-fail-run f a b c text k end e below so front =
-    let left : Gone a b text (f k ++ flat_map f (run_from (k + 1) (end - (k + 1)))) = subst (λ (ts : List ℕ). Gone a b text ts) (left-at f k end below) so in
-    wrote-front a b c text (f k) (flat_map f (run_from (k + 1) (end - (k + 1)))) e left front
+pub fail-run : (f : ℕ → List ℕ) (a b c : Seen) (text : List ℕ) (k end : ℕ) (e : WriteError) → k < end → Went a b text (flat_map f (run_from k (end - k)))
+    → AppendsFront b.bytes c.bytes (f k) → c.failed ≡ true → Wrote (Err e) a c text
+fail-run f a b c text k end e below so front failed =
+    wrote-front a b c text (f k) (flat_map f (run_from (k + 1) (end - (k + 1)))) e (went-as a b text _ _ (left-at f k end below) so) front failed
 
 -- all is written
-pub end-run : (f : ℕ → List ℕ) (a b : Option (List ℕ)) (text : List ℕ) (k end : ℕ) → end ≤ k →
-    Gone a b text (flat_map f (run_from k (end - k))) → Wrote (Ok tt) a b text
-end-run f a b text k end over so = wrote-all a b text (subst (λ (ts : List ℕ). Gone a b text ts) (left-end f k end over) so)
+pub end-run : (f : ℕ → List ℕ) (a b : Seen) (text : List ℕ) (k end : ℕ) → end ≤ k →
+    Went a b text (flat_map f (run_from k (end - k))) → Wrote (Ok tt) a b text
+end-run f a b text k end over so = wrote-all a b text (went-as a b text _ _ (left-end f k end over) so)
 
 -- ## Over a list
 
@@ -170,21 +189,19 @@ drop-end [] (suc k) over = refl
 drop-end (x ∷ xs) zero over = absurd (omega (arith, over))
 drop-end (x ∷ xs) (suc k) over = drop-end xs k (omega (arith, over))
 
-pub start-list : {A : Type 0} (f : A → List ℕ) (xs : List A) (a : Option (List ℕ)) (text : List ℕ) → text ≡ flat_map f xs → Gone a a text (flat_map f (drop 0 xs))
-start-list f xs a text is = record { gone = []; grown = appends-nothing a; whole = is }
+pub start-list : {A : Type 0} (f : A → List ℕ) (xs : List A) (a : Seen) (text : List ℕ) → text ≡ flat_map f xs → Went a a text (flat_map f (drop 0 xs))
+start-list f xs a text is = record { gone = record { gone = []; grown = appends-nothing a.bytes; whole = is }; well = refl }
 
-pub next-list : {A : Type 0} (f : A → List ℕ) (xs : List A) (d : A) (a b c : Option (List ℕ)) (text : List ℕ) (k : ℕ) → k < length xs →
-    Gone a b text (flat_map f (drop k xs)) → Appends b c (f (get_or xs k d)) → Gone a c text (flat_map f (drop (k + 1) xs))
-next-list f xs d a b c text k below so added =
-    let left : Gone a b text (f (get_or xs k d) ++ flat_map f (drop (k + 1) xs)) = subst (λ (ts : List ℕ). Gone a b text ts) (left-of f xs k d below) so in
-    gone-piece a b c text (f (get_or xs k d)) (flat_map f (drop (k + 1) xs)) left added
+pub next-list : {A : Type 0} (f : A → List ℕ) (xs : List A) (d : A) (a b c : Seen) (text : List ℕ) (k : ℕ) → k < length xs → Went a b text (flat_map f (drop k xs))
+    → Appends b.bytes c.bytes (f (get_or xs k d)) → c.failed ≡ b.failed → Went a c text (flat_map f (drop (k + 1) xs))
+next-list f xs d a b c text k below so added well =
+    went-piece a b c text (f (get_or xs k d)) (flat_map f (drop (k + 1) xs)) (went-as a b text _ _ (left-of f xs k d below) so) added well
 
-pub fail-list : {A : Type 0} (f : A → List ℕ) (xs : List A) (d : A) (a b c : Option (List ℕ)) (text : List ℕ) (k : ℕ) (e : WriteError) → k < length xs →
-    Gone a b text (flat_map f (drop k xs)) → AppendsFront b c (f (get_or xs k d)) → Wrote (Err e) a c text
-fail-list f xs d a b c text k e below so front =
-    let left : Gone a b text (f (get_or xs k d) ++ flat_map f (drop (k + 1) xs)) = subst (λ (ts : List ℕ). Gone a b text ts) (left-of f xs k d below) so in
-    wrote-front a b c text (f (get_or xs k d)) (flat_map f (drop (k + 1) xs)) e left front
+pub fail-list : {A : Type 0} (f : A → List ℕ) (xs : List A) (d : A) (a b c : Seen) (text : List ℕ) (k : ℕ) (e : WriteError) → k < length xs
+    → Went a b text (flat_map f (drop k xs)) → AppendsFront b.bytes c.bytes (f (get_or xs k d)) → c.failed ≡ true → Wrote (Err e) a c text
+fail-list f xs d a b c text k e below so front failed =
+    wrote-front a b c text (f (get_or xs k d)) (flat_map f (drop (k + 1) xs)) e (went-as a b text _ _ (left-of f xs k d below) so) front failed
 
-pub end-list : {A : Type 0} (f : A → List ℕ) (xs : List A) (a b : Option (List ℕ)) (text : List ℕ) (k : ℕ) → length xs ≤ k →
-    Gone a b text (flat_map f (drop k xs)) → Wrote (Ok tt) a b text
-end-list f xs a b text k over so = wrote-all a b text (subst (λ (ts : List ℕ). Gone a b text ts) (ap (flat_map f) (drop-end xs k over)) so)
+pub end-list : {A : Type 0} (f : A → List ℕ) (xs : List A) (a b : Seen) (text : List ℕ) (k : ℕ) → length xs ≤ k →
+    Went a b text (flat_map f (drop k xs)) → Wrote (Ok tt) a b text
+end-list f xs a b text k over so = wrote-all a b text (went-as a b text _ _ (ap (flat_map f) (drop-end xs k over)) so)

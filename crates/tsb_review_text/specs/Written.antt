@@ -1,9 +1,10 @@
 -- What a review writes, part by part, and what a writer has taken of it.
-use Rattle.std.specs.Prelude.{ℕ, List, [], Option, Some, None, Result, OnOk, flat_map}
+use Rattle.std.specs.Prelude.{◌≡◌, ℕ, List, [], Option, Some, None, Result, OnErr, OnOk, flat_map, true}
 use Rattle.std.specs.Io.KnownBytes.{Appends}
 use Rattle.tsb_types.specs.Lists.{run_from}
 use Rattle.tsb_lines.specs.Writes.{AppendsFront}
 use Rattle.tsb_lines.specs.declared.writes.WriteError.{WriteError}
+use Rattle.tsb_watched.specs.Seen.{Seen}
 use Rattle.tsb_plan.specs.Plan.{Plan}
 use Rattle.tsb_review.specs.declared.advice.Advice.{Advice}
 use Rattle.tsb_review.specs.declared.finding.Finding.{Finding}
@@ -12,10 +13,12 @@ use Rattle.tsb_review.specs.Findings.{finding_at}
 use Rattle.tsb_review.specs.Places.{firsts, seconds}
 use Rattle.tsb_review_text.specs.Lines.{line_of}
 
--- a writer has taken this text, or where it failed the first bytes of it
-pub record Wrote (result : Result (Unit {0}) WriteError) (old new : Option (List ℕ)) (text : List ℕ) : Type 0 where
-  pub whole : OnOk result (Appends old new text)
-  pub front : AppendsFront old new text
+-- a writer has taken this text, or the first bytes of it where a write has failed; else none has failed since
+pub record Wrote (result : Result (Unit {0}) WriteError) (old new : Seen) (text : List ℕ) : Type 0 where
+  pub whole : OnOk result (Appends old.bytes new.bytes text)
+  pub front : AppendsFront old.bytes new.bytes text
+  pub blame : OnErr result (new.failed ≡ true)
+  pub well : OnOk result (new.failed ≡ old.failed)
 
 -- the line of a finding, where there is one
 abbrev pub line_in : Plan → Option Finding → List ℕ

@@ -5,21 +5,23 @@ ghost use Rattle.std.specs.Prelude.{◌≡◌, ◌≤◌};
 ghost use Rattle.tsb_plan.specs.PlanOf.{plan_of};
 ghost use Rattle.tsb_review.specs.Advices.{shape};
 ghost use Rattle.tsb_review.specs.Places.{firsts, seconds};
+ghost use Rattle.tsb_watched.specs.Seen.{seen};
 ghost use Rattle.tsb_review_text.specs.Lines.{line_of, review_text};
 ghost use Rattle.tsb_review_text.specs.Written.{Wrote, text_at, text_from, text_of};
 
 use crate::line::line_of;
 use std::io::Write;
-use tsb_lines::{WriteError, write_text};
 use tsb_plan::Plan;
 use tsb_review::{Advice, Finding, finding_at};
+use tsb_watched::{Watched, WriteError};
 
 /// Writes a line for each advice that holds of a part of the plan: advice by advice in order, and of each its places in
-/// order, so each once. At an error the first bytes of the text may have gone out. It takes no memory.
+/// order, so each once. At an error the first bytes of the text may have gone out, and a write has failed. It takes no
+/// memory.
 ///
 /// The plan is meant to be one that meets the rules. Of any other it says the same by the same definitions.
-pub fn write_review<W: Write>(plan: &Plan, output: &mut W) -> Result<(), WriteError>
-    ensures { Wrote result (W.contents output.old) (W.contents output.new) (review_text (plan_of plan.now)) }
+pub fn write_review<W: Write>(plan: &Plan, output: &mut Watched<W>) -> Result<(), WriteError>
+    ensures { Wrote result (seen W.contents output.old) (seen W.contents output.new) (review_text (plan_of plan.now)) }
 {
     for advice in &Advice::ALL {
         write_advice(plan, *advice, output)?;
@@ -28,8 +30,12 @@ pub fn write_review<W: Write>(plan: &Plan, output: &mut W) -> Result<(), WriteEr
 }
 
 /// Writes the lines of an advice.
-fn write_advice<W: Write>(plan: &Plan, advice: Advice, output: &mut W) -> Result<(), WriteError>
-    ensures { Wrote result (W.contents output.old) (W.contents output.new) (text_of (plan_of plan.now) advice) }
+fn write_advice<W: Write>(
+    plan: &Plan,
+    advice: Advice,
+    output: &mut Watched<W>,
+) -> Result<(), WriteError>
+    ensures { Wrote result (seen W.contents output.old) (seen W.contents output.new) (text_of (plan_of plan.now) advice) }
 {
     let count = advice.shape().firsts();
     for first in 1..count + 1 {
@@ -43,11 +49,11 @@ fn write_from<W: Write>(
     plan: &Plan,
     advice: Advice,
     first: u8,
-    output: &mut W,
+    output: &mut Watched<W>,
 ) -> Result<(), WriteError>
     requires from { 1 ≤ first }
     requires to { first ≤ firsts (shape advice) }
-    ensures { Wrote result (W.contents output.old) (W.contents output.new) (text_from (plan_of plan.now) advice first) }
+    ensures { Wrote result (seen W.contents output.old) (seen W.contents output.new) (text_from (plan_of plan.now) advice first) }
 {
     let count = advice.shape().seconds();
     for second in 1..count + 1 {
@@ -62,13 +68,13 @@ fn write_at<W: Write>(
     advice: Advice,
     first: u8,
     second: u8,
-    output: &mut W,
+    output: &mut Watched<W>,
 ) -> Result<(), WriteError>
     requires first_from { 1 ≤ first }
     requires first_to { first ≤ firsts (shape advice) }
     requires second_from { 1 ≤ second }
     requires second_to { second ≤ seconds (shape advice) }
-    ensures { Wrote result (W.contents output.old) (W.contents output.new) (text_at (plan_of plan.now) advice first second) }
+    ensures { Wrote result (seen W.contents output.old) (seen W.contents output.new) (text_at (plan_of plan.now) advice first second) }
 {
     match finding_at(plan, advice, first, second) {
         Some(finding) => write_finding(plan, &finding, output),
@@ -77,9 +83,13 @@ fn write_at<W: Write>(
 }
 
 /// Writes the line of a finding.
-fn write_finding<W: Write>(plan: &Plan, finding: &Finding, output: &mut W) -> Result<(), WriteError>
-    ensures { Wrote result (W.contents output.old) (W.contents output.new) (line_of (plan_of plan.now) finding.now) }
+fn write_finding<W: Write>(
+    plan: &Plan,
+    finding: &Finding,
+    output: &mut Watched<W>,
+) -> Result<(), WriteError>
+    ensures { Wrote result (seen W.contents output.old) (seen W.contents output.new) (line_of (plan_of plan.now) finding.now) }
 {
     let line = line_of(plan, finding);
-    write_text(output, line.as_slice())
+    output.write_text(line.as_slice())
 }

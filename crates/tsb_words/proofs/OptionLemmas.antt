@@ -9,7 +9,7 @@ use Rattle.tsb_event_text.specs.declared.time_forms.TimeForm.{TimeForm}
 use Rattle.tsb_event_text.specs.declared.times.Moment.{Moment}
 use Rattle.tsb_event_text.specs.declared.zones.Zone.{Zone}
 use Rattle.tsb_words.specs.declared.field_files.Manner.{Manner}
-use Rattle.tsb_words.specs.FieldProgram.{diagram_in, diagram_with, events_in, events_with, form_said, is_set, log_in, log_with, manner_in, manner_with, moment_in, record_in, record_with, seconds_said, texts_in, window_in, window_said, wires_in, zone_said}
+use Rattle.tsb_words.specs.FieldProgram.{diagram_in, diagram_with, events_in, events_with, form_said, is_set, log_in, log_with, manner_in, manner_with, moment_in, record_in, record_with, review_in, review_with, seconds_said, texts_in, window_in, window_said, wires_in, zone_said}
 use Rattle.tsb_field_log.specs.declared.inputs.Wire.{Wire}
 use Rattle.tsb_words.specs.FieldWords.{Wish, log}
 
@@ -53,6 +53,11 @@ getters_diagram f asked file title seconds file-is title-is seconds-is is =
     ∙ (ap (λ (l : Option Text). diagram_with l title (seconds_said seconds)) (sym (first_is f (codes "log") file file-is))
     ∙ (ap (λ (t : Option Text). diagram_with (first_of (codes "log") (rows_of f)) t (seconds_said seconds)) (sym (first_is f (codes "title") title title-is))
     ∙ ap (λ (s : Option Text). diagram_with (first_of (codes "log") (rows_of f)) (first_of (codes "title") (rows_of f)) (seconds_said s)) (sym (first_is f (codes "seconds-per-line") seconds seconds-is))))
+
+-- and what `review` asks for
+pub getters_review : (f : Found) (asked : Option Wish) (plan : Option Text) → plan ≡ first_value f (codes "PLAN") → asked ≡ review_with plan
+    → asked ≡ review_in (rows_of f)
+getters_review f asked plan plan-is is = is ∙ ap review_with (sym (first_is f (codes "PLAN") plan plan-is))
 
 -- the values of an option, as a getter answers them
 pub texts_is : (f : Found) (id : Text) (o : Option (List Text)) → o ≡ option_map raw_values (matched_of f id) → unwrap_or o [] ≡ texts_in id (rows_of f)

@@ -17,7 +17,7 @@ use Rattle.tsb_words.specs.declared.field_files.options.TheConstants.{USUAL_WIND
 use Rattle.tsb_words.specs.declared.field_files.Asked.{Asked}
 use Rattle.tsb_words.specs.declared.field_files.Manner.{Manner}
 use Rattle.tsb_words.specs.declared.error.WordsError.{WordsError}
-use Rattle.tsb_words.specs.FieldWords.{Wish, diagram, events, log, recording, seconds_of, seen, window_of}
+use Rattle.tsb_words.specs.FieldWords.{Wish, diagram, events, log, recording, reviewing, seconds_of, seen, window_of}
 use Rattle.tsb_words.specs.Words.{SpelledBy, met_by}
 use Rattle.tsb_words.specs.Wires.{joined, wires_of}
 
@@ -82,11 +82,15 @@ abbrev pub diagram_shape : Shape
 diagram_shape = shape_with (codes "diagram")
     (option_rule (codes "log") ∷ option_rule (codes "title") ∷ option_rule (codes "seconds-per-line") ∷ [])
 
+-- those of `review`
+abbrev pub review_shape : Shape
+review_shape = shape_with (codes "review") (file_rule (codes "PLAN") ∷ [])
+
 -- the program with its subcommands
 abbrev pub program : App
 program = record {
   top = record (new_shape (codes "tsb_field")) { is_leaf = false };
-  subs = log_shape ∷ record_shape ∷ events_shape ∷ diagram_shape ∷ [];
+  subs = log_shape ∷ record_shape ∷ events_shape ∷ diagram_shape ∷ review_shape ∷ [];
 }
 
 -- an argument of the command belongs to its subcommands as well
@@ -203,13 +207,23 @@ diagram_with file title (Some seconds) = Some (diagram file title seconds)
 abbrev pub diagram_in : List Row → Option Wish
 diagram_in rows = diagram_with (first_of (codes "log") rows) (first_of (codes "title") rows) (seconds_in rows)
 
+-- a review, where a plan is named
+abbrev pub review_with : Option Text → Option Wish
+review_with None = None
+review_with (Some plan) = Some (reviewing plan)
+
+-- what `review` asks for, with this file
+abbrev pub review_in : List Row → Option Wish
+review_in rows = review_with (first_of (codes "PLAN") rows)
+
 -- what the subcommand asks for that was met, with its options
 abbrev pub asked_by : Option (Text × List Row) → Option Wish
 asked_by None = None
 asked_by (Some met) =
     if bytes_eq met.0 (codes "log") then log_in met.1
     else (if bytes_eq met.0 (codes "record") then record_in met.1
-    else (if bytes_eq met.0 (codes "events") then events_in met.1 else diagram_in met.1))
+    else (if bytes_eq met.0 (codes "events") then events_in met.1
+    else (if bytes_eq met.0 (codes "diagram") then diagram_in met.1 else review_in met.1)))
 
 -- what words ask for, of which the first is the program's name: by what `clap` reads of them where it takes them
 abbrev pub wish_of : List Text → Option Wish

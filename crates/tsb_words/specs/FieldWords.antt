@@ -27,6 +27,8 @@ pub data Wish : Type 0 where
   events : Moment → List ℕ → Option (List ℕ) → Wish
   -- a diagram with the log in this file, with this title and so many seconds a line
   diagram : Option (List ℕ) → Option (List ℕ) → Option ℕ → Wish
+  -- a review of the plan in this file
+  reviewing : List ℕ → Wish
 
 -- so many seconds, where a line of a diagram may show them: from 1 on
 abbrev pub seconds_at : Option ℕ → Option ℕ
@@ -61,3 +63,4 @@ seen (asks.Log asked) = log (seen_log asked)
 seen (asks.Record from device plan file goes_on) = recording from device.now plan.now file.now goes_on
 seen (asks.Events from device file) = events from device.now (option_map (λ name. name.now) file)
 seen (asks.Diagram file title seconds) = diagram (option_map (λ name. name.now) file) (option_map (λ name. name.now) title) seconds
+seen (asks.Review plan) = reviewing plan.now

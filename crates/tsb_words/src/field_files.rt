@@ -2,7 +2,7 @@
 ghost use Rattle.std.specs.Prelude.{◌≡◌, map, option_map};
 ghost use Rattle.clap.specs.Words.{found_of, rows_of};
 ghost use Rattle.clap.specs.Simple.{subcommand_rows_of};
-ghost use Rattle.tsb_words.specs.FieldProgram.{Spells, asked_by, diagram_in, diagram_with, events_in, events_with, is_set, log_in, manner_in, manner_with, record_in, record_with, seconds_said, wires_in};
+ghost use Rattle.tsb_words.specs.FieldProgram.{Spells, asked_by, diagram_in, diagram_with, events_in, events_with, is_set, log_in, manner_in, manner_with, record_in, record_with, review_in, review_with, seconds_said, wires_in};
 ghost use Rattle.tsb_words.specs.FieldWords.{seen};
 ghost use Rattle.tsb_words.specs.Wires.{AreSpelled};
 ghost use Rattle.tsb_words.specs.Words.{SpelledBy};
@@ -87,6 +87,11 @@ pub enum Asked<'a> {
         /// How many seconds a line of the diagram shows, 1 to 86,400.
         seconds_per_line: Option<u32>,
     },
+    /// A review of a plan.
+    Review {
+        /// The file of the plan.
+        plan: &'a str,
+    },
 }
 
 /// What the words ask for, the first of which is the program's name.
@@ -94,10 +99,10 @@ pub enum Asked<'a> {
 /// `log` has `--from TIME`, and may have `--device ID`, `--time-form FORM`, `--zone OFFSET`, `--count`, `--allow-empty`,
 /// `--sort`, `--sort-within SECONDS` and any number of `--vehicle CHANNEL=DETECTOR`, `--pedestrian CHANNEL=DETECTOR` and `--preempt CHANNEL=INPUT`; `record` has `--from TIME`, `--device ID`, and the
 /// files of a plan and a log, and may have `--go-on`; `events` has `--from TIME` and `--device ID`, and may have `--log LOG`; `diagram` may have
-/// `--log LOG`, `--title TEXT` and `--seconds-per-line N`. Options come in any order, and `--NAME=VALUE` is
-/// `--NAME VALUE`. A value that begins with a hyphen comes after `=`. All else is `Bad`, and so are a request for help
-/// and a device of `record` or `events` with a double quote, an end of a line or over 900 bytes. `Memory` may come in
-/// place of every answer.
+/// `--log LOG`, `--title TEXT` and `--seconds-per-line N`; `review` has the file of a plan. Options come in any order, and
+/// `--NAME=VALUE` is `--NAME VALUE`. A value that begins with a hyphen comes after `=`. All else is `Bad`, and so are a
+/// request for help and a device of `record` or `events` with a double quote, an end of a line or over 900 bytes. `Memory`
+/// may come in place of every answer.
 pub fn read_words<'a, S: AsStr>(alloc: Global, words: &'a [S]) -> Result<Asked<'a>, WordsError>
     ensures { Spells (map S.text words.now) result }
 {
@@ -119,8 +124,10 @@ fn asked_of<'a>(alloc: Global, matches: &ArgMatches<'a>) -> Result<Asked<'a>, Wo
         record_asked(options)
     } else if name == "events" {
         events_asked(options)
-    } else {
+    } else if name == "diagram" {
         diagram_asked(options)
+    } else {
+        review_asked(options)
     };
     match found {
         Some(asked) => Ok(asked),
@@ -296,4 +303,19 @@ fn diagram_with<'a>(
         title,
         seconds_per_line,
     })
+}
+
+/// What `review` asks for, with this file.
+fn review_asked<'a>(options: &ArgMatches<'a>) -> Option<Asked<'a>>
+    ensures { option_map seen result ≡ review_in (rows_of (found_of options.now)) }
+{
+    review_with(options.get_str("PLAN"))
+}
+
+/// A review, where a plan is named.
+fn review_with<'a>(plan: Option<&'a str>) -> Option<Asked<'a>>
+    ensures { option_map seen result ≡ review_with (option_map (λ text. text.now) plan.entry) }
+{
+    let plan = plan?;
+    Some(Asked::Review { plan })
 }

@@ -4,7 +4,7 @@ use Rattle.clap.specs.Walk.{Text}
 use Rattle.clap.proofs.OnLiterals.{clap_on_literals}
 use Rattle.tsb_words.specs.FieldProgram.{wish_of}
 use Rattle.tsb_event_text.specs.Times.{moment_of}
-use Rattle.tsb_words.specs.FieldWords.{Wish, diagram, recording}
+use Rattle.tsb_words.specs.FieldWords.{Wish, diagram, recording, reviewing}
 
 -- these words after the program's name
 abbrev given : List Text → List Text
@@ -33,6 +33,19 @@ with-hyphen = refl
 apart : wish_of (given (codes "diagram" ∷ codes "--title" ∷ codes "-A" ∷ [])) ≡ None
 unfolding clap_on_literals
 apart = refl
+
+-- `review` has a plan, and no log
+review-words : wish_of (given (codes "review" ∷ codes "a.plan" ∷ [])) ≡ Some (reviewing (codes "a.plan"))
+unfolding clap_on_literals
+review-words = refl
+
+no-plan : wish_of (given (codes "review" ∷ [])) ≡ None
+unfolding clap_on_literals
+no-plan = refl
+
+two-files : wish_of (given (codes "review" ∷ codes "a.plan" ∷ codes "a.log" ∷ [])) ≡ None
+unfolding clap_on_literals
+two-files = refl
 
 -- `record` needs a plan and a log
 no-log : wish_of (given (codes "record" ∷ codes "--from=2026-11-22T07:00:00" ∷ codes "--device=7" ∷ codes "a.plan" ∷ [])) ≡ None

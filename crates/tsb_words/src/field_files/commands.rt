@@ -1,7 +1,7 @@
 //! The command of the program, as `clap` reads it.
 ghost use Rattle.std.specs.Prelude.{◌≡◌, IfOk, false};
 ghost use Rattle.clap.specs.Words.{app_of, rule_of};
-ghost use Rattle.tsb_words.specs.FieldProgram.{IsLeaf, diagram_shape, events_shape, file_rule, flag_rule, log_shape, manner_rules, option_rule, program, has_globals, record_shape, repeated_rule, required_rule, sort_rules, source_rules, wire_rules, with_rules};
+ghost use Rattle.tsb_words.specs.FieldProgram.{IsLeaf, diagram_shape, events_shape, file_rule, flag_rule, log_shape, manner_rules, option_rule, program, has_globals, record_shape, repeated_rule, required_rule, review_shape, sort_rules, source_rules, wire_rules, with_rules};
 
 use clap::{Arg, ArgAction, Command};
 use std::alloc::{AllocError, Global};
@@ -14,11 +14,13 @@ pub(crate) fn program<'a>(alloc: Global) -> Result<Command<'a>, AllocError>
     let record = record_command(alloc)?;
     let events = events_command(alloc)?;
     let diagram = diagram_command(alloc)?;
+    let review = review_command(alloc)?;
     Command::new(alloc, "tsb_field")
         .subcommand(log)?
         .subcommand(record)?
         .subcommand(events)?
-        .subcommand(diagram)
+        .subcommand(diagram)?
+        .subcommand(review)
 }
 
 /// `log`.
@@ -99,6 +101,13 @@ fn diagram_command<'a>(alloc: Global) -> Result<Command<'a>, AllocError>
         .arg(option(alloc, "log"))?
         .arg(option(alloc, "title"))?
         .arg(option(alloc, "seconds-per-line"))
+}
+
+/// `review`.
+fn review_command<'a>(alloc: Global) -> Result<Command<'a>, AllocError>
+    ensures { IfOk result (IsLeaf review_shape) }
+{
+    Command::new(alloc, "review").arg(file(alloc, "PLAN"))
 }
 
 /// A file that has to be named.

@@ -1,4 +1,4 @@
-use Rattle.std.proofs.Common.{◌∙◌, Ok, Some, ap}
+use Rattle.std.proofs.Common.{◌∙◌, Ok, Some, ap, refl}
 use Rattle.tsb_program.specs.tsb_watched.Seen.{seen as seen_of}
 use Rattle.tsb_words.specs.FieldWords.{seen}
 use Rattle.tsb_words.specs.declared.field_files.Asked.{Asked}
@@ -18,6 +18,13 @@ returns-in-Ok-Record g c = (
 
 pub returns-in-Ok-Events : goal.returns-in-Ok-Events
 returns-in-Ok-Events g c = (Ok (asks.Events c.in-Ok-Events.from c.in-Ok-Events.device c.in-Ok-Events.log), c.in-Ok-Events.ensures ∙ ap (λ (asked : Asked). Some (seen asked)) c.in-Ok-Events.field-0-is, c.write_events.ensures)
+
+pub returns-in-Ok-Review : goal.returns-in-Ok-Review
+returns-in-Ok-Review g c = (
+  Ok (asks.Review c.in-Ok-Review.plan),
+  c.in-Ok-Review.ensures ∙ ap (λ (asked : Asked). Some (seen asked)) c.in-Ok-Review.field-0-is,
+  (refl, c.review_plan.ensures),
+)
 
 pub returns-in-Ok-Diagram : goal.returns-in-Ok-Diagram
 returns-in-Ok-Diagram g c = (

@@ -1,5 +1,4 @@
 use Rattle.std.proofs.Common.{◌∙◌, ◌++◌, ◌∷◌, [], ap, arith, rules}
-use Rattle.tsb_plan.specs.PlanOf.{plan_of}
 use Rattle.tsb_review_text.specs.Lines.{filled, line_of}
 use Rattle.tsb_review_text.specs.Templates.{template}
 use Rattle.tsb_review_text.proofs.LineLemmas.{line-done}

@@ -4,6 +4,7 @@ use Rattle.tsb_types.specs.Lists.{run_from}
 use Rattle.tsb_plan.specs.PlanOf.{plan_of}
 use Rattle.tsb_review.specs.Advices.{shape}
 use Rattle.tsb_review.specs.Places.{seconds}
+use Rattle.tsb_watched.specs.Seen.{seen}
 use Rattle.tsb_review_text.specs.Written.{text_at, text_from}
 use Rattle.tsb_review_text.proofs.WriteLemmas.{end-run, fail-run, next-run, start-run}
 use Rattle.tsb_review_text.proofs.review.write_from.Goals as goal
@@ -12,20 +13,20 @@ pub loop-second-init : goal.loop-second-init
 unfolding text_from
 loop-second-init g c =
     let is : c.seconds-count.result ≡ seconds (shape c.args.advice) = c.seconds-count.ensures.value ∙ ap seconds c.shape.ensures in
-    start-run (text_at (plan_of c.args.plan.now) c.args.advice c.args.first) (g.W.Write.contents c.args.output.now) _ c.seconds-count.result (c.seconds-count.result + 1)
+    start-run (text_at (plan_of c.args.plan.now) c.args.advice c.args.first) (seen g.W.Write.contents c.args.output.now) _ c.seconds-count.result (c.seconds-count.result + 1)
     (ap (λ (n : ℕ). flat_map (text_at (plan_of c.args.plan.now) c.args.advice c.args.first) (run_from 1 n)) (sym is)) refl
 
 pub loop-second-preserved : goal.loop-second-preserved
 loop-second-preserved g c =
-    next-run (text_at (plan_of c.args.plan.now) c.args.advice c.args.first) (g.W.Write.contents c.args.output.now) (g.W.Write.contents c.loop-second.output) (g.W.Write.contents c.write_at.new.output) _
-    c.loop-second.second (c.seconds-count.result + 1) (omega arith) c.loop-second.invariant c.in_ok-write_at.ensures.whole
+    next-run (text_at (plan_of c.args.plan.now) c.args.advice c.args.first) (seen g.W.Write.contents c.args.output.now) (seen g.W.Write.contents c.loop-second.output) (seen g.W.Write.contents c.write_at.new.output) _
+    c.loop-second.second (c.seconds-count.result + 1) (omega arith) c.loop-second.invariant c.in_ok-write_at.ensures.whole c.in_ok-write_at.ensures.well
 
 pub returns-in_err-write_at : goal.returns-in_err-write_at
 returns-in_err-write_at g c = let p = err_from_is_err_and c.from_residual.result c.from_residual.ensures.1 in
-    rw p.1 (fail-run (text_at (plan_of c.args.plan.now) c.args.advice c.args.first) (g.W.Write.contents c.args.output.now) (g.W.Write.contents c.loop-second.output) (g.W.Write.contents c.write_at.new.output) _
-    c.loop-second.second (c.seconds-count.result + 1) p.0 (omega arith) c.loop-second.invariant c.in_err-write_at.ensures.front)
+    rw p.1 (fail-run (text_at (plan_of c.args.plan.now) c.args.advice c.args.first) (seen g.W.Write.contents c.args.output.now) (seen g.W.Write.contents c.loop-second.output) (seen g.W.Write.contents c.write_at.new.output) _
+    c.loop-second.second (c.seconds-count.result + 1) p.0 (omega arith) c.loop-second.invariant c.in_err-write_at.ensures.front c.in_err-write_at.ensures.blame)
 
 pub returns : goal.returns
 returns g c =
-    end-run (text_at (plan_of c.args.plan.now) c.args.advice c.args.first) (g.W.Write.contents c.args.output.now) (g.W.Write.contents c.loop-second.output) _
+    end-run (text_at (plan_of c.args.plan.now) c.args.advice c.args.first) (seen g.W.Write.contents c.args.output.now) (seen g.W.Write.contents c.loop-second.output) _
     c.loop-second.second (c.seconds-count.result + 1) (omega arith) c.loop-second.invariant

@@ -15,5 +15,7 @@ returns c =
     c.in_ok-subcommand-2.ensures.shape c.in_ok-record.ensures.1 ∙ ap₂ with_subcommand first (ap (λ (a : App). a.top) c.in_ok-record.ensures.0) in
     let third : app_of c.in_ok-subcommand-3.field-0 ≡ with_subcommand (with_subcommand with_log record_shape) events_shape =
     c.in_ok-subcommand-3.ensures.shape c.in_ok-events.ensures.1 ∙ ap₂ with_subcommand second (ap (λ (a : App). a.top) c.in_ok-events.ensures.0) in
-    IfOk-weaker c.subcommand-4.result _ _
-    (λ m h. h.shape c.in_ok-diagram.ensures.1 ∙ ap₂ with_subcommand third (ap (λ (a : App). a.top) c.in_ok-diagram.ensures.0)) c.subcommand-4.ensures
+    let fourth : app_of c.in_ok-subcommand-4.field-0 ≡ with_subcommand (with_subcommand (with_subcommand with_log record_shape) events_shape) diagram_shape =
+    c.in_ok-subcommand-4.ensures.shape c.in_ok-diagram.ensures.1 ∙ ap₂ with_subcommand third (ap (λ (a : App). a.top) c.in_ok-diagram.ensures.0) in
+    IfOk-weaker c.subcommand-5.result _ _
+    (λ m h. h.shape c.in_ok-review.ensures.1 ∙ ap₂ with_subcommand fourth (ap (λ (a : App). a.top) c.in_ok-review.ensures.0)) c.subcommand-5.ensures

@@ -1,0 +1,111 @@
+//! `review`: a plan in, the lines of what can be wrong with it out.
+ghost use Rattle.std.specs.Prelude.{◌≡◌, OnErr, OnOk, true};
+ghost use Rattle.tsb_lines.specs.Writes.{AppendsFront};
+ghost use Rattle.tsb_program.specs.Statuses.{number};
+ghost use Rattle.tsb_program.specs.tsb_watched.Seen.{GoesOut, seen};
+ghost use Rattle.tsb_review_text.specs.Lines.{review_text};
+ghost use Rattle.tsb_text.specs.tsb_plan.PlanOf.{plan_of};
+ghost use Rattle.tsb_field.specs.ReviewEnds.{Answered, FaultAnswered, Reviewed, TextReviewed};
+
+use std::alloc::Global;
+use std::io::Write;
+use tsb_plan_text::{LIMIT, PlanError, read_plan};
+use tsb_program::{Failure, Files, Status, Watched, fail, line_of, read_file, write_line};
+use tsb_review_text::write_review;
+use tsb_text::Plan;
+use tsb_watched::WriteError;
+
+/// Reviews the plan in a file, and gives the status that the program ends with. Of a file that is too large one byte more
+/// than the longest plan has is read.
+pub(crate) fn review_plan<F: Files, W: Write, E: Write>(
+    alloc: Global,
+    path: &str,
+    files: &F,
+    output: &mut Watched<W>,
+    errors: &mut Watched<E>,
+) -> u8
+    ensures { Reviewed result (F.bytes files.now path.now)
+        (seen W.contents output.old) (seen W.contents output.new) (seen E.contents errors.old) (seen E.contents errors.new) }
+{
+    match read_file(alloc, files, path, LIMIT + 1) {
+        Ok(text) => review_text(alloc, &text, output, errors),
+        Err(fault) => fail(errors, fault.failure()),
+    }
+}
+
+/// Reviews the text of a plan.
+fn review_text<W: Write, E: Write>(
+    alloc: Global,
+    text: &[u8],
+    output: &mut Watched<W>,
+    errors: &mut Watched<E>,
+) -> u8
+    ensures { TextReviewed text.now result
+        (seen W.contents output.old) (seen W.contents output.new) (seen E.contents errors.old) (seen E.contents errors.new) }
+{
+    match read_plan(alloc, text) {
+        Ok(plan) => answer_plan(plan.plan(), output, errors),
+        Err(PlanError::Memory) => fail(errors, Failure::Memory),
+        Err(fault) => answer_fault(alloc, fault, output, errors),
+    }
+}
+
+/// Answers with the review of a plan.
+fn answer_plan<W: Write, E: Write>(
+    plan: &Plan,
+    output: &mut Watched<W>,
+    errors: &mut Watched<E>,
+) -> u8
+    ensures { Answered result 0 (review_text (plan_of plan.now))
+        (seen W.contents output.old) (seen W.contents output.new) (seen E.contents errors.old) (seen E.contents errors.new) }
+{
+    match write_lines(plan, output) {
+        Ok(()) => Status::Done.number(),
+        Err(_) => fail(errors, Failure::Write),
+    }
+}
+
+/// Writes the review of a plan, and has the writer pass it on. At an error its first bytes may have gone out.
+fn write_lines<W: Write>(plan: &Plan, output: &mut Watched<W>) -> Result<(), WriteError>
+    ensures whole { OnOk result (GoesOut (seen W.contents output.old) (seen W.contents output.new) (review_text (plan_of plan.now))) }
+    ensures front { AppendsFront (W.contents output.old.device) (W.contents output.new.device) (review_text (plan_of plan.now)) }
+    ensures blame { OnErr result (output.new.failed ≡ true) }
+    ensures well { OnOk result (output.new.failed ≡ output.old.failed) }
+{
+    match write_review(plan, output) {
+        Ok(()) => output.pass_on(),
+        Err(fault) => Err(fault),
+    }
+}
+
+/// Answers with the fault of a plan, as `tsb check` tells it.
+fn answer_fault<W: Write, E: Write>(
+    alloc: Global,
+    fault: PlanError,
+    output: &mut Watched<W>,
+    errors: &mut Watched<E>,
+) -> u8
+    ensures { FaultAnswered fault result
+        (seen W.contents output.old) (seen W.contents output.new) (seen E.contents errors.old) (seen E.contents errors.new) }
+{
+    match line_of(alloc, fault) {
+        Ok(line) => answer(output, errors, Status::Refused, line.as_bytes()),
+        Err(_) => fail(errors, Failure::Memory),
+    }
+}
+
+/// Answers with a text.
+fn answer<W: Write, E: Write>(
+    output: &mut Watched<W>,
+    errors: &mut Watched<E>,
+    status: Status,
+    text: &[u8],
+) -> u8
+    ensures { Answered result (number status) text.now
+        (seen W.contents output.old) (seen W.contents output.new) (seen E.contents errors.old) (seen E.contents errors.new) }
+{
+    match write_line(output, text) {
+        Ok(()) => status.number(),
+        Err(_) => fail(errors, Failure::Write),
+    }
+}

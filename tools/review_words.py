@@ -1,0 +1,39 @@
+"""Worked runs of `tsb_field review`: its words, and what it has to write, each found by hand from docs/MANUAL.md.
+
+tools/run_field.py runs them with those of tools/field_cases.py, in the same folder.
+"""
+from collections.abc import Iterator
+
+from field_cases import USAGE
+from run_program import ENDLESS, FULL, READ, RULE, TORN, WRITE, Run
+
+NO_REVERT = b"A16 unit: red reverts are under 2 s, that of phase %d is 0 s\n"
+APART = b"A39 overlap 1: it includes phases 1 and 8 of two rings that are not concurrent, so it turns yellow between them\n"
+REST = b"A14 phase %d: it rests in walk, and its clearance of 12 s can end after the force-off of phase 3 in pattern 1\n"
+YIELD = (b"A32 pattern 1: its coordinated phases yield in one tick of each cycle of 90 s, "
+         b"so a later call waits for the next one\n")
+REVIEWS = {
+    "first_plan.json": NO_REVERT % 2,
+    "one_way_pair.json": NO_REVERT % 2,
+    "main_and_oak.json": REST % 2 + REST % 6 + YIELD,
+    "tee.json": NO_REVERT % 1 + APART,
+}
+
+
+def runs() -> Iterator[Run]:
+    """Plans that run, plans that are refused as `tsb check` refuses them, bad words, and streams and files that fail."""
+    for name, lines in REVIEWS.items():
+        yield Run(["review", name], 0, lines, b"")
+        yield Run(["review", "--", name], 0, lines, b"", stdin=TORN)
+        yield Run(["review", name], 3, b"", WRITE, stdout=FULL)
+        yield Run(["review", name], 3, b"", b"", stdout=FULL, stderr=FULL)
+    for name, line in [
+        ("two_short_yellow.json", RULE), ("car.log", b"plan: not JSON\n"), (ENDLESS, b"plan: too large\n"),
+        ("/dev/null", b"plan: not JSON\n"), ("main_and_oak_1.json", b"plan: rule K1\n"),
+    ]:
+        yield Run(["review", name], 1, line, b"", stdin=TORN)
+        yield Run(["review", name], 3, b"", WRITE, stdout=FULL)
+    for name in ["none.json", "folder", TORN]:
+        yield Run(["review", name], 3, b"", READ, stdout="/dev/null")
+    for words in [[], ["tee.json", "empty.log"], ["--log=empty.log", "tee.json"], ["--help"], ["tee.json", "--count"]]:
+        yield Run(["review", *words], 2, b"", USAGE, stdout="/dev/null")
