@@ -1,3 +1,4 @@
 pub mod RoomLemmas
 pub mod LineLemmas
 pub mod WriteLemmas
+pub mod BreachLemmas

@@ -1,13 +1,15 @@
--- The line of a finding, and how long it is.
+-- The line of a finding or of a breach, and how long it is.
 use Rattle.std.proofs.Common.{◌≡◌, ◌∙◌, ℕ, suc, ◌+◌, ◌/◌, ◌%◌, ◌<◌, ◌≤◌, ◌==◌, nat_le, Bool, false, true, ◌&&◌, if◌then◌else◌, List, [], ◌∷◌, ◌++◌, append_assoc, length, length-append, drop, drop-cons, get_or, sum_by, flat_map, decimal, refl, sym, ap, arith, rules}
 use Rattle.std.proofs.lemmas.Bool.Decides.{nat_tests}
 use Rattle.std.proofs.lemmas.Fmt.{length-decimal-le}
 use Rattle.std.proofs.lemmas.List.Sums.{sum_by-cons}
 use Rattle.tsb_review.specs.declared.advice.Advice.{Advice}
 use Rattle.tsb_review.specs.declared.numbers.Numbers.{Numbers}
+use Rattle.tsb_breaches.specs.declared.fault.Fault.{Fault}
 use Rattle.tsb_review_text.specs.declared.line.TheConstants.{LONGEST}
 use Rattle.tsb_review_text.specs.Bytes.{Adds, ended, kept}
 use Rattle.tsb_review_text.specs.Lines.{filled, fraction, part, seconds}
+use Rattle.tsb_review_text.specs.BreachTemplates.{breach_template}
 use Rattle.tsb_review_text.specs.Templates.{template}
 use Rattle.tsb_review_text.proofs.RoomLemmas.{all-kept, onto-kept}
 
@@ -39,6 +41,7 @@ pub record AreSmall (n : Numbers) : Type 0 where
   pub b : n.b < 4294967296
   pub c : n.c < 4294967296
   pub d : n.d < 4294967296
+  pub e : n.e < 4294967296
 
 -- the most bytes that a byte of a text stands for
 cost : ℕ → ℕ
@@ -84,11 +87,13 @@ short-part n small byte =
     pick (byte == 81) _ _ _ (at-letter byte 81 _ refl (plain n.b small.b)) (λ e.
     pick (byte == 82) _ _ _ (at-letter byte 82 _ refl (plain n.c small.c)) (λ e.
     pick (byte == 83) _ _ _ (at-letter byte 83 _ refl (plain n.d small.d)) (λ e.
+    pick (byte == 84) _ _ _ (at-letter byte 84 _ refl (plain n.e small.e)) (λ e.
+    pick (byte == 85) _ _ _ (at-letter byte 85 _ refl (short-seconds n.e small.e)) (λ e.
     pick (byte == 87) _ _ _ (at-letter byte 87 _ refl (short-seconds n.a small.a)) (λ e.
     pick (byte == 88) _ _ _ (at-letter byte 88 _ refl (short-seconds n.b small.b)) (λ e.
     pick (byte == 89) _ _ _ (at-letter byte 89 _ refl (short-seconds n.c small.c)) (λ e.
     pick (byte == 90) _ _ _ (at-letter byte 90 _ refl (short-seconds n.d small.d)) (λ e.
-    some_cost (nat_le 80 byte && nat_le byte 90)))))))))
+    some_cost (nat_le 80 byte && nat_le byte 90)))))))))))
 
 short-ended : (n : Numbers) → AreSmall n → (text : List ℕ) → length (ended n text) ≤ sum_by cost text + 1
 short-ended n small [] = omega arith
@@ -102,15 +107,28 @@ template-room : (x : Advice) → sum_by cost (template x) + 1 ≤ LONGEST
 unfolding cost
 template-room x = search rules
 
--- the line of a finding
-pub line-done : (n : Numbers) (x : Advice) (items text empty : List ℕ) → AreSmall n → empty ≡ [] → text ≡ template x →
-    Adds empty (ended n text) items → items ≡ filled n (template x) ++ 10 ∷ []
-line-done n x items text empty small none is added =
-    let all : List ℕ = ended n (template x) in
-    let few : length all ≤ sum_by cost (template x) + 1 = short-ended n small (template x) in
-    let room : sum_by cost (template x) + 1 ≤ LONGEST = template-room x in
+breach-room : (f : Fault) → sum_by cost (breach_template f) + 1 ≤ LONGEST
+unfolding cost
+breach-room f = search rules
+
+-- a text that has room, filled
+text-done : (n : Numbers) (wanted items text empty : List ℕ) → AreSmall n → sum_by cost wanted + 1 ≤ LONGEST → empty ≡ [] → text ≡ wanted →
+    Adds empty (ended n text) items → items ≡ filled n wanted ++ 10 ∷ []
+text-done n wanted items text empty small room none is added =
+    let all : List ℕ = ended n wanted in
+    let few : length all ≤ sum_by cost wanted + 1 = short-ended n small wanted in
     added.line
     ∙ ap (λ (ts : List ℕ). kept (ts ++ ended n text)) none
     ∙ ap (λ (ts : List ℕ). kept (ended n ts)) is
     ∙ all-kept all (omega (arith, few, room))
-    ∙ ended-filled n (template x)
+    ∙ ended-filled n wanted
+
+-- the line of a finding
+pub line-done : (n : Numbers) (x : Advice) (items text empty : List ℕ) → AreSmall n → empty ≡ [] → text ≡ template x →
+    Adds empty (ended n text) items → items ≡ filled n (template x) ++ 10 ∷ []
+line-done n x items text empty small none is added = text-done n (template x) items text empty small (template-room x) none is added
+
+-- the line of a breach
+pub breach-line-done : (n : Numbers) (f : Fault) (items text empty : List ℕ) → AreSmall n → empty ≡ [] → text ≡ breach_template f →
+    Adds empty (ended n text) items → items ≡ filled n (breach_template f) ++ 10 ∷ []
+breach-line-done n f items text empty small none is added = text-done n (breach_template f) items text empty small (breach-room f) none is added

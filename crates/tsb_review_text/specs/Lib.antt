@@ -1,8 +1,12 @@
 -- the text of each advice, with letters where numbers stand
 pub mod Templates
--- the line of a finding, and the text of a review
+-- the text of each breach, likewise
+pub mod BreachTemplates
+-- the line of a finding or of a breach, and the text of a review
 pub mod Lines
 -- a line piece by piece
 pub mod Bytes
 -- what a review writes, part by part
 pub mod Written
+-- what goes out for breaches, part by part
+pub mod BreachesWritten

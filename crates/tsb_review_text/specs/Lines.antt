@@ -1,10 +1,14 @@
--- The line of a finding, byte by byte, and the text of a review.
+-- The line of a finding or of a breach, byte by byte, and the text of a review.
 use Rattle.std.specs.Prelude.{ℕ, ◌/◌, ◌%◌, ◌==◌, if◌then◌else◌, List, [], ◌∷◌, ◌++◌, decimal, flat_map}
 use Rattle.tsb_plan.specs.Plan.{Plan}
 use Rattle.tsb_review.specs.declared.finding.Finding.{Finding}
 use Rattle.tsb_review.specs.declared.numbers.Numbers.{Numbers}
 use Rattle.tsb_review.specs.Advices.{findings}
 use Rattle.tsb_review.specs.Numbers.{numbers_of}
+use Rattle.tsb_breaches.specs.declared.breach.Breach.{Breach}
+use Rattle.tsb_breaches.specs.Breaches.{breaches}
+use Rattle.tsb_breaches.specs.Numbers as breach_numbers
+use Rattle.tsb_review_text.specs.BreachTemplates.{breach_template}
 use Rattle.tsb_review_text.specs.Templates.{template}
 
 -- tenths of a second behind whole seconds: a point and a digit, and nothing for 0
@@ -15,12 +19,12 @@ fraction tenths = if tenths == 0 then [] else 46 ∷ decimal tenths
 abbrev pub seconds : ℕ → List ℕ
 seconds tenths = decimal (tenths / 10) ++ fraction (tenths % 10)
 
--- what a letter stands for: P to S for numbers, W to Z for the same as seconds; any other byte is itself
+-- what a letter stands for: P to T for numbers, W to Z and U for the same as seconds; any other byte is itself
 abbrev pub part : Numbers → ℕ → List ℕ
 part n byte =
-    if byte == 80 then decimal n.a else (if byte == 81 then decimal n.b else (if byte == 82 then decimal n.c else (if byte == 83 then decimal n.d else
+    if byte == 80 then decimal n.a else (if byte == 81 then decimal n.b else (if byte == 82 then decimal n.c else (if byte == 83 then decimal n.d else (if byte == 84 then decimal n.e else (if byte == 85 then seconds n.e else
     (if byte == 87 then seconds n.a else (if byte == 88 then seconds n.b else (if byte == 89 then seconds n.c else (if byte == 90 then seconds n.d else
-    byte ∷ [])))))))
+    byte ∷ [])))))))))
 
 -- a text with numbers in place of its letters
 unfoldable pub filled : Numbers → List ℕ → List ℕ
@@ -33,3 +37,11 @@ line_of plan f = filled (numbers_of plan f) (template f.advice) ++ 10 ∷ []
 -- the text of a review: a line for each finding, in order
 unfoldable pub review_text : Plan → List ℕ
 review_text plan = flat_map (line_of plan) (findings plan)
+
+-- the line of a breach, with its line feed
+unfoldable pub breach_line : Plan → Breach → List ℕ
+breach_line plan b = filled (breach_numbers.numbers_of plan b) (breach_template b.fault) ++ 10 ∷ []
+
+-- the text of all breaches: a line for each, in order
+unfoldable pub breaches_text : Plan → List ℕ
+breaches_text plan = flat_map (breach_line plan) (breaches plan)

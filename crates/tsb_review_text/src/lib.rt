@@ -1,9 +1,13 @@
-//! What a review of a plan finds, as lines of text: one for each advice that holds of a part of the plan.
+//! What a review of a plan finds, as lines of text: one for each advice that holds of a part of the plan, or of a plan
+//! that is refused one for each place at which it breaks a rule.
 #![tactic(auto)]
 
+mod breach_template;
+mod breaches;
 mod line;
 mod review;
 mod template;
 
-pub use line::{LONGEST, Line, line_of};
+pub use breaches::write_breaches;
+pub use line::{LONGEST, Line, breach_line, line_of};
 pub use review::write_review;

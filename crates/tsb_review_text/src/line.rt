@@ -1,12 +1,14 @@
-//! The line of a finding.
+//! The line of a finding, or of a breach.
 ghost use Rattle.std.specs.Prelude.{◌≡◌, ◌∷◌, decimal};
 ghost use Rattle.tsb_plan.specs.PlanOf.{plan_of};
 ghost use Rattle.tsb_review_text.specs.Bytes.{Adds, ended};
-ghost use Rattle.tsb_review_text.specs.Lines.{seconds, fraction, part, line_of};
+ghost use Rattle.tsb_review_text.specs.Lines.{seconds, fraction, part, line_of, breach_line};
 
+use crate::breach_template::breach_template;
 use crate::template::template;
 use arrayvec::ArrayVec;
 use itoa::Buffer;
+use tsb_breaches::Breach;
 use tsb_plan::Plan;
 use tsb_review::{Finding, Numbers, numbers_of};
 
@@ -26,7 +28,17 @@ pub fn line_of(plan: &Plan, finding: &Finding) -> Line
     line
 }
 
-/// Adds the text of an advice, with numbers in place of their letters, and a line feed.
+/// The line of a breach of a rule, with its line feed. It takes no memory.
+pub fn breach_line(plan: &Plan, breach: &Breach) -> Line
+    ensures { result.items ≡ breach_line (plan_of plan.now) breach.now }
+{
+    let numbers = tsb_breaches::numbers_of(plan, breach);
+    let mut line = ArrayVec::new();
+    push_parts(&mut line, breach_template(breach.fault), &numbers);
+    line
+}
+
+/// Adds a text, with numbers in place of their letters, and a line feed.
 fn push_parts(line: &mut Line, text: &[u8], numbers: &Numbers)
     ensures { Adds line.old.items (ended numbers.now text.now) line.new.items }
 {
@@ -36,7 +48,7 @@ fn push_parts(line: &mut Line, text: &[u8], numbers: &Numbers)
     push(line, b"\n");
 }
 
-/// Adds what a byte of the text of an advice stands for.
+/// Adds what a byte of a text stands for.
 fn push_part(line: &mut Line, byte: u8, numbers: &Numbers)
     ensures { Adds line.old.items (part numbers.now byte) line.new.items }
 {
@@ -45,6 +57,8 @@ fn push_part(line: &mut Line, byte: u8, numbers: &Numbers)
         b'Q' => push_number(line, numbers.b),
         b'R' => push_number(line, numbers.c),
         b'S' => push_number(line, numbers.d),
+        b'T' => push_number(line, numbers.e),
+        b'U' => push_seconds(line, numbers.e),
         b'W' => push_seconds(line, numbers.a),
         b'X' => push_seconds(line, numbers.b),
         b'Y' => push_seconds(line, numbers.c),
