@@ -7,7 +7,8 @@ FIELD is the program tsb_field. It reviews the plans of tools/review_cases.py, t
 random as PLANS says (3,000): changes of these. What it answers is compared with tools/review_rules.py, and of the cases
 also with their own lines. Each advice has to occur in both. Of a plan that breaks a rule it has to answer what TSB, the
 program tsb, says to `check`. The example of each advice in docs/MANUAL.md, and the reviews of its plans, have to be what
-it answers. TSB also runs tools/review_runs.py, which show in runs what some advices warn of.
+it answers. As many texts at random, in which names come twice and values are no whole numbers, are compared with
+tools/review_notes.py. TSB also runs tools/review_runs.py, which show in runs what some advices warn of.
 """
 import collections
 import concurrent.futures
@@ -21,13 +22,18 @@ import sys
 import tempfile
 
 import review_cases
+import review_notes
 import review_rules
 import review_runs
 from review_cases import Table
 
 TOP = pathlib.Path(__file__).resolve().parent.parent
+# The text of which the manual tells, the first fault, and what is told.
+NOTED = re.compile(r"^```\n(\"phase.*)\n```\n\n.* `(plan: [^`]+)`.*\n\n```notes\n((?:.*\n)*?)```$", re.M)
 # The plans that the manual reviews.
 REVIEWED_PLANS = ["first_plan.json", "main_and_oak.json", "tee.json", "one_way_pair.json"]
+# What notes on a text say.
+KINDS = ["it stands twice", "is no whole number: seconds", "is no whole number: tenths of a second, ", "is no whole number: minutes"]
 # What a review ends with.
 REVIEWED, REFUSED = 0, 1
 ADVICES = 41
@@ -162,9 +168,38 @@ def random_faults(programs: Programs, plans: int, seed: int) -> list[str]:
     return [*faults, *(f"no plan has A{n}" for n in range(1, ADVICES + 1) if not counted[f"A{n}"])]
 
 
+def note_faults(programs: Programs, texts: int, seed: int) -> list[str]:
+    """What texts at random have otherwise than by the reading, and which kinds of lines they do not have."""
+    source = random.Random(seed)
+    bases = [review_cases.CLEAN, *examples()]
+    counted: collections.Counter[str] = collections.Counter()
+    faults: list[str] = []
+    drawn = [review_notes.written(source, source.choice(bases)).decode() for _ in range(texts)]
+    drawn.append(json.dumps({"version": 2, **{name: {"1": 1.5} for name in review_notes.OBJECTS}}))
+    with concurrent.futures.ThreadPoolExecutor() as pool:
+        answered = list(pool.map(lambda text: programs.told(programs.field, "review", text=text), drawn))
+        checked = list(pool.map(lambda text: programs.told(programs.tsb, "check", text=text), drawn))
+    for text, answer, (status, line, _) in zip(drawn, answered, checked):
+        told = review_notes.notes(text.encode())
+        counted.update(kind for kind in KINDS for it in told if kind in it)
+        advices = review_rules.review(review_notes.counting(text)) if status == REVIEWED else []
+        lines = [*told, *advices] if status == REVIEWED else [*line.splitlines(), *told]
+        if answer != (status, "".join(f"{it}\n" for it in lines), ""):
+            faults.append(f"{text}: {answer}, by the reading {lines}")
+        where = line.removeprefix("plan: ").removesuffix(": not a whole number\n")
+        if where + "\n" != line.removeprefix("plan: ") and not any(it.startswith(f"{where}: ") for it in told):
+            faults.append(f"{text}: nothing is told of {where}")
+    print(f"texts with each line: {', '.join(f'{kind} {count}' for kind, count in counted.items())}")
+    return [*faults, *(f"no text has `{kind}`" for kind in KINDS if not counted[kind])]
+
+
 def manual_faults(programs: Programs) -> list[str]:
-    """What the manual has otherwise: the reviews of its plans, and the example of each advice."""
+    """What the manual has otherwise: what is told of a text, the reviews of its plans, and the example of each advice."""
     text = (TOP / "docs/MANUAL.md").read_text()
+    given, line, noted = NOTED.search(text).groups()  # type: ignore[union-attr]
+    told = programs.told(programs.field, "review", text=f'{{"version": 2, {given}}}')
+    if told != (REFUSED, f"{line}\n{noted}", ""):
+        return [f"the manual's notes: {told}"]
     blocks = dict(re.findall(r"^```review (\S+)\n(.*?)^```$", text, re.M | re.S))
     faults = [f"no review of {name} in the manual" for name in REVIEWED_PLANS if name not in blocks]
     for name, block in blocks.items():
@@ -198,13 +233,14 @@ def run_faults(programs: Programs) -> list[str]:
 
 
 def main(words: list[str]) -> int:
-    """Runs all four, and says what differs."""
+    """Runs all five, and says what differs."""
     programs = Programs(*(str(pathlib.Path(word).resolve()) for word in words[:2]))
     plans, seed = int(words[2]) if len(words) > 2 else 3_000, int(words[3]) if len(words) > 3 else 1
-    faults = [*case_faults(programs), *random_faults(programs, plans, seed), *manual_faults(programs), *run_faults(programs)]
+    faults = [*case_faults(programs), *random_faults(programs, plans, seed), *note_faults(programs, plans, seed),
+              *manual_faults(programs), *run_faults(programs)]
     for fault in faults[:20]:
         print(fault)
-    passed = len(review_cases.CASES) + len(review_runs.RUNS) + 2
+    passed = len(review_cases.CASES) + len(review_runs.RUNS) + 3
     print(f"0 passed, {len(faults)} failed" if faults else f"{passed} passed, 0 failed")
     return 1 if faults else 0
 

@@ -2,3 +2,5 @@
 pub mod EndLemmas
 -- texts of several pieces
 pub mod ReportLemmas
+-- a text of two parts
+pub mod ReviewLemmas

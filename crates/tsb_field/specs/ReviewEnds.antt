@@ -1,8 +1,9 @@
 -- How `review` ends, and what it has then written on its output and of faults.
 --
 -- Of each stream there is what is seen before and after: `old` and `new`, `told` and `tells`.
-use Rattle.std.specs.Prelude.{◌≡◌, ◌⊎◌, ℕ, true, List, Option, Ok}
+use Rattle.std.specs.Prelude.{◌≡◌, ◌⊎◌, ℕ, true, List, ◌++◌, Option, Ok}
 use Rattle.tsb_lines.specs.Writes.{AppendsFront}
+use Rattle.tsb_plan_notes.specs.Notes.{notes_of}
 use Rattle.tsb_program.specs.Failures.{Fails}
 use Rattle.tsb_program.specs.declared.failure.Failure.TheVariants.{Memory, Write}
 use Rattle.tsb_program.specs.Lines.{FailsToRead, plan_line}
@@ -15,11 +16,12 @@ use Rattle.tsb_text.specs.tsb_plan_text.PlanText.{reading}
 use Rattle.tsb_text.specs.tsb_plan_text.declared.error.PlanError.{PlanError}
 use Rattle.tsb_text.specs.tsb_plan_text.declared.error.PlanError.TheVariants as plans
 
--- what is answered to the text of a plan: with 0 its review, with 1 the line of its fault
-abbrev pub Answers : List ℕ → ℕ → List ℕ → Type 0
-Answers text status answer =
-    ((status ≡ 0) × (plan : Plan) × (reading text ≡ Ok plan) × (answer ≡ review_text plan))
-    ⊎ ((status ≡ 1) × (fault : PlanError) × Tells fault (reading text) × (fault ≡ plans.Memory → ⊥) × (answer ≡ plan_line fault))
+-- what is answered to the text of a plan, of which this is noted: with 0 the notes and the review of the plan, with 1 the
+-- line of its fault and the notes
+abbrev pub Answers : List ℕ → List ℕ → ℕ → List ℕ → Type 0
+Answers text notes status answer =
+    ((status ≡ 0) × (plan : Plan) × (reading text ≡ Ok plan) × (answer ≡ notes ++ review_text plan))
+    ⊎ ((status ≡ 1) × (fault : PlanError) × Tells fault (reading text) × (fault ≡ plans.Memory → ⊥) × (answer ≡ plan_line fault ++ notes))
 
 -- an answer was written whole, no write has failed, nothing else was told, and the program ends with the status wanted; or
 -- a write has failed, which is told, with no more than the first bytes of the answer written
@@ -32,16 +34,20 @@ Answered status wanted answer old new told tells =
 abbrev pub HasNoMemory : ℕ → (old new told tells : Seen) → Type 0
 HasNoMemory status old new told tells = (new ≡ old) × Fails Memory status told tells
 
--- the fault of a plan was answered, where there is memory for its line
-abbrev pub FaultAnswered : PlanError → ℕ → (old new told tells : Seen) → Type 0
-FaultAnswered fault status old new told tells =
-    Answered status 1 (plan_line fault) old new told tells ⊎ HasNoMemory status old new told tells
+-- the fault of a plan was answered with what is noted of its text, where there is memory for them
+abbrev pub FaultAnswered : PlanError → List ℕ → ℕ → (old new told tells : Seen) → Type 0
+FaultAnswered fault notes status old new told tells =
+    Answered status 1 (plan_line fault ++ notes) old new told tells ⊎ HasNoMemory status old new told tells
+
+-- what was done for the text of a plan, of which this is noted
+abbrev pub TextAnswered : List ℕ → List ℕ → ℕ → (old new told tells : Seen) → Type 0
+TextAnswered text notes status old new told tells =
+    ((wanted : ℕ) × (answer : List ℕ) × Answers text notes wanted answer × Answered status wanted answer old new told tells)
+    ⊎ HasNoMemory status old new told tells
 
 -- what was done for the text of a plan
 abbrev pub TextReviewed : List ℕ → ℕ → (old new told tells : Seen) → Type 0
-TextReviewed text status old new told tells =
-    ((wanted : ℕ) × (answer : List ℕ) × Answers text wanted answer × Answered status wanted answer old new told tells)
-    ⊎ HasNoMemory status old new told tells
+TextReviewed text status old new told tells = TextAnswered text (notes_of text) status old new told tells
 
 -- how a review of the plan in a file ended: its text was answered; or the file or memory failed, which is told, and nothing
 -- was written

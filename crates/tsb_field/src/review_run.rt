@@ -1,14 +1,16 @@
 //! `review`: a plan in, the lines of what can be wrong with it out.
-ghost use Rattle.std.specs.Prelude.{◌≡◌, OnErr, OnOk, true};
+ghost use Rattle.std.specs.Prelude.{◌≡◌, ◌++◌, IfOk, OnErr, OnOk, true};
 ghost use Rattle.tsb_lines.specs.Writes.{AppendsFront};
+ghost use Rattle.tsb_program.specs.Lines.{plan_line};
 ghost use Rattle.tsb_program.specs.Statuses.{number};
 ghost use Rattle.tsb_program.specs.tsb_watched.Seen.{GoesOut, seen};
 ghost use Rattle.tsb_review_text.specs.Lines.{review_text};
 ghost use Rattle.tsb_text.specs.tsb_plan.PlanOf.{plan_of};
-ghost use Rattle.tsb_field.specs.ReviewEnds.{Answered, FaultAnswered, Reviewed, TextReviewed};
+ghost use Rattle.tsb_field.specs.ReviewEnds.{Answered, FaultAnswered, Reviewed, TextAnswered, TextReviewed};
 
-use std::alloc::Global;
+use std::alloc::{AllocError, Global};
 use std::io::Write;
+use tsb_plan_notes::notes;
 use tsb_plan_text::{LIMIT, PlanError, read_plan};
 use tsb_program::{Failure, Files, Status, Watched, fail, line_of, read_file, write_line};
 use tsb_review_text::write_review;
@@ -43,30 +45,66 @@ fn review_text<W: Write, E: Write>(
     ensures { TextReviewed text.now result
         (seen W.contents output.old) (seen W.contents output.new) (seen E.contents errors.old) (seen E.contents errors.new) }
 {
-    match read_plan(alloc, text) {
-        Ok(plan) => answer_plan(plan.plan(), output, errors),
-        Err(PlanError::Memory) => fail(errors, Failure::Memory),
-        Err(fault) => answer_fault(alloc, fault, output, errors),
+    match notes(alloc, text) {
+        Ok(notes) => answer_text(alloc, text, &notes, output, errors),
+        Err(_) => fail(errors, Failure::Memory),
     }
 }
 
-/// Answers with the review of a plan.
+/// Answers the text of a plan, of which this is noted.
+fn answer_text<W: Write, E: Write>(
+    alloc: Global,
+    text: &[u8],
+    notes: &[u8],
+    output: &mut Watched<W>,
+    errors: &mut Watched<E>,
+) -> u8
+    ensures { TextAnswered text.now notes.now result
+        (seen W.contents output.old) (seen W.contents output.new) (seen E.contents errors.old) (seen E.contents errors.new) }
+{
+    match read_plan(alloc, text) {
+        Ok(plan) => answer_plan(notes, plan.plan(), output, errors),
+        Err(PlanError::Memory) => fail(errors, Failure::Memory),
+        Err(fault) => answer_fault(alloc, fault, notes, output, errors),
+    }
+}
+
+/// Answers with what is noted of a plan's text, and the review of the plan.
 fn answer_plan<W: Write, E: Write>(
+    notes: &[u8],
     plan: &Plan,
     output: &mut Watched<W>,
     errors: &mut Watched<E>,
 ) -> u8
-    ensures { Answered result 0 (review_text (plan_of plan.now))
+    ensures { Answered result 0 (notes.now ++ review_text (plan_of plan.now))
         (seen W.contents output.old) (seen W.contents output.new) (seen E.contents errors.old) (seen E.contents errors.new) }
 {
-    match write_lines(plan, output) {
+    match write_lines(notes, plan, output) {
         Ok(()) => Status::Done.number(),
         Err(_) => fail(errors, Failure::Write),
     }
 }
 
+/// Writes what is noted of a plan's text, and the review of the plan, and has the writer pass it on. At an error its first
+/// bytes may have gone out.
+fn write_lines<W: Write>(
+    notes: &[u8],
+    plan: &Plan,
+    output: &mut Watched<W>,
+) -> Result<(), WriteError>
+    ensures whole { OnOk result (GoesOut (seen W.contents output.old) (seen W.contents output.new) (notes.now ++ review_text (plan_of plan.now))) }
+    ensures front { AppendsFront (W.contents output.old.device) (W.contents output.new.device) (notes.now ++ review_text (plan_of plan.now)) }
+    ensures blame { OnErr result (output.new.failed ≡ true) }
+    ensures well { OnOk result (output.new.failed ≡ output.old.failed) }
+{
+    match output.write_text(notes) {
+        Ok(()) => write_passed(plan, output),
+        Err(fault) => Err(fault),
+    }
+}
+
 /// Writes the review of a plan, and has the writer pass it on. At an error its first bytes may have gone out.
-fn write_lines<W: Write>(plan: &Plan, output: &mut Watched<W>) -> Result<(), WriteError>
+fn write_passed<W: Write>(plan: &Plan, output: &mut Watched<W>) -> Result<(), WriteError>
     ensures whole { OnOk result (GoesOut (seen W.contents output.old) (seen W.contents output.new) (review_text (plan_of plan.now))) }
     ensures front { AppendsFront (W.contents output.old.device) (W.contents output.new.device) (review_text (plan_of plan.now)) }
     ensures blame { OnErr result (output.new.failed ≡ true) }
@@ -78,20 +116,32 @@ fn write_lines<W: Write>(plan: &Plan, output: &mut Watched<W>) -> Result<(), Wri
     }
 }
 
-/// Answers with the fault of a plan, as `tsb check` tells it.
+/// Answers with the fault of a plan, as `tsb check` tells it, and what is noted of its text.
 fn answer_fault<W: Write, E: Write>(
     alloc: Global,
     fault: PlanError,
+    notes: &[u8],
     output: &mut Watched<W>,
     errors: &mut Watched<E>,
 ) -> u8
-    ensures { FaultAnswered fault result
+    ensures { FaultAnswered fault notes.now result
         (seen W.contents output.old) (seen W.contents output.new) (seen E.contents errors.old) (seen E.contents errors.new) }
 {
-    match line_of(alloc, fault) {
-        Ok(line) => answer(output, errors, Status::Refused, line.as_bytes()),
+    match fault_text(alloc, fault, notes) {
+        Ok(text) => answer(output, errors, Status::Refused, &text),
         Err(_) => fail(errors, Failure::Memory),
     }
+}
+
+/// The line of a fault of a plan, and what is noted of its text.
+fn fault_text(alloc: Global, fault: PlanError, notes: &[u8]) -> Result<Vec<u8>, AllocError>
+    ensures { IfOk result (λ text. text.items ≡ plan_line fault ++ notes.now) }
+{
+    let line = line_of(alloc, fault)?;
+    let mut text = Vec::new(alloc);
+    text.extend_from_slice(line.as_bytes())?;
+    text.extend_from_slice(notes)?;
+    Ok(text)
 }
 
 /// Answers with a text.

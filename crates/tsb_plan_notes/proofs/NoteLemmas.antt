@@ -1,0 +1,87 @@
+-- The members of an object, one after another, and notes that are added.
+use Rattle.std.proofs.Common.{◌≡◌, ◌∙◌, ℕ, zero, suc, ◌+◌, ◌-◌, ◌<◌, Bool, true, false, if◌then◌else◌, List, [], ◌∷◌, ◌++◌, append_assoc, length, take, take_all, drop, drop-cons, get_or, ap, inl, inr, refl, subst, arith, OnOk, Some, None, bytes_eq}
+use Rattle.std.proofs.lemmas.Bool.{cases_Bool}
+use Rattle.std.proofs.lemmas.List.{length-drop}
+use Rattle.std.proofs.lemmas.Str.{IsUtf8-from_is_utf8, is_utf8-from_IsUtf8}
+use Rattle.std.specs.Result.{is_ok}
+use Rattle.std.specs.declared.result.Result.{Result}
+use Rattle.std.specs.declared.result.Result.TheVariants.{Ok, Err}
+use Rattle.std.specs.Prelude.{IsUtf8}
+use Rattle.std.specs.Str.{is_utf8}
+use Rattle.std.specs.Borrow.{Bor}
+use Rattle.json.specs.Json.{Json, Members, document, no_members, member}
+use Rattle.json.specs.Tree.{HasNumbers, MembersHaveNumbers}
+use Rattle.json.specs.Value.{members_view, value_view}
+use Rattle.json.specs.declared.value.Value.{Value}
+use Rattle.tsb_plan_notes.specs.Notes.{document_notes, next_of, notes_of, value_notes}
+
+-- a member, and those after it
+pub view-step : {A : Type 0} (ms : List (Bor (List ℕ) × Value A)) (k : ℕ) (d : Bor (List ℕ) × Value A) → k < length ms
+    → members_view (drop k ms) ≡ member (get_or ms k d).0.now (value_view (get_or ms k d).1) (members_view (drop (k + 1) ms))
+view-step ms k d below =
+    let next : suc k ≡ k + 1 = omega arith in
+    ap members_view (drop-cons ms k d below)
+    ∙ ap (λ (n : ℕ). member (get_or ms k d).0.now (value_view (get_or ms k d).1) (members_view (drop n ms))) next
+
+-- its value has numbers, and so have those after it
+numbers-from : {A : Type 0} (ms : List (Bor (List ℕ) × Value A)) (k : ℕ) (d : Bor (List ℕ) × Value A) → k < length ms → MembersHaveNumbers (members_view ms)
+    → HasNumbers (value_view (get_or ms k d).1) × MembersHaveNumbers (members_view (drop (suc k) ms))
+numbers-from [] k d below h = absurd (omega (arith, below))
+numbers-from (m ∷ ms) zero d below h = h
+numbers-from (m ∷ ms) (suc k) d below h = numbers-from ms k d (omega (arith, below)) h.1
+
+pub numbers-at : {A : Type 0} (ms : List (Bor (List ℕ) × Value A)) (k : ℕ) (d : Bor (List ℕ) × Value A) → k < length ms → MembersHaveNumbers (members_view ms)
+    → HasNumbers (value_view (get_or ms k d).1) × MembersHaveNumbers (members_view (drop (k + 1) ms))
+numbers-at ms k d below h =
+    let next : suc k ≡ k + 1 = omega arith in
+    subst (λ (n : ℕ). HasNumbers (value_view (get_or ms k d).1) × MembersHaveNumbers (members_view (drop n ms))) next (numbers-from ms k d below h)
+
+-- so has one that is found
+some-is : {A : Type 0} (x y : A) → Some x ≡ Some y → x ≡ y
+some-is x y e = cc
+
+pub next-numbers : (name : List ℕ) (ms : Members) (d : Json) → MembersHaveNumbers ms → next_of name ms ≡ Some d → HasNumbers d
+next-numbers name no_members d h e = absurd (cc)
+next-numbers name (member key j rest) d h e = go (next-numbers name rest d h.1) (bytes_eq key name) e
+  where
+    go : (next_of name rest ≡ Some d → HasNumbers d) → (b : Bool) → (if b then Some j else next_of name rest) ≡ Some d → HasNumbers d
+    go later true is = subst HasNumbers (some-is j d is) h.0
+    go later false is = later is
+
+-- a note more, of those that are left
+pub onto : (old new note left all : List ℕ) → new ≡ old ++ note → old ++ (note ++ left) ≡ all → new ++ left ≡ all
+onto old new note left all is so = ap (λ (ts : List ℕ). ts ++ left) is ∙ append_assoc old note left ∙ so
+
+-- what is left of a list, as a slice has it
+pub slice-rest : {A : Type 0} (xs : List A) (k : ℕ) → take (length xs - k) (drop k xs) ≡ drop k xs
+slice-rest xs k = take_all (length xs - k) (drop k xs) (omega (arith, length-drop k xs))
+
+-- ## What a text is
+
+said : (text : List ℕ) → IsUtf8 text → notes_of text ≡ document_notes (document text)
+unfolding notes_of
+said text good = rw (is_utf8-from_IsUtf8 text good) refl
+
+pub text-is : (text : List ℕ) (d : Json) → IsUtf8 text → document text ≡ Some d → notes_of text ≡ value_notes d
+text-is text d good is = said text good ∙ ap document_notes is
+
+-- a text that is no JSON has no notes
+pub no-notes : (text : List ℕ) → (IsUtf8 text → document text ≡ None) → notes_of text ≡ []
+unfolding notes_of
+no-notes text none =
+    elim (cases_Bool (is_utf8 text)) [
+      | inl good ↦ rw good (ap document_notes (none (IsUtf8-from_is_utf8 text good)))
+      | inr bad ↦ rw bad refl
+    ]
+
+-- three texts that are added one after another
+pub three : (a b c d x y z : List ℕ) → b ≡ a ++ x → c ≡ b ++ y → d ≡ c ++ z → d ≡ a ++ (x ++ y ++ z)
+three a b c d x y z first second third =
+    third
+    ∙ ap (λ (ts : List ℕ). ts ++ z) (second ∙ ap (λ (ts : List ℕ). ts ++ y) first ∙ append_assoc a x y)
+    ∙ append_assoc a (x ++ y) z
+
+-- what a list becomes where a result is Ok
+pub where-ok : {T E : Type 0} (r : Result T E) (d x y : List ℕ) → d ≡ (if is_ok r then x else y) → OnOk r (d ≡ x)
+where-ok (Ok u) d x y is = is
+where-ok (Err e) d x y is = tt

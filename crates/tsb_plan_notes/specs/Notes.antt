@@ -1,0 +1,98 @@
+-- WHAT IS NOTED OF A PLAN TEXT, in the order of the text: of a name or an index that comes again in its table, both
+-- values, of which the last counts; and of a value that is no whole number, its unit. What is no JSON has no notes, nor has
+-- what is no object, and no index, of plan texts.
+use Rattle.std.specs.Prelude.{ℕ, List, [], ◌∷◌, ◌++◌, if◌then◌else◌, Bool, true, false, Option, Some, None, codes, bytes_eq, decimal}
+use Rattle.std.specs.Str.{is_utf8}
+use Rattle.json.specs.Json.{Json, object, Members, no_members, member, document}
+use Rattle.json.specs.Print.{print}
+use Rattle.json.specs.Tree.{json_tokens}
+use Rattle.tsb_plan.specs.declared.object.Object.{Object}
+use Rattle.tsb_plan.specs.declared.version.Version.TheVariants.{Two}
+use Rattle.tsb_plan.specs.Names.{name_of, object_named}
+use Rattle.tsb_plan_notes.specs.Parts.{is_index, is_whole, meant}
+use Rattle.tsb_plan_notes.specs.Units.{unit_of, unit_text}
+use Rattle.tsb_plan_notes.specs.declared.units.Unit.{Unit}
+
+-- a value as JSON, without spaces
+abbrev pub shown : Json → List ℕ
+shown d = print (json_tokens d)
+
+-- the first of these members that has this name
+abbrev pub next_of : List ℕ → Members → Option Json
+next_of name no_members = None
+next_of name (member key d rest) = if bytes_eq key name then Some d else next_of name rest
+
+-- where a name comes again, that it does
+abbrev pub twice_note : List ℕ → Json → Option Json → List ℕ
+twice_note path d None = []
+twice_note path d (Some again) =
+    path ++ codes ": it stands twice, as " ++ shown d ++ codes " and as " ++ shown again ++ codes ", and the last one counts\n"
+
+-- ## The table of an object
+
+-- an object's index, as plan texts and lines have it
+unfoldable pub path_of : Object → List ℕ → List ℕ
+path_of o index = name_of o ++ 46 ∷ index
+
+-- what it may have been meant as
+abbrev pub meant_text : Option ℕ → List ℕ
+meant_text None = []
+meant_text (Some n) = codes ", " ++ decimal n
+
+-- that a value is no whole number
+unfoldable pub fault_text : Json → List ℕ
+fault_text d = codes ": " ++ shown d ++ codes " is no whole number"
+
+-- the end of a line with a unit
+unfoldable pub unit_end : Unit → Json → List ℕ
+unit_end unit d = unit_text unit ++ meant_text (meant unit d) ++ 10 ∷ []
+
+-- that a value is no whole number, with its unit
+abbrev pub unit_note : Object → List ℕ → Json → List ℕ
+unit_note o index d = path_of o index ++ fault_text d ++ unit_end (unit_of o) d
+
+-- where a value is no whole number, that it is none
+abbrev pub whole_note : Bool → Object → List ℕ → Json → List ℕ
+whole_note true o index d = []
+whole_note false o index d = unit_note o index d
+
+-- of an index with its value, before these
+abbrev pub entry_note : Bool → Object → List ℕ → Json → Members → List ℕ
+entry_note false o index d later = []
+entry_note true o index d later = twice_note (path_of o index) d (next_of index later) ++ whole_note (is_whole d) o index d
+
+-- of the entries of a table
+abbrev pub entries_notes : Object → Members → List ℕ
+entries_notes o no_members = []
+entries_notes o (member index d later) = entry_note (is_index o index) o index d later ++ entries_notes o later
+
+-- of what the text gives for an object
+abbrev pub table_notes : Object → Json → List ℕ
+table_notes o (object entries) = entries_notes o entries
+table_notes o d = []
+
+-- ## The text
+
+-- of a member with its value, before these: where it names an object, or is the version
+abbrev pub member_note : Option Object → List ℕ → Json → Members → List ℕ
+member_note None name d later = if bytes_eq name (codes "version") then twice_note name d (next_of name later) else []
+member_note (Some o) name d later = twice_note name d (next_of name later) ++ table_notes o d
+
+-- of the members of a text
+abbrev pub members_notes : Members → List ℕ
+members_notes no_members = []
+members_notes (member name d later) = member_note (object_named Two name) name d later ++ members_notes later
+
+-- of a value
+abbrev pub value_notes : Json → List ℕ
+value_notes (object members) = members_notes members
+value_notes d = []
+
+-- of what a text may be
+abbrev pub document_notes : Option Json → List ℕ
+document_notes None = []
+document_notes (Some d) = value_notes d
+
+-- of a text
+unfoldable pub notes_of : List ℕ → List ℕ
+notes_of text = if is_utf8 text then document_notes (document text) else []

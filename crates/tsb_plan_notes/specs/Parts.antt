@@ -1,0 +1,38 @@
+-- A number of JSON, and what it says where it was meant in seconds and has tenths.
+use Rattle.std.specs.Prelude.{ℕ, ◌+◌, ◌*◌, ◌-◌, ◌==◌, ◌&&◌, nat_le, if◌then◌else◌, Bool, false, is_some, List, length, take, drop, slice_index, Option, Some, None, option_and_then}
+use Rattle.json.specs.Find.{as_number}
+use Rattle.json.specs.Json.{Json}
+use Rattle.tsb_lines.specs.Words.{number_of}
+use Rattle.tsb_plan.specs.declared.object.Object.{Object}
+use Rattle.tsb_plan.specs.Objects.{indices}
+use Rattle.tsb_plan_notes.specs.declared.units.Unit.{Unit}
+use Rattle.tsb_plan_notes.specs.declared.units.Unit.TheVariants.{Tenths}
+
+-- whether a value is a whole number of 32 bits: digits alone
+abbrev pub is_whole : Json → Bool
+is_whole d = is_some (option_and_then number_of (as_number d))
+
+-- whole seconds and tenths of a second
+abbrev pub joined : Option ℕ → Option ℕ → Option ℕ
+joined (Some whole) (Some tenth) = Some (whole * 10 + tenth)
+joined whole tenth = None
+
+-- the tenths of a second that a number with one decimal says
+unfoldable pub tenths_of : List ℕ → Option ℕ
+tenths_of s =
+    if nat_le 3 (length s) && slice_index s (length s - 2) == 46
+    then joined (number_of (take (length s - 2) s)) (number_of (drop (length s - 1) s)) else None
+
+-- what a value may have been meant as, in the unit of its object: 32 for 3.2, where that is tenths of a second
+abbrev pub meant : Unit → Json → Option ℕ
+meant Tenths d = option_and_then tenths_of (as_number d)
+meant unit d = None
+
+-- whether a number is at most so many
+abbrev pub is_within : ℕ → Option ℕ → Bool
+is_within most None = false
+is_within most (Some n) = nat_le n most
+
+-- whether a text is that of an index of the object: in digits, without a leading zero
+unfoldable pub is_index : Object → List ℕ → Bool
+is_index o text = nat_le 49 (slice_index text 0) && is_within (indices o) (number_of text)

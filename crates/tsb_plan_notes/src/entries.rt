@@ -1,0 +1,137 @@
+//! The entries of an object's table.
+ghost use Rattle.std.specs.Prelude.{◌≡◌, ◌++◌, OnOk, Some, option_map};
+ghost use Rattle.json.specs.Tree.{HasNumbers, MembersHaveNumbers};
+ghost use Rattle.json.specs.Value.{members_view, value_view};
+ghost use Rattle.tsb_plan_notes.specs.Notes.{entries_notes, entry_note, next_of, path_of, table_notes, twice_note, whole_note};
+ghost use Rattle.tsb_plan_notes.specs.Parts.{is_index, is_whole};
+
+use crate::lines::{add_twice, add_unit, path_of};
+use crate::numbers::{is_index, is_whole};
+use json::Value;
+use std::alloc::{AllocError, Global};
+use tsb_plan::Object;
+
+/// The first of these members that has this name.
+pub(crate) fn next_of<'v, 'a>(
+    name: &str,
+    members: &'v [(&'a str, Value<'a>)],
+) -> Option<&'v Value<'a>>
+    ensures { option_map (λ value. value_view value.now) result ≡ next_of name.now (members_view members.now) }
+{
+    for member in members {
+        if member.0 == name {
+            return Some(&member.1);
+        }
+    }
+    None
+}
+
+/// Adds what is noted of what the text gives for an object.
+pub(crate) fn add_table(
+    alloc: Global,
+    object: Object,
+    value: &Value<'_>,
+    notes: &mut Vec<u8>,
+) -> Result<(), AllocError>
+    requires { HasNumbers (value_view value.now) }
+    ensures { OnOk result (notes.new.items ≡ notes.old.items ++ table_notes object (value_view value.now)) }
+{
+    match value {
+        Value::Object(entries) => add_entries(alloc, object, entries.as_slice(), notes),
+        _ => Ok(()),
+    }
+}
+
+/// Adds what is noted of the entries of a table.
+fn add_entries<'a>(
+    alloc: Global,
+    object: Object,
+    entries: &[(&'a str, Value<'a>)],
+    notes: &mut Vec<u8>,
+) -> Result<(), AllocError>
+    requires { MembersHaveNumbers (members_view entries.now) }
+    ensures { OnOk result (notes.new.items ≡ notes.old.items ++ entries_notes object (members_view entries.now)) }
+{
+    for at in 0..entries.len() {
+        add_entry(alloc, object, &entries[at], &entries[at + 1..], notes)?;
+    }
+    Ok(())
+}
+
+/// Adds what is noted of an index with its value, before these.
+fn add_entry<'a>(
+    alloc: Global,
+    object: Object,
+    entry: &(&'a str, Value<'a>),
+    later: &[(&'a str, Value<'a>)],
+    notes: &mut Vec<u8>,
+) -> Result<(), AllocError>
+    requires value { HasNumbers (value_view entry.now.1) }
+    requires later { MembersHaveNumbers (members_view later.now) }
+    ensures { OnOk result (notes.new.items ≡ notes.old.items
+        ++ entry_note (is_index object entry.now.0.now) object entry.now.0.now (value_view entry.now.1) (members_view later.now)) }
+{
+    let index = entry.0;
+    if !is_index(object, index) {
+        return Ok(());
+    }
+    add_again(alloc, object, index, &entry.1, later, notes)?;
+    add_whole(alloc, object, index, &entry.1, notes)
+}
+
+/// Adds that an index comes again, where it does.
+fn add_again<'a>(
+    alloc: Global,
+    object: Object,
+    index: &str,
+    value: &Value<'_>,
+    later: &[(&'a str, Value<'a>)],
+    notes: &mut Vec<u8>,
+) -> Result<(), AllocError>
+    requires value { HasNumbers (value_view value.now) }
+    requires later { MembersHaveNumbers (members_view later.now) }
+    ensures { OnOk result (notes.new.items
+        ≡ notes.old.items ++ twice_note (path_of object index.now) (value_view value.now) (next_of index.now (members_view later.now))) }
+{
+    match next_of(index, later) {
+        Some(again) => add_twice_at(alloc, object, index, value, again, notes),
+        None => Ok(()),
+    }
+}
+
+/// Adds that an index comes again, with both values.
+fn add_twice_at(
+    alloc: Global,
+    object: Object,
+    index: &str,
+    value: &Value<'_>,
+    again: &Value<'_>,
+    notes: &mut Vec<u8>,
+) -> Result<(), AllocError>
+    requires first { HasNumbers (value_view value.now) }
+    requires second { HasNumbers (value_view again.now) }
+    ensures { OnOk result (notes.new.items ≡ notes.old.items
+        ++ twice_note (path_of object index.now) (value_view value.now) (Some (value_view again.now))) }
+{
+    let path = path_of(alloc, object, index)?;
+    add_twice(alloc, &path, value, again, notes)
+}
+
+/// Adds that a value is no whole number, where it is none.
+fn add_whole(
+    alloc: Global,
+    object: Object,
+    index: &str,
+    value: &Value<'_>,
+    notes: &mut Vec<u8>,
+) -> Result<(), AllocError>
+    requires { HasNumbers (value_view value.now) }
+    ensures { OnOk result (notes.new.items
+        ≡ notes.old.items ++ whole_note (is_whole (value_view value.now)) object index.now (value_view value.now)) }
+{
+    if is_whole(value) {
+        Ok(())
+    } else {
+        add_unit(alloc, object, index, value, notes)
+    }
+}

@@ -1,0 +1,116 @@
+//! The lines of notes.
+ghost use Rattle.std.specs.Prelude.{◌≡◌, ◌++◌, IfOk, OnOk, Some};
+ghost use Rattle.json.specs.Tree.{HasNumbers};
+ghost use Rattle.json.specs.Value.{value_view};
+ghost use Rattle.tsb_plan_notes.specs.Notes.{fault_text, meant_text, path_of, shown, twice_note, unit_end, unit_note};
+
+use crate::numbers::meant;
+use crate::units::{Unit, unit_of, unit_text};
+use itoa::Buffer;
+use json::{Value, to_vec};
+use std::alloc::{AllocError, Global};
+use tsb_plan::Object;
+
+/// Adds that a name comes again, with both values.
+pub(crate) fn add_twice(
+    alloc: Global,
+    path: &[u8],
+    value: &Value<'_>,
+    again: &Value<'_>,
+    notes: &mut Vec<u8>,
+) -> Result<(), AllocError>
+    requires first { HasNumbers (value_view value.now) }
+    requires second { HasNumbers (value_view again.now) }
+    ensures { OnOk result (notes.new.items
+        ≡ notes.old.items ++ twice_note path.now (value_view value.now) (Some (value_view again.now))) }
+{
+    notes.extend_from_slice(path)?;
+    notes.extend_from_slice(b": it stands twice, as ")?;
+    add_value(alloc, value, notes)?;
+    notes.extend_from_slice(b" and as ")?;
+    add_value(alloc, again, notes)?;
+    notes.extend_from_slice(b", and the last one counts\n")
+}
+
+/// Adds a value, as JSON without spaces.
+fn add_value(alloc: Global, value: &Value<'_>, notes: &mut Vec<u8>) -> Result<(), AllocError>
+    requires { HasNumbers (value_view value.now) }
+    ensures { OnOk result (notes.new.items ≡ notes.old.items ++ shown (value_view value.now)) }
+{
+    let text = to_vec(alloc, value)?;
+    notes.extend_from_slice(&text)
+}
+
+/// An object's index, as lines have it.
+#[tactic(auto, unfolding(crate::specs::Notes::path_of))]
+pub(crate) fn path_of(alloc: Global, object: Object, index: &str) -> Result<Vec<u8>, AllocError>
+    ensures { IfOk result (λ path. path.items ≡ path_of object index.now) }
+{
+    let mut path = Vec::new(alloc);
+    path.extend_from_slice(object.name().as_bytes())?;
+    path.extend_from_slice(b".")?;
+    path.extend_from_slice(index.as_bytes())?;
+    Ok(path)
+}
+
+/// Adds that a value is no whole number, with its unit and what it may have been meant as.
+pub(crate) fn add_unit(
+    alloc: Global,
+    object: Object,
+    index: &str,
+    value: &Value<'_>,
+    notes: &mut Vec<u8>,
+) -> Result<(), AllocError>
+    requires { HasNumbers (value_view value.now) }
+    ensures { OnOk result (notes.new.items ≡ notes.old.items ++ unit_note object index.now (value_view value.now)) }
+{
+    add_path(alloc, object, index, notes)?;
+    add_fault(alloc, value, notes)?;
+    add_unit_end(unit_of(object), value, notes)
+}
+
+/// Adds that a value is no whole number.
+#[tactic(auto, unfolding(crate::specs::Notes::fault_text))]
+fn add_fault(alloc: Global, value: &Value<'_>, notes: &mut Vec<u8>) -> Result<(), AllocError>
+    requires { HasNumbers (value_view value.now) }
+    ensures { OnOk result (notes.new.items ≡ notes.old.items ++ fault_text (value_view value.now)) }
+{
+    notes.extend_from_slice(b": ")?;
+    add_value(alloc, value, notes)?;
+    notes.extend_from_slice(b" is no whole number")
+}
+
+/// Adds an object's index.
+fn add_path(
+    alloc: Global,
+    object: Object,
+    index: &str,
+    notes: &mut Vec<u8>,
+) -> Result<(), AllocError>
+    ensures { OnOk result (notes.new.items ≡ notes.old.items ++ path_of object index.now) }
+{
+    let path = path_of(alloc, object, index)?;
+    notes.extend_from_slice(&path)
+}
+
+/// Adds the unit of a value, what the value may have been meant as, and the end of the line.
+#[tactic(auto, unfolding(crate::specs::Notes::unit_end))]
+fn add_unit_end(unit: Unit, value: &Value<'_>, notes: &mut Vec<u8>) -> Result<(), AllocError>
+    ensures { OnOk result (notes.new.items ≡ notes.old.items ++ unit_end unit (value_view value.now)) }
+{
+    notes.extend_from_slice(unit_text(unit))?;
+    add_meant(meant(unit, value), notes)?;
+    notes.extend_from_slice(b"\n")
+}
+
+/// Adds what a value may have been meant as.
+fn add_meant(tenths: Option<u64>, notes: &mut Vec<u8>) -> Result<(), AllocError>
+    ensures { OnOk result (notes.new.items ≡ notes.old.items ++ meant_text tenths) }
+{
+    let Some(tenths) = tenths else {
+        return Ok(());
+    };
+    let mut buffer = Buffer::new();
+    notes.extend_from_slice(b", ")?;
+    notes.extend_from_slice(buffer.format(tenths).as_bytes())
+}

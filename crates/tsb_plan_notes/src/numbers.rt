@@ -1,0 +1,79 @@
+//! Numbers of JSON, and what they say where they were meant in seconds and have tenths.
+ghost use Rattle.std.specs.Prelude.{◌≡◌, nat_le, option_map, slice_index};
+ghost use Rattle.json.specs.Find.{as_number};
+ghost use Rattle.json.specs.Value.{value_view};
+ghost use Rattle.tsb_plan_notes.specs.Parts.{is_index, is_whole, is_within, joined, meant, tenths_of};
+
+use crate::units::Unit;
+use json::Value;
+use tsb_lines::number;
+use tsb_plan::Object;
+
+/// Whether a value is a whole number of 0 to 4,294,967,295, written without point and exponent.
+pub(crate) fn is_whole(value: &Value<'_>) -> bool
+    ensures { result ≡ is_whole (value_view value.now) }
+{
+    match value.as_number() {
+        Some(text) => number(text.as_bytes()).is_some(),
+        None => false,
+    }
+}
+
+/// What a value may have been meant as, in the unit of its object: 32 for 3.2, where that is tenths of a second.
+pub(crate) fn meant(unit: Unit, value: &Value<'_>) -> Option<u64>
+    ensures { result ≡ meant unit (value_view value.now) }
+{
+    if unit != Unit::Tenths {
+        return None;
+    }
+    match value.as_number() {
+        Some(text) => tenths_of(text.as_bytes()),
+        None => None,
+    }
+}
+
+/// The tenths of a second that a number with one decimal says.
+#[tactic(auto, unfolding(crate::specs::Parts::tenths_of))]
+fn tenths_of(text: &[u8]) -> Option<u64>
+    ensures { result ≡ tenths_of text.now }
+{
+    let length = text.len();
+    if length < 3 || text[length - 2] != b'.' {
+        return None;
+    }
+    joined(number(&text[..length - 2]), number(&text[length - 1..]))
+}
+
+/// Whole seconds and tenths of a second, as tenths.
+fn joined(whole: Option<u32>, tenth: Option<u32>) -> Option<u64>
+    ensures { result ≡ joined whole tenth }
+{
+    let whole = whole?;
+    let tenth = tenth?;
+    Some(whole as u64 * 10 + tenth as u64)
+}
+
+/// Whether a text is that of an index of the object: in digits, without a leading zero.
+#[tactic(auto, unfolding(crate::specs::Parts::is_index))]
+pub(crate) fn is_index(object: Object, text: &str) -> bool
+    ensures { result ≡ is_index object text.now }
+{
+    begins_over_0(text.as_bytes()) && is_within(object.indices(), number(text.as_bytes()))
+}
+
+/// Whether the first byte is the digit 1 or a greater one.
+fn begins_over_0(text: &[u8]) -> bool
+    ensures { result ≡ nat_le 49 (slice_index text.now 0) }
+{
+    !text.is_empty() && text[0] >= b'1'
+}
+
+/// Whether a number is at most so many.
+fn is_within(most: u32, found: Option<u32>) -> bool
+    ensures { result ≡ is_within most found }
+{
+    match found {
+        Some(found) => found <= most,
+        None => false,
+    }
+}

@@ -1,0 +1,107 @@
+//! The notes on a text.
+ghost use Rattle.std.specs.Prelude.{◌≡◌, ◌++◌, IfOk, OnOk};
+ghost use Rattle.json.specs.Tree.{HasNumbers, MembersHaveNumbers};
+ghost use Rattle.json.specs.Value.{members_view, value_view};
+ghost use Rattle.tsb_plan.specs.declared.version.Version.TheVariants.{Two};
+ghost use Rattle.tsb_plan.specs.Names.{object_named};
+ghost use Rattle.tsb_plan_notes.specs.Notes.{member_note, members_notes, next_of, notes_of, twice_note, value_notes};
+
+use crate::entries::{add_table, next_of};
+use crate::lines::add_twice;
+use json::{Error, Scratch, Value};
+use std::alloc::{AllocError, Global};
+use tsb_plan::{Object, Version};
+
+/// The name of the member that gives the version.
+const VERSION: &str = "version";
+
+/// What is noted of a plan text: a line, with its line feed, for each member or index that comes again later in its
+/// table, with both values, of which the last counts; and one for each value that is no whole number, with its unit. The
+/// error is that memory ran out.
+///
+/// A text that is no JSON in UTF-8 has no notes. What has no name of an object, or is no index of it, is passed over: it is
+/// a fault of its own.
+pub fn notes(alloc: Global, text: &[u8]) -> Result<Vec<u8>, AllocError>
+    ensures { IfOk result (λ notes. notes.items ≡ notes_of text.now) }
+{
+    let mut scratch = Scratch::new(alloc);
+    match Value::from_slice(alloc, text, &mut scratch) {
+        Ok(value) => notes_on(alloc, &value),
+        Err(Error::Invalid) => Ok(Vec::new(alloc)),
+        // Memory ran out. There is no other error of this call.
+        Err(_) => Err(AllocError),
+    }
+}
+
+/// What is noted of a value.
+fn notes_on(alloc: Global, value: &Value<'_>) -> Result<Vec<u8>, AllocError>
+    requires { HasNumbers (value_view value.now) }
+    ensures { IfOk result (λ notes. notes.items ≡ value_notes (value_view value.now)) }
+{
+    let mut notes = Vec::new(alloc);
+    if let Value::Object(members) = value {
+        add_members(alloc, members.as_slice(), &mut notes)?;
+    }
+    Ok(notes)
+}
+
+/// Adds what is noted of the members of a text.
+fn add_members<'a>(
+    alloc: Global,
+    members: &[(&'a str, Value<'a>)],
+    notes: &mut Vec<u8>,
+) -> Result<(), AllocError>
+    requires { MembersHaveNumbers (members_view members.now) }
+    ensures { OnOk result (notes.new.items ≡ notes.old.items ++ members_notes (members_view members.now)) }
+{
+    for at in 0..members.len() {
+        add_member(alloc, &members[at], &members[at + 1..], notes)?;
+    }
+    Ok(())
+}
+
+/// Adds what is noted of a member with its value, before these.
+fn add_member<'a>(
+    alloc: Global,
+    member: &(&'a str, Value<'a>),
+    later: &[(&'a str, Value<'a>)],
+    notes: &mut Vec<u8>,
+) -> Result<(), AllocError>
+    requires value { HasNumbers (value_view member.now.1) }
+    requires later { MembersHaveNumbers (members_view later.now) }
+    ensures { OnOk result (notes.new.items ≡ notes.old.items
+        ++ member_note (object_named Two member.now.0.now) member.now.0.now (value_view member.now.1) (members_view later.now)) }
+{
+    let name = member.0;
+    match Object::named(Version::Two, name) {
+        Some(object) => {
+            add_again(alloc, name, &member.1, later, notes)?;
+            add_table(alloc, object, &member.1, notes)
+        }
+        None => {
+            if name != VERSION {
+                return Ok(());
+            }
+            add_again(alloc, name, &member.1, later, notes)
+        }
+    }
+}
+
+/// Adds that a name comes again, where it does.
+fn add_again<'a>(
+    alloc: Global,
+    name: &str,
+    value: &Value<'_>,
+    later: &[(&'a str, Value<'a>)],
+    notes: &mut Vec<u8>,
+) -> Result<(), AllocError>
+    requires value { HasNumbers (value_view value.now) }
+    requires later { MembersHaveNumbers (members_view later.now) }
+    ensures { OnOk result (notes.new.items
+        ≡ notes.old.items ++ twice_note name.now (value_view value.now) (next_of name.now (members_view later.now))) }
+{
+    match next_of(name, later) {
+        Some(again) => add_twice(alloc, name.as_bytes(), value, again, notes),
+        None => Ok(()),
+    }
+}
