@@ -11,6 +11,8 @@ pub mod Breaches
 pub mod Found
 -- the numbers that the line of a breach shows
 pub mod Numbers
+-- what holds of all breaches of a plan
+pub mod Laws
 -- the names of crates below, for those above
 pub use Rattle.tsb_review.specs as tsb_review
 pub use Rattle.tsb_rules.specs as tsb_rules

@@ -6,6 +6,7 @@
 
 pub mod breach;
 pub mod fault;
+pub mod laws;
 mod lists;
 pub mod numbers;
 mod patterns;

@@ -1,0 +1,2 @@
+-- Computed mistakes that the laws refuse.
+pub mod Mistakes
