@@ -1,10 +1,11 @@
 -- What a writer has taken of breaches, piece by piece.
-use Rattle.std.proofs.Common.{◌≡◌, ◌∙◌, ℕ, Bool, true, false, if◌then◌else◌, List, [], ◌∷◌, ◌++◌, map, flat_map, refl, sym, subst, Option, Some, None}
+use Rattle.std.proofs.Common.{◌≡◌, ◌∙◌, ℕ, Bool, true, false, if◌then◌else◌, List, [], ◌∷◌, flat_map, refl, sym, subst, Option, Some, None}
 use Rattle.std.specs.declared.result.Result.{Result}
 use Rattle.std.specs.declared.result.Result.TheVariants.{Ok}
 use Rattle.std.proofs.lemmas.List.{append-nil}
 use Rattle.tsb_lines.proofs.StreamLemmas.{appends-nothing}
 use Rattle.tsb_lines.specs.declared.writes.WriteError.{WriteError}
+use Rattle.tsb_watched.specs.Seen.{Seen}
 use Rattle.tsb_plan.specs.Plan.{Plan}
 use Rattle.tsb_types.specs.Lists.{run_from}
 use Rattle.tsb_breaches.specs.declared.breach.Breach.{Breach}
@@ -62,12 +63,12 @@ by-faults plan =
     ∙ flat-same (λ f. flat_map (breach_line plan) (breaches_of plan f)) (breach_text_of plan) (fault-text plan) faults
 
 -- where there is no breach nothing is to be written
-pub wrote-no-breach : (plan : Plan) (o p : Option Breach) (a : Option (List ℕ)) → o ≡ p → o ≡ None → Wrote (Ok tt) a a (breach_line_in plan p)
+pub wrote-no-breach : (plan : Plan) (o p : Option Breach) (a : Seen) → o ≡ p → o ≡ None → Wrote (Ok tt) a a (breach_line_in plan p)
 wrote-no-breach plan o p a same none =
     subst (λ (q : Option Breach). Wrote (Ok tt) a a (breach_line_in plan q)) (sym none ∙ same)
-    (record { whole = appends-nothing a; front = ([], [], appends-nothing a, refl) })
+    (record { whole = appends-nothing a.bytes; front = ([], [], appends-nothing a.bytes, refl); blame = tt; well = refl })
 
 -- and where there is one its line
-pub wrote-breach : (plan : Plan) (b : Breach) (o p : Option Breach) (r : Result (Unit {0}) WriteError) (x y : Option (List ℕ)) → o ≡ p → o ≡ Some b →
+pub wrote-breach : (plan : Plan) (b : Breach) (o p : Option Breach) (r : Result (Unit {0}) WriteError) (x y : Seen) → o ≡ p → o ≡ Some b →
     Wrote r x y (breach_line plan b) → Wrote r x y (breach_line_in plan p)
 wrote-breach plan b o p r x y same some wrote = subst (λ (q : Option Breach). Wrote r x y (breach_line_in plan q)) (sym some ∙ same) wrote

@@ -2,6 +2,7 @@ use Rattle.std.proofs.Common.{◌≡◌, ◌∙◌, ℕ, ◌+◌, flat_map, refl
 use Rattle.std.proofs.lemmas.Result.{err_from_is_err_and}
 use Rattle.tsb_types.specs.Lists.{run_from}
 use Rattle.tsb_plan.specs.PlanOf.{plan_of}
+use Rattle.tsb_watched.specs.Seen.{seen}
 use Rattle.tsb_breaches.specs.Breaches.{shape}
 use Rattle.tsb_breaches.specs.Places.{thirds}
 use Rattle.tsb_review_text.specs.BreachesWritten.{breach_text_at, breach_text_beside}
@@ -12,20 +13,20 @@ pub loop-third-init : goal.loop-third-init
 unfolding breach_text_beside
 loop-third-init g c =
     let is : c.thirds-count.result ≡ thirds (shape c.args.fault) = c.thirds-count.ensures.value ∙ ap thirds c.shape.ensures in
-    start-run (breach_text_at (plan_of c.args.plan.now) c.args.fault c.args.first c.args.second) (g.W.Write.contents c.args.output.now) _ c.thirds-count.result (c.thirds-count.result + 1)
+    start-run (breach_text_at (plan_of c.args.plan.now) c.args.fault c.args.first c.args.second) (seen g.W.Write.contents c.args.output.now) _ c.thirds-count.result (c.thirds-count.result + 1)
     (ap (λ (n : ℕ). flat_map (breach_text_at (plan_of c.args.plan.now) c.args.fault c.args.first c.args.second) (run_from 1 n)) (sym is)) refl
 
 pub loop-third-preserved : goal.loop-third-preserved
 loop-third-preserved g c =
-    next-run (breach_text_at (plan_of c.args.plan.now) c.args.fault c.args.first c.args.second) (g.W.Write.contents c.args.output.now) (g.W.Write.contents c.loop-third.output) (g.W.Write.contents c.write_breach_at.new.output) _
-    c.loop-third.third (c.thirds-count.result + 1) (omega arith) c.loop-third.invariant c.in_ok-write_breach_at.ensures.whole
+    next-run (breach_text_at (plan_of c.args.plan.now) c.args.fault c.args.first c.args.second) (seen g.W.Write.contents c.args.output.now) (seen g.W.Write.contents c.loop-third.output) (seen g.W.Write.contents c.write_breach_at.new.output) _
+    c.loop-third.third (c.thirds-count.result + 1) (omega arith) c.loop-third.invariant c.in_ok-write_breach_at.ensures.whole c.in_ok-write_breach_at.ensures.well
 
 pub returns-in_err-write_breach_at : goal.returns-in_err-write_breach_at
 returns-in_err-write_breach_at g c = let p = err_from_is_err_and c.from_residual.result c.from_residual.ensures.1 in
-    rw p.1 (fail-run (breach_text_at (plan_of c.args.plan.now) c.args.fault c.args.first c.args.second) (g.W.Write.contents c.args.output.now) (g.W.Write.contents c.loop-third.output) (g.W.Write.contents c.write_breach_at.new.output) _
-    c.loop-third.third (c.thirds-count.result + 1) p.0 (omega arith) c.loop-third.invariant c.in_err-write_breach_at.ensures.front)
+    rw p.1 (fail-run (breach_text_at (plan_of c.args.plan.now) c.args.fault c.args.first c.args.second) (seen g.W.Write.contents c.args.output.now) (seen g.W.Write.contents c.loop-third.output) (seen g.W.Write.contents c.write_breach_at.new.output) _
+    c.loop-third.third (c.thirds-count.result + 1) p.0 (omega arith) c.loop-third.invariant c.in_err-write_breach_at.ensures.front c.in_err-write_breach_at.ensures.blame)
 
 pub returns : goal.returns
 returns g c =
-    end-run (breach_text_at (plan_of c.args.plan.now) c.args.fault c.args.first c.args.second) (g.W.Write.contents c.args.output.now) (g.W.Write.contents c.loop-third.output) _
+    end-run (breach_text_at (plan_of c.args.plan.now) c.args.fault c.args.first c.args.second) (seen g.W.Write.contents c.args.output.now) (seen g.W.Write.contents c.loop-third.output) _
     c.loop-third.third (c.thirds-count.result + 1) (omega arith) c.loop-third.invariant

@@ -1,10 +1,11 @@
 use Rattle.std.proofs.Common.{◌+◌, ◌-◌, flat_map}
-use Rattle.tsb_lines.proofs.StreamLemmas.{Gone}
 use Rattle.tsb_types.specs.Lists.{run_from}
 use Rattle.tsb_plan.specs.PlanOf.{plan_of}
+use Rattle.tsb_watched.specs.Seen.{seen}
 use Rattle.tsb_review_text.specs.BreachesWritten.{breach_text_at, breach_text_beside}
+use Rattle.tsb_review_text.proofs.WriteLemmas.{Went}
 use Rattle.tsb_review_text.proofs.breaches.write_beside.Given as goal
 
 -- what has gone out, and what is left, are all
 abbrev pub invariant-loop-third : goal.invariant-loop-third
-invariant-loop-third g l = Gone (g.W.Write.contents l.fn.output) (g.W.Write.contents l.output) (breach_text_beside (plan_of l.plan) l.fault l.first l.second) (flat_map (breach_text_at (plan_of l.plan) l.fault l.first l.second) (run_from l.third (l.count + 1 - l.third)))
+invariant-loop-third g l = Went (seen g.W.Write.contents l.fn.output) (seen g.W.Write.contents l.output) (breach_text_beside (plan_of l.plan) l.fault l.first l.second) (flat_map (breach_text_at (plan_of l.plan) l.fault l.first l.second) (run_from l.third (l.count + 1 - l.third)))

@@ -1,5 +1,6 @@
 use Rattle.std.proofs.lemmas.Result.{err_from_is_err_and}
 use Rattle.tsb_plan.specs.PlanOf.{plan_of}
+use Rattle.tsb_watched.specs.Seen.{seen}
 use Rattle.tsb_breaches.specs.Breaches.{faults}
 use Rattle.tsb_review_text.specs.BreachesWritten.{breach_text_of}
 use Rattle.tsb_review_text.proofs.BreachLemmas.{by-faults}
@@ -8,22 +9,22 @@ use Rattle.tsb_review_text.proofs.breaches.write_breaches.Goals as goal
 
 pub loop-fault-init : goal.loop-fault-init
 unfolding faults
-loop-fault-init g c = start-list (breach_text_of (plan_of c.args.plan.now)) faults (g.W.Write.contents c.args.output.now) _ (by-faults (plan_of c.args.plan.now))
+loop-fault-init g c = start-list (breach_text_of (plan_of c.args.plan.now)) faults (seen g.W.Write.contents c.args.output.now) _ (by-faults (plan_of c.args.plan.now))
 
 pub loop-fault-preserved : goal.loop-fault-preserved
 unfolding faults
 loop-fault-preserved g c =
-    next-list (breach_text_of (plan_of c.args.plan.now)) faults _ (g.W.Write.contents c.args.output.now) (g.W.Write.contents c.loop-fault.output) (g.W.Write.contents c.write_fault.new.output) _
-    c.loop-fault.fault-index c.loop-fault-test.true c.loop-fault.invariant c.in_ok-write_fault.ensures.whole
+    next-list (breach_text_of (plan_of c.args.plan.now)) faults _ (seen g.W.Write.contents c.args.output.now) (seen g.W.Write.contents c.loop-fault.output) (seen g.W.Write.contents c.write_fault.new.output) _
+    c.loop-fault.fault-index c.loop-fault-test.true c.loop-fault.invariant c.in_ok-write_fault.ensures.whole c.in_ok-write_fault.ensures.well
 
 pub returns-in_err-write_fault : goal.returns-in_err-write_fault
 unfolding faults
 returns-in_err-write_fault g c = let p = err_from_is_err_and c.from_residual.result c.from_residual.ensures.1 in
-    rw p.1 (fail-list (breach_text_of (plan_of c.args.plan.now)) faults _ (g.W.Write.contents c.args.output.now) (g.W.Write.contents c.loop-fault.output) (g.W.Write.contents c.write_fault.new.output) _
-    c.loop-fault.fault-index p.0 c.loop-fault-test.true c.loop-fault.invariant c.in_err-write_fault.ensures.front)
+    rw p.1 (fail-list (breach_text_of (plan_of c.args.plan.now)) faults _ (seen g.W.Write.contents c.args.output.now) (seen g.W.Write.contents c.loop-fault.output) (seen g.W.Write.contents c.write_fault.new.output) _
+    c.loop-fault.fault-index p.0 c.loop-fault-test.true c.loop-fault.invariant c.in_err-write_fault.ensures.front c.in_err-write_fault.ensures.blame)
 
 pub returns : goal.returns
 unfolding faults
 returns g c =
-    end-list (breach_text_of (plan_of c.args.plan.now)) faults (g.W.Write.contents c.args.output.now) (g.W.Write.contents c.loop-fault.output) _
+    end-list (breach_text_of (plan_of c.args.plan.now)) faults (seen g.W.Write.contents c.args.output.now) (seen g.W.Write.contents c.loop-fault.output) _
     c.loop-fault.fault-index c.loop-fault-test.false c.loop-fault.invariant

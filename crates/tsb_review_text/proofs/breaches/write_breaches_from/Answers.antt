@@ -2,6 +2,7 @@ use Rattle.std.proofs.Common.{◌≡◌, ◌∙◌, ℕ, ◌+◌, flat_map, refl
 use Rattle.std.proofs.lemmas.Result.{err_from_is_err_and}
 use Rattle.tsb_types.specs.Lists.{run_from}
 use Rattle.tsb_plan.specs.PlanOf.{plan_of}
+use Rattle.tsb_watched.specs.Seen.{seen}
 use Rattle.tsb_breaches.specs.Breaches.{shape}
 use Rattle.tsb_breaches.specs.Places.{seconds}
 use Rattle.tsb_review_text.specs.BreachesWritten.{breach_text_beside, breach_text_from}
@@ -12,20 +13,20 @@ pub loop-second-init : goal.loop-second-init
 unfolding breach_text_from
 loop-second-init g c =
     let is : c.seconds-count.result ≡ seconds (shape c.args.fault) = c.seconds-count.ensures.value ∙ ap seconds c.shape.ensures in
-    start-run (breach_text_beside (plan_of c.args.plan.now) c.args.fault c.args.first) (g.W.Write.contents c.args.output.now) _ c.seconds-count.result (c.seconds-count.result + 1)
+    start-run (breach_text_beside (plan_of c.args.plan.now) c.args.fault c.args.first) (seen g.W.Write.contents c.args.output.now) _ c.seconds-count.result (c.seconds-count.result + 1)
     (ap (λ (n : ℕ). flat_map (breach_text_beside (plan_of c.args.plan.now) c.args.fault c.args.first) (run_from 1 n)) (sym is)) refl
 
 pub loop-second-preserved : goal.loop-second-preserved
 loop-second-preserved g c =
-    next-run (breach_text_beside (plan_of c.args.plan.now) c.args.fault c.args.first) (g.W.Write.contents c.args.output.now) (g.W.Write.contents c.loop-second.output) (g.W.Write.contents c.write_beside.new.output) _
-    c.loop-second.second (c.seconds-count.result + 1) (omega arith) c.loop-second.invariant c.in_ok-write_beside.ensures.whole
+    next-run (breach_text_beside (plan_of c.args.plan.now) c.args.fault c.args.first) (seen g.W.Write.contents c.args.output.now) (seen g.W.Write.contents c.loop-second.output) (seen g.W.Write.contents c.write_beside.new.output) _
+    c.loop-second.second (c.seconds-count.result + 1) (omega arith) c.loop-second.invariant c.in_ok-write_beside.ensures.whole c.in_ok-write_beside.ensures.well
 
 pub returns-in_err-write_beside : goal.returns-in_err-write_beside
 returns-in_err-write_beside g c = let p = err_from_is_err_and c.from_residual.result c.from_residual.ensures.1 in
-    rw p.1 (fail-run (breach_text_beside (plan_of c.args.plan.now) c.args.fault c.args.first) (g.W.Write.contents c.args.output.now) (g.W.Write.contents c.loop-second.output) (g.W.Write.contents c.write_beside.new.output) _
-    c.loop-second.second (c.seconds-count.result + 1) p.0 (omega arith) c.loop-second.invariant c.in_err-write_beside.ensures.front)
+    rw p.1 (fail-run (breach_text_beside (plan_of c.args.plan.now) c.args.fault c.args.first) (seen g.W.Write.contents c.args.output.now) (seen g.W.Write.contents c.loop-second.output) (seen g.W.Write.contents c.write_beside.new.output) _
+    c.loop-second.second (c.seconds-count.result + 1) p.0 (omega arith) c.loop-second.invariant c.in_err-write_beside.ensures.front c.in_err-write_beside.ensures.blame)
 
 pub returns : goal.returns
 returns g c =
-    end-run (breach_text_beside (plan_of c.args.plan.now) c.args.fault c.args.first) (g.W.Write.contents c.args.output.now) (g.W.Write.contents c.loop-second.output) _
+    end-run (breach_text_beside (plan_of c.args.plan.now) c.args.fault c.args.first) (seen g.W.Write.contents c.args.output.now) (seen g.W.Write.contents c.loop-second.output) _
     c.loop-second.second (c.seconds-count.result + 1) (omega arith) c.loop-second.invariant

@@ -1,10 +1,11 @@
 use Rattle.std.proofs.Common.{◌+◌, ◌-◌, flat_map}
-use Rattle.tsb_lines.proofs.StreamLemmas.{Gone}
 use Rattle.tsb_types.specs.Lists.{run_from}
 use Rattle.tsb_plan.specs.PlanOf.{plan_of}
+use Rattle.tsb_watched.specs.Seen.{seen}
 use Rattle.tsb_review_text.specs.BreachesWritten.{breach_text_beside, breach_text_from}
+use Rattle.tsb_review_text.proofs.WriteLemmas.{Went}
 use Rattle.tsb_review_text.proofs.breaches.write_breaches_from.Given as goal
 
 -- what has gone out, and what is left, are all
 abbrev pub invariant-loop-second : goal.invariant-loop-second
-invariant-loop-second g l = Gone (g.W.Write.contents l.fn.output) (g.W.Write.contents l.output) (breach_text_from (plan_of l.plan) l.fault l.first) (flat_map (breach_text_beside (plan_of l.plan) l.fault l.first) (run_from l.second (l.count + 1 - l.second)))
+invariant-loop-second g l = Went (seen g.W.Write.contents l.fn.output) (seen g.W.Write.contents l.output) (breach_text_from (plan_of l.plan) l.fault l.first) (flat_map (breach_text_beside (plan_of l.plan) l.fault l.first) (run_from l.second (l.count + 1 - l.second)))

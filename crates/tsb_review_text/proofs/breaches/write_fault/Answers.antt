@@ -2,6 +2,7 @@ use Rattle.std.proofs.Common.{◌≡◌, ◌∙◌, ℕ, ◌+◌, flat_map, refl
 use Rattle.std.proofs.lemmas.Result.{err_from_is_err_and}
 use Rattle.tsb_types.specs.Lists.{run_from}
 use Rattle.tsb_plan.specs.PlanOf.{plan_of}
+use Rattle.tsb_watched.specs.Seen.{seen}
 use Rattle.tsb_breaches.specs.Breaches.{shape}
 use Rattle.tsb_breaches.specs.Places.{firsts}
 use Rattle.tsb_review_text.specs.BreachesWritten.{breach_text_from, breach_text_of}
@@ -12,20 +13,20 @@ pub loop-first-init : goal.loop-first-init
 unfolding breach_text_of
 loop-first-init g c =
     let is : c.firsts-count.result ≡ firsts (shape c.args.fault) = c.firsts-count.ensures.value ∙ ap firsts c.shape.ensures in
-    start-run (breach_text_from (plan_of c.args.plan.now) c.args.fault) (g.W.Write.contents c.args.output.now) _ c.firsts-count.result (c.firsts-count.result + 1)
+    start-run (breach_text_from (plan_of c.args.plan.now) c.args.fault) (seen g.W.Write.contents c.args.output.now) _ c.firsts-count.result (c.firsts-count.result + 1)
     (ap (λ (n : ℕ). flat_map (breach_text_from (plan_of c.args.plan.now) c.args.fault) (run_from 1 n)) (sym is)) refl
 
 pub loop-first-preserved : goal.loop-first-preserved
 loop-first-preserved g c =
-    next-run (breach_text_from (plan_of c.args.plan.now) c.args.fault) (g.W.Write.contents c.args.output.now) (g.W.Write.contents c.loop-first.output) (g.W.Write.contents c.write_breaches_from.new.output) _
-    c.loop-first.first (c.firsts-count.result + 1) (omega arith) c.loop-first.invariant c.in_ok-write_breaches_from.ensures.whole
+    next-run (breach_text_from (plan_of c.args.plan.now) c.args.fault) (seen g.W.Write.contents c.args.output.now) (seen g.W.Write.contents c.loop-first.output) (seen g.W.Write.contents c.write_breaches_from.new.output) _
+    c.loop-first.first (c.firsts-count.result + 1) (omega arith) c.loop-first.invariant c.in_ok-write_breaches_from.ensures.whole c.in_ok-write_breaches_from.ensures.well
 
 pub returns-in_err-write_breaches_from : goal.returns-in_err-write_breaches_from
 returns-in_err-write_breaches_from g c = let p = err_from_is_err_and c.from_residual.result c.from_residual.ensures.1 in
-    rw p.1 (fail-run (breach_text_from (plan_of c.args.plan.now) c.args.fault) (g.W.Write.contents c.args.output.now) (g.W.Write.contents c.loop-first.output) (g.W.Write.contents c.write_breaches_from.new.output) _
-    c.loop-first.first (c.firsts-count.result + 1) p.0 (omega arith) c.loop-first.invariant c.in_err-write_breaches_from.ensures.front)
+    rw p.1 (fail-run (breach_text_from (plan_of c.args.plan.now) c.args.fault) (seen g.W.Write.contents c.args.output.now) (seen g.W.Write.contents c.loop-first.output) (seen g.W.Write.contents c.write_breaches_from.new.output) _
+    c.loop-first.first (c.firsts-count.result + 1) p.0 (omega arith) c.loop-first.invariant c.in_err-write_breaches_from.ensures.front c.in_err-write_breaches_from.ensures.blame)
 
 pub returns : goal.returns
 returns g c =
-    end-run (breach_text_from (plan_of c.args.plan.now) c.args.fault) (g.W.Write.contents c.args.output.now) (g.W.Write.contents c.loop-first.output) _
+    end-run (breach_text_from (plan_of c.args.plan.now) c.args.fault) (seen g.W.Write.contents c.args.output.now) (seen g.W.Write.contents c.loop-first.output) _
     c.loop-first.first (c.firsts-count.result + 1) (omega arith) c.loop-first.invariant

@@ -1,10 +1,11 @@
 use Rattle.std.proofs.Common.{◌+◌, ◌-◌, flat_map}
-use Rattle.tsb_lines.proofs.StreamLemmas.{Gone}
 use Rattle.tsb_types.specs.Lists.{run_from}
 use Rattle.tsb_plan.specs.PlanOf.{plan_of}
+use Rattle.tsb_watched.specs.Seen.{seen}
 use Rattle.tsb_review_text.specs.BreachesWritten.{breach_text_from, breach_text_of}
+use Rattle.tsb_review_text.proofs.WriteLemmas.{Went}
 use Rattle.tsb_review_text.proofs.breaches.write_fault.Given as goal
 
 -- what has gone out, and what is left, are all
 abbrev pub invariant-loop-first : goal.invariant-loop-first
-invariant-loop-first g l = Gone (g.W.Write.contents l.fn.output) (g.W.Write.contents l.output) (breach_text_of (plan_of l.plan) l.fault) (flat_map (breach_text_from (plan_of l.plan) l.fault) (run_from l.first (l.count + 1 - l.first)))
+invariant-loop-first g l = Went (seen g.W.Write.contents l.fn.output) (seen g.W.Write.contents l.output) (breach_text_of (plan_of l.plan) l.fault) (flat_map (breach_text_from (plan_of l.plan) l.fault) (run_from l.first (l.count + 1 - l.first)))

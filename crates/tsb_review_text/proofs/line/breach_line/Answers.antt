@@ -1,5 +1,4 @@
 use Rattle.std.proofs.Common.{◌∙◌, ◌++◌, ◌∷◌, [], ap, arith, rules}
-use Rattle.tsb_plan.specs.PlanOf.{plan_of}
 use Rattle.tsb_review_text.specs.BreachTemplates.{breach_template}
 use Rattle.tsb_review_text.specs.Lines.{breach_line, filled}
 use Rattle.tsb_review_text.proofs.LineLemmas.{breach-line-done}
