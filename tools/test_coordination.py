@@ -1,14 +1,15 @@
 #!/usr/bin/env python3
-"""Tests the law of coordinated phases, which is stated and not proved, on runs at random of an independent
-implementation.
+"""Tests within what time phases are served in a pattern, on runs at random of an independent implementation.
 
     tools/test_coordination.py --reference FOLDER --seeds LO HI
 
 FOLDER holds the reference, which is no part of this repository (make_sessions.py says which files). Each seed is one
 run: a plan of coordinated_plans.py, some ticks in free operation, and then its pattern for 8 cycles, with detectors
 that change at random. What is tested stands in `crates/tsb_laws/specs/CoordinatedGreens.antt`: how long a coordinated
-phase is not Green. It ends with status 1 where a run breaks the law, and tells the largest share of its time that a
-wait took, and how often a coordinated phase was not Green for a whole cycle.
+phase is not Green, by the time that is proved and by the shorter one that is stated and not proved; and how long any
+phase that stays called is not Green, by the time that is proved. It ends with status 1 where a run breaks a law, and
+tells the largest share of each time that a wait took, and how often a coordinated phase was not Green for a whole
+cycle.
 """
 import argparse
 import importlib
@@ -17,25 +18,47 @@ import os
 import random
 import sys
 from collections.abc import Iterator
-from dataclasses import dataclass
+from dataclasses import dataclass, field
 from typing import Any
 
 import coordinated_plans
+from served_calls import SIDES, is_called
 
 CYCLES = 8
+OMITTED = 5
 State = Any
+Plan = dict[str, list[int]]
+
+
+@dataclass
+class Longest:
+    """The largest share of a time that a wait took, and how many waits took longer."""
+
+    share: float = 0.0
+    worst: str = ""
+    broken: int = 0
+
+    def see(self, seed: int, c: int, since: int, limit: int) -> None:
+        """A tick in which phase c has waited for so many ticks."""
+        self.broken += since == limit + 1
+        if since / limit > self.share:
+            self.share, self.worst = since / limit, f"phase {c} of seed {seed}: {since} of {limit} ticks"
+
+    def told(self) -> str:
+        """As it is printed."""
+        return f"at most {self.share:.3f} ({self.worst}), {self.broken} breaches"
 
 
 @dataclass
 class Waits:
-    """Of runs: how many coordinated phases there were, their waits, those of a cycle or more, and the largest shares."""
+    """Of runs: how many coordinated phases there were, their waits and those of a cycle or more, and the longest."""
 
     phases: int = 0
     waits: int = 0
     long: int = 0
-    share: float = 0.0
-    worst: str = ""
-    broken: int = 0
+    stated: Longest = field(default_factory=Longest)
+    proved: Longest = field(default_factory=Longest)
+    called: Longest = field(default_factory=Longest)
 
 
 def reference(folder: str) -> Any:
@@ -57,26 +80,49 @@ def rows(rng: random.Random) -> Iterator[tuple[tuple[bool, ...], ...]]:
         yield tuple(vehicles), tuple(pedestrians), (False,) * 4
 
 
-def turn(plan: dict[str, list[int]], clear: int, p: int) -> int:
-    """The turn of a phase in pattern 1."""
+def longest(plan: Plan, p: int) -> int:
+    """The longest that a phase is Green in pattern 1 once it has a conflict."""
     initial = plan["phaseMinimumGreen"][p]
     if plan["phaseVariableInitial"][p]:
         initial = max(initial, plan["phaseMaximumInitial"][p])
     walk = plan["phaseWalk"][p] + plan["phasePedestrianClear"][p]
-    return 10 * max(plan["patternCycleTime"][1], initial, walk) + clear + 2
+    return 10 * max(plan["patternCycleTime"][1], initial, walk)
 
 
-def time_to_return(plan: dict[str, list[int]], c: int) -> int:
-    """Within how many ticks c is Green again."""
-    phases = [p for p, on in enumerate(plan["phaseEnabled"]) if on]
-    revert = max(plan["phaseRedRevert"][p] for p in phases)
-    clearance = max(plan["phaseYellowChange"][p] + plan["phaseRedClear"][p] for p in phases)
-    clear = max(revert, plan["unitRedRevert"][1], clearance)
-    others = [p for p in phases if p != c]
-    beside = [p for p in others if plan["phaseSide"][p] == plan["phaseSide"][c]]
-    own = [p for p in beside if plan["phaseRing"][p] == plan["phaseRing"][c]]
-    across = sum(turn(plan, clear, p) for p in beside if p not in own)
-    return sum(turn(plan, clear, p) for p in others) + clear + 2 + len(own) * across
+class Times:
+    """What a plan says of turns in pattern 1."""
+
+    def __init__(self, plan: Plan):
+        self.plan = plan
+        self.phases = [p for p, on in enumerate(plan["phaseEnabled"]) if on]
+        revert = max(plan["phaseRedRevert"][p] for p in self.phases)
+        clearance = max(plan["phaseYellowChange"][p] + plan["phaseRedClear"][p] for p in self.phases)
+        self.clear = max(revert, plan["unitRedRevert"][1], clearance)
+        self.begun = max(longest(plan, p) for p in self.phases) + 2 * self.clear + 1
+
+    def turns(self, phases: list[int]) -> int:
+        """The turns of some phases."""
+        return sum(longest(self.plan, p) + self.clear + 2 for p in phases)
+
+    def beside(self, c: int) -> tuple[list[int], list[int]]:
+        """The phases on the side of c, of its ring and of the other."""
+        here = [p for p in self.phases if self.plan["phaseSide"][p] == self.plan["phaseSide"][c]]
+        own = [p for p in here if self.plan["phaseRing"][p] == self.plan["phaseRing"][c]]
+        return own, [p for p in here if p not in own]
+
+    def to_return(self, c: int) -> int:
+        """Within how many ticks c is Green again, by the time that is stated and not proved."""
+        own, across = self.beside(c)
+        others = [p for p in self.phases if p != c]
+        return self.turns(others) + self.clear + 2 + (len(own) - 1) * self.turns(across)
+
+    def to_be_served(self, c: int) -> int:
+        """Within how many ticks c is Green if it stays called, by the time that is proved."""
+        own, across = self.beside(c)
+        wait = self.turns(across) + self.begun
+        leave = self.begun + 1 + wait + self.turns(own) + len(own) * (wait + 1)
+        elsewhere = self.turns([p for p in self.phases if p not in own + across]) + SIDES * (3 * self.clear + 3)
+        return self.clear + 1 + leave + elsewhere + self.turns(own) + self.clear + 2
 
 
 def start(bench: Any, rng: random.Random) -> State:
@@ -95,27 +141,28 @@ def run(bench: Any, seed: int, waits: Waits) -> None:
     for _ in range(rng.choice([0, rng.randint(1, 1000)])):
         state = bench.step(state, ("tick", next(inputs)))
     state = bench.step(state, ("pattern", 1))
-    cycle = 10 * state.plan["patternCycleTime"][1]
-    coordinated = [p for p in range(1, 17) if state.plan["splitCoordPhase"][p]]
-    since = dict.fromkeys(coordinated, 0)
-    limits = {c: time_to_return(state.plan, c) for c in coordinated}
+    times = Times(state.plan)
+    coordinated = [p for p in times.phases if state.plan["splitCoordPhase"][p]]
+    others = [p for p in times.phases if p not in coordinated and state.plan["splitMode"][p] != OMITTED]
+    since = dict.fromkeys(times.phases, 0)
     waits.phases += len(coordinated)
-    for _ in range(CYCLES * cycle):
+    for _ in range(CYCLES * 10 * state.plan["patternCycleTime"][1]):
         for c in coordinated:
             since[c] = 0 if state.interval[c] == bench.G else since[c] + 1
-            count(waits, seed, c, since[c], cycle, limits[c])
-        state = bench.step(state, ("tick", next(inputs)))
+            count(waits, seed, times, c, since[c])
+        after = bench.step(state, ("tick", next(inputs)))
+        for q in others:
+            since[q] = since[q] + 1 if is_called(bench, state, after, q) else 0
+            waits.called.see(seed, q, since[q], times.to_be_served(q))
+        state = after
 
 
-def count(waits: Waits, seed: int, c: int, since: int, cycle: int, limit: int) -> None:
-    """Counts a tick in which phase c has not been Green for so many ticks."""
+def count(waits: Waits, seed: int, times: Times, c: int, since: int) -> None:
+    """Counts a tick in which the coordinated phase c has not been Green for so many ticks."""
     waits.waits += since == 1
-    waits.long += since == cycle
-    if since > limit:
-        waits.broken += since == limit + 1
-    if since / limit > waits.share:
-        waits.share = since / limit
-        waits.worst = f"phase {c} of seed {seed}: {since} of {limit} ticks, in a cycle of {cycle}"
+    waits.long += since == 10 * times.plan["patternCycleTime"][1]
+    waits.stated.see(seed, c, since, times.to_return(c))
+    waits.proved.see(seed, c, since, times.to_be_served(c))
 
 
 def main() -> int:
@@ -128,9 +175,11 @@ def main() -> int:
     for seed in range(*given.seeds):
         run(bench, seed, waits)
     print(f"{given.seeds[1] - given.seeds[0]} runs: {waits.phases} coordinated phases waited {waits.waits} times, "
-          f"{waits.long} times for a cycle or more, at most {waits.share:.2f} of what is due ({waits.worst}), "
-          f"{waits.broken} breaches")
-    return 1 if waits.broken else 0
+          f"{waits.long} times for a cycle or more\n"
+          f"of the time that is stated {waits.stated.told()}\n"
+          f"of the time that is proved {waits.proved.told()}\n"
+          f"other phases that stayed called, of the time that is proved: {waits.called.told()}")
+    return 1 if waits.stated.broken + waits.proved.broken + waits.called.broken else 0
 
 
 if __name__ == "__main__":

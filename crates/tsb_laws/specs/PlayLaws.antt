@@ -1,6 +1,6 @@
 -- What the laws of runs say of one run: of its newest state, of the next input whatever that is, and of each stretch of
 -- it up to that state. Times are in tenths of a second, which are ticks.
-use Rattle.std.specs.Prelude.{◌≡◌, ◌≢◌, ℕ, suc, not, ◌+◌, ◌<◌, ◌≤◌, true, false, ◌||◌, List, ◌∷◌, ◌++◌, Some, None, ◌⊎◌}
+use Rattle.std.specs.Prelude.{◌≡◌, ◌≢◌, ℕ, suc, not, ◌+◌, ◌<◌, ◌≤◌, Bool, true, false, ◌||◌, List, ◌∷◌, ◌++◌, Some, None, ◌⊎◌}
 use Rattle.tsb_step.specs.tsb_cells.declared.timer.Timer.TheVariants.{Off}
 use Rattle.tsb_step.specs.tsb_types.declared.interval.Interval.TheVariants.{Green}
 use Rattle.tsb_step.specs.tsb_types.declared.lamp.Aspect.TheVariants.{Red}

@@ -311,12 +311,12 @@ module _ (plan : Plan) (base : List Input) (c : ℕ) where
       let seen = view_stays (replay plan (later ++ base)) i c refl out.1 (dark_now plan base later dark.0) in
       (ap (λ (v : View). v.plan) seen ∙ before.0, elim before.1 [ inl e ↦ inl e | inr same ↦ inr (ap (λ (v : View). v.now) seen ∙ same) ])
 
-pub served_in_time : (plan : Plan) (base later : List Input) (k j h : ℕ) (r : Ring) (c : ℕ) → IsConsistent plan → plan.phase_count ≤ 16 →
+pub served_in_pattern : (plan : Plan) (base later : List Input) (k j h : ℕ) (r : Ring) (c : ℕ) → IsConsistent plan → plan.phase_count ≤ 16 →
     AreTaken plan (later ++ base) → IsUntripped plan base later → IsFullyConcurrent (replay plan base).plan →
     runs (replay plan base) ≡ Some k → in_ring (replay plan base).plan r c ≡ true →
     TurnsInPattern (replay plan base).plan k j h → HasGoneOn (is_called_in_pattern c) plan base later →
     (replay plan (later ++ base)).now ≤ (replay plan base).now + time_to_be_served (replay plan base) k j h r c
-served_in_time plan base later k j h r c ok few taken dark full running own times out = go (on_or_still plan base c later dark out).1
+served_in_pattern plan base later k j h r c ok few taken dark full running own times out = go (on_or_still plan base c later dark out).1
   where
     go : (is_enabled (replay plan base).plan c ≡ true) ⊎ ((replay plan (later ++ base)).now ≡ (replay plan base).now) →
         (replay plan (later ++ base)).now ≤ (replay plan base).now + time_to_be_served (replay plan base) k j h r c
@@ -363,5 +363,5 @@ pub coordinated_in_time : (plan : Plan) (base later : List Input) (k j h : ℕ) 
     (replay plan (later ++ base)).now ≤ (replay plan base).now + time_to_be_served (replay plan base) k j h r c
 coordinated_in_time plan base later k j h r c ok few taken dark full running own times out =
     let good = good_run plan base ok (taken_before plan base later taken) in
-    served_in_time plan base later k j h r c ok few taken dark full running own times
+    served_in_pattern plan base later k j h r c ok few taken dark full running own times
     (called_on plan base c ok (ringed_is_phase (replay plan base).plan good.plan r c own) later taken out)

@@ -45,7 +45,7 @@ use Rattle.tsb_laws.proofs.operation.CoordinatedCallLemmas.{awaited}
 use Rattle.tsb_laws.proofs.operation.CoordinatedInstantLemmas.{instants_come}
 use Rattle.tsb_laws.proofs.operation.CoordinatedRunLemmas.{forced_may_end}
 use Rattle.tsb_laws.proofs.operation.CoordinatedBarrierLemmas.{makes_way_or_kept}
-use Rattle.tsb_laws.proofs.operation.ReturnRunLemmas.{served_in_time, coordinated_in_time}
+use Rattle.tsb_laws.proofs.operation.ReturnRunLemmas.{served_in_pattern, coordinated_in_time}
 use Rattle.tsb_laws.proofs.safety.AllRedLemmas.{all_red_ends}
 use Rattle.tsb_laws.proofs.safety.CoordinationLemmas.{ends_by_force_off, omits_hold}
 use Rattle.tsb_laws.proofs.safety.CrossingLemmas.{completes_in_time}
@@ -133,7 +133,7 @@ module _ (plan : Plan) (held : IsHeld plan) where
     coordination_goes_on_ends = λ dark row r p quiet full own green fit pressed.
         makes_way_or_kept plan is row r p ok (few plan held) taken dark quiet full own green fit pressed;
     phases_are_served_in_patterns_called = λ base later k j h r c e dark full running own times out.
-        rw e (served_in_time plan base later k j h r c ok (few plan held) (rw e at taken) dark full running own times out);
+        rw e (served_in_pattern plan base later k j h r c ok (few plan held) (rw e at taken) dark full running own times out);
     phases_are_served_in_patterns_coordinated = λ base later k j h r c e dark full running own times out.
         rw e (coordinated_in_time plan base later k j h r c ok (few plan held) (rw e at taken) dark full running own times out);
   }
