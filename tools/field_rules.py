@@ -394,8 +394,9 @@ class Read:
         self.is_found, self.form = False, None
 
 
-def taken(lines, begin, device, wires, form=None, zone=None, window=None):
-    """What was read of lines; where there is a window of seconds, rows are sorted that are no later. A fault is raised."""
+def taken(lines, begin, device, wires, form=None, zone=None, window=None, is_all=True):
+    """What was read of lines; where there is a window of seconds, rows are sorted that are no later, and where the lines
+    are not all, some are not given out yet. A fault is raised."""
     read, is_named, places, mark = Read(), form is not None, None, None
     events, held, latest = read.events, [], 0
 
@@ -457,7 +458,7 @@ def taken(lines, begin, device, wires, form=None, zone=None, window=None):
         latest = max(latest, at)
         if held[0][0] < latest - window * SECOND:
             give(*held.pop(0))
-    for row in held:
+    for row in held if is_all else ():
         give(*row)
     return read
 
@@ -488,10 +489,10 @@ def log(text, begin, device=None, mapped=(), form=None, zone=None, is_counted=Fa
     return 0 if is_heard else 1, log_of_events(begin, wires, read.events), told
 
 
-def begun_log(text, begin, device=None, mapped=()):
+def begun_log(text, begin, device=None, mapped=(), window=None):
     """What is known of the log where the text goes on, or reading fails behind it: its last line is not whole."""
     wires = wires_of(mapped)
-    return known_log(begin, wires, taken(lines_of(text)[:-1], begin, device, wires).events)
+    return known_log(begin, wires, taken(lines_of(text)[:-1], begin, device, wires, window=window, is_all=False).events)
 
 
 def remaining(text):

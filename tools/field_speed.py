@@ -93,6 +93,7 @@ def main(words):
         print(line("log of those events", [field, "log", *FROM], events, told))
         write_export(export)
         print(line(f"log of {ROWS} rows", [field, "log", *FROM, "--device=1001"], export, told))
+        print(line(f"log --sort of {ROWS} rows", [field, "log", *FROM, "--device=1001", "--sort"], export, told))
 
 
 if __name__ == "__main__":

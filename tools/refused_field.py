@@ -26,12 +26,18 @@ EVENTS = field_rules.HEADER + b"".join(
 # The same with the month first, which is told.
 MONTH_FIRST = EVENTS.replace(b"2026-11-22", b"11/22/2026")
 
-# Words of `log`, what is read, and the device and the wires that the words name.
+# The same with each second row before the one above it, which is a second late then.
+TURNED = field_rules.HEADER + b"".join(
+    second + first for first, second in zip(*[iter(EVENTS.splitlines(True)[1:])] * 2))
+
+# Words of `log`, what is read, and the device, the wires and the window that the words name.
 LOGS = [
     (["log", *FROM, "--device", "7", "--vehicle", "40=3"], EVENTS, b"7", [("vehicle", 40, 3)]),
     (["log", *FROM], EVENTS + b"x\n", None, []),
     (["log", *FROM, "--count", "--zone=Z"], MONTH_FIRST, None, []),
     (["log", *FROM, "--count", "--device=9"], EVENTS, b"9", []),
+    (["log", *FROM, "--sort-within=1"], TURNED, None, [], 1),
+    (["log", *FROM, "--sort"], EVENTS + b"x\n", None, [], 60),
 ]
 
 # Words, and what is read.
