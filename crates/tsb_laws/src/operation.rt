@@ -295,7 +295,7 @@ pub fn coordination_goes_on()
 ///
 /// Needs: a plan in which all phases of one side and of different rings are concurrent; no pattern selected and nothing
 /// committed meanwhile; an untripped run; at most 16 phases.
-/// Not said: that it is Green in every cycle; docs/SAFETY.md says why that is false.
+/// Not said: that its walk begins; anything of a time in which a preempt is in service.
 /// Mistake: a ring that looks across the barrier for its own phases alone, `by_own_ring` (`may_end_2`, `has_conflict_2`,
 /// `would_rest`).
 /// Witness: `a_wait` of CoordinatedRuns.
@@ -304,7 +304,7 @@ pub fn coordination_goes_on()
 /// as it is called by its pattern.
 ///
 /// Needs: as `called`.
-/// Not said: as `called`.
+/// Not said: that it is Green in every cycle; docs/SAFETY.md says why that is false.
 /// Mistake: a pattern that gives its coordinated phases no recall, `by_itself` (`would_not_be_called`).
 /// Witness: `a_return` of CoordinatedRuns.
 pub fn phases_are_served_in_patterns()
