@@ -186,9 +186,9 @@ def note_faults(programs: Programs, texts: int, seed: int) -> list[str]:
         lines = [*told, *advices] if status == REVIEWED else [*line.splitlines(), *told]
         if answer != (status, "".join(f"{it}\n" for it in lines), ""):
             faults.append(f"{text}: {answer}, by the reading {lines}")
-        where = line.removeprefix("plan: ").removesuffix(": not a whole number\n")
-        if where + "\n" != line.removeprefix("plan: ") and not any(it.startswith(f"{where}: ") for it in told):
-            faults.append(f"{text}: nothing is told of {where}")
+        where = re.fullmatch(r"plan: (.*): not a whole number\n", line)
+        if where and not any(re.match(rf"{re.escape(where[1])}: .* is no whole number", it) for it in told):
+            faults.append(f"{text}: nothing is told of {where[1]}")
     print(f"texts with each line: {', '.join(f'{kind} {count}' for kind, count in counted.items())}")
     return [*faults, *(f"no text has `{kind}`" for kind in KINDS if not counted[kind])]
 
