@@ -12,6 +12,7 @@ APART = b"A39 overlap 1: it includes phases 1 and 8 of two rings that are not co
 REST = b"A14 phase %d: it rests in walk, and its clearance of 12 s can end after the force-off of phase 3 in pattern 1\n"
 YIELD = (b"A32 pattern 1: its coordinated phases yield in one tick of each cycle of 90 s, "
          b"so a later call waits for the next one\n")
+SHORT_YELLOW = b"K8 phase 2: its yellow is 2.9 s, under 3 s\n"
 REVIEWS = {
     "first_plan.json": NO_REVERT % 2,
     "one_way_pair.json": NO_REVERT % 2,
@@ -28,8 +29,8 @@ def runs() -> Iterator[Run]:
         yield Run(["review", name], 3, b"", WRITE, stdout=FULL)
         yield Run(["review", name], 3, b"", b"", stdout=FULL, stderr=FULL)
     for name, line in [
-        ("two_short_yellow.json", RULE), ("car.log", b"plan: not JSON\n"), (ENDLESS, b"plan: too large\n"),
-        ("/dev/null", b"plan: not JSON\n"), ("main_and_oak_1.json", b"plan: rule K1\n"),
+        ("two_short_yellow.json", RULE + SHORT_YELLOW), ("car.log", b"plan: not JSON\n"), (ENDLESS, b"plan: too large\n"),
+        ("/dev/null", b"plan: not JSON\n"), ("main_and_oak_1.json", b"plan: rule K1\nK1 unit: no phase is enabled\n"),
     ]:
         yield Run(["review", name], 1, line, b"", stdin=TORN)
         yield Run(["review", name], 3, b"", WRITE, stdout=FULL)

@@ -6,8 +6,9 @@
 FIELD is the program tsb_field. It reviews the plans of tools/review_cases.py, the plans of examples/, and as many at
 random as PLANS says (3,000): changes of these. What it answers is compared with tools/review_rules.py, and of the cases
 also with their own lines. Each advice has to occur in both. Of a plan that breaks a rule it has to answer what TSB, the
-program tsb, says to `check`. The example of each advice in docs/MANUAL.md, and the reviews of its plans, have to be what
-it answers. As many texts at random, in which names come twice and values are no whole numbers, are compared with
+program tsb, says to `check`, and then where: that is compared with tools/breach_rules.py, on the plans of
+tools/breach_cases.py, also with their own lines, and on as many at random (tools/breach_checks.py). The example of each
+advice in docs/MANUAL.md, and the reviews of its plans, have to be what it answers. As many texts at random, in which names come twice and values are no whole numbers, are compared with
 tools/review_notes.py. TSB also runs tools/review_runs.py, which show in runs what some advices warn of.
 """
 import collections
@@ -21,6 +22,9 @@ import subprocess
 import sys
 import tempfile
 
+import breach_cases
+import breach_checks
+import breach_rules
 import review_cases
 import review_notes
 import review_rules
@@ -36,6 +40,8 @@ REVIEWED_PLANS = ["first_plan.json", "main_and_oak.json", "tee.json", "one_way_p
 KINDS = ["it stands twice", "is no whole number: seconds", "is no whole number: tenths of a second, ", "is no whole number: minutes"]
 # What a review ends with.
 REVIEWED, REFUSED = 0, 1
+# What `tsb check` says of a plan that breaks a rule begins so.
+RULE = "plan: rule "
 ADVICES = 41
 # Display lines have so many characters.
 DISPLAY = 53
@@ -112,14 +118,28 @@ class Programs:
         return done.returncode, done.stdout, done.stderr
 
     def answer(self, plan: Table) -> list[str] | None:
-        """The lines of a review, or none where the plan breaks a rule, as `tsb check` says."""
+        """The lines of a review, or none where the plan breaks a rule."""
+        status, lines = self.lines(plan)
+        return lines if status == REVIEWED else None
+
+    def lines(self, plan: Table) -> tuple[int, list[str]]:
+        """The status and the lines of a review, but for the first of a plan that is refused: that is what `tsb check` says,
+        and names the rule of the next line."""
         text = json.dumps({"version": 2, **plan})
         status, written, errors = self.told(self.field, "review", text=text)
         assert not errors, errors
+        lines = written.splitlines()
         if status == REVIEWED:
-            return written.splitlines()
-        assert (status, written, "") == self.told(self.tsb, "check", text=text) and status == REFUSED, (text, status, written)
-        return None
+            return status, lines
+        checked = self.told(self.tsb, "check", text=text)
+        assert (status, f"{lines[0]}\n", "") == checked and status == REFUSED, (text, status, written)
+        assert lines[0] == f"plan: rule {lines[1].split(' ')[0]}", (text, lines)
+        return status, lines[1:]
+
+    def breaches(self, plans: list[Table]) -> list[list[str]]:
+        """The lines of each plan that say where it breaks rules: none of one that meets them."""
+        with concurrent.futures.ThreadPoolExecutor() as pool:
+            return [lines if status == REFUSED else [] for status, lines in pool.map(self.lines, plans)]
 
     def answers(self, plans: list[Table]) -> list[list[str] | None]:
         """The same of each plan."""
@@ -183,7 +203,8 @@ def note_faults(programs: Programs, texts: int, seed: int) -> list[str]:
         told = review_notes.notes(text.encode())
         counted.update(kind for kind in KINDS for it in told if kind in it)
         advices = review_rules.review(review_notes.counting(text)) if status == REVIEWED else []
-        lines = [*told, *advices] if status == REVIEWED else [*line.splitlines(), *told]
+        breaches = breach_rules.breaches(review_notes.counting(text)) if line.startswith(RULE) else []
+        lines = [*told, *advices] if status == REVIEWED else [*line.splitlines(), *told, *breaches]
         if answer != (status, "".join(f"{it}\n" for it in lines), ""):
             faults.append(f"{text}: {answer}, by the reading {lines}")
         where = re.fullmatch(r"plan: (.*): not a whole number\n", line)
@@ -206,6 +227,7 @@ def manual_faults(programs: Programs) -> list[str]:
         told = programs.told(programs.field, "review", text=(TOP / "examples" / name).read_text())
         if told != (REVIEWED, block, ""):
             faults.append(f"the manual's review of {name}: {told}")
+    faults += breach_faults(programs, text)
     shown = set()
     for change, advice, line in re.findall(r"((?:`\w+\.\d+` \d+(?:, )?)+): `A(\d+) ([^`]+)`", text):
         shown.add(int(advice))
@@ -214,6 +236,15 @@ def manual_faults(programs: Programs) -> list[str]:
         if not [it for it in lines if it.startswith(f"A{advice} ")][:1] == [f"A{advice} {line}"]:
             faults.append(f"the manual's example of A{advice}: {lines}")
     return [*faults, *(f"no example of A{n} in the manual" for n in range(1, ADVICES + 1) if n not in shown)]
+
+
+def breach_faults(programs: Programs, text: str) -> list[str]:
+    """What the manual's example of a refused plan has otherwise: the plan is one of examples/ with the values before it."""
+    change, name, block = re.search(r"^`\S+` with ((?:.|\n)*?), which.*\n\n^```breaches (\S+)\n(.*?)^```$", text, re.M | re.S).groups()  # type: ignore[union-attr]
+    values = {at: int(value) for at, value in re.findall(r"`(\w+\.\d+)` (\d+)", change)}
+    plan = review_cases.changed(review_cases.example(name.removesuffix(".json")), values)
+    lines = programs.breaches([plan])[0]
+    return [] if lines == block.splitlines() else [f"the manual's breaches: {lines}"]
 
 
 def run_faults(programs: Programs) -> list[str]:
@@ -233,14 +264,15 @@ def run_faults(programs: Programs) -> list[str]:
 
 
 def main(words: list[str]) -> int:
-    """Runs all five, and says what differs."""
+    """Runs all seven, and says what differs."""
     programs = Programs(*(str(pathlib.Path(word).resolve()) for word in words[:2]))
     plans, seed = int(words[2]) if len(words) > 2 else 3_000, int(words[3]) if len(words) > 3 else 1
     faults = [*case_faults(programs), *random_faults(programs, plans, seed), *note_faults(programs, plans, seed),
+              *breach_checks.case_faults(programs.breaches), *breach_checks.random_faults(programs.breaches, plans, seed),
               *manual_faults(programs), *run_faults(programs)]
     for fault in faults[:20]:
         print(fault)
-    passed = len(review_cases.CASES) + len(review_runs.RUNS) + 3
+    passed = len(review_cases.CASES) + len(breach_cases.CASES) + len(review_runs.RUNS) + 4
     print(f"0 passed, {len(faults)} failed" if faults else f"{passed} passed, 0 failed")
     return 1 if faults else 0
 

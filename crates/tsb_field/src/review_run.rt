@@ -1,20 +1,20 @@
-//! `review`: a plan in, the lines of what can be wrong with it out.
+//! `review`: a plan in, the lines of what can be wrong with it out, or of where it breaks a rule.
 ghost use Rattle.std.specs.Prelude.{◌≡◌, ◌++◌, IfOk, OnErr, OnOk, true};
 ghost use Rattle.tsb_lines.specs.Writes.{AppendsFront};
 ghost use Rattle.tsb_program.specs.Lines.{plan_line};
 ghost use Rattle.tsb_program.specs.Statuses.{number};
 ghost use Rattle.tsb_program.specs.tsb_watched.Seen.{GoesOut, seen};
-ghost use Rattle.tsb_review_text.specs.Lines.{review_text};
+ghost use Rattle.tsb_review_text.specs.Lines.{breaches_text, review_text};
 ghost use Rattle.tsb_text.specs.tsb_plan.PlanOf.{plan_of};
-ghost use Rattle.tsb_field.specs.ReviewEnds.{Answered, FaultAnswered, Reviewed, TextAnswered, TextReviewed};
+ghost use Rattle.tsb_field.specs.ReviewEnds.{Answered, FaultAnswered, PlacesAnswered, Reviewed, RuleAnswered, TextAnswered, TextReviewed};
 
 use std::alloc::{AllocError, Global};
 use std::io::Write;
 use tsb_plan_notes::notes;
-use tsb_plan_text::{LIMIT, PlanError, read_plan};
+use tsb_plan_text::{LIMIT, PlanError, read_plan, read_unchecked};
 use tsb_program::{Failure, Files, Status, Watched, fail, line_of, read_file, write_line};
-use tsb_review_text::write_review;
-use tsb_text::Plan;
+use tsb_review_text::{write_breaches, write_review};
+use tsb_text::{Plan, Rule};
 use tsb_watched::WriteError;
 
 /// Reviews the plan in a file, and gives the status that the program ends with. Of a file that is too large one byte more
@@ -65,6 +65,7 @@ fn answer_text<W: Write, E: Write>(
     match read_plan(alloc, text) {
         Ok(plan) => answer_plan(notes, plan.plan(), output, errors),
         Err(PlanError::Memory) => fail(errors, Failure::Memory),
+        Err(PlanError::Rule(rule)) => answer_rule(alloc, text, rule, notes, output, errors),
         Err(fault) => answer_fault(alloc, fault, notes, output, errors),
     }
 }
@@ -130,6 +131,91 @@ fn answer_fault<W: Write, E: Write>(
     match fault_text(alloc, fault, notes) {
         Ok(text) => answer(output, errors, Status::Refused, &text),
         Err(_) => fail(errors, Failure::Memory),
+    }
+}
+
+/// Answers with the first rule that a plan breaks, as `tsb check` tells it, what is noted of its text, and each place at
+/// which it breaks a rule.
+fn answer_rule<W: Write, E: Write>(
+    alloc: Global,
+    text: &[u8],
+    rule: Rule,
+    notes: &[u8],
+    output: &mut Watched<W>,
+    errors: &mut Watched<E>,
+) -> u8
+    ensures { RuleAnswered text.now rule notes.now result
+        (seen W.contents output.old) (seen W.contents output.new) (seen E.contents errors.old) (seen E.contents errors.new) }
+{
+    match read_unchecked(alloc, text) {
+        Ok(plan) => answer_places(alloc, &plan, rule, notes, output, errors),
+        Err(_) => fail(errors, Failure::Memory),
+    }
+}
+
+/// Answers with a rule that a plan breaks, what is noted of its text, and each place at which it breaks a rule.
+fn answer_places<W: Write, E: Write>(
+    alloc: Global,
+    plan: &Plan,
+    rule: Rule,
+    notes: &[u8],
+    output: &mut Watched<W>,
+    errors: &mut Watched<E>,
+) -> u8
+    ensures { PlacesAnswered (plan_of plan.now) rule notes.now result
+        (seen W.contents output.old) (seen W.contents output.new) (seen E.contents errors.old) (seen E.contents errors.new) }
+{
+    match fault_text(alloc, PlanError::Rule(rule), notes) {
+        Ok(text) => answer_refused(&text, plan, output, errors),
+        Err(_) => fail(errors, Failure::Memory),
+    }
+}
+
+/// Answers with a text, and each place at which a plan breaks a rule.
+fn answer_refused<W: Write, E: Write>(
+    text: &[u8],
+    plan: &Plan,
+    output: &mut Watched<W>,
+    errors: &mut Watched<E>,
+) -> u8
+    ensures { Answered result 1 (text.now ++ breaches_text (plan_of plan.now))
+        (seen W.contents output.old) (seen W.contents output.new) (seen E.contents errors.old) (seen E.contents errors.new) }
+{
+    match write_places(text, plan, output) {
+        Ok(()) => Status::Refused.number(),
+        Err(_) => fail(errors, Failure::Write),
+    }
+}
+
+/// Writes a text, and each place at which a plan breaks a rule, and has the writer pass it on. At an error its first bytes
+/// may have gone out.
+fn write_places<W: Write>(
+    text: &[u8],
+    plan: &Plan,
+    output: &mut Watched<W>,
+) -> Result<(), WriteError>
+    ensures whole { OnOk result (GoesOut (seen W.contents output.old) (seen W.contents output.new) (text.now ++ breaches_text (plan_of plan.now))) }
+    ensures front { AppendsFront (W.contents output.old.device) (W.contents output.new.device) (text.now ++ breaches_text (plan_of plan.now)) }
+    ensures blame { OnErr result (output.new.failed ≡ true) }
+    ensures well { OnOk result (output.new.failed ≡ output.old.failed) }
+{
+    match output.write_text(text) {
+        Ok(()) => pass_places(plan, output),
+        Err(fault) => Err(fault),
+    }
+}
+
+/// Writes each place at which a plan breaks a rule, and has the writer pass it on. At an error its first bytes may have gone
+/// out.
+fn pass_places<W: Write>(plan: &Plan, output: &mut Watched<W>) -> Result<(), WriteError>
+    ensures whole { OnOk result (GoesOut (seen W.contents output.old) (seen W.contents output.new) (breaches_text (plan_of plan.now))) }
+    ensures front { AppendsFront (W.contents output.old.device) (W.contents output.new.device) (breaches_text (plan_of plan.now)) }
+    ensures blame { OnErr result (output.new.failed ≡ true) }
+    ensures well { OnOk result (output.new.failed ≡ output.old.failed) }
+{
+    match write_breaches(plan, output) {
+        Ok(()) => Watched::pass_on(output),
+        Err(fault) => Err(fault),
     }
 }
 

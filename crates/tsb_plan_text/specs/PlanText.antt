@@ -106,3 +106,7 @@ unfoldable pub reading : List ℕ → Result Plan Error
 reading text =
     if nat_lt limit (length text) then Err too_large else
     or_fault (data_of text) not_json (λ d. then_on (data_plan d) checked)
+
+-- the plan that a text gives, whether it breaks a rule or not, or the first fault
+unfoldable pub drafted : List ℕ → Result Plan Error
+drafted text = if nat_lt limit (length text) then Err too_large else or_fault (data_of text) not_json data_plan

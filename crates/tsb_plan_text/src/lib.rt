@@ -13,5 +13,5 @@ mod read;
 mod rules;
 
 pub use error::PlanError;
-pub use read::{LIMIT, read_plan};
+pub use read::{LIMIT, read_plan, read_unchecked};
 pub use rules::rule_line;

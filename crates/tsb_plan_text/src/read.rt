@@ -6,7 +6,7 @@ ghost use Rattle.tsb_objects.specs.Checked.{checked_plan};
 ghost use Rattle.tsb_plan.specs.PlanOf.{plan_of};
 ghost use Rattle.tsb_plan_text.specs.PlanErrors.{Gives, Makes, not_json};
 ghost use Rattle.tsb_plan_text.specs.PlanTextSays.{Says};
-ghost use Rattle.tsb_plan_text.specs.PlanText.{reading, data_plan, or_fault, with_member, with_members, data_of};
+ghost use Rattle.tsb_plan_text.specs.PlanText.{drafted, reading, data_plan, or_fault, with_member, with_members, data_of};
 
 use crate::error::PlanError;
 use crate::listed::Listed;
@@ -44,6 +44,20 @@ pub fn read_plan(alloc: Global, text: &[u8]) -> Result<Checked, PlanError>
     }
     versions_say_the_same();
     read_short(alloc, text)
+}
+
+/// The plan that the text gives, whether it meets the rules or not.
+///
+/// An `Err` is as that of `read_plan`, but never `Rule`.
+#[tactic(auto, unfolding(crate::specs::PlanText::drafted))]
+pub fn read_unchecked(alloc: Global, text: &[u8]) -> Result<Plan, PlanError>
+    ensures { Gives plan_of result (drafted text.now) }
+{
+    if text.len() > LIMIT {
+        return Err(PlanError::TooLarge);
+    }
+    let value = parse(alloc, text)?;
+    read_value(alloc, &value)
 }
 
 /// The plan that a text of at most `LIMIT` bytes gives, checked.
