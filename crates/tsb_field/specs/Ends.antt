@@ -185,7 +185,7 @@ DidWish (recording from device plan file goes_on) status files input left old ne
     Recorded status from device (on_fault_of goes_on) plan file files input left old new told tells
 DidWish (events from device path) status files input left old new told tells = Told status from device files path input left old new told tells
 DidWish (diagram path title seconds) status files input left old new told tells = Pictured status (title_of title) (seconds_of seconds) files path input left old new told tells
-DidWish (reviewing plan) status files input left old new told tells = (left ≡ input) × Reviewed status (files plan) old new told tells
+DidWish (reviewing plan) status files input left old new told tells = (left ≡ input) × Reviewed status plan (files plan) old new told tells
 
 -- what was done for what the words ask
 abbrev pub Did : Result Asked WordsError → ℕ → (List ℕ → Option (List ℕ)) → (input left old new told tells : Seen) → Type 0

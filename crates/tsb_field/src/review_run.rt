@@ -1,8 +1,8 @@
 //! `review`: a plan in, the lines of what can be wrong with it out, or of where it breaks a rule.
 ghost use Rattle.std.specs.Prelude.{◌≡◌, ◌++◌, IfOk, OnErr, OnOk, true};
 ghost use Rattle.tsb_lines.specs.Writes.{AppendsFront};
-ghost use Rattle.tsb_program.specs.Lines.{plan_line};
 ghost use Rattle.tsb_program.specs.Statuses.{number};
+ghost use Rattle.tsb_program.specs.Told.{plan_lines};
 ghost use Rattle.tsb_program.specs.tsb_watched.Seen.{GoesOut, seen};
 ghost use Rattle.tsb_review_text.specs.Lines.{breaches_text, review_text};
 ghost use Rattle.tsb_text.specs.tsb_plan.PlanOf.{plan_of};
@@ -12,7 +12,9 @@ use std::alloc::{AllocError, Global};
 use std::io::Write;
 use tsb_plan_notes::notes;
 use tsb_plan_text::{LIMIT, PlanError, read_plan, read_unchecked};
-use tsb_program::{Failure, Files, Status, Watched, fail, line_of, read_file, write_line};
+use tsb_program::{
+    Failure, Files, Status, Watched, fail, fail_file, plan_lines, read_file, write_line,
+};
 use tsb_review_text::{write_breaches, write_review};
 use tsb_text::{Plan, Rule};
 use tsb_watched::WriteError;
@@ -26,12 +28,12 @@ pub(crate) fn review_plan<F: Files, W: Write, E: Write>(
     output: &mut Watched<W>,
     errors: &mut Watched<E>,
 ) -> u8
-    ensures { Reviewed result (F.bytes files.now path.now)
+    ensures { Reviewed result path.now (F.bytes files.now path.now)
         (seen W.contents output.old) (seen W.contents output.new) (seen E.contents errors.old) (seen E.contents errors.new) }
 {
     match read_file(alloc, files, path, LIMIT + 1) {
         Ok(text) => review_text(alloc, &text, output, errors),
-        Err(fault) => fail(errors, fault.failure()),
+        Err(fault) => fail_file(errors, path, fault),
     }
 }
 
@@ -66,7 +68,7 @@ fn answer_text<W: Write, E: Write>(
         Ok(plan) => answer_plan(notes, plan.plan(), output, errors),
         Err(PlanError::Memory) => fail(errors, Failure::Memory),
         Err(PlanError::Rule(rule)) => answer_rule(alloc, text, rule, notes, output, errors),
-        Err(fault) => answer_fault(alloc, fault, notes, output, errors),
+        Err(fault) => answer_fault(alloc, text, fault, notes, output, errors),
     }
 }
 
@@ -117,18 +119,20 @@ fn write_passed<W: Write>(plan: &Plan, output: &mut Watched<W>) -> Result<(), Wr
     }
 }
 
-/// Answers with the fault of a plan, as `tsb check` tells it, and what is noted of its text.
+/// Answers with the fault of a plan, as `tsb check` tells it, the place at which its text stops being JSON, and what is
+/// noted of its text.
 fn answer_fault<W: Write, E: Write>(
     alloc: Global,
+    text: &[u8],
     fault: PlanError,
     notes: &[u8],
     output: &mut Watched<W>,
     errors: &mut Watched<E>,
 ) -> u8
-    ensures { FaultAnswered fault notes.now result
+    ensures { FaultAnswered text.now fault notes.now result
         (seen W.contents output.old) (seen W.contents output.new) (seen E.contents errors.old) (seen E.contents errors.new) }
 {
-    match fault_text(alloc, fault, notes) {
+    match fault_text(alloc, text, fault, notes) {
         Ok(text) => answer(output, errors, Status::Refused, &text),
         Err(_) => fail(errors, Failure::Memory),
     }
@@ -165,7 +169,7 @@ fn answer_places<W: Write, E: Write>(
     ensures { PlacesAnswered (plan_of plan.now) rule notes.now result
         (seen W.contents output.old) (seen W.contents output.new) (seen E.contents errors.old) (seen E.contents errors.new) }
 {
-    match fault_text(alloc, PlanError::Rule(rule), notes) {
+    match fault_text(alloc, &[], PlanError::Rule(rule), notes) {
         Ok(text) => answer_refused(&text, plan, output, errors),
         Err(_) => fail(errors, Failure::Memory),
     }
@@ -219,15 +223,18 @@ fn pass_places<W: Write>(plan: &Plan, output: &mut Watched<W>) -> Result<(), Wri
     }
 }
 
-/// The line of a fault of a plan, and what is noted of its text.
-fn fault_text(alloc: Global, fault: PlanError, notes: &[u8]) -> Result<Vec<u8>, AllocError>
-    ensures { IfOk result (λ text. text.items ≡ plan_line fault ++ notes.now) }
+/// The lines of a fault of a plan with this text, and what is noted of the text.
+fn fault_text(
+    alloc: Global,
+    text: &[u8],
+    fault: PlanError,
+    notes: &[u8],
+) -> Result<Vec<u8>, AllocError>
+    ensures { IfOk result (λ lines. lines.items ≡ plan_lines fault text.now ++ notes.now) }
 {
-    let line = line_of(alloc, fault)?;
-    let mut text = Vec::new(alloc);
-    text.extend_from_slice(line.as_bytes())?;
-    text.extend_from_slice(notes)?;
-    Ok(text)
+    let mut lines = plan_lines(alloc, fault, text)?;
+    lines.extend_from_slice(notes)?;
+    Ok(lines)
 }
 
 /// Answers with a text.

@@ -86,10 +86,15 @@ PlanRead (Ok found) known = HasPlan known (checked_plan found)
 PlanRead (Err (faults.Refused fault)) known = RefusesPlan known fault
 PlanRead (Err (faults.Failed why)) known = Unit {0}
 
--- where the text of a plan stops being JSON, where it is refused as none
+-- where the text of a plan stops being JSON, where its fault is that it is none
+abbrev pub fault_place : PlanError → List ℕ → Option JsonPlace
+fault_place told.NotJson text = json_place text
+fault_place fault text = None
+
+-- the same of why there is no plan
 abbrev pub place_of : ReadError PlanError → List ℕ → Option JsonPlace
-place_of (faults.Refused told.NotJson) text = json_place text
-place_of why text = None
+place_of (faults.Refused fault) text = fault_place fault text
+place_of (faults.Failed why) text = None
 
 -- the same beside why a text gives no plan
 abbrev pub placed : Result Checked (ReadError PlanError) → List ℕ → Result Checked PlanFault
@@ -105,7 +110,7 @@ PlanPlaced text_of (Err why) result = result ≡ Err (record { why = faults.Fail
 -- the file has a text that gives no plan, for this fault, which is not out of memory; and this is its place
 abbrev pub RefusesPlanAt : Option (List ℕ) → PlanError → Option JsonPlace → Type 0
 RefusesPlanAt known fault place =
-    (text : List ℕ) × IsFront known 1048577 text × Tells fault (reading text) × (fault ≡ told.Memory → ⊥) × (place ≡ place_of (faults.Refused fault) text)
+    (text : List ℕ) × IsFront known 1048577 text × Tells fault (reading text) × (fault ≡ told.Memory → ⊥) × (place ≡ fault_place fault text)
 
 -- why the file gives no plan, and the place in its text
 abbrev pub HasNoPlan : ReadError PlanError → Option JsonPlace → Option (List ℕ) → Type 0

@@ -8,6 +8,7 @@ use Rattle.tsb_text.specs.declared.error.SessionError.{SessionError}
 use Rattle.tsb_text.specs.declared.error.SessionError.TheVariants as ends
 use Rattle.tsb_program.specs.Failures.{Fails}
 use Rattle.tsb_program.specs.Lines.{log_line, plan_line}
+use Rattle.tsb_program.specs.Read.{fault_place}
 use Rattle.tsb_program.specs.declared.failure.Failure.TheVariants.{Memory, Input, Write}
 use Rattle.tsb_program.specs.declared.files.Cause.{Cause}
 use Rattle.tsb_program.specs.declared.files.Cause.TheVariants.{NoSuchFile, NotPermitted, Folder, Other}
@@ -55,6 +56,10 @@ FailsToReadFile name status told tells = (why : FileError) × FailsFile name why
 abbrev pub place_line : Option JsonPlace → List ℕ
 place_line None = []
 place_line (Some place) = codes "plan " ++ (place_text place ++ 10 ∷ [])
+
+-- the lines of a fault of a plan with this text: that of the fault, and that of the place at which the text stops being JSON
+abbrev pub plan_lines : PlanError → List ℕ → List ℕ
+plan_lines fault text = plan_line fault ++ place_line (fault_place fault text)
 
 -- a plan is refused with 1: its fault is told, and in a second line where its text stops being JSON
 abbrev pub RefusesAt : PlanError → Option JsonPlace → ℕ → Seen → Seen → Type 0

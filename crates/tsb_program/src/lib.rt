@@ -15,5 +15,5 @@ pub use files::{Cause, Disk, FileError, Files, read_file};
 pub use lines::{line_of, tell, write_line};
 pub use read::{PlanFault, ReadError, log_of, plan_of, plan_or_place};
 pub use status::Status;
-pub use told::{refuse_log, refuse_plan, tell_input_end};
+pub use told::{fail_file, plan_lines, refuse_log, refuse_plan, tell_input_end};
 pub use tsb_watched::Watched;

@@ -1,6 +1,6 @@
 //! Files that are read, and what they give.
 ghost use Rattle.std.specs.Prelude.{◌≡◌, vec_items};
-ghost use Rattle.tsb_program.specs.Read.{LogIn, LogRead, PlanFound, PlanIn, PlanPlaced, PlanRead, log_made, place_of, placed, plan_made};
+ghost use Rattle.tsb_program.specs.Read.{LogIn, LogRead, PlanFound, PlanIn, PlanPlaced, PlanRead, fault_place, log_made, place_of, placed, plan_made};
 
 use crate::files::{FileError, Files, read_file};
 use std::alloc::Global;
@@ -124,7 +124,17 @@ fn place_of(why: &ReadError<PlanError>, text: &[u8]) -> Option<JsonPlace>
     ensures { result ≡ place_of why.now text.now }
 {
     match why {
-        ReadError::Refused(PlanError::NotJson) => json_place(text),
+        ReadError::Refused(fault) => fault_place(fault, text),
+        ReadError::Failed(_) => None,
+    }
+}
+
+/// Where a text stops being JSON, where its fault is that it is none.
+pub(crate) fn fault_place(fault: &PlanError, text: &[u8]) -> Option<JsonPlace>
+    ensures { result ≡ fault_place fault.now text.now }
+{
+    match fault {
+        PlanError::NotJson => json_place(text),
         _ => None,
     }
 }

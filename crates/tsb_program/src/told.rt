@@ -1,20 +1,21 @@
 //! Second lines: where a plan's text stops being JSON, and which file was not read.
-ghost use Rattle.std.specs.Prelude.{◌≡◌, ◌++◌, ◌≤◌, length, OnErr, OnOk, true};
+ghost use Rattle.std.specs.Prelude.{◌≡◌, ◌++◌, ◌≤◌, length, IfOk, OnErr, OnOk, true};
 ghost use Rattle.tsb_lines.specs.Writes.{AppendsFront};
 ghost use Rattle.tsb_program.specs.Statuses.{number};
-ghost use Rattle.tsb_program.specs.Told.{FailsFile, TellsInputEnd, TellsNoLog, TellsNoPlan, cause_text, file_line, place_line, safe, shown};
+ghost use Rattle.tsb_program.specs.Told.{FailsFile, TellsInputEnd, TellsNoLog, TellsNoPlan, cause_text, file_line, place_line, plan_lines, safe, shown};
 ghost use Rattle.tsb_watched.specs.Seen.{GoesOut, Tells, seen};
 
 use crate::failure::{Failure, fail};
 use crate::files::{Cause, FileError};
 use crate::lines::{line_of, tell, write_line};
-use crate::read::{PlanFault, ReadError};
+use crate::read::{PlanFault, ReadError, fault_place};
 use crate::status::Status;
 use arrayvec::ArrayVec;
-use std::alloc::Global;
+use std::alloc::{AllocError, Global};
 use std::io::Write;
 use tsb_json_place::{JsonPlace, TOLD, place_text};
 use tsb_log_text::LogError;
+use tsb_plan_text::PlanError;
 use tsb_text::SessionError;
 use tsb_watched::{Watched, WriteError};
 
@@ -80,8 +81,21 @@ pub fn tell_input_end<E: Write>(errors: &mut Watched<E>, fault: SessionError) ->
     }
 }
 
+/// The line of a fault of a plan with this text, and where the text stops being JSON a second line with the place. The
+/// error is that memory ran out.
+pub fn plan_lines(alloc: Global, fault: PlanError, text: &[u8]) -> Result<Vec<u8>, AllocError>
+    ensures { IfOk result (λ lines. lines.items ≡ plan_lines fault text.now) }
+{
+    let place = fault_place(&fault, text);
+    let line = line_of(alloc, fault)?;
+    let mut lines = Vec::new(alloc);
+    lines.extend_from_slice(line.as_bytes())?;
+    lines.extend_from_slice(&place_line(place))?;
+    Ok(lines)
+}
+
 /// Says that a file was not read, in a second line which and why, and gives the status that the program ends with.
-fn fail_file<E: Write>(errors: &mut Watched<E>, path: &str, why: FileError) -> u8
+pub fn fail_file<E: Write>(errors: &mut Watched<E>, path: &str, why: FileError) -> u8
     ensures { FailsFile path.now why result (seen E.contents errors.old) (seen E.contents errors.new) }
 {
     match why {
