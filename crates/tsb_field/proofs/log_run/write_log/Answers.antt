@@ -11,7 +11,7 @@ returns g c =
     let wish = seen_log c.args.asked.now in (
       c.log-ended.result,
       seen g.W.Write.contents c.log-ended.new.writer,
-      ended-as c.log-ended.result (record { from = wish.from; times = wish.manner.times; zone = wish.manner.zone }) wish.device _ wish.wires c.deref.result.now _ _ _ _ c.bytes_of-device.ensures c.deref.ensures.value c.log-ended.ensures,
+      ended-as c.log-ended.result (record { from = wish.from; times = wish.manner.times; zone = wish.manner.zone; window = wish.manner.window }) wish.device _ wish.wires c.deref.result.now _ _ _ _ c.bytes_of-device.ensures c.deref.ensures.value c.log-ended.ensures,
       c.pass_on.ensures.bytes,
       passed-on c.pass_on.result (seen g.W.Write.contents c.pass_on.new.self) c.pass_on.ensures.blame c.pass_on.ensures.flushed,
       subst (λ (failed : Option Failure). TellsLogEnd wish.manner c.log-ended.result failed c.pass_on.new.self.failed c.tell_end.result (seen g.E.Write.contents c.args.errors.now) (seen g.E.Write.contents c.tell_end.new.errors))
