@@ -4,7 +4,8 @@ use std::alloc::Global;
 use std::io::{self, ErrorKind, Read, Write};
 use tsb_log_text::LogError;
 use tsb_program::{
-    FileError, Files, ReadError, Status, Watched, line_of, log_of, read_file, tell, write_line,
+    Cause, FileError, Files, ReadError, Status, Watched, line_of, log_of, read_file, tell,
+    write_line,
 };
 use tsb_types::Row;
 
@@ -121,9 +122,12 @@ fn fails_at_each_byte(alloc: Global, kind: ErrorKind, fault: FileError) -> bool 
 #[test]
 fn a_file_that_fails_gives_its_fault(rt: HostRuntime) {
     for (kind, fault) in [
-        (ErrorKind::NotFound, FileError::Read),
-        (ErrorKind::PermissionDenied, FileError::Read),
-        (ErrorKind::UnexpectedEof, FileError::Read),
+        (ErrorKind::NotFound, FileError::Read(Cause::NoSuchFile)),
+        (
+            ErrorKind::PermissionDenied,
+            FileError::Read(Cause::NotPermitted),
+        ),
+        (ErrorKind::UnexpectedEof, FileError::Read(Cause::Other)),
         (ErrorKind::OutOfMemory, FileError::Memory),
     ] {
         assert!(rt; fails(rt.alloc(), &Shelf::Fails(kind), fault));
