@@ -55,3 +55,4 @@ pub mod ReturnStageLemmas
 pub mod ReturnTickLemmas
 pub mod ReturnCrossLemmas
 pub mod ReturnRunLemmas
+pub mod CalledStartLemmas

@@ -69,3 +69,5 @@ pub mod CoordinatedGreens
 -- what the laws of runs, and those of cells and records, say of one run
 pub mod PlayLaws
 pub mod PlayRecords
+-- what enters where no preempt is in service
+pub mod CalledStarts

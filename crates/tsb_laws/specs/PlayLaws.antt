@@ -39,6 +39,7 @@ use Rattle.tsb_laws.specs.KeptCalls.{restarts, RunsOn, Remembers, HasTurnedGreen
 use Rattle.tsb_laws.specs.LitHeads.{KeepsLitHeads, StaysOrClears}
 use Rattle.tsb_laws.specs.OverlapPhases.{GoesWithPhases}
 use Rattle.tsb_laws.specs.PreemptDwells.{BeginsService, is_served}
+use Rattle.tsb_laws.specs.CalledStarts.{EntersByCall}
 use Rattle.tsb_laws.specs.PreemptEntries.{EntersByPreempt}
 use Rattle.tsb_laws.specs.PreemptStages.{is_in_stage, StageTakesAtMost, time_to_stage, ReachesWithin, time_to_dwell, ReachesDwell}
 use Rattle.tsb_laws.specs.PreemptTurns.{GivesWay, EndsFrom}
@@ -142,6 +143,10 @@ EndsGreensForAReason plan is = (row : Row) (p : ℕ) → EndsGreen plan is row p
 -- with a preempt in service the next tick starts only what this wants, or what a ring was committed to
 abbrev pub LetsInByPreempt : Plan → List Input → Type 0
 LetsInByPreempt plan is = (row : Row) (n q : ℕ) → service (replay plan is) row ≡ Some n → EntersByPreempt plan is row q
+
+-- with no preempt in service the next tick starts only what is called, or what a ring was committed to
+abbrev pub LetsInByCall : Plan → List Input → Type 0
+LetsInByCall plan is = (row : Row) (q : ℕ) → service (replay plan is) row ≡ None → EntersByCall plan is row q
 
 -- a ready green that the preempt in service does not want ends in the next tick, or waits for the barrier
 abbrev pub EndsUnwantedGreens : Plan → List Input → Type 0
@@ -336,6 +341,7 @@ pub record KeepsLaws (plan : Plan) (is : List Input) (s : State) : Type 0 where
   pub preempts_reach_dwell_in_time : ReachesDwells plan is
   pub crossings_have_no_green : IsCalm s.plan (interval s) s.rings
   pub preempts_let_in_their_own : Untripped LetsInByPreempt plan is
+  pub uncalled_phases_stay : Untripped LetsInByCall plan is
   pub unwanted_greens_end : Untripped EndsUnwantedGreens plan is
   pub wanted_phases_start : Untripped StartsWantedPhases plan is
   pub pressed_greens_may_end : ReadiesPressedGreens plan is

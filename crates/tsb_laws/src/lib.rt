@@ -7,7 +7,8 @@
 //! says what edits are after every run. `events` says what the events of a run tell. `versions` says that the bench
 //! of 16 phases shows for a plan of version 1 what the bench of 8 shows, and `one_text` that the text of a session is
 //! one, but for memory. `play` says the laws of runs of each bench that a list of commands leaves. `operation` is how
-//! calls, greens, overlaps and preempts go on, as an engineer expects it of each run.
+//! calls, greens, overlaps and preempts go on, as an engineer expects it of each run, and `starts` says what lets a phase
+//! start.
 #![tactic(auto)]
 
 pub mod desk;
@@ -17,5 +18,6 @@ pub mod one_text;
 pub mod operation;
 pub mod play;
 pub mod safety;
+pub mod starts;
 pub mod versions;
 pub mod way_back;

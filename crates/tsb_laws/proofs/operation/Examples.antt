@@ -11,3 +11,4 @@ pub mod WantedPhaseRuns
 pub mod PreemptStageRuns
 pub mod ServedRuns
 pub mod CoordinatedRuns
+pub mod CalledStartRuns

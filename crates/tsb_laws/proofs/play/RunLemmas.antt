@@ -31,6 +31,7 @@ use Rattle.tsb_laws.proofs.operation.CalmLemmas.{calm_run}
 use Rattle.tsb_laws.proofs.operation.GreenEndLemmas.{ends_for_a_reason}
 use Rattle.tsb_laws.proofs.operation.KeptCallLemmas.{remembers, vehicles_stand, pedestrians_stand}
 use Rattle.tsb_laws.proofs.operation.OverlapPhaseLemmas.{goes_with_phases}
+use Rattle.tsb_laws.proofs.operation.CalledStartLemmas.{enters_by_call}
 use Rattle.tsb_laws.proofs.operation.PreemptEntryLemmas.{lets_in_its_own}
 use Rattle.tsb_laws.proofs.operation.PreemptTurnLemmas.{gives_way, ends_from}
 use Rattle.tsb_laws.proofs.operation.PressedRunLemmas.{pressed_may_end}
@@ -118,6 +119,7 @@ module _ (plan : Plan) (held : IsHeld plan) where
     unwanted_greens_end = λ dark row n p. waits_or_ends plan is row n p ok (few plan held) taken dark;
     wanted_phases_start = λ dark row n r p. wanted_starts plan is row n r p ok (few plan held) taken dark;
     preempts_let_in_their_own = λ dark row n q on. lets_in_its_own plan is row n q ok taken dark on;
+    uncalled_phases_stay = λ dark row q idle. enters_by_call plan is row q ok taken dark idle;
     pressed_greens_may_end = λ base later row p n e dark pressed done long.
         rw e (pressed_may_end plan base later row p n ok (few plan held) (rw e at taken) dark pressed done (rw e at long));
     called_phases_come = λ base later r q k h e dark full takes due waited.
