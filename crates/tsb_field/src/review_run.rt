@@ -1,11 +1,14 @@
 //! `review`: a plan in, the lines of what can be wrong with it out, or of where it breaks a rule.
-ghost use Rattle.std.specs.Prelude.{◌≡◌, ◌++◌, IfOk, OnErr, OnOk, true};
+ghost use Rattle.std.specs.Prelude.{◌≡◌, ◌++◌, IfOk, IfSome, Ok, OnErr, OnOk, true};
 ghost use Rattle.tsb_lines.specs.Writes.{AppendsFront};
+ghost use Rattle.tsb_program.specs.Lines.{plan_line};
 ghost use Rattle.tsb_program.specs.Statuses.{number};
 ghost use Rattle.tsb_program.specs.Told.{plan_lines};
 ghost use Rattle.tsb_program.specs.tsb_watched.Seen.{GoesOut, seen};
 ghost use Rattle.tsb_review_text.specs.Lines.{breaches_text, review_text};
 ghost use Rattle.tsb_text.specs.tsb_plan.PlanOf.{plan_of};
+ghost use Rattle.tsb_text.specs.tsb_plan_text.PlanText.{drafted};
+ghost use Rattle.tsb_text.specs.tsb_plan_text.declared.error.PlanError.TheVariants as plans;
 ghost use Rattle.tsb_field.specs.ReviewEnds.{Answered, FaultAnswered, PlacesAnswered, Reviewed, RuleAnswered, TextAnswered, TextReviewed};
 
 use std::alloc::{AllocError, Global};
@@ -151,10 +154,17 @@ fn answer_rule<W: Write, E: Write>(
     ensures { RuleAnswered text.now rule notes.now result
         (seen W.contents output.old) (seen W.contents output.new) (seen E.contents errors.old) (seen E.contents errors.new) }
 {
-    match read_unchecked(alloc, text) {
-        Ok(plan) => answer_places(alloc, &plan, rule, notes, output, errors),
-        Err(_) => fail(errors, Failure::Memory),
+    match drafted(alloc, text) {
+        Some(plan) => answer_places(alloc, &plan, rule, notes, output, errors),
+        None => fail(errors, Failure::Memory),
     }
+}
+
+/// The plan in a text, whether it meets the rules or not, where there is memory for it.
+fn drafted(alloc: Global, text: &[u8]) -> Option<Plan>
+    ensures { IfSome result (λ plan. drafted text.now ≡ Ok (plan_of plan)) }
+{
+    read_unchecked(alloc, text).ok()
 }
 
 /// Answers with a rule that a plan breaks, what is noted of its text, and each place at which it breaks a rule.
@@ -169,7 +179,7 @@ fn answer_places<W: Write, E: Write>(
     ensures { PlacesAnswered (plan_of plan.now) rule notes.now result
         (seen W.contents output.old) (seen W.contents output.new) (seen E.contents errors.old) (seen E.contents errors.new) }
 {
-    match fault_text(alloc, &[], PlanError::Rule(rule), notes) {
+    match rule_text(alloc, rule, notes) {
         Ok(text) => answer_refused(&text, plan, output, errors),
         Err(_) => fail(errors, Failure::Memory),
     }
@@ -221,6 +231,13 @@ fn pass_places<W: Write>(plan: &Plan, output: &mut Watched<W>) -> Result<(), Wri
         Ok(()) => Watched::pass_on(output),
         Err(fault) => Err(fault),
     }
+}
+
+/// The line of a rule that a plan breaks, and what is noted of its text.
+fn rule_text(alloc: Global, rule: Rule, notes: &[u8]) -> Result<Vec<u8>, AllocError>
+    ensures { IfOk result (λ line. line.items ≡ plan_line (plans.Rule rule) ++ notes.now) }
+{
+    fault_text(alloc, &[], PlanError::Rule(rule), notes)
 }
 
 /// The lines of a fault of a plan with this text, and what is noted of the text.

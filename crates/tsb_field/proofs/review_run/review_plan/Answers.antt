@@ -1,6 +1,4 @@
 use Rattle.std.proofs.Common.{List, inl, inr, refl, subst, ℕ}
-use Rattle.tsb_program.specs.Failures.{Fails}
-use Rattle.tsb_program.specs.declared.failure.Failure.{Failure}
 use Rattle.tsb_program.specs.tsb_watched.Seen.{seen}
 use Rattle.tsb_field.specs.ReviewEnds.{TextReviewed}
 use Rattle.tsb_field.proofs.review_run.review_plan.Goals as goal
@@ -14,10 +12,4 @@ returns-in-Ok g c = inl (
 )
 
 pub returns-in-Err : goal.returns-in-Err
-returns-in-Err g c = inr (
-  refl,
-  (
-    c.in-Err.fault,
-    subst (λ (failure : Failure). Fails failure c.fail.result (seen g.E.Write.contents c.args.errors.now) (seen g.E.Write.contents c.fail.new.errors)) c.failure.ensures c.fail.ensures,
-  ),
-)
+returns-in-Err g c = inr (refl, (c.in-Err.fault, c.fail_file.ensures))
