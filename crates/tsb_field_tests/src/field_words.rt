@@ -37,6 +37,7 @@ fn ask_for_log(
                 && asked.device == wanted
                 && asked.wires.as_slice() == mapped
                 && asked.manner == PLAIN
+                && asked.as_outputs == None
         }
         _ => false,
     }
@@ -77,6 +78,28 @@ fn log_words_name_a_device(rt: HostRuntime) {
     ];
     let time = b"2026-11-22T07:00:00".as_slice();
     assert!(rt; ask_for_log(rt.alloc(), &words, time, Some("-7"), &[]));
+}
+
+/// Whether the words ask for a log beside this plan.
+fn ask_beside(alloc: Global, words: &[&str], plan: &str) -> bool {
+    match read_words(alloc, words) {
+        Ok(Asked::Log(asked)) => {
+            asked.device == None && asked.as_outputs == Some(plan) && asked.manner == PLAIN
+        }
+        _ => false,
+    }
+}
+
+#[test]
+fn log_words_name_a_plan(rt: HostRuntime) {
+    let from = "--from=2026-11-22 07:00:00";
+    let words = ["tsb_field", "log", "--as-outputs", "plan.json", from];
+    assert!(rt; ask_beside(rt.alloc(), &words, "plan.json"));
+    let words = ["tsb_field", "log", from, "--as-outputs=-a b"];
+    assert!(rt; ask_beside(rt.alloc(), &words, "-a b"));
+    let none = ["tsb_field", "log", from, "--as-outputs"];
+    let two = ["tsb_field", "log", from, "--as-outputs=a", "--as-outputs=a"];
+    assert!(rt; are_bad(rt.alloc(), &[&none, &two]));
 }
 
 /// Whether the words ask for the events of this device from this time on, with those of this log.

@@ -80,8 +80,9 @@ getters_manner f found form zone sort within count empty times zones sorts windo
     is ∙ (λ j. manner_with (times-there j) (zones-there j) (window-there j) (counts-there j) (may-there j))
 
 -- what `log` asks for
-pub getters_log : (f : Found) (from : Moment) (device : Option Text) (manner : Manner) (wires : List Wire)
+pub getters_log : (f : Found) (from : Moment) (device plan : Option Text) (manner : Manner) (wires : List Wire)
     → Some from ≡ moment_in (rows_of f) → device ≡ first_value f (codes "device") → Some manner ≡ manner_in (rows_of f) → wires_in (rows_of f) ≡ Some wires
-    → log_in (rows_of f) ≡ Some (log (record { from = from; device = device; wires = wires; manner = manner }))
-getters_log f from device manner wires from-is device-is manner-is wires-is =
-    λ j. log_with (sym from-is j) (first_is f (codes "device") device device-is j) (sym manner-is j) (wires-is j)
+    → plan ≡ first_value f (codes "as-outputs")
+    → log_in (rows_of f) ≡ Some (log (record { from = from; device = device; wires = wires; manner = manner; as_outputs = plan }))
+getters_log f from device plan manner wires from-is device-is manner-is wires-is plan-is =
+    λ j. log_with (sym from-is j) (first_is f (codes "device") device device-is j) (sym manner-is j) (wires-is j) (first_is f (codes "as-outputs") plan plan-is j)

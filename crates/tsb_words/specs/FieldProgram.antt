@@ -61,7 +61,7 @@ sort_rules = flag_rule (codes "sort") ∷ option_rule (codes "sort-within") ∷ 
 -- the words of `log`
 abbrev pub log_shape : Shape
 log_shape = shape_with (codes "log")
-    (required_rule (codes "from") ∷ option_rule (codes "device") ∷ (manner_rules ++ (sort_rules ++ wire_rules)))
+    (required_rule (codes "from") ∷ option_rule (codes "device") ∷ option_rule (codes "as-outputs") ∷ (manner_rules ++ (sort_rules ++ wire_rules)))
 
 -- the options of events that are written
 abbrev pub source_rules : List Rule
@@ -167,15 +167,16 @@ manner_in rows =
     manner_with (form_said (first_of (codes "time-form") rows)) (zone_said (first_of (codes "zone") rows)) (window_in rows)
     (is_set (first_of (codes "count") rows)) (is_set (first_of (codes "allow-empty") rows))
 
--- a log, where it is said from when, in which manner and on which wires
-abbrev pub log_with : Option Moment → Option Text → Option Manner → Option (List Wire) → Option Wish
-log_with (Some from) device (Some manner) (Some wires) =
-    Some (log (record { from = from; device = device; wires = wires; manner = manner }))
-log_with from device manner wires = None
+-- a log, where it is said from when, in which manner and on which wires; with the plan that is named, where one is
+abbrev pub log_with : Option Moment → Option Text → Option Manner → Option (List Wire) → Option Text → Option Wish
+log_with (Some from) device (Some manner) (Some wires) plan =
+    Some (log (record { from = from; device = device; wires = wires; manner = manner; as_outputs = plan }))
+log_with from device manner wires plan = None
 
 -- what `log` asks for, with these options
 abbrev pub log_in : List Row → Option Wish
-log_in rows = log_with (moment_in rows) (first_of (codes "device") rows) (manner_in rows) (wires_in rows)
+log_in rows =
+    log_with (moment_in rows) (first_of (codes "device") rows) (manner_in rows) (wires_in rows) (first_of (codes "as-outputs") rows)
 
 -- a record, where it is said from when, of which device and of which files, and a line can name that device
 abbrev pub record_with : Option Moment → Option Text → Option Text → Option Text → Bool → Option Wish

@@ -15,10 +15,12 @@ pub record LogWish : Type 0 where
   pub device : Option (List ℕ)
   pub wires : List Wire
   pub manner : Manner
+  -- the file of the plan that the detectors have, where events are of their outputs
+  pub as_outputs : Option (List ℕ)
 
 -- what words may ask for, by the text of each name
 pub data Wish : Type 0 where
-  -- a log from a moment on, of a device or of each, on some wires, read in some manner
+  -- a log from a moment on, of a device or of each, on some wires, read in some manner; of outputs, where a plan is named
   log : LogWish → Wish
   -- a record from this moment on, of this device, with the plan and the log in these files; whether it goes on after a
   -- line that is refused or is no command
@@ -55,6 +57,7 @@ seen_log asked = record {
   device = option_map (λ name. name.now) asked.device;
   wires = asked.wires.items;
   manner = asked.manner;
+  as_outputs = option_map (λ name. name.now) asked.as_outputs;
 }
 
 -- what was answered, by the text of each name

@@ -33,6 +33,8 @@ pub struct LogAsked<'a> {
     /// The wires: vehicle detectors, then pedestrian detectors, then preempts, of each kind in the order of the words.
     pub wires: Vec<Wire>,
     pub manner: Manner,
+    /// The file of the plan that the detectors have, where events are of their outputs.
+    pub as_outputs: Option<&'a str>,
 }
 
 /// How `log` reads events, and what it tells of them.
@@ -96,9 +98,10 @@ pub enum Asked<'a> {
 
 /// What the words ask for, the first of which is the program's name.
 ///
-/// `log` has `--from TIME`, and may have `--device ID`, `--time-form FORM`, `--zone OFFSET`, `--count`, `--allow-empty`,
-/// `--sort`, `--sort-within SECONDS` and any number of `--vehicle CHANNEL=DETECTOR`, `--pedestrian CHANNEL=DETECTOR` and `--preempt CHANNEL=INPUT`; `record` has `--from TIME`, `--device ID`, and the
-/// files of a plan and a log, and may have `--go-on`; `events` has `--from TIME` and `--device ID`, and may have `--log LOG`; `diagram` may have
+/// `log` has `--from TIME`, and may have `--device ID`, `--as-outputs PLAN`, `--time-form FORM`, `--zone OFFSET`, `--count`,
+/// `--allow-empty`, `--sort`, `--sort-within SECONDS` and any number of `--vehicle CHANNEL=DETECTOR`, `--pedestrian
+/// CHANNEL=DETECTOR` and `--preempt CHANNEL=INPUT`; `record` has `--from TIME`, `--device ID`, and the files of a plan and a
+/// log, and may have `--go-on`; `events` has `--from TIME` and `--device ID`, and may have `--log LOG`; `diagram` may have
 /// `--log LOG`, `--title TEXT` and `--seconds-per-line N`; `review` has the file of a plan. Options come in any order, and
 /// `--NAME=VALUE` is `--NAME VALUE`. A value that begins with a hyphen comes after `=`. All else is `Bad`, and so are a
 /// request for help and a device of `record` or `events` with a double quote, an end of a line or over 900 bytes. `Memory`
@@ -151,6 +154,7 @@ fn log_asked<'a>(alloc: Global, options: &ArgMatches<'a>) -> Result<Asked<'a>, W
             device: options.get_str("device"),
             wires,
             manner,
+            as_outputs: options.get_str("as-outputs"),
         })),
         Err(error) => Err(error),
     }

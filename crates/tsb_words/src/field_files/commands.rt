@@ -29,10 +29,11 @@ fn log_command<'a>(alloc: Global) -> Result<Command<'a>, AllocError>
 {
     let sources = Command::new(alloc, "log")
         .arg(required(alloc, "from"))?
-        .arg(option(alloc, "device"))?;
-    let sources = with_manner(alloc, sources)?;
-    let sources = with_sort(alloc, sources)?;
-    with_wires(alloc, sources)
+        .arg(option(alloc, "device"))?
+        .arg(option(alloc, "as-outputs"))?;
+    let read = with_manner(alloc, sources)?;
+    let sorted = with_sort(alloc, read)?;
+    with_wires(alloc, sorted)
 }
 
 /// The command with the options of how events are read, and of what is told of them.
