@@ -3,6 +3,7 @@
 tools/run_field.py runs them in a folder with a copy of the examples and the files of `fill`.
 """
 import itertools
+import json
 import pathlib
 import shutil
 
@@ -12,7 +13,7 @@ from run_program import ENDLESS, EXAMPLES, FULL, INPUT, NOT_JSON, TORN, WRITE, R
 
 USAGE = (
     b"usage: tsb_field log --from TIME [--device ID] [--time-form FORM] [--zone OFFSET] [--count] [--allow-empty]\n"
-    b"          [--sort] [--sort-within SECONDS]\n"
+    b"          [--sort] [--sort-within SECONDS] [--as-outputs PLAN]\n"
     b"          [--vehicle CHANNEL=DETECTOR].. [--pedestrian CHANNEL=DETECTOR].. [--preempt CHANNEL=INPUT]..\n"
     b"    or tsb_field record --from TIME --device ID [--go-on] PLAN LOG\n"
     b"    or tsb_field events --from TIME --device ID [--log LOG]\n"
@@ -416,6 +417,47 @@ def sort_runs():
         yield Run([*LOG, *words], 2, b"", USAGE, CAR)
 
 
+# Delays and extensions of a plan, in tenths of a second, and what is told of each detector.
+DELAYS, EXTENSIONS = {1: 50, 3: 7, 16: 2550}, {3: 20, 5: 255, 16: 1}
+TWICE = {
+    1: b"detector 1: its delay of 5.0 s acts twice\n",
+    3: b"detector 3: its delay of 0.7 s and its extension of 2.0 s act twice\n",
+    5: b"detector 5: its extension of 25.5 s acts twice\n",
+    16: b"detector 16: its delay of 255.0 s and its extension of 0.1 s act twice\n",
+}
+
+
+def outputs_runs():
+    """Events of outputs of the detectors of a plan: the log is the same, and behind all else it is told what acts twice."""
+    twice = ["--as-outputs", "twice.json"]
+    every = b"".join(TWICE.values())
+    # Detectors to which no wire leads are not told, however they are mapped.
+    for words, detectors in [
+        ([], [1, 3, 5, 16]), (["--vehicle=3=6"], [1, 5, 16]), (["--vehicle=3=6", "--vehicle=99=3"], [1, 3, 5, 16]),
+        (["--vehicle=1=16", "--vehicle=16=16", "--vehicle=5=5"], [3, 5, 16]), (["--pedestrian=1=3", "--preempt=3=1"], [1, 3, 5, 16]),
+        (["--vehicle=1=2", "--vehicle=3=2", "--vehicle=5=2", "--vehicle=16=2"], []), (["--vehicle=17=1", "--sort"], [1, 3, 5, 16]),
+    ]:
+        yield logged(CAR, CAR_LOG, *words, *twice, errors=b"".join(TWICE[detector] for detector in detectors))
+        yield logged(CAR, CAR_LOG, *words, "--as-outputs=quad.json")
+    yield logged(CAR, CAR_LOG, "--as-outputs", "main_and_oak.json", errors=b"detector 8: its delay of 5.0 s acts twice\n")
+    # It comes last, and only where the log ends well.
+    read = b"read: 2 rows from 2026-11-22 07:00:01.0 to 2026-11-22 07:00:03.0, events of 1 channels\n"
+    yield logged(CAR, CAR_LOG, "--count", *twice, errors=read + every)
+    yield logged(CAR + told("07:00:04 82 17"), CAR_LOG, *twice, errors=LEFT % (0, 1, 0) + every)
+    yield logged(HEADER, b"", *twice, EMPTY, errors=every)
+    yield refused(HEADER, NO_ROW, b"", *twice)
+    yield refused(CAR + b"x\n", b"events line 3: " + ENDS % b"time" + b"\n", CAR_KNOWN, *twice)
+    yield Run([*LOG, *twice], 3, b"", INPUT, stdin=TORN)
+    yield Run([*LOG, *twice], 3, b"", WRITE, CAR, stdout=FULL)
+    yield Run([*LOG, *twice], 0, CAR_LOG, b"", CAR, stderr=FULL)
+    # Without a plan nothing is read or written.
+    for path, status, line in plan_faults():
+        yield Run([*LOG, "--as-outputs", path], status, b"", line, stdin=TORN)
+        yield Run([*LOG, "--as-outputs", path], status, b"", line, CAR, stdout=FULL)
+    for words in [["--as-outputs"], ["--as-outputs=quad.json", *twice], ["--as-outputs", "quad.json", "twice.json"], ["--as-output=quad.json"]]:
+        yield Run([*LOG, *words], 2, b"", USAGE, CAR)
+
+
 def line_faults():
     """Lines that are no rows behind a first row, each with what is told of it."""
     clock = b"7,2026-11-22 07:00:03"
@@ -733,13 +775,18 @@ def record_runs():
     yield Run([*late, "--go-on"], 2, b"", b"command 1: x: bad command\nevents: past the year 9999\n", b"x\n")
 
 
+def plan_faults():
+    """Plans that are refused or can't be read, each with the status and the lines that it ends with."""
+    yield from ((path, 3, not_read(path)) for path in ["none.json", "folder", TORN])
+    yield "car.log", 1, NOT_JSON + b"plan line 1, column 2: expected nothing more\n"
+    yield ENDLESS, 1, b"plan: too large\n"
+    yield "two_short_yellow.json", 1, b"plan: rule K8\n"
+
+
 def record_faults():
     """Plans and logs that `record` refuses or can't read, and streams that fail."""
     plan = ["record", *FROM, "--device", "1001"]
-    for path, status, line in [
-        *((path, 3, not_read(path)) for path in ["none.json", "folder", TORN]),
-        ("car.log", 1, NOT_JSON + b"plan line 1, column 2: expected nothing more\n"), (ENDLESS, 1, b"plan: too large\n"), ("two_short_yellow.json", 1, b"plan: rule K8\n"),
-    ]:
+    for path, status, line in plan_faults():
         yield Run([*plan, path, "none.log"], status, b"", line, b"step 1\n")
     for path, status, line in log_faults():
         yield Run([*RECORD, path], status, b"", line, b"x\n")
@@ -801,6 +848,8 @@ def fill(folder):
     shutil.copytree(EXAMPLES, folder, dirs_exist_ok=True)
     (folder / "folder").mkdir()
     (folder / "car.log").write_bytes(CAR_LOG)
+    quad = json.loads((EXAMPLES / "quad.json").read_text())
+    (folder / "twice.json").write_text(json.dumps({**quad, "vehicleDetectorDelay": DELAYS, "vehicleDetectorExtend": EXTENSIONS}))
     (folder / "return.log").write_bytes(CAR_LOG[:-1] + b"\r")
     (folder / "all.log").write_bytes(b"# All inputs.\n" + row(1, range(17), range(9), range(5)) + row(2))
     (folder / "with_all.log").write_bytes(

@@ -44,6 +44,9 @@ LOGS = [
 RECORD = ["record", *FROM, "--device", "7", "examples/quad.json"]
 COMMANDS = b"step 3\npattern 1\nstep 60\nback 40\nundo\nquit\nx\n"
 OTHERS = [
+    (["log", *FROM, "--count", "--as-outputs", "examples/main_and_oak.json"], EVENTS),
+    (["log", *FROM, "--as-outputs", "examples/two_short_yellow.json"], EVENTS),
+    (["log", *FROM, "--as-outputs", "none.json"], EVENTS),
     ([*RECORD, LOG], COMMANDS),
     ([*RECORD, LOG, "--go-on"], COMMANDS),
     ([*RECORD, "none.log"], b"step 3\n"),

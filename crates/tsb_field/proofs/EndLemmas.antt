@@ -1,12 +1,12 @@
 -- How the program ends.
-use Rattle.std.proofs.Common.{◌≡◌, ℕ, Bool, List, OnErr, OnOk, Ok, true, refl, subst, sym, inl, inr}
+use Rattle.std.proofs.Common.{◌≡◌, ◌∙◌, ◌==◌, ℕ, Bool, List, OnErr, OnOk, Ok, true, false, refl, subst, sym, inl, inr}
 use Rattle.std.specs.declared.result.Result.{Result}
 use Rattle.std.proofs.lemmas.Bool.{true≢false}
 use Rattle.std.specs.Prelude.{Err, None, Some}
 use Rattle.std.specs.declared.option.Option.{Option}
 use Rattle.tsb_program.specs.Failures.{Fails}
 use Rattle.tsb_program.specs.declared.failure.Failure.{Failure}
-use Rattle.tsb_program.specs.tsb_watched.Seen.{Seen}
+use Rattle.tsb_program.specs.tsb_watched.Seen.{Seen, Tells}
 use Rattle.tsb_program.specs.Read.{HasNoPlan, HasPlan, LogRead}
 use Rattle.tsb_program.specs.Told.{FailsFile, TellsNoLog, TellsNoPlan, TellsWhy}
 use Rattle.tsb_program.specs.declared.read.PlanFault.{PlanFault}
@@ -35,7 +35,8 @@ use Rattle.tsb_field_streams.specs.Standing.{given_of}
 use Rattle.tsb_field_streams.specs.Streaming.{Ended}
 use Rattle.tsb_field_streams.specs.declared.filter.Reading.{Reading}
 use Rattle.tsb_field_streams.specs.declared.filter.Summary.{Summary}
-use Rattle.tsb_field.specs.LogEnds.{IsPassedOn, TellsFault}
+use Rattle.tsb_field.specs.LogEnds.{IsPassedOn, Logged, LoggedTelling, NoPlan, TellsFault, TellsWhere}
+use Rattle.tsb_words.specs.FieldWords.{LogWish}
 use Rattle.tsb_field.specs.Ends.{IsEvents, LogNamed, NoRun, NotDrawn, Pictured, Recorded, Stops, failure_by, name_of}
 
 -- there is no log
@@ -104,3 +105,29 @@ ended-as result reading device other wires more input left old new same_device s
 pub passed-on : {T E : Type 0} (r : Result T E) (s : Seen) → OnErr r (s.failed ≡ true) → OnOk r (s.flushed ≡ true) → IsPassedOn s
 passed-on (Ok t) s blame flushed = inr flushed
 passed-on (Err e) s blame flushed = inl blame
+
+-- ## Events of outputs of detectors
+
+-- a text was told behind a log that ended well
+pub told-behind : (text : List ℕ) (wrote status : ℕ) (wish : LogWish) (input left old new told mid tells : Seen) → wrote ≡ 0 → status ≡ 0 → Logged wrote wish input left old new told mid → Tells mid tells text
+    → LoggedTelling text status wish input left old new told tells
+told-behind text wrote status wish input left old new told mid tells well done logged line = (
+  mid,
+  subst (λ (s : ℕ). Logged s wish input left old new told mid) (well ∙ sym done) logged,
+  subst (λ (s : ℕ). TellsWhere (s == 0) text mid tells) (sym done) line,
+)
+
+-- nothing was told behind one that did not
+pub told-no-more : (text : List ℕ) (status : ℕ) (wish : LogWish) (input left old new told tells : Seen) → (status == 0) ≡ false → Logged status wish input left old new told tells
+    → LoggedTelling text status wish input left old new told tells
+told-no-more text status wish input left old new told tells ill logged = (tells, logged, subst (λ (b : Bool). TellsWhere b text tells tells) (sym ill) refl)
+
+-- there is no plan
+no-plan-here : (why : ReadError PlanError) (place : Option JsonPlace) (status : ℕ) (path : List ℕ) (files : List ℕ → Option (List ℕ)) (told tells : Seen) → HasNoPlan why place (files path)
+    → TellsWhy path why place status told tells → NoPlan path files status told tells
+no-plan-here (faults.Failed why) place status path files told tells has line = inr (why, line)
+no-plan-here (faults.Refused fault) place status path files told tells has line = inl (fault, place, has, line)
+
+pub no-plan-at : (fault : PlanFault) (status : ℕ) (path : List ℕ) (files : List ℕ → Option (List ℕ)) (told tells : Seen) → HasNoPlan fault.why fault.place (files path)
+    → TellsNoPlan path fault status told tells → NoPlan path files status told tells
+no-plan-at fault status path files told tells has line = no-plan-here fault.why fault.place status path files told tells has line

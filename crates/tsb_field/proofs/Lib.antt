@@ -2,5 +2,7 @@
 pub mod EndLemmas
 -- texts of several pieces
 pub mod ReportLemmas
+-- the lines of detectors
+pub mod TwiceLemmas
 -- a text of two parts
 pub mod ReviewLemmas

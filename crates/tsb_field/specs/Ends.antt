@@ -40,7 +40,7 @@ use Rattle.tsb_words.specs.FieldWords.{Wish, diagram, events, log, recording, re
 use Rattle.tsb_words.specs.declared.field_files.Asked.{Asked}
 use Rattle.tsb_words.specs.declared.error.WordsError.{WordsError}
 use Rattle.tsb_field.specs.Lines.{TellsLate, TellsWords}
-use Rattle.tsb_field.specs.LogEnds.{Logged}
+use Rattle.tsb_field.specs.LogEnds.{LoggedOn}
 use Rattle.tsb_field.specs.ReviewEnds.{Reviewed}
 
 -- ## What words name
@@ -180,7 +180,7 @@ Pictured status title seconds files path input left old new told tells =
 
 -- what was done for a wish, where files has the known bytes of each path
 abbrev pub DidWish : Wish → ℕ → (List ℕ → Option (List ℕ)) → (input left old new told tells : Seen) → Type 0
-DidWish (log wish) status files input left old new told tells = Logged status wish input left old new told tells
+DidWish (log wish) status files input left old new told tells = LoggedOn wish.as_outputs status wish files input left old new told tells
 DidWish (recording from device plan file goes_on) status files input left old new told tells =
     Recorded status from device (on_fault_of goes_on) plan file files input left old new told tells
 DidWish (events from device path) status files input left old new told tells = Told status from device files path input left old new told tells

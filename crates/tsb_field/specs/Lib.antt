@@ -2,6 +2,8 @@
 pub mod Lines
 -- the lines in which `log` tells what it read
 pub mod LogLines
+-- the lines of detectors whose delay and extension act twice
+pub mod Twice
 -- how `log` ends
 pub mod LogEnds
 -- how `review` ends

@@ -1,12 +1,17 @@
 -- How `log` ends, and what it has then written on its output and of faults.
 --
 -- Of each stream there is what is seen before and after: `input` and `left`, `old` and `new`, `told` and `tells`.
-use Rattle.std.specs.Prelude.{◌≡◌, ◌⊎◌, ℕ, Bool, true, false, List, Option, Some, None, Result, Ok, Err, codes}
+use Rattle.std.specs.Prelude.{◌≡◌, ◌⊎◌, ℕ, ◌==◌, Bool, true, false, List, Option, Some, None, Result, Ok, Err, codes}
 use Rattle.std.specs.Io.KnownBytes.{Keeps}
 use Rattle.tsb_program.specs.tsb_watched.Seen.{Seen, Tells}
 use Rattle.tsb_program.specs.Failures.{Fails}
 use Rattle.tsb_program.specs.declared.failure.Failure.{Failure}
 use Rattle.tsb_program.specs.declared.failure.Failure.TheVariants.{Memory, Input, Write}
+use Rattle.tsb_program.specs.Read.{HasPlan, RefusesPlanAt}
+use Rattle.tsb_program.specs.Told.{FailsToReadFile, RefusesAt}
+use Rattle.tsb_program.specs.tsb_json_place.declared.place.JsonPlace.{JsonPlace}
+use Rattle.tsb_text.specs.tsb_plan.Plan.{Plan}
+use Rattle.tsb_text.specs.tsb_plan_text.declared.error.PlanError.{PlanError}
 use Rattle.tsb_field_log.specs.Mapping.{wires_of}
 use Rattle.tsb_field_streams.specs.FaultLines.{filter_fault}
 use Rattle.tsb_field_streams.specs.Filtering.{Given}
@@ -18,6 +23,7 @@ use Rattle.tsb_words.specs.FieldWords.{LogWish}
 use Rattle.tsb_words.specs.declared.field_files.Manner.{Manner}
 use Rattle.tsb_field.specs.Lines.{Refuses}
 use Rattle.tsb_field.specs.LogLines.{IsReport, is_lost, status_of}
+use Rattle.tsb_field.specs.Twice.{twice_text}
 
 -- the device that has failed, where one has: of both standard input
 abbrev pub failed_device : (read_failed write_failed : Bool) → Option Failure
@@ -80,3 +86,33 @@ abbrev pub Logged : ℕ → LogWish → (input left old new told tells : Seen) �
 Logged status wish input left old new told tells =
     (result : Result Summary FilterError) × (mid : Seen) × Ended result (given_by wish) input.bytes left.bytes old.bytes mid.bytes × Keeps mid.bytes new.bytes
     × IsPassedOn new × TellsLogEnd wish.manner result (failed_device left.failed mid.failed) new.failed status told tells
+
+-- ## Events of outputs of detectors
+
+-- a text is told, or nothing more
+abbrev pub TellsWhere : Bool → List ℕ → Seen → Seen → Type 0
+TellsWhere true text told tells = Tells told tells text
+TellsWhere false text told tells = tells ≡ told
+
+-- a log was made as without a plan, and where it ended well, this was told behind all else
+abbrev pub LoggedTelling : List ℕ → ℕ → LogWish → (input left old new told tells : Seen) → Type 0
+LoggedTelling text status wish input left old new told tells =
+    (mid : Seen) × Logged status wish input left old new told mid × TellsWhere (status == 0) text mid tells
+
+-- why there is no plan is told: it is refused with 1, or its file or memory failed
+abbrev pub NoPlan : List ℕ → (List ℕ → Option (List ℕ)) → ℕ → Seen → Seen → Type 0
+NoPlan path files status told tells =
+    ((fault : PlanError) × (place : Option JsonPlace) × RefusesPlanAt (files path) fault place × RefusesAt fault place status told tells)
+    ⊎ FailsToReadFile path status told tells
+
+-- a log was made beside the plan in this file, and the detectors told whose delay and extension act twice; or there is no
+-- plan, or no memory, with nothing read and nothing written
+abbrev pub LoggedBeside : List ℕ → ℕ → LogWish → (List ℕ → Option (List ℕ)) → (input left old new told tells : Seen) → Type 0
+LoggedBeside path status wish files input left old new told tells =
+    ((plan : Plan) × HasPlan (files path) plan × LoggedTelling (twice_text (wires_of wish.wires) plan) status wish input left old new told tells)
+    ⊎ ((left ≡ input) × (new ≡ old) × NoPlan path files status told tells)
+
+-- how `log` ended, where words name this plan or none
+abbrev pub LoggedOn : Option (List ℕ) → ℕ → LogWish → (List ℕ → Option (List ℕ)) → (input left old new told tells : Seen) → Type 0
+LoggedOn None status wish files input left old new told tells = Logged status wish input left old new told tells
+LoggedOn (Some path) status wish files input left old new told tells = LoggedBeside path status wish files input left old new told tells

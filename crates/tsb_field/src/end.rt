@@ -10,7 +10,7 @@ use tsb_words::WordsError;
 /// How the program is used.
 const USAGE: &[u8] =
     b"usage: tsb_field log --from TIME [--device ID] [--time-form FORM] [--zone OFFSET] [--count] [--allow-empty]
-          [--sort] [--sort-within SECONDS]
+          [--sort] [--sort-within SECONDS] [--as-outputs PLAN]
           [--vehicle CHANNEL=DETECTOR].. [--pedestrian CHANNEL=DETECTOR].. [--preempt CHANNEL=INPUT]..
     or tsb_field record --from TIME --device ID [--go-on] PLAN LOG
     or tsb_field events --from TIME --device ID [--log LOG]

@@ -5,9 +5,11 @@
 
 mod end;
 mod log_run;
+mod outputs_run;
 mod report;
 mod review_run;
 mod run;
+mod twice;
 
 use crate::end::tell_words_fault;
 use crate::run::run_words;

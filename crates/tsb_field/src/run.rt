@@ -9,7 +9,7 @@ ghost use Rattle.tsb_program.specs.tsb_watched.Seen.{seen};
 ghost use Rattle.tsb_field.specs.Ends.{Did, LogNamed, Pictured, RanSo, Recorded, failure_by, name_of, on_fault_of, Told, title_of};
 
 use crate::end::{tell_late, tell_words_fault, write_all};
-use crate::log_run::write_log;
+use crate::outputs_run::run_log;
 use crate::review_run::review_plan;
 use std::alloc::Global;
 use std::convert::AsStr;
@@ -54,7 +54,7 @@ pub fn run_words<S: AsStr, F: Files, R: Read, W: Write, E: Write>(
         (seen R.remaining input.old) (seen R.remaining input.new) (seen W.contents output.old) (seen W.contents output.new) (seen E.contents errors.old) (seen E.contents errors.new) }
 {
     match read_words(alloc, words) {
-        Ok(Asked::Log(asked)) => write_log(alloc, &asked, input, output, errors),
+        Ok(Asked::Log(asked)) => run_log(alloc, &asked, files, input, output, errors),
         Ok(
             Asked::Record {
                 from,

@@ -1,0 +1,75 @@
+//! `log` with and without a plan beside the events, which are of outputs of detectors then.
+ghost use Rattle.std.specs.Prelude.{option_map};
+ghost use Rattle.tsb_field_log.specs.Mapping.{wires_of};
+ghost use Rattle.tsb_program.specs.tsb_watched.Seen.{seen};
+ghost use Rattle.tsb_text.specs.tsb_objects.Checked.{checked_plan};
+ghost use Rattle.tsb_words.specs.FieldWords.{seen_log};
+ghost use Rattle.tsb_field.specs.LogEnds.{LoggedBeside, LoggedOn, LoggedTelling};
+
+use crate::log_run::write_log;
+use crate::twice::twice_text;
+use std::alloc::Global;
+use std::io::{Read, Write};
+use tsb_program::{Failure, Files, Status, Watched, fail, plan_or_place, refuse_plan, tell};
+use tsb_words::field_files::LogAsked;
+
+/// Makes a log from a controller's event log, and gives the status that the program ends with. Where the words name a plan,
+/// it is read first, and the detectors whose delay and extension act twice are told last.
+pub(crate) fn run_log<F: Files, R: Read, W: Write, E: Write>(
+    alloc: Global,
+    asked: &LogAsked<'_>,
+    files: &F,
+    input: &mut Watched<R>,
+    output: &mut Watched<W>,
+    errors: &mut Watched<E>,
+) -> u8
+    ensures { LoggedOn (option_map (λ path. path.now) asked.now.as_outputs) result (seen_log asked.now) (F.bytes files.now)
+        (seen R.remaining input.old) (seen R.remaining input.new) (seen W.contents output.old) (seen W.contents output.new) (seen E.contents errors.old) (seen E.contents errors.new) }
+{
+    match asked.as_outputs {
+        Some(path) => write_beside(alloc, asked, path, files, input, output, errors),
+        None => write_log(alloc, asked, input, output, errors),
+    }
+}
+
+/// Makes a log from events of the outputs of the detectors of a plan, or says why there is no plan, with nothing read.
+fn write_beside<F: Files, R: Read, W: Write, E: Write>(
+    alloc: Global,
+    asked: &LogAsked<'_>,
+    path: &str,
+    files: &F,
+    input: &mut Watched<R>,
+    output: &mut Watched<W>,
+    errors: &mut Watched<E>,
+) -> u8
+    ensures { LoggedBeside path.now result (seen_log asked.now) (F.bytes files.now)
+        (seen R.remaining input.old) (seen R.remaining input.new) (seen W.contents output.old) (seen W.contents output.new) (seen E.contents errors.old) (seen E.contents errors.new) }
+{
+    let checked = match plan_or_place(alloc, files, path) {
+        Ok(checked) => checked,
+        Err(fault) => return refuse_plan(alloc, errors, path, fault),
+    };
+    match twice_text(alloc, &asked.wires, checked.plan()) {
+        Ok(text) => write_telling(alloc, asked, &text, input, output, errors),
+        Err(_) => fail(errors, Failure::Memory),
+    }
+}
+
+/// Makes a log from events, and says this of it, where it ends well.
+fn write_telling<R: Read, W: Write, E: Write>(
+    alloc: Global,
+    asked: &LogAsked<'_>,
+    text: &[u8],
+    input: &mut Watched<R>,
+    output: &mut Watched<W>,
+    errors: &mut Watched<E>,
+) -> u8
+    ensures { LoggedTelling text.now result (seen_log asked.now)
+        (seen R.remaining input.old) (seen R.remaining input.new) (seen W.contents output.old) (seen W.contents output.new) (seen E.contents errors.old) (seen E.contents errors.new) }
+{
+    let status = write_log(alloc, asked, input, output, errors);
+    if status != 0 {
+        return status;
+    }
+    tell(errors, Status::Done, text)
+}
