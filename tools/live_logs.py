@@ -4,6 +4,7 @@ import pathlib
 import random
 from collections.abc import Iterator
 
+import json_places
 import stored_cases
 from live_from_log import live_of
 from live_kit import NAMED, a_log, commands_of, difference, ran_on
@@ -36,18 +37,23 @@ def sessions_on_plans() -> Iterator[Session]:
             yield f"{name} {number}", plan, a_log(rng, TICKS), commands_of(rng, COMMANDS)
 
 
+def place_of(line: bytes, plan: bytes) -> bytes:
+    """The line after that of a fault: where the text of a plan stops being JSON."""
+    return (json_places.second_line(plan) or b"") if line == b"plan: not JSON\n" else b""
+
+
 def compared(live: pathlib.Path, tsb: pathlib.Path, session: Session) -> tuple[int, list[str]]:
-    """How many answers a live session has, and what differs from those of `tsb run`; a refused plan is refused by both,
-    and where a log has a fault there is no session."""
+    """How many answers a live session has, and what differs from those of `tsb run`; a refused plan is refused by both, by
+    tsb_live with its place, and where a log has a fault there is no session."""
     name, plan, log, commands = session
     ended = ran_on(tsb, ["run"], [plan, log], commands)
     if ended[0] != 0:
         if ended[2].startswith(b"log "):
             return 0, []
-        refused = ran_on(live, [], [plan], commands)
-        return 0, [] if refused == ended else [f"{name}: it ends with {refused}, not {ended}"]
-    lines, wanted = live_of(random.Random(name), log, commands, ended[1])
-    return wanted.count(b"\n"), difference(name, ran_on(live, [], [plan], lines), wanted)
+        refused, wanted = ran_on(live, [], [plan], commands), (*ended[:2], ended[2] + place_of(ended[2], plan))
+        return 0, [] if refused == wanted else [f"{name}: it ends with {refused}, not {wanted}"]
+    lines, answers = live_of(random.Random(name), log, commands, ended[1])
+    return answers.count(b"\n"), difference(name, ran_on(live, [], [plan], lines), answers)
 
 
 def compare(live: pathlib.Path, tsb: pathlib.Path) -> tuple[list[str], str]:
