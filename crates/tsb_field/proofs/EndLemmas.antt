@@ -1,5 +1,5 @@
 -- How the program ends.
-use Rattle.std.proofs.Common.{◌≡◌, ◌∙◌, ◌==◌, ℕ, Bool, List, OnErr, OnOk, Ok, true, false, refl, subst, sym, inl, inr}
+use Rattle.std.proofs.Common.{◌≡◌, ◌∙◌, ◌==◌, ◌&&◌, not, ℕ, Bool, List, OnErr, OnOk, Ok, true, false, refl, subst, sym, inl, inr}
 use Rattle.std.specs.declared.result.Result.{Result}
 use Rattle.std.proofs.lemmas.Bool.{true≢false}
 use Rattle.std.specs.Prelude.{Err, None, Some}
@@ -108,19 +108,14 @@ passed-on (Err e) s blame flushed = inl blame
 
 -- ## Events of outputs of detectors
 
--- a text was told behind a log that ended well
-pub told-behind : (text : List ℕ) (wrote status : ℕ) (wish : LogWish) (input left old new told mid tells : Seen) → wrote ≡ 0 → status ≡ 0 → Logged wrote wish input left old new told mid → Tells mid tells text
-    → LoggedTelling text status wish input left old new told tells
-told-behind text wrote status wish input left old new told mid tells well done logged line = (
+-- what was told of a log, and then of its detectors
+pub told-more : (text : List ℕ) (wrote status : ℕ) (wish : LogWish) (input left old new told mid tells : Seen) → status ≡ wrote → Logged wrote wish input left old new told mid
+    → TellsWhere (wrote == 0 && not mid.failed) text mid tells → LoggedTelling text status wish input left old new told tells
+told-more text wrote status wish input left old new told mid tells same logged more = (
   mid,
-  subst (λ (s : ℕ). Logged s wish input left old new told mid) (well ∙ sym done) logged,
-  subst (λ (s : ℕ). TellsWhere (s == 0) text mid tells) (sym done) line,
+  subst (λ (s : ℕ). Logged s wish input left old new told mid) (sym same) logged,
+  subst (λ (s : ℕ). TellsWhere (s == 0 && not mid.failed) text mid tells) (sym same) more,
 )
-
--- nothing was told behind one that did not
-pub told-no-more : (text : List ℕ) (status : ℕ) (wish : LogWish) (input left old new told tells : Seen) → (status == 0) ≡ false → Logged status wish input left old new told tells
-    → LoggedTelling text status wish input left old new told tells
-told-no-more text status wish input left old new told tells ill logged = (tells, logged, subst (λ (b : Bool). TellsWhere b text tells tells) (sym ill) refl)
 
 -- there is no plan
 no-plan-here : (why : ReadError PlanError) (place : Option JsonPlace) (status : ℕ) (path : List ℕ) (files : List ℕ → Option (List ℕ)) (told tells : Seen) → HasNoPlan why place (files path)

@@ -1,7 +1,7 @@
 -- How `log` ends, and what it has then written on its output and of faults.
 --
 -- Of each stream there is what is seen before and after: `input` and `left`, `old` and `new`, `told` and `tells`.
-use Rattle.std.specs.Prelude.{◌≡◌, ◌⊎◌, ℕ, ◌==◌, Bool, true, false, List, Option, Some, None, Result, Ok, Err, codes}
+use Rattle.std.specs.Prelude.{◌≡◌, ◌⊎◌, ℕ, ◌==◌, Bool, true, false, not, ◌&&◌, List, Option, Some, None, Result, Ok, Err, codes}
 use Rattle.std.specs.Io.KnownBytes.{Keeps}
 use Rattle.tsb_program.specs.tsb_watched.Seen.{Seen, Tells}
 use Rattle.tsb_program.specs.Failures.{Fails}
@@ -94,10 +94,10 @@ abbrev pub TellsWhere : Bool → List ℕ → Seen → Seen → Type 0
 TellsWhere true text told tells = Tells told tells text
 TellsWhere false text told tells = tells ≡ told
 
--- a log was made as without a plan, and where it ended well, this was told behind all else
+-- a log was made as without a plan, and where it ended well and all was told, this was told behind it
 abbrev pub LoggedTelling : List ℕ → ℕ → LogWish → (input left old new told tells : Seen) → Type 0
 LoggedTelling text status wish input left old new told tells =
-    (mid : Seen) × Logged status wish input left old new told mid × TellsWhere (status == 0) text mid tells
+    (mid : Seen) × Logged status wish input left old new told mid × TellsWhere (status == 0 && not mid.failed) text mid tells
 
 -- why there is no plan is told: it is refused with 1, or its file or memory failed
 abbrev pub NoPlan : List ℕ → (List ℕ → Option (List ℕ)) → ℕ → Seen → Seen → Type 0

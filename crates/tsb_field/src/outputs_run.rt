@@ -1,10 +1,10 @@
 //! `log` with and without a plan beside the events, which are of outputs of detectors then.
-ghost use Rattle.std.specs.Prelude.{option_map};
+ghost use Rattle.std.specs.Prelude.{◌≡◌, ◌==◌, ◌&&◌, not, option_map};
 ghost use Rattle.tsb_field_log.specs.Mapping.{wires_of};
 ghost use Rattle.tsb_program.specs.tsb_watched.Seen.{seen};
 ghost use Rattle.tsb_text.specs.tsb_objects.Checked.{checked_plan};
 ghost use Rattle.tsb_words.specs.FieldWords.{seen_log};
-ghost use Rattle.tsb_field.specs.LogEnds.{LoggedBeside, LoggedOn, LoggedTelling};
+ghost use Rattle.tsb_field.specs.LogEnds.{LoggedBeside, LoggedOn, LoggedTelling, TellsWhere};
 
 use crate::log_run::write_log;
 use crate::twice::twice_text;
@@ -68,8 +68,16 @@ fn write_telling<R: Read, W: Write, E: Write>(
         (seen R.remaining input.old) (seen R.remaining input.new) (seen W.contents output.old) (seen W.contents output.new) (seen E.contents errors.old) (seen E.contents errors.new) }
 {
     let status = write_log(alloc, asked, input, output, errors);
-    if status != 0 {
-        return status;
+    tell_more(errors, status, text)
+}
+
+/// Says this of a log, where it ended well and all was told of it.
+fn tell_more<E: Write>(errors: &mut Watched<E>, status: u8, text: &[u8]) -> u8
+    ensures status { result ≡ status }
+    ensures more { TellsWhere (status == 0 && not errors.old.failed) text.now (seen E.contents errors.old) (seen E.contents errors.new) }
+{
+    if status == 0 && !errors.has_failed() {
+        return tell(errors, Status::Done, text);
     }
-    tell(errors, Status::Done, text)
+    status
 }
