@@ -1,6 +1,7 @@
 -- What reading a file comes to, by what its text gave.
-use Rattle.std.proofs.Common.{ℕ, List, Option, refl}
-use Rattle.std.specs.Prelude.{IfOk, Result, Ok, Err}
+use Rattle.std.proofs.Common.{◌≡◌, ◌≢◌, ℕ, List, Option, inr, refl, true}
+use Rattle.std.specs.Prelude.{IfErr, IfOk, Result, Ok, Err}
+use Rattle.std.specs.declared.io.Error.{Error}
 use Rattle.tsb_log_text.specs.declared.error.LogError.{LogError}
 use Rattle.tsb_log_text.specs.declared.error.LogError.TheVariants as logs
 use Rattle.tsb_log_text.specs.declared.log.LogRow.{LogRow}
@@ -12,9 +13,11 @@ use Rattle.tsb_plan_text.specs.PlanText.{reading}
 use Rattle.tsb_objects.specs.Checked.{checked_plan}
 use Rattle.tsb_objects.specs.declared.checked.Checked.{Checked}
 use Rattle.tsb_program.specs.declared.files.FileError.{FileError}
+use Rattle.tsb_program.specs.declared.files.FileError.TheVariants as files
 use Rattle.tsb_program.specs.declared.read.PlanFault.{PlanFault}
 use Rattle.tsb_program.specs.declared.read.ReadError.{ReadError}
-use Rattle.tsb_program.specs.Read.{IsFront, LogIn, LogRead, PlanFound, PlanIn, PlanPlaced, PlanRead, log_made, placed, plan_made}
+use Rattle.tsb_program.specs.Read.{BlamesFile, IsBlamed, IsFront, LogIn, LogRead, PlanFound, PlanIn, PlanPlaced, PlanRead, log_made, placed, plan_made}
+use Rattle.tsb_watched.specs.declared.watched.Watched.{Watched}
 
 log-read : (answer : Result (List LogRow) LogError) (known : Option (List ℕ)) (text : List ℕ) → IsFront known 67108865 text
     → Gives answer (log_of text) → LogRead (log_made answer) known
@@ -69,3 +72,51 @@ pub plan-found : {V : Type 0} (text_of : V → List ℕ) (read : Result V FileEr
     → IfOk read (λ v. IsFront known 1048577 (text_of v)) → PlanPlaced text_of read result → PlanFound result known
 plan-found text_of (Ok v) result known front came = rw came.2 (plan-placed came.0 known (text_of v) front came.1)
 plan-found text_of (Err why) result known front came = rw came tt
+
+-- a fault of a file that was opened is that of a read
+pub failed-read : {V R : Type 0} (may_open : Result R Error → Type 0) (reader : R) (watched : Watched R) (read : Result V FileError) → may_open (Ok reader)
+    → IfErr read (λ fault. fault ≢ files.Memory → watched.failed ≡ true) → IfErr read (IsBlamed may_open)
+failed-read may_open reader watched (Ok v) opened blame = tt
+failed-read may_open reader watched (Err fault) opened blame = λ is_none. inr (reader, opened, watched, blame is_none)
+
+-- where a text was read, no file is to blame
+log-blamed : {R : Type 0} (may_open : Result R Error → Type 0) (answer : Result (List LogRow) LogError) → IfErr (log_made answer) (BlamesFile may_open)
+log-blamed may_open (Ok rows) = tt
+log-blamed may_open (Err logs.Memory) = λ is_none. absurd (is_none refl)
+log-blamed may_open (Err logs.TooLarge) = tt
+log-blamed may_open (Err (logs.Malformed n)) = tt
+log-blamed may_open (Err (logs.TickOrder n)) = tt
+
+plan-blamed : {R : Type 0} (may_open : Result R Error → Type 0) (answer : Result Checked PlanError) → IfErr (plan_made answer) (BlamesFile may_open)
+plan-blamed may_open (Ok plan) = tt
+plan-blamed may_open (Err told.Memory) = λ is_none. absurd (is_none refl)
+plan-blamed may_open (Err told.TooLarge) = tt
+plan-blamed may_open (Err told.NotJson) = tt
+plan-blamed may_open (Err told.NotATable) = tt
+plan-blamed may_open (Err told.Version) = tt
+plan-blamed may_open (Err (told.NoSuchObject name)) = tt
+plan-blamed may_open (Err (told.ObjectNotATable o)) = tt
+plan-blamed may_open (Err (told.NoSuchIndex o index)) = tt
+plan-blamed may_open (Err (told.NotAWholeNumber o index)) = tt
+plan-blamed may_open (Err (told.OutOfRange o index)) = tt
+plan-blamed may_open (Err (told.Rule r)) = tt
+
+place-blamed : {R : Type 0} (may_open : Result R Error → Type 0) (made : Result Checked (ReadError PlanError)) (text : List ℕ) → IfErr made (BlamesFile may_open)
+    → IfErr (placed made text) (λ fault. BlamesFile may_open fault.why)
+place-blamed may_open (Ok plan) text blame = tt
+place-blamed may_open (Err why) text blame = blame
+
+pub log-blames : {V R : Type 0} (may_open : Result R Error → Type 0) (text_of : V → List ℕ) (read : Result V FileError) (result : Result (List LogRow) (ReadError LogError))
+    → IfErr read (IsBlamed may_open) → LogIn text_of read result → IfErr result (BlamesFile may_open)
+log-blames may_open text_of (Ok v) result blame came = rw came.2 (log-blamed may_open came.0)
+log-blames may_open text_of (Err why) result blame came = rw came blame
+
+pub plan-blames : {V R : Type 0} (may_open : Result R Error → Type 0) (text_of : V → List ℕ) (read : Result V FileError) (result : Result Checked (ReadError PlanError))
+    → IfErr read (IsBlamed may_open) → PlanIn text_of read result → IfErr result (BlamesFile may_open)
+plan-blames may_open text_of (Ok v) result blame came = rw came.2 (plan-blamed may_open came.0)
+plan-blames may_open text_of (Err why) result blame came = rw came blame
+
+pub fault-blames : {V R : Type 0} (may_open : Result R Error → Type 0) (text_of : V → List ℕ) (read : Result V FileError) (result : Result Checked PlanFault)
+    → IfErr read (IsBlamed may_open) → PlanPlaced text_of read result → IfErr result (λ fault. BlamesFile may_open fault.why)
+fault-blames may_open text_of (Ok v) result blame came = rw came.2 (place-blamed may_open (plan_made came.0) (text_of v) (plan-blamed may_open came.0))
+fault-blames may_open text_of (Err why) result blame came = rw came blame

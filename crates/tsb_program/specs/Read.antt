@@ -1,5 +1,7 @@
 -- What a program has of the files that it read. The bytes of a file are known or not.
-use Rattle.std.specs.Prelude.{◌≡◌, ℕ, List, take, IfSome, Option, None, Result, Ok, Err}
+use Rattle.std.specs.Prelude.{◌≡◌, ◌≢◌, ◌⊎◌, ℕ, List, take, IfSome, Option, None, Result, Ok, Err, true}
+use Rattle.std.specs.IoError.{error_kind}
+use Rattle.std.specs.declared.io.Error.{Error}
 use Rattle.std.specs.declared.io.ErrorKind.{ErrorKind}
 use Rattle.std.specs.declared.io.ErrorKind.TheVariants as device
 use Rattle.tsb_json_place.specs.Places.{json_place}
@@ -22,6 +24,7 @@ use Rattle.tsb_program.specs.declared.files.FileError.TheVariants as files
 use Rattle.tsb_program.specs.declared.read.PlanFault.{PlanFault}
 use Rattle.tsb_program.specs.declared.read.ReadError.{ReadError}
 use Rattle.tsb_program.specs.declared.read.ReadError.TheVariants as faults
+use Rattle.tsb_watched.specs.declared.watched.Watched.{Watched}
 
 -- these are the first bytes of a file, where its bytes are known, and all of them where there are no more than so many
 abbrev pub IsFront : Option (List ℕ) → ℕ → List ℕ → Type 0
@@ -42,6 +45,23 @@ file_fault device.NotFound = files.Read NoSuchFile
 file_fault device.PermissionDenied = files.Read NotPermitted
 file_fault device.IsADirectory = files.Read Folder
 file_fault kind = files.Read Other
+
+-- the file was not opened, and this is what was said of it
+abbrev pub IsNotOpened : {R : Type 0} → (Result R Error → Type 0) → FileError → Type 0
+IsNotOpened may_open fault = (error : Error) × may_open (Err error) × (fault ≡ file_fault (error_kind error))
+
+-- the file was opened, and a read of it has failed or was interrupted
+abbrev pub HasFailedRead : {R : Type 0} → (Result R Error → Type 0) → Type 0
+HasFailedRead {R} may_open = (reader : R) × may_open (Ok reader) × (watched : Watched R) × (watched.failed ≡ true)
+
+-- a file or a read of it is to blame for this fault, but where memory ran out
+abbrev pub IsBlamed : {R : Type 0} → (Result R Error → Type 0) → FileError → Type 0
+IsBlamed may_open fault = fault ≢ files.Memory → IsNotOpened may_open fault ⊎ HasFailedRead may_open
+
+-- the same of why a file gives nothing: a refusal blames its text
+abbrev pub BlamesFile : {R T : Type 0} → (Result R Error → Type 0) → ReadError T → Type 0
+BlamesFile may_open (faults.Failed why) = IsBlamed may_open why
+BlamesFile may_open (faults.Refused fault) = Unit {0}
 
 -- what was made of a log's text: out of memory is no refusal
 abbrev pub log_made : Result (List LogRow) LogError → Result (List LogRow) (ReadError LogError)

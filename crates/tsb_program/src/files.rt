@@ -1,14 +1,17 @@
 //! Where files come from.
 
-ghost use Rattle.std.specs.Prelude.{◌≡◌, ℕ, List, Option, None, IfOk};
+ghost use Rattle.std.specs.Prelude.{◌≡◌, ◌≢◌, ℕ, List, Option, None, Result, IfErr, IfOk, true, ⊤};
+ghost use Rattle.std.specs.Io.Take.{take_inner, take_limit};
 ghost use Rattle.std.specs.IoError.{error_kind};
+ghost use Rattle.std.specs.declared.io.Error.{Error};
 ghost use Rattle.tsb_program.specs.Failures.{failure_of};
-ghost use Rattle.tsb_program.specs.Read.{IsFront, file_fault};
+ghost use Rattle.tsb_program.specs.Read.{IsBlamed, IsFront, file_fault};
 
 use crate::failure::Failure;
 use std::alloc::Global;
 use std::fs::File;
-use std::io::{self, ErrorKind, Read};
+use std::io::{self, ErrorKind, Read, Take};
+use tsb_watched::Watched;
 
 /// A source of files.
 pub trait Files {
@@ -18,9 +21,13 @@ pub trait Files {
     // The bytes of the file at this path, where they are known.
     ghost bytes: { Self → List ℕ → Option (List ℕ) } = { λ _ _. None };
 
+    // What may come of opening the file at this path.
+    ghost may_open: { Self → List ℕ → Result Self.Reader Error → Type 0 } = { λ _ _ _. ⊤ };
+
     /// The file at this path, to be read.
     fn open(&self, path: &str) -> io::Result<Self::Reader>
-        ensures { IfOk result (λ reader. Self.Reader.remaining reader ≡ bytes self.now path.now) };
+        ensures bytes { IfOk result (λ reader. Self.Reader.remaining reader ≡ bytes self.now path.now) }
+        ensures opened { may_open self.now path.now result };
 }
 
 /// The files of the machine.
@@ -85,16 +92,36 @@ impl From<io::Error> for FileError {
     }
 }
 
-/// The first bytes of the file at this path, at most `most` of them.
+/// The first bytes of the file at this path, at most `most` of them. A fault of the file is that of opening it, or of a
+/// read of it.
 pub fn read_file<F: Files>(
     alloc: Global,
     files: &F,
     path: &str,
     most: usize,
 ) -> Result<Vec<u8>, FileError>
-    ensures { IfOk result (λ read. IsFront (F.bytes files.now path.now) most read.items) }
+    ensures bytes { IfOk result (λ read. IsFront (F.bytes files.now path.now) most read.items) }
+    ensures blame { IfErr result (IsBlamed (F.may_open files.now path.now)) }
+{
+    match files.open(path) {
+        Ok(reader) => read_opened(alloc, &mut Watched::new(reader).take(most as u64)),
+        Err(fault) => Err(FileError::from(fault)),
+    }
+}
+
+/// What a file gives up to a limit. Reads that are interrupted are tried again.
+fn read_opened<R: Read + Drop>(
+    alloc: Global,
+    file: &mut Take<Watched<R>>,
+) -> Result<Vec<u8>, FileError>
+    ensures bytes { IfOk result (λ read.
+        IsFront (R.remaining (take_inner file.old).device) (take_limit file.old) read.items) }
+    ensures blame { IfErr result (λ fault. fault ≢ FileError.Memory → (take_inner file.new).failed ≡ true) }
 {
     let mut bytes = Vec::new(alloc);
-    files.open(path)?.take(most as u64).read_to_end(&mut bytes)?;
-    Ok(bytes)
+    match file.read_to_end(&mut bytes) {
+        Ok(_) => Ok(bytes),
+        Err(fault) if file.get_ref().has_failed() => Err(FileError::from(fault)),
+        Err(_) => Err(FileError::Memory),
+    }
 }

@@ -1,6 +1,6 @@
 //! Files that are read, and what they give.
-ghost use Rattle.std.specs.Prelude.{◌≡◌, vec_items};
-ghost use Rattle.tsb_program.specs.Read.{LogIn, LogRead, PlanFound, PlanIn, PlanPlaced, PlanRead, fault_place, log_made, place_of, placed, plan_made};
+ghost use Rattle.std.specs.Prelude.{◌≡◌, IfErr, vec_items};
+ghost use Rattle.tsb_program.specs.Read.{BlamesFile, LogIn, LogRead, PlanFound, PlanIn, PlanPlaced, PlanRead, fault_place, log_made, place_of, placed, plan_made};
 
 use crate::files::{FileError, Files, read_file};
 use std::alloc::Global;
@@ -28,7 +28,8 @@ pub struct PlanFault {
 
 /// The log in the file at this path. Where it is too large, one byte more than the longest log has is read.
 pub fn log_of<F: Files>(alloc: Global, files: &F, path: &str) -> Result<Log, ReadError<LogError>>
-    ensures { LogRead result (F.bytes files.now path.now) }
+    ensures read { LogRead result (F.bytes files.now path.now) }
+    ensures blame { IfErr result (BlamesFile (F.may_open files.now path.now)) }
 {
     log_in(alloc, read_file(alloc, files, path, LIMIT + 1))
 }
@@ -60,7 +61,8 @@ pub fn plan_of<F: Files>(
     files: &F,
     path: &str,
 ) -> Result<Checked, ReadError<PlanError>>
-    ensures { PlanRead result (F.bytes files.now path.now) }
+    ensures read { PlanRead result (F.bytes files.now path.now) }
+    ensures blame { IfErr result (BlamesFile (F.may_open files.now path.now)) }
 {
     plan_in(alloc, read_file(alloc, files, path, PLAN_LIMIT + 1))
 }
@@ -88,7 +90,8 @@ fn plan_made(answer: Result<Checked, PlanError>) -> Result<Checked, ReadError<Pl
 
 /// The plan in the file at this path, as `plan_of` gives it, or why there is none and where the text stops being JSON.
 pub fn plan_or_place<F: Files>(alloc: Global, files: &F, path: &str) -> Result<Checked, PlanFault>
-    ensures { PlanFound result (F.bytes files.now path.now) }
+    ensures read { PlanFound result (F.bytes files.now path.now) }
+    ensures blame { IfErr result (λ fault. BlamesFile (F.may_open files.now path.now) fault.why) }
 {
     plan_placed(alloc, read_file(alloc, files, path, PLAN_LIMIT + 1))
 }

@@ -8,7 +8,7 @@ pub returns-in-Err : goal.returns-in-Err
 returns-in-Err g c = inr (
   refl,
   refl,
-  no-plan c.in-Err.fault c.refuse_plan.result c.args.plan.now c.args.log.now (g.F.Files.bytes c.args.files.now) (seen g.E.Write.contents c.args.errors.now) (seen g.E.Write.contents c.refuse_plan.new.errors) c.in-Err.ensures c.refuse_plan.ensures,
+  no-plan c.in-Err.fault c.refuse_plan.result c.args.plan.now c.args.log.now (g.F.Files.bytes c.args.files.now) (seen g.E.Write.contents c.args.errors.now) (seen g.E.Write.contents c.refuse_plan.new.errors) c.in-Err.ensures.read c.refuse_plan.ensures,
 )
 
 pub returns-in-Err-log_of : goal.returns-in-Err-log_of
@@ -16,8 +16,8 @@ returns-in-Err-log_of g c = inr (
   refl,
   refl,
   no-log c.in-Err-log_of.fault (checked_plan c.in-Ok.checked) c.refuse_log.result c.args.plan.now c.args.log.now (g.F.Files.bytes c.args.files.now)
-      (seen g.E.Write.contents c.args.errors.now) (seen g.E.Write.contents c.refuse_log.new.errors) c.in-Ok.ensures c.in-Err-log_of.ensures c.refuse_log.ensures,
+      (seen g.E.Write.contents c.args.errors.now) (seen g.E.Write.contents c.refuse_log.new.errors) c.in-Ok.ensures.read c.in-Err-log_of.ensures.read c.refuse_log.ensures,
 )
 
 pub returns : goal.returns
-returns g c = inl (record { plan = checked_plan c.in-Ok.checked; log = c.in-Ok-log_of.rows }, c.in-Ok.ensures, c.in-Ok-log_of.ensures, c.record_run.ensures)
+returns g c = inl (record { plan = checked_plan c.in-Ok.checked; log = c.in-Ok-log_of.rows }, c.in-Ok.ensures.read, c.in-Ok-log_of.ensures.read, c.record_run.ensures)

@@ -7,5 +7,5 @@ pub returns-in-Err : goal.returns-in-Err
 returns-in-Err g c = inr (
   refl,
   refl,
-  stops c.in-Err.fault c.args.path.now _ c.refuse_plan.result (seen g.E.Write.contents c.args.errors.now) (seen g.E.Write.contents c.refuse_plan.new.errors) c.in-Err.ensures c.refuse_plan.ensures,
+  stops c.in-Err.fault c.args.path.now _ c.refuse_plan.result (seen g.E.Write.contents c.args.errors.now) (seen g.E.Write.contents c.refuse_plan.new.errors) c.in-Err.ensures.read c.refuse_plan.ensures,
 )
