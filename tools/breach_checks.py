@@ -39,7 +39,8 @@ def case_faults(answers: Answers) -> list[str]:
     faults = []
     for number, case in enumerate(breach_cases.CASES):
         rule = f"K{case.rule} "
-        for plan, lines, wanted in zip(plans[2 * number:], given[2 * number:], [case.lines, []]):
+        no_lines: list[str] = []
+        for plan, lines, wanted in zip(plans[2 * number:], given[2 * number:], [list(case.lines), no_lines]):
             found = [line.removeprefix(rule) for line in lines if line.startswith(rule)]
             if sorted(found) != sorted(wanted) or lines != breach_rules.breaches(plan):
                 faults.append(f"K{case.rule} with {case.change}: {lines}, not {wanted}, by the reading {breach_rules.breaches(plan)}")
