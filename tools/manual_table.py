@@ -30,7 +30,7 @@ KINDS = """tick pattern switch fault reset begin set verify commit abort""".spli
 NOT_SHOWN = ["E1", "E11"]
 
 # How the names of objects begin, in the order in which the manual has them.
-STARTS = ["phase", "vehicle", "pedestrian", "overlap", "pattern", "split", "sequence", "preempt", "unit"]
+STARTS = ["phase", "vehicle", "pedestrian", "overlap", "coord", "pattern", "split", "sequence", "preempt", "unit"]
 
 
 def comments(source):

@@ -14,7 +14,7 @@ pub fn rows_are_told()
 
 /// The record of an input is what differs in each row, one row after the other.
 ///
-/// Mistake: the cells of each row are numbered from 0, `unnumbered` (`names_1562`, `would_name_0`).
+/// Mistake: the cells of each row are numbered from 0, `unnumbered` (`names_its_cell`, `would_name_0`).
 /// Witness: `all_can_be` of Examples, rows of tick 49 that differ in one cell (`differ`).
 pub fn records_are_joined()
     ensures { RecordsAreJoined }
@@ -70,7 +70,8 @@ pub fn rows_stay_by()
 /// What differs is what differs in the rows that changed.
 ///
 /// Mistake: a record that has each cell, whether it differs or not, `each_from` (`has_none`, `would_have_each`).
-/// Witness: `names_1562` of Mistakes, where plan, desk and monitor stay; `names_1230`, where only the desk changes.
+/// Witness: `names_its_cell` of Mistakes, where plan, desk and monitor stay; `names_the_desk`, where only the desk
+/// changes.
 pub fn changes_are_of_rows()
     ensures none { NothingDiffers }
     ensures layers { ChangesOfTheLayers }

@@ -1,8 +1,8 @@
 -- What a plan says of detectors, overlaps, patterns, splits and preempts, each named by its number from 1. Times are in
--- tenths of a second. Names are those of NTCIP 1202; the numbers of split modes and of overlap types are the profile's
--- own.
+-- tenths of a second. Names are those of NTCIP 1202; the numbers of split modes, overlap types and force modes are the
+-- profile's own.
 use Rattle.std.specs.Prelude.{ℕ, ◌+◌, ◌-◌, ◌*◌, ◌==◌, Bool, not, if◌then◌else◌, Option, Some, None}
-use Rattle.tsb_plan.specs.declared.object.Object.TheVariants.{VehicleDetectorCallPhase, VehicleDetectorDelay, VehicleDetectorExtend, VehicleDetectorNoActivity, VehicleDetectorMaxPresence, VehicleDetectorErraticCounts, VehicleDetectorFailTime, PedestrianDetectorCallPhase, OverlapIncludedPhases, PatternCycleTime, PatternOffsetTime, PatternSplitNumber, PatternSequenceNumber, SplitTime, SplitMode as SplitModeObject, SplitCoordPhase, PreemptDelay, PreemptMinimumDuration, PreemptMaximumPresence, PreemptMinimumGreen, PreemptMinimumWalk, PreemptEnterPedClear, PreemptTrackGreen, PreemptTrackPhase, PreemptDwellPhase, PreemptExitPhase, OverlapType, OverlapModifierPhases}
+use Rattle.tsb_plan.specs.declared.object.Object.TheVariants.{VehicleDetectorCallPhase, VehicleDetectorDelay, VehicleDetectorExtend, VehicleDetectorNoActivity, VehicleDetectorMaxPresence, VehicleDetectorErraticCounts, VehicleDetectorFailTime, PedestrianDetectorCallPhase, OverlapIncludedPhases, PatternCycleTime, PatternOffsetTime, PatternSplitNumber, PatternSequenceNumber, SplitTime, SplitMode as SplitModeObject, SplitCoordPhase, PreemptDelay, PreemptMinimumDuration, PreemptMaximumPresence, PreemptMinimumGreen, PreemptMinimumWalk, PreemptEnterPedClear, PreemptTrackGreen, PreemptTrackPhase, PreemptDwellPhase, PreemptExitPhase, OverlapType, OverlapModifierPhases, CoordForceMode}
 use Rattle.tsb_plan.specs.declared.plan.patterns.SplitMode.{SplitMode}
 use Rattle.tsb_plan.specs.declared.plan.patterns.SplitMode.TheVariants.{NoMode, MinimumRecall, MaximumRecall, PedestrianRecall, MaximumAndPedestrianRecall, Omitted}
 use Rattle.tsb_plan.specs.Plan.{Plan}
@@ -65,6 +65,11 @@ abbrev pub is_minus_green_yellow : Plan → ℕ → Bool
 is_minus_green_yellow plan o = plan.value OverlapType o == 1
 
 -- patterns
+
+-- late force-off in all patterns: a phase that is not coordinated is forced off from its instant up to that of a
+-- coordinated phase, and otherwise at its instant alone
+abbrev pub forces_late : Plan → Bool
+forces_late plan = plan.value CoordForceMode 1 == 1
 
 -- the cycle length of the pattern, in tenths of a second; 0 for a pattern that is not used
 abbrev pub cycle : Plan → ℕ → ℕ

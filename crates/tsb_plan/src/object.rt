@@ -134,6 +134,8 @@ pub enum Object {
     OverlapType,
     /// `overlapModifierPhases`: overlap, list of phases; 0 to 65,535.
     OverlapModifierPhases,
+    /// `coordForceMode`: 1 alone, 0 force-off at the instant, 1 late force-off (profile); 0 to 1.
+    CoordForceMode,
 }
 
 /// What there is to know of an object. Its least value is 0, which it has where a plan gives none.
@@ -224,6 +226,7 @@ macro_rules! table {
             PhaseDynamicMaxStep         "phaseDynamicMaxStep"          1206 [16 255]    [absent]    free
             OverlapType                 "overlapType"                  1222 [4 1]       [absent]    structural
             OverlapModifierPhases       "overlapModifierPhases"        1226 [4 65535]   [absent]    structural
+            CoordForceMode              "coordForceMode"               1230 [1 1]       [absent]    free
         }
     };
 }

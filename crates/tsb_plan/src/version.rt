@@ -8,8 +8,7 @@ use crate::object::{Object, Range, TABLE};
 #[derive(Clone, Copy, PartialEq, Eq)]
 pub enum Version {
     /// Version 1: it knows phases 1 to 8 and sides 1 and 2, so some objects have fewer indices or values
-    /// than in a plan, and `phaseDynamicMaxLimit`, `phaseDynamicMaxStep`, `overlapType` and
-    /// `overlapModifierPhases` are absent.
+    /// than in a plan, and those after `unitMax2` in the table are absent.
     One,
     /// Version 2: it knows 16 phases and 4 sides, and all objects as a plan has them.
     Two,

@@ -24,7 +24,7 @@ fn id(object: Object, index: u32) -> ObjectId {
 }
 
 /// Objects, each with how many indices it has and its greatest value.
-const RANGES: [Value; 16] = [
+const RANGES: [Value; 17] = [
     (Object::PhaseEnabled, 16, 1),
     (Object::PhaseSide, 16, 4),
     (Object::PhaseConcurrency, 16, 65_535),
@@ -41,6 +41,7 @@ const RANGES: [Value; 16] = [
     (Object::UnitRedRevert, 1, 255),
     (Object::PhaseDynamicMaxStep, 16, 255),
     (Object::OverlapType, 4, 1),
+    (Object::CoordForceMode, 1, 1),
 ];
 
 /// Whether the object has so many indices and this greatest value, said in both ways.
@@ -64,7 +65,7 @@ fn have_ranges(wanted: &[Value]) -> bool {
 
 #[test]
 fn objects_have_their_ranges(rt: HostRuntime) {
-    assert!(rt; have_ranges(&RANGES) && Object::ALL.len() == 61);
+    assert!(rt; have_ranges(&RANGES) && Object::ALL.len() == 62);
     laws::cells_are_told_apart();
     laws::values_are_told_apart();
 }

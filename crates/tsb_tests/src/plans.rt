@@ -163,7 +163,8 @@ fn tells_of_overlaps(plan: &Plan) -> bool {
 /// Whether the plan tells of patterns.
 fn tells_of_patterns(plan: &Plan) -> bool {
     let (pattern, unused) = (Pattern::of(2), Pattern::of(3));
-    plan.cycle(pattern) == 800
+    plan.forces_late()
+        && plan.cycle(pattern) == 800
         && plan.offset(pattern) == 790
         && plan.is_used(pattern)
         && !plan.is_used(unused)
@@ -205,6 +206,7 @@ fn plans_tell_of_overlaps_patterns_and_preempts(rt: HostRuntime) {
     let values = [
         (Object::OverlapType, 1, 1),
         (Object::OverlapModifierPhases, 1, 32),
+        (Object::CoordForceMode, 1, 1),
         (Object::SplitMode, 3, 5),
         (Object::SplitMode, 4, 4),
         (Object::SplitMode, 128, 2),
@@ -218,5 +220,6 @@ fn plans_tell_of_overlaps_patterns_and_preempts(rt: HostRuntime) {
         panic!(rt; "a value was refused");
     };
     assert!(rt; tells_of_overlaps(&plan) && tells_of_patterns(&plan));
+    assert!(rt; !Plan::quad().forces_late());
     assert!(rt; tells_of_splits(&plan) && tells_of_preempts(&plan));
 }

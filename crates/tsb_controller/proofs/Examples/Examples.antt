@@ -1,6 +1,6 @@
 -- Rows that meet what the laws of rows and records ask for: of tick 49, as at power-up but for the side that the rings
 -- serve. And a tick of them, by computing.
-use Rattle.std.proofs.Common.{◌≡◌, ℕ, ◌≤◌, [], ◌∷◌, map, None, refl, arith}
+use Rattle.std.proofs.Common.{◌≡◌, ℕ, ◌+◌, ◌≤◌, [], ◌∷◌, map, None, refl, arith}
 use Rattle.tsb_step.specs.tsb_types.Lists.{run_from}
 use Rattle.tsb_step.specs.tsb_types.Sets.{number_of_bits, all_off}
 use Rattle.tsb_step.specs.tsb_plan.Plan.{empty}
@@ -29,6 +29,7 @@ use Rattle.tsb_transact.specs.Cells.{desk_cells}
 use Rattle.tsb_transact.specs.Desk.{closed}
 use Rattle.tsb_transact.proofs.DeskLemmas.{sound-closed}
 use Rattle.tsb_transact.proofs.ToldLemmas.{states_are_read}
+use Rattle.tsb_step.specs.declared.first_cell.TheConstants.{RINGS}
 use Rattle.tsb_step.specs.MonitorCells.{monitor_cells}
 use Rattle.tsb_step.specs.State.{State}
 use Rattle.tsb_step.specs.Step.{ticked}
@@ -127,7 +128,7 @@ all_can_be n from to = record {
   monitor = (state-read 49 None None tt tt).2;
 }
 
-differ : changes (on_side 1) (on_side 2) ≡ (1559, 1) ∷ []
+differ : changes (on_side 1) (on_side 2) ≡ (RINGS + 4, 1) ∷ []
 unfolding run_from number_of_bits
 differ = refl
 

@@ -19,7 +19,7 @@ use Rattle.tsb_heads.specs.Monitoring.{conflict_of, conflict, green_to_red, judg
 use Rattle.tsb_heads.proofs.Examples.Examples.{through}
 use Rattle.tsb_preempt.specs.Cells.{preempts_in, preempts_cells, service_in}
 use Rattle.tsb_transact.specs.Desk.{closed}
-use Rattle.tsb_step.specs.declared.first_cell.TheConstants.{DETECTORS, CALLS, PHASES, RINGS, COORD}
+use Rattle.tsb_step.specs.declared.first_cell.TheConstants.{DESK, DETECTORS, CALLS, PHASES, RINGS, COORD, PREEMPTS}
 use Rattle.tsb_step.specs.Cells.{clock}
 use Rattle.tsb_step.specs.Past.{ticks_of}
 use Rattle.tsb_step.specs.State.{State}
@@ -79,8 +79,8 @@ unnumbered old new =
     diff old.detectors new.detectors ++ (diff old.calls new.calls ++ (diff old.phases new.phases ++
     (diff old.rings new.rings ++ (diff old.pattern new.pattern ++ diff old.preempts new.preempts))))
 
-names_1562 : all_changes off on ≡ (1562, 0) ∷ []
-names_1562 = refl
+names_its_cell : all_changes off on ≡ (PREEMPTS, 0) ∷ []
+names_its_cell = refl
 
 would_name_0 : unnumbered off.layers on.layers ≡ (0, 0) ∷ []
 would_name_0 = refl
@@ -96,10 +96,10 @@ put_back_whole r es = record {
   preempts = apply_diff r.preempts es;
 }
 
-goes_off : (all_put_back on ((1562, 0) ∷ [])).layers.preempts ≡ 0 ∷ 0 ∷ []
+goes_off : (all_put_back on ((PREEMPTS, 0) ∷ [])).layers.preempts ≡ 0 ∷ 0 ∷ []
 goes_off = refl
 
-would_stay_on : (put_back_whole on.layers ((1562, 0) ∷ [])).preempts ≡ 2 ∷ 0 ∷ []
+would_stay_on : (put_back_whole on.layers ((PREEMPTS, 0) ∷ [])).preempts ≡ 2 ∷ 0 ∷ []
 would_stay_on = refl
 
 -- giving back: a record with what cells hold after the input
@@ -126,10 +126,10 @@ would_be_at_7 = refl
 abbrev pub told_twice : All → All → List (ℕ × ℕ)
 told_twice old new = all_changes old new ++ all_changes old new
 
-has_one : length (part 1562 1 (all_changes off on)) ≡ 1
+has_one : length (part PREEMPTS 1 (all_changes off on)) ≡ 1
 has_one = refl
 
-would_have_two : length (part 1562 1 (told_twice off on)) ≡ 2
+would_have_two : length (part PREEMPTS 1 (told_twice off on)) ≡ 2
 would_have_two = refl
 
 -- of the rows that changed: a record that has each cell, whether it differs or not
@@ -143,8 +143,8 @@ has_none = refl
 abbrev pub begun : All
 begun = record off { desk = 1 ∷ [] }
 
-names_1230 : all_changes off begun ≡ (1230, 0) ∷ []
-names_1230 = refl
+names_the_desk : all_changes off begun ≡ (DESK, 0) ∷ []
+names_the_desk = refl
 
 would_have_each : each_from 0 on.plan ≡ (0, 1) ∷ (1, 1) ∷ []
 would_have_each = refl
@@ -155,7 +155,7 @@ changes_without old new =
     shifted DETECTORS (diff old.detectors new.detectors) ++ (shifted CALLS (diff old.calls new.calls) ++
     (shifted PHASES (diff old.phases new.phases) ++ (shifted RINGS (diff old.rings new.rings) ++ shifted COORD (diff old.pattern new.pattern))))
 
-has_a_change : changes off.layers on.layers ≡ (1562, 0) ∷ []
+has_a_change : changes off.layers on.layers ≡ (PREEMPTS, 0) ∷ []
 has_a_change = refl
 
 would_have_none : changes_without off.layers on.layers ≡ []

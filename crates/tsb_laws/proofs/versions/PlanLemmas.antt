@@ -6,9 +6,9 @@ use Rattle.std.proofs.lemmas.Bool.Decides.{nat_tests}
 use Rattle.tsb_step.specs.tsb_types.Lists.{first, run_from}
 use Rattle.tsb_step.specs.tsb_types.Sets.{names}
 use Rattle.tsb_step.proofs.tsb_types.SetLemmas.{names-above}
-use Rattle.tsb_step.specs.tsb_plan.declared.object.Object.TheVariants.{PhaseEnabled, PhaseRing, PhaseConcurrency, SplitTime, SplitMode, SplitCoordPhase, SequenceData}
+use Rattle.tsb_step.specs.tsb_plan.declared.object.Object.TheVariants.{PhaseEnabled, PhaseRing, PhaseConcurrency, SplitTime, SplitMode, SplitCoordPhase, SequenceData, CoordForceMode}
 use Rattle.tsb_step.specs.tsb_plan.Plan.{Plan, phases, is_enabled, is_concurrent, sequence}
-use Rattle.tsb_step.specs.tsb_plan.Parts.{split_index, mode_of, split_time, split_mode, is_omitted, is_coordinated}
+use Rattle.tsb_step.specs.tsb_plan.Parts.{forces_late, split_index, mode_of, split_time, split_mode, is_omitted, is_coordinated}
 use Rattle.tsb_step.specs.tsb_ring.Rings.{Ring, Ring1, Ring2, in_ring}
 use Rattle.tsb_laws.specs.Widened.{IsNarrow, widened, widened_row}
 use Rattle.tsb_laws.proofs.versions.ListLemmas.{is_narrow, is_beyond, IsSameOnNarrow, IsBeyondNarrow, first-phases, any-phases, all-phases, sum-phases}
@@ -116,6 +116,15 @@ is_coordinated-same plan t p narrow in_it = ap (λ n. n == 1) (split-value plan 
 
 pub not-coordinated : (plan : Plan) (t p : ℕ) → is_beyond p ≡ true → is_coordinated (widened plan) t p ≡ false
 not-coordinated plan t p out = ap (λ n. n == 1) (split-behind (plan.value SplitCoordPhase) t p out)
+
+-- ## Force modes
+
+-- version 1 has no force mode, so force-off is never late
+pub not-late : (plan : Plan) → IsNarrow plan → forces_late plan ≡ false
+not-late plan narrow = rw (narrow.placed CoordForceMode 1 refl) refl
+
+pub forces_late-same : (plan : Plan) → forces_late (widened plan) ≡ forces_late plan
+forces_late-same plan = refl
 
 -- ## Sequences
 

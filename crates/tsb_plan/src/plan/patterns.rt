@@ -46,9 +46,17 @@ fn places_before(sequence: Sequence, ring: Ring) -> u32
 }
 
 impl Plan {
-    ghost use Rattle.tsb_plan.specs.Parts.{cycle, is_used, offset, split_of, sequence_of, split_time, split_mode, is_omitted, is_coordinated};
+    ghost use Rattle.tsb_plan.specs.Parts.{forces_late, cycle, is_used, offset, split_of, sequence_of, split_time, split_mode, is_omitted, is_coordinated};
     ghost use Rattle.tsb_plan.specs.PlanOf.{plan_of};
     ghost use Rattle.tsb_plan.specs.Plan.{sequence as sequence_places};
+
+    /// Whether force-off is late (`coordForceMode` 1, profile): a phase that is not coordinated is forced off from its
+    /// instant up to that of a coordinated phase, and otherwise at its instant alone.
+    pub fn forces_late(&self) -> bool
+        ensures { result ≡ forces_late (plan_of self.now) }
+    {
+        self.value(Object::CoordForceMode, 1) == 1
+    }
 
     /// The cycle of the pattern, 0 where the pattern is not used (`patternCycleTime`), in tenths of a
     /// second.

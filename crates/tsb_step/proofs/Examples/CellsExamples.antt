@@ -64,7 +64,7 @@ unfolding opened busy
 how_many = refl
 
 first_cells : DESK ∷ DETECTORS ∷ CALLS ∷ PHASES ∷ RINGS ∷ COORD ∷ PREEMPTS ∷ MONITOR ∷ ALL_CELLS ∷ [] ≡
-    1230 ∷ 1362 ∷ 1416 ∷ 1434 ∷ 1555 ∷ 1561 ∷ 1562 ∷ 1572 ∷ 1579 ∷ []
+    1231 ∷ 1363 ∷ 1417 ∷ 1435 ∷ 1556 ∷ 1562 ∷ 1563 ∷ 1573 ∷ 1580 ∷ []
 first_cells = refl
 
 -- the plan: phaseEnabled of phase 8, and sequenceData at its index 20, which is phase 8
@@ -73,12 +73,12 @@ unfolding opened busy
 plan_cells_stand = refl
 
 -- the desk's owner, the last timer of the detectors, the last count, the first list of the phases
-ends_stand : slice_index (cells_of busy) 1230 ∷ slice_index (cells_of busy) 1433 ∷ slice_index (cells_of busy) 1435 ∷ [] ≡ 3 ∷ 5 ∷ 32768 ∷ []
+ends_stand : slice_index (cells_of busy) 1231 ∷ slice_index (cells_of busy) 1434 ∷ slice_index (cells_of busy) 1436 ∷ [] ≡ 3 ∷ 5 ∷ 32768 ∷ []
 unfolding opened busy
 ends_stand = refl
 
 -- the rings' side, the pattern, the preempt in service
-more_stand : slice_index (cells_of busy) 1559 ∷ slice_index (cells_of busy) 1561 ∷ slice_index (cells_of busy) 1568 ∷ [] ≡ 1 ∷ 2 ∷ 4 ∷ []
+more_stand : slice_index (cells_of busy) 1560 ∷ slice_index (cells_of busy) 1562 ∷ slice_index (cells_of busy) 1569 ∷ [] ≡ 1 ∷ 2 ∷ 4 ∷ []
 unfolding opened busy
 more_stand = refl
 
