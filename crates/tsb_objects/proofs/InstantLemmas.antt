@@ -1,11 +1,11 @@
 -- Force-off instants, found by residues of what they are counted from.
-use Rattle.std.proofs.Common.{◌≡◌, ℕ, ◌+◌, ◌-◌, ◌%◌, ◌<◌, ◌==◌, Bool, true, false, not, ◌&&◌, if◌then◌else◌, Option, Some, None, IfSome, refl, arith, ap, sym, subst, ◌∙◌}
+use Rattle.std.proofs.Common.{◌≡◌, ℕ, ◌+◌, ◌-◌, ◌%◌, ◌<◌, ◌==◌, nat_le, nat_lt, max, Bool, true, false, ◌&&◌, ◌||◌, if◌then◌else◌, Option, Some, None, IfSome, arith, ap, sym, subst, ◌∙◌}
 use Rattle.std.proofs.Math.Nat.{mod-add-mod, mod-lt}
 use Rattle.std.proofs.lemmas.Bool.Decides.{nat_tests}
 use Rattle.tsb_plan.specs.Parts.{cycle, is_used}
 use Rattle.tsb_plan.specs.Plan.{Plan, is_enabled, yellow_change, red_clear}
-use Rattle.tsb_objects.specs.Instants.{residue_of_difference, end_of, instant_from, reference, instant_by, force_off, agree}
-use Rattle.tsb_objects.specs.PatternTables.{instant_in}
+use Rattle.tsb_objects.specs.Instants.{residue_of_difference, end_of, instant_from, reference, instant_by, force_off, agree, late_end, is_late, forces_off}
+use Rattle.tsb_objects.specs.PatternTables.{instant_in, end_behind}
 
 -- the residue of a difference is that of the residues' difference
 pub from_residues : (m a b y r : ℕ) → (a % m + (m - (b % m + (y + r)) % m)) % m ≡ residue_of_difference m a (b + y + r)
@@ -36,10 +36,39 @@ pub instants-below : (plan : Plan) (n p : ℕ) (o : Option ℕ) → is_used plan
 instants-below plan n p None used is = tt
 instants-below plan n p (Some i) used is = instant-below plan n p i used (sym is)
 
--- the word of an instant, looked at as it is
-pub at-word : (local word : ℕ) → (not (word == 65535) && local == word) ≡ agree (Some local) (instant_in word)
-at-word local word = go (word == 65535)
+-- ## The words of an instant and an end, looked at as they are
+
+-- no tick is before an end of 0
+none-before : (b : Bool) (local : ℕ) → (b && nat_lt local 0) ≡ false
+none-before b local = grind (arith, nat_tests)
+
+-- a word that is an instant is its number
+is-number : (word i : ℕ) → instant_in word ≡ Some i → word ≡ i
+is-number word i is = go (word == 65535) is
   where
-    go : (b : Bool) → (not b && local == word) ≡ agree (Some local) (if b then None else Some word)
-    go true = refl
-    go false = refl
+    go : (b : Bool) → (if b then None else Some word) ≡ Some i → word ≡ i
+    go true e = cc
+    go false e = cc
+
+-- at the instant alone, and late as well
+at-alone : (local i : ℕ) → (nat_le i local && nat_lt local (max (i + 1) 0)) ≡ ((local == i) || false)
+at-alone local i = grind (arith, nat_tests)
+
+at-or-late : (local i end : ℕ) → (nat_le i local && nat_lt local (max (i + 1) end)) ≡ ((local == i) || (nat_le i local && nat_lt local end))
+at-or-late local i end = grind (arith, nat_tests)
+
+between : (local word end : ℕ) (instant late : Option ℕ) → instant_in word ≡ instant → end ≡ end_behind instant late →
+    (nat_le word local && nat_lt local end) ≡ (agree (Some local) instant || is_late (Some local) instant late)
+between local word end None late is ends =
+    ap (λ (e : ℕ). nat_le word local && nat_lt local e) ends ∙ none-before (nat_le word local) local
+between local word end (Some i) None is ends =
+    ap (λ (e : ℕ). nat_le word local && nat_lt local e) ends
+    ∙ ap (λ (w : ℕ). nat_le w local && nat_lt local (max (i + 1) 0)) (is-number word i is) ∙ at-alone local i
+between local word end (Some i) (Some to) is ends =
+    ap (λ (e : ℕ). nat_le word local && nat_lt local e) ends
+    ∙ ap (λ (w : ℕ). nat_le w local && nat_lt local (max (i + 1) to)) (is-number word i is) ∙ at-or-late local i to
+
+pub by-words : (plan : Plan) (n p local word end : ℕ) → instant_in word ≡ force_off plan (Some n) p →
+    end ≡ end_behind (force_off plan (Some n) p) (late_end plan (Some n) p) →
+    (nat_le word local && nat_lt local end) ≡ forces_off plan (Some n) (Some local) p
+by-words plan n p local word end is ends = between local word end (force_off plan (Some n) p) (late_end plan (Some n) p) is ends

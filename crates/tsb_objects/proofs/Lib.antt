@@ -1,7 +1,7 @@
 pub mod CheckedLemmas
 pub mod PassLemmas
 pub mod TableLemmas
-mod InstantLemmas
+pub mod InstantLemmas
 mod UnionLemmas
 pub use Rattle.tsb_types.proofs as tsb_types
 pub use Rattle.tsb_plan.proofs as tsb_plan

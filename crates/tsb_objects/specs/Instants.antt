@@ -1,11 +1,12 @@
 -- Force-off instants: when within the cycle of a pattern a phase is forced off, so that its split ends with its red
--- clearance (fixed force-off, no transition after a change of pattern). Cycle, splits, split modes, coordinated phases
--- and sequences are the objects of NTCIP 1202 of these names; that the local counter is 0 where the coordinated split
--- ends is the profile's own. Times are in ticks, which are tenths of a second.
-use Rattle.std.specs.Prelude.{◌≡◌, ℕ, ◌+◌, ◌-◌, ◌%◌, ◌==◌, Bool, false, if◌then◌else◌, Option, Some, None}
-use Rattle.tsb_types.specs.Lists.{first}
-use Rattle.tsb_plan.specs.Plan.{Plan, phases, is_enabled, yellow_change, red_clear}
-use Rattle.tsb_plan.specs.Parts.{cycle, split_of}
+-- clearance (fixed force-off, no transition after a change of pattern); and late force-off, behind the instant. Cycle,
+-- splits, split modes, coordinated phases and sequences are the objects of NTCIP 1202 of these names; that the local
+-- counter is 0 where the coordinated split ends, and late force-off, are the profile's own. Times are in ticks, which
+-- are tenths of a second.
+use Rattle.std.specs.Prelude.{◌≡◌, ℕ, ◌+◌, ◌-◌, ◌%◌, ◌==◌, nat_le, nat_lt, Bool, false, not, ◌&&◌, ◌||◌, if◌then◌else◌, Option, Some, None}
+use Rattle.tsb_types.specs.Lists.{first, or_else}
+use Rattle.tsb_plan.specs.Plan.{Plan, phases, is_enabled, ring_of, yellow_change, red_clear}
+use Rattle.tsb_plan.specs.Parts.{cycle, split_of, forces_late}
 use Rattle.tsb_plan.specs.Running.{sequence_in_effect, is_coordinated_now}
 use Rattle.tsb_rules.specs.PatternRules.{split_end}
 
@@ -54,3 +55,44 @@ abbrev pub agree : Option ℕ → Option ℕ → Bool
 agree None instant = false
 agree (Some m) None = false
 agree (Some m) (Some n) = m == n
+
+-- ## Late force-off
+
+-- p is a coordinated phase of pattern n, and of ring r
+abbrev pub is_coordinated_in : Plan → ℕ → ℕ → ℕ → Bool
+is_coordinated_in plan n r p = is_coordinated_now plan (Some n) p && ring_of plan p == r
+
+-- the first coordinated phase of ring r in pattern n. K20: where the ring has phases on the side of the coordinated
+-- phases it has one, and only one
+abbrev pub coordinated_in_ring : Plan → ℕ → ℕ → Option ℕ
+coordinated_in_ring plan n r = first (is_coordinated_in plan n r) (phases plan)
+
+-- the coordinated phase up to whose instant p is forced off late: that of the ring of p, or else the first of pattern n
+abbrev pub yields_to : Plan → ℕ → ℕ → Option ℕ
+yields_to plan n p = or_else (coordinated_in_ring plan n (ring_of plan p)) (reference plan n)
+
+-- the force-off instant of a phase, if there is one
+abbrev pub instant_of : Plan → ℕ → Option ℕ → Option ℕ
+instant_of plan n None = None
+instant_of plan n (Some c) = force_off plan (Some n) c
+
+-- the instant at which late force-off of p ends; none with coordForceMode 0, for a coordinated phase, and in free
+-- operation
+abbrev pub late_end : Plan → Option ℕ → ℕ → Option ℕ
+late_end plan None p = None
+late_end plan (Some n) p =
+    if forces_late plan && not (is_coordinated_now plan (Some n) p) then instant_of plan n (yields_to plan n p)
+    else None
+
+-- all are numbers, and the first is from the second on and below the third. Ticks are counted within one cycle: where
+-- the instant is not below the end, none is late
+abbrev pub is_late : Option ℕ → Option ℕ → Option ℕ → Bool
+is_late None from to = false
+is_late (Some m) None to = false
+is_late (Some m) (Some i) None = false
+is_late (Some m) (Some i) (Some e) = nat_le i m && nat_lt m e
+
+-- p is forced off where the local counter is this: at its instant, or late
+abbrev pub forces_off : Plan → Option ℕ → Option ℕ → ℕ → Bool
+forces_off plan runs local p =
+    agree local (force_off plan runs p) || is_late local (force_off plan runs p) (late_end plan runs p)

@@ -1,12 +1,13 @@
 -- The tables of a checked plan that are of a pattern that runs, or of free operation.
-use Rattle.std.specs.Prelude.{◌≡◌, ℕ, ◌+◌, ◌-◌, ◌*◌, ◌<◌, ◌≤◌, ◌==◌, Bool, true, if◌then◌else◌, List, Option, Some, None, slice_index}
+use Rattle.std.specs.Prelude.{◌≡◌, ℕ, ◌+◌, ◌-◌, ◌*◌, ◌<◌, ◌≤◌, ◌==◌, max, Bool, true, if◌then◌else◌, List, Option, Some, None, slice_index}
 use Rattle.tsb_plan.specs.Parts.{is_used, unless_zero}
 use Rattle.tsb_plan.specs.Plan.{Plan}
 use Rattle.tsb_plan.specs.Running.{is_coordinated_now, is_omitted_now, is_on_minimum_recall, is_on_maximum_recall, is_on_pedestrian_recall}
 use Rattle.tsb_objects.specs.declared.pattern_tables.Asked.{Asked}
 use Rattle.tsb_objects.specs.declared.pattern_tables.Asked.TheVariants.{Coordinated, Omitted, MinimumRecall, MaximumRecall, PedestrianRecall}
 use Rattle.tsb_objects.specs.declared.pattern_tables.PatternTables.{PatternTables}
-use Rattle.tsb_objects.specs.Instants.{force_off}
+use Rattle.tsb_objects.specs.Instants.{force_off, late_end}
+use Rattle.tsb_types.specs.Lists.{or_number}
 use Rattle.tsb_types.specs.Sets.{names}
 
 -- what is asked of phase p while a pattern runs, or in free operation
@@ -36,7 +37,19 @@ AreInstants plan words =
     (n p : ℕ) → 1 ≤ n → n ≤ 16 → 1 ≤ p → p ≤ 16 → is_used plan n ≡ true →
     instant_in (slice_index words (16 * (n - 1) + (p - 1))) ≡ force_off plan (Some n) p
 
--- five tables of lists and one of instants, so that no tick has to search the plan for them
+-- the tick of the local counter behind the last one at which a phase with this instant and this late end is forced off;
+-- 0 without an instant, as none is below it
+abbrev pub end_behind : Option ℕ → Option ℕ → ℕ
+end_behind None late = 0
+end_behind (Some i) late = max (i + 1) (or_number late 0)
+
+-- words in the order of the instants
+abbrev pub AreEnds : Plan → List ℕ → Type 0
+AreEnds plan words =
+    (n p : ℕ) → 1 ≤ n → n ≤ 16 → 1 ≤ p → p ≤ 16 → is_used plan n ≡ true →
+    slice_index words (16 * (n - 1) + (p - 1)) ≡ end_behind (force_off plan (Some n) p) (late_end plan (Some n) p)
+
+-- five tables of lists and two of ticks, so that no tick has to search the plan for them
 pub record ArePatternTables (plan : Plan) (tables : PatternTables) : Type 0 where
   pub coordinated : AreInEffect plan Coordinated tables.coordinated
   pub omitted : AreInEffect plan Omitted tables.omitted
@@ -44,3 +57,4 @@ pub record ArePatternTables (plan : Plan) (tables : PatternTables) : Type 0 wher
   pub maximum_recall : AreInEffect plan MaximumRecall tables.maximum_recall
   pub pedestrian_recall : AreInEffect plan PedestrianRecall tables.pedestrian_recall
   pub instants : AreInstants plan tables.instants
+  pub ends : AreEnds plan tables.ends

@@ -53,7 +53,7 @@ fn instant_from(plan: &Plan, n: Pattern, c: Phase, p: Phase) -> u32
 }
 
 /// The coordinated phase that instants are counted from: the first.
-fn reference(plan: &Plan, n: Pattern) -> Option<Phase>
+pub(crate) fn reference(plan: &Plan, n: Pattern) -> Option<Phase>
     ensures { result ≡ reference (plan_of plan.now) n }
 {
     Phase::all()

@@ -8,6 +8,7 @@
 pub mod checked;
 mod detector_tables;
 mod instants;
+mod late_ends;
 mod pattern_tables;
 mod tables;
 mod union_tables;

@@ -1,14 +1,15 @@
 //! What a plan says of all its phases while a pattern runs, and in free operation.
 #![tactic(auto, unfolding(tsb_plan::specs::PlanOf::plan_of))]
 
-ghost use Rattle.std.specs.Prelude.{◌≡◌, ◌≢◌, ℕ, ◌+◌, ◌-◌, ◌*◌, ◌<◌, ◌≤◌, true, false, Some, length, slice_index};
-ghost use Rattle.tsb_objects.specs.PatternTables.{is_so, AreInEffect, AreInstants, ArePatternTables, instant_in};
-ghost use Rattle.tsb_objects.specs.Instants.{force_off, agree};
+ghost use Rattle.std.specs.Prelude.{◌≡◌, ◌≢◌, ℕ, ◌+◌, ◌-◌, ◌*◌, ◌<◌, ◌≤◌, nat_le, nat_lt, ◌&&◌, true, false, Some, length, slice_index};
+ghost use Rattle.tsb_objects.specs.PatternTables.{is_so, AreInEffect, AreInstants, AreEnds, ArePatternTables, instant_in, end_behind};
+ghost use Rattle.tsb_objects.specs.Instants.{force_off, late_end};
 ghost use Rattle.tsb_plan.specs.Parts.{is_used, unless_zero};
 ghost use Rattle.tsb_plan.specs.PlanOf.{plan_of};
 ghost use Rattle.tsb_types.specs.Sets.{has};
 
 use crate::instants::instant;
+use crate::late_ends::late_end;
 use tsb_plan::Plan;
 use tsb_types::{Pattern, Phase, PhaseSet};
 
@@ -41,6 +42,8 @@ pub struct PatternTables {
     pub(crate) pedestrian_recall: [u16; 17],
     /// The force-off instants of the phases, 16 for each pattern, or `NEVER`.
     pub(crate) instants: [u16; 256],
+    /// For each of these the tick of the local counter behind the last one at which the phase is forced off, or 0.
+    pub(crate) ends: [u16; 256],
 }
 
 impl PatternTables {
@@ -48,13 +51,15 @@ impl PatternTables {
     pub(crate) fn of(plan: &Plan) -> PatternTables
         ensures { ArePatternTables (plan_of plan.now) result }
     {
+        let words = instants(plan);
         PatternTables {
             coordinated: in_effect(plan, Asked::Coordinated),
             omitted: in_effect(plan, Asked::Omitted),
             minimum_recall: in_effect(plan, Asked::MinimumRecall),
             maximum_recall: in_effect(plan, Asked::MaximumRecall),
             pedestrian_recall: in_effect(plan, Asked::PedestrianRecall),
-            instants: instants(plan),
+            instants: words,
+            ends: ends(plan, &words),
         }
     }
 }
@@ -133,6 +138,33 @@ fn instants(plan: &Plan) -> [u16; 256]
     words
 }
 
+/// The tick of the local counter behind the last one at which a phase is forced off in a pattern, by the word of its
+/// instant; 0 where it has none. It has no meaning for a pattern that is not used.
+fn end_word(plan: &Plan, n: Pattern, p: Phase, at: u16) -> u16
+    ensures { is_used (plan_of plan.now) n ≡ true → result ≡ end_behind (instant_in at) (late_end (plan_of plan.now) (Some n) p) }
+{
+    if at == NEVER || !plan.is_used(n) {
+        return 0;
+    }
+    let late = late_end(plan, n, p).unwrap_or(0);
+    (u32::from(at) + 1).max(late) as u16
+}
+
+/// The ticks behind the last ones at which phases are forced off in each pattern, by the words of their instants.
+fn ends(plan: &Plan, instants: &[u16; 256]) -> [u16; 256]
+    requires told { AreInstants (plan_of plan.now) instants.now }
+    ensures full { length result ≡ 256 }
+    ensures told { AreEnds (plan_of plan.now) result }
+{
+    let mut words = [0; 256];
+    for k in 0..256usize {
+        let pattern = Pattern::of((k / 16) as u8 + 1);
+        let phase = Phase::of((k % 16) as u8 + 1);
+        words[k] = end_word(plan, pattern, phase, instants[k]);
+    }
+    words
+}
+
 /// The instant of a phase in a pattern, from the words of all.
 #[inline(always)]
 pub(crate) fn instant_at(words: &[u16; 256], n: Pattern, p: Phase) -> Option<u32>
@@ -156,17 +188,25 @@ fn joined(set: PhaseSet, p: Phase, on: bool) -> PhaseSet
     if on { set.with(p, true) } else { set }
 }
 
-/// The phases whose instant in a pattern, from the words of all, is that local counter.
+/// The phases that are forced off in a pattern at that local counter, from the words of their instants and ends. A
+/// phase without an instant ends at 0, so it is not among them.
 #[inline(always)]
-pub(crate) fn forced_in(words: &[u16; 256], n: Pattern, local: u32) -> PhaseSet
+pub(crate) fn forced_in(
+    instants: &[u16; 256],
+    ends: &[u16; 256],
+    n: Pattern,
+    local: u32,
+) -> PhaseSet
     ensures { (p : ℕ) → 1 ≤ p → p ≤ 16 →
-        has result p ≡ agree (Some local) (instant_in (slice_index words.now (16 * (n - 1) + (p - 1)))) }
+        has result p ≡ (nat_le (slice_index instants.now (16 * (n - 1) + (p - 1))) local
+        && nat_lt local (slice_index ends.now (16 * (n - 1) + (p - 1)))) }
 {
     let first = 16 * (usize::from(n.number()) - 1);
     let mut set = PhaseSet::empty();
     for number in 1..17u8 {
-        let at = words[first + (usize::from(number) - 1)];
-        let on = at != NEVER && local == u32::from(at);
+        let at = instants[first + (usize::from(number) - 1)];
+        let end = ends[first + (usize::from(number) - 1)];
+        let on = u32::from(at) <= local && local < u32::from(end);
         set = joined(set, Phase::of(number), on);
     }
     set

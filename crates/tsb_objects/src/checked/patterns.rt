@@ -4,7 +4,7 @@
 
 ghost use Rattle.std.specs.Prelude.{◌≡◌, ℕ, ◌<◌, ◌≤◌, true, Some, IfSome};
 ghost use Rattle.tsb_objects.specs.Checked.{checked_plan};
-ghost use Rattle.tsb_objects.specs.Instants.{force_off, agree};
+ghost use Rattle.tsb_objects.specs.Instants.{force_off, forces_off};
 ghost use Rattle.tsb_plan.specs.Parts.{cycle, is_used, unless_zero};
 ghost use Rattle.tsb_plan.specs.Running.{sequence_in_effect, is_coordinated_now, is_omitted_now, is_on_minimum_recall, is_on_maximum_recall, is_on_pedestrian_recall};
 ghost use Rattle.tsb_types.specs.Sets.{has};
@@ -86,13 +86,19 @@ impl Checked {
         instant_at(&self.pattern_tables.instants, n, p)
     }
 
-    /// The phases whose force-off instant in a pattern that is used is that local counter.
+    /// The phases that a pattern that is used forces off at that local counter, at their instant or late
+    /// (`coordForceMode`).
     #[inline(always)]
     pub fn forced_at(&self, n: Pattern, local: u32) -> PhaseSet
         requires used { is_used (checked_plan self.now) n ≡ true }
         ensures { (p : ℕ) → 1 ≤ p → p ≤ 16 →
-            has result p ≡ agree (Some local) (force_off (checked_plan self.now) (Some n) p) }
+            has result p ≡ forces_off (checked_plan self.now) (Some n) (Some local) p }
     {
-        forced_in(&self.pattern_tables.instants, n, local)
+        forced_in(
+            &self.pattern_tables.instants,
+            &self.pattern_tables.ends,
+            n,
+            local,
+        )
     }
 }

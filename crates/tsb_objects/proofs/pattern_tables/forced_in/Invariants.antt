@@ -1,7 +1,5 @@
-use Rattle.std.proofs.Common.{◌≡◌, ℕ, ◌+◌, ◌-◌, ◌*◌, ◌<◌, ◌≤◌, false, Some, get_or}
+use Rattle.std.proofs.Common.{◌≡◌, ℕ, ◌+◌, ◌-◌, ◌*◌, ◌<◌, ◌≤◌, nat_le, nat_lt, ◌&&◌, false, get_or}
 use Rattle.tsb_types.specs.Sets.{has}
-use Rattle.tsb_objects.specs.Instants.{agree}
-use Rattle.tsb_objects.specs.PatternTables.{instant_in}
 use Rattle.tsb_objects.proofs.pattern_tables.forced_in.Given as goal
 
 -- the phases so far are told, and no other is in the set
@@ -9,6 +7,7 @@ abbrev pub invariant-loop-number : goal.invariant-loop-number
 invariant-loop-number l = record {
   from_one : 1 ≤ l.number;
   first : l.first ≡ 16 * (l.fn.n - 1);
-  told : (p : ℕ) → 1 ≤ p → p < l.number → has l.set p ≡ agree (Some l.local) (instant_in (get_or l.words (16 * (l.fn.n - 1) + (p - 1)) 0));
+  told : (p : ℕ) → 1 ≤ p → p < l.number →
+      has l.set p ≡ (nat_le (get_or l.instants (16 * (l.fn.n - 1) + (p - 1)) 0) l.local && nat_lt l.local (get_or l.ends (16 * (l.fn.n - 1) + (p - 1)) 0));
   rest : (p : ℕ) → l.number ≤ p → has l.set p ≡ false;
 }
