@@ -1,6 +1,8 @@
 -- Computed examples of the definitions, and mistakes that they refuse.
 pub mod Examples
 pub mod PatternExamples
+pub mod LateExamples
 pub mod Mistakes
 pub mod LawMistakes
+pub mod LateMistakes
 pub mod RangeMistakes

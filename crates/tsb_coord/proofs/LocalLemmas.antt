@@ -1,17 +1,17 @@
--- The local counter a yellow change and a red clearance after a force-off instant.
-use Rattle.std.proofs.Common.{zero, suc, ◌≡◌, ℕ, ◌+◌, ◌-◌, ◌*◌, ◌/◌, ◌%◌, ◌<◌, ◌≤◌, nat_le, Bool, true, false, ◌&&◌, if◌then◌else◌, Option, Some, None, refl, arith, sym, ap, ◌∙◌}
+-- The local counter a yellow change and a red clearance after a force-off instant, and where force-off is late.
+use Rattle.std.proofs.Common.{zero, suc, ◌≡◌, ℕ, ◌+◌, ◌-◌, ◌*◌, ◌/◌, ◌%◌, ◌<◌, ◌≤◌, nat_le, Bool, true, false, not, ◌&&◌, ◌||◌, if◌then◌else◌, Option, Some, None, refl, arith, sym, ap, ◌∙◌}
 use Rattle.std.proofs.Math.Nat.{div-add-mod', mod-lt, mod-add-mod, add-mul-mod_self_right, mul-mod_left}
 use Rattle.std.proofs.lemmas.Bool.{and_parts, leb-true}
 use Rattle.std.proofs.lemmas.Bool.Decides.{nat_tests}
 use Rattle.tsb_objects.specs.tsb_types.Lists.{run_from, first, or_number}
 use Rattle.tsb_objects.specs.tsb_plan.Plan.{Plan, is_enabled, yellow_change, red_clear}
-use Rattle.tsb_objects.specs.tsb_plan.Parts.{is_used, cycle, offset, split_of, is_coordinated}
-use Rattle.tsb_objects.specs.tsb_plan.Running.{is_coordinated_now, coordinates_in}
+use Rattle.tsb_objects.specs.tsb_plan.Parts.{is_used, cycle, offset, split_of, is_coordinated, forces_late}
+use Rattle.tsb_objects.specs.tsb_plan.Running.{running, is_coordinated_now, coordinates_in}
 use Rattle.tsb_objects.specs.tsb_rules.Consistent.{IsPhase, IsWhole}
 use Rattle.tsb_objects.specs.tsb_rules.PatternRules.{split_end}
 use Rattle.tsb_objects.specs.tsb_rules.Rules.{first_broken}
 use Rattle.tsb_objects.proofs.tsb_rules.ConsistentLemmas.{whole, coordinated}
-use Rattle.tsb_coord.specs.Coordinated.{counter, local, residue_of_difference, end_in, end_of, instant_from, reference, instant_by, force_off, agree, asks_force_off, is_pattern}
+use Rattle.tsb_coord.specs.Coordinated.{counter, local, residue_of_difference, end_in, end_of, instant_from, reference, instant_by, force_off, agree, yields_to, instant_of, late_end, is_late, is_at_force_off, asks_force_off, is_pattern}
 use Rattle.tsb_coord.specs.Laws.{clear_of}
 
 -- ## Residues
@@ -74,7 +74,7 @@ pub record IsFirst (test : ℕ → Bool) (a n c : ℕ) : Type 0 where
   pub below : c < a + n
   pub passes : test c ≡ true
 
-first_passes : (test : ℕ → Bool) (a n c : ℕ) → first test (run_from a n) ≡ Some c → IsFirst test a n c
+pub first_passes : (test : ℕ → Bool) (a n c : ℕ) → first test (run_from a n) ≡ Some c → IsFirst test a n c
 unfolding run_from
 first_passes test a zero c e = cc
 first_passes test a (suc n) c e =
@@ -114,13 +114,64 @@ ends_agree plan none n c d parts is also one other =
     ((coordinated plan none n parts.its_sequence u parts.in_use).together c d is also (named c one) (named d other)).ends in
     end c ∙ (ends ∙ sym (end d))
 
+-- ## Late force-off
+
+-- at its instant a phase is forced off
+pub at_instant_asks : (plan : Plan) (t : ℕ) (selected : Option ℕ) (p : ℕ) → is_at_force_off plan t selected p ≡ true →
+    asks_force_off plan t selected p ≡ true
+at_instant_asks plan t selected p at =
+    ap (λ (b : Bool). b || is_late (local plan t selected) (force_off plan (running plan selected) p) (late_end plan (running plan selected) p)) at
+
+or_false : (b : Bool) → (b || false) ≡ b
+or_false true = refl
+or_false false = refl
+
+never_late : (at from : Option ℕ) → is_late at from None ≡ false
+never_late None from = refl
+never_late (Some m) None = refl
+never_late (Some m) (Some i) = refl
+
+-- a phase without a late end is forced off at its instant alone
+at_instant_alone : (plan : Plan) (t : ℕ) (selected : Option ℕ) (p : ℕ) → late_end plan (running plan selected) p ≡ None →
+    asks_force_off plan t selected p ≡ is_at_force_off plan t selected p
+at_instant_alone plan t selected p none =
+    let at : Option ℕ = local plan t selected in
+    let from : Option ℕ = force_off plan (running plan selected) p in
+    ap (λ (to : Option ℕ). agree at from || is_late at from to) none
+    ∙ ap (λ (b : Bool). agree at from || b) (never_late at from) ∙ or_false (agree at from)
+
+off_ends_none : (plan : Plan) (runs : Option ℕ) (p : ℕ) → forces_late plan ≡ false → late_end plan runs p ≡ None
+off_ends_none plan None p off = refl
+off_ends_none plan (Some n) p off =
+    ap (λ (b : Bool). if b && not (is_coordinated_now plan (Some n) p) then instant_of plan n (yields_to plan n p) else None) off
+
+coordinated_ends_none : (plan : Plan) (runs : Option ℕ) (p : ℕ) → is_coordinated_now plan runs p ≡ true → late_end plan runs p ≡ None
+coordinated_ends_none plan None p one = refl
+coordinated_ends_none plan (Some n) p one =
+    ap (λ (b : Bool). if forces_late plan && not b then instant_of plan n (yields_to plan n p) else None) one ∙ go (forces_late plan)
+  where
+    go : (b : Bool) → (if b && false then instant_of plan n (yields_to plan n p) else None) ≡ None
+    go true = refl
+    go false = refl
+
+-- with coordForceMode 0 each phase is forced off at its instant alone
+pub options_off : (plan : Plan) (t : ℕ) (selected : Option ℕ) (p : ℕ) → forces_late plan ≡ false →
+    asks_force_off plan t selected p ≡ is_at_force_off plan t selected p
+options_off plan t selected p off = at_instant_alone plan t selected p (off_ends_none plan (running plan selected) p off)
+
+-- in each mode a coordinated phase is
+pub coordinated_at_instant : (plan : Plan) (t : ℕ) (selected : Option ℕ) (p : ℕ) → is_coordinated_now plan (running plan selected) p ≡ true →
+    asks_force_off plan t selected p ≡ is_at_force_off plan t selected p
+coordinated_at_instant plan t selected p one =
+    at_instant_alone plan t selected p (coordinated_ends_none plan (running plan selected) p one)
+
 -- ## What is asked
 
 instant_met : (m : ℕ) (instant : Option ℕ) → agree (Some m) instant ≡ true → instant ≡ Some m
 instant_met m None e = absurd cc
 instant_met m (Some k) e = let same : m ≡ k = grind (arith, nat_tests, e) in ap Some (sym same)
 
-instant_asked : (plan : Plan) (n t p : ℕ) → is_used plan n ≡ true → asks_force_off plan t (Some n) p ≡ true →
+instant_asked : (plan : Plan) (n t p : ℕ) → is_used plan n ≡ true → is_at_force_off plan t (Some n) p ≡ true →
     force_off plan (Some n) p ≡ Some (counter plan n t)
 instant_asked plan n t p used asked =
     let now : agree (Some (counter plan n t)) (force_off plan (Some n) p) ≡ true = rw used at asked in
@@ -150,8 +201,11 @@ is_counted plan n p i e = go (is_enabled plan p) (reference plan n) refl e
 local_now : (plan : Plan) (n t : ℕ) → is_used plan n ≡ true → local plan t (Some n) ≡ Some (counter plan n t)
 local_now plan n t used = rw used refl
 
+runs_now : (plan : Plan) (n : ℕ) → is_used plan n ≡ true → running plan (Some n) ≡ Some n
+runs_now plan n used = rw used refl
+
 pub ends_with_its_split : (plan : Plan) → first_broken plan ≡ None → (n t p c : ℕ) → is_pattern plan n ≡ true →
-    asks_force_off plan t (Some n) p ≡ true → IsPhase plan c → is_coordinated_now plan (Some n) c ≡ true →
+    is_at_force_off plan t (Some n) p ≡ true → IsPhase plan c → is_coordinated_now plan (Some n) c ≡ true →
     local plan (clear_of plan t p) (Some n) ≡ Some (residue_of_difference (cycle plan n) (end_of plan n p) (end_of plan n c))
 ends_with_its_split plan none n t p c is asked phase one =
     let range = in_range plan n is in
@@ -169,5 +223,39 @@ pub ends_at_zero : (plan : Plan) → first_broken plan ≡ None → (n t p : ℕ
     local plan (clear_of plan t p) (Some n) ≡ Some 0
 ends_at_zero plan none n t p is phase one asked =
     let below : offset plan n < cycle plan n = (its_parts plan none n is).below in
-    ends_with_its_split plan none n t p p is asked phase one ∙
+    let used : is_used plan n ≡ true = (in_range plan n is).2 in
+    let now : is_coordinated_now plan (running plan (Some n)) p ≡ true = ap (λ o. is_coordinated_now plan o p) (runs_now plan n used) ∙ one in
+    let at : is_at_force_off plan t (Some n) p ≡ true = sym (coordinated_at_instant plan t (Some n) p now) ∙ asked in
+    ends_with_its_split plan none n t p p is at phase one ∙
     ap Some (no_difference (cycle plan n) (end_of plan n p) (omega (arith, below)))
+
+-- ## Where a phase yields
+
+-- an instant at which late force-off ends is not late
+not_at_end : (m : ℕ) (from : Option ℕ) → is_late (Some m) from (Some m) ≡ false
+not_at_end m None = refl
+not_at_end m (Some i) = grind (arith, nat_tests)
+
+-- late force-off of p, if it has any, ends at the instant of the phase that it yields to
+ends_at_instant : (plan : Plan) (n p c m : ℕ) (from : Option ℕ) → yields_to plan n p ≡ Some c → force_off plan (Some n) c ≡ Some m →
+    is_late (Some m) from (late_end plan (Some n) p) ≡ false
+ends_at_instant plan n p c m from yields at =
+    ap (λ (o : Option ℕ). is_late (Some m) from (if forces_late plan && not (is_coordinated_now plan (Some n) p) then instant_of plan n o else None)) yields
+    ∙ ap (λ (o : Option ℕ). is_late (Some m) from (if forces_late plan && not (is_coordinated_now plan (Some n) p) then o else None)) at
+    ∙ go (forces_late plan && not (is_coordinated_now plan (Some n) p))
+  where
+    go : (b : Bool) → is_late (Some m) from (if b then Some m else None) ≡ false
+    go true = not_at_end m from
+    go false = never_late (Some m) from
+
+pub ends_where_it_yields : (plan : Plan) (n t p c : ℕ) → is_pattern plan n ≡ true → yields_to plan n p ≡ Some c →
+    is_at_force_off plan t (Some n) c ≡ true → asks_force_off plan t (Some n) p ≡ is_at_force_off plan t (Some n) p
+ends_where_it_yields plan n t p c is yields at =
+    let used : is_used plan n ≡ true = (in_range plan n is).2 in
+    let m : ℕ = counter plan n t in
+    let from : Option ℕ = force_off plan (Some n) p in
+    let ended : is_late (Some m) from (late_end plan (Some n) p) ≡ false =
+    ends_at_instant plan n p c m from yields (instant_asked plan n t c used at) in
+    let alone : (agree (Some m) from || is_late (Some m) from (late_end plan (Some n) p)) ≡ agree (Some m) from =
+    ap (λ (b : Bool). agree (Some m) from || b) ended ∙ or_false (agree (Some m) from) in
+    rw used alone

@@ -1,22 +1,25 @@
--- How long the local counter takes to the next force-off instant, and that nothing is ordered anew until then.
-use Rattle.std.proofs.Common.{zero, suc, ◌≡◌, ◌≢◌, ℕ, ◌+◌, ◌-◌, ◌*◌, ◌%◌, ◌<◌, ◌≤◌, ◌==◌, ◌⊎◌, min, Bool, true, false, List, Option, Some, None, refl, sym, ap, subst, ◌∙◌, arith, inl, inr}
-use Rattle.std.proofs.Math.Nat.{mod-eq_of_lt, mod-lt, add-mul-mod_self_right}
+-- How long the local counter takes to the next force-off instant, and that nothing is ordered anew until then. What is
+-- forced off late stays so between instants, as late force-off begins and ends at them, within a cycle.
+use Rattle.std.proofs.Common.{zero, suc, ◌≡◌, ◌≢◌, ℕ, ◌+◌, ◌-◌, ◌*◌, ◌%◌, ◌<◌, ◌≤◌, ◌==◌, ◌⊎◌, nat_le, nat_lt, min, Bool, true, false, not, ◌&&◌, ◌||◌, if◌then◌else◌, List, Option, Some, None, IfSome, refl, sym, ap, subst, ◌∙◌, arith, inl, inr}
+use Rattle.std.proofs.Math.Nat.{mod-eq_of_lt, mod-lt, mod-add-mod, mul-mod_left, add-mul-mod_self_right}
 use Rattle.std.proofs.lemmas.Bool.{cases_lt, ne_eqb, eq-eqb}
 use Rattle.std.proofs.lemmas.Bool.Decides.{nat_tests}
-use Rattle.tsb_objects.specs.tsb_types.Lists.{first, run_from}
-use Rattle.tsb_objects.specs.tsb_plan.Plan.{Plan, is_enabled}
+use Rattle.tsb_objects.specs.tsb_types.Lists.{first, run_from, or_else}
+use Rattle.tsb_objects.specs.tsb_plan.Plan.{Plan, is_enabled, ring_of}
 use Rattle.tsb_objects.specs.tsb_plan.declared.object.Object.TheVariants.{PatternCycleTime}
-use Rattle.tsb_objects.specs.tsb_plan.Parts.{is_used, cycle, offset}
+use Rattle.tsb_objects.specs.tsb_plan.Parts.{is_used, cycle, offset, forces_late}
 use Rattle.tsb_objects.specs.tsb_plan.Running.{running, coordinates_in, is_coordinated_now}
 use Rattle.tsb_objects.specs.tsb_rules.Rules.{first_broken}
 use Rattle.tsb_objects.specs.tsb_rules.Consistent.{IsWhole, AreCoordinated}
+use Rattle.tsb_objects.specs.Instants.{is_coordinated_in, coordinated_in_ring}
 use Rattle.tsb_objects.proofs.tsb_rules.ConsistentLemmas.{whole, coordinated}
+use Rattle.tsb_objects.proofs.InstantLemmas.{instants-below}
 use Rattle.tsb_coord.specs.declared.coordination.Coordination.{Coordination}
 use Rattle.tsb_coord.specs.Cells.{pattern_in}
-use Rattle.tsb_coord.specs.Coordinated.{counter, local_in, instant_from, reference, force_off, agree, asks_force_off}
+use Rattle.tsb_coord.specs.Coordinated.{counter, local_in, instant_from, reference, force_off, agree, yields_to, instant_of, late_end, is_late, forces_off, asks_force_off}
 use Rattle.tsb_coord.specs.Due.{ForcesOff, IsMet, IsExact}
 use Rattle.tsb_coord.specs.Promises.{AreOrders}
-use Rattle.tsb_coord.proofs.LocalLemmas.{counter_moves_on}
+use Rattle.tsb_coord.proofs.LocalLemmas.{counter_moves_on, IsFirst, first_passes, at_instant_asks}
 
 -- ## Until an instant is met
 
@@ -77,6 +80,92 @@ met_least test m local ticks other a one two =
           elim one [ inl whole ↦ inl (e ∙ whole) | inr met ↦ inr (met.0, subst (λ (x : ℕ). IsMet m local (test met.0) x) (sym e) met.1) ]
     ]
 
+-- ## Late force-off until an instant is met
+
+-- the tick after m - 1 is 0, and after any other the next number
+next_is : (m here : ℕ) → here < m → ((here + 1) % m ≡ here + 1) ⊎ (((here + 1) % m ≡ 0) × (here + 1 ≡ m))
+next_is m here below =
+    elim (cases_lt (here + 1) m) [
+      | inl within ↦ inl (mod-eq_of_lt within)
+      | inr over ↦
+          let turn : here + 1 ≡ 1 * m = omega (arith, over, below) in
+          let last : here + 1 ≡ m = omega (arith, over, below) in
+          inr (ap (λ x. x % m) turn ∙ mul-mod_left 1 m, last)
+    ]
+
+-- from one tick to the next, neither of which is the begin or the end
+span_next : (m from to here next : ℕ) → from < m → to < m → here < m → ((next ≡ here + 1) ⊎ ((next ≡ 0) × (here + 1 ≡ m))) →
+    (here == from) ≡ false → (here == to) ≡ false → (next == from) ≡ false → (next == to) ≡ false →
+    (nat_le from here && nat_lt here to) ≡ (nat_le from next && nat_lt next to)
+span_next m from to here next low high below (inl step) not_from not_to nor_from nor_to = grind (arith, nat_tests)
+span_next m from to here next low high below (inr turn) not_from not_to nor_from nor_to =
+    let zero_next : next ≡ 0 = turn.0 in
+    let last : here + 1 ≡ m = turn.1 in
+    grind (arith, nat_tests)
+
+-- so over any number of ticks, also where the local counter goes on from 0
+same_span : (m from to local : ℕ) → from < m → to < m → (k : ℕ) → ((j : ℕ) → j ≤ k → ((local + j) % m == from) ≡ false) →
+    ((j : ℕ) → j ≤ k → ((local + j) % m == to) ≡ false) →
+    (nat_le from ((local + 0) % m) && nat_lt ((local + 0) % m) to) ≡ (nat_le from ((local + k) % m) && nat_lt ((local + k) % m) to)
+same_span m from to local low high zero not_from not_to = refl
+same_span m from to local low high (suc k) not_from not_to =
+    let some : 0 < m = omega (arith, low) in
+    let step : ((local + k) % m + 1) % m ≡ (local + suc k) % m = mod-add-mod (local + k) m 1 ∙ ap (λ x. x % m) (one_more local k) in
+    same_span m from to local low high k (λ j to_k. not_from j (omega (arith, to_k))) (λ j to_k. not_to j (omega (arith, to_k)))
+    ∙ span_next m from to ((local + k) % m) ((local + suc k) % m) low high (mod-lt (local + k) some)
+    (subst (λ (x : ℕ). (x ≡ (local + k) % m + 1) ⊎ ((x ≡ 0) × ((local + k) % m + 1 ≡ m))) step (next_is m ((local + k) % m) (mod-lt (local + k) some)))
+    (not_from k (omega arith)) (not_to k (omega arith)) (not_from (suc k) (omega arith)) (not_to (suc k) (omega arith))
+  where
+    one_more : (local k : ℕ) → local + k + 1 ≡ local + suc k
+    one_more local k = omega arith
+
+same_late : (m local k : ℕ) (from to : Option ℕ) → IfSome from (λ i. i < m) → IfSome to (λ i. i < m) →
+    ((j : ℕ) → j ≤ k → agree (Some ((local + j) % m)) from ≡ false) → ((j : ℕ) → j ≤ k → agree (Some ((local + j) % m)) to ≡ false) →
+    is_late (Some ((local + 0) % m)) from to ≡ is_late (Some ((local + k) % m)) from to
+same_late m local k None to low high not_from not_to = refl
+same_late m local k (Some i) None low high not_from not_to = refl
+same_late m local k (Some i) (Some e) low high not_from not_to = same_span m i e local low high k not_from not_to
+
+-- a late end is an instant
+pub record IsInstant (plan : Plan) (n : ℕ) (end : Option ℕ) : Type 0 where
+  pub phase : ℕ
+  pub from_one : 1 ≤ phase
+  pub within : phase ≤ 16
+  pub is : end ≡ force_off plan (Some n) phase
+
+-- the phase that a phase yields to is one of the plan
+yields_within : (plan : Plan) → plan.phase_count ≤ 16 → (n p c : ℕ) → yields_to plan n p ≡ Some c → (1 ≤ c) × (c ≤ 16)
+yields_within plan few n p c = go (coordinated_in_ring plan n (ring_of plan p)) (reference plan n)
+    (in_range (is_coordinated_in plan n (ring_of plan p))) (in_range (is_coordinated_now plan (Some n)))
+  where
+    in_range : (test : ℕ → Bool) → first test (run_from 1 plan.phase_count) ≡ Some c → (1 ≤ c) × (c ≤ 16)
+    in_range test e =
+        let it : IsFirst test 1 plan.phase_count c = first_passes test 1 plan.phase_count c e in
+        let below : c < 1 + plan.phase_count = it.below in
+        (it.from, omega (arith, below, few))
+
+    go : (one other : Option ℕ) → (one ≡ Some c → (1 ≤ c) × (c ≤ 16)) → (other ≡ Some c → (1 ≤ c) × (c ≤ 16)) →
+        or_else one other ≡ Some c → (1 ≤ c) × (c ≤ 16)
+    go None other first_is second_is e = second_is e
+    go (Some d) other first_is second_is e = first_is e
+
+late_end_is : (plan : Plan) → plan.phase_count ≤ 16 → (n p : ℕ) → (late_end plan (Some n) p ≡ None) ⊎ IsInstant plan n (late_end plan (Some n) p)
+late_end_is plan few n p =
+    go (forces_late plan && not (is_coordinated_now plan (Some n) p)) (yields_to plan n p) (yields_within plan few n p)
+  where
+    go : (b : Bool) (o : Option ℕ) → ((c : ℕ) → o ≡ Some c → (1 ≤ c) × (c ≤ 16)) →
+        ((if b then instant_of plan n o else None) ≡ None) ⊎ IsInstant plan n (if b then instant_of plan n o else None)
+    go false o each = inl refl
+    go true None each = inl refl
+    go true (Some c) each = inr (record { phase = c; from_one = (each c refl).0; within = (each c refl).1; is = refl })
+
+late_end_below : (plan : Plan) → plan.phase_count ≤ 16 → (n p : ℕ) → is_used plan n ≡ true → IfSome (late_end plan (Some n) p) (λ i. i < cycle plan n)
+late_end_below plan few n p used =
+    elim (late_end_is plan few n p) [
+      | inl no_end ↦ subst (λ (o : Option ℕ). IfSome o (λ i. i < cycle plan n)) (sym no_end) tt
+      | inr it ↦ instants-below plan n it.phase (late_end plan (Some n) p) used it.is
+    ]
+
 -- ## Orders in the meantime
 
 -- nothing is asked of a phase, now and at each tick of the meantime, while the pattern n runs
@@ -92,14 +181,37 @@ quiet_from plan n now wait local told each = record {
       subst (λ (x : ℕ). agree (Some ((x + k) % cycle plan n)) (force_off plan (Some n) p) ≡ false) told (each p k from to within some);
 }
 
-module _ (plan : Plan) (none : first_broken plan ≡ None) (n now wait : ℕ) (from_one : 1 ≤ n) (within : n ≤ 16)
+module _ (plan : Plan) (few : plan.phase_count ≤ 16) (none : first_broken plan ≡ None) (n now wait : ℕ) (from_one : 1 ≤ n) (within : n ≤ 16)
     (used : is_used plan n ≡ true) (quiet : IsQuiet plan n now wait) (selected : Option ℕ) (runs : running plan selected ≡ Some n) where
-  unasked : (k p : ℕ) → 1 ≤ p → p ≤ 16 → k < wait → 1 < wait → asks_force_off plan (now + k) selected p ≡ false
-  unasked k p from to before some =
+  -- a late end is no more met than an instant
+  end_unmet : (p k : ℕ) → k < wait → 1 < wait → agree (Some ((counter plan n now + k) % cycle plan n)) (late_end plan (Some n) p) ≡ false
+  end_unmet p k before some =
+      elim (late_end_is plan few n p) [
+        | inl no_end ↦ ap (agree (Some ((counter plan n now + k) % cycle plan n))) no_end
+        | inr it ↦ ap (agree (Some ((counter plan n now + k) % cycle plan n))) it.is ∙ quiet.at it.phase k it.from_one it.within before some
+      ]
+
+  asked : (p k : ℕ) → asks_force_off plan (now + k) selected p ≡ forces_off plan (Some n) (Some ((counter plan n now + k) % cycle plan n)) p
+  asked p k =
       let below : offset plan n < cycle plan n = (whole plan none n from_one within used).below in
-      ap (λ o. agree (local_in plan (now + k) o) (force_off plan o p)) runs
-      ∙ ap (λ x. agree (Some x) (force_off plan (Some n) p)) (counter_moves_on plan n now k below)
-      ∙ quiet.at p k from to before some
+      ap (λ o. forces_off plan o (local_in plan (now + k) o) p) runs
+      ∙ ap (λ x. forces_off plan (Some n) (Some x) p) (counter_moves_on plan n now k below)
+
+  -- at no instant a phase is forced off where it is late
+  asked_late : (p k : ℕ) → 1 ≤ p → p ≤ 16 → k < wait → 1 < wait →
+      asks_force_off plan (now + k) selected p
+      ≡ is_late (Some ((counter plan n now + k) % cycle plan n)) (force_off plan (Some n) p) (late_end plan (Some n) p)
+  asked_late p k from to before some =
+      asked p k
+      ∙ ap (λ b. b || is_late (Some ((counter plan n now + k) % cycle plan n)) (force_off plan (Some n) p) (late_end plan (Some n) p)) (quiet.at p k from to before some)
+
+  same_asked : (p k : ℕ) → 1 ≤ p → p ≤ 16 → k < wait → 1 < wait → asks_force_off plan (now + 0) selected p ≡ asks_force_off plan (now + k) selected p
+  same_asked p k from to before some =
+      asked_late p 0 from to (omega arith) some
+      ∙ same_late (cycle plan n) (counter plan n now) k (force_off plan (Some n) p) (late_end plan (Some n) p)
+      (instants-below plan n p (force_off plan (Some n) p) used refl) (late_end_below plan few n p used)
+      (λ j to_k. quiet.at p j from to (omega arith) some) (λ j to_k. end_unmet p j (omega arith) some)
+      ∙ sym (asked_late p k from to before some)
 
   pub same_orders : (row : List ℕ) (t : ℕ) (orders : Coordination) → pattern_in row ≡ selected → now < t → t < now + wait →
       AreOrders now plan row orders → AreOrders t plan row orders
@@ -107,16 +219,15 @@ module _ (plan : Plan) (none : first_broken plan ≡ None) (n now wait : ℕ) (f
       let some : 1 < wait = omega arith in
       let here : now + 0 ≡ now = omega arith in
       let there : now + (t - now) ≡ t = omega arith in
-      let as_now : (p : ℕ) → 1 ≤ p → p ≤ 16 → asks_force_off plan now selected p ≡ false =
-      λ p from to. ap (λ x. asks_force_off plan x selected p) (sym here) ∙ unasked 0 p from to (omega arith) some in
-      let as_then : (p : ℕ) → 1 ≤ p → p ≤ 16 → asks_force_off plan t selected p ≡ false =
-      λ p from to. ap (λ x. asks_force_off plan x selected p) (sym there) ∙ unasked (t - now) p from to (omega arith) some in
+      let same : (p : ℕ) → 1 ≤ p → p ≤ 16 → asks_force_off plan now selected p ≡ asks_force_off plan t selected p =
+      λ p from to. ap (λ x. asks_force_off plan x selected p) (sym here) ∙ same_asked p (t - now) from to (omega arith) some
+      ∙ ap (λ x. asks_force_off plan x selected p) there in
       record {
         runs = said.runs;
         sequence = said.sequence;
         hold = said.hold;
-        forced = λ p from to. said.forced p from to ∙ ap (λ o. asks_force_off plan now o p) is ∙ as_now p from to
-            ∙ sym (as_then p from to) ∙ sym (ap (λ o. asks_force_off plan t o p) is);
+        forced = λ p from to. said.forced p from to ∙ ap (λ o. asks_force_off plan now o p) is ∙ same p from to
+            ∙ sym (ap (λ o. asks_force_off plan t o p) is);
         omit = said.omit;
       }
 
@@ -132,7 +243,7 @@ free_orders plan row now t orders free said = record {
 }
   where
     unasked : (t p : ℕ) → asks_force_off plan t (pattern_in row) p ≡ false
-    unasked t p = ap (λ o. agree (local_in plan t o) (force_off plan o p)) free
+    unasked t p = ap (λ o. forces_off plan o (local_in plan t o) p) free
 
 -- ## Until the next force-off
 
@@ -197,18 +308,19 @@ no_whole_cycle plan few none n now ticks from_one within used here quiet some wh
     both_ways e = cc
 
 -- a phase whose instant is met is forced off then, or is now
-pub forces_off : (plan : Plan) → first_broken plan ≡ None → (n now ticks p : ℕ) → 1 ≤ n → n ≤ 16 → is_used plan n ≡ true →
+pub forced_then : (plan : Plan) → first_broken plan ≡ None → (n now ticks p : ℕ) → 1 ≤ n → n ≤ 16 → is_used plan n ≡ true →
     (selected : Option ℕ) → running plan selected ≡ Some n → IsMet (cycle plan n) (counter plan n now) (force_off plan (Some n) p) ticks →
     ForcesOff plan selected (now + ticks) ⊎ ((now + ticks ≡ now + 1) × ForcesOff plan selected now)
-forces_off plan none n now ticks p from_one within used selected runs met =
+forced_then plan none n now ticks p from_one within used selected runs met =
     let below : offset plan n < cycle plan n = (whole plan none n from_one within used).below in
     elim met [
-      | inl then ↦ inl (
+      | inl it ↦ inl (
         p,
-        ap (λ o. agree (local_in plan (now + ticks) o) (force_off plan o p)) runs
-            ∙ ap (λ x. agree (Some x) (force_off plan (Some n) p)) (counter_moves_on plan n now ticks below) ∙ then,
+        at_instant_asks plan (now + ticks) selected p
+            (ap (λ o. agree (local_in plan (now + ticks) o) (force_off plan o p)) runs
+            ∙ ap (λ x. agree (Some x) (force_off plan (Some n) p)) (counter_moves_on plan n now ticks below) ∙ it),
       )
-      | inr here ↦ inr (ap (λ (k : ℕ). now + k) here.0, (p, ap (λ o. agree (local_in plan now o) (force_off plan o p)) runs ∙ here.1))
+      | inr here ↦ inr (ap (λ (k : ℕ). now + k) here.0, (p, at_instant_asks plan now selected p (ap (λ o. agree (local_in plan now o) (force_off plan o p)) runs ∙ here.1)))
     ]
 
 some_cycle : (plan : Plan) (n : ℕ) → is_used plan n ≡ true → 1 < cycle plan n
@@ -222,7 +334,7 @@ is_exact plan most none n now ticks local from_one within used row runs told bel
     let forces : ForcesOff plan (pattern_in row) (now + ticks) ⊎ ((now + ticks ≡ now + 1) × ForcesOff plan (pattern_in row) now) =
     elim met [
       | inl whole_cycle ↦ absurd (no_whole_cycle plan most none n now ticks from_one within used here quiet (some_cycle plan n used) whole_cycle)
-      | inr it ↦ forces_off plan none n now ticks it.0 from_one within used (pattern_in row) runs
+      | inr it ↦ forced_then plan none n now ticks it.0 from_one within used (pattern_in row) runs
           (subst (λ (x : ℕ). IsMet (cycle plan n) x (force_off plan (Some n) it.0) ticks) told it.1)
     ] in
     record { runs = λ m is. forces; free = λ is. absurd (not_both (pattern_in row) n runs is) }

@@ -1,13 +1,13 @@
--- Where the local counter stands once a phase that is forced off in time has ended its yellow change and red clearance,
--- and that the cell of coordination is that of what it says. Each law here is the contract of a function in
--- src/laws.rt, and proved there.
-use Rattle.std.specs.Prelude.{◌≡◌, ℕ, ◌+◌, ◌≤◌, true, List, Option, Some}
+-- Where the local counter stands once a phase that is forced off in time has ended its yellow change and red clearance;
+-- of which phases and modes late force-off is; and that the cell of coordination is that of what it says. Each law here
+-- is the contract of a function in src/laws.rt, and proved there.
+use Rattle.std.specs.Prelude.{◌≡◌, ℕ, ◌+◌, ◌≤◌, true, false, List, Option, Some}
 use Rattle.tsb_objects.specs.tsb_plan.Plan.{Plan, yellow_change, red_clear}
-use Rattle.tsb_objects.specs.tsb_plan.Parts.{cycle}
-use Rattle.tsb_objects.specs.tsb_plan.Running.{is_coordinated_now}
+use Rattle.tsb_objects.specs.tsb_plan.Parts.{cycle, forces_late}
+use Rattle.tsb_objects.specs.tsb_plan.Running.{running, is_coordinated_now}
 use Rattle.tsb_objects.specs.tsb_rules.Consistent.{IsPhase}
 use Rattle.tsb_coord.specs.Cells.{pattern_in, pattern_cells, IsBy}
-use Rattle.tsb_coord.specs.Coordinated.{local, residue_of_difference, end_of, asks_force_off, is_pattern}
+use Rattle.tsb_coord.specs.Coordinated.{local, residue_of_difference, end_of, is_at_force_off, asks_force_off, yields_to, is_pattern}
 
 -- the tick at which p has ended its yellow change and red clearance, if its green ended in tick t
 abbrev pub clear_of : Plan → ℕ → ℕ → ℕ
@@ -16,15 +16,37 @@ clear_of plan t p = t + yellow_change plan p + red_clear plan p
 -- that of a phase whose green ends at its force-off instant is the tick at which its split ends, counted from the end
 -- of the coordinated splits, be it that of any coordinated phase c
 abbrev pub EndWithTheirSplits : Plan → Type 0
-EndWithTheirSplits plan = (n t p c : ℕ) → is_pattern plan n ≡ true → asks_force_off plan t (Some n) p ≡ true →
+EndWithTheirSplits plan = (n t p c : ℕ) → is_pattern plan n ≡ true → is_at_force_off plan t (Some n) p ≡ true →
     IsPhase plan c → is_coordinated_now plan (Some n) c ≡ true →
     local plan (clear_of plan t p) (Some n) ≡ Some (residue_of_difference (cycle plan n) (end_of plan n p) (end_of plan n c))
 
--- so that of a coordinated phase is at local 0
+-- so that of a coordinated phase is at local 0, whenever it is forced off
 abbrev pub CoordinatedEndAtZero : Plan → Type 0
 CoordinatedEndAtZero plan = (n t p : ℕ) → is_pattern plan n ≡ true → IsPhase plan p →
     is_coordinated_now plan (Some n) p ≡ true → asks_force_off plan t (Some n) p ≡ true →
     local plan (clear_of plan t p) (Some n) ≡ Some 0
+
+-- ## Late force-off
+
+-- with coordForceMode 0 each phase is forced off at its instant alone
+abbrev pub AtInstantsInMode0 : Plan → Type 0
+AtInstantsInMode0 plan = (t : ℕ) (selected : Option ℕ) (p : ℕ) → forces_late plan ≡ false →
+    asks_force_off plan t selected p ≡ is_at_force_off plan t selected p
+
+-- in each mode a coordinated phase is
+abbrev pub CoordinatedAtInstants : Plan → Type 0
+CoordinatedAtInstants plan = (t : ℕ) (selected : Option ℕ) (p : ℕ) → is_coordinated_now plan (running plan selected) p ≡ true →
+    asks_force_off plan t selected p ≡ is_at_force_off plan t selected p
+
+-- in each mode no phase misses its instant
+abbrev pub ForcedAtInstants : Plan → Type 0
+ForcedAtInstants plan = (t : ℕ) (selected : Option ℕ) (p : ℕ) → is_at_force_off plan t selected p ≡ true →
+    asks_force_off plan t selected p ≡ true
+
+-- at the instant of the coordinated phase that it yields to, a phase is forced off only where that is its own
+abbrev pub EndsWhereItYields : Plan → Type 0
+EndsWhereItYields plan = (n t p c : ℕ) → is_pattern plan n ≡ true → yields_to plan n p ≡ Some c →
+    is_at_force_off plan t (Some n) c ≡ true → asks_force_off plan t (Some n) p ≡ is_at_force_off plan t (Some n) p
 
 -- ## The cell
 

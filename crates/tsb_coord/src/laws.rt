@@ -1,7 +1,8 @@
 //! What holds of coordination in every plan that meets the rules, and of its cell, each law the contract of a function
 //! that does nothing.
+ghost use Rattle.tsb_objects.specs.tsb_plan.Plan.{Plan};
 ghost use Rattle.tsb_objects.specs.tsb_rules.Consistent.{OfConsistentPlans};
-ghost use Rattle.tsb_coord.specs.Laws.{EndWithTheirSplits, CoordinatedEndAtZero, RowsAreTold, StatesAreRead, StatesAreBy};
+ghost use Rattle.tsb_coord.specs.Laws.{EndWithTheirSplits, CoordinatedEndAtZero, AtInstantsInMode0, CoordinatedAtInstants, ForcedAtInstants, EndsWhereItYields, RowsAreTold, StatesAreRead, StatesAreBy};
 
 /// A phase that is forced off at its instant has time to clear by the end of its split. Its yellow change and red
 /// clearance, counted from its force-off instant, end where its split ends on the local counter; those of a coordinated
@@ -17,6 +18,21 @@ ghost use Rattle.tsb_coord.specs.Laws.{EndWithTheirSplits, CoordinatedEndAtZero,
 pub fn forced_phases_end_with_their_splits()
     ensures ends { OfConsistentPlans EndWithTheirSplits }
     ensures at_zero { OfConsistentPlans CoordinatedEndAtZero }
+{}
+
+/// Late force-off is an option. With `coordForceMode` 0 a phase is forced off at its instant alone. In both modes a
+/// coordinated phase is, and no phase misses its instant. At the instant of the coordinated phase that it yields to, a
+/// phase is forced off only where that is its own.
+///
+/// Mistakes: the mode is not read, `late_in_both_modes` (`would_be_late_in_mode_0`); a coordinated phase is forced off
+/// late as well, `late_for_all` (`would_be_late`); the instant of the coordinated phase is counted in, `is_late_to`
+/// (`would_go_on`).
+/// Witness: `in_mode_0`, `in_mode_1`, `at_its_own` of LateExamples.
+pub fn late_force_off_is_an_option()
+    ensures off { (plan : Plan) → AtInstantsInMode0 plan }
+    ensures coordinated { (plan : Plan) → CoordinatedAtInstants plan }
+    ensures at_instant { (plan : Plan) → ForcedAtInstants plan }
+    ensures yields { (plan : Plan) → EndsWhereItYields plan }
 {}
 
 /// A row that the layer can have is the encoding of what is read in it.

@@ -7,7 +7,7 @@ use Rattle.tsb_objects.specs.tsb_plan.Plan.{Plan, yellow_change, red_clear}
 use Rattle.tsb_objects.specs.tsb_plan.Parts.{cycle}
 use Rattle.tsb_objects.specs.tsb_plan.Quad.{quad}
 use Rattle.tsb_objects.specs.tsb_rules.PatternRules.{split_sum, side_sum, split_end}
-use Rattle.tsb_coord.specs.Coordinated.{local, residue_of_difference, end_of, force_off, asks_force_off}
+use Rattle.tsb_coord.specs.Coordinated.{local, residue_of_difference, end_of, force_off, is_at_force_off, asks_force_off}
 use Rattle.tsb_coord.specs.Laws.{clear_of}
 
 -- ## What the laws give
@@ -20,9 +20,9 @@ ends_at_zero : local quad (clear_of quad 760 2) (Some 1) ≡ Some 0
 unfolding quad
 ends_at_zero = refl
 
-asks_other : asks_force_off quad 360 (Some 1) 4 ≡ true
+is_at_other : is_at_force_off quad 360 (Some 1) 4 ≡ true
 unfolding quad run_from split_sum side_sum split_end force_off
-asks_other = refl
+is_at_other = refl
 
 ends_with_split : local quad (clear_of quad 360 4) (Some 1) ≡ Some 400
 unfolding quad

@@ -9,7 +9,7 @@ use Rattle.tsb_coord.proofs.coord.Coord.due.Goals as goal
 pub returns-in-Some-clause-quiet : goal.returns-in-Some-clause-quiet
 returns-in-Some-clause-quiet c =
     λ t later before orders said.
-    same_orders (checked_plan c.args.plan.now) c.plan-consistent.ensures.consistent c.in-Some.n c.args.now c.ticks_to_next.result c.known.ensures.from
+    same_orders (checked_plan c.args.plan.now) (omega (arith, checked-phase_count c.args.plan.now)) c.plan-consistent.ensures.consistent c.in-Some.n c.args.now c.ticks_to_next.result c.known.ensures.from
     c.known.ensures.within c.in-Some.ensures.used
     (quiet_from (checked_plan c.args.plan.now) c.in-Some.n c.args.now c.ticks_to_next.result c.counter.result c.counter.ensures.value c.ticks_to_next.ensures.quiet)
     (pattern_in (cells_of c.args.self.now)) (sym c.running.ensures.runs ∙ c.in-Some.is) (cells_of c.args.self.now) t orders refl later before said
