@@ -56,3 +56,4 @@ pub mod ReturnTickLemmas
 pub mod ReturnCrossLemmas
 pub mod ReturnRunLemmas
 pub mod CalledStartLemmas
+pub mod LateGreenLemmas

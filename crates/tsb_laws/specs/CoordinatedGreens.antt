@@ -12,7 +12,7 @@ use Rattle.tsb_step.specs.tsb_types.Intervals.{is_green}
 use Rattle.tsb_step.specs.tsb_plan.Parts.{cycle}
 use Rattle.tsb_step.specs.tsb_plan.Plan.{Plan, phases, is_enabled, is_concurrent, side_of, walk, pedestrian_clear, yellow_change, red_clear, red_revert}
 use Rattle.tsb_step.specs.tsb_rules.Consistent.{IsPhase}
-use Rattle.tsb_step.specs.tsb_coord.Coordinated.{asks_force_off, serving_order}
+use Rattle.tsb_step.specs.tsb_coord.Coordinated.{is_at_force_off, asks_force_off, serving_order}
 use Rattle.tsb_step.specs.tsb_ring.Rings.{Ring, Ring1, Ring2, other, number, in_ring}
 use Rattle.tsb_step.specs.tsb_ring.Wants.{is_on_side}
 use Rattle.tsb_step.specs.declared.inputs.Input.{Input}
@@ -51,7 +51,7 @@ pub record ComesInCycle (s : State) (k p : ℕ) : Type 0 where
   pub tick : ℕ
   pub later : s.now < tick
   pub soon : tick ≤ s.now + cycle s.plan k
-  pub forced : asks_force_off s.plan tick s.pattern p ≡ true
+  pub at_instant : is_at_force_off s.plan tick s.pattern p ≡ true
 
 -- So it is of each enabled phase after every run, while a pattern runs.
 abbrev pub ForceOffsCome : Type 0
@@ -68,8 +68,8 @@ is_pressed_in_pattern p s (Pattern n) = false
 is_pressed_in_pattern p s (Commit station) = false
 is_pressed_in_pattern p s i = true
 
--- the force-off instant of p comes n ticks after the next one at the latest; n is as large as its initial time, whatever it
--- has counted, and as its walk and its pedestrian clearance together
+-- p is forced off, at its instant or late, n ticks after the next one at the latest; n is as large as its initial time,
+-- whatever it has counted, and as its walk and its pedestrian clearance together
 pub record IsForcedWithin (s : State) (p n : ℕ) : Type 0 where
   pub tick : ℕ
   pub later : s.now < tick

@@ -11,25 +11,25 @@ use Rattle.tsb_step.specs.tsb_ring.Rings.{Ring}
 use Rattle.tsb_step.specs.declared.inputs.Input.{Input}
 use Rattle.tsb_step.specs.declared.inputs.Input.TheVariants.{Tick}
 use Rattle.tsb_step.specs.State.{interval}
-use Rattle.tsb_step.specs.Tick.{service, hold, forced, omitted}
+use Rattle.tsb_step.specs.Tick.{service, hold, forced, at_force_off, omitted}
 use Rattle.tsb_step.specs.Runs.{replay, AreTaken}
 use Rattle.tsb_step.specs.Laws.{IsConsistent}
 use Rattle.tsb_laws.specs.Stretches.{EndsGreen, StartsGreen}
 
 -- ## Coordinated phases
 
--- the force-off instant of p has come in some tick of the green that p is in now
+-- p was forced off in some tick of the green that it is in now
 abbrev pub was_forced_off : Plan → ℕ → List Input → Bool
 was_forced_off plan p [] = false
 was_forced_off plan p (Tick row ∷ is) = is_green (interval (replay plan is) p) && (forced (replay plan is) p || was_forced_off plan p is)
 was_forced_off plan p (i ∷ is) = was_forced_off plan p is
 
 -- While a pattern runs and no preempt is in service, a tick ends the green of a coordinated phase only by its force-off:
--- the force-off instant is this tick, or was an earlier one of this green.
+-- the force-off instant is this tick, or it was forced off in an earlier one of this green.
 abbrev pub CoordinatedEndByForceOff : Type 0
 CoordinatedEndByForceOff = (plan : Plan) (is : List Input) (row : Row) (p : ℕ) → IsConsistent plan → plan.phase_count ≤ 16 →
     AreTaken plan is → (replay plan is).trip ≡ None → EndsGreen plan is row p → hold (replay plan is) p ≡ true →
-    service (replay plan is) row ≡ None → (forced (replay plan is) p ≡ true) ⊎ (was_forced_off plan p is ≡ true)
+    service (replay plan is) row ≡ None → (at_force_off (replay plan is) p ≡ true) ⊎ (was_forced_off plan p is ≡ true)
 
 -- ## Omitted phases
 

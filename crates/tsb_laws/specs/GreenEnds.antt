@@ -98,7 +98,7 @@ keeps_force_off p s (Tick row) = is_some (runs s) && (is_none (service s row) &&
 keeps_force_off p s (Pattern n) = false
 keeps_force_off p s i = true
 
--- the force-off instant of p is this tick, in which it was Green
+-- p is forced off in this tick, at its instant or late, and was Green before it
 pub record IsForcedOff (plan : Plan) (p : ℕ) (is : List Input) (row : Row) : Type 0 where
   pub was_green : is_green (interval (replay plan is) p) ≡ true
   pub forced : forced (replay plan is) p ≡ true

@@ -66,6 +66,10 @@ pub mod SavedRuns
 pub mod Told
 -- that coordinated phases are awaited and other greens forced off, and within which time a coordinated phase is Green again
 pub mod CoordinatedGreens
+-- that the options of a plan change nothing where they are 0
+pub mod Options
+-- that greens which begin behind their force-off instant end late, where the plan says so
+pub mod LateGreens
 -- what the laws of runs, and those of cells and records, say of one run
 pub mod PlayLaws
 pub mod PlayRecords

@@ -11,7 +11,7 @@ use Rattle.tsb_step.specs.tsb_types.Intervals.{is_green, is_yellow}
 use Rattle.tsb_step.specs.tsb_plan.Parts.{is_minus_green_yellow, track_green}
 use Rattle.tsb_step.specs.tsb_plan.Plan.{Plan, red_revert}
 use Rattle.tsb_step.specs.tsb_plan.Parts.{is_minus_green_yellow}
-use Rattle.tsb_step.specs.tsb_plan.Plan.{Plan, is_enabled, side_of, red_revert}
+use Rattle.tsb_step.specs.tsb_plan.Plan.{Plan, is_enabled, side_of, walk, pedestrian_clear, red_revert}
 use Rattle.tsb_step.specs.tsb_heads.Monitoring.{conflict, gives_way}
 use Rattle.tsb_step.specs.tsb_preempt.Service.{has_track}
 use Rattle.tsb_step.specs.tsb_ring.Moves.{is_started}
@@ -25,7 +25,7 @@ use Rattle.tsb_step.specs.Runs.{replay}
 use Rattle.tsb_step.specs.Signs.{display, field, IsSafe}
 use Rattle.tsb_step.specs.State.{State, interval}
 use Rattle.tsb_step.specs.Step.{step, verdict}
-use Rattle.tsb_step.specs.Tick.{service, must_end, runs, hold, forced, omitted, conflict as has_conflict, ready, moves}
+use Rattle.tsb_step.specs.Tick.{service, must_end, runs, hold, at_force_off, omitted, conflict as has_conflict, ready, moves}
 use Rattle.tsb_step.specs.TimeLaws.{held_for, is_tick, is_yellow_head, EndsInTime, HasHeld, IsSided, Rests, TellsTime}
 use Rattle.tsb_step.specs.WaitLaws.{IsKeptNext}
 use Rattle.tsb_laws.specs.AllRed.{HasBeenRed, HasBeenWanted}
@@ -36,6 +36,7 @@ use Rattle.tsb_laws.specs.Crossings.{BeginsCrossing, TakesAtMost, CompletesWithi
 use Rattle.tsb_laws.specs.GreenEnds.{EndsForAReason}
 use Rattle.tsb_laws.specs.Intergreens.{AreApart, HasCleared, WalksBefore, HasWalked}
 use Rattle.tsb_laws.specs.KeptCalls.{restarts, RunsOn, Remembers, HasTurnedGreen, HasBegunWalk}
+use Rattle.tsb_laws.specs.LateGreens.{IsInLateSpan, IsLateGreen}
 use Rattle.tsb_laws.specs.LitHeads.{KeepsLitHeads, StaysOrClears}
 use Rattle.tsb_laws.specs.OverlapPhases.{GoesWithPhases}
 use Rattle.tsb_laws.specs.PreemptDwells.{BeginsService, is_served}
@@ -46,7 +47,7 @@ use Rattle.tsb_laws.specs.PreemptTurns.{GivesWay, EndsFrom}
 use Rattle.tsb_laws.specs.RedReverts.{StartsAgain, HasReverted}
 use Rattle.tsb_laws.specs.RunningMaximum.{maximum_of, IsBounded, MovesByAStep}
 use Rattle.tsb_laws.specs.Stretches.{IsUntripped, has_held_since, largest, EndsGreen}
-use Rattle.tsb_laws.specs.ServedCalls.{HasBeenPressed, IsDoneWithin, IsFullyConcurrent, HasWaited, TurnsTakeAtMost, IsToCome, time_to_come, is_outside, time_to_cross, time_to_serve}
+use Rattle.tsb_laws.specs.ServedCalls.{HasBeenPressed, IsDoneWithin, IsFullyConcurrent, HasWaited, TurnsTakeAtMost, IsToCome, time_to_come, is_outside, time_to_cross, time_to_serve, longest_initial}
 use Rattle.tsb_laws.specs.UnwantedGreens.{WaitsFor}
 use Rattle.tsb_laws.specs.WantedStarts.{MayStart, IsKeptBy}
 use Rattle.tsb_laws.specs.CoordinatedGreens.{HasGoneOn, IsAwaited, ComesInCycle, is_pressed_in_pattern, IsForcedWithin, KeepsAtBarrier, is_out, is_called_in_pattern, TurnsInPattern, time_to_be_served}
@@ -130,7 +131,7 @@ RevertsOrOff plan is = (row : Row) (p : ℕ) → is_started (moves (replay plan 
 -- while a pattern runs and no preempt is in service, the next tick ends a coordinated green only by its force-off
 abbrev pub EndsByForceOff : Plan → List Input → Type 0
 EndsByForceOff plan is = (row : Row) (p : ℕ) → EndsGreen plan is row p → hold (replay plan is) p ≡ true →
-    service (replay plan is) row ≡ None → (forced (replay plan is) p ≡ true) ⊎ (was_forced_off plan p is ≡ true)
+    service (replay plan is) row ≡ None → (at_force_off (replay plan is) p ≡ true) ⊎ (was_forced_off plan p is ≡ true)
 
 -- without a preempt in service the next tick starts an omitted phase only by an older commitment
 abbrev pub KeepsOmits : Plan → List Input → Type 0
@@ -259,6 +260,13 @@ ForcesGreensOff plan is = (base later : List Input) (row : Row) (p n : ℕ) → 
     HasGoneOn (is_pressed_in_pattern p) plan base (Tick row ∷ later) → IsForcedWithin (replay plan base) p n →
     (replay plan base).now + n ≤ (replay plan is).now → ready (replay plan is) row p ≡ true
 
+-- a green that was late, and has had a conflict for so long, is ready in the next tick
+abbrev pub ReadiesLateGreensInTime : Plan → List Input → Type 0
+ReadiesLateGreensInTime plan is = (base later : List Input) (row : Row) (p n : ℕ) → is ≡ later ++ base → IsUntripped plan base later →
+    HasGoneOn (is_pressed_in_pattern p) plan base (Tick row ∷ later) → IsInLateSpan (replay plan base) p →
+    longest_initial (replay plan base).plan p ≤ n → walk (replay plan base).plan p + pedestrian_clear (replay plan base).plan p ≤ n →
+    (replay plan base).now + n ≤ (replay plan is).now → ready (replay plan is) row p ≡ true
+
 -- while a pattern ran, a phase that stayed called has not waited for longer than it may, nor has a coordinated one
 abbrev pub ServesInPatterns : (ℕ → State → Input → Bool) → Plan → List Input → Type 0
 ServesInPatterns waits plan is = (base later : List Input) (k j h : ℕ) (r : Ring) (c : ℕ) → is ≡ later ++ base → IsUntripped plan base later →
@@ -275,6 +283,10 @@ AwaitsCoordinated s = (row : Row) (c : ℕ) → IsPhase s.plan c → hold s c �
 -- and each enabled phase has its force-off instant within a cycle
 abbrev pub HasInstants : State → Type 0
 HasInstants s = (k p : ℕ) → runs s ≡ Some k → is_enabled s.plan p ≡ true → ComesInCycle s k p
+
+-- a green that is late, and that nothing else keeps, is ready in the next tick
+abbrev pub ReadiesLateGreens : State → Type 0
+ReadiesLateGreens s = (row : Row) (p : ℕ) → IsLateGreen s row p → ready s row p ≡ true
 
 -- a green that is ready and has a conflict ends by the next tick, or the other ring keeps it at the barrier
 abbrev pub MakesWay : Plan → List Input → Type 0
@@ -352,5 +364,7 @@ pub record KeepsLaws (plan : Plan) (is : List Input) (s : State) : Type 0 where
   pub coordination_goes_on_instants : HasInstants s
   pub coordination_goes_on_forced : ForcesGreensOff plan is
   pub coordination_goes_on_ends : Untripped MakesWay plan is
+  pub late_greens_are_ready : ReadiesLateGreens s
+  pub late_greens_are_ready_in_time : ReadiesLateGreensInTime plan is
   pub phases_are_served_in_patterns_called : ServesInPatterns is_called_in_pattern plan is
   pub phases_are_served_in_patterns_coordinated : ServesInPatterns is_out plan is

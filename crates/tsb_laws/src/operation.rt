@@ -3,6 +3,8 @@
 ghost use Rattle.tsb_laws.specs.KeptCalls.{CallsAreRemembered, PedestrianCallsStand, VehicleCallsStand};
 ghost use Rattle.tsb_laws.specs.CrossingGreens.{CommittedRingsClear};
 ghost use Rattle.tsb_laws.specs.GreenEnds.{GreensEndForAReason};
+ghost use Rattle.tsb_laws.specs.LateGreens.{LateGreensAreReady, LateGreensMayEnd};
+ghost use Rattle.tsb_laws.specs.Options.{OptionsOffChangeNothing};
 ghost use Rattle.tsb_laws.specs.OverlapPhases.{OverlapsGoWithPhases};
 ghost use Rattle.tsb_laws.specs.PreemptEntries.{PreemptsLetInTheirOwn};
 ghost use Rattle.tsb_laws.specs.PreemptStages.{DwellsAreReached, ExitsEnd, StagesAreReached};
@@ -259,9 +261,9 @@ pub fn called_phases_are_served()
 /// Mistake: an instant that is not taken within the cycle, `past_the_cycle` (`would_never_come`).
 /// Witness: `a_pattern` of CoordinatedRuns.
 ///
-/// `forced`: A green that is forced off may end, whatever calls it. Where it has a conflict in each tick, and its force-off
-/// instant has come, it is ready as soon as its initial time, its walk and its pedestrian clearance have passed. That is so
-/// of coordinated phases and all others, also where a green began behind its instant and waited for the next one.
+/// `forced`: A green that is forced off may end, whatever calls it. Where it has a conflict in each tick, and has been
+/// forced off, at its instant or late, it is ready as soon as its initial time, its walk and its pedestrian clearance have
+/// passed. That is so of coordinated phases and all others, also where a green began behind its instant.
 ///
 /// Needs: a pattern that runs, and no preempt in service; no pattern selected and nothing committed meanwhile; an untripped
 /// run; at most 16 phases.
@@ -310,4 +312,38 @@ pub fn coordination_goes_on()
 pub fn phases_are_served_in_patterns()
     ensures called { CalledPhasesAreServedInPatterns }
     ensures coordinated { CoordinatedPhasesAreServed }
+{}
+
+/// Options that are 0 change nothing. Each definition that reads one is then the definition without it. Where
+/// `coordForceMode` is 0, a phase is forced off where the local counter is at its force-off instant, and in no other
+/// tick. So it is in every tick, for each phase, and whatever pattern is selected.
+///
+/// Mistake: force-off that is late whatever the mode is, `late_always` (`is_not_asked`, `would_ask`).
+/// Witness: `two_has_none`, `quad_has_none` of OptionMistakes, the built-in plans.
+pub fn options_off_change_nothing()
+    ensures { OptionsOffChangeNothing }
+{}
+
+/// `ready`: A green that is late may end. With `coordForceMode` 1, a phase that is not coordinated is ready in each tick
+/// from its force-off instant up to that of the coordinated phase that it yields to. That is so wherever it is Green with
+/// a conflict, its initial time has passed and its pedestrian part is DontWalk; so it needs no gap and no next cycle.
+///
+/// Needs: no preempt in service; at most 16 phases.
+/// Not said: that it ends then, as it may wait for the other ring at the barrier (`coordination_goes_on`).
+/// Mistake: force-off at the instant alone, as with mode 0, `at_instant` (`is_ready`, `would_not_be_forced`,
+/// `would_not_be_ready`).
+/// Witness: `a_late_green` of LateGreenRuns.
+///
+/// `in_time`: A green that begins behind its instant may end in time. Where it is so late in one tick, it is ready as soon
+/// as it has had a conflict in each tick for its initial time, and for its walk and pedestrian clearance, whatever calls
+/// it. The green may also have begun before its instant.
+///
+/// Needs: a pattern that runs, and no preempt in service; no pattern selected and nothing committed meanwhile; an untripped
+/// run; at most 16 phases.
+/// Not said: that it ends then. The span may be over by then: what is forced off stays so.
+/// Mistake: as of `ready`, `at_instant` (`would_not_be_ready`).
+/// Witness: `a_late_wait` of LateGreenRuns.
+pub fn late_greens_are_ready()
+    ensures ready { LateGreensAreReady }
+    ensures in_time { LateGreensMayEnd }
 {}

@@ -72,9 +72,10 @@ pub fn crossings_complete()
 {}
 
 /// A coordinated green ends only by its force-off. While a pattern runs and no preempt is in service, a tick ends a
-/// coordinated green only where its force-off instant is this tick, or was an earlier one of this green.
+/// coordinated green only where its force-off instant is this tick, or it was forced off in an earlier one of this green.
 ///
 /// Needs: an untripped run; at most 16 phases.
+/// Not said: that the earlier tick was its instant too, where a commit has made the phase coordinated since.
 /// Mistake: a green that a gap ends (`is_held`, `would_time_out`).
 /// Witness: `a_coordination` of CoordinationRuns.
 pub fn coordinated_end_by_force_off()

@@ -67,7 +67,7 @@ pub record ClearsInTime (s : State) (rows : ℕ → Row) (p : ℕ) : Type 0 wher
 abbrev pub GreensClearInTime : Type 0
 GreensClearInTime = OfEveryRun (λ s. (rows : ℕ → Row) (p : ℕ) → EndsNow s rows p → ClearsInTime s rows p)
 
--- a coordinated phase of the pattern that runs, at its force-off instant in the tick in which its green ends
+-- a coordinated phase of the pattern that runs, forced off in the tick in which its green ends; that is at its instant
 pub record IsForcedOff (s : State) (n p : ℕ) : Type 0 where
   pub selected : s.pattern ≡ Some n
   pub used : is_pattern s.plan n ≡ true

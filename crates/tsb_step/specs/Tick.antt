@@ -76,9 +76,13 @@ runs s = running s.plan s.pattern
 abbrev pub hold : State → ℕ → Bool
 hold s = coordination.asks_hold s.plan s.pattern
 
--- the local counter is at the phase's force-off instant in this tick
+-- the phase is forced off in this tick: at its force-off instant, or late, which no coordinated phase is
 abbrev pub forced : State → ℕ → Bool
 forced s = coordination.asks_force_off s.plan (s.now + 1) s.pattern
+
+-- the local counter is at the phase's force-off instant in this tick
+abbrev pub at_force_off : State → ℕ → Bool
+at_force_off s = coordination.is_at_force_off s.plan (s.now + 1) s.pattern
 
 -- its split mode in the pattern that runs omits it
 abbrev pub omitted : State → ℕ → Bool

@@ -1,6 +1,5 @@
--- How many ticks more a green takes in a pattern until it is forced off and may end, where its force-off instant comes in
--- tick f, it has a conflict in each tick and no preempt is in service: found of the phase as it stands, and one less after
--- each tick.
+-- How many ticks more a green takes in a pattern until it is forced off and may end, where it is forced off in tick f, has
+-- a conflict in each tick and no preempt is in service: found of the phase as it stands, and one less after each tick.
 use Rattle.std.proofs.Common.{◌≡◌, ℕ, ◌+◌, ◌-◌, ◌<◌, ◌≤◌, nat_le, Bool, true, false, ◌&&◌, ◌||◌, if◌then◌else◌, max, Option, None, is_some, refl, sym, ap, subst, arith, ◌∙◌, inl, inr, ◌⊎◌}
 use Rattle.std.proofs.lemmas.Bool.{and_from, or_left, or_right, cases_eq, cases_lt, true≢false}
 use Rattle.std.proofs.lemmas.Bool.Decides.{nat_tests}
@@ -60,7 +59,7 @@ forcing_left f t false = f - t
 abbrev pub pattern_left : ℕ → ℕ → ℕ → ℕ → ℕ → Phase → ℕ
 pattern_left f t i a b x = max (forcing_left f t x.forced) (max (left i x.timer) (walking_in a b x.pedestrian_timer x.pedestrian))
 
--- its instant is still to come, or it has been forced off in this green
+-- that tick is still to come, or it has been forced off in this green
 abbrev pub IsAhead : ℕ → ℕ → Bool → Type 0
 IsAhead f t true = Unit {0}
 IsAhead f t false = t ≤ f
@@ -87,12 +86,19 @@ module _ (s : State) (row : Row) (p f : ℕ) (on : is_phase p ≡ true) (pressed
   unfolding phases_given
   told_forced = ap (λ (b : Bool). b && forced s p) on
 
-  -- the force-off instant is this tick, or was an earlier one
+  -- it is forced off in this tick, or was in an earlier one
   latches : forced_latch (phases_given s row) p (held_of (phase_read s p)) ≡ (forced s p || (s.phases p).forced)
   latches = rw (told_runs, told_service, told_conflict, told_forced) refl
 
   forced_at : s.now + 1 ≡ f → forced s p ≡ true
   forced_at e = ap (λ (t : ℕ). asks_force_off s.plan t s.pattern p) e ∙ comes
+
+  -- where it is forced off in this tick, and nothing else keeps it, it is ready
+  pub ready_at_once : s.now + 1 ≡ f → interval s p ≡ Green → initial_has_passed s.plan (phases_given s row) p (held_of (phase_read s p)) ≡ true →
+      pedestrian_now s.plan (phases_given s row) p (phase_read s p) ≡ DontWalk → ready s row p ≡ true
+  ready_at_once e green long still =
+      ready_by s.plan (phases_given s row) p (phase_read s p) (ap is_green green) still ended_by_none long
+      (latches ∙ or_left (forced s p) (s.phases p).forced (forced_at e))
 
   latched_now : IsAhead f (s.now + 1) (s.phases p).forced → forcing_left f (s.now + 1) (s.phases p).forced ≡ 0 →
       forced_latch (phases_given s row) p (held_of (phase_read s p)) ≡ true

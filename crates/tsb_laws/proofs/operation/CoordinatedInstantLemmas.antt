@@ -5,7 +5,7 @@ use Rattle.tsb_step.specs.tsb_plan.Plan.{Plan, is_enabled}
 use Rattle.tsb_step.specs.tsb_plan.Parts.{is_used, cycle, offset}
 use Rattle.tsb_step.specs.tsb_rules.Rules.{first_broken}
 use Rattle.tsb_step.specs.tsb_rules.Consistent.{IsWhole}
-use Rattle.tsb_step.specs.tsb_coord.Coordinated.{counter, local_in, instant_from, reference, instant_by, force_off, agree, asks_force_off}
+use Rattle.tsb_step.specs.tsb_coord.Coordinated.{counter, local_in, instant_from, reference, instant_by, force_off, agree}
 use Rattle.tsb_step.proofs.tsb_coord.LocalLemmas.{counter_moves_on}
 use Rattle.tsb_step.proofs.tsb_coord.WaitLemmas.{met_within, HasInstant, has_instant}
 use Rattle.tsb_step.specs.declared.inputs.Input.{Input}
@@ -68,7 +68,7 @@ comes_in s k p good running on = go (met_within (cycle s.plan k) (counter s.plan
           tick = s.now + 1 + met.0;
           later = omega arith;
           soon = omega (arith, less);
-          forced = ap (λ (o : Option ℕ). agree (local_in s.plan (s.now + 1 + met.0) o) (force_off s.plan o p)) running
+          at_instant = ap (λ (o : Option ℕ). agree (local_in s.plan (s.now + 1 + met.0) o) (force_off s.plan o p)) running
               ∙ (ap (λ (o : Option ℕ). agree (Some (counter s.plan k (s.now + 1 + met.0))) o) own.is
               ∙ (ap (λ (x : ℕ). x == own.instant) (counter_moves_on s.plan k (s.now + 1) met.0 below) ∙ met.1.1));
         }

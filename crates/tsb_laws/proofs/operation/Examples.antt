@@ -12,3 +12,5 @@ pub mod PreemptStageRuns
 pub mod ServedRuns
 pub mod CoordinatedRuns
 pub mod CalledStartRuns
+pub mod OptionMistakes
+pub mod LateGreenRuns

@@ -9,6 +9,7 @@ use Rattle.tsb_step.specs.tsb_types.Sets.{is_phase}
 use Rattle.tsb_step.specs.tsb_plan.Parts.{cycle}
 use Rattle.tsb_step.specs.tsb_plan.Plan.{walk, pedestrian_clear}
 use Rattle.tsb_step.specs.tsb_coord.Coordinated.{asks_force_off}
+use Rattle.tsb_step.proofs.tsb_coord.LocalLemmas.{at_instant_asks}
 use Rattle.tsb_step.specs.tsb_ring.Moves.{is_ended, is_started}
 use Rattle.tsb_step.specs.State.{State, interval}
 use Rattle.tsb_step.specs.Tick.{service, runs, conflict, ready, moves, next}
@@ -22,7 +23,7 @@ use Rattle.tsb_laws.proofs.operation.CoordinatedRunLemmas.{left_most, walking_mo
 use Rattle.tsb_laws.proofs.operation.RingPlaceLemmas.{View, view}
 use Rattle.tsb_laws.proofs.operation.RingStepLemmas.{BoundsGreens}
 
--- the force-off instant comes in a tick, or has come in this green, and then n ticks are left at most
+-- it is forced off in a tick, or has been in this green, and then n ticks are left at most
 pub record LastsInPattern (v : View) (p n : ℕ) : Type 0 where
   pub tick : ℕ
   pub forced : asks_force_off v.plan tick v.pattern p ≡ true
@@ -34,7 +35,7 @@ pub lasts_now : (s : State) (k p : ℕ) → ComesInCycle s k p → LastsInPatter
 unfolding longest_in_pattern
 lasts_now s k p it = record {
   tick = it.tick;
-  forced = it.forced;
+  forced = at_instant_asks s.plan it.tick s.pattern p it.at_instant;
   ahead = ahead (s.phases p).forced;
   most = (let first = forcing (s.phases p).forced in
       let second : left (longest_initial s.plan p) (s.phases p).timer ≤ longest_initial s.plan p = left_most (longest_initial s.plan p) (s.phases p).timer in

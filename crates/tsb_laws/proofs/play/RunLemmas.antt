@@ -46,6 +46,7 @@ use Rattle.tsb_laws.proofs.operation.CoordinatedCallLemmas.{awaited}
 use Rattle.tsb_laws.proofs.operation.CoordinatedInstantLemmas.{instants_come}
 use Rattle.tsb_laws.proofs.operation.CoordinatedRunLemmas.{forced_may_end}
 use Rattle.tsb_laws.proofs.operation.CoordinatedBarrierLemmas.{makes_way_or_kept}
+use Rattle.tsb_laws.proofs.operation.LateGreenLemmas.{late_is_ready, late_may_end}
 use Rattle.tsb_laws.proofs.operation.ReturnRunLemmas.{served_in_pattern, coordinated_in_time}
 use Rattle.tsb_laws.proofs.safety.AllRedLemmas.{all_red_ends}
 use Rattle.tsb_laws.proofs.safety.CoordinationLemmas.{ends_by_force_off, omits_hold}
@@ -134,6 +135,9 @@ module _ (plan : Plan) (held : IsHeld plan) where
         rw e (forced_may_end plan base later row p n ok (few plan held) (rw e at taken) dark pressed most (rw e at long));
     coordination_goes_on_ends = λ dark row r p quiet full own green fit pressed.
         makes_way_or_kept plan is row r p ok (few plan held) taken dark quiet full own green fit pressed;
+    late_greens_are_ready = λ row p it. late_is_ready plan is row p ok (few plan held) taken it;
+    late_greens_are_ready_in_time = λ base later row p n e dark pressed span initial walks long.
+        rw e (late_may_end plan base later row p n ok (few plan held) (rw e at taken) dark pressed span initial walks (rw e at long));
     phases_are_served_in_patterns_called = λ base later k j h r c e dark full running own times out.
         rw e (served_in_pattern plan base later k j h r c ok (few plan held) (rw e at taken) dark full running own times out);
     phases_are_served_in_patterns_coordinated = λ base later k j h r c e dark full running own times out.

@@ -11,6 +11,7 @@ use Rattle.tsb_step.specs.tsb_phase.Green.{initial_has_passed, forced_latch}
 use Rattle.tsb_step.specs.tsb_phase.Pedestrian.{ended_by, pedestrian_now}
 use Rattle.tsb_step.specs.tsb_phase.Next.{is_green_after}
 use Rattle.tsb_step.specs.tsb_phase.Ready.{needs_forced, may_end, green_is_done, is_ready}
+use Rattle.tsb_step.proofs.tsb_coord.LocalLemmas.{coordinated_at_instant}
 use Rattle.tsb_step.specs.tsb_preempt.Service.{Service}
 use Rattle.tsb_step.specs.tsb_preempt.Preempts as preempts
 use Rattle.tsb_step.specs.tsb_ring.Rings as rings
@@ -27,7 +28,7 @@ use Rattle.tsb_step.specs.declared.inputs.Input.{Input}
 use Rattle.tsb_step.specs.declared.inputs.Input.TheVariants as inputs
 use Rattle.tsb_step.specs.declared.inputs.Input.TheVariants.{Tick}
 use Rattle.tsb_step.specs.State.{State, restarted, interval}
-use Rattle.tsb_step.specs.Tick.{preempts_given, preempts_read, new_service, service, hold, forced, omitted, phases_given, phase_read, rings_given, moves, moved, yellow_done, next}
+use Rattle.tsb_step.specs.Tick.{preempts_given, preempts_read, new_service, service, hold, forced, at_force_off, omitted, phases_given, phase_read, rings_given, moves, moved, yellow_done, next}
 use Rattle.tsb_step.specs.Signs.{watched}
 use Rattle.tsb_step.specs.Step.{with_lamp, reset, step}
 use Rattle.tsb_step.specs.Runs.{replay, AreTaken}
@@ -180,14 +181,18 @@ latched plan (i ∷ is) p h = latched plan is p h
 few_now : (plan : Plan) (is : List Input) → plan.phase_count ≤ 16 → (replay plan is).plan.phase_count ≤ 16
 few_now plan is few = let same = count_run plan is in omega (arith, same, few)
 
+-- a coordinated phase is forced off at its instant alone
+at_instant : (s : State) (p : ℕ) → hold s p ≡ true → forced s p ≡ true → at_force_off s p ≡ true
+at_instant s p held h = sym (coordinated_at_instant s.plan (s.now + 1) s.pattern p held) ∙ h
+
 pub ends_by_force_off : (plan : Plan) (is : List Input) (row : Row) (p : ℕ) → IsConsistent plan → plan.phase_count ≤ 16 →
     AreTaken plan is → (replay plan is).trip ≡ None → EndsGreen plan is row p → hold (replay plan is) p ≡ true →
-    service (replay plan is) row ≡ None → (forced (replay plan is) p ≡ true) ⊎ (was_forced_off plan p is ≡ true)
+    service (replay plan is) row ≡ None → (at_force_off (replay plan is) p ≡ true) ⊎ (was_forced_off plan p is ≡ true)
 ends_by_force_off plan is row p ok few taken dark ends held quiet =
     elim (latched_or_now (replay plan is) row p (few_now plan is few)
     ((good_run plan is ok taken).rings.listed p (ap in_service ends.was_green))
     (ended_now (replay plan is) row p dark ends.was_green (turns_yellow plan is row p ok taken ends)) held quiet) [
-      | inl k ↦ inl k
+      | inl k ↦ inl (at_instant (replay plan is) p held k)
       | inr k ↦ inr (latched plan is p k)
     ]
 

@@ -1,5 +1,5 @@
 -- What runs, and what coordination asks of phases 1 to 8, is the same on the wide plan.
-use Rattle.std.proofs.Common.{◌≡◌, ℕ, ◌+◌, ◌-◌, nat_le, true, false, ◌&&◌, ◌++◌, Option, Some, None, refl, ◌∙◌, ap, ap₂, inl, inr, sum_by}
+use Rattle.std.proofs.Common.{◌≡◌, ℕ, ◌+◌, ◌-◌, nat_le, true, false, ◌&&◌, ◌++◌, Option, Some, None, refl, sym, ◌∙◌, ap, ap₂, inl, inr, sum_by}
 use Rattle.std.proofs.Math.Path.{fun_ext}
 use Rattle.std.proofs.lemmas.Bool.{cases_Bool}
 use Rattle.tsb_step.specs.tsb_types.Lists.{run_from, up_to}
@@ -7,10 +7,11 @@ use Rattle.tsb_step.specs.tsb_plan.Plan.{Plan, is_enabled, ring_of, side_of, seq
 use Rattle.tsb_step.specs.tsb_plan.Parts.{split_of}
 use Rattle.tsb_step.specs.tsb_plan.Running.{running, split_in_effect, sequence_in_effect, mode_in, mode_in_effect, coordinates_in, is_coordinated_now, is_omitted_now, is_on_minimum_recall, is_on_maximum_recall, is_on_pedestrian_recall}
 use Rattle.tsb_step.specs.tsb_rules.PatternRules.{is_on, has_phases, split_on, split_sum, side_sum, split_before, ring_sequence, split_end}
-use Rattle.tsb_step.specs.tsb_coord.Coordinated.{local_in, local, end_in, instant_from, reference, instant_by, force_off, asks_force_off, asks_hold, asks_omit, sequence_now, serving_order}
+use Rattle.tsb_step.specs.tsb_coord.Coordinated.{local_in, local, end_in, instant_from, reference, instant_by, force_off, is_at_force_off, asks_force_off, asks_hold, asks_omit, sequence_now, serving_order}
+use Rattle.tsb_step.proofs.tsb_coord.LocalLemmas.{options_off}
 use Rattle.tsb_laws.specs.Widened.{IsNarrow, widened}
 use Rattle.tsb_laws.proofs.versions.ListLemmas.{is_narrow, is_beyond, sum-up_to}
-use Rattle.tsb_laws.proofs.versions.PlanLemmas.{first-same, any-same, sum-same, beyond-narrow, not-enabled, enabled-narrow, split_time-same, split_mode-same, is_coordinated-same, not-coordinated, zeros, sequence-same}
+use Rattle.tsb_laws.proofs.versions.PlanLemmas.{first-same, any-same, sum-same, beyond-narrow, not-enabled, enabled-narrow, split_time-same, split_mode-same, is_coordinated-same, not-coordinated, not-late, forces_late-same, zeros, sequence-same}
 
 -- ## What runs
 
@@ -148,10 +149,17 @@ local-same plan t selected = rw (running-same plan selected) (local_in-same plan
 
 -- ## The orders
 
+is_at_force_off-same : (plan : Plan) (t : ℕ) (selected : Option ℕ) (p : ℕ) → IsNarrow plan →
+    is_at_force_off (widened plan) t selected p ≡ is_at_force_off plan t selected p
+is_at_force_off-same plan t selected p narrow =
+    rw (running-same plan selected, local_in-same plan t (running plan selected), force_off-same plan (running plan selected) p narrow) refl
+
+-- in neither is force-off late
 pub asks_force_off-same : (plan : Plan) (t : ℕ) (selected : Option ℕ) (p : ℕ) → IsNarrow plan →
     asks_force_off (widened plan) t selected p ≡ asks_force_off plan t selected p
 asks_force_off-same plan t selected p narrow =
-    rw (running-same plan selected, local_in-same plan t (running plan selected), force_off-same plan (running plan selected) p narrow) refl
+    options_off (widened plan) t selected p (forces_late-same plan ∙ not-late plan narrow)
+    ∙ is_at_force_off-same plan t selected p narrow ∙ sym (options_off plan t selected p (not-late plan narrow))
 
 pub asks_hold-same : (plan : Plan) (selected : Option ℕ) (p : ℕ) → IsNarrow plan → is_narrow p ≡ true →
     asks_hold (widened plan) selected p ≡ asks_hold plan selected p

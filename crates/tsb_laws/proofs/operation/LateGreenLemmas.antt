@@ -1,0 +1,73 @@
+-- In each tick of its late span a phase is forced off, and so what nothing else keeps is ready.
+use Rattle.std.proofs.Common.{◌≡◌, ℕ, ◌+◌, ◌≤◌, nat_le, nat_lt, true, false, List, ◌∷◌, ◌++◌, Some, is_some, refl, ap, arith}
+use Rattle.std.proofs.lemmas.Bool.{or_right}
+use Rattle.std.proofs.lemmas.Bool.Decides.{nat_tests}
+use Rattle.tsb_step.specs.tsb_types.declared.row.Row.{Row}
+use Rattle.tsb_step.specs.tsb_types.Intervals.{in_service}
+use Rattle.tsb_step.specs.tsb_types.Sets.{is_phase}
+use Rattle.tsb_step.specs.tsb_plan.Plan.{Plan, walk, pedestrian_clear}
+use Rattle.tsb_step.specs.tsb_plan.Running.{is_coordinated_now}
+use Rattle.tsb_step.specs.tsb_coord.Coordinated.{counter, agree, late_end, is_late, asks_force_off}
+use Rattle.tsb_step.specs.declared.inputs.Input.{Input}
+use Rattle.tsb_step.specs.declared.inputs.Input.TheVariants.{Tick}
+use Rattle.tsb_step.specs.State.{State}
+use Rattle.tsb_step.specs.Tick.{ready}
+use Rattle.tsb_step.specs.Runs.{replay, AreTaken}
+use Rattle.tsb_step.specs.Laws.{IsConsistent}
+use Rattle.tsb_step.specs.Good.{IsGood}
+use Rattle.tsb_step.proofs.GoodLemmas.{good_run}
+use Rattle.tsb_laws.specs.Stretches.{IsUntripped}
+use Rattle.tsb_laws.specs.ServedCalls.{longest_initial}
+use Rattle.tsb_laws.specs.CoordinatedGreens.{HasGoneOn, is_pressed_in_pattern}
+use Rattle.tsb_laws.specs.LateGreens.{IsInLateSpan, IsLateGreen}
+use Rattle.tsb_laws.proofs.safety.DueLemmas.{count_run}
+use Rattle.tsb_laws.proofs.operation.PressedRunLemmas.{is_one}
+use Rattle.tsb_laws.proofs.operation.CoordinatedForceLemmas.{ready_at_once}
+use Rattle.tsb_laws.proofs.operation.CoordinatedRunLemmas.{forced_may_end}
+
+-- where late force-off of p ends
+ends_late : (s : State) (p : ℕ) (it : IsInLateSpan s p) → late_end s.plan (Some it.number) p ≡ Some it.limit
+ends_late s p it =
+    let other : is_coordinated_now s.plan (Some it.number) p ≡ false = rw it.runs at it.other in
+    rw (it.late, other, it.yields) it.until
+
+-- it is forced off in the next tick
+forced_late : (s : State) (p : ℕ) → IsInLateSpan s p → asks_force_off s.plan (s.now + 1) s.pattern p ≡ true
+forced_late s p it =
+    let above : nat_le it.instant (counter s.plan it.number (s.now + 1)) ≡ true = (let from = it.from in grind (arith, nat_tests, from)) in
+    let under : nat_lt (counter s.plan it.number (s.now + 1)) it.limit ≡ true = (let below = it.below in grind (arith, nat_tests, below)) in
+    let late : is_late (Some (counter s.plan it.number (s.now + 1))) (Some it.instant) (Some it.limit) ≡ true = rw (above, under) refl in
+    rw (it.runs, it.own, ends_late s p it)
+    (or_right (agree (Some (counter s.plan it.number (s.now + 1))) (Some it.instant))
+    (is_late (Some (counter s.plan it.number (s.now + 1))) (Some it.instant) (Some it.limit)) late)
+
+pub late_is_ready : (plan : Plan) (is : List Input) (row : Row) (p : ℕ) → IsConsistent plan → plan.phase_count ≤ 16 →
+    AreTaken plan is → IsLateGreen (replay plan is) row p → ready (replay plan is) row p ≡ true
+late_is_ready plan is row p ok few taken it =
+    ready_at_once (replay plan is) row p ((replay plan is).now + 1) one it.conflict (ap is_some it.span.runs) it.quiet
+    (forced_late (replay plan is) p it.span) refl it.green it.initial it.dont_walk
+  where
+    few_now : (replay plan is).plan.phase_count ≤ 16
+    few_now = let same = count_run plan is in omega (arith, same, few)
+
+    good : IsGood (replay plan is)
+    good = good_run plan is ok taken
+
+    one : is_phase p ≡ true
+    one = is_one (replay plan is).plan p few_now (good.rings.listed p (ap in_service it.green))
+
+-- what is forced off in the next tick may end in time
+pub late_may_end : (plan : Plan) (base later : List Input) (row : Row) (p n : ℕ) → IsConsistent plan → plan.phase_count ≤ 16 →
+    AreTaken plan (later ++ base) → IsUntripped plan base later → HasGoneOn (is_pressed_in_pattern p) plan base (Tick row ∷ later) →
+    IsInLateSpan (replay plan base) p → longest_initial (replay plan base).plan p ≤ n →
+    walk (replay plan base).plan p + pedestrian_clear (replay plan base).plan p ≤ n →
+    (replay plan base).now + n ≤ (replay plan (later ++ base)).now → ready (replay plan (later ++ base)) row p ≡ true
+late_may_end plan base later row p n ok few taken dark pressed span initial walks long =
+    forced_may_end plan base later row p n ok few taken dark pressed (record {
+      tick = (replay plan base).now + 1;
+      later = omega arith;
+      soon = omega arith;
+      forced = forced_late (replay plan base) p span;
+      initial = initial;
+      walk = walks;
+    }) long
