@@ -77,6 +77,10 @@ CASES = [
     Case(14, {"phaseRestInWalk.2": 1, "phasePedestrianClear.2": 15},
          ["phase 2: it rests in walk, and its clearance of 15 s can end after the force-off of phase 3 in pattern 1"],
          {"phasePedestrianClear.2": 14}),
+    # With late force-off a green that begins behind its instant is forced off.
+    Case(14, {"phaseRestInWalk.6": 1, "phasePedestrianClear.6": 15},
+         ["phase 6: it rests in walk, and its clearance of 15 s can end after the force-off of phase 3 in pattern 1"],
+         {"coordForceMode.1": 1}),
     Case(14, {"phaseRestInWalk.2": 1, "phasePedestrianClear.2": 15, "splitMode.3": 5},
          ["phase 2: it rests in walk, and its clearance of 15 s can end after the force-off of phase 7 in pattern 1"],
          {"splitMode.7": 5}),
@@ -121,6 +125,9 @@ CASES = [
     Case(28, {"phasePedestrianClear.4": 28},
          ["phase 4: its walk and clearance can end after the force-off of phase 1 in pattern 1, which then lasts up to a cycle"],
          {"phasePedestrianClear.4": 27}),
+    Case(28, {"phasePedestrianClear.8": 38},
+         ["phase 8: its walk and clearance can end after the force-off of phase 1 in pattern 1, which then lasts up to a cycle"],
+         {"coordForceMode.1": 1}),
     Case(29, {"splitMode.3": 5, "phaseMinRecall.3": 1}, ["phase 3: its recall has no effect in pattern 1, which omits it"],
          {"phaseMinRecall.3": 0}),
     Case(30, {"patternCycleTime.4": 90, "patternOffsetTime.4": 45, "patternSplitNumber.4": 1, "patternSequenceNumber.4": 1},
@@ -130,6 +137,10 @@ CASES = [
     Case(32, {"splitMode.7": 0},
          ["pattern 1: its coordinated phases yield in one tick of each cycle of 90 s, so a later call waits for the next one"],
          {"splitMode.7": 5}),
+    # They yield once with late force-off as well.
+    Case(32, {"splitMode.3": 0, "coordForceMode.1": 1},
+         ["pattern 1: its coordinated phases yield in one tick of each cycle of 90 s, so a later call waits for the next one"],
+         {"splitMode.3": 1}),
     Case(33, {"preemptTrackPhase.1": 34}, [f"preempt 1: phase {p} is a track phase and a dwell phase, so cars go on to come over the track"
                                            for p in (2, 6)], {"preemptDwellPhase.1": 17}),
     Case(34, {"preemptTrackPhase.1": 0}, ["preempt 1: it has no delay and no track phases, so it clears no track"], {"preemptDelay.1": 1}),

@@ -13,6 +13,8 @@ PREEMPTS = range(1, 5)
 OVERLAPS = range(1, 5)
 # What the modes of a split ask for.
 MINIMUM, MAXIMUM, WALK, BOTH, OMITTED = 1, 2, 3, 4, 5
+# The force mode in which a green that begins behind its force-off instant is forced off.
+LATE = 1
 SETTINGS = ["Delay", "Extend", "NoActivity", "MaxPresence", "ErraticCounts", "FailTime"]
 TIMES = ["Delay", "MinimumDuration", "MaximumPresence", "MinimumGreen", "MinimumWalk", "EnterPedClear", "TrackGreen"]
 
@@ -121,7 +123,10 @@ class Plan:
         return end
 
     def passed(self, pattern: int, phase: int, late: int) -> int | None:
-        """The first phase that a phase which ends so late makes begin at its force-off instant or after it."""
+        """The first phase that a phase which ends so late makes begin at its force-off instant or after it, and that is
+        not forced off there: with late force-off there is none."""
+        if self.value("coordForceMode", 1) == LATE:
+            return None
         cycle = 10 * self.value("patternCycleTime", pattern)
         for other in self.rivals(phase):
             if self.coordinated(pattern, other) or self.mode(pattern, other) == OMITTED:

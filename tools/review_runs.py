@@ -38,6 +38,8 @@ APART: Change = {"phaseConcurrency.1": 16, "phaseConcurrency.5": 1, "phaseConcur
 CARS = row(20, 4) + "".join(row(tick, 2, 4) + row(tick + 5, 4) for tick in range(31, 112, 15))
 # A car that comes to detector 3 and stays: at the instant of the coordinated phases, and a tick later.
 AT_INSTANT, LATE = row(1245, 3), row(1246, 3)
+# A green that begins behind its force-off instant is forced off.
+FORCED_LATE: Change = {"coordForceMode.1": 1}
 # Someone presses button 4 in the first cycle, and cars stay on detectors 1 and 3.
 CROSSING = row(100, 1, 3, button=4) + row(103, 1, 3)
 
@@ -66,6 +68,10 @@ RUNS = [
     # A clearance of 10 s: phase 3 begins 1 s before its instant. It ends after the 7 s of phase 8, which is green beside it.
     Run(14, False, changed(example("main_and_oak"), {"phasePedestrianClear.2": 10, "phasePedestrianClear.6": 10}), AT_INSTANT,
         ["pattern 1", "step 1470", "when interval 3"], ["ok", "tick 0001470"]),
+    # With late force-off phase 3 begins behind its instant too, and ends after the 7 s of phase 8.
+    Run(14, False, changed(example("main_and_oak"), FORCED_LATE), AT_INSTANT,
+        ["pattern 1", "step 1489", "when ped 2", "when interval 3", "step 1", "when interval 3"],
+        ["ok", "tick 0001365", "tick 0001420", "tick 0001490"]),
     # The gap of phase 2 is half a second, not 2.5 s: the first gap between cars after its 5 s ends its green.
     Run(18, True, with_recalls("26", {"phaseMinimumGap.2": 5}), CARS, ["step 56", "when interval 2"], ["tick 0000056"]),
     Run(18, False, with_recalls("26", {}), CARS, ["step 136", "when interval 2"], ["tick 0000136"]),
@@ -75,7 +81,14 @@ RUNS = [
         ["pattern 1", "step 1949", "when interval 1", "step 1", "when interval 1"], ["ok", "tick 0001050", "tick 0001950"]),
     Run(28, False, changed(CLEAN, {"phasePedestrianClear.4": 27}), CROSSING,
         ["pattern 1", "step 1090", "when interval 1"], ["ok", "tick 0001090"]),
+    # With late force-off phase 1 begins at its instant too, and ends after its minimum of 5 s.
+    Run(28, False, changed(CLEAN, {"phasePedestrianClear.4": 28, **FORCED_LATE}), CROSSING,
+        ["pattern 1", "step 1099", "when interval 1", "step 1", "when interval 1"],
+        ["ok", "tick 0001050", "tick 0001100"]),
     # The same car a tick later finds no yield, and waits for the next cycle.
     Run(32, True, example("main_and_oak"), LATE, ["pattern 1", "step 2199", "when interval 3", "step 1", "when interval 3"],
         ["ok", "never", "tick 0002200"]),
+    # It does with late force-off too.
+    Run(32, True, changed(example("main_and_oak"), FORCED_LATE), LATE,
+        ["pattern 1", "step 2199", "when interval 3", "step 1", "when interval 3"], ["ok", "never", "tick 0002200"]),
 ]

@@ -58,6 +58,7 @@ VALUES = {
     "phaseCarsBeforeReduction": (8, [0, 1, 5]), "phasePassage": (8, [0, 10, 20, 25, 30]), "phaseMinimumGap": (8, [0, 10, 20, 25]),
     "phaseYellowChange": (8, [30, 35, 40]), "phaseRedClear": (8, [0, 1, 10, 15, 20, 55]), "phaseRedRevert": (8, [0, 10, 20]),
     "phaseDynamicMaxLimit": (8, [0, 30]), "phaseDynamicMaxStep": (8, [0, 50]), "unitRedRevert": (1, [0, 19, 20]), "unitMax2": (1, [0, 1]),
+    "coordForceMode": (1, [0, 1]),
     "vehicleDetectorCallPhase": (16, list(range(9))), "vehicleDetectorDelay": (16, [0, 5, 150, 200, 250, 251, 400]),
     "vehicleDetectorExtend": (16, [0, 5]), "vehicleDetectorMaxPresence": (16, [0, 5]), "pedestrianDetectorCallPhase": (8, list(range(9))),
     "patternOffsetTime": (2, [0, 10, 40, 45, 46, 79]), "splitMode": (8, [0, 1, 2, 3, 4, 5]),

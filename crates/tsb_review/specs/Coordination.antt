@@ -24,7 +24,7 @@ abbrev pub overrun : Plan → ℕ → ℕ → ℕ
 overrun plan n p = pedestrian_time plan p - green_of_split plan n p
 
 -- A28: walk and clearance of p overrun its split in pattern n, and the phase that waits then begins at its force-off
--- instant or after it
+-- instant or after it, and is not forced off late
 abbrev pub makes_late : Plan → ℕ → ℕ → Bool
 makes_late plan n p = overruns_split plan n p && is_some (passed_by plan n p (overrun plan n p))
 

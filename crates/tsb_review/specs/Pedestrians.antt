@@ -44,6 +44,6 @@ rests_coordinated plan n p =
     is_used plan n && (serves_pedestrians plan p && (rests_in_walk plan p && is_coordinated_now plan (Some n) p))
 
 -- A14: a coordinated phase p of pattern n rests in walk; where a conflict begins at its force-off instant, its clearance
--- is over after the force-off instant of a phase that waits
+-- is over after the force-off instant of a phase that waits, which is not forced off late
 abbrev pub rests_too_long : Plan → ℕ → ℕ → Bool
 rests_too_long plan n p = rests_coordinated plan n p && is_some (passed_by plan n p (pedestrian_clear plan p))

@@ -1,7 +1,7 @@
 -- Splits of a used pattern, and what a green that ends late does to those that wait. Times are in tenths of a second.
 use Rattle.std.specs.Prelude.{ℕ, ◌+◌, ◌-◌, nat_le, Bool, not, ◌&&◌, Option, Some, None}
 use Rattle.tsb_types.specs.Lists.{first}
-use Rattle.tsb_plan.specs.Parts.{is_used, split_of, split_time}
+use Rattle.tsb_plan.specs.Parts.{is_used, split_of, split_time, forces_late}
 use Rattle.tsb_plan.specs.Plan.{Plan, phases, yellow_change, red_clear}
 use Rattle.tsb_plan.specs.Running.{is_coordinated_now, is_omitted_now}
 use Rattle.tsb_objects.specs.Instants.{instant_from}
@@ -27,9 +27,10 @@ is_forced_after plan n p q =
     conflicts plan p q && (not (is_coordinated_now plan (Some n) q) && not (is_omitted_now plan (Some n) q))
 
 -- in the used pattern n a phase q that begins so long after the end of the split of p begins at its force-off instant or
--- after it, and so is not forced off in this cycle
+-- after it, and so is not forced off in this cycle: there is no late force-off
 abbrev pub is_passed : Plan → ℕ → ℕ → ℕ → ℕ → Bool
-is_passed plan n p late q = is_used plan n && (is_forced_after plan n p q && nat_le (instant_from plan n p q) late)
+is_passed plan n p late q =
+    not (forces_late plan) && (is_used plan n && (is_forced_after plan n p q && nat_le (instant_from plan n p q) late))
 
 -- the first such phase
 abbrev pub passed_by : Plan → ℕ → ℕ → ℕ → Option ℕ

@@ -44,14 +44,15 @@ fn overrun(plan: &Plan, pattern: Pattern, phase: Phase) -> u32
 }
 
 /// A28: whether walk and clearance of the phase overrun its split in the pattern, and the phase that waits then begins at
-/// its force-off instant or after it.
+/// its force-off instant or after it, and is not forced off late.
 pub(crate) fn makes_late(plan: &Plan, pattern: Pattern, phase: Phase) -> bool
     ensures { result ≡ makes_late (plan_of plan.now) pattern phase }
 {
     overruns_split(plan, pattern, phase) && passed_by_overrun(plan, pattern, phase).is_some()
 }
 
-/// The first phase that an overrun of the phase makes begin at its force-off instant or after it.
+/// The first phase that an overrun of the phase makes begin at its force-off instant or after it, and that is not
+/// forced off late.
 pub(crate) fn passed_by_overrun(plan: &Plan, pattern: Pattern, phase: Phase) -> Option<Phase>
     ensures { result ≡ passed_by (plan_of plan.now) pattern phase (overrun (plan_of plan.now) pattern phase) }
 {

@@ -83,7 +83,7 @@ fn rests_coordinated(plan: &Plan, pattern: Pattern, phase: Phase) -> bool
 }
 
 /// A14: whether a coordinated phase rests in walk, and its clearance can be over after the force-off instant of a phase
-/// that waits.
+/// that waits, which is not forced off late.
 pub(crate) fn rests_too_long(plan: &Plan, pattern: Pattern, phase: Phase) -> bool
     ensures { result ≡ rests_too_long (plan_of plan.now) pattern phase }
 {

@@ -79,16 +79,17 @@ fn is_forced_after(plan: &Plan, pattern: Pattern, phase: Phase, next: Phase) -> 
 }
 
 /// Whether `next`, where it begins so long after the end of the split of the phase, begins at its force-off instant or
-/// after it.
+/// after it, and there is no late force-off.
 fn is_passed(plan: &Plan, pattern: Pattern, phase: Phase, late: u32, next: Phase) -> bool
     ensures { result ≡ is_passed (plan_of plan.now) pattern phase late next }
 {
-    plan.is_used(pattern)
+    !plan.forces_late()
+        && plan.is_used(pattern)
         && is_forced_after(plan, pattern, phase, next)
         && instant_from(plan, pattern, phase, next) <= late
 }
 
-/// The first phase that then begins at its force-off instant or after it.
+/// The first phase that then begins at its force-off instant or after it, and is not forced off late.
 pub(crate) fn passed_by(plan: &Plan, pattern: Pattern, phase: Phase, late: u32) -> Option<Phase>
     ensures { result ≡ passed_by (plan_of plan.now) pattern phase late }
 {
