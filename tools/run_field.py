@@ -418,6 +418,17 @@ def hour(program, bench):
     yield from difference("picture of the hour", answer(program, words, lines), (0, picture, b""))
 
 
+def force_modes(program, bench):
+    """What is otherwise of the stored pictures of a pattern with fixed and with late force-off."""
+    plan = EXAMPLES / "late_force_off.json"
+    for mode in (0, 1):
+        commands = f"begin 1\nset 1 coordForceMode 1 {mode}\nverify 1\ncommit 1\npattern 1\nstep 3300\n".encode()
+        run = subprocess.run([bench, "run", plan, plan.with_suffix(".log")], input=commands, capture_output=True)
+        words = ["diagram", "--seconds-per-line=330", "--title", f"coordForceMode {mode}"]
+        picture = plan.with_name(f"late_force_off_{mode}.svg").read_bytes()
+        yield from difference(f"picture of coordForceMode {mode}", answer(program, words, run.stdout), (0, picture, b""))
+
+
 def worked_runs():
     """All worked runs."""
     return [
@@ -447,7 +458,7 @@ def main(words):
         wrong += events_of_displays(program, folder)
         wrong += [*diagrams(program, folder), *closed_pipes(program), *one_stream(program)]
         wrong += [*long_session(program), *greatest(program)]
-    wrong += hour(program, bench)
+    wrong += [*hour(program, bench), *force_modes(program, bench)]
     of_sessions, count = sessions(program)
     wrong += of_sessions
     told = f"{len(runs)} worked runs, {count} sessions, {TRIPS} round trips, {EXPORTS + LATE} exports and {2 * TEXTS} texts " \
