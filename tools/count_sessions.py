@@ -4,7 +4,8 @@
     tools/count_sessions.py --reference FOLDER FILE..
 
 FOLDER holds the independent reference (make_sessions.py says what that is). Two tables are printed: totals, and for
-each command, refusal, rule, watch, trip and stage in how many places and in how many sessions it occurs.
+each command, refusal, rule, watch, trip, stage and force-off in how many places and in how many sessions it occurs. Of
+the sessions that have `coordForceMode` 1 it is told of how many the answers are others with 0.
 """
 import argparse
 import os
@@ -13,6 +14,7 @@ from collections import Counter
 
 import stored_cases
 from make_sessions import Reference
+from reference_events import Tick, force_off_instant
 
 
 def counting(bench, found):
@@ -28,6 +30,8 @@ def counting(bench, found):
                 found["refusal " + " ".join(refusal.split(" ")[:2])] += 1
             else:
                 count_change(found, given, before, self.states[-1])
+                if given[0] == "tick":
+                    count_force_offs(found, Tick(bench, before, self.states[-1], given[1]))
             return refusal
 
         def answer(self, command, out):
@@ -100,6 +104,28 @@ def count_tick(found, before, after):
         found["endings that move a maximum"] += 1
 
 
+def count_force_offs(found, tick):
+    """Counts the phases that are forced off from a tick on, by when that is."""
+    begun = [p for p, forced in enumerate(tick.after.forced) if forced and not tick.before.forced[p]]
+    for phase in begun:
+        is_at = tick.bench.local_of(tick.after) == force_off_instant(tick, phase)
+        found["force-offs at the instant" if is_at else "force-offs behind the instant"] += 1
+
+
+def with_mode_0(case):
+    """The plan and the commands of a case, with `coordForceMode` 0 in the place of 1."""
+    plan = re.sub(rb'("coordForceMode": *\{"1": *)1', rb"\g<1>0", case.plan)
+    return plan, re.sub(rb"(?m)^(set [1-4] coordForceMode 1) 1$", rb"\1 0", case.commands)
+
+
+def is_by_the_mode(reference, case, answers):
+    """Whether a case is answered otherwise with `coordForceMode` 0."""
+    plan, commands = with_mode_0(case)
+    if (plan, commands) == (case.plan, case.commands):
+        return False
+    return reference.answers(plan, case.log, commands) != answers
+
+
 def count_answer(found, command, answers):
     """Counts the kinds of a command's answer."""
     if command[0] == "undo":
@@ -163,6 +189,7 @@ def main():
             sessions.update(found.keys())
             totals.update({"sessions": 1, "answer lines": case.lines, "answer bytes": len(answers)})
             totals["sessions told in full"] += case.answers is not None
+            totals["sessions that differ with coordForceMode 0"] += is_by_the_mode(reference, case, answers)
             if (answers.count(b"\n"), stored_cases.checksum(answers)) != (case.lines, case.sum):
                 print(f"{case.name}: the reference answers something else")
     print("| Total | |\n|---|---|")

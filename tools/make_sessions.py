@@ -7,10 +7,11 @@ FOLDER holds the reference, which is no part of this repository: gen.py and gen_
 random, and py/tsb_oracle.py, which answers them. KIND is `even` (gen.py: all that a session can do, about evenly),
 `late` (gen_late.py: dynamic maximums, overlaps, detectors that fail, trips, transactions, patterns that stop),
 `aimed` (session_families.py: what the other two seldom meet), `tripped` (trip_families.py: trips at chosen moments, and
-what is done until the reset) or `mangled` (mangled_texts.py: plan texts, logs and commands with bytes changed). A seed always gives the same session; LO is the first
-and HI stands behind the last. Of every so many sessions one stands with its answers in full, where they are short; of
-the others the number of answer lines and a checksum stand. The head of the file that is written says how it reads,
-and count_sessions.py counts what occurs in it.
+what is done until the reset), `options` (option_families.py: the options of coordination) or `mangled`
+(mangled_texts.py: plan texts, logs and commands with bytes changed). A seed always gives the same session; LO is the
+first and HI stands behind the last. Of every so many sessions one stands with its answers in full, where they are
+short; of the others the number of answer lines and a checksum stand. The head of the file that is written says how it
+reads, and count_sessions.py counts what occurs in it.
 """
 import argparse
 import importlib
@@ -23,6 +24,7 @@ from itertools import takewhile
 
 import stored_cases
 from mangled_texts import mangled
+from option_families import family_of, options
 from session_families import FAMILIES, brisk, odd_words
 from trip_families import trips
 
@@ -33,6 +35,7 @@ TITLES = {
     "late": "Sessions at random: detectors that fail, maximums that move, overlaps, trips, transactions, cycles of 0.",
     "aimed": "Sessions of what others seldom meet: each rule, refusals, stages, alarms, coincidences, the way back.",
     "tripped": "Sessions in which the monitor trips: in crossings, in each stage of preempts, in transactions, and back.",
+    "options": "Sessions in patterns with each `coordForceMode`: greens that begin behind their force-off instants.",
     "mangled": "Sessions of which the plan text, the log or the commands were mangled: bytes changed at random.",
 }
 
@@ -186,6 +189,13 @@ def tripped_session(reference, seed):
     return plan, log.encode(), "".join(command + "\n" for command in commands).encode()
 
 
+def option_session(reference, seed):
+    """A session with an option of coordination."""
+    plan, log, commands = options(reference, random.Random(f"options {seed}"), seed)
+    assert reference.accepts(plan), f"seed {seed}: {family_of(seed).__name__} makes a plan that has a fault"
+    return plan, log.encode(), "".join(command + "\n" for command in commands).encode()
+
+
 # --- the whole ---
 
 def session(reference, kind, seed):
@@ -199,6 +209,9 @@ def session(reference, kind, seed):
         name = f"{FAMILIES[seed % len(FAMILIES)].__name__}_{seed}"
     elif kind == "tripped":
         plan, log, commands = tripped_session(reference, seed)
+    elif kind == "options":
+        plan, log, commands = option_session(reference, seed)
+        name = f"{family_of(seed).__name__}_{seed}"
     else:
         plan, log, commands = random_session(reference, kind, seed)
     text = compact(plan)

@@ -257,21 +257,37 @@ def has_maxed_out(tick: Tick, phase: int) -> bool:
     return not runs_pattern(tick.before) and stood is not None and stood >= tick.bench.maximum(tick.before, phase)
 
 
+def coordinated_phases(tick: Tick) -> list[int]:
+    """The coordinated phases of the pattern that runs, by their numbers."""
+    return [it for it in tick.bench.enabled(tick.before.plan, tick.before.lim) if is_coordinated(tick.before, it)]
+
+
 def force_off_instant(tick: Tick, phase: int) -> int:
     """The local counter at which the phase is forced off in the pattern that runs."""
     before, plan = tick.before, tick.before.plan
     table, order = plan["patternSplitNumber"][before.pattern], plan["patternSequenceNumber"][before.pattern]
-    held = next(it for it in tick.bench.enabled(plan, before.lim) if is_coordinated(before, it))
+    held = coordinated_phases(tick)[0]
     end, zero = (tick.bench.ends_at(plan, before.lim, order, table, it) for it in (phase, held))
     cycle = 10 * plan["patternCycleTime"][before.pattern]
     return (10 * (end - zero) - plan["phaseYellowChange"][phase] - plan["phaseRedClear"][phase]) % cycle
 
 
+def force_off_instants(tick: Tick, phase: int) -> range:
+    """The local counters at which the phase is forced off: its instant, and by the force mode those behind it, up to
+    that of the coordinated phase of its ring, or else of the first one."""
+    instant, rings = force_off_instant(tick, phase), tick.before.plan["phaseRing"]
+    if tick.before.plan["coordForceMode"][1] == 0 or is_coordinated(tick.before, phase):
+        return range(instant, instant + 1)
+    held = coordinated_phases(tick)
+    beside = [it for it in held if rings[it] == rings[phase]]
+    return range(instant, max(instant + 1, force_off_instant(tick, [*beside, *held][0])))
+
+
 def is_forced_off(tick: Tick, phase: int) -> bool:
-    """Whether a conflict has stood from the force-off instant on, in a pattern and outside of preempts."""
+    """Whether a conflict has stood from a tick on in which it is forced off, in a pattern and outside of preempts."""
     if not runs_pattern(tick.before) or tick.after.service or not conflicting(tick, phase):
         return False
-    return tick.before.forced[phase] or tick.bench.local_of(tick.after) == force_off_instant(tick, phase)
+    return tick.before.forced[phase] or tick.bench.local_of(tick.after) in force_off_instants(tick, phase)
 
 
 def is_ended_by_preempt(tick: Tick, phase: int) -> bool:

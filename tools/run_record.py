@@ -19,7 +19,8 @@ import stored_sums
 from make_events import DEVICE, FROM
 
 USAGE = "tools/run_record.py PROGRAM [SUMS CASES..]"
-FILES = ["records.sums", "even.cases", "late.cases", "aimed.cases", "tripped.cases", "worked.cases", "mangled.cases"]
+FILES = ["records.sums", "even.cases", "late.cases", "aimed.cases", "tripped.cases", "options.cases", "worked.cases",
+         "mangled.cases"]
 # What is told of a command that was not carried out.
 TOLD = re.compile(rb"command ([1-9][0-9]*): (.*): (?:bad command|refused E[0-9]+ [A-Za-z]+(?: [1-4])?)")
 # How many bytes of a line are told.

@@ -29,7 +29,7 @@ from live_kit import first_difference, ran_on
 from make_status import sum_of
 
 USAGE = "tools/run_status.py TSB_LIVE TSB [SUMS CASES..]"
-FILES = ["statuses.sums", "even.cases", "late.cases", "aimed.cases", "tripped.cases"]
+FILES = ["statuses.sums", "even.cases", "late.cases", "aimed.cases", "tripped.cases", "options.cases"]
 STATUS = b"status\n"
 
 

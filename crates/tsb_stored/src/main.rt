@@ -22,7 +22,9 @@ use std::io::{self, BufWriter, Write};
 
 /// Sessions of the whole controller. These files are read from the folder that the program is run in, and so are all
 /// others.
-const SESSIONS: [&str; 6] = ["aimed", "even", "late", "mangled", "tripped", "worked"];
+const SESSIONS: [&str; 7] = [
+    "aimed", "even", "late", "mangled", "options", "tripped", "worked",
+];
 
 /// The cases of `check`.
 const CHECKS: &str = "checks.txt";
