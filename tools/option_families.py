@@ -167,7 +167,7 @@ def a_plan(rng, omits):
 
 
 def begins_at_an_instant(rng, plan, table):
-    """Has a phase that is served first begin about at its own instant, or at that of the coordinated phase of its ring."""
+    """Has a phase that is served first begin about at its instant, or at that of the coordinated phase of its ring."""
     first = rng.choice(table.found.here(1))[0]
     reached, late = rng.choice([first, table.held_beside(first)]), rng.choice([-3, -2, -2, -1, -1, 0])
     late += reached == first
@@ -287,16 +287,18 @@ def preempts_over_instants(rng, plan, table):
 
 
 def changed_in_a_run(rng, plan, table):
-    """The mode turned on or off in a run, and taken back."""
-    found = ["pattern 1", steps(rng, table, 0.2, 0.4)]
+    """The mode turned on or off in a run: the commit is taken back at once or ticks later, and made again or not."""
+    found, station = ["pattern 1", steps(rng, table, 0.2, 0.4)], rng.randint(1, 4)
+    again, no_more = f"commit {station}", f"abort {station}"
+    backs = [[], [], ["undo", "show", no_more], ["step 2", "undo", "undo", "undo", again], ["undo", "step 2", again],
+             ["step 9", "back 6", "undo", "undo", "step 1"]]
     for _ in range(rng.randint(1, 2)):
         edits = [(MODE, 1, rng.choice([0, 1, 1]))]
         if rng.random() < 0.3:
             edits.append(("phasePassage", rng.choice(numbers(plan, "phaseEnabled")), rng.choice([0, 10, 30])))
-        found += commit(rng.randint(1, 4), edits)[:-1] + [steps(rng, table, 0.1, 0.4)]
-        if rng.random() < 0.4:
-            back = ["back 12", "undo", "undo", "step 9"]
-            found += rng.choice([back, [*["undo"] * rng.randint(2, 9), "show", "step 20"]])
+        found += commit(station, edits)[:-1] + rng.choice(backs) + [steps(rng, table, 0.1, 0.4)]
+    if rng.random() < 0.3:
+        found += [*["undo"] * rng.randint(2, 9), "show"]
     return busy(rng, plan, 10 * table.cycle, rng.choice([0, 0, 2])), found + [watched(rng, plan)]
 
 
