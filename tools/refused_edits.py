@@ -11,10 +11,11 @@ fit. A function that is not proved only because of what it calls, or because a p
 nothing. Such an edit is tried by itself, and in the end over the whole crate, as `rt ci` tries it. The last line is
 `N passed, M failed`.
 
-Functions that are not asked for are not proved: their contracts stand all the same for those that call them, and what
-is told of a function for its callees alone shows nothing. Where a crate has several runs, they share what they prove,
-and an edit that the whole crate does not refuse so is tried once more from nothing. That the crate as it is would be
-proved over what they share is not tried, as `rt ci` tries it.
+Functions that are not asked for are not proved, and their bodies are left out, with all that is called there alone:
+their contracts stand all the same for those that call them, and what is told of a function for its callees alone shows
+nothing. A program is tried without its `main`, where that is not asked for. Where a crate has several runs, they share
+what they prove, and an edit that the whole crate does not refuse so is tried once more from nothing. That the crate as it
+is would be proved over what they share is not tried, as `rt ci` tries it.
 """
 import contextlib
 import dataclasses
@@ -31,8 +32,8 @@ from collections.abc import Iterator
 from typing import Any
 
 import kit
-from crate_functions import Function, Path, function_at, functions_at, functions_of, is_of_trait, proof_of, sources
-from crate_functions import span
+from crate_functions import Function, Path, function_at, functions_at, functions_of, head_row, is_of_trait, proof_of
+from crate_functions import sources, span
 
 # How the prover begins what it says of a goal that is left open, and of an answer that does not fit.
 OPEN_GOAL = re.compile(r"note: (?:\./)?(\S+?):(\d+):\d+: (?:it is not proved that |`search` found no proof \()")
@@ -189,14 +190,46 @@ def applied(folder: str, edits: list[Edit]) -> tuple[dict[Path, str], dict[pathl
 
 def leave_out(room: str, texts: dict[Path, str], functions: set[str]) -> None:
     """Has the prover prove none but these functions in a copy of the crate, and those of traits: in place of the proof of
-    each other one is an empty file. Its contract is there all the same for those that call it."""
-    others = (it for it in functions_of(texts) if it.name not in functions and not is_of_trait(texts[it.path], it))
+    each other one is an empty file, and in place of its body one that calls nothing. Its contract is there all the same
+    for those that call it."""
+    others = [it for it in functions_of(texts) if it.name not in functions and not is_of_trait(texts[it.path], it)]
     for folder in filter(None, (proof_of(texts, it) for it in others)):
         place = pathlib.Path(room, folder)
         place.mkdir(parents=True, exist_ok=True)
         for name in ("Answers.antt", "Invariants.antt"):
             (place / name).unlink(missing_ok=True)
         (place / "Proof.antt").write_text("")
+    for path, text in texts.items():
+        rows = text.split("\n")
+        for function in others:
+            if function.path == path:
+                empty(rows, function)
+        pathlib.Path(room, path).write_text("\n".join(rows))
+
+
+def empty(rows: list[str], function: Function) -> None:
+    """Puts a body that never ends in place of that of a function, and leaves all others on their lines. What may be
+    computed in a constant, or names the cycle of calls that it is in, stays as it is."""
+    head = head_row(rows, function)
+    indent = rows[head][: len(rows[head]) - len(rows[head].lstrip())]
+    opened = [k for k in range(head, function.last) if rows[k] == indent + "{"]
+    opened = opened or [k for k in range(head, function.last) if rows[k].endswith(" {")]
+    stays = "const fn" in rows[head] or any("#[cycle" in it for it in rows[function.first - 1 : head])
+    if stays or not opened or opened[0] + 2 >= function.last:
+        return
+    rows[opened[0] + 1 : function.last - 1] = [f"{indent}    loop {{}}", *[""] * (function.last - opened[0] - 3)]
+
+
+def without_main(room: str, functions: set[str]) -> None:
+    """Makes a program a library, in a copy of it, where its `main` is not asked for: the prover then does not read the code
+    of all libraries below it. What stands behind `main` stays on its lines."""
+    root = pathlib.Path(room, "src", "main.rt")
+    if "main" in functions or not root.is_file():
+        return
+    text = root.read_text()
+    main = next(it for it in functions_of({"src/main.rt": text}) if it.name == "main")
+    start, end = span(text, main)
+    root.write_text(text[:start] + "\n" * text.count("\n", start, end) + text[end:])
 
 
 def said_by(words: list[str], room: str) -> str:
@@ -227,6 +260,7 @@ def prove(crate: Any, texts: dict[Path, str], functions: set[str], kept: str | N
         for path, text in texts.items():
             pathlib.Path(room, path).parent.mkdir(parents=True, exist_ok=True)
             pathlib.Path(room, path).write_text(text)
+        without_main(room, functions)
         leave_out(room, sources(room), functions)
         asked = [word for name in sorted(functions) for word in ("--only", name)]
         words = [kit.kit().rtlib.RATTLE, "check", *crate.words(["--jobs", "1"], keeps=False), *asked]

@@ -1,10 +1,12 @@
 #!/usr/bin/env python3
 """Tries refused_edits.py on a small repository: test_refused_edits.py, alone or by pytest. It takes some two minutes.
 
-Three edits make a clause false, one of them in a copy of its function. Four show nothing, and each has to be told: one
-that does not fit; a harmless one, which is made in a copy as well; and two that are harmless and call a function which is
-not proved in that run, so that the prover refuses them there for their callee alone. Another edit turns the one callee,
-and the other is left out of the proof.
+Four edits make a clause false, one of them in a copy of its function, and one in a program. Four show nothing, and each
+has to be told: one that does not fit; a harmless one, which is made in a copy as well; and two that are harmless and call
+a function which is not proved in that run, so that the prover refuses them there for their callee alone. Another edit
+turns the one callee, and the other is left out of the proof.
+
+What is left out of a copy of a crate leaves all else on its lines.
 """
 import pathlib
 import subprocess
@@ -12,6 +14,7 @@ import sys
 import tempfile
 
 import kit
+import refused_edits
 
 TOOL = pathlib.Path(__file__).resolve().parent / "refused_edits.py"
 
@@ -61,6 +64,28 @@ pub fn second_before(n: u8) -> u8
 }
 """
 
+PROGRAM = """//! Ends with a status.
+#![tactic(auto)]
+
+ghost use Rattle.std.specs.Prelude.{◌≡◌, ◌+◌, ◌<◌};
+
+use std::process::ExitCode;
+
+fn main() -> ExitCode {
+    ExitCode::from(status(1))
+}
+
+/// The status after so many steps.
+fn status(steps: u8) -> u8
+    requires { steps < 255 }
+    ensures { result ≡ steps + 1 }
+{
+    steps + 1
+}
+"""
+
+# The root of each crate, and the edits of it.
+ROOTS = {"small": ("lib.rt", SOURCE), "ends": ("main.rt", PROGRAM)}
 EDITS = {
     "stays": ("    n + 1", "    n"),
     "only_its_callee_is_turned": ("    next(next(n))", "    next(n) + 1"),
@@ -70,6 +95,7 @@ EDITS = {
     "does_not_fit": ("    n - 2", "    n"),
     "yields_too_little": ("    n + n", "    n"),
 }
+EDITS_OF = {"small": EDITS, "ends": {"a_step_is_lost": ("    steps + 1", "    steps")}}
 
 # How the line of each edit goes on after its name.
 SAID = {
@@ -80,19 +106,44 @@ SAID = {
     "its_callee_is_left_out": "NOT REFUSED: ",
     "does_not_fit": "BAD EDIT: ",
     "yields_too_little": "refused, as it must be: ",
+    "a_step_is_lost": "refused, as it must be, alone: ",
 }
 
 
 def fill(top: pathlib.Path) -> None:
-    """Puts the small repository into a folder, with the library that `rt ci` leaves."""
-    crate = top / "crates" / "small"
-    for folder in ("src", "must-fail"):
-        (crate / folder).mkdir(parents=True)
-    (top / "crates.txt").write_text("small:\n")
+    """Puts the small repository into a folder."""
+    (top / "crates.txt").write_text("small:\nends:\n")
     (top / "HANDLES").write_text("Handles allowed: none.\n")
-    (crate / "src" / "lib.rt").write_text(SOURCE)
-    for name, (old, new) in EDITS.items():
-        (crate / "must-fail" / f"{name}.edit").write_text(f"file: src/lib.rt\nold: {old}\nnew: {new}\n")
+    for name, (root, source) in ROOTS.items():
+        crate = top / "crates" / name
+        for folder in ("src", "must-fail"):
+            (crate / folder).mkdir(parents=True)
+        (crate / "src" / root).write_text(source)
+        for edit, (old, new) in EDITS_OF[name].items():
+            (crate / "must-fail" / f"{edit}.edit").write_text(f"file: src/{root}\nold: {old}\nnew: {new}\n")
+
+
+def left(room: str, source: str, root: str, functions: set[str]) -> list[str]:
+    """The lines that are left of a root file where these functions are asked for."""
+    path = pathlib.Path(room, "src", root)
+    path.parent.mkdir(exist_ok=True)
+    path.write_text(source)
+    refused_edits.without_main(room, functions)
+    refused_edits.leave_out(room, refused_edits.sources(room), functions)
+    return path.read_text().split("\n")
+
+
+def test_what_is_left_out_moves_no_line() -> None:
+    with tempfile.TemporaryDirectory() as room:
+        lines, was = left(room, SOURCE, "lib.rt", {"second"}), SOURCE.split("\n")
+        assert [it for it in lines if it.endswith(" {}")] == ["    loop {}"] * 4
+        assert [k for k, it in enumerate(lines) if it != was[k]] == [k for k, it in enumerate(lines) if "loop" in it]
+        assert len(lines) == len(was) and "    next(next(n))" in lines
+    with tempfile.TemporaryDirectory() as room:
+        lines, was = left(room, PROGRAM, "main.rt", {"status"}), PROGRAM.split("\n")
+        assert len(lines) == len(was) and "fn main() -> ExitCode {" not in lines and "    steps + 1" in lines
+        pathlib.Path(room, "src", "main.rt").unlink()
+        assert "fn main() -> ExitCode {" in left(room, PROGRAM, "main.rt", {"main"})
 
 
 def test_what_shows_nothing_is_told() -> None:
@@ -101,12 +152,14 @@ def test_what_shows_nothing_is_told() -> None:
         done = subprocess.run([sys.executable, str(TOOL)], cwd=room, capture_output=True, text=True)
     said = done.stdout
     for name, wanted in SAID.items():
-        assert f"must-fail small/{name}.edit: {wanted}" in said, said + done.stderr
-    assert said.endswith("3 passed, 4 failed\n"), said + done.stderr
+        crate = next(it for it, edits in EDITS_OF.items() if name in edits)
+        assert f"must-fail {crate}/{name}.edit: {wanted}" in said, said + done.stderr
+    assert said.endswith("4 passed, 4 failed\n"), said + done.stderr
     assert done.returncode == 1
 
 
 if __name__ == "__main__":
     kit.kit()
+    test_what_is_left_out_moves_no_line()
     test_what_shows_nothing_is_told()
     print("refused_edits.py tells what shows nothing")
