@@ -33,7 +33,7 @@ pub struct Orders {
     pub hold: PhaseSet,
     /// Phases that the preempt ends.
     pub must_end: PhaseSet,
-    /// Phases whose force-off instant is this tick.
+    /// Phases that are forced off in this tick.
     pub forced: PhaseSet,
     /// Phases that the pattern that runs omits: no call and no dual entry brings them into service. A preempt
     /// does, where they are in its target.
