@@ -6,7 +6,8 @@ use Rattle.clap.specs.Simple.{Shape, built_leaf, filled, inherited, marked_built
 use Rattle.clap.specs.Kinds.{Kinds}
 use Rattle.clap.specs.declared.error.kind.ErrorKind.TheVariants.{MissingRequiredArgument, UnknownArgument}
 use Rattle.clap.proofs.OnLiterals.{clap_on_literals}
-use Rattle.tsb_words.specs.BenchProgram.{asked_by, check_command, file_rule, program, run_command}
+use Rattle.tsb_words.specs.Commands.{file_rule}
+use Rattle.tsb_words.specs.BenchProgram.{asked_by, check_command, program, run_command}
 use Rattle.tsb_words.specs.BenchWords.{Wish, check_of, files, is_flag, run_of}
 use Rattle.tsb_words.proofs.FlagLemmas.{Fails, HasHelpAlone, Sorted, help, held_with, one-found, sorted}
 use Rattle.tsb_words.proofs.LevelLemmas.{Level, Turned, standing, level-dash, level-flag, level-value}

@@ -1,3 +1,5 @@
+-- commands, as their parts are added one by one
+pub mod CommandLemmas
 -- what `clap` makes of words
 pub mod WordLemmas
 -- words that are flags, and words that are none

@@ -1,20 +1,59 @@
 -- Words and the wires that they spell.
-use Rattle.std.proofs.Common.{◌≡◌, ◌<◌, ℕ, List, [], ◌∷◌, ◌++◌, Option, Some, None, option_map, refl, ap, sym, ◌∙◌}
-use Rattle.std.proofs.Common.{take, drop, get_or, length, arith, append_assoc, inl, inr, zero, suc}
+use Rattle.std.proofs.Common.{◌≡◌, ◌<◌, ◌≤◌, ◌+◌, ℕ, List, [], ◌∷◌, ◌++◌, Option, Some, None, option_map, refl, ap, sym, ◌∙◌}
+use Rattle.std.proofs.Common.{take, drop, get_or, length, map, arith, append_assoc, inl, inr, zero, suc}
+use Rattle.std.proofs.lemmas.List.{append-nil, at_drop_all, at_drop_more}
+use Rattle.std.specs.Borrow.{Bor}
 use Rattle.std.proofs.lemmas.Bool.Decides.{eqb_tells}
+use Rattle.tsb_field_log.specs.declared.inputs.Kind.{Kind}
 use Rattle.tsb_field_log.specs.declared.inputs.Wire.{Wire}
 use Rattle.tsb_words.specs.declared.error.WordsError.{WordsError}
 use Rattle.tsb_words.specs.declared.error.WordsError.TheVariants.{Memory, Bad}
 use Rattle.tsb_words.specs.Words.{IsRefused}
-use Rattle.tsb_words.specs.Wires.{joined, onto_front, parts_of, with_wire}
+use Rattle.tsb_words.specs.Wires.{joined, onto_front, parts_of, wire_of, wires_of, with_wire}
 
 -- one more wire
 pub joined-more : (before : List Wire) (wire : Wire) (o : Option (List Wire)) → joined (Some before) (with_wire (Some wire) o) ≡ joined (Some (before ++ wire ∷ [])) o
 joined-more before wire None = refl
 joined-more before wire (Some wires) = ap (λ (ws : List Wire). Some ws) (sym (append_assoc before (wire ∷ []) wires))
 
-pub with-none : (o : Option (List Wire)) → with_wire None o ≡ None
-with-none o = refl
+joined-none : (before : List Wire) (o : Option (List Wire)) → joined (Some before) o ≡ None → o ≡ None
+joined-none before None none = refl
+joined-none before (Some wires) none = absurd (cc)
+
+-- ## The wires of words, one after another
+
+-- the wires before, and then those of these words
+abbrev pub wires_with : Kind → List Wire → List (Bor (List ℕ)) → Option (List Wire)
+wires_with kind before words = joined (Some before) (wires_of kind (map (λ word. word.now) words))
+
+-- the next word spells a wire
+pub wire-added : (kind : Kind) (before after : List Wire) (words : List (Bor (List ℕ))) (i : ℕ) (d : Bor (List ℕ)) (text : List ℕ) (wire : Wire)
+    → i < length words → text ≡ (get_or words i d).now → Some wire ≡ wire_of kind text → after ≡ before ++ wire ∷ []
+    → wires_with kind after (drop (i + 1) words) ≡ wires_with kind before (drop i words)
+wire-added kind before after words i d text wire within same is grown =
+    let rest : Option (List Wire) = wires_of kind (map (λ word. word.now) (drop (i + 1) words)) in
+    ap (λ (all : List Wire). joined (Some all) rest) grown
+    ∙ (sym (joined-more before wire rest)
+    ∙ (ap (λ (o : Option Wire). joined (Some before) (with_wire o rest)) (is ∙ ap (wire_of kind) same)
+    ∙ sym (at_drop_more (wires_with kind before) words i d within)))
+
+-- the next word spells none
+pub no-wire : (kind : Kind) (first before : List Wire) (words : List (Bor (List ℕ))) (i : ℕ) (d : Bor (List ℕ)) (text : List ℕ)
+    → i < length words → text ≡ (get_or words i d).now → None ≡ wire_of kind text → wires_with kind before (drop i words) ≡ wires_with kind first words
+    → wires_of kind (map (λ word. word.now) words) ≡ None
+no-wire kind first before words i d text within same none so_far =
+    let rest : Option (List Wire) = wires_of kind (map (λ word. word.now) (drop (i + 1) words)) in
+    joined-none first (wires_of kind (map (λ word. word.now) words)) (sym so_far
+    ∙ (at_drop_more (wires_with kind before) words i d within
+    ∙ sym (ap (λ (o : Option Wire). joined (Some before) (with_wire o rest)) (none ∙ ap (wire_of kind) same))))
+
+-- there is no next word
+pub no-word : (kind : Kind) (first before : List Wire) (words : List (Bor (List ℕ))) (i : ℕ) → length words ≤ i
+    → wires_with kind before (drop i words) ≡ wires_with kind first words → wires_with kind first words ≡ Some before
+no-word kind first before words i past so_far =
+    sym so_far ∙ (at_drop_all (wires_with kind before) words i past ∙ ap (λ (all : List Wire). Some all) (append-nil before))
+
+-- ## The parts of a word
 
 -- none of the first n bytes is `=`
 abbrev pub Without : List ℕ → ℕ → Type 0

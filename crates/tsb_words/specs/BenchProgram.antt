@@ -1,12 +1,9 @@
 -- The command of `tsb` as `clap` reads it, and what is made of what `clap` answers.
 use Rattle.std.specs.Prelude.{Bool, true, false, Option, Some, None, List, codes, bytes_eq}
-use Rattle.clap.specs.Simple.{App, new_app, new_rule, with_rule, with_subcommand}
-use Rattle.clap.specs.Walk.{Row, Rule, Text, first_of}
+use Rattle.clap.specs.Simple.{App, new_app, with_rule, with_subcommand}
+use Rattle.clap.specs.Walk.{Row, Text, first_of}
+use Rattle.tsb_words.specs.Commands.{file_rule}
 use Rattle.tsb_words.specs.BenchWords.{Wish, check, run, built_in}
-
--- a file that has to be named
-abbrev pub file_rule : Text → Rule
-file_rule name = record (new_rule name) { required = true }
 
 -- `check PLAN`
 abbrev pub check_command : App

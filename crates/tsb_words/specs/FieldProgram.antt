@@ -1,10 +1,7 @@
 -- The command of `tsb_field` as `clap` reads it, and what is made of what `clap` answers.
-use Rattle.std.specs.Prelude.{◌≡◌, Bool, true, false, if◌then◌else◌, Option, Some, None, option_and_then, option_map, unwrap_or, List, [], ◌∷◌, ◌++◌, ℕ, codes, bytes_eq, Result}
-use Rattle.clap.specs.Simple.{App, Shape, app_of, new_rule, new_shape}
+use Rattle.std.specs.Prelude.{Bool, true, false, if◌then◌else◌, Option, Some, None, option_and_then, option_map, unwrap_or, List, [], ◌∷◌, ◌++◌, ℕ, codes, bytes_eq, Result}
+use Rattle.clap.specs.Simple.{App, Shape, new_shape}
 use Rattle.clap.specs.Walk.{Row, Rule, Text, all_of, first_of}
-use Rattle.clap.specs.declared.builder.action.ArgAction.TheVariants.{Append, SetTrue}
-use Rattle.clap.specs.declared.builder.command.Command.{Command}
-use Rattle.clap.specs.declared.builder.command.Command.TheViews.{out-Command}
 use Rattle.tsb_event_text.specs.Events.{can_be_written}
 use Rattle.tsb_event_text.specs.Times.{moment_of}
 use Rattle.tsb_event_text.specs.TimeForms.{time_form_named, zone_named}
@@ -17,31 +14,12 @@ use Rattle.tsb_words.specs.declared.field_files.options.TheConstants.{USUAL_WIND
 use Rattle.tsb_words.specs.declared.field_files.Asked.{Asked}
 use Rattle.tsb_words.specs.declared.field_files.Manner.{Manner}
 use Rattle.tsb_words.specs.declared.error.WordsError.{WordsError}
+use Rattle.tsb_words.specs.Commands.{file_rule, flag_rule, option_rule, repeated_rule, required_rule}
 use Rattle.tsb_words.specs.FieldWords.{Wish, diagram, events, log, recording, reviewing, seconds_of, seen, window_of}
 use Rattle.tsb_words.specs.Words.{SpelledBy, met_by}
 use Rattle.tsb_words.specs.Wires.{joined, wires_of}
 
--- an option with one value, that may come once
-abbrev pub option_rule : Text → Rule
-option_rule name = record (new_rule name) { long = Some name }
-
--- one that has to come
-abbrev pub required_rule : Text → Rule
-required_rule name = record (option_rule name) { required = true }
-
--- a file that has to be named
-abbrev pub file_rule : Text → Rule
-file_rule name = record (new_rule name) { required = true }
-
--- one that may come several times
-abbrev pub repeated_rule : Text → Rule
-repeated_rule name = record (option_rule name) { action = Some Append }
-
--- a flag, that may come once
-abbrev pub flag_rule : Text → Rule
-flag_rule name = record (option_rule name) { action = Some SetTrue }
-
--- a subcommand with these options
+-- a subcommand with these arguments
 abbrev pub shape_with : Text → List Rule → Shape
 shape_with name rules = record (new_shape name) { rules = rules }
 
@@ -92,18 +70,6 @@ program = record {
   top = record (new_shape (codes "tsb_field")) { is_leaf = false };
   subs = log_shape ∷ record_shape ∷ events_shape ∷ diagram_shape ∷ review_shape ∷ [];
 }
-
--- an argument of the command belongs to its subcommands as well
-abbrev pub has_globals : Command → Bool
-has_globals command = (out-Command command).has_globals
-
--- the command with these options after its own
-abbrev pub with_rules : List Rule → App → App
-with_rules rules app = record app { top = record app.top { rules = app.top.rules ++ rules } }
-
--- the command is this subcommand, without any of its own
-abbrev pub IsLeaf : Shape → Command → Type 0
-IsLeaf shape command = (app_of command ≡ record { top = shape; subs = [] }) × (has_globals command ≡ false)
 
 -- the values of an option that may come several times
 abbrev pub texts_in : Text → List Row → List Text
@@ -217,14 +183,17 @@ review_with (Some plan) = Some (reviewing plan)
 abbrev pub review_in : List Row → Option Wish
 review_in rows = review_with (first_of (codes "PLAN") rows)
 
+-- what a subcommand of this name that is not `log` asks for, with these options
+abbrev pub other_in : Text → List Row → Option Wish
+other_in name rows =
+    if bytes_eq name (codes "record") then record_in rows
+    else (if bytes_eq name (codes "events") then events_in rows
+    else (if bytes_eq name (codes "diagram") then diagram_in rows else review_in rows))
+
 -- what the subcommand asks for that was met, with its options
 abbrev pub asked_by : Option (Text × List Row) → Option Wish
 asked_by None = None
-asked_by (Some met) =
-    if bytes_eq met.0 (codes "log") then log_in met.1
-    else (if bytes_eq met.0 (codes "record") then record_in met.1
-    else (if bytes_eq met.0 (codes "events") then events_in met.1
-    else (if bytes_eq met.0 (codes "diagram") then diagram_in met.1 else review_in met.1)))
+asked_by (Some met) = if bytes_eq met.0 (codes "log") then log_in met.1 else other_in met.0 met.1
 
 -- what words ask for, of which the first is the program's name: by what `clap` reads of them where it takes them
 abbrev pub wish_of : List Text → Option Wish

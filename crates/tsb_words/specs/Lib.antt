@@ -1,5 +1,7 @@
 -- what `clap` makes of words, and why they ask for nothing
 pub mod Words
+-- the commands of the programs, as tables, and as `clap` reads them
+pub mod Commands
 -- what the words of `tsb` ask for
 pub mod BenchWords
 -- its command as `clap` reads it

@@ -1,16 +1,34 @@
 //! The words of `tsb`, and what they ask for.
-ghost use Rattle.std.specs.Prelude.{◌≡◌, IfOk, false, map};
-ghost use Rattle.clap.specs.Words.{app_of, rule_of};
+ghost use Rattle.std.specs.Prelude.{map};
 ghost use Rattle.clap.specs.Simple.{subcommand_rows_of};
-ghost use Rattle.tsb_words.specs.BenchProgram.{asked_by, file_rule, program};
+ghost use Rattle.tsb_words.specs.BenchProgram.{asked_by};
 ghost use Rattle.tsb_words.specs.BenchWords.{Spells, seen};
 ghost use Rattle.tsb_words.specs.Words.{SpelledBy};
 
+use crate::commands::{Argument, Leaf, Program};
 use crate::error::WordsError;
 use crate::matches::matches_of;
-use clap::{Arg, ArgMatches, Command};
-use std::alloc::{AllocError, Global};
+use clap::ArgMatches;
+use std::alloc::Global;
 use std::convert::AsStr;
+
+/// The command of the program. It needs no subcommand.
+const PROGRAM: Program = Program {
+    top: Leaf {
+        name: "tsb",
+        arguments: &[],
+    },
+    subcommands: &[
+        Leaf {
+            name: "check",
+            arguments: &[Argument::File("PLAN")],
+        },
+        Leaf {
+            name: "run",
+            arguments: &[Argument::File("PLAN"), Argument::File("LOG")],
+        },
+    ],
+};
 
 /// What the words ask for.
 #[derive(Clone, Copy, PartialEq, Eq)]
@@ -31,29 +49,8 @@ pub enum Asked<'a> {
 pub fn read_words<'a, S: AsStr>(alloc: Global, words: &'a [S]) -> Result<Asked<'a>, WordsError>
     ensures { Spells (map S.text words.now) result }
 {
-    let matches = matches_of(command(alloc)?, words)?;
+    let matches = matches_of(alloc, &PROGRAM, words)?;
     asked_of(&matches)
-}
-
-/// The command of the program.
-fn command<'a>(alloc: Global) -> Result<Command<'a>, AllocError>
-    ensures { IfOk result (λ command. app_of command ≡ program) }
-{
-    let check = Command::new(alloc, "check").arg(file(alloc, "PLAN"))?;
-    let run = Command::new(alloc, "run")
-        .arg(file(alloc, "PLAN"))?
-        .arg(file(alloc, "LOG"))?;
-    Command::new(alloc, "tsb")
-        .subcommand(check)?
-        .subcommand(run)
-}
-
-/// A file that has to be named.
-fn file<'a>(alloc: Global, name: &'a str) -> Arg<'a>
-    ensures rule { rule_of result ≡ file_rule name.now }
-    ensures own { result.global ≡ false }
-{
-    Arg::new(alloc, name).required(true)
 }
 
 /// What the subcommand that was met asks for, with the files that were named.
@@ -63,10 +60,14 @@ fn asked_of<'a>(matches: &ArgMatches<'a>) -> Result<Asked<'a>, WordsError>
     let Some((name, files)) = matches.subcommand() else {
         return Ok(Asked::BuiltIn);
     };
-    let plan = files.get_str("PLAN").ok_or(WordsError::Bad)?;
+    let Some(plan) = files.get_str("PLAN") else {
+        return Err(WordsError::Bad);
+    };
     if name == "check" {
         return Ok(Asked::Check(plan));
     }
-    let log = files.get_str("LOG").ok_or(WordsError::Bad)?;
+    let Some(log) = files.get_str("LOG") else {
+        return Err(WordsError::Bad);
+    };
     Ok(Asked::Run(plan, log))
 }

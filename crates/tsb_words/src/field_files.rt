@@ -2,7 +2,7 @@
 ghost use Rattle.std.specs.Prelude.{◌≡◌, map, option_map};
 ghost use Rattle.clap.specs.Words.{found_of, rows_of};
 ghost use Rattle.clap.specs.Simple.{subcommand_rows_of};
-ghost use Rattle.tsb_words.specs.FieldProgram.{Spells, asked_by, diagram_in, diagram_with, events_in, events_with, is_set, log_in, manner_in, manner_with, record_in, record_with, review_in, review_with, seconds_said, wires_in};
+ghost use Rattle.tsb_words.specs.FieldProgram.{Spells, asked_by, diagram_in, diagram_with, events_in, events_with, is_set, log_in, manner_in, manner_with, other_in, record_in, record_with, review_in, review_with, seconds_said, wires_in};
 ghost use Rattle.tsb_words.specs.FieldWords.{seen};
 ghost use Rattle.tsb_words.specs.Wires.{AreSpelled};
 ghost use Rattle.tsb_words.specs.Words.{SpelledBy};
@@ -14,7 +14,7 @@ mod wires;
 use crate::error::WordsError;
 use crate::matches::matches_of;
 use clap::ArgMatches;
-use commands::program;
+use commands::PROGRAM;
 pub use options::{MOST_SECONDS, MOST_WINDOW, USUAL_WINDOW};
 use options::{form_said, moment, seconds_said, window_said, zone_said};
 use std::alloc::Global;
@@ -109,7 +109,7 @@ pub enum Asked<'a> {
 pub fn read_words<'a, S: AsStr>(alloc: Global, words: &'a [S]) -> Result<Asked<'a>, WordsError>
     ensures { Spells (map S.text words.now) result }
 {
-    let matches = matches_of(program(alloc)?, words)?;
+    let matches = matches_of(alloc, &PROGRAM, words)?;
     asked_of(alloc, &matches)
 }
 
@@ -123,7 +123,17 @@ fn asked_of<'a>(alloc: Global, matches: &ArgMatches<'a>) -> Result<Asked<'a>, Wo
     if name == "log" {
         return log_asked(alloc, options);
     }
-    let found = if name == "record" {
+    match other_asked(name, options) {
+        Some(asked) => Ok(asked),
+        None => Err(WordsError::Bad),
+    }
+}
+
+/// What a subcommand of this name that is not `log` asks for, with these options.
+fn other_asked<'a>(name: &str, options: &ArgMatches<'a>) -> Option<Asked<'a>>
+    ensures { option_map seen result ≡ other_in name.now (rows_of (found_of options.now)) }
+{
+    if name == "record" {
         record_asked(options)
     } else if name == "events" {
         events_asked(options)
@@ -131,10 +141,6 @@ fn asked_of<'a>(alloc: Global, matches: &ArgMatches<'a>) -> Result<Asked<'a>, Wo
         diagram_asked(options)
     } else {
         review_asked(options)
-    };
-    match found {
-        Some(asked) => Ok(asked),
-        None => Err(WordsError::Bad),
     }
 }
 

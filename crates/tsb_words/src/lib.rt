@@ -2,6 +2,7 @@
 #![tactic(auto)]
 
 pub mod bench;
+mod commands;
 mod error;
 pub mod field_files;
 pub mod live;

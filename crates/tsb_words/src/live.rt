@@ -1,15 +1,25 @@
 //! The words of `tsb_live`, and what they ask for.
-ghost use Rattle.std.specs.Prelude.{◌≡◌, Bool, IfOk, Some, codes, false, map};
-ghost use Rattle.clap.specs.Words.{app_of, first_of, one_of, rule_of};
-ghost use Rattle.tsb_words.specs.LiveProgram.{flag_rule, flag_text, plan_rule, program, wish_with};
+ghost use Rattle.std.specs.Prelude.{◌≡◌, Bool, Some, codes, map};
+ghost use Rattle.clap.specs.Words.{first_of, one_of};
+ghost use Rattle.tsb_words.specs.LiveProgram.{flag_text, wish_with};
 ghost use Rattle.tsb_words.specs.LiveWords.{Spells, seen};
 ghost use Rattle.tsb_words.specs.Words.{SpelledBy, given_of};
 
+use crate::commands::{Argument, Leaf, Program};
 use crate::error::WordsError;
 use crate::matches::matches_of;
-use clap::{Arg, ArgAction, ArgMatches, Command};
-use std::alloc::{AllocError, Global};
+use clap::ArgMatches;
+use std::alloc::Global;
 use std::convert::AsStr;
+
+/// The command of the program.
+const PROGRAM: Program = Program {
+    top: Leaf {
+        name: "tsb_live",
+        arguments: &[Argument::File("PLAN"), Argument::Flag("strict")],
+    },
+    subcommands: &[],
+};
 
 /// What the words ask for: a live run.
 #[derive(Clone, Copy, PartialEq, Eq)]
@@ -28,35 +38,8 @@ pub struct Asked<'a> {
 pub fn read_words<'a, S: AsStr>(alloc: Global, words: &'a [S]) -> Result<Asked<'a>, WordsError>
     ensures { Spells (map S.text words.now) result }
 {
-    let matches = matches_of(command(alloc)?, words)?;
+    let matches = matches_of(alloc, &PROGRAM, words)?;
     asked_of(&matches)
-}
-
-/// The command of the program.
-fn command<'a>(alloc: Global) -> Result<Command<'a>, AllocError>
-    ensures { IfOk result (λ command. app_of command ≡ program) }
-{
-    Command::new(alloc, "tsb_live")
-        .arg(plan(alloc))?
-        .arg(strict(alloc))
-}
-
-/// The file of a plan, which has to be named.
-fn plan<'a>(alloc: Global) -> Arg<'a>
-    ensures rule { rule_of result ≡ plan_rule }
-    ensures own { result.global ≡ false }
-{
-    Arg::new(alloc, "PLAN").required(true)
-}
-
-/// The flag `--strict`.
-fn strict<'a>(alloc: Global) -> Arg<'a>
-    ensures rule { rule_of result ≡ flag_rule }
-    ensures own { result.global ≡ false }
-{
-    Arg::new(alloc, "strict")
-        .long("strict")
-        .action(ArgAction::SetTrue)
 }
 
 /// What was asked for, with the plan that was named and the flag that was set or not.
@@ -64,7 +47,9 @@ fn asked_of<'a>(matches: &ArgMatches<'a>) -> Result<Asked<'a>, WordsError>
     ensures { (is_strict : Bool) → one_of (codes "strict") (given_of matches.now) ≡ Some (flag_text is_strict)
         → SpelledBy seen (wish_with (first_of (codes "PLAN") (given_of matches.now)) is_strict) result }
 {
-    let plan = matches.get_str("PLAN").ok_or(WordsError::Bad)?;
+    let Some(plan) = matches.get_str("PLAN") else {
+        return Err(WordsError::Bad);
+    };
     let is_strict = matches.get_flag("strict");
     Ok(Asked { plan, is_strict })
 }

@@ -1,38 +1,29 @@
-use Rattle.std.proofs.Common.{◌≡◌, None, Some, arith, rules}
-use Rattle.std.proofs.lemmas.Result.{err_from_is_err_and}
+use Rattle.std.proofs.Common.{◌≡◌, Some, sym}
 use Rattle.clap.specs.Matches.{found_of}
 use Rattle.clap.specs.Simple.{subcommand_rows_of}
 use Rattle.clap.specs.Walk.{rows_of}
-use Rattle.tsb_words.specs.declared.error.WordsError.TheVariants.{Bad}
-use Rattle.tsb_words.proofs.MetLemmas.{met-is, asks-no-plan, asks-check, asks-no-log, asks-run}
+use Rattle.tsb_words.proofs.MetLemmas.{asks-check, asks-no-log, asks-no-plan, asks-run, met-is}
 use Rattle.tsb_words.proofs.bench.asked_of.Goals as goal
+use Rattle.tsb_words.proofs.bench.asked_of.Goals.{In-Some}
 
-pub returns-in_err-plan : goal.returns-in_err-plan
-returns-in_err-plan c =
-    let met : subcommand_rows_of c.args.matches.now ≡ Some (c.in-Some.name.now, rows_of (found_of c.in-Some.files.now)) = met-is c.args.matches.now c.in-Some.name.now (rows_of (found_of c.in-Some.files.now)) c.in-Some.ensures.name c.in-Some.ensures.rows in
-    let none : c.get_str.result ≡ None = grind arith in
-    let bad : c.in_err-plan.field-0.0 ≡ Bad = grind arith in
-    let p = err_from_is_err_and c.from_residual.result c.from_residual.ensures.1 in
-    rw (p.1, p.2, bad) (asks-no-plan c.args.matches.now c.in-Some.name.now (found_of c.in-Some.files.now) met (search (rules, none)))
+met : (c : In-Some) → subcommand_rows_of c.args.matches.now ≡ Some (c.in-Some.name.now, rows_of (found_of c.in-Some.files.now))
+met c = met-is c.args.matches.now c.in-Some.name.now (rows_of (found_of c.in-Some.files.now)) c.in-Some.ensures.name c.in-Some.ensures.rows
+
+pub returns-in_default-get_str : goal.returns-in_default-get_str
+returns-in_default-get_str c =
+    asks-no-plan c.args.matches.now c.in-Some.name.now (found_of c.in-Some.files.now) (met (goal.at.returns-in_default-get_str c).In-Some) c.in_default-get_str.ensures
 
 pub returns-then-eq : goal.returns-then-eq
 returns-then-eq c =
-    let met : subcommand_rows_of c.args.matches.now ≡ Some (c.in-Some.name.now, rows_of (found_of c.in-Some.files.now)) = met-is c.args.matches.now c.in-Some.name.now (rows_of (found_of c.in-Some.files.now)) c.in-Some.ensures.name c.in-Some.ensures.rows in
-    let some : c.get_str.result ≡ Some c.in_ok-plan.plan = grind arith in
-    asks-check c.args.matches.now c.in-Some.name.now c.in_ok-plan.plan.now (found_of c.in-Some.files.now) met (search (rules, some)) (search (rules, c.if-eq.true, c.eq.ensures))
+    asks-check c.args.matches.now c.in-Some.name.now c.in-Some-get_str.plan.now (found_of c.in-Some.files.now) (met (goal.at.returns-then-eq c).In-Some)
+    c.in-Some-get_str.ensures (sym c.if-eq.ensures)
 
-pub returns-in_err-log : goal.returns-in_err-log
-returns-in_err-log c =
-    let met : subcommand_rows_of c.args.matches.now ≡ Some (c.in-Some.name.now, rows_of (found_of c.in-Some.files.now)) = met-is c.args.matches.now c.in-Some.name.now (rows_of (found_of c.in-Some.files.now)) c.in-Some.ensures.name c.in-Some.ensures.rows in
-    let some : c.get_str.result ≡ Some c.in_ok-plan.plan = grind arith in
-    let none : c.get_str-2.result ≡ None = grind arith in
-    let bad : c.in_err-log.field-0.0 ≡ Bad = grind arith in
-    let p = err_from_is_err_and c.from_residual-in_err-log.result c.from_residual-in_err-log.ensures.1 in
-    rw (p.1, p.2, bad) (asks-no-log c.args.matches.now c.in-Some.name.now c.in_ok-plan.plan.now (found_of c.in-Some.files.now) met (search (rules, some)) (search (rules, c.if-eq.false, c.eq.ensures)) (search (rules, none)))
+pub returns-in_default-get_str-2 : goal.returns-in_default-get_str-2
+returns-in_default-get_str-2 c =
+    asks-no-log c.args.matches.now c.in-Some.name.now c.in-Some-get_str.plan.now (found_of c.in-Some.files.now) (met (goal.at.returns-in_default-get_str-2 c).In-Some)
+    c.in-Some-get_str.ensures (sym c.if-eq.ensures) c.in_default-get_str-2.ensures
 
 pub returns : goal.returns
 returns c =
-    let met : subcommand_rows_of c.args.matches.now ≡ Some (c.in-Some.name.now, rows_of (found_of c.in-Some.files.now)) = met-is c.args.matches.now c.in-Some.name.now (rows_of (found_of c.in-Some.files.now)) c.in-Some.ensures.name c.in-Some.ensures.rows in
-    let some : c.get_str.result ≡ Some c.in_ok-plan.plan = grind arith in
-    let named : c.get_str-2.result ≡ Some c.in_ok-log.log = grind arith in
-    asks-run c.args.matches.now c.in-Some.name.now c.in_ok-plan.plan.now c.in_ok-log.log.now (found_of c.in-Some.files.now) met (search (rules, some)) (search (rules, c.if-eq.false, c.eq.ensures)) (search (rules, named))
+    asks-run c.args.matches.now c.in-Some.name.now c.in-Some-get_str.plan.now c.in-Some-get_str-2.log.now (found_of c.in-Some.files.now) (met (goal.at.returns c).In-Some)
+    c.in-Some-get_str.ensures (sym c.if-eq.ensures) c.in-Some-get_str-2.ensures
