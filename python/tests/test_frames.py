@@ -6,7 +6,7 @@ from pathlib import Path
 import numpy as np
 import pandas as pd
 import pytest
-from tsb import Display, Error, Event, Lines, Log, frames
+from tsb import Display, Error, Event, Lines, Log, Plan, frames, seconds
 from tsb.manual import COLUMNS
 
 START = "2026-11-22 07:00:00"
@@ -200,6 +200,22 @@ def test_log_of_a_file(examples: Path, tmp_path: Path) -> None:
     with pytest.raises(Error, match="events line 2: time: "):
         path.write_text(path.read_text().replace("2026-11-22 ", ""))
         frames.log_of_export(path, START)
+
+
+def test_what_acts_twice(examples: Path, tmp_path: Path) -> None:
+    """Of events of outputs, each detector is told whose delay the plan has again: the
+    log is the same."""
+    plan = Plan.of_text((examples / "quad.json").read_bytes())
+    plan["vehicleDetectorDelay"][3] = seconds(5)
+    path = tmp_path / "plan.json"
+    path.write_text(plan.text)
+    export = frames.export_of_events(frames.of_events([Event(33, 82, 3)]), START, "7")
+    with pytest.warns(UserWarning, match=r"^detector 3: its delay of 5\.0 s acts twice$"):
+        log = frames.log_of_export(export, START, "7", as_outputs=path)
+    assert log == frames.log_of_export(export, START, "7")
+    path.write_text("{}")
+    with pytest.raises(Error, match="^plan: version$"):
+        frames.log_of_export(export, START, "7", as_outputs=path)
 
 
 def test_channels_lead_to_inputs() -> None:

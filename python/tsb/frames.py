@@ -15,7 +15,7 @@ after the start that is given.
 
 import warnings
 from collections.abc import Iterable, Mapping
-from os import PathLike
+from os import PathLike, fspath
 from pathlib import Path
 from subprocess import CompletedProcess
 from typing import Any
@@ -239,16 +239,20 @@ def log_of_export(
     pedestrians: Mapping[int, int] | None = None,
     preempts: Mapping[int, int] | None = None,
     allow_empty: bool = False,
+    as_outputs: AnyPath | None = None,
 ) -> Log:
     """The log of inputs that an export makes, by `tsb_field log`: its tick 1 begins
     at the start. `export` is a table, or a file of docs/FIELD.md's forms; its rows may
     stand in any order. The mappings lead channels of the controller to inputs of the
     bench, as `vehicles={21: 2, 22: 2}`; others lead to their own numbers. What is left
     out is told as a warning, and so is a form of times that the first row said. Without
-    an event of an input from the start on it is an error, unless it may be empty."""
+    an event of an input from the start on it is an error, unless it may be empty. Where
+    the events are those of detector outputs, `as_outputs` is the file of the session's
+    plan: a warning tells each detector whose delay or extension acts twice."""
     words = ["log", f"--from={start}"]
     words += ["--allow-empty"] if allow_empty else []
     words += [] if device is None else [f"--device={device}"]
+    words += [] if as_outputs is None else [f"--as-outputs={fspath(as_outputs)}"]
     for name, leads in [
         ("vehicle", vehicles), ("pedestrian", pedestrians), ("preempt", preempts)
     ]:  # fmt: skip
