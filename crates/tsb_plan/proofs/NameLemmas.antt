@@ -1,5 +1,6 @@
 -- Names tell objects apart, so the object that is found by a name is the only one of it.
-use Rattle.std.proofs.Common.{◌≡◌, ℕ, zero, suc, ◌<◌, Bool, true, false, ◌&&◌, List, [], ◌∷◌, length, get_or, Some, None, find, bytes_eq, arith, rules, sym, ◌∙◌, ap, subst, ◌↔◌, refl, Decides, inl, inr}
+use Rattle.std.proofs.Common.{◌≡◌, ℕ, zero, suc, ◌<◌, Bool, true, false, ◌&&◌, List, [], ◌∷◌, length, get_or, Some, None, find, map, bytes_eq, if◌then◌else◌, arith, sym, ◌∙◌, ap, subst, ◌↔◌, refl, Decides, inl, inr}
+use Rattle.std.proofs.Math.ListN.{get_or-map}
 use Rattle.std.proofs.lemmas.Bool.{cases_Bool}
 use Rattle.std.proofs.lemmas.Slice.Eq.{bytes_eq-Decides}
 use Rattle.tsb_plan.specs.declared.object.Object.{Object}
@@ -8,10 +9,28 @@ use Rattle.tsb_plan.specs.declared.version.Version.{Version}
 use Rattle.tsb_plan.specs.Names.{name_of, object_named, IsNamed}
 use Rattle.tsb_plan.specs.Objects.{objects, order}
 use Rattle.tsb_plan.specs.Versions.{has_object}
-use Rattle.tsb_plan.proofs.TableLemmas.{at-order, order-below, length-objects}
+use Rattle.tsb_plan.proofs.TableLemmas.{at-order, order-below, order-injective, length-objects}
+
+-- the place of the first object with a name
+place_in : List Object → List ℕ → ℕ
+place_in [] text = 0
+place_in (o ∷ os) text = if bytes_eq (name_of o) text then 0 else suc (place_in os text)
+
+-- (computed once for all objects)
+places : map (λ o. place_in objects (name_of o)) objects ≡ map order objects
+unfolding objects place_in
+places = refl
+
+placed : (o : Object) → place_in objects (name_of o) ≡ order o
+unfolding objects place_in
+placed o =
+    let place : Object → ℕ = λ p. place_in objects (name_of p) in
+    ap place (sym (at-order o)) ∙ sym (get_or-map place objects (order o) PhaseEnabled)
+    ∙ ap (λ (ns : List ℕ). get_or ns (order o) 0) places
+    ∙ get_or-map order objects (order o) PhaseEnabled ∙ ap order (at-order o)
 
 pub names-apart : (o p : Object) → name_of o ≡ name_of p → o ≡ p
-names-apart o p e = search rules
+names-apart o p e = order-injective o p (sym (placed o) ∙ ap (place_in objects) e ∙ placed p)
 
 find-passes : (test : Object → Bool) (os : List Object) (o : Object) → find test os ≡ Some o → test o ≡ true
 find-passes test [] o e = absurd (grind arith)

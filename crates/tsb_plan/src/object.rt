@@ -8,7 +8,7 @@ ghost use Rattle.tsb_plan.specs.Objects.{indices, greatest, first_cell, is_struc
 /// range. Each object's least value is 0, which it has where a plan gives none. "Yes or no" is 1 or 0. A list of phases
 /// is the sum of `2^(phase - 1)` over its phases (profile). The options that NTCIP 1202 has as the bits of one object
 /// are objects of their own here (profile), and the ranges of detector, pattern and preempt objects are the profile's.
-#[derive(Clone, Copy, Debug, PartialEq, Eq)]
+#[derive(Clone, Copy, PartialEq, Eq)]
 pub enum Object {
     /// `phaseEnabled`: phase, yes or no; 0 to 1.
     PhaseEnabled,
@@ -138,24 +138,6 @@ pub enum Object {
     CoordForceMode,
 }
 
-/// What there is to know of an object. Its least value is 0, which it has where a plan gives none.
-#[derive(Clone, Copy)]
-pub(crate) struct ObjectRow {
-    /// Its name, as NTCIP 1202 and plan texts have it.
-    pub(crate) name: &'static str,
-    /// The plan's cell that holds its value at index 1; those at 2, 3, .. follow it.
-    pub(crate) first_cell: usize,
-    /// Its indices and values in a plan and in plan texts of version 2: with 16 phases and 4 sides.
-    pub(crate) range: Range,
-    /// Whether plan texts of version 1 have it.
-    pub(crate) is_in_version_1: bool,
-    /// Its indices and values in plan texts of version 1, with 8 phases and 2 sides; where these do not have
-    /// it, those in a plan.
-    pub(crate) narrow_range: Range,
-    /// Whether a commit that changes it is refused while a phase is in service (profile).
-    pub(crate) is_structural: bool,
-}
-
 /// THE TABLE OF OBJECTS, each row as the macro that is named takes it: the object, its name in plan texts,
 /// its first cell, its number of indices and greatest value in a plan, those in version 1 of plan texts,
 /// and whether it is structural.
@@ -231,17 +213,45 @@ macro_rules! table {
     };
 }
 
-/// A row of the table.
-macro_rules! rows {
+/// The names of the table.
+macro_rules! names {
     ($($object:ident $name:literal $cell:literal [$($range:tt)+] [$($narrow:tt)+] $change:ident)*) => {
-        [$(ObjectRow {
-            name: $name,
-            first_cell: $cell,
-            range: range!($($range)+),
-            is_in_version_1: is_in_version_1!($($narrow)+),
-            narrow_range: narrow_range!([$($narrow)+] [$($range)+]),
-            is_structural: is_structural!($change),
-        }),*]
+        [$($name),*]
+    };
+}
+
+/// The first cells of the table.
+macro_rules! first_cells {
+    ($($object:ident $name:literal $cell:literal [$($range:tt)+] [$($narrow:tt)+] $change:ident)*) => {
+        [$($cell),*]
+    };
+}
+
+/// The ranges of the table.
+macro_rules! ranges {
+    ($($object:ident $name:literal $cell:literal [$($range:tt)+] [$($narrow:tt)+] $change:ident)*) => {
+        [$(range!($($range)+)),*]
+    };
+}
+
+/// Which rows of the table version 1 has.
+macro_rules! are_in_version_1 {
+    ($($object:ident $name:literal $cell:literal [$($range:tt)+] [$($narrow:tt)+] $change:ident)*) => {
+        [$(is_in_version_1!($($narrow)+)),*]
+    };
+}
+
+/// The ranges of the table in version 1.
+macro_rules! narrow_ranges {
+    ($($object:ident $name:literal $cell:literal [$($range:tt)+] [$($narrow:tt)+] $change:ident)*) => {
+        [$(narrow_range!([$($narrow)+] [$($range)+])),*]
+    };
+}
+
+/// Which rows of the table are structural.
+macro_rules! are_structural {
+    ($($object:ident $name:literal $cell:literal [$($range:tt)+] [$($narrow:tt)+] $change:ident)*) => {
+        [$(is_structural!($change)),*]
     };
 }
 
@@ -313,8 +323,26 @@ macro_rules! is_structural {
     };
 }
 
-/// The row of each object, at its number, which is its place among all.
-pub(crate) const TABLE: [ObjectRow; Object::COUNT] = table!(rows);
+// What there is to know of each object, a column of the table each, at the object's number, which is its place among all.
+
+/// Its name, as NTCIP 1202 and plan texts have it.
+pub(crate) const NAMES: [&'static str; Object::COUNT] = table!(names);
+
+/// The plan's cell that holds its value at index 1; those at 2, 3, .. follow it.
+const FIRST_CELLS: [usize; Object::COUNT] = table!(first_cells);
+
+/// Its indices and values in a plan and in plan texts of version 2: with 16 phases and 4 sides.
+const RANGES: [Range; Object::COUNT] = table!(ranges);
+
+/// Whether plan texts of version 1 have it.
+pub(crate) const ARE_IN_VERSION_1: [bool; Object::COUNT] = table!(are_in_version_1);
+
+/// Its indices and values in plan texts of version 1, with 8 phases and 2 sides; where these do not have it, those in a
+/// plan.
+pub(crate) const NARROW_RANGES: [Range; Object::COUNT] = table!(narrow_ranges);
+
+/// Whether a commit that changes it is refused while a phase is in service (profile).
+const ARE_STRUCTURAL: [bool; Object::COUNT] = table!(are_structural);
 
 /// The cells of a plan, one for each object at each of its indices.
 pub const PLAN_CELLS: usize = table!(cells);
@@ -330,14 +358,14 @@ impl Object {
     pub fn indices(self) -> u32
         ensures { result ≡ indices self }
     {
-        TABLE[self as usize].range.indices
+        RANGES[self as usize].indices
     }
 
     /// The greatest value that the object takes: it takes 0 to this number.
     pub fn greatest(self) -> u32
         ensures { result ≡ greatest self }
     {
-        TABLE[self as usize].range.greatest
+        RANGES[self as usize].greatest
     }
 
     /// The plan's cell that holds the object's value at index 1; those at 2, 3, .. follow it.
@@ -345,7 +373,7 @@ impl Object {
     pub fn first_cell(self) -> usize
         ensures { result ≡ first_cell self }
     {
-        TABLE[self as usize].first_cell
+        FIRST_CELLS[self as usize]
     }
 }
 
@@ -382,5 +410,5 @@ pub fn range_of(object: Object) -> Range
 pub fn is_structural(object: Object) -> bool
     ensures { result ≡ is_structural object }
 {
-    TABLE[object as usize].is_structural
+    ARE_STRUCTURAL[object as usize]
 }

@@ -2,7 +2,7 @@
 ghost use Rattle.std.specs.Prelude.{◌≡◌, true};
 ghost use Rattle.tsb_plan.specs.Versions.{has_object, indices_in, greatest_in, range_in, has_index_in, is_in_rows, translated};
 
-use crate::object::{Object, Range, TABLE};
+use crate::object::{ARE_IN_VERSION_1, NARROW_RANGES, Object, Range};
 
 /// A version of plan texts.
 #[derive(Clone, Copy, PartialEq, Eq)]
@@ -20,7 +20,7 @@ impl Version {
         ensures { result ≡ has_object self object }
     {
         match self {
-            Version::One => TABLE[object as usize].is_in_version_1,
+            Version::One => ARE_IN_VERSION_1[object as usize],
             Version::Two => true,
         }
     }
@@ -44,7 +44,7 @@ impl Version {
         ensures { result ≡ indices_in self object }
     {
         match self {
-            Version::One => TABLE[object as usize].narrow_range.indices,
+            Version::One => NARROW_RANGES[object as usize].indices,
             Version::Two => object.indices(),
         }
     }
@@ -54,7 +54,7 @@ impl Version {
         ensures { result ≡ greatest_in self object }
     {
         match self {
-            Version::One => TABLE[object as usize].narrow_range.greatest,
+            Version::One => NARROW_RANGES[object as usize].greatest,
             Version::Two => object.greatest(),
         }
     }
