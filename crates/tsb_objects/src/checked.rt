@@ -23,7 +23,7 @@ use tsb_rules::{Rule, check};
 ///
 /// Its plan meets the rules and stays as it is: only `Checked::new` and `Checked::known` make a `Checked`, so whoever
 /// is handed one has nothing to check.
-#[derive(Clone, Copy, PartialEq, Eq)]
+#[derive(Clone, Copy)]
 pub struct Checked {
     plan: Plan,
     phase_tables: PhaseTables,

@@ -9,7 +9,7 @@ use tsb_plan::{Object, Plan};
 use tsb_types::NumberSet;
 
 /// What a plan says of all its detectors at once.
-#[derive(Clone, Copy, PartialEq, Eq)]
+#[derive(Clone, Copy)]
 pub struct DetectorTables {
     /// The vehicle detectors with a delay (`vehicleDetectorDelay`).
     pub(crate) with_delay: NumberSet,

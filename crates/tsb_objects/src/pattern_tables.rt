@@ -28,7 +28,7 @@ enum Asked {
 
 /// What a plan says of all its phases while a pattern runs. In an array of 17 words, word 0 is for free operation and
 /// word `n` for pattern `n`. Each is a list of phases, as `phaseConcurrency` has it.
-#[derive(Clone, Copy, PartialEq, Eq)]
+#[derive(Clone, Copy)]
 pub struct PatternTables {
     /// The coordinated phases (`splitCoordPhase`).
     pub(crate) coordinated: [u16; 17],

@@ -12,7 +12,7 @@ use tsb_types::{NumberSet, PhaseSet};
 
 /// What a plan says of all its phases at once. Each word of an array is a list, as
 /// `phaseConcurrency` has it.
-#[derive(Clone, Copy, PartialEq, Eq)]
+#[derive(Clone, Copy)]
 pub struct PhaseTables {
     /// The phases that are in use (`phaseEnabled`).
     pub(crate) enabled: PhaseSet,

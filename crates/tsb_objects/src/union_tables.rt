@@ -15,7 +15,7 @@ use tsb_plan::Plan;
 use tsb_types::{Detector, PedestrianDetector, Phase, PhaseSet};
 
 /// What a plan that meets the rules says of sets of detectors and phases.
-#[derive(Clone, Copy, PartialEq, Eq)]
+#[derive(Clone, Copy)]
 pub struct UnionTables {
     /// The phases that vehicle detectors call (`vehicleDetectorCallPhase`).
     pub(crate) called: Unions,

@@ -12,7 +12,7 @@ const SETS: u16 = 256;
 
 /// The union of any of 16 sets of phases, which have the numbers 1 to 16. Each array has a word for each set of 8
 /// numbers, as a list: the list of the phases in the set of one of these numbers.
-#[derive(Clone, Copy, PartialEq, Eq)]
+#[derive(Clone, Copy)]
 pub struct Unions {
     /// The unions of sets 1 to 8.
     low: [u16; 256],
