@@ -3,7 +3,7 @@ ghost use Rattle.std.specs.Prelude.{◌≡◌, ◌≢◌, ℕ, ◌+◌, ◌*◌,
 ghost use Rattle.tsb_objects.specs.tsb_types.Sets.{has, names, list_in};
 ghost use Rattle.tsb_cells.specs.Lists.{Elsewhere};
 ghost use Rattle.tsb_phase.specs.Cells.{row_in};
-ghost use Rattle.tsb_phase.specs.Rows.{list_of_row, cell_of_row, with_list, with_cell};
+ghost use Rattle.tsb_phase.specs.Rows.{list_of_row, cell_of_row, with_list, with_cell, with_lists};
 
 use crate::phase_row::PhaseRow;
 use crate::phases::Phases;
@@ -173,12 +173,12 @@ impl Phases {
         self.bank.put(place(k, p), value);
     }
 
-    /// Puts the row of a phase into the cells, where it differs from what it was.
+    /// Puts what the lists say of a phase into them, where it differs from what it was.
     #[inline(always)]
-    pub(crate) fn store(&mut self, p: Phase, was: &PhaseRow, row: &PhaseRow)
+    fn store_lists(&mut self, p: Phase, was: &PhaseRow, row: &PhaseRow)
         requires opened { is_open self.old ≡ true }
         requires was { was.now ≡ row_in (cells_of self.old) p }
-        ensures row { row_in (cells_of self.new) p ≡ row.now }
+        ensures row { row_in (cells_of self.new) p ≡ with_lists row.now was.now }
         ensures others { (q : ℕ) → 1 ≤ q → q ≤ 16 → q ≢ p → row_in (cells_of self.new) q ≡ row_in (cells_of self.old) q }
         ensures lists { KeepsLists (cells_of self.old) (cells_of self.new) }
         ensures kept { kept_of self.new ≡ kept_of self.old }
@@ -193,6 +193,19 @@ impl Phases {
         self.put_list(FORCED, p, was.forced, row.forced);
         self.put_list(MAX_OUTS, p, was.max_out, row.max_out);
         self.put_list(GAP_OUTS, p, was.gap_out, row.gap_out);
+    }
+
+    /// Puts the cells of a phase, whose lists have been put, where they differ from what they were.
+    #[inline(always)]
+    fn store_cells(&mut self, p: Phase, was: &PhaseRow, row: &PhaseRow)
+        requires opened { is_open self.old ≡ true }
+        requires was { row_in (cells_of self.old) p ≡ with_lists row.now was.now }
+        ensures row { row_in (cells_of self.new) p ≡ row.now }
+        ensures others { (q : ℕ) → 1 ≤ q → q ≤ 16 → q ≢ p → row_in (cells_of self.new) q ≡ row_in (cells_of self.old) q }
+        ensures lists { KeepsLists (cells_of self.old) (cells_of self.new) }
+        ensures kept { kept_of self.new ≡ kept_of self.old }
+        ensures opened { is_open self.new ≡ true }
+    {
         self.put_cell(TIMERS, p, was.timer, row.timer);
         self.put_cell(
             PEDESTRIAN_TIMERS,
@@ -210,5 +223,20 @@ impl Phases {
             was.running_maximum,
             row.running_maximum,
         );
+    }
+
+    /// Puts the row of a phase into the cells, where it differs from what it was.
+    #[inline(always)]
+    pub(crate) fn store(&mut self, p: Phase, was: &PhaseRow, row: &PhaseRow)
+        requires opened { is_open self.old ≡ true }
+        requires was { was.now ≡ row_in (cells_of self.old) p }
+        ensures row { row_in (cells_of self.new) p ≡ row.now }
+        ensures others { (q : ℕ) → 1 ≤ q → q ≤ 16 → q ≢ p → row_in (cells_of self.new) q ≡ row_in (cells_of self.old) q }
+        ensures lists { KeepsLists (cells_of self.old) (cells_of self.new) }
+        ensures kept { kept_of self.new ≡ kept_of self.old }
+        ensures opened { is_open self.new ≡ true }
+    {
+        self.store_lists(p, was, row);
+        self.store_cells(p, was, row);
     }
 }
