@@ -4,5 +4,7 @@ pub mod SequenceRules
 pub mod PatternRules
 -- all other rules, and the first of K1 to K22 that a plan breaks
 pub mod Rules
+-- what a check asks one by one of phases, overlaps, preempts and patterns
+pub mod Asked
 -- what every plan that breaks no rule is like
 pub mod Consistent

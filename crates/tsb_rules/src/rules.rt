@@ -5,6 +5,7 @@ ghost use Rattle.std.specs.Prelude.{◌≡◌, ◌+◌, ◌*◌, ◌≤◌, ◌=
 ghost use Rattle.tsb_plan.specs.PlanOf.{plan_of};
 ghost use Rattle.tsb_rules.specs.Rules.{broken_by_rings, broken_by_phases, broken_by_parts, broken_by_extensions, first_broken, or_broken};
 
+mod asked;
 mod calls;
 mod concurrency;
 mod lists;
@@ -13,6 +14,9 @@ mod phases;
 mod sequences;
 mod splits;
 
+use asked::{OfEnabled, OfPhase, Sought, each_enabled, each_phase, some_phase};
+use lists::{OfFour, four_meet};
+use patterns::{OfPattern, each_pattern};
 pub use splits::split_end;
 use tsb_plan::Plan;
 
@@ -89,11 +93,11 @@ pub fn check(plan: &Plan) -> Result<(), Rule>
 fn check_rings(plan: &Plan) -> Result<(), Rule>
     ensures { result ≡ or_broken (broken_by_rings (plan_of plan.now)) }
 {
-    require(phases::some_enabled(plan), Rule::K1)?;
-    require(phases::are_placed(plan), Rule::K2)?;
-    require(concurrency::unused_lists_are_empty(plan), Rule::K3)?;
-    require(concurrency::lists_name_across_rings(plan), Rule::K4)?;
-    require(concurrency::concurrency_is_symmetric(plan), Rule::K5)?;
+    require(some_phase(plan, Sought::Enabled), Rule::K1)?;
+    require(each_enabled(plan, OfEnabled::Placed), Rule::K2)?;
+    require(each_phase(plan, OfPhase::EmptyUnused), Rule::K3)?;
+    require(each_enabled(plan, OfEnabled::NamesAcrossRings), Rule::K4)?;
+    require(each_phase(plan, OfPhase::NamedBack), Rule::K5)?;
     require(sequences::first_sequence_is_ordered(plan), Rule::K6)?;
     require(sequences::other_sequences_are_ordered(plan), Rule::K7)
 }
@@ -103,10 +107,10 @@ fn check_rings(plan: &Plan) -> Result<(), Rule>
 fn check_phases(plan: &Plan) -> Result<(), Rule>
     ensures { result ≡ or_broken (broken_by_phases (plan_of plan.now)) }
 {
-    require(phases::yellows_are_long(plan), Rule::K8)?;
-    require(phases::gaps_can_reduce(plan), Rule::K9)?;
-    require(phases::maximums_reach_minimums(plan), Rule::K10)?;
-    require(calls::recalled_pedestrians_walk(plan), Rule::K11)?;
+    require(each_enabled(plan, OfEnabled::LongYellow), Rule::K8)?;
+    require(each_enabled(plan, OfEnabled::ReducibleGap), Rule::K9)?;
+    require(each_enabled(plan, OfEnabled::ReachedMinimum), Rule::K10)?;
+    require(each_enabled(plan, OfEnabled::WalkRecalled), Rule::K11)?;
     require(calls::detectors_call_phases(plan), Rule::K12)?;
     require(calls::pedestrian_detectors_call_walks(plan), Rule::K13)
 }
@@ -116,13 +120,13 @@ fn check_phases(plan: &Plan) -> Result<(), Rule>
 fn check_parts(plan: &Plan) -> Result<(), Rule>
     ensures { result ≡ or_broken (broken_by_parts (plan_of plan.now)) }
 {
-    require(lists::included_phases_are_enabled(plan), Rule::K14)?;
-    require(lists::preempts_are_concurrent(plan), Rule::K15)?;
-    require(lists::preempts_dwell(plan), Rule::K16)?;
-    require(patterns::patterns_are_whole(plan), Rule::K17)?;
-    require(patterns::splits_hold_phases(plan), Rule::K18)?;
-    require(patterns::splits_fill_cycles(plan), Rule::K19)?;
-    require(patterns::coordinated_phases_agree(plan), Rule::K20)
+    require(four_meet(plan, OfFour::IncludesEnabled), Rule::K14)?;
+    require(four_meet(plan, OfFour::HasConcurrentLists), Rule::K15)?;
+    require(four_meet(plan, OfFour::DwellsOrIsEmpty), Rule::K16)?;
+    require(each_pattern(plan, OfPattern::Whole), Rule::K17)?;
+    require(each_pattern(plan, OfPattern::HoldsPhases), Rule::K18)?;
+    require(each_pattern(plan, OfPattern::FillsCycle), Rule::K19)?;
+    require(each_pattern(plan, OfPattern::IsCoordinated), Rule::K20)
 }
 
 /// Rules K21 and K22, on what plan texts of version 2 alone can give.
@@ -130,8 +134,8 @@ fn check_parts(plan: &Plan) -> Result<(), Rule>
 fn check_extensions(plan: &Plan) -> Result<(), Rule>
     ensures { result ≡ or_broken (broken_by_extensions (plan_of plan.now)) }
 {
-    require(lists::modifiers_are_right(plan), Rule::K21)?;
-    require(phases::limits_reach_minimums(plan), Rule::K22)
+    require(four_meet(plan, OfFour::ModifiesRightly), Rule::K21)?;
+    require(each_enabled(plan, OfEnabled::ReachedByLimit), Rule::K22)
 }
 
 /// An `Err` with that rule, unless its test is passed.

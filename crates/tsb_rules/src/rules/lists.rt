@@ -1,22 +1,91 @@
 //! Rules K14, K15, K16 and K21: the lists of overlaps and preempts.
 #![tactic(auto, unfolding(tsb_plan::specs::PlanOf::plan_of))]
 
-ghost use Rattle.std.specs.Prelude.{◌≡◌, ℕ, ◌+◌, ◌*◌, ◌≤◌, ◌==◌, ◌&&◌, ◌||◌, not, nat_le, true};
+ghost use Rattle.std.specs.Prelude.{◌≡◌, ◌≤◌, ◌&&◌, ◌||◌, not};
+ghost use Rattle.std.specs.List.{list_all};
+ghost use Rattle.tsb_plan.specs.declared.object.Object.TheVariants.{OverlapIncludedPhases};
 ghost use Rattle.tsb_plan.specs.Objects.{indices};
-ghost use Rattle.tsb_rules.specs.Rules.{names_enabled, included_phases_are_enabled, goes_with_all, names_concurrent, names_concurrent_at, has_concurrent_lists, preempts_are_concurrent, dwells_or_is_empty, preempts_dwell, modifies_rightly, modifiers_are_right};
+ghost use Rattle.tsb_plan.specs.Plan.{is_enabled};
 ghost use Rattle.tsb_plan.specs.PlanOf.{plan_of};
+ghost use Rattle.tsb_rules.specs.Asked.{each_named, four_meet, named_meets};
+ghost use Rattle.tsb_rules.specs.Rules.{names_enabled, goes_with_all, names_concurrent, has_concurrent_lists, dwells_or_is_empty, modifies_rightly};
+ghost use Rattle.tsb_types.specs.Lists.{run_from};
+ghost use Rattle.tsb_types.specs.Sets.{names};
 
+use crate::rules::asked::{OfPhase, each_phase};
+use crate::rules::concurrency::may_be_concurrent;
 use tsb_plan::{Object, Plan};
 use tsb_types::{Overlap, Phase, PhaseSet, Preempt};
 
-/// K14: the included phases of each overlap are enabled.
-pub(super) fn included_phases_are_enabled(plan: &Plan) -> bool
-    ensures { result ≡ included_phases_are_enabled (plan_of plan.now) }
+/// What a rule asks of each phase that a list names.
+#[derive(Clone, Copy)]
+pub(super) enum OfNamed {
+    /// K14 and K21: it is enabled.
+    IsEnabled,
+    /// K4: it may be concurrent with this phase.
+    IsAcross(Phase),
+    /// K5: its concurrency list names this phase.
+    NamesBack(Phase),
+    /// K15: it is this phase or concurrent with it.
+    GoesWith(Phase),
+}
+
+/// What a rule asks of each overlap, or of each preempt: there are four of either.
+#[derive(Clone, Copy)]
+pub(super) enum OfFour {
+    /// K14: the included phases of the overlap are enabled.
+    IncludesEnabled,
+    /// K21: the modifier phases of the overlap are enabled, and it has none where it is not minusGreenYellow.
+    ModifiesRightly,
+    /// K15: each list of the preempt names only enabled phases, pairwise concurrent.
+    HasConcurrentLists,
+    /// K16: the preempt has a dwell phase, or neither a track phase nor an exit phase.
+    DwellsOrIsEmpty,
+}
+
+/// Whether a phase that a list names is as a rule asks.
+fn named_meets(plan: &Plan, asked: OfNamed, other: Phase) -> bool
+    ensures { result ≡ named_meets asked (plan_of plan.now) other }
 {
-    Overlap::all().iter().all(|overlap| names_enabled(
-        plan,
-        of_overlap(plan, Object::OverlapIncludedPhases, *overlap),
-    ))
+    match asked {
+        OfNamed::IsEnabled => plan.is_enabled(other),
+        OfNamed::IsAcross(phase) => may_be_concurrent(plan, phase, other),
+        OfNamed::NamesBack(phase) => plan.concurrency(other).contains(phase),
+        OfNamed::GoesWith(phase) => phase == other || plan.concurrency(phase).contains(other),
+    }
+}
+
+/// Whether each phase that the list names is as a rule asks.
+pub(super) fn each_named(plan: &Plan, list: u16, asked: OfNamed) -> bool
+    ensures { result ≡ each_named (plan_of plan.now) list (named_meets asked (plan_of plan.now)) }
+{
+    let named = PhaseSet::from_list(list);
+    Phase::all().iter().all(|other| !named.contains(*other) || named_meets(plan, asked, *other))
+}
+
+/// Whether overlap or preempt `number`, 1 to 4, is as a rule asks.
+fn one_meets(plan: &Plan, asked: OfFour, number: u8) -> bool
+    requires from { 1 ≤ number }
+    requires to { number ≤ 4 }
+    ensures { result ≡ four_meet asked (plan_of plan.now) number }
+{
+    match asked {
+        OfFour::IncludesEnabled => includes_enabled(plan, Overlap::of(number)),
+        OfFour::ModifiesRightly => modifies_rightly(plan, Overlap::of(number)),
+        OfFour::HasConcurrentLists => has_concurrent_lists(plan, Preempt::of(number)),
+        OfFour::DwellsOrIsEmpty => dwells_or_is_empty(plan, Preempt::of(number)),
+    }
+}
+
+/// Whether each of the four overlaps or preempts is as a rule asks.
+#[tactic(auto, unfolding(tsb_plan::specs::PlanOf::plan_of, tsb_types::specs::Lists::run_from))]
+pub(super) fn four_meet(plan: &Plan, asked: OfFour) -> bool
+    ensures { result ≡ list_all (four_meet asked (plan_of plan.now)) (run_from 1 4) }
+{
+    one_meets(plan, asked, 1)
+        && one_meets(plan, asked, 2)
+        && one_meets(plan, asked, 3)
+        && one_meets(plan, asked, 4)
 }
 
 /// A list of an overlap.
@@ -27,32 +96,6 @@ fn of_overlap(plan: &Plan, object: Object, overlap: Overlap) -> u16
     plan.at(object, u32::from(overlap.number())) as u16
 }
 
-fn names_enabled(plan: &Plan, list: u16) -> bool
-    ensures { result ≡ names_enabled (plan_of plan.now) list }
-{
-    let named = PhaseSet::from_list(list);
-    Phase::all()
-        .iter()
-        .all(|phase| !named.contains(*phase) || plan.is_enabled(*phase))
-}
-
-/// K15: each list of each preempt names only enabled phases, pairwise concurrent.
-pub(super) fn preempts_are_concurrent(plan: &Plan) -> bool
-    ensures { result ≡ preempts_are_concurrent (plan_of plan.now) }
-{
-    Preempt::all()
-        .iter()
-        .all(|preempt| has_concurrent_lists(plan, *preempt))
-}
-
-fn has_concurrent_lists(plan: &Plan, preempt: Preempt) -> bool
-    ensures { result ≡ has_concurrent_lists (plan_of plan.now) preempt }
-{
-    names_concurrent(plan, of_preempt(plan, Object::PreemptTrackPhase, preempt))
-        && names_concurrent(plan, of_preempt(plan, Object::PreemptDwellPhase, preempt))
-        && names_concurrent(plan, of_preempt(plan, Object::PreemptExitPhase, preempt))
-}
-
 /// A list of a preempt.
 fn of_preempt(plan: &Plan, object: Object, preempt: Preempt) -> u16
     requires index { indices object ≡ 4 }
@@ -61,55 +104,59 @@ fn of_preempt(plan: &Plan, object: Object, preempt: Preempt) -> u16
     plan.at(object, u32::from(preempt.number())) as u16
 }
 
+/// K14: the included phases of the overlap are enabled.
+fn includes_enabled(plan: &Plan, overlap: Overlap) -> bool
+    ensures { result ≡ names_enabled (plan_of plan.now) ((plan_of plan.now).value OverlapIncludedPhases overlap) }
+{
+    names_enabled(
+        plan,
+        of_overlap(plan, Object::OverlapIncludedPhases, overlap),
+    )
+}
+
+fn names_enabled(plan: &Plan, list: u16) -> bool
+    ensures { result ≡ names_enabled (plan_of plan.now) list }
+{
+    each_named(plan, list, OfNamed::IsEnabled)
+}
+
+/// K21: the modifier phases of the overlap are enabled, and there are none where it is not minusGreenYellow.
+fn modifies_rightly(plan: &Plan, overlap: Overlap) -> bool
+    ensures { result ≡ modifies_rightly (plan_of plan.now) overlap }
+{
+    let modifiers = of_overlap(plan, Object::OverlapModifierPhases, overlap);
+    names_enabled(plan, modifiers) && (plan.is_minus_green_yellow(overlap) || modifiers == 0)
+}
+
+/// K15: each list of the preempt names only enabled phases, pairwise concurrent.
+fn has_concurrent_lists(plan: &Plan, preempt: Preempt) -> bool
+    ensures { result ≡ has_concurrent_lists (plan_of plan.now) preempt }
+{
+    names_concurrent(plan, of_preempt(plan, Object::PreemptTrackPhase, preempt))
+        && names_concurrent(plan, of_preempt(plan, Object::PreemptDwellPhase, preempt))
+        && names_concurrent(plan, of_preempt(plan, Object::PreemptExitPhase, preempt))
+}
+
 fn names_concurrent(plan: &Plan, list: u16) -> bool
     ensures { result ≡ names_concurrent (plan_of plan.now) list }
 {
-    let named = PhaseSet::from_list(list);
-    Phase::all().iter().all(|phase| {
-        !named.contains(*phase) || plan.is_enabled(*phase) && goes_with_all(plan, list, *phase)
-    })
+    each_phase(plan, OfPhase::ConcurrentIn(list))
 }
 
-/// Whether the phase is concurrent with each other phase of the list.
-fn goes_with_all(plan: &Plan, list: u16, phase: Phase) -> bool
-    ensures { result ≡ goes_with_all (plan_of plan.now) list phase }
+/// Whether the list does not name the phase, or it is enabled and concurrent with each other phase of the list.
+pub(super) fn goes_with_all_in(plan: &Plan, list: u16, phase: Phase) -> bool
+    ensures { result ≡ (not (names list phase)
+        || (is_enabled (plan_of plan.now) phase && goes_with_all (plan_of plan.now) list phase)) }
 {
-    let (named, concurrent) = (PhaseSet::from_list(list), plan.concurrency(phase));
-    Phase::all().iter().all(|other| !named.contains(*other)
-        || phase == *other
-        || concurrent.contains(*other))
+    !PhaseSet::from_list(list).contains(phase)
+        || plan.is_enabled(phase) && each_named(plan, list, OfNamed::GoesWith(phase))
 }
 
 /// K16: a preempt with an empty dwell list has empty track and exit lists.
-pub(super) fn preempts_dwell(plan: &Plan) -> bool
-    ensures { result ≡ preempts_dwell (plan_of plan.now) }
-{
-    Preempt::all()
-        .iter()
-        .all(|preempt| dwells_or_is_empty(plan, *preempt))
-}
-
 fn dwells_or_is_empty(plan: &Plan, preempt: Preempt) -> bool
     ensures { result ≡ dwells_or_is_empty (plan_of plan.now) preempt }
 {
     of_preempt(plan, Object::PreemptDwellPhase, preempt) != 0
         || of_preempt(plan, Object::PreemptTrackPhase, preempt) == 0
             && of_preempt(plan, Object::PreemptExitPhase, preempt) == 0
-}
-
-/// K21: the modifier phases of each overlap are enabled, and there are none where it is not
-/// minusGreenYellow.
-pub(super) fn modifiers_are_right(plan: &Plan) -> bool
-    ensures { result ≡ modifiers_are_right (plan_of plan.now) }
-{
-    Overlap::all()
-        .iter()
-        .all(|overlap| modifies_rightly(plan, *overlap))
-}
-
-fn modifies_rightly(plan: &Plan, overlap: Overlap) -> bool
-    ensures { result ≡ modifies_rightly (plan_of plan.now) overlap }
-{
-    let modifiers = of_overlap(plan, Object::OverlapModifierPhases, overlap);
-    names_enabled(plan, modifiers) && (plan.is_minus_green_yellow(overlap) || modifiers == 0)
 }

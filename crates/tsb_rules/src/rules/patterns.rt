@@ -1,21 +1,51 @@
 //! Rules K17 to K20: what a used pattern must be.
 #![tactic(auto, unfolding(tsb_plan::specs::PlanOf::plan_of))]
 
-ghost use Rattle.std.specs.Prelude.{◌≡◌, ℕ, ◌+◌, ◌*◌, ◌≤◌, ◌==◌, ◌&&◌, ◌||◌, not, nat_le, true};
-ghost use Rattle.tsb_rules.specs.PatternRules.{names_sequence, is_whole, patterns_are_whole, holds_phase, holds_phases, some_and, splits_hold_phases, rings_agree_on_sides, fills, splits_fill_cycles, may_coordinate, ends_with, agrees_with_all, is_coordinated_in, coordinated_count, has_one_in_each_ring, coordinates, has_coordinated, all_coordinate, coordinated_agree, coordinated_phases_agree};
-ghost use Rattle.tsb_plan.specs.Parts.{split_of, sequence_of};
+ghost use Rattle.std.specs.Prelude.{◌≡◌, ◌==◌, ◌||◌, not};
+ghost use Rattle.tsb_plan.specs.Parts.{is_coordinated, split_of, sequence_of};
 ghost use Rattle.tsb_plan.specs.PlanOf.{plan_of};
+ghost use Rattle.tsb_rules.specs.Asked.{pattern_meets};
+ghost use Rattle.tsb_rules.specs.PatternRules.{each_pattern, names_sequence, is_whole, holds_phase, holds_phases, some_and, rings_agree_on_sides, fills, may_coordinate, ends_with, agrees_with_all, has_phases, is_coordinated_in, coordinated_count, has_one_in_each_ring, coordinates, has_coordinated, all_coordinate, coordinated_agree};
 
+use crate::rules::asked::{OfEnabled, OfPhase, Sought, each_enabled, each_phase, some_phase};
 use crate::rules::sequences::is_blank;
 use crate::rules::splits::{has_phases, rings_agree, sides_sum, split_end};
 use tsb_plan::Plan;
-use tsb_types::{Pattern, Phase, Ring, Sequence, Side, Split};
+use tsb_types::{Pattern, Phase, Ring, Sequence, Split};
 
-/// K17: a used pattern has an offset below its cycle, a split table, and a sequence that is not all zeros.
-pub(super) fn patterns_are_whole(plan: &Plan) -> bool
-    ensures { result ≡ patterns_are_whole (plan_of plan.now) }
+/// What a rule asks of each used pattern.
+#[derive(Clone, Copy)]
+pub(super) enum OfPattern {
+    /// K17: it has an offset below its cycle, a split table, and a sequence that is not all zeros.
+    Whole,
+    /// K18: the split of each phase that it does not omit holds its minimum green, yellow change and red clearance.
+    HoldsPhases,
+    /// K19: the splits of a side have one sum in each ring that has phases there, and the sums of the sides add up to
+    /// the cycle.
+    FillsCycle,
+    /// K20: it has coordinated phases. All are enabled, not omitted, on one side and pairwise concurrent, one of each ring
+    /// that has phases there, and their splits end at one time.
+    IsCoordinated,
+}
+
+/// Whether a used pattern is as a rule asks.
+fn pattern_meets(plan: &Plan, asked: OfPattern, pattern: Pattern) -> bool
+    ensures { result ≡ pattern_meets asked (plan_of plan.now) pattern }
 {
-    Pattern::all().iter().all(|pattern| !plan.is_used(*pattern) || is_whole(plan, *pattern))
+    match asked {
+        OfPattern::Whole => is_whole(plan, pattern),
+        OfPattern::HoldsPhases => pattern_holds_phases(plan, pattern),
+        OfPattern::FillsCycle => pattern_fills_cycle(plan, pattern),
+        OfPattern::IsCoordinated => pattern_is_coordinated(plan, pattern),
+    }
+}
+
+/// Whether each used pattern is as a rule asks.
+pub(super) fn each_pattern(plan: &Plan, asked: OfPattern) -> bool
+    ensures { result ≡ each_pattern (plan_of plan.now) (pattern_meets asked (plan_of plan.now)) }
+{
+    Pattern::all().iter().all(|pattern| !plan.is_used(*pattern)
+        || pattern_meets(plan, asked, *pattern))
 }
 
 fn is_whole(plan: &Plan, pattern: Pattern) -> bool
@@ -35,15 +65,6 @@ fn names_sequence(plan: &Plan, pattern: Pattern) -> bool
     }
 }
 
-/// K18: in a used pattern the split of each phase that is not omitted holds its minimum green, yellow
-/// change and red clearance.
-pub(super) fn splits_hold_phases(plan: &Plan) -> bool
-    ensures { result ≡ splits_hold_phases (plan_of plan.now) }
-{
-    Pattern::all().iter().all(|pattern| !plan.is_used(*pattern)
-        || pattern_holds_phases(plan, *pattern))
-}
-
 fn pattern_holds_phases(plan: &Plan, pattern: Pattern) -> bool
     ensures { result ≡ some_and (holds_phases (plan_of plan.now)) (split_of (plan_of plan.now) pattern) }
 {
@@ -56,24 +77,15 @@ fn pattern_holds_phases(plan: &Plan, pattern: Pattern) -> bool
 fn holds_phases(plan: &Plan, split: Split) -> bool
     ensures { result ≡ holds_phases (plan_of plan.now) split }
 {
-    Phase::all().iter().all(|phase| !plan.is_enabled(*phase) || holds_phase(plan, split, *phase))
+    each_enabled(plan, OfEnabled::HeldBy(split))
 }
 
-fn holds_phase(plan: &Plan, split: Split, phase: Phase) -> bool
+pub(super) fn holds_phase(plan: &Plan, split: Split, phase: Phase) -> bool
     ensures { result ≡ holds_phase (plan_of plan.now) split phase }
 {
     plan.is_omitted(split, phase)
         || plan.minimum_green(phase) + plan.yellow_change(phase) + plan.red_clear(phase)
             <= plan.split_time(split, phase)
-}
-
-/// K19: in a used pattern the splits of a side have one sum in each ring that has phases there, and the
-/// sums of the sides add up to the cycle.
-pub(super) fn splits_fill_cycles(plan: &Plan) -> bool
-    ensures { result ≡ splits_fill_cycles (plan_of plan.now) }
-{
-    Pattern::all().iter().all(|pattern| !plan.is_used(*pattern)
-        || pattern_fills_cycle(plan, *pattern))
 }
 
 fn pattern_fills_cycle(plan: &Plan, pattern: Pattern) -> bool
@@ -91,21 +103,14 @@ fn fills(plan: &Plan, pattern: Pattern, split: Split) -> bool
     rings_agree_on_sides(plan, split) && sides_sum(plan, split, 4) == plan.cycle(pattern)
 }
 
+#[tactic(auto, unfolding(tsb_plan::specs::PlanOf::plan_of, tsb_types::specs::Lists::run_from))]
 fn rings_agree_on_sides(plan: &Plan, split: Split) -> bool
     ensures { result ≡ rings_agree_on_sides (plan_of plan.now) split }
 {
-    Side::all()
-        .iter()
-        .all(|side| rings_agree(plan, split, *side))
-}
-
-/// K20: a used pattern has coordinated phases. All are enabled, not omitted, on one side and pairwise
-/// concurrent, one of each ring that has phases there, and their splits end at one time.
-pub(super) fn coordinated_phases_agree(plan: &Plan) -> bool
-    ensures { result ≡ coordinated_phases_agree (plan_of plan.now) }
-{
-    Pattern::all().iter().all(|pattern| !plan.is_used(*pattern)
-        || pattern_is_coordinated(plan, *pattern))
+    rings_agree(plan, split, 1)
+        && rings_agree(plan, split, 2)
+        && rings_agree(plan, split, 3)
+        && rings_agree(plan, split, 4)
 }
 
 fn pattern_is_coordinated(plan: &Plan, pattern: Pattern) -> bool
@@ -126,17 +131,21 @@ fn coordinated_agree(plan: &Plan, sequence: Sequence, split: Split) -> bool
 fn has_coordinated(plan: &Plan, split: Split) -> bool
     ensures { result ≡ has_coordinated (plan_of plan.now) split }
 {
-    Phase::all()
-        .iter()
-        .any(|phase| plan.is_coordinated(split, *phase))
+    some_phase(plan, Sought::CoordinatedIn(split))
 }
 
 fn all_coordinate(plan: &Plan, sequence: Sequence, split: Split) -> bool
     ensures { result ≡ all_coordinate (plan_of plan.now) sequence split }
 {
-    Phase::all().iter().all(|phase| {
-        !plan.is_coordinated(split, *phase) || coordinates(plan, sequence, split, *phase)
-    })
+    each_phase(plan, OfPhase::CoordinatesIn(sequence, split))
+}
+
+/// Whether the split table does not coordinate the phase, or it agrees with the others by the sequence.
+pub(super) fn coordinates_in(plan: &Plan, sequence: Sequence, split: Split, phase: Phase) -> bool
+    ensures { result ≡ (not (is_coordinated (plan_of plan.now) split phase)
+        || coordinates (plan_of plan.now) sequence split phase) }
+{
+    !plan.is_coordinated(split, phase) || coordinates(plan, sequence, split, phase)
 }
 
 fn coordinates(plan: &Plan, sequence: Sequence, split: Split, phase: Phase) -> bool
@@ -171,13 +180,20 @@ fn ends_with(plan: &Plan, sequence: Sequence, split: Split, phase: Phase, other:
 }
 
 /// Whether each ring that has phases on the side of the phase has one coordinated phase.
+#[tactic(auto, unfolding(tsb_plan::specs::PlanOf::plan_of, tsb_types::specs::Lists::run_from))]
 fn has_one_in_each_ring(plan: &Plan, split: Split, phase: Phase) -> bool
     ensures { result ≡ has_one_in_each_ring (plan_of plan.now) split phase }
 {
     let side = plan.side(phase);
-    Ring::all().iter().all(|ring| {
-        !has_phases(plan, *ring, side) || coordinated_count(plan, split, *ring) == 1
-    })
+    has_one_on(plan, split, Ring::of(1), side) && has_one_on(plan, split, Ring::of(2), side)
+}
+
+/// Whether the ring has no phases on the side, or it has one coordinated phase.
+fn has_one_on(plan: &Plan, split: Split, ring: Ring, side: u32) -> bool
+    ensures { result ≡ (not (has_phases (plan_of plan.now) ring side)
+        || coordinated_count (plan_of plan.now) split ring == 1) }
+{
+    !has_phases(plan, ring, side) || coordinated_count(plan, split, ring) == 1
 }
 
 /// How many coordinated phases the ring has.

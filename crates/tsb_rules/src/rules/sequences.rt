@@ -5,11 +5,38 @@ ghost use Rattle.std.specs.Prelude.{◌≡◌, ℕ, ◌+◌, ◌*◌, ◌≤◌,
 ghost use Rattle.std.specs.List.{list_all};
 ghost use Rattle.tsb_types.specs.Lists.{among};
 ghost use Rattle.tsb_plan.specs.Plan.{is_enabled, ring_of, side_of, sequence as sequence_places};
+ghost use Rattle.tsb_rules.specs.Asked.{each_listed, listed_meets};
 ghost use Rattle.tsb_rules.specs.SequenceRules.{lists_only, lists_each, lists_once, rises, is_zeros, zeros_last, is_ordered, sequence_is_ordered, is_blank, first_sequence_is_ordered, other_sequences_are_ordered};
 ghost use Rattle.tsb_plan.specs.PlanOf.{plan_of};
 
 use tsb_plan::Plan;
 use tsb_types::{Phase, Ring, Sequence};
+
+/// What a rule asks of each phase that a sequence lists.
+#[derive(Clone, Copy)]
+enum OfListed {
+    /// It is an enabled phase of this ring.
+    IsOfRing(Ring),
+    /// It is of this side or a higher one.
+    IsFromSide(u32),
+}
+
+/// Whether a listed phase is as a rule asks.
+fn listed_meets(plan: &Plan, asked: OfListed, number: u16) -> bool
+    ensures { result ≡ listed_meets asked (plan_of plan.now) number }
+{
+    match asked {
+        OfListed::IsOfRing(ring) => is_of_ring(plan, ring, number),
+        OfListed::IsFromSide(side) => side <= side_of_number(plan, number),
+    }
+}
+
+/// Whether each listed phase is as a rule asks.
+fn each_listed(plan: &Plan, asked: OfListed, places: &[u16]) -> bool
+    ensures { result ≡ each_listed places.now (listed_meets asked (plan_of plan.now)) }
+{
+    places.iter().all(|number| *number == 0 || listed_meets(plan, asked, *number))
+}
 
 /// K6: sequence 1 is ordered.
 pub(super) fn first_sequence_is_ordered(plan: &Plan) -> bool
@@ -63,9 +90,7 @@ fn is_ordered(plan: &Plan, ring: Ring, places: &[u16]) -> bool
 fn lists_only(plan: &Plan, ring: Ring, places: &[u16]) -> bool
     ensures { result ≡ lists_only (plan_of plan.now) ring places.now }
 {
-    places
-        .iter()
-        .all(|number| *number == 0 || is_of_ring(plan, ring, *number))
+    each_listed(plan, OfListed::IsOfRing(ring), places)
 }
 
 /// Whether this is the number of an enabled phase of the ring.
@@ -131,7 +156,7 @@ fn side_of_number(plan: &Plan, number: u16) -> u32
 fn are_from_side(plan: &Plan, side: u32, places: &[u16]) -> bool
     ensures { result ≡ list_all (λ q. q == 0 || nat_le side (side_of (plan_of plan.now) q)) places.now }
 {
-    places.iter().all(|number| *number == 0 || side <= side_of_number(plan, *number))
+    each_listed(plan, OfListed::IsFromSide(side), places)
 }
 
 fn zeros_last(places: &[u16]) -> bool

@@ -6,11 +6,12 @@ ghost use Rattle.tsb_types.specs.Lists.{run_from, up_to};
 ghost use Rattle.tsb_rules.specs.PatternRules.{is_on, has_phases, split_on, split_sum, side_sum, split_before, split_end, rings_agree};
 ghost use Rattle.tsb_plan.specs.PlanOf.{plan_of};
 
+use crate::rules::asked::{Sought, some_phase};
 use tsb_plan::Plan;
-use tsb_types::{Phase, Ring, Sequence, Side, Split};
+use tsb_types::{Phase, Ring, Sequence, Split};
 
 /// Whether this is an enabled phase of the ring on the side.
-fn is_on(plan: &Plan, ring: Ring, side: u32, phase: Phase) -> bool
+pub(super) fn is_on(plan: &Plan, ring: Ring, side: u32, phase: Phase) -> bool
     ensures { result ≡ is_on (plan_of plan.now) ring side phase }
 {
     plan.is_enabled(phase)
@@ -22,9 +23,7 @@ fn is_on(plan: &Plan, ring: Ring, side: u32, phase: Phase) -> bool
 pub(super) fn has_phases(plan: &Plan, ring: Ring, side: u32) -> bool
     ensures { result ≡ has_phases (plan_of plan.now) ring side }
 {
-    Phase::all()
-        .iter()
-        .any(|phase| is_on(plan, ring, side, *phase))
+    some_phase(plan, Sought::OnSide(ring, side))
 }
 
 /// What the phase adds to the ring's splits on the side.
@@ -80,11 +79,10 @@ pub(super) fn sides_sum(plan: &Plan, split: Split, last: u32) -> u32
 }
 
 /// Whether the rings that have phases on the side have one sum of splits there.
-pub(super) fn rings_agree(plan: &Plan, split: Split, side: Side) -> bool
+pub(super) fn rings_agree(plan: &Plan, split: Split, side: u32) -> bool
     ensures { result ≡ rings_agree (plan_of plan.now) split side }
 {
     let (first, second) = (Ring::of(1), Ring::of(2));
-    let side = u32::from(side.number());
     !(has_phases(plan, first, side) && has_phases(plan, second, side))
         || split_sum(plan, split, first, side) == split_sum(plan, split, second, side)
 }
@@ -95,14 +93,20 @@ fn split_before(plan: &Plan, split: Split, side: u32, number: u16) -> u32
     ensures range { result ≤ 2550 }
 {
     match Phase::new(u32::from(number)) {
-        Some(phase) => {
-            if plan.is_enabled(phase) && plan.side(phase) == side {
-                plan.split_time(split, phase)
-            } else {
-                0
-            }
-        }
+        Some(phase) => split_of_listed(plan, split, side, phase),
         None => 0,
+    }
+}
+
+/// The same of a phase.
+fn split_of_listed(plan: &Plan, split: Split, side: u32, phase: Phase) -> u32
+    ensures value { result ≡ split_before (plan_of plan.now) split side phase }
+    ensures range { result ≤ 2550 }
+{
+    if plan.is_enabled(phase) && plan.side(phase) == side {
+        plan.split_time(split, phase)
+    } else {
+        0
     }
 }
 
