@@ -53,8 +53,11 @@ would_not_clear = refl
 abbrev starts_at_99 : Phase → Phase
 starts_at_99 x = record x { timer = On 99 }
 
+abbrev all_at_99 : State → State
+all_at_99 s = record s { phases = λ p. starts_at_99 (s.phases p) }
+
 abbrev late : State
-late = record (at 21) { phases = λ p. starts_at_99 ((at 21).phases p) }
+late = all_at_99 (at 21)
 
 stays_yellow : interval (at 22) 2 ≡ Yellow
 unfolding opened two brisk

@@ -180,39 +180,39 @@ held_walk : held (λ s. is_walk (pedestrian_part s 2)) 5 ≡ 4
 unfolding opened two brisk
 held_walk = refl
 
-clears : pedestrian_part (at 15) 2 ≡ PedestrianClear
+clears : pedestrian_part (at 13) 2 ≡ PedestrianClear
 unfolding opened two brisk
 clears = refl
 
-tells_clearance : ((at 15).phases 2).pedestrian_timer ≡ On 4
+tells_clearance : ((at 13).phases 2).pedestrian_timer ≡ On 2
 unfolding opened two brisk
 tells_clearance = refl
 
-held_clearance : held (λ s. is_clearance (pedestrian_part s 2)) 15 ≡ 4
+held_clearance : held (λ s. is_clearance (pedestrian_part s 2)) 13 ≡ 2
 unfolding opened two brisk
 held_clearance = refl
 
-tells_green : ((at 20).phases 2).timer ≡ On 19
+tells_green : ((at 5).phases 2).timer ≡ On 4
 unfolding opened two brisk
 tells_green = refl
 
-held_green : held (λ s. is_green (interval s 2)) 20 ≡ 19
+held_green : held (λ s. is_green (interval s 2)) 5 ≡ 4
 unfolding opened two brisk
 held_green = refl
 
-tells_yellow : ((at 50).phases 2).timer ≡ On 29
+tells_yellow : ((at 23).phases 2).timer ≡ On 2
 unfolding opened two brisk
 tells_yellow = refl
 
-held_yellow : held (λ s. is_yellow (interval s 2)) 50 ≡ 29
+held_yellow : held (λ s. is_yellow (interval s 2)) 23 ≡ 2
 unfolding opened two brisk
 held_yellow = refl
 
-tells_red_clear : ((at 60).phases 2).timer ≡ On 9
+tells_red_clear : ((at 52).phases 2).timer ≡ On 1
 unfolding opened two brisk
 tells_red_clear = refl
 
-held_red_clear : held (λ s. is_red_clear (interval s 2)) 60 ≡ 9
+held_red_clear : held (λ s. is_red_clear (interval s 2)) 52 ≡ 1
 unfolding opened two brisk
 held_red_clear = refl
 
@@ -290,7 +290,7 @@ overlap_after : (display (at 51)).overlap 1 ≡ aspects.Red
 unfolding opened two brisk
 overlap_after = refl
 
-overlap_held : held (λ s. is_yellow_head ((display s).overlap 1)) 50 ≡ 29
+overlap_held : held (λ s. is_yellow_head ((display s).overlap 1)) 23 ≡ 2
 unfolding opened two brisk
 overlap_held = refl
 
