@@ -8,7 +8,7 @@ use tsb_text::faults::TOLD;
 use tsb_text::{LineFault, OnFault};
 
 /// The line that ended a strict record.
-#[derive(Clone, Copy, PartialEq, Eq)]
+#[derive(Clone, Copy)]
 pub struct FaultyLine {
     /// Its number, from 1 on. Lines that are skipped count too.
     pub number: u32,

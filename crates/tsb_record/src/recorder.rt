@@ -1,5 +1,5 @@
 //! A bench, with what the inputs that remain have told.
-ghost use Rattle.std.specs.Prelude.{◌≡◌, ◌+◌, ◌∷◌, ◌++◌, [], Err, List, take};
+ghost use Rattle.std.specs.Prelude.{◌≡◌, ◌+◌, ◌∷◌, ◌++◌, [], Err, List, take, IfSome};
 ghost use Rattle.tsb_bench.specs.Held.{whole};
 ghost use Rattle.tsb_bench.specs.tsb_machine.declared.commands.Command.TheVariants.{Apply};
 ghost use Rattle.tsb_step.specs.tsb_history.declared.kinds.Kind.TheVariants.{Tick};
@@ -11,7 +11,7 @@ ghost use Rattle.tsb_text.specs.Answers.{Setup};
 ghost use Rattle.tsb_record.specs.Leaves.{Asked, Does, Leaves, Steps};
 ghost use Rattle.tsb_record.specs.Told.{gone_back, nothing_told};
 ghost use Rattle.tsb_record.specs.declared.told.Mark.{Mark};
-ghost use Rattle.tsb_record.specs.Recording.{AreOfLog, Done, GoesBack, IsNoTick, IsWanting, Stands, Took, row_in_force};
+ghost use Rattle.tsb_record.specs.Recording.{AreOfLog, Done, GoesBack, IsChange, IsNoTick, IsWanting, Stands, Took, change_of, row_in_force};
 
 use crate::told::Told;
 use std::alloc::Global;
@@ -52,7 +52,9 @@ impl Recorder {
     pub(crate) fn into_events(self) -> Vec<Event>
         ensures { result.items ≡ self.told.told.events }
     {
-        self.told.into_events()
+        let Recorder { bench, told, .. } = self;
+        drop(bench);
+        told.into_events()
     }
 
     /// Carries out a line that reads so, and says what is wrong with it, if anything. It takes the rows of ticks from
@@ -76,23 +78,23 @@ impl Recorder {
         ensures { (given : Setup) (inputs : List InputValue) → Stands given log.now (whole self.old.bench) self.old.told.told inputs
             → Done result given log.now (whole self.new.bench) self.new.told.told (Leaves given inputs command) }
     {
-        match command {
-            Command::Step(ticks) => self.step(log, ticks),
-            Command::Show => None,
-            Command::Quit => None,
-            Command::When(_) => None,
-            Command::Back(ticks) => self.go_back(Cmd::Back(ticks)),
-            Command::Seek(tick) => self.go_back(Cmd::Seek(tick)),
-            Command::Undo => self.go_back(Cmd::Undo),
-            Command::Begin(station) => self.apply(log, Input::Begin(station)),
-            Command::Set(station, id, value) => self.apply(log, Input::Set(station, id, value)),
-            Command::Verify(station) => self.apply(log, Input::Verify(station)),
-            Command::Commit(station) => self.apply(log, Input::Commit(station)),
-            Command::Abort(station) => self.apply(log, Input::Abort(station)),
-            Command::Pattern(number) => self.apply(log, Input::Pattern(number)),
-            Command::Preempt(number, on) => self.apply(log, Input::Switch(number, on)),
-            Command::Fault(lamp) => self.apply(log, Input::Fault(lamp)),
-            Command::Reset => self.apply(log, Input::Reset),
+        if let Command::Step(ticks) = command {
+            return self.step(log, ticks);
+        }
+        match change_of(command) {
+            None => None,
+            Some(change) => self.change(log, change),
+        }
+    }
+
+    /// Applies an input that is no tick, or goes back, and says why the input was refused, where it was.
+    fn change(&mut self, log: &Log, change: Cmd) -> Option<Refusal>
+        ensures { (given : Setup) (inputs : List InputValue) → IsChange change → Stands given log.now (whole self.old.bench) self.old.told.told inputs
+            → Done result given log.now (whole self.new.bench) self.new.told.told (Asked given inputs change) }
+    {
+        match change {
+            Cmd::Apply(input) => self.apply(log, input),
+            _ => self.go_back(change),
         }
     }
 
@@ -131,7 +133,10 @@ impl Recorder {
     {
         let tick = self.bench.now();
         let last = row_in_force(tick, log, &mut self.place);
-        self.bench.apply_telling(input, &last, &mut self.news)?;
+        match self.bench.apply_telling(input, &last, &mut self.news) {
+            Ok(()) => {}
+            Err(refusal) => return Err(refusal),
+        }
         if self.told.add(&input, tick, &self.news).is_err() {
             let _ = self.bench.undo();
             return Err(Refusal::Memory);
@@ -155,6 +160,31 @@ impl Recorder {
             }
             _ => None,
         }
+    }
+}
+
+/// What a command asks of the bench, where it is one input, or goes back.
+fn change_of(command: Command) -> Option<Cmd>
+    ensures is { result ≡ change_of command }
+    ensures changes { IfSome result IsChange }
+{
+    match command {
+        Command::Back(ticks) => Some(Cmd::Back(ticks)),
+        Command::Seek(tick) => Some(Cmd::Seek(tick)),
+        Command::Undo => Some(Cmd::Undo),
+        Command::Begin(station) => Some(Cmd::Apply(Input::Begin(station))),
+        Command::Set(station, id, value) => Some(Cmd::Apply(Input::Set(station, id, value))),
+        Command::Verify(station) => Some(Cmd::Apply(Input::Verify(station))),
+        Command::Commit(station) => Some(Cmd::Apply(Input::Commit(station))),
+        Command::Abort(station) => Some(Cmd::Apply(Input::Abort(station))),
+        Command::Pattern(number) => Some(Cmd::Apply(Input::Pattern(number))),
+        Command::Preempt(number, on) => Some(Cmd::Apply(Input::Switch(number, on))),
+        Command::Fault(lamp) => Some(Cmd::Apply(Input::Fault(lamp))),
+        Command::Reset => Some(Cmd::Apply(Input::Reset)),
+        Command::Step(_) => None,
+        Command::Show => None,
+        Command::Quit => None,
+        Command::When(_) => None,
     }
 }
 

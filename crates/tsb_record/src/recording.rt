@@ -123,7 +123,10 @@ fn outcome_of(recorder: Recorder, stop: Option<FaultyLine>) -> Outcome
     ensures { IsOutcome result stop recorder.told.told.events }
 {
     match stop {
-        Some(line) => Outcome::Stopped(line),
+        Some(line) => {
+            drop(recorder);
+            Outcome::Stopped(line)
+        }
         None => Outcome::Events(recorder.into_events()),
     }
 }
@@ -167,6 +170,9 @@ pub fn record<R: Read, E: Write>(
     };
     match converse(&mut recording, COMMANDS, reader, errors) {
         Ok(()) => Ok(outcome_of(recording.recorder, recording.stop)),
-        Err(fault) => Err(session_fault(fault)),
+        Err(fault) => {
+            drop(recording);
+            Err(session_fault(fault))
+        }
     }
 }
