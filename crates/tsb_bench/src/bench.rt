@@ -141,7 +141,9 @@ impl Bench {
     pub fn power_up(alloc: Global, plan: Checked) -> Result<Bench, Refusal>
         ensures { MatchResult result (λ b. whole b ≡ record { state = start (checked_plan plan); records = [] }) (λ e. e ≡ Memory) }
     {
-        let cabinet = Cabinet::new(alloc, plan)?;
+        let Ok(cabinet) = Cabinet::new(alloc, plan) else {
+            return Err(Refusal::Memory);
+        };
         Ok(Bench {
             tick: 0,
             cabinet,
@@ -237,9 +239,9 @@ impl Bench {
             ≤ self.new.room + record_size (length (record_of input (state_of self.old) (state_of self.new)).entries)) }
     {
         if self.cabinet.passes(self.tick, &input) {
-            if self.history.reserve(0).is_err() {
+            let Ok(()) = self.history.reserve(0) else {
                 return Err(Refusal::Memory);
-            }
+            };
             self.tick += 1;
             self.history.push(Kind::Tick, &[]);
             return Ok(());
@@ -247,9 +249,9 @@ impl Bench {
         if let Some(refusal) = self.cabinet.refusal(self.tick, &input) {
             return Err(refusal);
         }
-        if self.history.reserve(most_cells(kind_of(&input))).is_err() {
+        let Ok(()) = self.history.reserve(most_cells(kind_of(&input))) else {
             return Err(Refusal::Memory);
-        }
+        };
         self.tick = work(
             &mut self.cabinet,
             &mut self.history,
@@ -349,8 +351,10 @@ impl Bench {
     pub fn clone_in(&self, alloc: Global) -> Result<Bench, Refusal>
         ensures { MatchResult result (λ b. whole b ≡ whole self.now) (λ e. e ≡ Memory) }
     {
-        let cabinet = self.cabinet.clone_in(alloc)?;
         let Ok(history) = self.history.clone_in(alloc) else {
+            return Err(Refusal::Memory);
+        };
+        let Ok(cabinet) = self.cabinet.clone_in(alloc) else {
             return Err(Refusal::Memory);
         };
         Ok(Bench {

@@ -66,7 +66,9 @@ impl Cabinet {
         ensures shut { IfOk result (λ c. IsShut c) }
         ensures passing { IfOk result (λ c. (tick : ℕ) → MayPass tick c) }
     {
-        let desk = Desk::new(alloc)?;
+        let Ok(desk) = Desk::new(alloc) else {
+            return Err(Refusal::Memory);
+        };
         Ok(Cabinet {
             plan,
             desk,
@@ -84,7 +86,9 @@ impl Cabinet {
         ensures shut { IfOk result (λ c. IsShut c) }
         ensures passing { IfOk result (λ c. (tick : ℕ) → MayPass tick c) }
     {
-        let desk = self.desk.clone_in(alloc)?;
+        let Ok(desk) = self.desk.clone_in(alloc) else {
+            return Err(Refusal::Memory);
+        };
         Ok(Cabinet {
             plan: self.plan,
             desk,

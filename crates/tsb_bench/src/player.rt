@@ -48,6 +48,22 @@ pub fn answer(bench: &mut Bench, command: Cmd) -> Answer
     }
 }
 
+/// Carries out commands in turn, and gives the answer to each. The only `Err` is `Refusal::Memory`: there was no memory
+/// for the answers.
+fn answer_all(alloc: Global, bench: &mut Bench, commands: &[Cmd]) -> Result<Vec<Answer>, Refusal>
+    ensures memory { IfErr result (λ e. e ≡ Memory) }
+    ensures done { IfOk result (λ answers. play.DoAll controller watched (whole bench.old) commands.now answers.items (whole bench.new)) }
+{
+    let mut answers = Vec::new(alloc);
+    for command in commands {
+        let answer = answer(bench, *command);
+        if answers.push(answer).is_err() {
+            return Err(Refusal::Memory);
+        }
+    }
+    Ok(answers)
+}
+
 /// Runs commands from power-up, and gives the bench then with the answer to each command. The only `Err` is
 /// `Refusal::Memory`: there was no memory for the desk or for the answers.
 pub fn play(alloc: Global, plan: Checked, commands: &[Cmd]) -> Result<(Bench, Vec<Answer>), Refusal>
@@ -71,14 +87,13 @@ pub fn play(alloc: Global, plan: Checked, commands: &[Cmd]) -> Result<(Bench, Ve
     // Two phases with right of way are concurrent in the plan in effect, in each of these states.
     ensures safe { IfOk result (λ r. (k : ℕ) → IsSafe (earlier (whole r.0) k).state) }
 {
-    let mut bench = Bench::power_up(alloc, plan)?;
-    let mut answers = Vec::new(alloc);
-    for command in commands {
-        let answer = answer(&mut bench, *command);
-        if answers.push(answer).is_err() {
-            return Err(Refusal::Memory);
-        }
-    }
+    let Ok(mut bench) = Bench::power_up(alloc, plan) else {
+        return Err(Refusal::Memory);
+    };
+    let Ok(answers) = answer_all(alloc, &mut bench, commands) else {
+        drop(bench);
+        return Err(Refusal::Memory);
+    };
     // What `now` promises of every bench holds of this one.
     let _tick = bench.now();
     Ok((bench, answers))

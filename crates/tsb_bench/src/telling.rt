@@ -187,7 +187,10 @@ impl Bench {
         }
         let tick = self.tick;
         let before = self.cabinet.before(tick);
-        self.apply(input)?;
+        match self.apply(input) {
+            Ok(()) => {}
+            Err(refusal) => return Err(refusal),
+        }
         self.cabinet
             .tell(&before, tick, self.tick, &input, last, events);
         Ok(())

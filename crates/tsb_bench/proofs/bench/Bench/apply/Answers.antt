@@ -87,7 +87,7 @@ pub invariant_of-self-2 : goal.invariant_of-self-2
 invariant_of-self-2 c = (
   c.work-self-inside.ensures.shut,
   sound-taken c.args.input c.self.inside.tick c.work-self-inside.result c.self.inside.cabinet c.work-self-inside.new.cabinet (all_changes (rows_of c.self.inside.cabinet) (rows_of c.work-self-inside.new.cabinet)) c.self.inside.history.records
-      c.work-self-inside.new.history.records c.self.invariant.1 (sym c.refusal.ensures ∙ no_refusal c.refusal.result c.in_default.not-Some) c.work-self-inside.ensures.done c.work-self-inside.ensures.next
+      c.work-self-inside.new.history.records c.self.invariant.1 (sym c.refusal.ensures ∙ no_refusal c.refusal.result c.in_default-refusal.not-Some) c.work-self-inside.ensures.done c.work-self-inside.ensures.next
       (c.work-self-inside.ensures.records ∙ ap (λ (rs : List Change). record { kind = kind_of c.args.input; entries = all_changes (rows_of c.self.inside.cabinet) (rows_of c.work-self-inside.new.cabinet) } ∷ rs) c.reserve-2.ensures.same),
   c.work-self-inside.ensures.passing,
 )
@@ -95,14 +95,14 @@ invariant_of-self-2 c = (
 pub returns-clause-records : goal.returns-clause-records
 returns-clause-records c =
     records-taken c.args.input c.self.inside.tick c.work-self-inside.result c.self.inside.cabinet c.work-self-inside.new.cabinet (all_changes (rows_of c.self.inside.cabinet) (rows_of c.work-self-inside.new.cabinet)) c.self.inside.history.records
-    c.work-self-inside.new.history.records c.self.invariant.1 (sym c.refusal.ensures ∙ no_refusal c.refusal.result c.in_default.not-Some) c.work-self-inside.ensures.done c.work-self-inside.ensures.next
+    c.work-self-inside.new.history.records c.self.invariant.1 (sym c.refusal.ensures ∙ no_refusal c.refusal.result c.in_default-refusal.not-Some) c.work-self-inside.ensures.done c.work-self-inside.ensures.next
     (c.work-self-inside.ensures.records ∙ ap (λ (rs : List Change). record { kind = kind_of c.args.input; entries = all_changes (rows_of c.self.inside.cabinet) (rows_of c.work-self-inside.new.cabinet) } ∷ rs) c.reserve-2.ensures.same)
     ∙ ap (λ (h : Held). record_of c.args.input (state_of h) (all_in c.work-self-inside.result (rows_of c.work-self-inside.new.cabinet)) ∷ h.records) c.self.view_is
 
 pub returns-clause-back : goal.returns-clause-back
 returns-clause-back c =
     back-taken c.args.input c.self.inside.tick c.work-self-inside.result c.self.inside.cabinet c.work-self-inside.new.cabinet (all_changes (rows_of c.self.inside.cabinet) (rows_of c.work-self-inside.new.cabinet)) c.self.inside.history.records
-    c.work-self-inside.new.history.records c.self.invariant.1 (sym c.refusal.ensures ∙ no_refusal c.refusal.result c.in_default.not-Some) c.work-self-inside.ensures.done c.work-self-inside.ensures.next
+    c.work-self-inside.new.history.records c.self.invariant.1 (sym c.refusal.ensures ∙ no_refusal c.refusal.result c.in_default-refusal.not-Some) c.work-self-inside.ensures.done c.work-self-inside.ensures.next
     (c.work-self-inside.ensures.records ∙ ap (λ (rs : List Change). record { kind = kind_of c.args.input; entries = all_changes (rows_of c.self.inside.cabinet) (rows_of c.work-self-inside.new.cabinet) } ∷ rs) c.reserve-2.ensures.same)
     ∙ ap whole c.self.view_is
 

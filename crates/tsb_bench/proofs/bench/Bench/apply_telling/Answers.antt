@@ -22,12 +22,12 @@ tell-requires-clause-was c = (
   rows_of c.self.inside.cabinet,
   c.before-before.ensures,
   (sound-held _ _ _ c.self.invariant.1).by,
-  ap (λ (h : Held). verdict (state_of h) c.args.input) c.self.view_is ∙ c.in_ok-apply.ensures.allowed,
-  ap (λ (h : Held). state_of h) c.self-2.view_is ∙ c.in_ok-apply.ensures.state ∙ ap (λ (h : Held). step (state_of h) c.args.input) (sym c.self.view_is),
+  ap (λ (h : Held). verdict (state_of h) c.args.input) c.self.view_is ∙ c.in-Ok.ensures.allowed,
+  ap (λ (h : Held). state_of h) c.self-2.view_is ∙ c.in-Ok.ensures.state ∙ ap (λ (h : Held). step (state_of h) c.args.input) (sym c.self.view_is),
 )
 
 pub returns-clause-told : goal.returns-clause-told
 returns-clause-told c =
     c.tell.ensures (rows_of c.self.inside.cabinet) c.before-before.ensures (sound-held _ _ _ c.self.invariant.1).by
-    (ap (λ (h : Held). state_of h) c.self-2.view_is ∙ c.in_ok-apply.ensures.state ∙ ap (λ (h : Held). step (state_of h) c.args.input) (sym c.self.view_is))
+    (ap (λ (h : Held). state_of h) c.self-2.view_is ∙ c.in-Ok.ensures.state ∙ ap (λ (h : Held). step (state_of h) c.args.input) (sym c.self.view_is))
     ∙ ap (λ (h : Held). events_of c.args.last.now (state_of h) c.args.input) c.self.view_is

@@ -8,11 +8,11 @@ use Rattle.tsb_bench.proofs.bench.Bench.power_up.Goals as goal
 pub invariant_of-result : goal.invariant_of-result
 unfolding checked_plan
 invariant_of-result c = (
-  c.in_ok-cabinet.ensures.shut,
-  sound-start (rows_of c.in_ok-cabinet.cabinet) c.new-2.result.records c.in_ok-cabinet.ensures.by c.in_ok-cabinet.cabinet.plan.plan.ranged
-      c.in_ok-cabinet.cabinet.desk.row.sound (subst IsGood (sym c.in_ok-cabinet.ensures.state) (good-start c.args.plan)) c.new-2.ensures.records,
-  c.in_ok-cabinet.ensures.passing 0,
+  c.in-Ok.ensures.shut,
+  sound-start (rows_of c.in-Ok.cabinet) c.new-2.result.records c.in-Ok.ensures.by c.in-Ok.cabinet.plan.plan.ranged
+      c.in-Ok.cabinet.desk.row.sound (subst IsGood (sym c.in-Ok.ensures.state) (good-start c.args.plan)) c.new-2.ensures.records,
+  c.in-Ok.ensures.passing 0,
 )
 
 pub returns : goal.returns
-returns c = λ i. record { state = c.in_ok-cabinet.ensures.state i; records = c.new-2.ensures.records i }
+returns c = λ i. record { state = c.in-Ok.ensures.state i; records = c.new-2.ensures.records i }
