@@ -1,5 +1,5 @@
 -- What ends the greens that a tick ends, over the controller's rows as they were before it.
-use Rattle.std.specs.Prelude.{◌≡◌, ℕ, ◌-◌, ◌==◌, Bool, ◌&&◌, ◌||◌, List, Option, Some, is_none}
+use Rattle.std.specs.Prelude.{◌≡◌, ℕ, ◌-◌, ◌≤◌, ◌==◌, Bool, ◌&&◌, ◌||◌, List, Option, Some, is_none}
 use Rattle.tsb_step.specs.tsb_types.declared.lamp.Lamp.{Lamp}
 use Rattle.tsb_step.specs.tsb_types.declared.phase_set.PhaseSet.{PhaseSet}
 use Rattle.tsb_step.specs.tsb_types.declared.row.Row.{Row}
@@ -11,6 +11,7 @@ use Rattle.tsb_phase.specs.declared.cause.Cause.{Cause}
 use Rattle.tsb_phase.specs.declared.cause.Cause.TheVariants.{ForceOff, Gap, Maximum}
 use Rattle.tsb_phase.specs.declared.conditions.Conditions.{Conditions}
 use Rattle.tsb_phase.specs.Causes.{cause}
+use Rattle.tsb_phase.specs.Cells.{phase_in}
 use Rattle.tsb_phase.specs.Pedestrian.{ended_by}
 use Rattle.tsb_phase.specs.Promises.{given_of, read_in}
 use Rattle.tsb_preempt.specs.Preempts.{has_been_served}
@@ -36,6 +37,10 @@ pub record AreCausesOf (test : ℕ → Bool) (found : ℕ → Option Cause) (res
 abbrev pub AreFound : ℕ → PhaseSet → Conditions → Plan → List ℕ → Causes → Type 0
 AreFound now ended conditions plan row result =
     AreCausesOf (has ended) (λ p. cause plan (given_of conditions) p (read_in now row p)) result
+
+-- the phases that are Green, and in a set, at whatever tick
+abbrev pub TellsEnded : PhaseSet → Rows → PhaseSet → Type 0
+TellsEnded yellow rows result = (now p : ℕ) → 1 ≤ p → p ≤ 16 → has result p ≡ (is_green (phase_in now rows.phases p).interval && has yellow p)
 
 -- it was Green, is Yellow after the tick, and no preempt asked for its end
 abbrev pub ends_by_itself : State → Row → PhaseSet → ℕ → Bool

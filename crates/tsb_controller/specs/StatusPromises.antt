@@ -13,6 +13,7 @@ use Rattle.tsb_coord.specs.Coordinated.{force_off, local}
 use Rattle.tsb_phase.specs.Cells.{phase_in}
 use Rattle.tsb_ring.specs.Rings.{Ring, Ring1, Ring2, ring_numbered}
 use Rattle.tsb_step.specs.declared.status.PreemptState.{PreemptState}
+use Rattle.tsb_step.specs.declared.status.PreemptState.TheVariants.{NotActive}
 use Rattle.tsb_step.specs.declared.waits.Wait.{Wait}
 use Rattle.tsb_step.specs.Cells.{clock_at}
 use Rattle.tsb_step.specs.Events.{is_overlap, shown_interval, view}
@@ -38,7 +39,9 @@ use Rattle.tsb_status.specs.RingFound.{IsFound, IsPhaseFound}
 use Rattle.tsb_status.specs.TimesFound.{IsGreenFound}
 use Rattle.tsb_status.specs.WaitFound.{IsAround, IsInService, IsNext, IsRing}
 use Rattle.tsb_controller.specs.declared.found.RingTold.{RingTold}
+use Rattle.tsb_controller.specs.declared.found.RingsTold.{RingsTold}
 use Rattle.tsb_controller.specs.declared.status.Beside.{Beside as Told}
+use Rattle.tsb_controller.specs.declared.status.PatternTold.{PatternTold}
 use Rattle.tsb_controller.specs.declared.status.Sets.{Sets}
 use Rattle.tsb_controller.specs.declared.waits.WaitsFound.{WaitsFound}
 use Rattle.tsb_controller.specs.Rows.{Rows, Beside, state_of}
@@ -83,6 +86,15 @@ pub record IsToldRing (s : State) (r : Ring) (x : RingTold) : Type 0 where
 abbrev pub TellsRing : ℕ → Plan → Rows → ℕ → RingTold → Type 0
 TellsRing clock plan rows r result = (now : ℕ) (b : Beside) → b.plan ≡ plan → clock_at now b.trip ≡ clock →
     IsToldRing (state_of now b rows) (ring_numbered r) result
+
+-- both rings, in a state
+pub record AreToldRings (s : State) (x : RingsTold) : Type 0 where
+  pub first : IsToldRing s Ring1 x.first
+  pub second : IsToldRing s Ring2 x.second
+
+-- at whatever tick
+abbrev pub TellsRings : ℕ → Plan → Rows → RingsTold → Type 0
+TellsRings clock plan rows result = (now : ℕ) (b : Beside) → b.plan ≡ plan → clock_at now b.trip ≡ clock → AreToldRings (state_of now b rows) result
 
 -- a ring that is told, as waits need it
 abbrev pub TellsRingFound : ℕ → Plan → Rows → RingTold → RingFound → Type 0
@@ -146,6 +158,11 @@ TellsWaitIn waiting found clock plan rows p result = (now : ℕ) (b : Beside) �
 abbrev pub AreWaits : NumberSet → WaitsFound → ℕ → Plan → Rows → List (Option Wait) → Type 0
 AreWaits waiting found clock plan rows result = (p : ℕ) → 1 ≤ p → p ≤ 16 → TellsWaitIn waiting found clock plan rows p (get_or result (p - 1) None)
 
+-- each phase in turn, where both rings are told
+abbrev pub AreWaitsOf : NumberSet → RingsTold → Told → Plan → Rows → List (Option Wait) → Type 0
+AreWaitsOf waiting rings told plan rows result = (b : Beside) → StandsBeside plan told b → AreToldRings (state_of told.tick b rows) rings →
+    (p : ℕ) → 1 ≤ p → p ≤ 16 → get_or result (p - 1) None ≡ (if has_number waiting p then wait (state_of told.tick b rows) p else None)
+
 -- ## Sets
 
 -- the sets of a state
@@ -169,6 +186,23 @@ preempt_by called (Some (m, k)) n = if m == n then state_in k else idle_state ca
 -- at whatever tick
 abbrev pub TellsPreempt : Rows → ℕ → PreemptState → Type 0
 TellsPreempt rows n result = (now : ℕ) (b : Beside) → result ≡ preempt_state (state_of now b rows) (stage (state_of now b rows)) n
+
+-- of each preempt in turn
+abbrev pub TellsPreempts : Rows → List PreemptState → Type 0
+TellsPreempts rows result = (n : ℕ) → 1 ≤ n → n ≤ 4 → TellsPreempt rows n (get_or result (n - 1) NotActive)
+
+-- ## The pattern that runs
+
+-- what is told of it, in a state
+pub record IsToldPattern (s : State) (x : PatternTold) : Type 0 where
+  pub number : x.number ≡ (status s).pattern
+  pub free : x.free ≡ (status s).free
+  pub local : x.local ≡ (status s).local
+  pub sync : x.sync ≡ (status s).sync
+
+-- at tick number `now`
+abbrev pub TellsPattern : ℕ → Plan → Rows → PatternTold → Type 0
+TellsPattern now plan rows result = (b : Beside) → b.plan ≡ plan → IsToldPattern (state_of now b rows) result
 
 -- ## All
 

@@ -10,7 +10,7 @@ ghost use Rattle.tsb_phase.specs.Pedestrian.{ended_by};
 ghost use Rattle.tsb_phase.specs.Promises.{given_of};
 ghost use Rattle.tsb_preempt.specs.Cells as preempts;
 ghost use Rattle.tsb_step.specs.Step.{last_tick};
-ghost use Rattle.tsb_controller.specs.Causes.{AreFound, TellsCauses, TellsServed, with_cause};
+ghost use Rattle.tsb_controller.specs.Causes.{AreFound, TellsCauses, TellsEnded, TellsServed, with_cause};
 ghost use Rattle.tsb_controller.specs.Rows.{AreBy};
 
 use crate::controller::Controller;
@@ -95,6 +95,13 @@ fn causes_of(
 impl Controller {
     ghost use Rattle.tsb_controller.specs.Layer.{rows_of, IsClosed};
 
+    /// The phases that are Green, and `yellow` after the tick.
+    fn ended(&self, yellow: PhaseSet) -> PhaseSet
+        ensures { TellsEnded yellow (rows_of self.now) result }
+    {
+        self.phases.intervals().green.intersection(yellow)
+    }
+
     /// What ended the greens that tick `now` ended, where no preempt did: those of phases that are Green, and `yellow`
     /// after the tick. It is asked of a controller that has not tripped, as it was before the tick, with the inputs of
     /// `row` on in it.
@@ -105,7 +112,7 @@ impl Controller {
         requires by { AreBy (now - 1) (rows_of self.now) }
         ensures { TellsCauses now row.now yellow (checked_plan plan.now) (rows_of self.now) result }
     {
-        let ended = self.phases.intervals().green.intersection(yellow);
+        let ended = self.ended(yellow);
         if ended.is_empty() {
             return Causes::none();
         }

@@ -6,7 +6,7 @@ ghost use Rattle.tsb_coord.specs.Cells as coord;
 ghost use Rattle.tsb_coord.specs.Cells.{pattern_in};
 ghost use Rattle.tsb_ring.specs.Cells as rings;
 ghost use Rattle.tsb_step.specs.tsb_plan.Running.{is_coordinated_now, running};
-ghost use Rattle.tsb_controller.specs.StatusPromises.{TellsGreenFound, TellsInService, TellsNext, TellsPhaseFound, TellsRing, TellsRingFound, TellsServed, TellsUnwanted};
+ghost use Rattle.tsb_controller.specs.StatusPromises.{TellsGreenFound, TellsInService, TellsNext, TellsPhaseFound, TellsRing, TellsRingFound, TellsRings, TellsServed, TellsUnwanted};
 
 use crate::controller::Controller;
 use tsb_objects::{Checked, Phase, PhaseSet, Ring};
@@ -20,6 +20,15 @@ pub(crate) struct RingTold {
     pub(crate) served: Option<PhaseFound>,
     /// The phase that it starts next.
     pub(crate) next: Option<Phase>,
+}
+
+/// Both rings as they are told.
+#[derive(Clone, Copy)]
+pub(crate) struct RingsTold {
+    /// Ring 1.
+    pub(crate) first: RingTold,
+    /// Ring 2.
+    pub(crate) second: RingTold,
 }
 
 impl Controller {
@@ -122,6 +131,20 @@ impl Controller {
         RingTold {
             served: self.served(r, clock, plan),
             next: self.rings.commitment(r),
+        }
+    }
+
+    /// Both rings.
+    pub(crate) fn rings_told(&self, clock: u32, plan: &Checked) -> RingsTold
+        requires fits { clock + 1 < 2 ^ 32 }
+        requires calls_by { calls.IsBy (rows_of self.now).calls }
+        requires rings_by { rings.IsBy (rows_of self.now).rings }
+        requires pattern_by { coord.IsBy (rows_of self.now).pattern }
+        ensures { TellsRings clock (checked_plan plan.now) (rows_of self.now) result }
+    {
+        RingsTold {
+            first: self.ring_told(Ring::of(1), clock, plan),
+            second: self.ring_told(Ring::of(2), clock, plan),
         }
     }
 

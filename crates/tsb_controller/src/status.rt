@@ -1,5 +1,5 @@
 //! The status of the controller, by the names of NTCIP 1202's status objects.
-ghost use Rattle.std.specs.Prelude.{◌≡◌, ◌≤◌, ◌||◌, ◌%◌, ℕ, true, option_map, if◌then◌else◌, IfSome};
+ghost use Rattle.std.specs.Prelude.{◌≡◌, ◌≤◌, ◌||◌, ◌%◌, [], ◌∷◌, ℕ, true, option_map, if◌then◌else◌, IfSome};
 ghost use Rattle.tsb_objects.specs.Checked.{checked_plan};
 ghost use Rattle.tsb_coord.specs.Cells as coord;
 ghost use Rattle.tsb_ring.specs.Cells as rings;
@@ -11,14 +11,13 @@ ghost use Rattle.tsb_step.specs.declared.status.FlashStatus.TheVariants.{Mmu, No
 ghost use Rattle.tsb_step.specs.Status.{free_status, idle_state, state_in};
 ghost use Rattle.tsb_step.specs.Step.{last_tick};
 ghost use Rattle.tsb_controller.specs.Rows.{AreBy};
-ghost use Rattle.tsb_controller.specs.StatusPromises.{TellsPreempt, TellsSets, TellsStatus, force_off_by, preempt_by, ring_status_by};
+ghost use Rattle.tsb_controller.specs.StatusPromises.{TellsPattern, TellsPreempt, TellsPreempts, TellsSets, TellsStatus, force_off_by, preempt_by, ring_status_by};
 
 use crate::controller::Controller;
-use crate::found::RingTold;
+use crate::found::{RingTold, RingsTold};
 use crate::seen::numbers;
-use crate::waits::WaitsFound;
 use tsb_events::Seen;
-use tsb_objects::{Checked, Interval, NumberSet, Pattern, Phase, Preempt, Ring, Stage, Station};
+use tsb_objects::{Checked, Interval, NumberSet, Pattern, Preempt, Stage, Station};
 use tsb_status::{PhaseFound, RingStatus, Status, ring};
 use tsb_step::{FlashStatus, FreeStatus, PreemptState};
 use tsb_transact::DeskState;
@@ -54,15 +53,28 @@ pub(crate) struct Sets {
     waiting: NumberSet,
 }
 
-/// The set of two phases, of one, or of none.
-fn nexts(first: Option<Phase>, second: Option<Phase>) -> NumberSet
-    ensures { (n : ℕ) → has_number result n ≡ (is n first || is n second) }
+/// What is told of the pattern that runs.
+#[derive(Clone, Copy)]
+pub(crate) struct PatternTold {
+    /// Its number, or `FREE`.
+    number: u8,
+    /// Why no pattern runs.
+    free: FreeStatus,
+    /// The local counter.
+    local: Option<u32>,
+    /// Where its clock is.
+    sync: Option<u32>,
+}
+
+/// The phases that the rings start next.
+fn nexts(rings: &RingsTold) -> NumberSet
+    ensures { (n : ℕ) → has_number result n ≡ (is n rings.now.first.next || is n rings.now.second.next) }
 {
     let mut set = NumberSet::empty();
-    if let Some(phase) = first {
+    if let Some(phase) = rings.first.next {
         set = set.with(phase.number(), true);
     }
-    if let Some(phase) = second {
+    if let Some(phase) = rings.second.next {
         set = set.with(phase.number(), true);
     }
     set
@@ -178,6 +190,33 @@ impl Controller {
         preempt_by(self.preempts.is_called(n), &self.preempts.stage(), n)
     }
 
+    /// `preemptState` of each preempt in turn.
+    fn preempt_states(&self) -> [PreemptState; 4]
+        ensures { TellsPreempts (rows_of self.now) result }
+    {
+        [
+            self.preempt_state(Preempt::of(1)),
+            self.preempt_state(Preempt::of(2)),
+            self.preempt_state(Preempt::of(3)),
+            self.preempt_state(Preempt::of(4)),
+        ]
+    }
+
+    /// What is told of the pattern that runs, at tick number `now`.
+    fn pattern_told(&self, now: u32, plan: &Checked) -> PatternTold
+        requires pattern_by { coord.IsBy (rows_of self.now).pattern }
+        requires in_time { now ≤ last_tick }
+        ensures { TellsPattern now (checked_plan plan.now) (rows_of self.now) result }
+    {
+        let runs = self.coord.running(plan);
+        PatternTold {
+            number: number_of(&runs),
+            free: free_status(&runs, self.coord.pattern()),
+            local: self.coord.local(now, plan),
+            sync: sync(&runs, now, plan),
+        }
+    }
+
     /// Until the local counter is at the force-off instant of a green in a pattern, at tick number `now`.
     fn force_off_in(&self, served: &Option<PhaseFound>, now: u32, plan: &Checked) -> Option<u32>
         requires pattern_by { coord.IsBy (rows_of self.now).pattern }
@@ -207,6 +246,19 @@ impl Controller {
         ring(plan, told.next, &served, force_off_in)
     }
 
+    /// The statuses of both rings.
+    fn ring_statuses(&self, told: &RingsTold, beside: &Beside, plan: &Checked) -> [RingStatus; 2]
+        requires pattern_by { coord.IsBy (rows_of self.now).pattern }
+        requires in_time { beside.now.tick ≤ last_tick }
+        ensures { result ≡ ring_status_by (checked_plan plan.now) beside.now (rows_of self.now) told.now.first
+            ∷ ring_status_by (checked_plan plan.now) beside.now (rows_of self.now) told.now.second ∷ [] }
+    {
+        [
+            self.ring_status(&told.first, beside, plan),
+            self.ring_status(&told.second, beside, plan),
+        ]
+    }
+
     /// The status of the controller. It takes no memory.
     pub fn status(&self, beside: &Beside, plan: &Checked) -> Status
         requires by { AreBy beside.now.clock (rows_of self.now) }
@@ -216,14 +268,8 @@ impl Controller {
     {
         let seen = self.view(beside.tripped, plan);
         let sets = self.sets(&seen, plan);
-        let first = self.ring_told(Ring::of(1), beside.clock, plan);
-        let second = self.ring_told(Ring::of(2), beside.clock, plan);
-        let found = WaitsFound {
-            first: self.ring_found(&first, beside.clock, plan),
-            second: self.ring_found(&second, beside.clock, plan),
-            around: self.around(beside.tripped, plan),
-        };
-        let runs = self.coord.running(plan);
+        let rings = self.rings_told(beside.clock, plan);
+        let pattern = self.pattern_told(beside.tick, plan);
         Status {
             now: beside.tick,
             reds: sets.reds,
@@ -235,30 +281,22 @@ impl Controller {
             vehicle_calls: seen.vehicle_calls,
             pedestrian_calls: seen.pedestrian_calls,
             phase_ons: sets.phase_ons,
-            phase_nexts: nexts(first.next, second.next),
+            phase_nexts: nexts(&rings),
             overlap_reds: sets.overlap_reds,
             overlap_yellows: seen.overlap_yellows,
             overlap_greens: seen.overlap_greens,
             active: self.detectors.outputs(),
             alarms: seen.alarms,
-            preempts: [
-                self.preempt_state(Preempt::of(1)),
-                self.preempt_state(Preempt::of(2)),
-                self.preempt_state(Preempt::of(3)),
-                self.preempt_state(Preempt::of(4)),
-            ],
-            pattern: number_of(&runs),
-            free: free_status(&runs, self.coord.pattern()),
-            local: self.coord.local(beside.tick, plan),
-            sync: sync(&runs, beside.tick, plan),
+            preempts: self.preempt_states(),
+            pattern: pattern.number,
+            free: pattern.free,
+            local: pattern.local,
+            sync: pattern.sync,
             flash: flash(beside.tripped),
             owner: beside.owner,
             desk: beside.desk,
-            rings: [
-                self.ring_status(&first, beside, plan),
-                self.ring_status(&second, beside, plan),
-            ],
-            waits: self.waits(sets.waiting, &found, beside.clock, plan),
+            rings: self.ring_statuses(&rings, beside, plan),
+            waits: self.waits_of(sets.waiting, &rings, beside, plan),
         }
     }
 }

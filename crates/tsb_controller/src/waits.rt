@@ -5,9 +5,11 @@ ghost use Rattle.tsb_coord.specs.Cells as coord;
 ghost use Rattle.tsb_coord.specs.Cells.{pattern_in};
 ghost use Rattle.tsb_ring.specs.Cells as rings;
 ghost use Rattle.tsb_step.specs.tsb_plan.Running.{is_omitted_now, running};
-ghost use Rattle.tsb_controller.specs.StatusPromises.{AreWaits, TellsAround, TellsService, TellsWait, TellsWaitIn};
+ghost use Rattle.tsb_controller.specs.StatusPromises.{AreWaits, AreWaitsOf, TellsAround, TellsService, TellsWait, TellsWaitIn};
 
 use crate::controller::Controller;
+use crate::found::RingsTold;
+use crate::status::Beside;
 use tsb_objects::{Checked, NumberSet, Phase};
 use tsb_preempt::stage_phases;
 use tsb_status::found::Service;
@@ -116,5 +118,26 @@ impl Controller {
             waits[k] = self.wait_in(waiting, p, found, clock, plan);
         }
         waits
+    }
+
+    /// What each phase of a set waits for, by both rings as they are told; none of any other.
+    pub(crate) fn waits_of(
+        &self,
+        waiting: NumberSet,
+        told: &RingsTold,
+        beside: &Beside,
+        plan: &Checked,
+    ) -> [Option<Wait>; 16]
+        requires fits { beside.now.clock + 1 < 2 ^ 32 }
+        requires rings_by { rings.IsBy (rows_of self.now).rings }
+        requires pattern_by { coord.IsBy (rows_of self.now).pattern }
+        ensures { AreWaitsOf waiting told.now beside.now (checked_plan plan.now) (rows_of self.now) result }
+    {
+        let found = WaitsFound {
+            first: self.ring_found(&told.first, beside.clock, plan),
+            second: self.ring_found(&told.second, beside.clock, plan),
+            around: self.around(beside.tripped, plan),
+        };
+        self.waits(waiting, &found, beside.clock, plan)
     }
 }

@@ -21,7 +21,7 @@ use Rattle.tsb_controller.specs.Layer.{rows_of}
 use Rattle.tsb_controller.specs.Rows.{Rows, state_of, untripped}
 use Rattle.tsb_controller.proofs.EndingLemmas.{by-alike, cause-alike, causes-alike}
 use Rattle.tsb_controller.proofs.PlacedLemmas.{placed}
-use Rattle.tsb_controller.proofs.TickLemmas.{green-set, phases_alike, told}
+use Rattle.tsb_controller.proofs.TickLemmas.{phases_alike, told}
 use Rattle.tsb_controller.proofs.controller.Controller.causes.Goals as goal
 
 -- three tests, of which the first two were found together
@@ -34,8 +34,8 @@ returns c desk lamp =
     causes-alike (has c.free_of-free.result) (ends_by_itself s c.args.row.now c.args.yellow)
     (λ p. cause plan (given_of conditions) p (read_in c.args.now (cells_of c.args.self.now.phases) p)) (λ p. cause plan (phases_given s c.args.row.now) p (phase_read s p)) c.causes_of.result
     (λ p from to. c.free_of-free.ensures p
-    ∙ all-three (has c.intersection-ended.result p) (has c.intervals.result.green p) (has c.args.yellow p) (is_none (ended_by (given_of conditions) p)) (is_green (interval s p)) (is_none (ended_by (phases_given s c.args.row.now) p))
-    (c.intersection-ended.ensures p) (green-set c.intervals.result p ∙ ap is_green (c.intervals.ensures (c.args.now - 1) p from to)) (by-alike (given_of conditions) (phases_given s c.args.row.now) p from to alike))
+    ∙ all-three (has c.ended-ended.result p) (is_green (interval s p)) (has c.args.yellow p) (is_none (ended_by (given_of conditions) p)) (is_green (interval s p)) (is_none (ended_by (phases_given s c.args.row.now) p))
+    (c.ended-ended.ensures (c.args.now - 1) p from to) refl (by-alike (given_of conditions) (phases_given s c.args.row.now) p from to alike))
     (λ p from to on. cause-alike plan (given_of conditions) (phases_given s c.args.row.now) p (phase_read s p) from to alike (same p from to)
     (and_parts (is_green (interval s p)) (has c.args.yellow p && is_none (ended_by (phases_given s c.args.row.now) p)) on).0)
     c.causes_of.ensures

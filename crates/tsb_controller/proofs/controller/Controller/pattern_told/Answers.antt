@@ -1,0 +1,26 @@
+use Rattle.std.proofs.Common.{◌≡◌, ◌∙◌, ◌%◌, ℕ, Option, option_map, sym, ap, ap₂}
+use Rattle.tsb_step.specs.tsb_types.declared.event.TheConstants.{FREE}
+use Rattle.tsb_step.specs.tsb_types.Lists.{or_number}
+use Rattle.tsb_step.specs.tsb_plan.Parts.{cycle}
+use Rattle.tsb_step.specs.tsb_plan.Plan.{Plan}
+use Rattle.tsb_step.specs.tsb_plan.Running.{running}
+use Rattle.tsb_coord.specs.Cells.{pattern_in}
+use Rattle.tsb_coord.specs.Coordinated.{local}
+use Rattle.tsb_step.specs.Status.{free_status, status}
+use Rattle.tsb_step.specs.Tick.{runs}
+use Rattle.tsb_controller.specs.Layer.{rows_of}
+use Rattle.tsb_controller.specs.Rows.{state_of}
+use Rattle.tsb_controller.proofs.controller.Controller.pattern_told.Goals as goal
+
+pub returns : goal.returns
+unfolding status
+returns c b same =
+    let rows = rows_of c.args.self.now in
+    let running_now : c.running-runs.result ≡ runs (state_of c.args.now b rows) = c.running-runs.ensures.runs ∙ ap (λ (y : Plan). running y (pattern_in rows.pattern)) (sym same) in
+    record {
+      number = c.number_of.ensures ∙ ap (λ (o : Option ℕ). or_number o FREE) running_now;
+      free = c.free_status.ensures ∙ ap₂ free_status running_now c.pattern.ensures;
+      local = c.local.ensures ∙ ap (λ (y : Plan). local y c.args.now (pattern_in rows.pattern)) (sym same);
+      sync = c.sync.ensures ∙ ap (λ (y : Plan). option_map (λ n. c.args.now % cycle y n) c.running-runs.result) (sym same)
+          ∙ ap (λ (o : Option ℕ). option_map (λ n. c.args.now % cycle b.plan n) o) running_now;
+    }
