@@ -11,7 +11,7 @@ use tsb_log_text::LogRow;
 use tsb_types::{Detector, PedestrianDetector, Preempt, Row};
 
 /// One of the inputs that a row has.
-#[derive(Clone, Copy, PartialEq, Eq)]
+#[derive(Clone, Copy)]
 pub enum RowInput {
     /// A vehicle detector.
     Vehicle(Detector),

@@ -5,7 +5,7 @@ use tsb_kept::RowInput;
 use tsb_types::Row;
 
 /// What a live session can be told to do, beside a tick with inputs of its own.
-#[derive(Clone, Copy, PartialEq, Eq)]
+#[derive(Clone, Copy)]
 pub enum LiveCommand {
     /// A command of `tsb run`: the same as there.
     Session(Command),
@@ -28,7 +28,7 @@ pub enum LiveCommand {
 }
 
 /// What a line asks of a live session.
-#[derive(Clone, Copy, PartialEq, Eq)]
+#[derive(Clone, Copy)]
 pub enum LiveReading {
     /// Nothing: the line is blank or a comment.
     Skip,
