@@ -31,7 +31,7 @@ const PROGRAM: Program = Program {
 };
 
 /// What the words ask for.
-#[derive(Clone, Copy, PartialEq, Eq)]
+#[derive(Clone, Copy)]
 pub enum Asked<'a> {
     /// To judge the plan in this file.
     Check(&'a str),
@@ -49,8 +49,10 @@ pub enum Asked<'a> {
 pub fn read_words<'a, S: AsStr>(alloc: Global, words: &'a [S]) -> Result<Asked<'a>, WordsError>
     ensures { Spells (map S.text words.now) result }
 {
-    let matches = matches_of(alloc, &PROGRAM, words)?;
-    asked_of(&matches)
+    match matches_of(alloc, &PROGRAM, words) {
+        Ok(matches) => asked_of(&matches),
+        Err(error) => Err(error),
+    }
 }
 
 /// What the subcommand that was met asks for, with the files that were named.

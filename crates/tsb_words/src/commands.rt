@@ -1,7 +1,7 @@
 //! The commands of the programs, as tables, and how `clap` is told of them.
-ghost use Rattle.std.specs.Prelude.{◌≡◌, IfOk, Some, false};
+ghost use Rattle.std.specs.Prelude.{◌≡◌, IfOk, false};
 ghost use Rattle.clap.specs.Words.{app_of, rule_of, with_subcommand};
-ghost use Rattle.tsb_words.specs.Commands.{IsLeaf, app_of_program, app_over, file_rule, leaf_shape, option_rule, required_rule, rule_of_argument};
+ghost use Rattle.tsb_words.specs.Commands.{IsLeaf, app_of_program, app_over, leaf_shape, option_rule, rule_of_argument};
 
 use clap::{Arg, ArgAction, Command};
 use std::alloc::{AllocError, Global};
@@ -101,20 +101,12 @@ fn arg<'a>(alloc: Global, argument: &Argument) -> Arg<'a>
     ensures own { result.global ≡ false }
 {
     match *argument {
-        Argument::File(name) => file(alloc, name),
+        Argument::File(name) => Arg::new(alloc, name).required(true),
         Argument::Optional(name) => option(alloc, name),
-        Argument::Required(name) => required(alloc, name),
-        Argument::Flag(name) => option_with(alloc, name, ArgAction::SetTrue),
-        Argument::Repeated(name) => option_with(alloc, name, ArgAction::Append),
+        Argument::Required(name) => option(alloc, name).required(true),
+        Argument::Flag(name) => option(alloc, name).action(ArgAction::SetTrue),
+        Argument::Repeated(name) => option(alloc, name).action(ArgAction::Append),
     }
-}
-
-/// A file that has to be named.
-fn file<'a>(alloc: Global, name: &'a str) -> Arg<'a>
-    ensures rule { rule_of result ≡ file_rule name.now }
-    ensures own { result.global ≡ false }
-{
-    Arg::new(alloc, name).required(true)
 }
 
 /// An option with one value, that may come once.
@@ -123,20 +115,4 @@ fn option<'a>(alloc: Global, name: &'a str) -> Arg<'a>
     ensures own { result.global ≡ false }
 {
     Arg::new(alloc, name).long(name)
-}
-
-/// An option that has to come.
-fn required<'a>(alloc: Global, name: &'a str) -> Arg<'a>
-    ensures rule { rule_of result ≡ required_rule name.now }
-    ensures own { result.global ≡ false }
-{
-    option(alloc, name).required(true)
-}
-
-/// An option or a flag with this action.
-fn option_with<'a>(alloc: Global, name: &'a str, action: ArgAction) -> Arg<'a>
-    ensures rule { rule_of result ≡ record (option_rule name.now) { action = Some action } }
-    ensures own { result.global ≡ false }
-{
-    option(alloc, name).action(action)
 }

@@ -11,7 +11,7 @@ use std::alloc::AllocError;
 use std::io::{self, ErrorKind as DeviceKind};
 
 /// Why words ask for nothing.
-#[derive(Clone, Copy, PartialEq, Eq)]
+#[derive(Clone, Copy)]
 pub enum WordsError {
     /// There was no memory to read them.
     Memory,

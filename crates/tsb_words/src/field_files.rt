@@ -109,8 +109,10 @@ pub enum Asked<'a> {
 pub fn read_words<'a, S: AsStr>(alloc: Global, words: &'a [S]) -> Result<Asked<'a>, WordsError>
     ensures { Spells (map S.text words.now) result }
 {
-    let matches = matches_of(alloc, &PROGRAM, words)?;
-    asked_of(alloc, &matches)
+    match matches_of(alloc, &PROGRAM, words) {
+        Ok(matches) => asked_of(alloc, &matches),
+        Err(error) => Err(error),
+    }
 }
 
 /// What the subcommand that was met asks for.

@@ -22,7 +22,7 @@ const PROGRAM: Program = Program {
 };
 
 /// What the words ask for: a live run.
-#[derive(Clone, Copy, PartialEq, Eq)]
+#[derive(Clone, Copy)]
 pub struct Asked<'a> {
     /// The file of the plan.
     pub plan: &'a str,
@@ -38,8 +38,10 @@ pub struct Asked<'a> {
 pub fn read_words<'a, S: AsStr>(alloc: Global, words: &'a [S]) -> Result<Asked<'a>, WordsError>
     ensures { Spells (map S.text words.now) result }
 {
-    let matches = matches_of(alloc, &PROGRAM, words)?;
-    asked_of(&matches)
+    match matches_of(alloc, &PROGRAM, words) {
+        Ok(matches) => asked_of(&matches),
+        Err(error) => Err(error),
+    }
 }
 
 /// What was asked for, with the plan that was named and the flag that was set or not.
