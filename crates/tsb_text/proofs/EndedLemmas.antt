@@ -13,7 +13,7 @@ use Rattle.tsb_text.specs.declared.error.SessionError.TheVariants.{Memory, Read,
 use Rattle.tsb_text.specs.Answers.{Setup}
 use Rattle.tsb_text.specs.Ended.{AnswersWhole, Ended, EndedSo, IsBegun, ReadsOn}
 use Rattle.tsb_text.specs.Blame.{Blames}
-use Rattle.tsb_text.specs.Replies.{Stand, as_session, fault_of, says}
+use Rattle.tsb_text.specs.Replies.{Stand, as_session, says}
 use Rattle.tsb_text.proofs.HeardLemmas.{answered-text, begun-front, begun-more, heard-begun, heard-whole, over-begun, over-quits, over-whole, said-begun}
 
 -- at power-up
@@ -109,7 +109,8 @@ ended r stands given new i l o n e = record {
 }
 
 -- the device that a dialog blames for its fault is the one to blame for that of the session
-pub blames-fault : (fault : DialogError) (read_failed write_failed flushed : Bool) → dialog_blame.Blames (Err fault) read_failed write_failed flushed → Blames {T = Unit {0}} (Err (fault_of fault)) read_failed write_failed flushed
-blames-fault dialogs.Read read_failed write_failed flushed blames = blames
-blames-fault dialogs.Write read_failed write_failed flushed blames = blames
-blames-fault dialogs.TooLarge read_failed write_failed flushed blames = blames
+pub blames : (r : Result (Unit {0}) DialogError) (read_failed write_failed flushed : Bool) → dialog_blame.Blames r read_failed write_failed flushed → Blames (as_session r) read_failed write_failed flushed
+blames (Ok u) read_failed write_failed flushed so = so
+blames (Err dialogs.Read) read_failed write_failed flushed so = so
+blames (Err dialogs.Write) read_failed write_failed flushed so = so
+blames (Err dialogs.TooLarge) read_failed write_failed flushed so = so

@@ -25,7 +25,7 @@ use tsb_kept::Kept;
 use tsb_objects::Refusal;
 
 /// What is done with the inputs that a bench takes, besides.
-#[derive(Clone, Copy, PartialEq, Eq)]
+#[derive(Clone, Copy)]
 pub enum Mode {
     /// Nothing.
     Plain,

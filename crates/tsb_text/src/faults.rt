@@ -9,7 +9,7 @@ use itoa::Buffer;
 use tsb_objects::Refusal;
 
 /// What a run does after a line that is no command, or that is refused.
-#[derive(Clone, Copy, PartialEq, Eq)]
+#[derive(Clone, Copy)]
 pub enum OnFault {
     /// It ends: the run is strict.
     Stop,

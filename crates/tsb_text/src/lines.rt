@@ -1,14 +1,14 @@
 //! The lines of answers, without their line feeds.
 
 ghost use Rattle.std.specs.Prelude.{◌≡◌, ◌≤◌, length};
-ghost use Rattle.tsb_text.specs.Answers.{busy_line, display_line, refused_line, taken_line, undone_line, verified_line, when_line};
+ghost use Rattle.tsb_text.specs.Answers.{busy_line, display_line, preempt_in_service, refused_line, taken_line, undone_line, verified_line, when_line};
 ghost use Rattle.tsb_bench.specs.Held.{state_of};
 
 use arrayvec::{ArrayString, ArrayVec};
 use tsb_bench::{Bench, Cmd, Input, Kind};
 use tsb_display_text::LineBytes;
 use tsb_lines::seven_digits;
-use tsb_objects::{Refusal, Rule, Station};
+use tsb_objects::{Preempt, Refusal, Rule, Station};
 use tsb_plan_text::rule_line;
 use tsb_preempt::preempt_of;
 
@@ -18,16 +18,31 @@ use tsb_preempt::preempt_of;
 pub fn line(bench: &Bench) -> ArrayString<64>
     ensures { result.bytes ≡ display_line (state_of bench.now) }
 {
-    let preempt = preempt_of(bench.stage());
-    tsb_display_text::line(bench.now(), &bench.display(), preempt, bench.local())
+    tsb_display_text::line(
+        bench.now(),
+        &bench.display(),
+        preempt_in_service(bench),
+        bench.local(),
+    )
 }
 
 /// The bytes of the display line, without a line feed. It takes no memory.
 pub fn line_bytes(bench: &Bench) -> LineBytes
     ensures { result ≡ display_line (state_of bench.now) }
 {
-    let preempt = preempt_of(bench.stage());
-    tsb_display_text::line_bytes(bench.now(), &bench.display(), preempt, bench.local())
+    tsb_display_text::line_bytes(
+        bench.now(),
+        &bench.display(),
+        preempt_in_service(bench),
+        bench.local(),
+    )
+}
+
+/// The preempt in service, where one is.
+fn preempt_in_service(bench: &Bench) -> Option<Preempt>
+    ensures { result ≡ preempt_in_service (state_of bench.now) }
+{
+    preempt_of(bench.stage())
 }
 
 /// The line that says that an input of this kind was taken back.

@@ -4,7 +4,7 @@ ghost use Rattle.std.specs.Prelude.{◌≡◌, false, true};
 ghost use Rattle.tsb_objects.specs.Checked.{checked_plan};
 ghost use Rattle.tsb_text.specs.Blame.{Blames};
 ghost use Rattle.tsb_text.specs.Ended.{Ended};
-ghost use Rattle.tsb_text.specs.Replies.{fault_of, flow_after};
+ghost use Rattle.tsb_text.specs.Replies.{as_session, flow_after};
 
 use crate::answers::obey;
 use crate::course::{Course, Mode};
@@ -81,14 +81,15 @@ fn flow_after(command: &Command) -> Flow
     }
 }
 
-/// The fault of a session whose dialog ended with this one.
-fn fault_of(fault: DialogError) -> SessionError
-    ensures { result ≡ fault_of fault }
+/// How a session ends whose dialog ended so.
+fn as_session(ended: Result<(), DialogError>) -> Result<(), SessionError>
+    ensures { result ≡ as_session ended }
 {
-    match fault {
-        DialogError::Read => SessionError::Read,
-        DialogError::Write => SessionError::Write,
-        DialogError::TooLarge => SessionError::TooLarge,
+    match ended {
+        Ok(()) => Ok(()),
+        Err(DialogError::Read) => Err(SessionError::Read),
+        Err(DialogError::Write) => Err(SessionError::Write),
+        Err(DialogError::TooLarge) => Err(SessionError::TooLarge),
     }
 }
 
@@ -119,8 +120,5 @@ pub fn session<R: Read, W: Write>(
     let course = Course::new(alloc, bench, Mode::Plain);
     let rows = Rows::OfLog { log, place: 0 };
     let mut machine = Machine { course, rows };
-    match converse(&mut machine, COMMANDS, reader, writer) {
-        Ok(()) => Ok(()),
-        Err(fault) => Err(fault_of(fault)),
-    }
+    as_session(converse(&mut machine, COMMANDS, reader, writer))
 }

@@ -1,4 +1,4 @@
-use Rattle.std.proofs.Common.{[], refl, Ok, Err, subst, sym}
+use Rattle.std.proofs.Common.{[], refl, subst, sym}
 use Rattle.tsb_objects.specs.Checked.{checked_plan}
 use Rattle.tsb_bench.proofs.tsb_machine.PlayLemmas.{follows-start}
 use Rattle.tsb_bench.specs.tsb_step.Past.{controller}
@@ -6,38 +6,25 @@ use Rattle.tsb_bench.specs.tsb_step.Play.{Follows}
 use Rattle.tsb_bench.specs.tsb_step.State.{start}
 use Rattle.tsb_bench.specs.Held.{Held, whole}
 use Rattle.tsb_text.proofs.CourseLemmas.{course-begins}
-use Rattle.tsb_text.proofs.EndedLemmas.{blames-fault, ended, ended-memory, from_power_up}
+use Rattle.tsb_text.proofs.EndedLemmas.{blames, ended, ended-memory, from_power_up}
 use Rattle.tsb_text.proofs.run.session.Goals as goal
 
 pub returns-in_default-clause-ended : goal.returns-in_default-clause-ended
 returns-in_default-clause-ended g c = ended-memory (record { plan = checked_plan c.args.plan; log = c.args.log.now }) _ _
 
 -- the bench at power-up has come by no input
-pub returns-in-Ok-converse-clause-ended : goal.returns-in-Ok-converse-clause-ended
-returns-in-Ok-converse-clause-ended g c =
-    ended (Ok tt) _ (record { plan = checked_plan c.args.plan; log = c.args.log.now }) _ _ _ _ _
-    (c.in-Ok-converse.ensures.ended (from_power_up (record { plan = checked_plan c.args.plan; log = c.args.log.now })) (
-      course-begins (record { plan = checked_plan c.args.plan; log = c.args.log.now }) c.args.log.now c.new-course.result refl
-          (subst (λ (b : Held). Follows (checked_plan c.args.plan) (whole b) []) (sym c.new-course.ensures.bench) (follows-start controller (start (checked_plan c.args.plan)) (whole c.in-Ok.bench) c.in-Ok.ensures))
-          c.new-course.ensures.kept,
-      c.new-course.ensures.mode,
-    ))
-
 pub returns-clause-ended : goal.returns-clause-ended
-returns-clause-ended g c = rw c.fault_of.ensures
-    (ended (Err c.in-Err.fault) _ (record { plan = checked_plan c.args.plan; log = c.args.log.now }) _ _ _ _ _
-    (c.in-Err.ensures.ended (from_power_up (record { plan = checked_plan c.args.plan; log = c.args.log.now })) (
+returns-clause-ended g c = rw c.as_session.ensures
+    (ended c.converse.result _ (record { plan = checked_plan c.args.plan; log = c.args.log.now }) _ _ _ _ _
+    (c.converse.ensures.ended (from_power_up (record { plan = checked_plan c.args.plan; log = c.args.log.now })) (
       course-begins (record { plan = checked_plan c.args.plan; log = c.args.log.now }) c.args.log.now c.new-course.result refl
           (subst (λ (b : Held). Follows (checked_plan c.args.plan) (whole b) []) (sym c.new-course.ensures.bench) (follows-start controller (start (checked_plan c.args.plan)) (whole c.in-Ok.bench) c.in-Ok.ensures))
           c.new-course.ensures.kept,
       c.new-course.ensures.mode,
     )))
 
-pub returns-in-Ok-converse-clause-blame : goal.returns-in-Ok-converse-clause-blame
-returns-in-Ok-converse-clause-blame g c = c.in-Ok-converse.ensures.blame
-
 pub returns-clause-blame : goal.returns-clause-blame
-returns-clause-blame g c = rw c.fault_of.ensures (blames-fault c.in-Err.fault _ _ _ c.in-Err.ensures.blame)
+returns-clause-blame g c = rw c.as_session.ensures (blames c.converse.result _ _ _ c.converse.ensures.blame)
 
 pub returns-in_default-clause-blame : goal.returns-in_default-clause-blame
 returns-in_default-clause-blame g c = (c.requires.reads, c.requires.writes, c.requires.flushed)
