@@ -1,5 +1,5 @@
 -- What is told of a line that was written or was not.
-use Rattle.std.proofs.Common.{◌≡◌, ℕ, List, ◌++◌, OnOk, OnErr, Ok, Err, true, ap, subst, sym, ◌∙◌, append_assoc}
+use Rattle.std.proofs.Common.{◌≡◌, ℕ, List, ◌++◌, OnOk, OnErr, Ok, Err, true, ap, refl, subst, sym, ◌∙◌, append_assoc}
 use Rattle.std.proofs.lemmas.Bool.{true≢false}
 use Rattle.std.specs.declared.result.Result.{Result}
 use Rattle.std.specs.declared.option.Option.{Option}
@@ -7,10 +7,13 @@ use Rattle.std.specs.Io.KnownBytes.{Appends}
 use Rattle.tsb_lines.proofs.StreamLemmas.{appends-more}
 use Rattle.tsb_lines.specs.Writes.{AppendsFront}
 use Rattle.tsb_plan_text.specs.declared.error.PlanError.{PlanError}
-use Rattle.tsb_program.specs.Told.{RefusesAt, TellsNoPlan, TellsWhy}
+use Rattle.tsb_program.specs.Lines.{TellsEnd, end_line}
+use Rattle.tsb_program.specs.Told.{RefusesAt, TellsInputEnd, TellsNoPlan, TellsWhy}
 use Rattle.tsb_program.specs.declared.read.PlanFault.{PlanFault}
 use Rattle.tsb_program.specs.declared.read.ReadError.{ReadError}
 use Rattle.tsb_program.specs.declared.read.ReadError.TheVariants.{Refused}
+use Rattle.tsb_text.specs.declared.error.SessionError.{SessionError}
+use Rattle.tsb_text.specs.declared.error.SessionError.TheVariants as ends
 use Rattle.tsb_watched.specs.Seen.{GoesOut, Seen, Tells}
 
 pub line-told : {T E : Type 0} (r : Result T E) (old new : Seen) (text : List ℕ) → AppendsFront old.bytes new.bytes text → OnOk r (GoesOut old new text) → OnErr r (new.failed ≡ true) → Tells old new text
@@ -35,3 +38,17 @@ both-whole (Err e) old mid new x y first second = tt
 pub refused-so : (fault : PlanFault) (name : List ℕ) (why : PlanError) (status : ℕ) (told tells : Seen) → fault.why ≡ Refused why → RefusesAt why fault.place status told tells
     → TellsNoPlan name fault status told tells
 refused-so fault name why status told tells is so = subst (λ (w : ReadError PlanError). TellsWhy name w fault.place status told tells) (sym is) so
+
+-- the line of what ended a session is told, with 3
+pub end-told : (fault : SessionError) (status : ℕ) (told tells : Seen) → status ≡ 3 → Tells told tells (end_line fault) → TellsEnd fault status told tells
+end-told ends.Memory status told tells is line = (is, line)
+end-told ends.Read status told tells is line = (is, line)
+end-told ends.Write status told tells is line = (is, line)
+end-told ends.TooLarge status told tells is line = (is, line)
+
+-- but for a read, standard input or a file is all one
+pub input-told : (fault : SessionError) (status : ℕ) (told tells : Seen) → (fault ≡ ends.Read → ⊥) → TellsEnd fault status told tells → TellsInputEnd fault status told tells
+input-told ends.Memory status told tells other end = end
+input-told ends.Read status told tells other end = absurd (other refl)
+input-told ends.Write status told tells other end = end
+input-told ends.TooLarge status told tells other end = end

@@ -6,12 +6,19 @@ use Rattle.tsb_log_text.specs.declared.error.LogError.{LogError}
 use Rattle.tsb_log_text.specs.FaultLines.{log_fault}
 use Rattle.tsb_text.specs.declared.error.SessionError.{SessionError}
 use Rattle.tsb_text.specs.declared.error.SessionError.TheVariants as ends
-use Rattle.tsb_program.specs.Failures.{Fails, failure_of}
+use Rattle.tsb_program.specs.Failures.{Fails, failure_line, failure_of}
 use Rattle.tsb_program.specs.declared.failure.Failure.TheVariants.{Memory, Read, Write}
 use Rattle.tsb_program.specs.declared.files.FileError.{FileError}
 use Rattle.tsb_program.specs.declared.read.ReadError.{ReadError}
 use Rattle.tsb_program.specs.declared.read.ReadError.TheVariants as faults
 use Rattle.tsb_watched.specs.Seen.{Seen, Tells}
+
+-- the line of what ended a session
+abbrev pub end_line : SessionError → List ℕ
+end_line ends.Memory = failure_line Memory
+end_line ends.Read = failure_line Read
+end_line ends.Write = failure_line Write
+end_line ends.TooLarge = codes "commands: too large\n"
 
 -- what ended a session is told, with 3: a failure, or commands without end
 abbrev pub TellsEnd : SessionError → ℕ → Seen → Seen → Type 0
@@ -32,8 +39,12 @@ plan_line fault = plan_fault fault ++ 10 ∷ []
 abbrev pub log_line : LogError → List ℕ
 log_line fault = log_fault fault ++ 10 ∷ []
 
--- why there is no plan or log is told: a refusal by its own line, with 1, where there is memory for the line
+-- a refusal is told by its own line, with 1, where there is memory for the line
+abbrev pub TellsRefusal : {A : Type 0} → (A → Option (List ℕ)) → A → ℕ → Seen → Seen → Type 0
+TellsRefusal shown why status told tells =
+    ((status ≡ 1) × IfSome (shown why) (λ line. Tells told tells (line ++ 10 ∷ []))) ⊎ Fails Memory status told tells
+
+-- why there is no plan or log is told: a failure, or a refusal by its own line
 abbrev pub Refuses : {A : Type 0} → (A → Option (List ℕ)) → ReadError A → ℕ → Seen → Seen → Type 0
 Refuses shown (faults.Failed why) status told tells = Fails (failure_of why) status told tells
-Refuses shown (faults.Refused why) status told tells =
-    ((status ≡ 1) × IfSome (shown why) (λ line. Tells told tells (line ++ 10 ∷ []))) ⊎ Fails Memory status told tells
+Refuses shown (faults.Refused why) status told tells = TellsRefusal shown why status told tells

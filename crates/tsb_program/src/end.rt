@@ -1,8 +1,9 @@
 //! What a program says of what ended its run.
-ghost use Rattle.tsb_program.specs.Lines.{Refuses, TellsEnd};
+ghost use Rattle.std.specs.Prelude.{◌≡◌};
+ghost use Rattle.tsb_program.specs.Lines.{Refuses, TellsEnd, TellsRefusal, end_line};
 ghost use Rattle.tsb_watched.specs.Seen.{seen};
 
-use crate::failure::{Failure, fail};
+use crate::failure::{Failure, fail, failure_line};
 use crate::lines::{line_of, tell};
 use crate::read::ReadError;
 use crate::status::Status;
@@ -22,10 +23,21 @@ pub fn refuse<E: Write, T: Display + Drop>(
 {
     match fault {
         ReadError::Failed(fault) => fail(errors, fault.failure()),
-        ReadError::Refused(fault) => match line_of(alloc, fault) {
-            Ok(line) => tell(errors, Status::Refused, line.as_bytes()),
-            Err(_) => fail(errors, Failure::Memory),
-        },
+        ReadError::Refused(fault) => tell_refusal(alloc, errors, fault),
+    }
+}
+
+/// Says why a text was refused, where there is memory for the line, and gives the status that the program ends with.
+pub(crate) fn tell_refusal<E: Write, T: Display + Drop>(
+    alloc: Global,
+    errors: &mut Watched<E>,
+    fault: T,
+) -> u8
+    ensures { TellsRefusal T.output fault result (seen E.contents errors.old) (seen E.contents errors.new) }
+{
+    match line_of(alloc, fault) {
+        Ok(line) => tell(errors, Status::Refused, line.as_bytes()),
+        Err(_) => fail(errors, Failure::Memory),
     }
 }
 
@@ -33,10 +45,17 @@ pub fn refuse<E: Write, T: Display + Drop>(
 pub fn tell_end<E: Write>(errors: &mut Watched<E>, fault: SessionError) -> u8
     ensures { TellsEnd fault result (seen E.contents errors.old) (seen E.contents errors.new) }
 {
+    tell(errors, Status::Failed, end_line(fault))
+}
+
+/// The line of what ended a session.
+fn end_line(fault: SessionError) -> &'static [u8]
+    ensures { result.now ≡ end_line fault }
+{
     match fault {
-        SessionError::Memory => fail(errors, Failure::Memory),
-        SessionError::Read => fail(errors, Failure::Read),
-        SessionError::Write => fail(errors, Failure::Write),
-        SessionError::TooLarge => tell(errors, Status::Failed, b"commands: too large\n"),
+        SessionError::Memory => failure_line(Failure::Memory),
+        SessionError::Read => failure_line(Failure::Read),
+        SessionError::Write => failure_line(Failure::Write),
+        SessionError::TooLarge => b"commands: too large\n",
     }
 }

@@ -9,7 +9,7 @@ use std::io::Write;
 use tsb_watched::Watched;
 
 /// What failed.
-#[derive(Clone, Copy, PartialEq, Eq)]
+#[derive(Clone, Copy)]
 pub enum Failure {
     /// There was no memory.
     Memory,
@@ -29,7 +29,7 @@ pub fn fail<E: Write>(errors: &mut Watched<E>, failure: Failure) -> u8
 }
 
 /// The line of a failure, or both lines.
-fn failure_line(failure: Failure) -> &'static [u8]
+pub(crate) fn failure_line(failure: Failure) -> &'static [u8]
     ensures { result.now ≡ failure_line failure }
 {
     match failure {

@@ -45,7 +45,7 @@ impl Files for Disk<'_> {
 }
 
 /// What a machine says of a file that it does not open or read.
-#[derive(Clone, Copy, Debug, PartialEq, Eq)]
+#[derive(Clone, Copy, PartialEq, Eq)]
 pub enum Cause {
     /// There is none of that name.
     NoSuchFile,

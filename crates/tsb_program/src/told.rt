@@ -5,9 +5,10 @@ ghost use Rattle.tsb_program.specs.Statuses.{number};
 ghost use Rattle.tsb_program.specs.Told.{FailsFile, TellsInputEnd, TellsNoLog, TellsNoPlan, cause_text, file_line, place_line, plan_lines, safe, shown};
 ghost use Rattle.tsb_watched.specs.Seen.{GoesOut, Tells, seen};
 
+use crate::end::{tell_end, tell_refusal};
 use crate::failure::{Failure, fail};
 use crate::files::{Cause, FileError};
-use crate::lines::{line_of, tell, write_line};
+use crate::lines::{line_of, write_line};
 use crate::read::{PlanFault, ReadError, fault_place};
 use crate::status::Status;
 use arrayvec::ArrayVec;
@@ -62,10 +63,7 @@ pub fn refuse_log<E: Write>(
 {
     match fault {
         ReadError::Failed(why) => fail_file(errors, path, why),
-        ReadError::Refused(why) => match line_of(alloc, why) {
-            Ok(line) => tell(errors, Status::Refused, line.as_bytes()),
-            Err(_) => fail(errors, Failure::Memory),
-        },
+        ReadError::Refused(why) => tell_refusal(alloc, errors, why),
     }
 }
 
@@ -74,10 +72,8 @@ pub fn tell_input_end<E: Write>(errors: &mut Watched<E>, fault: SessionError) ->
     ensures { TellsInputEnd fault result (seen E.contents errors.old) (seen E.contents errors.new) }
 {
     match fault {
-        SessionError::Memory => fail(errors, Failure::Memory),
         SessionError::Read => fail(errors, Failure::Input),
-        SessionError::Write => fail(errors, Failure::Write),
-        SessionError::TooLarge => tell(errors, Status::Failed, b"commands: too large\n"),
+        _ => tell_end(errors, fault),
     }
 }
 
