@@ -1,5 +1,5 @@
 -- What a filter takes, from line to line.
-use Rattle.std.proofs.Common.{Option, ◌≡◌, ℕ, ◌+◌, ◌-◌, ◌*◌, ◌/◌, ◌<◌, ◌≤◌, nat_lt, Bool, true, false, not, nat_le, max, List, [], ◌∷◌, ◌++◌, length, length-append, refl, sym, ap, ◌∙◌, arith, subst, Some, None, Result, Ok, Err, inl, inr, if◌then◌else◌}
+use Rattle.std.proofs.Common.{Option, ◌≡◌, ℕ, ◌+◌, ◌-◌, ◌*◌, ◌/◌, ◌<◌, ◌≤◌, nat_lt, Bool, false, nat_le, max, List, [], ◌∷◌, ◌++◌, length, length-append, refl, sym, ap, ◌∙◌, arith, subst, Some, None, Result, Ok, Err, inl, inr, if◌then◌else◌}
 use Rattle.std.proofs.Math.Nat.{div-mul-le_self}
 use Rattle.std.proofs.lemmas.Nat.{le-div}
 use Rattle.std.proofs.lemmas.Bool.{lt-ltb, le-ltb}
@@ -30,7 +30,7 @@ use Rattle.tsb_field_streams.specs.declared.error.FilterError.{FilterError}
 use Rattle.tsb_field_streams.specs.declared.error.FilterError.TheVariants.{TimeOrder, TooManyRows, PastEnd, LogTooLarge}
 use Rattle.tsb_field_streams.specs.declared.filter.Filter.{Filter}
 use Rattle.tsb_field_streams.specs.declared.filter.TheConstants.{MOST_ROWS}
-use Rattle.tsb_field_streams.specs.Filtering.{Given, Stand, bound_of, disorder, lateness, most_held, one_more, with_count, with_counted, with_due, with_event, with_first, with_given, with_held, with_in_order, with_late, with_passed, with_row, with_row_line, with_signal, with_used}
+use Rattle.tsb_field_streams.specs.Filtering.{Given, Stand, bound_of, disorder, lateness, most_held, with_count, with_due, with_event, with_first, with_given, with_held, with_in_order, with_late, with_passed, with_row_line, with_signal}
 use Rattle.tsb_field_streams.specs.Standing.{StandsAt, Takes}
 
 pub none_known : (from : ℕ) (wires : List Wire) → length (rows_before from wires []) ≡ 0
@@ -107,14 +107,6 @@ stands_formed g s f form at = record {
   latest = at.latest;
 }
 
--- which rows were known before does not hang on it
-pub formed-takes : (g : Given) (s : Stand) (form : TimeForm) (come : Result Stand FilterError) (given : Result Rows FilterError) (f : Filter)
-    → Takes g (record s { times = Some form }) come given f → Takes g s come given f
-formed-takes g s form (Ok t) (Ok rows) f takes = takes
-formed-takes g s form (Ok t) (Err d) f takes = takes
-formed-takes g s form (Err e) (Ok rows) f takes = takes
-formed-takes g s form (Err e) (Err d) f takes = takes
-
 -- ## An event of an input
 
 pub event-past : (g : Given) (s : Stand) (e : InputEvent) → TICKS < tick_at g.from e.nanos → with_event g s e ≡ Err PastEnd
@@ -147,14 +139,6 @@ known-then g s e f rows known at grown is =
     length-append (rows_before g.from g.wires s.events) (rows_in rows) in
     ap length grown ∙ omega (arith, were, all, is)
 
--- which rows were known before does not hang on how many counted
-takes-same : (g : Given) (s : Stand) (moment : ℕ) (come : Result Stand FilterError) (given : Result Rows FilterError) (f : Filter)
-    → Takes g (with_count s moment) come given f → Takes g s come given f
-takes-same g s moment (Ok t) (Ok rows) f takes = takes
-takes-same g s moment (Ok t) (Err d) f takes = takes
-takes-same g s moment (Err e) (Ok rows) f takes = takes
-takes-same g s moment (Err e) (Err d) f takes = takes
-
 -- a row that is in order is taken by what it says
 pub row-takes : (g : Given) (number : ℕ) (s : Stand) (row : EventRow) (signal : Signal) (given : Result Rows FilterError) (f : Filter) → s.last ≤ row.moment.nanos
     → signal_of row.code ≡ Some signal → Takes g (with_count s row.moment.nanos) (with_signal g (with_count s row.moment.nanos) row (Some signal)) given f
@@ -165,8 +149,7 @@ row-takes g number s row signal given f later told takes =
     let is : with_in_order g number s row ≡ with_signal g (with_count s row.moment.nanos) row (Some signal) =
     ap (λ (b : Bool). if b then fault else with_signal g (with_count s row.moment.nanos) row (signal_of row.code)) in_order
     ∙ ap (with_signal g (with_count s row.moment.nanos) row) told in
-    subst (λ (come : Result Stand FilterError). Takes g s come given f) (sym is)
-    (takes-same g s row.moment.nanos (with_signal g (with_count s row.moment.nanos) row (Some signal)) given f takes)
+    subst (λ (come : Result Stand FilterError). Takes g s come given f) (sym is) takes
 
 -- a row that is in order and says nothing of an input
 pub row-passes : (g : Given) (number : ℕ) (s : Stand) (row : EventRow) (rows : Rows) (f : Filter) → s.last ≤ row.moment.nanos → signal_of row.code ≡ None → rows_in rows ≡ []
@@ -182,14 +165,6 @@ row-passes g number s row rows f later told none stands =
     known : rows_before g.from g.wires s.events ≡ rows_before g.from g.wires s.events ++ rows_in rows
     known = sym (ap (λ (v : List LogRow). rows_before g.from g.wires s.events ++ v) none ∙ append-nil (rows_before g.from g.wires s.events))
 
--- which rows were known before does not hang on which channels had events
-pub used-takes : (g : Given) (s : Stand) (place : ℕ) (come : Result Stand FilterError) (given : Result Rows FilterError) (f : Filter)
-    → Takes g (with_used s place) come given f → Takes g s come given f
-used-takes g s place (Ok t) (Ok rows) f takes = takes
-used-takes g s place (Ok t) (Err d) f takes = takes
-used-takes g s place (Err e) (Ok rows) f takes = takes
-used-takes g s place (Err e) (Err d) f takes = takes
-
 -- the first row, with its columns in the usual places
 pub first-takes : (g : Given) (number : ℕ) (s : Stand) (text : List ℕ) (columns : Columns) (given : Result Rows FilterError) (f : Filter) → is_preface text ≡ false → columns ≡ usual_of text
     → Takes g s (with_row_line g number (record s { columns = Some columns }) columns text) given f → Takes g s (with_first g number s text None) given f
@@ -197,14 +172,6 @@ first-takes g number s text columns given f no_preface usual takes =
     subst (λ (come : Result Stand FilterError). Takes g s come given f)
     (sym (ap (λ (b : Bool). if b then with_passed s else with_row_line g number (record s { columns = Some (usual_of text) }) (usual_of text) text) no_preface))
     (subst (λ (places : Columns). Takes g s (with_row_line g number (record s { columns = Some places }) places text) given f) usual takes)
-
--- which rows were known before does not hang on where the columns are
-pub known-takes : (g : Given) (s : Stand) (columns : Columns) (come : Result Stand FilterError) (given : Result Rows FilterError) (f : Filter)
-    → Takes g (record s { columns = Some columns }) come given f → Takes g s come given f
-known-takes g s columns (Ok t) (Ok rows) f takes = takes
-known-takes g s columns (Ok t) (Err d) f takes = takes
-known-takes g s columns (Err e) (Ok rows) f takes = takes
-known-takes g s columns (Err e) (Err d) f takes = takes
 
 -- ## Rows that are held
 
@@ -260,20 +227,11 @@ stands_held g s f held row latest at is most later = record {
   latest = later ∙ ap (λ (n : ℕ). max n row.moment.nanos) at.latest;
 }
 
--- which rows of the log were known before does not hang on what is held
-held-takes : (g : Given) (s : Stand) (rows : List EventRow) (latest : ℕ) (come : Result Stand FilterError) (given : Result Rows FilterError) (f : Filter)
-    → Takes g (record s { held = rows; latest = latest }) come given f → Takes g s come given f
-held-takes g s rows latest (Ok t) (Ok more) f takes = takes
-held-takes g s rows latest (Ok t) (Err d) f takes = takes
-held-takes g s rows latest (Err e) (Ok more) f takes = takes
-held-takes g s rows latest (Err e) (Err d) f takes = takes
-
 -- a row that is given out is taken in order
 pub given-takes : (g : Given) (number : ℕ) (s : Stand) (rows : List EventRow) (first : Option EventRow) (row : EventRow) (given : Result Rows FilterError) (f : Filter) → first ≡ Some row
     → Takes g (record s { held = rows }) (with_in_order g number (record s { held = rows }) row) given f → Takes g s (with_given g number (record s { held = rows }) first) given f
 given-takes g number s rows first row given f is takes =
-    subst (λ (o : Option EventRow). Takes g s (with_given g number (record s { held = rows }) o) given f) (sym is)
-    (held-takes g s rows s.latest (with_in_order g number (record s { held = rows }) row) given f takes)
+    subst (λ (o : Option EventRow). Takes g s (with_given g number (record s { held = rows }) o) given f) (sym is) takes
 
 -- a row that is not too late, and for which there is room, is held
 pub late-takes : (g : Given) (number : ℕ) (s : Stand) (row : EventRow) (seconds bound : ℕ) (given : Result Rows FilterError) (f : Filter) → bound ≡ bound_of s.latest seconds → bound ≤ row.moment.nanos
@@ -285,12 +243,4 @@ late-takes g number s row seconds bound given f is in_time room takes =
     let is : with_late g number s row seconds ≡ due =
     ap (λ (b : Bool). if b then fault else if nat_le (most_held g.window) (length s.held) then Err (TooManyRows number) else due) (le-ltb row.moment.nanos (bound_of s.latest seconds) early)
     ∙ ap (λ (b : Bool). if b then Err (TooManyRows number) else due) room in
-    subst (λ (come : Result Stand FilterError). Takes g s come given f) (sym is)
-    (held-takes g s (placed row s.held) (max s.latest row.moment.nanos) due given f takes)
-
--- a row that counts
-pub counted-takes : (g : Given) (number : ℕ) (s : Stand) (row : EventRow) (window : Option ℕ) (given : Result Rows FilterError) (f : Filter) → row.ours ≡ true → g.window ≡ window
-    → Takes g s (with_counted g number s row window) given f → Takes g s (with_row g number s row) given f
-counted-takes g number s row window given f ours is takes =
-    subst (λ (come : Result Stand FilterError). Takes g s come given f)
-    (sym (ap (λ (o : Bool). if not o then Ok (record s { others = one_more s.others }) else with_counted g number s row g.window) ours ∙ ap (with_counted g number s row) is)) takes
+    subst (λ (come : Result Stand FilterError). Takes g s come given f) (sym is) takes

@@ -7,7 +7,7 @@ use Rattle.std.specs.declared.result.Result.{Result}
 use Rattle.std.specs.declared.result.Result.TheVariants.{Ok, Err}
 use Rattle.std.specs.Io.KnownBytes.{Appends, Consumes, IsAtEnd, Keeps}
 use Rattle.tsb_lines.specs.Writes.{AppendsFront}
-use Rattle.tsb_lines.proofs.StreamLemmas.{appends-kept, appends-more, appends-nothing, consumes-kept, consumes-more, consumes-nothing, front-more, front-rest}
+use Rattle.tsb_lines.proofs.StreamLemmas.{appends-more, appends-nothing, consumes-kept, consumes-more, consumes-nothing, front-more, front-rest}
 use Rattle.tsb_lines.specs.Lines.{kept, without_return}
 use Rattle.tsb_lines.proofs.KeptLemmas.{kept-more}
 use Rattle.tsb_field_log.specs.declared.street.Rows.{Rows}
@@ -29,7 +29,7 @@ use Rattle.tsb_field_streams.specs.declared.stream.Stream.{Stream}
 use Rattle.tsb_field_streams.specs.Filtering.{Given, Stand, next_after, one_more, start, summary_at, with_line, with_next, with_nexts}
 use Rattle.tsb_field_streams.specs.Lines.{HasRead, all_of, ended, filtered}
 use Rattle.tsb_field_streams.specs.Standing.{StandsAt, Takes}
-use Rattle.tsb_field_streams.specs.Streaming.{Follows, WroteFront, Went, Sticks, Finished, EndedBehind, EndedSo, Known, known_log, whole_log}
+use Rattle.tsb_field_streams.specs.Streaming.{Follows, WroteFront, Went, Sticks, Finished, EndedBehind, EndedSo, Known, TookLast, known_log, whole_log}
 use Rattle.tsb_field_streams.proofs.ReadLemmas.{all-comes, front-comes, kept-last, kept-line, read-byte, read-fault, read-line, read-start, sticks-more}
 
 -- ## What is written
@@ -226,8 +226,8 @@ last-taken g bytes line old rows filter a b f is takes = goes (with_line g old.n
     }
 
 pub last-fault : (g : Given) (bytes line : List ℕ) (old : Stream) (filter : Filter) (e : FilterError) (a b : Option (List ℕ)) → (f : Follows g bytes old a b) → line ≡ old.line
-    → Takes g f.stand (with_line g old.number f.stand line) (Err e) filter → Finished (Err e) g bytes a b
-last-fault g bytes line old filter e a b f is takes = (wrote-before g bytes old a b f, inr (inl (ap (ended g) (goes (with_line g old.number f.stand line) refl takes))))
+    → Takes g f.stand (with_line g old.number f.stand line) (Err e) filter → WroteFront g bytes a b × ((e ≡ Write) ⊎ (all_of g bytes ≡ Err e))
+last-fault g bytes line old filter e a b f is takes = (wrote-before g bytes old a b f, inr (ap (ended g) (goes (with_line g old.number f.stand line) refl takes)))
   where
     same : with_line g old.number f.stand line ≡ with_line g old.number f.stand f.held
     same = ap (with_line g old.number f.stand) (is ∙ f.kept) ∙ kept-last g old.number f.stand f.held
@@ -238,7 +238,7 @@ last-fault g bytes line old filter e a b f is takes = (wrote-before g bytes old 
 
 -- its rows are not written
 pub last-unwritten : (g : Given) (bytes : List ℕ) (old : Stream) (rows : Rows) (filter : Filter) (e : FilterError) (a b c : Option (List ℕ)) → LastTaken g bytes old rows filter a b
-    → AppendsFront b c (log_text (rows_in rows)) → e ≡ Write → Finished (Err e) g bytes a c
+    → AppendsFront b c (log_text (rows_in rows)) → e ≡ Write → WroteFront g bytes a c × ((e ≡ Write) ⊎ (all_of g bytes ≡ Err e))
 last-unwritten g bytes old rows filter e a b c l front is =
     let tail = known-begins g l.stand filter l.stands in (
       front-of g bytes l.stand 0 l.stand (known_log g l.before) (log_text (rows_in rows)) tail.0 a b c l.comes refl l.grown front
@@ -256,6 +256,12 @@ known-last g bytes old rows filter a b c l ok = record {
   stands = l.stands;
   grown = subst (λ (v : List ℕ). Appends a c v) (sym (known-grows g l.before l.stand rows l.more)) (appends-more a b c (known_log g l.before) (log_text (rows_in rows)) l.grown ok);
 }
+
+-- its rows are written, or the writer fails
+pub last-took : (r : Result (Unit {0}) FilterError) (g : Given) (bytes : List ℕ) (old : Stream) (rows : Rows) (filter : Filter) (a b c : Option (List ℕ)) → LastTaken g bytes old rows filter a b
+    → OnOk r (Appends b c (log_text (rows_in rows))) → AppendsFront b c (log_text (rows_in rows)) → OnErr r (r ≡ Err Write) → TookLast r g bytes filter a c
+last-took (Ok u) g bytes old rows filter a b c l ok front fault = (l.stand, known-last g bytes old rows filter a b c l ok)
+last-took (Err e) g bytes old rows filter a b c l ok front fault = last-unwritten g bytes old rows filter e a b c l front (write-fault (Err e) e refl fault)
 
 -- ## The rows that are held
 
@@ -398,31 +404,9 @@ pub end-unwritten : (g : Given) (bytes : List ℕ) (filter : Filter) (rest : Row
 end-unwritten g bytes filter rest e a b c k whole front is =
     (front-of g bytes k.before k.count k.stand (known_log g k.stand) (log_text (rows_in rest)) [] a b c k.first k.taken k.grown front (whole-is g k.stand rest whole ∙ sym (append-nil (known_log g k.stand ++ log_text (rows_in rest)))), inl is)
 
-grown-whole : (g : Given) (s : Stand) (rest : Rows) (a b c d : Option (List ℕ)) → rows_before g.from g.wires s.events ++ rows_in rest ≡ rows_of (row_in g.from g.wires s.events)
-    → Appends a b (known_log g s) → Appends b c (log_text (rows_in rest)) → Keeps c d → Appends a d (whole_log g s)
-grown-whole g s rest a b c d whole grown ok kept =
-    appends-kept a c d (whole_log g s) (subst (λ (v : List ℕ). Appends a c v) (sym (whole-is g s rest whole)) (appends-more a b c (known_log g s) (log_text (rows_in rest)) grown ok)) kept
-
--- they are not passed on
-pub end-kept : (g : Given) (bytes : List ℕ) (filter : Filter) (rest : Rows) (e : FilterError) (a b c d : Option (List ℕ)) → (k : AllKnown g bytes filter a b)
-    → rows_before g.from g.wires k.stand.events ++ rows_in rest ≡ rows_of (row_in g.from g.wires k.stand.events) → Appends b c (log_text (rows_in rest)) → Keeps c d → e ≡ Write → Finished (Err e) g bytes a d
-end-kept g bytes filter rest e a b c d k whole ok kept is = (
-  record {
-    front = bytes;
-    behind = [];
-    before = k.before;
-    count = k.count;
-    stand = k.stand;
-    written = whole_log g k.stand;
-    rest = [];
-    whole = sym (append-nil bytes);
-    comes = k.first;
-    taken = k.taken;
-    grown = grown-whole g k.stand rest a b c d whole k.grown ok kept;
-    begins = sym (append-nil (whole_log g k.stand));
-  },
-  inl is,
-)
+grown-whole : (g : Given) (s : Stand) (rest : Rows) (a b c : Option (List ℕ)) → rows_before g.from g.wires s.events ++ rows_in rest ≡ rows_of (row_in g.from g.wires s.events)
+    → Appends a b (known_log g s) → Appends b c (log_text (rows_in rest)) → Appends a c (whole_log g s)
+grown-whole g s rest a b c whole grown ok = subst (λ (v : List ℕ). Appends a c v) (sym (whole-is g s rest whole)) (appends-more a b c (known_log g s) (log_text (rows_in rest)) grown ok)
 
 -- readers of logs take the whole one
 whole-taken : (g : Given) (s : Stand) → length (rows_of (row_in g.from g.wires s.events)) ≤ 1720740 → log_of (whole_log g s) ≡ Ok (rows_of (row_in g.from g.wires s.events))
@@ -430,12 +414,12 @@ whole-taken g s few =
     let long : length (whole_log g s) ≡ 39 * length (rows_of (row_in g.from g.wires s.events)) = text-length (rows_of (row_in g.from g.wires s.events)) in
     logs g.from g.wires s.events (omega (arith, long, few))
 
-pub end-whole : (g : Given) (bytes : List ℕ) (filter : Filter) (rest : Rows) (summary : Summary) (a b c d : Option (List ℕ)) → (k : AllKnown g bytes filter a b)
-    → length (rows_of (row_in g.from g.wires k.stand.events)) ≤ 1720740 → rows_before g.from g.wires k.stand.events ++ rows_in rest ≡ rows_of (row_in g.from g.wires k.stand.events) → Appends b c (log_text (rows_in rest)) → Keeps c d
-    → summary ≡ summary_at g k.stand → Finished (Ok summary) g bytes a d
-end-whole g bytes filter rest summary a b c d k few whole ok kept is = (
+pub end-whole : (g : Given) (bytes : List ℕ) (filter : Filter) (rest : Rows) (summary : Summary) (a b c : Option (List ℕ)) → (k : AllKnown g bytes filter a b)
+    → length (rows_of (row_in g.from g.wires k.stand.events)) ≤ 1720740 → rows_before g.from g.wires k.stand.events ++ rows_in rest ≡ rows_of (row_in g.from g.wires k.stand.events) → Appends b c (log_text (rows_in rest))
+    → summary ≡ summary_at g k.stand → Finished (Ok summary) g bytes a c
+end-whole g bytes filter rest summary a b c k few whole ok is = (
   whole_log g k.stand,
-  grown-whole g k.stand rest a b c d whole k.grown ok kept,
+  grown-whole g k.stand rest a b c whole k.grown ok,
   record {
     stand = k.stand;
     comes = k.comes;

@@ -1,6 +1,7 @@
 -- How far a filter has come by the lines that it has taken.
 use Rattle.std.specs.Prelude.{◌≡◌, ◌≤◌, ◌++◌, ℕ, List, length, Option, option_map, Result, Ok, Err}
 use Rattle.tsb_event_text.specs.TimeForms.{is_there}
+use Rattle.tsb_field_log.specs.declared.inputs.InputEvent.{InputEvent}
 use Rattle.tsb_field_log.specs.declared.inputs.Wire.{Wire}
 use Rattle.tsb_field_log.specs.declared.street.Rows.{Rows}
 use Rattle.tsb_field_log.specs.Streets.{tick_at, rows_in}
@@ -12,7 +13,7 @@ use Rattle.tsb_field_streams.specs.declared.filter.Filter.{Filter}
 use Rattle.tsb_field_streams.specs.declared.filter.Reading.{Reading}
 use Rattle.tsb_field_streams.specs.declared.filter.LeftOut.{LeftOut}
 use Rattle.tsb_field_streams.specs.declared.filter.TheConstants.{MOST_ROWS}
-use Rattle.tsb_field_streams.specs.Filtering.{Given, Stand, most_held}
+use Rattle.tsb_field_streams.specs.Filtering.{Given, Stand, most_held, start}
 
 -- what a filter left out so far
 abbrev pub left_out_of : Filter → LeftOut
@@ -59,8 +60,17 @@ pub record StandsAt (g : Given) (s : Stand) (f : Filter) : Type 0 where
   pub most : most_rows f.held ≡ most_held g.window
   pub latest : f.latest ≡ s.latest
 
--- a filter that stood there has taken what comes to this, with these rows of the log become known; or it has its fault
+-- a filter of what is given is before the first line
+abbrev pub StandsAtStart : Given → Filter → Type 0
+StandsAtStart g f = StandsAt g (start g) f
+
+-- a filter of which these events were known has taken what comes to this, with these rows of the log become known; or it has
+-- its fault
+abbrev pub TakesBehind : Given → List InputEvent → Result Stand FilterError → Result Rows FilterError → Filter → Type 0
+TakesBehind g events (Ok t) (Ok rows) f = StandsAt g t f × (rows_before g.from g.wires t.events ≡ rows_before g.from g.wires events ++ rows_in rows)
+TakesBehind g events (Err e) (Err d) f = d ≡ e
+TakesBehind g events come given f = ⊥
+
+-- so of a filter that stood there
 abbrev pub Takes : Given → Stand → Result Stand FilterError → Result Rows FilterError → Filter → Type 0
-Takes g s (Ok t) (Ok rows) f = StandsAt g t f × (rows_before g.from g.wires t.events ≡ rows_before g.from g.wires s.events ++ rows_in rows)
-Takes g s (Err e) (Err d) f = d ≡ e
-Takes g s come given f = ⊥
+Takes g s come given f = TakesBehind g s.events come given f

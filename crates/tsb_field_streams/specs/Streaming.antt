@@ -70,6 +70,12 @@ pub record Known (g : Given) (bytes : List ℕ) (before : Stand) (count : ℕ) (
   pub stands : StandsAt g stand filter
   pub grown : Appends old new (known_log g stand)
 
+-- these bytes are all, and all of the log is written that is known by their lines; or a fault of theirs came, or of the
+-- writer
+abbrev pub TookLast : Result (Unit {0}) FilterError → Given → List ℕ → Filter → Option (List ℕ) → Option (List ℕ) → Type 0
+TookLast (Ok u) g bytes filter old new = (before : Stand) × Known g bytes before 0 filter old new
+TookLast (Err fault) g bytes filter old new = WroteFront g bytes old new × ((fault ≡ Write) ⊎ (all_of g bytes ≡ Err fault))
+
 -- all rows that were held are taken; or a fault of theirs came, or of the writer
 abbrev pub Gave : Result (Unit {0}) FilterError → Given → List ℕ → Stand → Filter → Option (List ℕ) → Option (List ℕ) → Type 0
 Gave (Ok u) g bytes before filter old new = Known g bytes before (length before.held) filter old new

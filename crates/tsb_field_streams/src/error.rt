@@ -2,7 +2,7 @@
 use tsb_event_text::RowFault;
 
 /// A row that is earlier than one before it, or where rows are sorted, by more than they may be.
-#[derive(Clone, Copy, Debug, PartialEq, Eq)]
+#[derive(Clone, Copy, PartialEq, Eq)]
 pub struct Disorder {
     /// The number of its line, counted from 1.
     pub line: u32,
@@ -17,7 +17,7 @@ pub struct Disorder {
 }
 
 /// What ends a filter before its events do. What was written until then is a prefix of the log.
-#[derive(Clone, Copy, Debug, PartialEq, Eq)]
+#[derive(Clone, Copy, PartialEq, Eq)]
 pub enum FilterError {
     /// There was no memory to begin with: nothing was read, and nothing was written.
     Memory,

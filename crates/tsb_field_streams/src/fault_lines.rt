@@ -1,5 +1,5 @@
 //! The line that tells what ended a filter.
-ghost use Rattle.std.specs.Prelude.{◌≡◌, ◌+◌, ◌++◌, ◌∷◌, [], decimal, map, IfOk, OnOk};
+ghost use Rattle.std.specs.Prelude.{◌≡◌, ◌+◌, ◌++◌, ◌∷◌, [], codes, decimal, map, IfOk, OnOk};
 ghost use Rattle.tsb_field_streams.specs.FaultLines.{column_name, cure_text, day_between, disorder_text, example, field_text, filter_fault, late_text, line_number, no_time_text, other_form_text, own_text, parted_text, row_fault_text, safe, separator_name, sort_text, why_text};
 
 use crate::clocks::{DAY, append_clock};
@@ -28,17 +28,15 @@ fn append_fault(text: &mut Vec<u8>, fault: FilterError) -> Result<(), AllocError
         FilterError::Write => text.extend_from_slice(b"write fault"),
         FilterError::TooLarge => text.extend_from_slice(b"events: too large"),
         FilterError::LongLine(line) => {
-            append_line(text, line)?;
-            text.extend_from_slice(b": over 1000 bytes (is it a text with lines?)")
+            append_of_line(text, line, b": over 1000 bytes (is it a text with lines?)")
         }
         FilterError::Malformed(line, why) => append_malformed(text, line, why),
         FilterError::TimeOrder(disorder) => append_disorder(text, disorder),
-        FilterError::TooManyRows(line) => {
-            append_line(text, line)?;
-            text.extend_from_slice(
-                b": over 1000000 rows to sort: give a smaller --sort-within, or a --device",
-            )
-        }
+        FilterError::TooManyRows(line) => append_of_line(
+            text,
+            line,
+            b": over 1000000 rows to sort: give a smaller --sort-within, or a --device",
+        ),
         FilterError::PastEnd => text.extend_from_slice(b"events: past tick 6000000"),
         FilterError::LogTooLarge => text.extend_from_slice(b"log: too large"),
     }
@@ -124,12 +122,24 @@ fn append_malformed(text: &mut Vec<u8>, line: u32, why: RowFault) -> Result<(), 
         RowFault::Binary => {
             text.extend_from_slice(b"events: binary: convert by the controller's own program")
         }
-        _ => {
-            append_line(text, line)?;
-            text.extend_from_slice(b": ")?;
-            append_why(text, why)
-        }
+        _ => append_why_of_line(text, line, why),
     }
+}
+
+/// Adds which line it is, and what is wrong with it.
+fn append_why_of_line(text: &mut Vec<u8>, line: u32, why: RowFault) -> Result<(), AllocError>
+    ensures { OnOk result (text.new.items ≡ text.old.items ++ (line_number line ++ (codes ": " ++ why_text why))) }
+{
+    append_of_line(text, line, b": ")?;
+    append_why(text, why)
+}
+
+/// Adds which line it is, and what is said of it.
+fn append_of_line(text: &mut Vec<u8>, line: u32, said: &[u8]) -> Result<(), AllocError>
+    ensures { OnOk result (text.new.items ≡ text.old.items ++ (line_number line ++ said.now)) }
+{
+    append_line(text, line)?;
+    text.extend_from_slice(said)
 }
 
 /// Adds what is wrong with a line of a text.
@@ -138,33 +148,37 @@ fn append_why(text: &mut Vec<u8>, why: RowFault) -> Result<(), AllocError>
 {
     match why {
         RowFault::Lacks(column) => {
-            text.extend_from_slice(b"header: no column is the ")?;
-            text.extend_from_slice(column_name(column))
+            append_both(text, b"header: no column is the ", column_name(column))
         }
         RowFault::Missing(column) => {
-            text.extend_from_slice(column_name(column))?;
-            text.extend_from_slice(b": the line ends before it")
+            append_both(text, column_name(column), b": the line ends before it")
         }
-        RowFault::NoDay(time) => {
-            append_field(text, Column::Time, &time)?;
-            text.extend_from_slice(b" has no day (was it opened in a spreadsheet?)")
-        }
-        RowFault::NoSeconds(time) => {
-            append_field(text, Column::Time, &time)?;
-            text.extend_from_slice(b" has no seconds (was it opened in a spreadsheet?)")
-        }
-        RowFault::Ambiguous(time) => {
-            append_field(text, Column::Time, &time)?;
-            text.extend_from_slice(
-                b" can be read in two ways: give --time-form month-first or --time-form day-first",
-            )
-        }
+        RowFault::NoDay(time) => append_told(
+            text,
+            Column::Time,
+            &time,
+            b" has no day (was it opened in a spreadsheet?)",
+        ),
+        RowFault::NoSeconds(time) => append_told(
+            text,
+            Column::Time,
+            &time,
+            b" has no seconds (was it opened in a spreadsheet?)",
+        ),
+        RowFault::Ambiguous(time) => append_told(
+            text,
+            Column::Time,
+            &time,
+            b" can be read in two ways: give --time-form month-first or --time-form day-first",
+        ),
         RowFault::OtherForm(form, own, time) => append_other_form(text, form, own, &time),
         RowFault::NoTime(form, time) => append_no_time(text, form, &time),
-        RowFault::NoNumber(column, field) => {
-            append_field(text, column, &field)?;
-            text.extend_from_slice(b" is no whole number up to 4294967295")
-        }
+        RowFault::NoNumber(column, field) => append_told(
+            text,
+            column,
+            &field,
+            b" is no whole number up to 4294967295",
+        ),
         RowFault::Quote => text.extend_from_slice(b"a quote is out of place"),
         RowFault::Parted(all, own) => append_parted(text, all, own),
         RowFault::Utf16 => text.extend_from_slice(b"UTF-16"),
@@ -174,12 +188,32 @@ fn append_why(text: &mut Vec<u8>, why: RowFault) -> Result<(), AllocError>
     }
 }
 
+/// Adds two parts.
+fn append_both(text: &mut Vec<u8>, first: &[u8], second: &[u8]) -> Result<(), AllocError>
+    ensures { OnOk result (text.new.items ≡ text.old.items ++ (first.now ++ second.now)) }
+{
+    text.extend_from_slice(first)?;
+    text.extend_from_slice(second)
+}
+
+/// Adds the name of a column, what its field has, and what is said of that.
+fn append_told(
+    text: &mut Vec<u8>,
+    column: Column,
+    field: &Shown,
+    said: &[u8],
+) -> Result<(), AllocError>
+    ensures { OnOk result (text.new.items ≡ text.old.items ++ (field_text column field.now ++ said.now)) }
+{
+    append_field(text, column, field)?;
+    text.extend_from_slice(said)
+}
+
 /// Adds that a time is none in its form.
 fn append_no_time(text: &mut Vec<u8>, form: TimeForm, time: &Shown) -> Result<(), AllocError>
     ensures { OnOk result (text.new.items ≡ text.old.items ++ no_time_text form time.now) }
 {
-    append_field(text, Column::Time, time)?;
-    text.extend_from_slice(b" is no time as ")?;
+    append_told(text, Column::Time, time, b" is no time as ")?;
     text.extend_from_slice(example(form))
 }
 

@@ -8,7 +8,7 @@ ghost use Rattle.tsb_field_log.specs.Pushed.{rows_before};
 ghost use Rattle.tsb_field_log.specs.Ticks.{row_in};
 ghost use Rattle.tsb_field_log.specs.Taken.{HasTaken};
 ghost use Rattle.tsb_held_rows.specs.Holding.{held_rows, most_rows};
-ghost use Rattle.tsb_field_streams.specs.Filtering.{Given, Stand, how_many, may_be_plain, most_held, parameter_of, start, summary_at, text_of, time_place, wire_place, with_count, with_event, with_first, with_formed, with_header, with_in_order, with_line, with_other_line, with_passed, with_row, with_row_line, with_signal, with_text, with_used, with_wide, without_mark};
+ghost use Rattle.tsb_field_streams.specs.Filtering.{Given, Stand, how_many, may_be_plain, most_held, parameter_of, start, summary_at, text_of, time_place, wire_place, with_count, with_counted, with_event, with_first, with_formed, with_header, with_in_order, with_line, with_other_line, with_passed, with_row, with_row_line, with_signal, with_text, with_used, with_wide, without_mark};
 ghost use Rattle.tsb_field_streams.specs.declared.error.FilterError.TheVariants.{LogTooLarge};
 
 mod late;
@@ -31,7 +31,7 @@ pub const LINE: usize = 1000;
 pub const MOST_ROWS: u32 = 1_720_740;
 
 /// How rows are read.
-#[derive(Clone, Copy, PartialEq, Eq)]
+#[derive(Clone, Copy)]
 pub struct Reading {
     /// The moment at which tick 1 begins.
     pub from: Moment,
@@ -326,6 +326,13 @@ impl<'a> Filter<'a> {
             self.left_out.of_other_devices = self.left_out.of_other_devices.saturating_add(1);
             return Ok(NO_ROWS);
         }
+        self.take_counted(number, row)
+    }
+
+    /// Takes a row that counts, in order or sorted.
+    fn take_counted(&mut self, number: u32, row: EventRow) -> Result<Rows, FilterError>
+        ensures takes { (g : Given) (s : Stand) → StandsAt g s self.old → Takes g s (with_counted g number s row g.window) result self.new }
+    {
         match self.reading.window {
             None => self.take_in_order(number, row),
             Some(seconds) => self.take_late(number, row, seconds),

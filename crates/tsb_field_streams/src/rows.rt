@@ -30,8 +30,20 @@ pub(crate) fn write_rows<W: Write>(writer: &mut W, rows: Rows) -> Result<(), Fil
     }
 }
 
+/// Writes rows, and has the writer pass on what it has taken. The error is `Write`: their first bytes may have gone out.
+pub(crate) fn write_last_rows<W: Write>(writer: &mut W, rows: Rows) -> Result<(), FilterError>
+    ensures whole { OnOk result (Appends (W.contents writer.old) (W.contents writer.new) (log_text (rows_in rows))) }
+    ensures front { AppendsFront (W.contents writer.old) (W.contents writer.new) (log_text (rows_in rows)) }
+    ensures fault { OnErr result (result ≡ Err write) }
+{
+    match write_rows(writer, rows) {
+        Ok(()) => pass_rows_on(writer),
+        Err(fault) => Err(fault),
+    }
+}
+
 /// Has the writer pass on what it has taken.
-pub(crate) fn pass_rows_on<W: Write>(writer: &mut W) -> Result<(), FilterError>
+fn pass_rows_on<W: Write>(writer: &mut W) -> Result<(), FilterError>
     ensures bytes { Keeps (W.contents writer.old) (W.contents writer.new) }
     ensures fault { OnErr result (result ≡ Err write) }
 {

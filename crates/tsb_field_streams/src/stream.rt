@@ -2,12 +2,13 @@
 ghost use Rattle.std.specs.Prelude.{◌≡◌, ◌∷◌, [], ◌++◌, false, ℕ, IfOk, List, Option, length, option_map, replicate};
 ghost use Rattle.tsb_field_log.specs.Mapping.{wires_of};
 ghost use Rattle.tsb_field_streams.specs.Filtering.{Given, Stand};
-ghost use Rattle.tsb_field_streams.specs.Standing.{given_of};
-ghost use Rattle.tsb_field_streams.specs.Streaming.{Ended, EndedBehind, Finished, Follows, Gave, Known, Went};
+ghost use Rattle.tsb_field_log.specs.Taken.{HasTaken};
+ghost use Rattle.tsb_field_streams.specs.Standing.{StandsAtStart, given_of};
+ghost use Rattle.tsb_field_streams.specs.Streaming.{Ended, EndedBehind, Finished, Follows, Gave, Known, TookLast, Went};
 
 use crate::error::FilterError;
 use crate::filter::{Filter, LINE, Reading, Summary, most_held};
-use crate::rows::{pass_rows_on, write_rows};
+use crate::rows::{write_last_rows, write_rows};
 use std::alloc::{AllocError, Global};
 use std::io::{Read, Write};
 use tsb_field_log::{Street, Wire, wires};
@@ -38,8 +39,10 @@ impl Stream<'_> {
         ensures went { (g : Given) (bytes : List ℕ) (begun : Option (List ℕ)) → Follows g bytes self.old begun (W.contents writer.old)
             → Went result g (bytes ++ 10 ∷ []) self.new begun (W.contents writer.new) }
     {
-        let line = self.line.ended();
-        let rows = self.filter.take_line(self.number, line)?;
+        let rows = match self.filter.take_line(self.number, self.line.ended()) {
+            Ok(rows) => rows,
+            Err(fault) => return Err(fault),
+        };
         self.line.clear();
         self.number = self.number.saturating_add(1);
         write_rows(writer, rows)
@@ -63,7 +66,10 @@ impl Stream<'_> {
             → Went result g (before ++ bytes.now) self.new begun (W.contents writer.new) }
     {
         for byte in bytes {
-            self.feed(*byte, writer)?;
+            match self.feed(*byte, writer) {
+                Ok(()) => {}
+                Err(fault) => return Err(fault),
+            }
         }
         Ok(())
     }
@@ -73,14 +79,41 @@ impl Stream<'_> {
         ensures finished { (g : Given) (bytes : List ℕ) (begun : Option (List ℕ)) → Follows g bytes self.old begun (W.contents writer.old)
             → Finished result g bytes begun (W.contents writer.new) }
     {
-        let rows = self.filter.take_line(self.number, self.line.last())?;
-        write_rows(writer, rows)?;
-        self.take_held(writer)?;
+        match self.take_last(writer) {
+            Ok(()) => {}
+            Err(fault) => return Err(fault),
+        }
+        match self.take_held(writer) {
+            Ok(()) => self.end_log(writer),
+            Err(fault) => Err(fault),
+        }
+    }
+
+    /// Takes what follows the last line feed as the last line, and writes what becomes known of the log by it.
+    fn take_last<W: Write>(&mut self, writer: &mut W) -> Result<(), FilterError>
+        ensures took { (g : Given) (bytes : List ℕ) (begun : Option (List ℕ)) → Follows g bytes self.old begun (W.contents writer.old)
+            → TookLast result g bytes self.new.filter begun (W.contents writer.new) }
+    {
+        match self.filter.take_line(self.number, self.line.last()) {
+            Ok(rows) => write_rows(writer, rows),
+            Err(fault) => Err(fault),
+        }
+    }
+
+    /// Writes the rest of the log, where all rows are taken, and has the writer pass all on.
+    fn end_log<W: Write>(&mut self, writer: &mut W) -> Result<Summary, FilterError>
+        ensures finished { (g : Given) (bytes : List ℕ) (begun : Option (List ℕ)) (before : Stand) → Known g bytes before (length before.held) self.old.filter begun (W.contents writer.old)
+            → Finished result g bytes begun (W.contents writer.new) }
+    {
         let summary = self.filter.summary();
-        let rest = self.filter.finish()?;
-        write_rows(writer, rest)?;
-        pass_rows_on(writer)?;
-        Ok(summary)
+        let rest = match self.filter.finish() {
+            Ok(rest) => rest,
+            Err(fault) => return Err(fault),
+        };
+        match write_last_rows(writer, rest) {
+            Ok(()) => Ok(summary),
+            Err(fault) => Err(fault),
+        }
     }
 
     /// Takes the rows that are held, where no line follows, and writes what becomes known of the log.
@@ -90,8 +123,14 @@ impl Stream<'_> {
     {
         let count = self.filter.held_count();
         for _ in 0..count {
-            let rows = self.filter.take_next()?;
-            write_rows(writer, rows)?;
+            let rows = match self.filter.take_next() {
+                Ok(rows) => rows,
+                Err(fault) => return Err(fault),
+            };
+            match write_rows(writer, rows) {
+                Ok(()) => {}
+                Err(fault) => return Err(fault),
+            }
         }
         Ok(())
     }
@@ -121,7 +160,10 @@ impl Stream<'_> {
                 return Err(FilterError::TooLarge);
             }
             left -= count;
-            self.feed_all(&room[..count], writer)?;
+            match self.feed_all(&room[..count], writer) {
+                Ok(()) => {}
+                Err(fault) => return Err(fault),
+            }
         }
     }
 }
@@ -148,17 +190,65 @@ pub fn log<R: Read, W: Write>(
     let Ok(all) = wires(alloc, mapped) else {
         return Err(FilterError::Memory);
     };
-    let Ok(street) = Street::new(alloc, reading.from.nanos, &all) else {
-        return Err(FilterError::Memory);
-    };
-    let Ok(used) = none_used(alloc, &all) else {
-        return Err(FilterError::Memory);
-    };
-    let Ok(held) = Held::new(alloc, most_held(reading.window)) else {
-        return Err(FilterError::Memory);
-    };
+    match filter_of(alloc, reading, device, &all) {
+        Ok(filter) => run_over(filter, reader, writer),
+        Err(_) => Err(FilterError::Memory),
+    }
+}
+
+/// A filter of these wires, before the first line. The error is that memory ran out.
+fn filter_of<'a>(
+    alloc: Global,
+    reading: Reading,
+    device: Option<&'a [u8]>,
+    wires: &'a [Wire],
+) -> Result<Filter<'a>, AllocError>
+    ensures { IfOk result (λ filter. StandsAtStart (given_of reading (option_map (λ d. d.now) device.entry) wires.now) filter) }
+{
+    let used = none_used(alloc, wires)?;
+    match Street::new(alloc, reading.from.nanos, wires) {
+        Ok(street) => filter_with(alloc, reading, device, wires, used, street),
+        Err(fault) => {
+            drop(used);
+            Err(fault)
+        }
+    }
+}
+
+/// A filter of these wires with a street of theirs, before the first line. The error is that memory ran out.
+fn filter_with<'a>(
+    alloc: Global,
+    reading: Reading,
+    device: Option<&'a [u8]>,
+    wires: &'a [Wire],
+    used: Vec<bool>,
+    street: Street,
+) -> Result<Filter<'a>, AllocError>
+    requires none { used.items ≡ replicate (length wires.now) false }
+    requires taken { HasTaken reading.from.nanos wires.now [] street }
+    ensures { IfOk result (λ filter. StandsAtStart (given_of reading (option_map (λ d. d.now) device.entry) wires.now) filter) }
+{
+    match Held::new(alloc, most_held(reading.window)) {
+        Ok(held) => Ok(Filter::new(reading, device, wires, used, street, held)),
+        Err(fault) => {
+            drop(used);
+            drop(street);
+            Err(fault)
+        }
+    }
+}
+
+/// Reads events up to their end, and writes their log, by a filter before the first line.
+fn run_over<R: Read, W: Write>(
+    filter: Filter<'_>,
+    reader: &mut R,
+    writer: &mut W,
+) -> Result<Summary, FilterError>
+    ensures ended { (g : Given) → StandsAtStart g filter.entry
+        → EndedBehind result g (R.remaining reader.old) (R.remaining reader.new) (W.contents writer.old) (W.contents writer.new) }
+{
     let mut stream = Stream {
-        filter: Filter::new(reading, device, &all, used, street, held),
+        filter,
         number: 1,
         line: KeptLine::new(),
     };

@@ -1,7 +1,7 @@
 //! Rows that come a little out of order: they are held until no other row may come before them.
 ghost use Rattle.std.specs.Prelude.{◌≡◌, ◌<◌, length};
 ghost use Rattle.tsb_held_rows.specs.Holding.{held_rows, most_rows};
-ghost use Rattle.tsb_field_streams.specs.Filtering.{Given, Stand, bound_of, most_held, with_due, with_held, with_late, with_next};
+ghost use Rattle.tsb_field_streams.specs.Filtering.{Given, Stand, bound_of, most_held, with_due, with_given, with_held, with_late, with_next};
 
 use super::{Filter, NO_ROWS, time_place};
 use crate::error::{Disorder, FilterError};
@@ -55,7 +55,15 @@ impl Filter<'_> {
     fn take_due(&mut self, number: u32, seconds: u32) -> Result<Rows, FilterError>
         ensures takes { (g : Given) (s : Stand) → StandsAt g s self.old → Takes g s (with_due g number s seconds) result self.new }
     {
-        match self.held.give_before(bound_of(self.latest, seconds)) {
+        let given = self.held.give_before(bound_of(self.latest, seconds));
+        self.take_given(number, given)
+    }
+
+    /// Takes a row that was held, where there is one.
+    fn take_given(&mut self, number: u32, given: Option<EventRow>) -> Result<Rows, FilterError>
+        ensures takes { (g : Given) (s : Stand) → StandsAt g s self.old → Takes g s (with_given g number s given) result self.new }
+    {
+        match given {
             Some(row) => self.take_in_order(number, row),
             None => Ok(NO_ROWS),
         }
@@ -73,10 +81,8 @@ impl Filter<'_> {
     pub fn take_next(&mut self) -> Result<Rows, FilterError>
         ensures takes { (g : Given) (s : Stand) → StandsAt g s self.old → Takes g s (with_next g s) result self.new }
     {
-        match self.held.give() {
-            Some(row) => self.take_in_order(0, row),
-            None => Ok(NO_ROWS),
-        }
+        let given = self.held.give();
+        self.take_given(0, given)
     }
 }
 

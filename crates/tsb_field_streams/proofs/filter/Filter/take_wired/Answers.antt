@@ -1,10 +1,7 @@
-use Rattle.tsb_field_streams.specs.Filtering.{with_event, with_used}
-use Rattle.tsb_field_streams.proofs.FilterLemmas.{used-takes}
+use Rattle.tsb_field_streams.specs.Filtering.{with_used}
 use Rattle.tsb_field_streams.proofs.filter.Filter.take_wired.Goals as goal
 
 pub returns : goal.returns
 returns c = record {
-  takes = λ g s at last.
-      used-takes g s c.args.place (with_event g (with_used s c.args.place) c.args.event) c.take_event.result c.take_event.new.self
-      (c.take_event.ensures.takes g (with_used s c.args.place) (c.use_wire.ensures.stands g s at) last);
+  takes = λ g s at last. c.take_event.ensures.takes g (with_used s c.args.place) (c.use_wire.ensures.stands g s at) last;
 }

@@ -1,4 +1,4 @@
-use Rattle.std.proofs.Common.{◌≡◌, refl, get_or, rules, Err, sym}
+use Rattle.std.proofs.Common.{refl, get_or, sym}
 use Rattle.std.proofs.lemmas.List.{append-nil}
 use Rattle.tsb_field_streams.proofs.StreamLemmas.{follows-same, piece-end, piece-fault, piece-more}
 use Rattle.tsb_field_streams.proofs.stream.Stream.feed_all.Goals as goal
@@ -8,19 +8,18 @@ loop-byte-init g c = record {
   follows = λ given before begun f. follows-same given before _ _ _ _ (sym (append-nil before)) f;
 }
 
-pub returns-in_err-feed : goal.returns-in_err-feed
-returns-in_err-feed g c = record {
+pub returns-in-Err : goal.returns-in-Err
+returns-in-Err g c = record {
   went = λ given before begun f.
-      let is : c.from_residual.result ≡ Err c.in_err-feed.field-0.0 = search rules in
-      rw is (piece-fault given before c.args.bytes.now c.loop-byte.byte-index (get_or c.args.bytes.now c.loop-byte.byte-index 0) c.in_err-feed.field-0.0 _ _ c.loop-byte-test.true refl
-      (c.in_err-feed.ensures.went given _ begun (c.loop-byte.invariant.follows given before begun f)));
+      piece-fault given before c.args.bytes.now c.loop-byte.byte-index (get_or c.args.bytes.now c.loop-byte.byte-index 0) c.in-Err.fault _ _ c.loop-byte-test.true refl
+      (c.in-Err.ensures.went given _ begun (c.loop-byte.invariant.follows given before begun f));
 }
 
 pub loop-byte-preserved : goal.loop-byte-preserved
 loop-byte-preserved g c = record {
   follows = λ given before begun f.
       piece-more given before c.args.bytes.now c.loop-byte.byte-index (get_or c.args.bytes.now c.loop-byte.byte-index 0) _ _ _ c.loop-byte-test.true refl
-      (c.in_ok-feed.ensures.went given _ begun (c.loop-byte.invariant.follows given before begun f));
+      (c.in-Ok.ensures.went given _ begun (c.loop-byte.invariant.follows given before begun f));
 }
 
 pub returns : goal.returns

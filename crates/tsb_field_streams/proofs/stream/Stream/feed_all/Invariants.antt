@@ -1,4 +1,4 @@
-use Rattle.std.proofs.Common.{◌≡◌, ◌++◌, take, List, ℕ}
+use Rattle.std.proofs.Common.{◌++◌, take, List, ℕ}
 use Rattle.std.specs.declared.option.Option.{Option}
 use Rattle.tsb_field_streams.specs.Filtering.{Given}
 use Rattle.tsb_field_streams.specs.Streaming.{Follows}

@@ -1,4 +1,4 @@
-use Rattle.std.proofs.Common.{◌≡◌, rules, Err, ℕ, take, ap, sym}
+use Rattle.std.proofs.Common.{rules, ℕ, take, ap, sym}
 use Rattle.tsb_field_streams.proofs.StreamLemmas.{ended-end, ended-fault, ended-large, ended-read, going-more}
 use Rattle.tsb_field_streams.proofs.stream.Stream.run.Goals as goal
 
@@ -29,14 +29,13 @@ loop-count-preserved g c = record {
   going = λ given f.
       let k = c.loop-count.invariant.going given f in
       going-more given c.loop-count.self c.feed_all.new.self c.loop-count.left c.in-Ok.count (take c.in-Ok.count c.read.new.buf) _ _ _ _ _ _ k c.in-Ok.ensures.bytes.0 (sym c.in-Ok.ensures.bound.1)
-      c.if-left-count.false (c.in_ok-feed_all.ensures.went given k.read _ k.follows);
+      c.if-left-count.false (c.in-Ok-feed_all.ensures.went given k.read _ k.follows);
 }
 
-pub returns-in_err-feed_all : goal.returns-in_err-feed_all
-returns-in_err-feed_all g c = record {
+pub returns-in-Err-feed_all : goal.returns-in-Err-feed_all
+returns-in-Err-feed_all g c = record {
   ended = λ given f.
       let k = c.loop-count.invariant.going given f in
-      let is : c.from_residual.result ≡ Err c.in_err-feed_all.field-0.0 = search rules in
-      rw is (ended-fault c.in_err-feed_all.field-0.0 given c.loop-count.self c.loop-count.left c.in-Ok.count (take c.in-Ok.count c.read.new.buf) _ _ _ _ _ _ k c.in-Ok.ensures.bytes.0 (sym c.in-Ok.ensures.bound.1)
-      c.if-left-count.false (c.in_err-feed_all.ensures.went given k.read _ k.follows));
+      ended-fault c.in-Err-feed_all.fault given c.loop-count.self c.loop-count.left c.in-Ok.count (take c.in-Ok.count c.read.new.buf) _ _ _ _ _ _ k c.in-Ok.ensures.bytes.0 (sym c.in-Ok.ensures.bound.1)
+      c.if-left-count.false (c.in-Err-feed_all.ensures.went given k.read _ k.follows);
 }
