@@ -27,7 +27,7 @@ impl Kind {
 }
 
 /// What an event says of an input: its kind, and whether it is switched on or off.
-#[derive(Clone, Copy, PartialEq, Eq)]
+#[derive(Clone, Copy)]
 pub struct Signal {
     pub kind: Kind,
     pub on: bool,
@@ -63,7 +63,7 @@ pub struct Wire {
 }
 
 /// An input that is switched on or off.
-#[derive(Clone, Copy, PartialEq, Eq)]
+#[derive(Clone, Copy)]
 pub struct InputEvent {
     /// The moment, in nanoseconds, as a `Moment` of an event row counts them.
     pub nanos: u128,

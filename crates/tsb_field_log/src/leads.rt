@@ -9,7 +9,7 @@ use crate::inputs::{InputEvent, Kind, Wire};
 use tsb_types::Row;
 
 /// A wire, and what is known of it in the present tick.
-#[derive(Clone, Copy, PartialEq, Eq)]
+#[derive(Clone, Copy)]
 pub(crate) struct Lead {
     wire: Wire,
     /// Whether it is on now.
