@@ -6,10 +6,7 @@ use Rattle.tsb_event_text.specs.declared.columns.Columns.{Columns}
 use Rattle.tsb_event_text.specs.declared.columns.Separator.{Separator}
 use Rattle.tsb_event_text.specs.Fields.{device_at, fields_of}
 use Rattle.tsb_event_text.specs.Columns.{place_from, columns_at, columns_in}
-use Rattle.tsb_lines.specs.Words.{number_of}
-use Rattle.tsb_event_text.specs.declared.times.Moment.{Moment}
-use Rattle.tsb_event_text.specs.Times.{moment_of}
-use Rattle.tsb_event_text.specs.Rows.{is_asked, row_said, row_with, row_in}
+use Rattle.tsb_event_text.specs.Rows.{row_with, row_in}
 
 pub columns-with : (separator : Separator) (m : ℕ) (line : List ℕ) (fields : List (List ℕ)) (d t k p : Option ℕ) → fields_of m line ≡ Some fields
     → place_from 0 Device fields ≡ d → place_from 0 Time fields ≡ t → place_from 0 Code fields ≡ k → place_from 0 Parameter fields ≡ p
@@ -20,7 +17,3 @@ pub row-with : (columns : Columns) (asked : Option (List ℕ)) (m : ℕ) (line :
     → device_at fields columns.device ≡ d → slice_get fields columns.time ≡ t → slice_get fields columns.code ≡ k → slice_get fields columns.parameter ≡ p
     → row_in columns asked (fields_of m line) ≡ row_with asked d t k p
 row-with columns asked m line fields d t k p e hd ht hk hp = ap (row_in columns asked) e ∙ rw (hd, ht, hk, hp) refl
-
-pub said-with : (asked : Option (List ℕ)) (device time code parameter : List ℕ) (m : Option Moment) (n q : Option ℕ) → moment_of time ≡ m → number_of code ≡ n → number_of parameter ≡ q
-    → row_with asked (Some device) (Some time) (Some code) (Some parameter) ≡ row_said (is_asked asked device) m n q
-said-with asked device time code parameter m n q hm hn hq = rw (hm, hn, hq) refl

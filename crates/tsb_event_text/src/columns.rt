@@ -1,12 +1,12 @@
 //! Which field of a line is what.
 ghost use Rattle.std.specs.Prelude.{◌≡◌, List, ℕ, Some};
 ghost use Rattle.tsb_event_text.specs.Fields.{fields_of};
-ghost use Rattle.tsb_event_text.specs.Columns.{columns_in, header_by, header_of, is_called, is_filler, mark_of, names_column, place_from, separator_of, small, usual_of};
+ghost use Rattle.tsb_event_text.specs.Columns.{columns_at, columns_in, header_by, header_of, is_called, is_filler, mark_of, names_column, place_from, separator_of, small, usual_of};
 
 use crate::fields::{has_fields, has_third, next_field};
 
 /// What a field of a row says.
-#[derive(Clone, Copy, Debug, PartialEq, Eq)]
+#[derive(Clone, Copy, PartialEq, Eq)]
 pub enum Column {
     /// Which controller wrote the event.
     Device,
@@ -19,7 +19,7 @@ pub enum Column {
 }
 
 /// What parts the fields of a line.
-#[derive(Clone, Copy, Debug, PartialEq, Eq)]
+#[derive(Clone, Copy, PartialEq, Eq)]
 pub enum Separator {
     Comma,
     Semicolon,
@@ -116,10 +116,30 @@ fn columns_in(separator: Separator, mark: u8, line: &[u8]) -> Option<Columns>
     if !has_fields(mark, line) {
         return None;
     }
-    let time = place(mark, line, Column::Time)?;
-    let code = place(mark, line, Column::Code)?;
-    let parameter = place(mark, line, Column::Parameter)?;
-    let device = place(mark, line, Column::Device);
+    let Some(time) = place(mark, line, Column::Time) else {
+        return None;
+    };
+    columns_at(
+        separator,
+        place(mark, line, Column::Device),
+        time,
+        place(mark, line, Column::Code),
+        place(mark, line, Column::Parameter),
+    )
+}
+
+/// The columns, where all but the device have a place.
+fn columns_at(
+    separator: Separator,
+    device: Option<usize>,
+    time: usize,
+    code: Option<usize>,
+    parameter: Option<usize>,
+) -> Option<Columns>
+    ensures { result ≡ columns_at separator device (Some time) code parameter }
+{
+    let code = code?;
+    let parameter = parameter?;
     Some(Columns {
         device,
         time,

@@ -1,7 +1,7 @@
 //! Rows of events.
 ghost use Rattle.std.specs.Prelude.{◌≡◌, option_map};
 ghost use Rattle.tsb_event_text.specs.Fields.{fields_of};
-ghost use Rattle.tsb_event_text.specs.Rows.{is_asked, row_in, row_of};
+ghost use Rattle.tsb_event_text.specs.Rows.{is_asked, row_in, row_of, row_said, row_with};
 
 use crate::columns::Columns;
 use crate::fields::{device_at, field_at, has_fields};
@@ -39,15 +39,55 @@ fn row_in(mark: u8, line: &[u8], columns: Columns, asked: Option<&[u8]>) -> Opti
     if !has_fields(mark, line) {
         return None;
     }
-    let device = device_at(mark, line, columns.device)?;
-    let time = field_at(mark, line, columns.time)?;
-    let code = field_at(mark, line, columns.code)?;
-    let parameter = field_at(mark, line, columns.parameter)?;
+    row_with(
+        asked,
+        device_at(mark, line, columns.device),
+        field_at(mark, line, columns.time),
+        field_at(mark, line, columns.code),
+        field_at(mark, line, columns.parameter),
+    )
+}
+
+/// The row of these four fields, where they are there.
+fn row_with(
+    asked: Option<&[u8]>,
+    device: Option<&[u8]>,
+    time: Option<&[u8]>,
+    code: Option<&[u8]>,
+    parameter: Option<&[u8]>,
+) -> Option<EventRow>
+    ensures { result
+        ≡ row_with (option_map (λ text. text.now) asked.entry) (option_map (λ text. text.now) device.entry) (option_map (λ text. text.now) time.entry) (option_map (λ text. text.now) code.entry) (option_map (λ text. text.now) parameter.entry) }
+{
+    let device = device?;
+    let time = time?;
+    let code = code?;
+    let parameter = parameter?;
+    row_said(
+        is_asked(asked, device),
+        read_moment(time),
+        number(code),
+        number(parameter),
+    )
+}
+
+/// The row, where its time, its code and its parameter are spelled.
+fn row_said(
+    ours: bool,
+    moment: Option<Moment>,
+    code: Option<u32>,
+    parameter: Option<u32>,
+) -> Option<EventRow>
+    ensures { result ≡ row_said ours moment code parameter }
+{
+    let moment = moment?;
+    let code = code?;
+    let parameter = parameter?;
     Some(EventRow {
-        ours: is_asked(asked, device),
-        moment: read_moment(time)?,
-        code: number(code)?,
-        parameter: number(parameter)?,
+        ours,
+        moment,
+        code,
+        parameter,
     })
 }
 

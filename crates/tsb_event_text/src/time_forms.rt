@@ -11,7 +11,7 @@ use memchr::memchr;
 use tsb_lines::number;
 
 /// How a text spells times.
-#[derive(Clone, Copy, Debug, PartialEq, Eq)]
+#[derive(Clone, Copy, PartialEq, Eq)]
 pub enum TimeForm {
     /// A year, a month and a day, as `2026-11-22 07:00:03.2`.
     YearFirst,
@@ -26,7 +26,7 @@ pub enum TimeForm {
 }
 
 /// Which hours a clock has.
-#[derive(Clone, Copy, PartialEq, Eq)]
+#[derive(Clone, Copy)]
 enum Half {
     /// 0 to 23, of the whole day.
     Whole,

@@ -4,7 +4,7 @@ ghost use Rattle.tsb_event_text.specs.Columns.{header_of};
 ghost use Rattle.tsb_event_text.specs.Fields.{fields_of};
 ghost use Rattle.tsb_event_text.specs.TimeForms.{is_there};
 ghost use Rattle.tsb_lines.specs.Words.{number_of};
-ghost use Rattle.tsb_event_text.specs.Wide.{are_marks, are_zeros, form_by, is_count, is_mark, is_passed, is_rows, trimmed, whole_of, wide_fields, wide_in, wide_of, without_end, without_front};
+ghost use Rattle.tsb_event_text.specs.Wide.{are_marks, are_zeros, form_by, is_count, is_mark, is_passed, is_rows, trimmed, whole_of, wide_fields, wide_in, wide_of, wide_with, without_end, without_front};
 
 use crate::columns::{Columns, header};
 use crate::events::has_byte;
@@ -59,10 +59,34 @@ fn wide_in(
 ) -> Option<WideRow>
     ensures { result ≡ wide_in columns times zone (option_map (λ device. device.now) asked.entry) (fields_of mark line.now) }
 {
-    let device = device_in(mark, line, columns.device)?;
-    let time = field_in(mark, line, columns.time)?;
-    let code = field_in(mark, line, columns.code)?;
-    let parameter = field_in(mark, line, columns.parameter)?;
+    wide_with(
+        asked,
+        times,
+        zone,
+        device_in(mark, line, columns.device),
+        field_in(mark, line, columns.time),
+        field_in(mark, line, columns.code),
+        field_in(mark, line, columns.parameter),
+    )
+}
+
+/// The row of these four fields, where they are there.
+fn wide_with(
+    asked: Option<&[u8]>,
+    times: Option<TimeForm>,
+    zone: Option<Zone>,
+    device: Option<&[u8]>,
+    time: Option<&[u8]>,
+    code: Option<&[u8]>,
+    parameter: Option<&[u8]>,
+) -> Option<WideRow>
+    ensures { result
+        ≡ wide_with (option_map (λ text. text.now) asked.entry) times zone (option_map (λ text. text.now) device.entry) (option_map (λ text. text.now) time.entry) (option_map (λ text. text.now) code.entry) (option_map (λ text. text.now) parameter.entry) }
+{
+    let device = device?;
+    let time = time?;
+    let code = code?;
+    let parameter = parameter?;
     wide_fields(
         asked,
         times,

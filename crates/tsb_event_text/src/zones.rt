@@ -7,7 +7,7 @@ use crate::time_forms::{clock_of, split};
 use tsb_lines::number;
 
 /// How a clock stands to that of UTC. At most one of both is not 0.
-#[derive(Clone, Copy, Debug, PartialEq, Eq)]
+#[derive(Clone, Copy, PartialEq, Eq)]
 pub struct Zone {
     /// How many minutes it is ahead.
     pub east: u16,
