@@ -24,6 +24,13 @@ EndedAs result stopped on_fault plan input left old new = Ended KEPT BYTES HasSt
 abbrev pub EndedBy : DialogError → OnFault → Plan → Option (List ℕ) → Option (List ℕ) → Option (List ℕ) → Option (List ℕ) → Type 0
 EndedBy fault on_fault plan input left old new = (stopped : Option Stopped) × EndedAs (Err fault) stopped on_fault plan input left old new
 
+-- how a run ends whose dialog ended so, with the line that ended it, if one did
+abbrev pub ended_with : Result (Unit {0}) DialogError → Option Stop → Result (Option Stop) SessionError
+ended_with (Ok u) stop = Ok stop
+ended_with (Err ends.Read) stop = Err Read
+ended_with (Err ends.Write) stop = Err Write
+ended_with (Err ends.TooLarge) stop = Err TooLarge
+
 -- a live run ended as its dialog did. With no memory to begin with nothing was read and nothing was written.
 abbrev pub LiveEnded : Result (Option Stop) SessionError → OnFault → Plan → Option (List ℕ) → Option (List ℕ) → Option (List ℕ) → Option (List ℕ) → Type 0
 LiveEnded (Ok stop) on_fault plan input left old new = EndedAs (Ok tt) (stop_in stop) on_fault plan input left old new

@@ -9,7 +9,7 @@ ghost use Rattle.tsb_text.specs.Blame.{Blames};
 ghost use Rattle.tsb_text.specs.Faults.{fault_words};
 ghost use Rattle.tsb_saved.specs.Saved.{saved_text};
 ghost use Rattle.tsb_live_text.specs.Live.{AsksLive, Live as LiveState, Obeys, Reads, echo_of, fault_by, flow_in, stop_in};
-ghost use Rattle.tsb_live_text.specs.LiveEnded.{LiveEnded};
+ghost use Rattle.tsb_live_text.specs.LiveEnded.{LiveEnded, ended_with};
 ghost use Rattle.tsb_live_text.specs.Standing.{Does, StandsLive, TellsOnce, TellsPlan};
 
 use crate::changes::changes;
@@ -317,8 +317,19 @@ pub fn live<R: Read, W: Write>(
         on_fault,
         stop: None,
     };
-    match converse(&mut run, BYTES, reader, writer) {
-        Ok(()) => Ok(run.stop),
+    let ended = converse(&mut run, BYTES, reader, writer);
+    ended_with(ended, run.stop)
+}
+
+/// How a run ends whose dialog ended so, with the line that ended it, if one did.
+fn ended_with(
+    ended: Result<(), DialogError>,
+    stop: Option<Stop>,
+) -> Result<Option<Stop>, SessionError>
+    ensures { result ≡ ended_with ended stop }
+{
+    match ended {
+        Ok(()) => Ok(stop),
         Err(DialogError::Read) => Err(SessionError::Read),
         Err(DialogError::Write) => Err(SessionError::Write),
         Err(DialogError::TooLarge) => Err(SessionError::TooLarge),
