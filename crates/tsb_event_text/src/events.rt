@@ -1,5 +1,5 @@
 //! Events, written.
-ghost use Rattle.std.specs.Prelude.{◌≡◌, ◌++◌, ◌∷◌, IfOk, OnOk, decimal};
+ghost use Rattle.std.specs.Prelude.{◌≡◌, ◌++◌, ◌∷◌, [], IfOk, OnOk, decimal};
 ghost use Rattle.tsb_lines.specs.Lines.{is_comment};
 ghost use Rattle.tsb_event_text.specs.Events.{can_be_written, device_field, event_text, has_byte};
 ghost use Rattle.tsb_event_text.specs.Written.{bytes_of};
@@ -51,9 +51,16 @@ pub fn append_event(
     append_device(text, device)?;
     text.push(b',')?;
     time.append_to(text)?;
-    append_number(text, code)?;
-    append_number(text, parameter)?;
-    text.push(b'\n')?;
+    append_numbers(text, code, parameter)
+}
+
+/// Adds a code and a parameter, each after a comma, and a line feed to a line.
+fn append_numbers(line: &mut Vec<u8>, code: u32, parameter: u32) -> Result<(), AllocError>
+    ensures { OnOk result (line.new.items ≡ line.old.items ++ 44 ∷ (decimal code ++ 44 ∷ (decimal parameter ++ 10 ∷ []))) }
+{
+    append_number(line, code)?;
+    append_number(line, parameter)?;
+    line.push(b'\n')?;
     Ok(())
 }
 

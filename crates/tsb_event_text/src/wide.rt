@@ -83,10 +83,18 @@ fn wide_with(
     ensures { result
         ≡ wide_with (option_map (λ text. text.now) asked.entry) times zone (option_map (λ text. text.now) device.entry) (option_map (λ text. text.now) time.entry) (option_map (λ text. text.now) code.entry) (option_map (λ text. text.now) parameter.entry) }
 {
-    let device = device?;
-    let time = time?;
-    let code = code?;
-    let parameter = parameter?;
+    let Some(device) = device else {
+        return None;
+    };
+    let Some(time) = time else {
+        return None;
+    };
+    let Some(code) = code else {
+        return None;
+    };
+    let Some(parameter) = parameter else {
+        return None;
+    };
     wide_fields(
         asked,
         times,
