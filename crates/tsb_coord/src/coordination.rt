@@ -3,7 +3,7 @@
 use tsb_objects::{Pattern, PhaseSet, Sequence};
 
 /// What coordination says in a tick: the pattern that runs, and what it asks of the rings.
-#[derive(Clone, Copy, PartialEq, Eq)]
+#[derive(Clone, Copy)]
 pub struct Coordination {
     /// The pattern that runs, or `None` in free operation.
     pub runs: Option<Pattern>,
