@@ -10,7 +10,7 @@ use crate::display::Display;
 use tsb_objects::{Lamp, NumberSet, Overlap, PedestrianColor, Phase, SignalColor};
 
 /// What the lamps of the heads show: what the controller orders, and on one head an injected lamp instead.
-#[derive(Clone, Copy, PartialEq, Eq)]
+#[derive(Clone, Copy)]
 pub struct Field {
     /// The heads. None of them flashes, as a controller that has tripped is no longer monitored.
     pub(crate) heads: Display,
