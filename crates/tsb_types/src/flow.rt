@@ -6,7 +6,7 @@ use crate::numbers::{Phase, Side};
 use crate::phase_set::PhaseSet;
 
 /// The intervals of all phases: a phase in none of the sets is Red. No phase is in two of them.
-#[derive(Clone, Copy, PartialEq, Eq)]
+#[derive(Clone, Copy)]
 pub struct Intervals {
     /// Phases that are Green.
     pub green: PhaseSet,
@@ -17,7 +17,7 @@ pub struct Intervals {
 }
 
 /// The pedestrian parts of all phases: a phase in none of the sets is in `DontWalk`. No phase is in both.
-#[derive(Clone, Copy, PartialEq, Eq)]
+#[derive(Clone, Copy)]
 pub struct Pedestrians {
     /// Phases whose pedestrians may start to walk.
     pub walk: PhaseSet,
@@ -26,7 +26,7 @@ pub struct Pedestrians {
 }
 
 /// What coordination and preemption ask of the rings in a tick.
-#[derive(Clone, Copy, PartialEq, Eq)]
+#[derive(Clone, Copy)]
 pub struct Orders {
     /// The coordinated phases of the pattern that runs: coordination keeps them green until their force-off,
     /// unless a preempt is in service.
@@ -69,7 +69,7 @@ pub struct Timing {
 }
 
 /// What one ring does in a tick.
-#[derive(Clone, Copy, PartialEq, Eq)]
+#[derive(Clone, Copy)]
 pub struct RingMoves {
     /// The phase that goes from green to yellow, if any.
     pub ends: Option<Phase>,
@@ -82,7 +82,7 @@ pub struct RingMoves {
 }
 
 /// What both rings do in a tick.
-#[derive(Clone, Copy, PartialEq, Eq)]
+#[derive(Clone, Copy)]
 pub struct Moves {
     /// What ring 1 does.
     pub first: RingMoves,

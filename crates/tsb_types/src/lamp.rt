@@ -18,7 +18,7 @@ pub enum Aspect {
 }
 
 /// What a phase's pedestrian head shows.
-#[derive(Clone, Copy, PartialEq, Eq)]
+#[derive(Clone, Copy)]
 pub enum PedestrianAspect {
     /// The phase is not enabled, or has no walk and is in `DontWalk`, or the monitor has tripped the
     /// controller (profile).
