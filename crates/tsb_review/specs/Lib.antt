@@ -10,6 +10,8 @@ pub mod Actuation
 pub mod Coordination
 pub mod Preempts
 pub mod Overlaps
+-- what phases are sought for
+pub mod Sought
 -- the places that advices are given for
 pub mod Places
 -- THE ADVICES: which there are, and all that hold of a plan

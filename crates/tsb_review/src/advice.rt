@@ -8,7 +8,7 @@ use crate::place::Shape;
 ///
 /// They stand in the order in which a review gives them: on service (A1 to A7), pedestrians (A8 to A14), clearance (A15
 /// and A16), actuation (A17 to A26), coordination (A27 to A32), preempts (A33 to A38) and overlaps (A39 to A41).
-#[derive(Clone, Copy, Debug, PartialEq, Eq)]
+#[derive(Clone, Copy)]
 pub enum Advice {
     /// An enabled phase is called by no detector, button, recall or split mode.
     A1,

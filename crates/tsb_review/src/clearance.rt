@@ -2,12 +2,11 @@
 #![tactic(auto, unfolding(tsb_plan::specs::PlanOf::plan_of))]
 
 ghost use Rattle.std.specs.Prelude.{◌≡◌};
-ghost use Rattle.std.specs.List.{list_any};
-ghost use Rattle.tsb_plan.specs.Plan.{phases};
 ghost use Rattle.tsb_plan.specs.PlanOf.{plan_of};
 ghost use Rattle.tsb_review.specs.Clearance.{is_across, clears_without_red, reverts_soon, reverting, has_short_revert};
 
 use crate::calls::is_for_pedestrians;
+use crate::sought::{Sought, first_phase, some_phase};
 use tsb_plan::Plan;
 use tsb_types::Phase;
 
@@ -15,7 +14,7 @@ use tsb_types::Phase;
 const SHORTEST_REVERT: u32 = 20;
 
 /// Whether `other` is an enabled phase of another side than the phase.
-fn is_across(plan: &Plan, phase: Phase, other: Phase) -> bool
+pub(crate) fn is_across(plan: &Plan, phase: Phase, other: Phase) -> bool
     ensures { result ≡ is_across (plan_of plan.now) phase other }
 {
     plan.is_enabled(other) && plan.side(phase) != plan.side(other)
@@ -29,20 +28,11 @@ pub(crate) fn clears_without_red(plan: &Plan, phase: Phase) -> bool
     plan.is_enabled(phase)
         && !is_for_pedestrians(plan, phase)
         && plan.red_clear(phase) == 0
-        && has_across(plan, phase)
-}
-
-/// Whether there are phases of another side than the phase.
-fn has_across(plan: &Plan, phase: Phase) -> bool
-    ensures { result ≡ list_any (is_across (plan_of plan.now) phase) (phases (plan_of plan.now)) }
-{
-    Phase::all()
-        .iter()
-        .any(|other| is_across(plan, phase, *other))
+        && some_phase(plan, Sought::Across(phase))
 }
 
 /// Whether the phase is enabled, and its red revert is under 2 seconds.
-fn reverts_soon(plan: &Plan, phase: Phase) -> bool
+pub(crate) fn reverts_soon(plan: &Plan, phase: Phase) -> bool
     ensures { result ≡ reverts_soon (plan_of plan.now) phase }
 {
     plan.is_enabled(phase) && plan.red_revert(phase) < SHORTEST_REVERT
@@ -52,10 +42,7 @@ fn reverts_soon(plan: &Plan, phase: Phase) -> bool
 pub(crate) fn reverting(plan: &Plan) -> Option<Phase>
     ensures { result ≡ reverting (plan_of plan.now) }
 {
-    Phase::all()
-        .iter()
-        .copied()
-        .find(|phase| reverts_soon(plan, *phase))
+    first_phase(plan, Sought::SoonReverting)
 }
 
 /// A16: whether the red revert of some phase is under 2 seconds.

@@ -2,9 +2,7 @@
 #![tactic(auto, unfolding(tsb_plan::specs::PlanOf::plan_of))]
 
 ghost use Rattle.std.specs.Prelude.{◌≡◌, ◌==◌};
-ghost use Rattle.std.specs.List.{list_any};
 ghost use Rattle.tsb_plan.specs.Objects.{indices};
-ghost use Rattle.tsb_plan.specs.Plan.{phases};
 ghost use Rattle.tsb_plan.specs.PlanOf.{plan_of};
 ghost use Rattle.tsb_review.specs.Splits.{passed_by};
 ghost use Rattle.tsb_review.specs.Coordination.{spare_time, has_tight_split, overrun, makes_late, recalls_omitted, is_same_before, first_same, is_repeated, has_long_offset, is_actuated, yields_once};
@@ -12,6 +10,7 @@ ghost use Rattle.tsb_review.specs.Coordination.{spare_time, has_tight_split, ove
 use crate::calls::{is_recalled, is_recalled_in};
 use crate::pedestrians::{overruns_split, pedestrian_time};
 use crate::service::has_soft_recall;
+use crate::sought::{Sought, some_phase};
 use crate::splits::{green_of_split, passed_by};
 use tsb_plan::{Object, Plan};
 use tsb_types::{Pattern, Phase};
@@ -113,7 +112,7 @@ pub(crate) fn has_long_offset(plan: &Plan, pattern: Pattern) -> bool
 }
 
 /// Whether the phase waits for a call in the pattern: it is neither coordinated, nor omitted, nor recalled.
-fn is_actuated(plan: &Plan, pattern: Pattern, phase: Phase) -> bool
+pub(crate) fn is_actuated(plan: &Plan, pattern: Pattern, phase: Phase) -> bool
     ensures { result ≡ is_actuated (plan_of plan.now) pattern phase }
 {
     plan.is_enabled(phase)
@@ -126,14 +125,5 @@ fn is_actuated(plan: &Plan, pattern: Pattern, phase: Phase) -> bool
 pub(crate) fn yields_once(plan: &Plan, pattern: Pattern) -> bool
     ensures { result ≡ yields_once (plan_of plan.now) pattern }
 {
-    plan.is_used(pattern) && has_actuated(plan, pattern)
-}
-
-/// Whether the pattern has a phase that waits for a call.
-fn has_actuated(plan: &Plan, pattern: Pattern) -> bool
-    ensures { result ≡ list_any (is_actuated (plan_of plan.now) pattern) (phases (plan_of plan.now)) }
-{
-    Phase::all()
-        .iter()
-        .any(|phase| is_actuated(plan, pattern, *phase))
+    plan.is_used(pattern) && some_phase(plan, Sought::Actuated(pattern))
 }

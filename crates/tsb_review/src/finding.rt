@@ -14,7 +14,7 @@ use tsb_plan::Plan;
 use tsb_types::{Detector, Overlap, Pattern, Phase, Preempt, Ring};
 
 /// An advice that holds, and what it is given for.
-#[derive(Clone, Copy, PartialEq, Eq)]
+#[derive(Clone, Copy)]
 pub struct Finding {
     /// The advice.
     pub advice: Advice,
@@ -64,7 +64,7 @@ pub fn holds(plan: &Plan, advice: Advice, place: &Place) -> bool
     }
 }
 
-/// Whether the advice holds of the whole lan.
+/// Whether the advice holds of the whole plan.
 fn of_unit(plan: &Plan, advice: Advice) -> bool
     ensures { result ≡ of_unit (plan_of plan.now) advice }
 {
@@ -74,7 +74,7 @@ fn of_unit(plan: &Plan, advice: Advice) -> bool
     }
 }
 
-/// Whether the advice holds of phase.
+/// Whether the advice holds of the phase.
 fn of_phase(plan: &Plan, advice: Advice, phase: Phase) -> bool
     ensures { result ≡ of_phase (plan_of plan.now) advice phase }
 {
@@ -100,7 +100,7 @@ fn of_phase(plan: &Plan, advice: Advice, phase: Phase) -> bool
     }
 }
 
-/// Whether the advice holds of phases.
+/// Whether the advice holds of the two phases.
 fn of_phases(plan: &Plan, advice: Advice, phase: Phase, other: Phase) -> bool
     ensures { result ≡ of_phases (plan_of plan.now) advice phase other }
 {
@@ -110,7 +110,7 @@ fn of_phases(plan: &Plan, advice: Advice, phase: Phase, other: Phase) -> bool
     }
 }
 
-/// Whether the advice holds of vehicleetector.
+/// Whether the advice holds of the vehicle detector.
 fn of_detector(plan: &Plan, advice: Advice, detector: Detector) -> bool
     ensures { result ≡ of_detector (plan_of plan.now) advice detector }
 {
@@ -122,7 +122,7 @@ fn of_detector(plan: &Plan, advice: Advice, detector: Detector) -> bool
     }
 }
 
-/// Whether the advice holds of ring.
+/// Whether the advice holds of the ring.
 fn of_ring(plan: &Plan, advice: Advice, ring: Ring) -> bool
     ensures { result ≡ of_ring (plan_of plan.now) advice ring }
 {
@@ -132,7 +132,7 @@ fn of_ring(plan: &Plan, advice: Advice, ring: Ring) -> bool
     }
 }
 
-/// Whether the advice holds of pattern.
+/// Whether the advice holds of the pattern.
 fn of_pattern(plan: &Plan, advice: Advice, pattern: Pattern) -> bool
     ensures { result ≡ of_pattern (plan_of plan.now) advice pattern }
 {
@@ -144,7 +144,7 @@ fn of_pattern(plan: &Plan, advice: Advice, pattern: Pattern) -> bool
     }
 }
 
-/// Whether the advice holds of phase  in attern.
+/// Whether the advice holds of the phase in the pattern.
 fn of_split(plan: &Plan, advice: Advice, pattern: Pattern, phase: Phase) -> bool
     ensures { result ≡ of_split (plan_of plan.now) advice pattern phase }
 {
@@ -159,7 +159,7 @@ fn of_split(plan: &Plan, advice: Advice, pattern: Pattern, phase: Phase) -> bool
     }
 }
 
-/// Whether the advice holds of preempt.
+/// Whether the advice holds of the preempt.
 fn of_preempt(plan: &Plan, advice: Advice, preempt: Preempt) -> bool
     ensures { result ≡ of_preempt (plan_of plan.now) advice preempt }
 {
@@ -171,7 +171,7 @@ fn of_preempt(plan: &Plan, advice: Advice, preempt: Preempt) -> bool
     }
 }
 
-/// Whether the advice holds of phase  ineempt.
+/// Whether the advice holds of the phase in the preempt.
 fn of_preempt_phase(plan: &Plan, advice: Advice, preempt: Preempt, phase: Phase) -> bool
     ensures { result ≡ of_preempt_phase (plan_of plan.now) advice preempt phase }
 {
@@ -183,7 +183,7 @@ fn of_preempt_phase(plan: &Plan, advice: Advice, preempt: Preempt, phase: Phase)
     }
 }
 
-/// Whether the advice holds of overlap.
+/// Whether the advice holds of the overlap.
 fn of_overlap(plan: &Plan, advice: Advice, overlap: Overlap) -> bool
     ensures { result ≡ of_overlap (plan_of plan.now) advice overlap }
 {
@@ -194,7 +194,7 @@ fn of_overlap(plan: &Plan, advice: Advice, overlap: Overlap) -> bool
     }
 }
 
-/// Whether the advice holds of phase  inverlap.
+/// Whether the advice holds of the phase in the overlap.
 fn of_overlap_phase(plan: &Plan, advice: Advice, overlap: Overlap, phase: Phase) -> bool
     ensures { result ≡ of_overlap_phase (plan_of plan.now) advice overlap phase }
 {

@@ -16,6 +16,7 @@ mod pedestrians;
 pub mod place;
 mod preempts;
 mod service;
+mod sought;
 mod splits;
 
 pub use advice::Advice;

@@ -19,7 +19,7 @@ use tsb_types::{Detector, Overlap, Pattern, Phase, Preempt};
 
 /// The numbers that the line of a finding shows: those of its place, and times, phases or patterns. What an advice does
 /// not have is 0.
-#[derive(Clone, Copy, PartialEq, Eq)]
+#[derive(Clone, Copy)]
 pub struct Numbers {
     /// The number of the place, or for a phase in a pattern that of the phase.
     pub a: u32,

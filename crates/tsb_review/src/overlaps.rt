@@ -1,18 +1,19 @@
 //! Advices on overlaps: A39 to A41.
 #![tactic(auto, unfolding(tsb_plan::specs::PlanOf::plan_of))]
 
-ghost use Rattle.std.specs.Prelude.{◌≡◌, Some};
+ghost use Rattle.std.specs.Prelude.{◌≡◌};
 ghost use Rattle.std.specs.List.{list_any};
 ghost use Rattle.tsb_plan.specs.Objects.{indices};
 ghost use Rattle.tsb_plan.specs.Plan.{phases};
 ghost use Rattle.tsb_plan.specs.PlanOf.{plan_of};
 ghost use Rattle.tsb_review.specs.Overlaps.{is_split_from, is_split_at, split_at, split_from, is_split, modifies_itself, is_beside, is_carried_at, adds_nothing};
 
+use crate::sought::{Sought, first_phase, some_phase};
 use tsb_plan::{Object, Plan};
 use tsb_types::{Overlap, Phase};
 
 /// Whether the overlap includes `other`, which is of another ring than the phase and not concurrent with it.
-fn is_split_from(plan: &Plan, overlap: Overlap, phase: Phase, other: Phase) -> bool
+pub(crate) fn is_split_from(plan: &Plan, overlap: Overlap, phase: Phase, other: Phase) -> bool
     ensures { result ≡ is_split_from (plan_of plan.now) overlap phase other }
 {
     plan.included_phases(overlap).contains(other)
@@ -24,16 +25,8 @@ fn is_split_from(plan: &Plan, overlap: Overlap, phase: Phase, other: Phase) -> b
 fn is_split_at(plan: &Plan, overlap: Overlap, phase: Phase) -> bool
     ensures { result ≡ is_split_at (plan_of plan.now) overlap phase }
 {
-    plan.included_phases(overlap).contains(phase) && has_split_from(plan, overlap, phase)
-}
-
-/// Whether the overlap includes a phase of the other ring that follows or precedes the phase.
-fn has_split_from(plan: &Plan, overlap: Overlap, phase: Phase) -> bool
-    ensures { result ≡ list_any (is_split_from (plan_of plan.now) overlap phase) (phases (plan_of plan.now)) }
-{
-    Phase::all()
-        .iter()
-        .any(|other| is_split_from(plan, overlap, phase, *other))
+    plan.included_phases(overlap).contains(phase)
+        && some_phase(plan, Sought::SplitFrom(overlap, phase))
 }
 
 /// The first such phase.
@@ -52,18 +45,8 @@ pub(crate) fn split_from(plan: &Plan, overlap: Overlap, phase: Option<Phase>) ->
 {
     match phase {
         None => None,
-        Some(phase) => first_split_from(plan, overlap, phase),
+        Some(phase) => first_phase(plan, Sought::SplitFrom(overlap, phase)),
     }
-}
-
-/// The first phase that a phase of the overlap is split from.
-fn first_split_from(plan: &Plan, overlap: Overlap, phase: Phase) -> Option<Phase>
-    ensures { result ≡ split_from (plan_of plan.now) overlap (Some phase) }
-{
-    Phase::all()
-        .iter()
-        .copied()
-        .find(|other| is_split_from(plan, overlap, phase, *other))
 }
 
 /// A39: whether the overlap includes phases of both rings that are not concurrent.
@@ -81,7 +64,7 @@ pub(crate) fn modifies_itself(plan: &Plan, overlap: Overlap, phase: Phase) -> bo
 }
 
 /// Whether the overlap includes `other`, which is another phase of the ring of the phase.
-fn is_beside(plan: &Plan, overlap: Overlap, phase: Phase, other: Phase) -> bool
+pub(crate) fn is_beside(plan: &Plan, overlap: Overlap, phase: Phase, other: Phase) -> bool
     ensures { result ≡ is_beside (plan_of plan.now) overlap phase other }
 {
     plan.included_phases(overlap).contains(other)
@@ -93,16 +76,8 @@ fn is_beside(plan: &Plan, overlap: Overlap, phase: Phase, other: Phase) -> bool
 fn is_carried_at(plan: &Plan, overlap: Overlap, phase: Phase) -> bool
     ensures { result ≡ is_carried_at (plan_of plan.now) overlap phase }
 {
-    plan.included_phases(overlap).contains(phase) && has_beside(plan, overlap, phase)
-}
-
-/// Whether the overlap includes another phase of the ring of the phase.
-fn has_beside(plan: &Plan, overlap: Overlap, phase: Phase) -> bool
-    ensures { result ≡ list_any (is_beside (plan_of plan.now) overlap phase) (phases (plan_of plan.now)) }
-{
-    Phase::all()
-        .iter()
-        .any(|other| is_beside(plan, overlap, phase, *other))
+    plan.included_phases(overlap).contains(phase)
+        && some_phase(plan, Sought::Beside(overlap, phase))
 }
 
 /// Whether the overlap includes two phases of one ring.

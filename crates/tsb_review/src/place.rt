@@ -5,7 +5,7 @@ ghost use Rattle.tsb_review.specs.Places.{firsts, seconds, place_of};
 use tsb_types::{Detector, Overlap, Pattern, Phase, Preempt, Ring};
 
 /// What an advice is given for: a part of a plan, or two.
-#[derive(Clone, Copy, PartialEq, Eq)]
+#[derive(Clone, Copy)]
 pub enum Place {
     /// The whole plan.
     Unit,
@@ -32,7 +32,7 @@ pub enum Place {
 }
 
 /// The kind of a place.
-#[derive(Clone, Copy, PartialEq, Eq)]
+#[derive(Clone, Copy)]
 pub enum Shape {
     /// The whole plan.
     Unit,

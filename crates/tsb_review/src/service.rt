@@ -1,13 +1,14 @@
 //! Advices on what is served: A1 to A7.
 #![tactic(auto, unfolding(tsb_plan::specs::PlanOf::plan_of))]
 
-ghost use Rattle.std.specs.Prelude.{◌≡◌, ◌||◌, not, Some};
-ghost use Rattle.std.specs.List.{list_all, list_any};
+ghost use Rattle.std.specs.Prelude.{◌≡◌, ◌||◌, not};
+ghost use Rattle.std.specs.List.{list_all};
 ghost use Rattle.tsb_plan.specs.Plan.{phases, has_maximum_recall, has_soft_recall};
 ghost use Rattle.tsb_plan.specs.PlanOf.{plan_of};
 ghost use Rattle.tsb_review.specs.Service.{is_never_called, has_settings, is_set_for_nothing, is_kept_apart, can_wait_for, is_served_apart, apart_from, may_lose_coordination, is_in_ring, has_fixed_times, has_two_recalls, is_always_called, is_rival, has_rival, rivalled, rival_of, never_recalls_softly};
 
 use crate::calls::{conflicts, has_button, has_detector, is_recalled, is_recalled_by_pattern};
+use crate::sought::{Sought, first_phase, some_phase};
 use tsb_plan::{Object, Plan};
 use tsb_types::{Detector, Pattern, Phase, Ring};
 
@@ -67,7 +68,7 @@ pub(crate) fn can_wait_for(plan: &Plan, phase: Phase, other: Phase) -> bool
 }
 
 /// Whether `other` is kept apart from the phase, and the pattern does not omit it.
-fn is_served_apart(plan: &Plan, pattern: Pattern, phase: Phase, other: Phase) -> bool
+pub(crate) fn is_served_apart(plan: &Plan, pattern: Pattern, phase: Phase, other: Phase) -> bool
     ensures { result ≡ is_served_apart (plan_of plan.now) pattern phase other }
 {
     is_kept_apart(plan, phase, other) && !plan.is_omitted_now(Some(pattern), other)
@@ -77,10 +78,7 @@ fn is_served_apart(plan: &Plan, pattern: Pattern, phase: Phase, other: Phase) ->
 pub(crate) fn apart_from(plan: &Plan, pattern: Pattern, phase: Phase) -> Option<Phase>
     ensures { result ≡ apart_from (plan_of plan.now) pattern phase }
 {
-    Phase::all()
-        .iter()
-        .copied()
-        .find(|other| is_served_apart(plan, pattern, phase, *other))
+    first_phase(plan, Sought::ServedApart(pattern, phase))
 }
 
 /// A4: whether the phase is a coordinated one of the used pattern, which serves a phase of its side apart from it.
@@ -94,7 +92,7 @@ pub(crate) fn may_lose_coordination(plan: &Plan, pattern: Pattern, phase: Phase)
 }
 
 /// Whether the phase is an enabled one of the ring.
-fn is_in_ring(plan: &Plan, ring: Ring, phase: Phase) -> bool
+pub(crate) fn is_in_ring(plan: &Plan, ring: Ring, phase: Phase) -> bool
     ensures { result ≡ is_in_ring (plan_of plan.now) ring phase }
 {
     plan.is_enabled(phase) && plan.ring(phase) == u32::from(ring.number())
@@ -104,16 +102,7 @@ fn is_in_ring(plan: &Plan, ring: Ring, phase: Phase) -> bool
 pub(crate) fn has_fixed_times(plan: &Plan, ring: Ring) -> bool
     ensures { result ≡ has_fixed_times (plan_of plan.now) ring }
 {
-    has_phases(plan, ring) && all_have_maximum_recall(plan, ring)
-}
-
-/// Whether the ring has phases.
-fn has_phases(plan: &Plan, ring: Ring) -> bool
-    ensures { result ≡ list_any (is_in_ring (plan_of plan.now) ring) (phases (plan_of plan.now)) }
-{
-    Phase::all()
-        .iter()
-        .any(|phase| is_in_ring(plan, ring, *phase))
+    some_phase(plan, Sought::InRing(ring)) && all_have_maximum_recall(plan, ring)
 }
 
 /// Whether all phases of the ring have maximum recall.
@@ -139,7 +128,7 @@ fn is_always_called(plan: &Plan, phase: Phase) -> bool
 }
 
 /// Whether `other` conflicts with the phase, and is called at all times in free operation.
-fn is_rival(plan: &Plan, phase: Phase, other: Phase) -> bool
+pub(crate) fn is_rival(plan: &Plan, phase: Phase, other: Phase) -> bool
     ensures { result ≡ is_rival (plan_of plan.now) phase other }
 {
     conflicts(plan, phase, other) && is_recalled(plan, other)
@@ -149,16 +138,7 @@ fn is_rival(plan: &Plan, phase: Phase, other: Phase) -> bool
 fn has_rival(plan: &Plan, phase: Phase) -> bool
     ensures { result ≡ has_rival (plan_of plan.now) phase }
 {
-    is_always_called(plan, phase) && has_rivals(plan, phase)
-}
-
-/// Whether some phase that is called at all times conflicts with the phase.
-fn has_rivals(plan: &Plan, phase: Phase) -> bool
-    ensures { result ≡ list_any (is_rival (plan_of plan.now) phase) (phases (plan_of plan.now)) }
-{
-    Phase::all()
-        .iter()
-        .any(|other| is_rival(plan, phase, *other))
+    is_always_called(plan, phase) && some_phase(plan, Sought::Rival(phase))
 }
 
 /// The first phase that has a rival.
@@ -177,18 +157,8 @@ pub(crate) fn rival_of(plan: &Plan, phase: Option<Phase>) -> Option<Phase>
 {
     match phase {
         None => None,
-        Some(phase) => first_rival(plan, phase),
+        Some(phase) => first_phase(plan, Sought::Rival(phase)),
     }
-}
-
-/// The first rival of a phase.
-fn first_rival(plan: &Plan, phase: Phase) -> Option<Phase>
-    ensures { result ≡ rival_of (plan_of plan.now) (Some phase) }
-{
-    Phase::all()
-        .iter()
-        .copied()
-        .find(|other| is_rival(plan, phase, *other))
 }
 
 /// A7: whether the phase has a soft recall and no other, and some phase always waits by its recall.

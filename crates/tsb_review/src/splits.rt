@@ -9,6 +9,7 @@ ghost use Rattle.tsb_objects.specs.Instants.{end_of, instant_from};
 ghost use Rattle.tsb_review.specs.Splits.{split_time_in, green_of_split, is_forced_after, is_passed, passed_by};
 
 use crate::calls::conflicts;
+use crate::sought::{Sought, first_phase};
 use tsb_plan::Plan;
 use tsb_rules::split_end;
 use tsb_types::{Pattern, Phase};
@@ -80,7 +81,7 @@ fn is_forced_after(plan: &Plan, pattern: Pattern, phase: Phase, next: Phase) -> 
 
 /// Whether `next`, where it begins so long after the end of the split of the phase, begins at its force-off instant or
 /// after it, and there is no late force-off.
-fn is_passed(plan: &Plan, pattern: Pattern, phase: Phase, late: u32, next: Phase) -> bool
+pub(crate) fn is_passed(plan: &Plan, pattern: Pattern, phase: Phase, late: u32, next: Phase) -> bool
     ensures { result ≡ is_passed (plan_of plan.now) pattern phase late next }
 {
     !plan.forces_late()
@@ -93,8 +94,5 @@ fn is_passed(plan: &Plan, pattern: Pattern, phase: Phase, late: u32, next: Phase
 pub(crate) fn passed_by(plan: &Plan, pattern: Pattern, phase: Phase, late: u32) -> Option<Phase>
     ensures { result ≡ passed_by (plan_of plan.now) pattern phase late }
 {
-    Phase::all()
-        .iter()
-        .copied()
-        .find(|next| is_passed(plan, pattern, phase, late, *next))
+    first_phase(plan, Sought::Passed(pattern, phase, late))
 }

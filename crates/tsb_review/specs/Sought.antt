@@ -1,0 +1,24 @@
+-- What phases are sought for, as data, so that one loop seeks them all. Each is a test of the advices.
+use Rattle.std.specs.Prelude.{ℕ, Bool}
+use Rattle.tsb_plan.specs.Plan.{Plan}
+use Rattle.tsb_review.specs.declared.sought.Sought.{Sought}
+use Rattle.tsb_review.specs.declared.sought.Sought.TheVariants.{InConflict, Across, InRing, Rival, SplitFrom, Beside, Actuated, SoonReverting, ServedApart, Passed}
+use Rattle.tsb_review.specs.Calls.{conflicts}
+use Rattle.tsb_review.specs.Clearance.{is_across, reverts_soon}
+use Rattle.tsb_review.specs.Coordination.{is_actuated}
+use Rattle.tsb_review.specs.Overlaps.{is_beside, is_split_from}
+use Rattle.tsb_review.specs.Service.{is_in_ring, is_rival, is_served_apart}
+use Rattle.tsb_review.specs.Splits.{is_passed}
+
+-- what a phase has to be
+abbrev pub is_sought : Sought → Plan → ℕ → Bool
+is_sought (InConflict p) plan = conflicts plan p
+is_sought (Across p) plan = is_across plan p
+is_sought (InRing r) plan = is_in_ring plan r
+is_sought (Rival p) plan = is_rival plan p
+is_sought (SplitFrom o p) plan = is_split_from plan o p
+is_sought (Beside o p) plan = is_beside plan o p
+is_sought (Actuated n) plan = is_actuated plan n
+is_sought SoonReverting plan = reverts_soon plan
+is_sought (ServedApart n p) plan = is_served_apart plan n p
+is_sought (Passed n p late) plan = is_passed plan n p late

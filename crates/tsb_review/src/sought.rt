@@ -1,0 +1,80 @@
+//! Phases that are sought by what they are: one loop for all.
+#![tactic(auto, unfolding(tsb_plan::specs::PlanOf::plan_of))]
+
+ghost use Rattle.std.specs.Prelude.{◌≡◌};
+ghost use Rattle.std.specs.List.{list_any};
+ghost use Rattle.tsb_plan.specs.Plan.{phases};
+ghost use Rattle.tsb_plan.specs.PlanOf.{plan_of};
+ghost use Rattle.tsb_types.specs.Lists.{first};
+ghost use Rattle.tsb_review.specs.Sought.{is_sought};
+
+use crate::calls::conflicts;
+use crate::clearance::{is_across, reverts_soon};
+use crate::coordination::is_actuated;
+use crate::overlaps::{is_beside, is_split_from};
+use crate::service::{is_in_ring, is_rival, is_served_apart};
+use crate::splits::is_passed;
+use tsb_plan::Plan;
+use tsb_types::{Overlap, Pattern, Phase, Ring};
+
+/// What a phase has to be.
+#[derive(Clone, Copy)]
+pub(crate) enum Sought {
+    /// It conflicts with this phase.
+    InConflict(Phase),
+    /// It is enabled, and of another side than this phase.
+    Across(Phase),
+    /// It is an enabled phase of this ring.
+    InRing(Ring),
+    /// It conflicts with this phase, and is called at all times in free operation.
+    Rival(Phase),
+    /// This overlap includes it, and it is of another ring than this phase and not concurrent with it.
+    SplitFrom(Overlap, Phase),
+    /// This overlap includes it, and it is another phase of the ring of this one.
+    Beside(Overlap, Phase),
+    /// It waits for a call in this pattern.
+    Actuated(Pattern),
+    /// Its red revert is under 2 seconds.
+    SoonReverting,
+    /// This pattern serves it apart from this phase.
+    ServedApart(Pattern, Phase),
+    /// In this pattern it begins at its force-off instant or after it, so long after the end of the split of this phase.
+    Passed(Pattern, Phase, u32),
+}
+
+/// Whether the phase is so.
+fn is_sought(plan: &Plan, sought: Sought, phase: Phase) -> bool
+    ensures { result ≡ is_sought sought (plan_of plan.now) phase }
+{
+    match sought {
+        Sought::InConflict(other) => conflicts(plan, other, phase),
+        Sought::Across(other) => is_across(plan, other, phase),
+        Sought::InRing(ring) => is_in_ring(plan, ring, phase),
+        Sought::Rival(other) => is_rival(plan, other, phase),
+        Sought::SplitFrom(overlap, other) => is_split_from(plan, overlap, other, phase),
+        Sought::Beside(overlap, other) => is_beside(plan, overlap, other, phase),
+        Sought::Actuated(pattern) => is_actuated(plan, pattern, phase),
+        Sought::SoonReverting => reverts_soon(plan, phase),
+        Sought::ServedApart(pattern, other) => is_served_apart(plan, pattern, other, phase),
+        Sought::Passed(pattern, other, late) => is_passed(plan, pattern, other, late, phase),
+    }
+}
+
+/// Whether some phase is so.
+pub(crate) fn some_phase(plan: &Plan, sought: Sought) -> bool
+    ensures { result ≡ list_any (is_sought sought (plan_of plan.now)) (phases (plan_of plan.now)) }
+{
+    Phase::all()
+        .iter()
+        .any(|phase| is_sought(plan, sought, *phase))
+}
+
+/// The first phase that is so.
+pub(crate) fn first_phase(plan: &Plan, sought: Sought) -> Option<Phase>
+    ensures { result ≡ first (is_sought sought (plan_of plan.now)) (phases (plan_of plan.now)) }
+{
+    Phase::all()
+        .iter()
+        .copied()
+        .find(|phase| is_sought(plan, sought, *phase))
+}
