@@ -17,7 +17,7 @@ struct Machine {
 }
 
 /// Where a text stops being JSON.
-#[derive(Clone, Copy, PartialEq, Eq)]
+#[derive(Clone, Copy)]
 pub(crate) struct Stop {
     /// How many bytes come before.
     pub(crate) at: usize,

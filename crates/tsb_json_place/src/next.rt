@@ -1,7 +1,7 @@
 //! What a text of JSON may go on with.
 
 /// What opens and has to be closed.
-#[derive(Clone, Copy, Debug, Default, PartialEq, Eq)]
+#[derive(Clone, Copy, Default)]
 pub enum Bracket {
     /// `{`, which names and values follow.
     #[default]
@@ -11,7 +11,7 @@ pub enum Bracket {
 }
 
 /// What a text between double quotes is.
-#[derive(Clone, Copy, Debug, PartialEq, Eq)]
+#[derive(Clone, Copy)]
 pub enum Role {
     /// The name of a member.
     Name,
@@ -20,7 +20,7 @@ pub enum Role {
 }
 
 /// What is left of one of the words `true`, `false` and `null`, as far as it has come.
-#[derive(Clone, Copy, Debug, PartialEq, Eq)]
+#[derive(Clone, Copy)]
 pub enum Rest {
     Rue,
     Ue,
@@ -34,7 +34,7 @@ pub enum Rest {
 }
 
 /// What a text of JSON may go on with.
-#[derive(Clone, Copy, Debug, PartialEq, Eq)]
+#[derive(Clone, Copy)]
 pub enum Next {
     /// A value.
     Value,
@@ -86,7 +86,7 @@ pub enum Next {
 }
 
 /// What a byte does.
-#[derive(Clone, Copy, Debug, PartialEq, Eq)]
+#[derive(Clone, Copy)]
 pub enum Move {
     /// This may follow it.
     To(Next),

@@ -13,7 +13,7 @@ use itoa::Buffer;
 pub const TOLD: usize = 120;
 
 /// Where a text stops being JSON.
-#[derive(Clone, Copy, Debug, PartialEq, Eq)]
+#[derive(Clone, Copy)]
 pub struct JsonPlace {
     /// The line, counted from 1.
     pub line: usize,
