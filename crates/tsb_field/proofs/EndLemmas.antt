@@ -1,14 +1,15 @@
 -- How the program ends.
-use Rattle.std.proofs.Common.{◌≡◌, ◌∙◌, ◌==◌, ◌&&◌, not, ℕ, Bool, List, OnErr, OnOk, Ok, true, false, refl, subst, sym, inl, inr}
+use Rattle.std.proofs.Common.{◌≡◌, ◌==◌, ◌&&◌, not, ℕ, Bool, List, OnErr, OnOk, Ok, true, refl, subst, sym, inl, inr}
 use Rattle.std.specs.declared.result.Result.{Result}
 use Rattle.std.proofs.lemmas.Bool.{true≢false}
-use Rattle.std.specs.Prelude.{Err, None, Some}
+use Rattle.std.specs.Prelude.{Err, None, Some, Vec}
 use Rattle.std.specs.declared.option.Option.{Option}
 use Rattle.tsb_program.specs.Failures.{Fails}
 use Rattle.tsb_program.specs.declared.failure.Failure.{Failure}
-use Rattle.tsb_program.specs.tsb_watched.Seen.{Seen, Tells}
+use Rattle.tsb_program.specs.tsb_watched.Seen.{Seen}
 use Rattle.tsb_program.specs.Read.{HasNoPlan, HasPlan, LogRead}
 use Rattle.tsb_program.specs.Told.{FailsFile, TellsNoLog, TellsNoPlan, TellsWhy}
+use Rattle.tsb_program.specs.declared.files.FileError.TheVariants as causes
 use Rattle.tsb_program.specs.declared.read.PlanFault.{PlanFault}
 use Rattle.tsb_program.specs.tsb_json_place.declared.place.JsonPlace.{JsonPlace}
 use Rattle.tsb_text.specs.tsb_plan.Plan.{Plan}
@@ -20,11 +21,17 @@ use Rattle.tsb_log_text.specs.declared.error.LogError.{LogError}
 use Rattle.tsb_log_text.specs.declared.log.LogRow.{LogRow}
 use Rattle.tsb_field_display.specs.declared.error.ReplayError.{ReplayError}
 use Rattle.tsb_field_display.specs.declared.error.ReplayError.TheVariants as replays
-use Rattle.tsb_field_display.specs.Stream.{ReadSo}
+use Rattle.tsb_field_display.specs.Remaining.{changes_in, last_in}
+use Rattle.tsb_field_display.specs.Stream.{ReadSo, ReplayRead}
+use Rattle.tsb_field_display.specs.declared.replay.Replay.{Replay}
 use Rattle.tsb_field_display.specs.declared.shown.Shown.{Shown}
 use Rattle.tsb_text.specs.declared.faults.OnFault.{OnFault}
 use Rattle.tsb_field_events.specs.Merge.{session_events}
-use Rattle.tsb_field_events.specs.Texts.{IsLog}
+use Rattle.tsb_field_events.specs.Texts.{IsLog, LogWritten}
+use Rattle.tsb_field_events.specs.declared.error.EventsError.{EventsError}
+use Rattle.tsb_field_events.specs.declared.error.EventsError.TheVariants as events
+use Rattle.tsb_field_diagram.specs.Page.{diagram_text}
+use Rattle.tsb_record.specs.tsb_types.declared.event.Event.{Event}
 use Rattle.tsb_field_streams.specs.declared.error.FilterError.{FilterError}
 use Rattle.tsb_field_streams.specs.declared.error.FilterError.TheVariants as filters
 use Rattle.tsb_field_streams.specs.FaultLines.{filter_fault}
@@ -35,9 +42,9 @@ use Rattle.tsb_field_streams.specs.Standing.{given_of}
 use Rattle.tsb_field_streams.specs.Streaming.{Ended}
 use Rattle.tsb_field_streams.specs.declared.filter.Reading.{Reading}
 use Rattle.tsb_field_streams.specs.declared.filter.Summary.{Summary}
-use Rattle.tsb_field.specs.LogEnds.{IsPassedOn, Logged, LoggedTelling, NoPlan, TellsFault, TellsWhere}
+use Rattle.tsb_field.specs.LogEnds.{IsPassedOn, Logged, LoggedBeside, LoggedTelling, LoggedWith, NoPlan, TellsFault, TellsWhere}
 use Rattle.tsb_words.specs.FieldWords.{LogWish}
-use Rattle.tsb_field.specs.Ends.{IsEvents, LogNamed, NoRun, NotDrawn, Pictured, Recorded, Stops, failure_by, name_of}
+use Rattle.tsb_field.specs.Ends.{Drawn, Draws, IsDiagram, LogNamed, NamesLog, NoRun, NotDrawn, Pictured, Recorded, RecordedOn, Stops, Told, ToldOn, Writes, WritesMade, failure_by, name_of}
 
 -- there is no log
 pub stops : (fault : ReadError LogError) (known : List ℕ → Option (List ℕ)) (path : Option (List ℕ)) (name : List ℕ) (status : ℕ) (told tells : Seen) → name ≡ name_of path → LogNamed (Err fault) known path
@@ -57,17 +64,61 @@ pub no-plan : (fault : PlanFault) (status : ℕ) (plan rows : List ℕ) (files :
     → TellsNoPlan plan fault status told tells → NoRun plan rows files status told tells
 no-plan fault status plan rows files told tells has line = no-plan-by fault.why fault.place status plan rows files told tells has line
 
-pub no-log : (fault : ReadError LogError) (found : Plan) (status : ℕ) (plan rows : List ℕ) (files : List ℕ → Option (List ℕ)) (told tells : Seen) → HasPlan (files plan) found → LogRead (Err fault) (files rows)
-    → TellsNoLog rows fault status told tells → NoRun plan rows files status told tells
-no-log (faults.Failed why) found status plan rows files told tells has read line = inr (inr (inr (found, has, (why, line))))
-no-log (faults.Refused fault) found status plan rows files told tells has read line = inr (inl (found, has, fault, read, line))
+-- there is no log in the file that is named
+pub stops-there : (fault : ReadError LogError) (status : ℕ) (rows : List ℕ) (files : List ℕ → Option (List ℕ)) (told tells : Seen) → LogRead (Err fault) (files rows)
+    → TellsNoLog rows fault status told tells → Stops files (Some rows) status told tells
+stops-there (faults.Failed why) status rows files told tells read line = inr (why, line)
+stops-there (faults.Refused fault) status rows files told tells read line = inl (fault, read, line)
+
+-- a record on a plan that was found
+pub recorded-on : (status : ℕ) (from : Moment) (device : List ℕ) (on_fault : OnFault) (found : Plan) (plan rows : List ℕ) (files : List ℕ → Option (List ℕ)) (input left old new told tells : Seen) → HasPlan (files plan) found
+    → RecordedOn status from device on_fault found rows files input left old new told tells → Recorded status from device on_fault plan rows files input left old new told tells
+recorded-on status from device on_fault found plan rows files input left old new told tells has recorded = elim recorded [
+  | inl ran ↦ inl (record { plan = found; log = ran.0 }, has, ran.1, ran.2)
+  | inr none ↦ inr (none.0, none.1, elim none.2 [ inl refused ↦ inr (inl (found, has, refused.0, refused.1, refused.2)) | inr failed ↦ inr (inr (inr (found, has, failed))) ])
+]
 
 -- what was handed on is the same
-pub events-are : (from : Moment) (device other : List ℕ) (lines shown : List Shown) (rows named : List LogRow) (last : Option ℕ) (text : List ℕ) → other ≡ device → shown ≡ lines → named ≡ rows
-    → IsLog from other (session_events shown named) text → IsEvents from device lines last rows text
-events-are from device other lines shown rows named last text same_device same_lines same_rows log =
-    subst (λ (d : List ℕ). IsLog from d (session_events lines rows) text) same_device
-    (subst (λ (s : List Shown). IsLog from other (session_events s rows) text) same_lines (subst (λ (r : List LogRow). IsLog from other (session_events shown r) text) same_rows log))
+pub log-same : {A : Type 0} (made : Result (Vec ℕ A) EventsError) (from : Moment) (device other : List ℕ) (all more : List Event) → other ≡ device → more ≡ all → LogWritten made from other more
+    → LogWritten made from device all
+log-same made from device other all more same_device same_events written =
+    subst (λ (d : List ℕ). LogWritten made from d all) same_device (subst (λ (es : List Event). LogWritten made from other es) same_events written)
+
+-- the text that was made of these events
+pub writes-made : {A : Type 0} (made : Result (Vec ℕ A) EventsError) (status : ℕ) (from : Moment) (device : List ℕ) (all : List Event) (old new told tells : Seen) → LogWritten made from device all
+    → WritesMade made status old new told tells → Writes status from device all old new told tells
+writes-made (Ok text) status from device all old new told tells log writes = inl (text.items, log.1, writes)
+writes-made (Err events.Memory) status from device all old new told tells log writes = inr (inl writes)
+writes-made (Err events.Late) status from device all old new told tells log writes = inr (inr (log, writes.0, writes.1))
+
+-- the events of a session that was read
+pub told-read : (from : Moment) (device : List ℕ) (rows : List LogRow) (replay : Replay) (status : ℕ) (input left old new told tells : Seen) → ReplayRead (Ok replay) left.failed input.bytes left.bytes
+    → Writes status from device (session_events (changes_in replay) rows) old new told tells → ToldOn status from device rows input left old new told tells
+told-read from device rows replay status input left old new told tells read writes = elim writes [
+  | inl text ↦ inl (inl (read.bytes, read.taken, read.so.0, read.so.1, text.0, subst (λ (shown : List Shown). IsLog from device (session_events shown rows) text.0) read.so.2.changes text.1, text.2))
+  | inr none ↦ elim none [ inl memory ↦ inl (inr (read.bytes, read.taken, memory.0, inr (read.so.0, memory.1))) | inr late ↦ inr (read.bytes, read.taken, read.so.0, late.0, late.1, late.2) ]
+]
+
+-- beside the log that words name
+pub told-on : (status : ℕ) (from : Moment) (device : List ℕ) (rows : List LogRow) (files : List ℕ → Option (List ℕ)) (path : Option (List ℕ)) (input left old new told tells : Seen) → NamesLog files path rows
+    → ToldOn status from device rows input left old new told tells → Told status from device files path input left old new told tells
+told-on status from device rows files path input left old new told tells names on = elim on [ inl drawn ↦ inr (inl (rows, names, drawn)) | inr late ↦ inr (inr late) ]
+
+-- the picture of a session that was read
+pub drawn-read : (title : List ℕ) (seconds : ℕ) (rows : List LogRow) (replay : Replay) (status : ℕ) (input left old new told tells : Seen) → ReplayRead (Ok replay) left.failed input.bytes left.bytes
+    → Draws (diagram_text title seconds (changes_in replay) (last_in replay) rows) status old new told tells → Drawn (IsDiagram title seconds) status rows input left old new told tells
+drawn-read title seconds rows replay status input left old new told tells read draws = elim draws [
+  | inl written ↦ inl (
+    read.bytes,
+    read.taken,
+    read.so.0,
+    read.so.1,
+    diagram_text title seconds (changes_in replay) (last_in replay) rows,
+    (λ j. diagram_text title seconds (read.so.2.changes j) (read.so.2.last j) rows),
+    written,
+  )
+  | inr memory ↦ inr (read.bytes, read.taken, memory.0, inr (read.so.0, memory.1))
+]
 
 pub recorded-as : (status : ℕ) (from : Moment) (device : List ℕ) (other on_fault : OnFault) (plan rows : List ℕ) (files : List ℕ → Option (List ℕ)) (input left old new told tells : Seen) → other ≡ on_fault
     → Recorded status from device other plan rows files input left old new told tells → Recorded status from device on_fault plan rows files input left old new told tells
@@ -116,6 +167,14 @@ told-more text wrote status wish input left old new told mid tells same logged m
   subst (λ (s : ℕ). Logged s wish input left old new told mid) (sym same) logged,
   subst (λ (s : ℕ). TellsWhere (s == 0 && not mid.failed) text mid tells) (sym same) more,
 )
+
+-- a log was made beside a plan that was found
+pub logged-beside : (plan : Plan) (path : List ℕ) (status : ℕ) (wish : LogWish) (files : List ℕ → Option (List ℕ)) (input left old new told tells : Seen) → HasPlan (files path) plan
+    → LoggedWith plan status wish input left old new told tells → LoggedBeside path status wish files input left old new told tells
+logged-beside plan path status wish files input left old new told tells has logged = elim logged [
+  | inl telling ↦ inl (plan, has, telling)
+  | inr none ↦ inr (none.0, none.1, inr (causes.Memory, none.2))
+]
 
 -- there is no plan
 no-plan-here : (why : ReadError PlanError) (place : Option JsonPlace) (status : ℕ) (path : List ℕ) (files : List ℕ → Option (List ℕ)) (told tells : Seen) → HasNoPlan why place (files path)

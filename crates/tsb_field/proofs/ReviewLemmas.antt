@@ -1,5 +1,5 @@
 -- A text of two parts, of which a writer has taken the first bytes.
-use Rattle.std.proofs.Common.{◌≡◌, ◌∙◌, ℕ, List, ◌++◌, append_assoc, ap, sym, Option}
+use Rattle.std.proofs.Common.{◌∙◌, ℕ, List, ◌++◌, append_assoc, ap, sym, Option}
 use Rattle.std.specs.Io.KnownBytes.{Appends}
 use Rattle.tsb_lines.proofs.StreamLemmas.{appends-more}
 use Rattle.tsb_lines.specs.Writes.{AppendsFront}

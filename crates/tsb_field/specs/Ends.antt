@@ -1,7 +1,7 @@
 -- How the program ends, and what it has then written on its output and of faults.
 --
 -- Of each stream there is what is seen before and after: `input` and `left`, `old` and `new`, `told` and `tells`.
-use Rattle.std.specs.Prelude.{◌≡◌, ◌⊎◌, ℕ, Bool, true, false, List, [], IsSome, Option, Some, None, Result, Ok, Err, unwrap_or, codes}
+use Rattle.std.specs.Prelude.{◌≡◌, ◌⊎◌, ℕ, Bool, true, false, List, [], IsSome, Option, Some, None, Result, Ok, Err, Vec, unwrap_or, codes}
 use Rattle.std.specs.Io.KnownBytes.{Consumes, IsAtEnd}
 use Rattle.tsb_lines.specs.Writes.{AppendsFront}
 use Rattle.tsb_program.specs.Read.{HasLog, HasPlan, RefusesLog, RefusesPlanAt}
@@ -22,6 +22,8 @@ use Rattle.tsb_field_display.specs.declared.error.ReplayError.{ReplayError}
 use Rattle.tsb_field_display.specs.declared.error.ReplayError.TheVariants as replays
 use Rattle.tsb_field_display.specs.declared.shown.Shown.{Shown}
 use Rattle.tsb_field_diagram.specs.Page.{diagram_text}
+use Rattle.tsb_field_events.specs.declared.error.EventsError.{EventsError}
+use Rattle.tsb_field_events.specs.declared.error.EventsError.TheVariants as ends
 use Rattle.tsb_field_events.specs.Merge.{session_events}
 use Rattle.tsb_field_events.specs.Texts.{IsLog}
 use Rattle.tsb_field_events.specs.Ticks.{AreWritten}
@@ -115,6 +117,12 @@ Told status from device files path input left old new told tells =
     ⊎ ((bytes : List ℕ) × Consumes input.bytes left.bytes bytes × (left.failed ≡ false) × (AreWritten from → ⊥) × (new ≡ old)
     × TellsLate status told tells))
 
+-- the events of what was read are written, with these rows of a log; or nothing is, since with 2 a tick has no time
+abbrev pub ToldOn : ℕ → Moment → List ℕ → List LogRow → (input left old new told tells : Seen) → Type 0
+ToldOn status from device rows input left old new told tells =
+    Drawn (IsEvents from device) status rows input left old new told tells
+    ⊎ ((bytes : List ℕ) × Consumes input.bytes left.bytes bytes × (left.failed ≡ false) × (AreWritten from → ⊥) × (new ≡ old) × TellsLate status told tells)
+
 -- ## `record`
 
 -- there is no run on the files of these names: with 1 because the plan is refused, which is told with the place at which its
@@ -131,6 +139,12 @@ Writes status from device all old new told tells =
     ((text : List ℕ) × IsLog from device all text × Written status text old new told tells)
     ⊎ (((new ≡ old) × Fails Memory status told tells)
     ⊎ ((AreWritten from → ⊥) × (new ≡ old) × TellsLate status told tells))
+
+-- the text that was made of events is written; or nothing is, since there is none
+abbrev pub WritesMade : {A : Type 0} → Result (Vec ℕ A) EventsError → ℕ → (old new told tells : Seen) → Type 0
+WritesMade (Ok text) status old new told tells = Written status text.items old new told tells
+WritesMade (Err ends.Memory) status old new told tells = (new ≡ old) × Fails Memory status told tells
+WritesMade (Err ends.Late) status old new told tells = (new ≡ old) × TellsLate status told tells
 
 -- what a record does after a line with which something is wrong, as words say
 abbrev pub on_fault_of : Bool → OnFault
@@ -149,6 +163,12 @@ abbrev pub RanSo : ℕ → Moment → List ℕ → OnFault → Setup → (input 
 RanSo status from device on_fault given input left old new told tells =
     (result : Result Outcome SessionError) × (mid : Seen) × recorded.Ended result on_fault given input.bytes left.bytes told.bytes mid.bytes
     × Blames result left.failed mid.failed mid.flushed × WritesEnd result status from device old new mid tells
+
+-- how `record` ended on this plan and the log in the file of this name: after a run, or with nothing read and nothing written
+abbrev pub RecordedOn : ℕ → Moment → List ℕ → OnFault → Plan → (rows : List ℕ) → (List ℕ → Option (List ℕ)) → (input left old new told tells : Seen) → Type 0
+RecordedOn status from device on_fault plan rows files input left old new told tells =
+    ((log : List LogRow) × HasLog (files rows) log × RanSo status from device on_fault (record { plan = plan; log = log }) input left old new told tells)
+    ⊎ ((left ≡ input) × (new ≡ old) × Stops files (Some rows) status told tells)
 
 -- how `record` ended on the files of a plan and a log, of these names: after a run, or with nothing read and nothing written
 abbrev pub Recorded : ℕ → Moment → List ℕ → OnFault → (plan rows : List ℕ) → (List ℕ → Option (List ℕ)) → (input left old new told tells : Seen) → Type 0
@@ -169,6 +189,10 @@ seconds_of seconds = unwrap_or seconds 300
 -- the picture of a session
 abbrev pub IsDiagram : List ℕ → ℕ → List Shown → Option ℕ → List LogRow → List ℕ → Type 0
 IsDiagram title seconds changes last rows text = text ≡ diagram_text title seconds changes last rows
+
+-- this picture is written; or nothing is, as memory failed
+abbrev pub Draws : List ℕ → ℕ → (old new told tells : Seen) → Type 0
+Draws text status old new told tells = Written status text old new told tells ⊎ ((new ≡ old) × Fails Memory status told tells)
 
 -- the picture of what was read is written; or nothing is, since there is no log
 abbrev pub Pictured : ℕ → List ℕ → ℕ → (List ℕ → Option (List ℕ)) → Option (List ℕ) → (input left old new told tells : Seen) → Type 0

@@ -105,6 +105,12 @@ NoPlan path files status told tells =
     ((fault : PlanError) × (place : Option JsonPlace) × RefusesPlanAt (files path) fault place × RefusesAt fault place status told tells)
     ⊎ FailsToReadFile path status told tells
 
+-- a log was made beside this plan, and the detectors told whose delay and extension act twice; or there is no memory, with
+-- nothing read and nothing written
+abbrev pub LoggedWith : Plan → ℕ → LogWish → (input left old new told tells : Seen) → Type 0
+LoggedWith plan status wish input left old new told tells =
+    LoggedTelling (twice_text (wires_of wish.wires) plan) status wish input left old new told tells ⊎ ((left ≡ input) × (new ≡ old) × Fails Memory status told tells)
+
 -- a log was made beside the plan in this file, and the detectors told whose delay and extension act twice; or there is no
 -- plan, or no memory, with nothing read and nothing written
 abbrev pub LoggedBeside : List ℕ → ℕ → LogWish → (List ℕ → Option (List ℕ)) → (input left old new told tells : Seen) → Type 0

@@ -2,15 +2,16 @@
 ghost use Rattle.std.specs.Prelude.{◌≡◌, ◌==◌, ◌&&◌, not, option_map};
 ghost use Rattle.tsb_field_log.specs.Mapping.{wires_of};
 ghost use Rattle.tsb_program.specs.tsb_watched.Seen.{seen};
-ghost use Rattle.tsb_text.specs.tsb_objects.Checked.{checked_plan};
+ghost use Rattle.tsb_text.specs.tsb_plan.PlanOf.{plan_of};
 ghost use Rattle.tsb_words.specs.FieldWords.{seen_log};
-ghost use Rattle.tsb_field.specs.LogEnds.{LoggedBeside, LoggedOn, LoggedTelling, TellsWhere};
+ghost use Rattle.tsb_field.specs.LogEnds.{LoggedBeside, LoggedOn, LoggedTelling, LoggedWith, TellsWhere};
 
 use crate::log_run::write_log;
 use crate::twice::twice_text;
 use std::alloc::Global;
 use std::io::{Read, Write};
 use tsb_program::{Failure, Files, Status, Watched, fail, plan_or_place, refuse_plan, tell};
+use tsb_text::Plan;
 use tsb_words::field_files::LogAsked;
 
 /// Makes a log from a controller's event log, and gives the status that the program ends with. Where the words name a plan,
@@ -45,11 +46,25 @@ fn write_beside<F: Files, R: Read, W: Write, E: Write>(
     ensures { LoggedBeside path.now result (seen_log asked.now) (F.bytes files.now)
         (seen R.remaining input.old) (seen R.remaining input.new) (seen W.contents output.old) (seen W.contents output.new) (seen E.contents errors.old) (seen E.contents errors.new) }
 {
-    let checked = match plan_or_place(alloc, files, path) {
-        Ok(checked) => checked,
-        Err(fault) => return refuse_plan(alloc, errors, path, fault),
-    };
-    match twice_text(alloc, &asked.wires, checked.plan()) {
+    match plan_or_place(alloc, files, path) {
+        Ok(checked) => write_with(alloc, asked, checked.plan(), input, output, errors),
+        Err(fault) => refuse_plan(alloc, errors, path, fault),
+    }
+}
+
+/// Makes a log from events of the outputs of the detectors of this plan.
+fn write_with<R: Read, W: Write, E: Write>(
+    alloc: Global,
+    asked: &LogAsked<'_>,
+    plan: &Plan,
+    input: &mut Watched<R>,
+    output: &mut Watched<W>,
+    errors: &mut Watched<E>,
+) -> u8
+    ensures { LoggedWith (plan_of plan.now) result (seen_log asked.now)
+        (seen R.remaining input.old) (seen R.remaining input.new) (seen W.contents output.old) (seen W.contents output.new) (seen E.contents errors.old) (seen E.contents errors.new) }
+{
+    match twice_text(alloc, &asked.wires, plan) {
         Ok(text) => write_telling(alloc, asked, &text, input, output, errors),
         Err(_) => fail(errors, Failure::Memory),
     }

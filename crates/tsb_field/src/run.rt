@@ -6,7 +6,9 @@ ghost use Rattle.tsb_words.specs.FieldProgram.{Spells};
 ghost use Rattle.tsb_text.specs.Answers.{Setup};
 ghost use Rattle.tsb_text.specs.tsb_objects.Checked.{checked_plan};
 ghost use Rattle.tsb_program.specs.tsb_watched.Seen.{seen};
-ghost use Rattle.tsb_field.specs.Ends.{Did, LogNamed, Pictured, RanSo, Recorded, failure_by, name_of, on_fault_of, Told, title_of};
+ghost use Rattle.tsb_field_diagram.specs.Page.{diagram_text};
+ghost use Rattle.tsb_field_display.specs.Remaining.{changes_in, last_in};
+ghost use Rattle.tsb_field.specs.Ends.{Did, Drawn, Draws, IsDiagram, LogNamed, Pictured, RanSo, Recorded, RecordedOn, WritesMade, failure_by, name_of, on_fault_of, Told, ToldOn, seconds_of, title_of};
 
 use crate::end::{tell_late, tell_words_fault, write_all};
 use crate::outputs_run::run_log;
@@ -16,7 +18,7 @@ use std::convert::AsStr;
 use std::io::{Read, Write};
 use tsb_event_text::Moment;
 use tsb_field_diagram::diagram_text;
-use tsb_field_display::{ReplayError, read_replay};
+use tsb_field_display::{Replay, ReplayError, read_replay};
 use tsb_field_events::{EventsError, events_text, log_text};
 use tsb_log_text::{Log, LogError};
 use tsb_program::{
@@ -80,7 +82,7 @@ pub fn run_words<S: AsStr, F: Files, R: Read, W: Write, E: Write>(
             },
         ) => {
             let title = title_of(title);
-            let seconds = seconds_per_line.unwrap_or(SECONDS);
+            let seconds = seconds_of(seconds_per_line);
             write_diagram(alloc, log, title, seconds, files, input, output, errors)
         }
         Ok(Asked::Review { plan }) => review_plan(alloc, plan, files, output, errors),
@@ -118,17 +120,42 @@ fn write_record<F: Files, R: Read, W: Write, E: Write>(
     ensures { Recorded result from device.now on_fault plan.now log.now (F.bytes files.now)
         (seen R.remaining input.old) (seen R.remaining input.new) (seen W.contents output.old) (seen W.contents output.new) (seen E.contents errors.old) (seen E.contents errors.new) }
 {
-    let checked = match plan_or_place(alloc, files, plan) {
-        Ok(checked) => checked,
-        Err(fault) => return refuse_plan(alloc, errors, plan, fault),
-    };
-    let rows = match log_of(alloc, files, log) {
-        Ok(rows) => rows,
-        Err(fault) => return refuse_log(alloc, errors, log, fault),
-    };
-    record_run(
-        alloc, from, device, checked, &rows, on_fault, input, output, errors,
-    )
+    match plan_or_place(alloc, files, plan) {
+        Ok(checked) => record_plan(
+            alloc, from, device, checked, log, on_fault, files, input, output, errors,
+        ),
+        Err(fault) => refuse_plan(alloc, errors, plan, fault),
+    }
+}
+
+/// Makes a controller's event log from a run of commands on this plan.
+fn record_plan<F: Files, R: Read, W: Write, E: Write>(
+    alloc: Global,
+    from: Moment,
+    device: &str,
+    plan: Checked,
+    log: &str,
+    on_fault: OnFault,
+    files: &F,
+    input: &mut Watched<R>,
+    output: &mut Watched<W>,
+    errors: &mut Watched<E>,
+) -> u8
+    requires reads { input.old.failed ≡ false }
+    requires writes { errors.old.failed ≡ false }
+    requires flushed { errors.old.flushed ≡ true }
+    ensures { RecordedOn result from device.now on_fault (checked_plan plan) log.now (F.bytes files.now)
+        (seen R.remaining input.old) (seen R.remaining input.new) (seen W.contents output.old) (seen W.contents output.new) (seen E.contents errors.old) (seen E.contents errors.new) }
+{
+    match log_of(alloc, files, log) {
+        Ok(rows) => record_run(
+            alloc, from, device, plan, &rows, on_fault, input, output, errors,
+        ),
+        Err(fault) => {
+            drop(plan);
+            refuse_log(alloc, errors, log, fault)
+        }
+    }
 }
 
 /// Runs commands on a plan and a log, and writes the events of the inputs that remain, or none where a line ended the
@@ -150,12 +177,25 @@ fn record_run<R: Read, W: Write, E: Write>(
     ensures { RanSo result from device.now on_fault (record { plan = checked_plan plan; log = rows.now })
         (seen R.remaining input.old) (seen R.remaining input.new) (seen W.contents output.old) (seen W.contents output.new) (seen E.contents errors.old) (seen E.contents errors.new) }
 {
-    let events = match record(alloc, plan, rows, on_fault, input, errors) {
-        Ok(Outcome::Events(events)) => events,
-        Ok(Outcome::Stopped(_)) => return Status::Stopped.number(),
-        Err(fault) => return tell_input_end(errors, fault),
-    };
-    match log_text(alloc, from, device.as_bytes(), &events) {
+    match record(alloc, plan, rows, on_fault, input, errors) {
+        Ok(Outcome::Events(events)) => {
+            let made = log_text(alloc, from, device.as_bytes(), &events);
+            write_made(made, output, errors)
+        }
+        Ok(Outcome::Stopped(_)) => Status::Stopped.number(),
+        Err(fault) => tell_input_end(errors, fault),
+    }
+}
+
+/// Writes the text that was made of events, or says why there is none, and gives the status that the program ends with.
+fn write_made<W: Write, E: Write>(
+    made: Result<Vec<u8>, EventsError>,
+    output: &mut Watched<W>,
+    errors: &mut Watched<E>,
+) -> u8
+    ensures { WritesMade made result (seen W.contents output.old) (seen W.contents output.new) (seen E.contents errors.old) (seen E.contents errors.new) }
+{
+    match made {
         Ok(text) => write_all(output, errors, &text),
         Err(EventsError::Memory) => fail(errors, Failure::Memory),
         Err(EventsError::Late) => tell_late(errors),
@@ -177,24 +217,38 @@ fn write_events<F: Files, R: Read, W: Write, E: Write>(
     ensures { Told result from device.now (F.bytes files.now) (option_map (λ path. path.now) path.entry)
         (seen R.remaining input.old) (seen R.remaining input.new) (seen W.contents output.old) (seen W.contents output.new) (seen E.contents errors.old) (seen E.contents errors.new) }
 {
-    let rows = match log_named(alloc, files, path) {
-        Ok(rows) => rows,
-        Err(fault) => return refuse_log(alloc, errors, name_of(path), fault),
-    };
-    let replay = match read_replay(alloc, input) {
-        Ok(replay) => replay,
-        Err(fault) => return fail(errors, failure_by(fault)),
-    };
-    match events_text(
-        alloc,
-        from,
-        device.as_bytes(),
-        replay.changes(),
-        rows.rows(),
-    ) {
-        Ok(text) => write_all(output, errors, &text),
-        Err(EventsError::Memory) => fail(errors, Failure::Memory),
-        Err(EventsError::Late) => tell_late(errors),
+    match log_named(alloc, files, path) {
+        Ok(rows) => write_events_of(alloc, from, device, &rows, input, output, errors),
+        Err(fault) => refuse_log(alloc, errors, name_of(path), fault),
+    }
+}
+
+/// Makes a controller's event log from what a session answers, with these rows of a log.
+fn write_events_of<R: Read, W: Write, E: Write>(
+    alloc: Global,
+    from: Moment,
+    device: &str,
+    rows: &Log,
+    input: &mut Watched<R>,
+    output: &mut Watched<W>,
+    errors: &mut Watched<E>,
+) -> u8
+    requires reads { input.old.failed ≡ false }
+    ensures { ToldOn result from device.now rows.now
+        (seen R.remaining input.old) (seen R.remaining input.new) (seen W.contents output.old) (seen W.contents output.new) (seen E.contents errors.old) (seen E.contents errors.new) }
+{
+    match read_replay(alloc, input) {
+        Ok(replay) => {
+            let made = events_text(
+                alloc,
+                from,
+                device.as_bytes(),
+                replay.changes(),
+                rows.rows(),
+            );
+            write_made(made, output, errors)
+        }
+        Err(fault) => fail(errors, failure_by(fault)),
     }
 }
 
@@ -206,6 +260,13 @@ fn title_of(title: Option<&str>) -> &[u8]
         Some(title) => title.as_bytes(),
         None => TITLE,
     }
+}
+
+/// The seconds of a line that words give, or the usual ones where they give none.
+fn seconds_of(seconds: Option<u32>) -> u32
+    ensures { result ≡ seconds_of seconds }
+{
+    seconds.unwrap_or(SECONDS)
 }
 
 /// Makes a phase diagram from what a session answers.
@@ -223,14 +284,45 @@ fn write_diagram<F: Files, R: Read, W: Write, E: Write>(
     ensures { Pictured result title.now seconds (F.bytes files.now) (option_map (λ path. path.now) path.entry)
         (seen R.remaining input.old) (seen R.remaining input.new) (seen W.contents output.old) (seen W.contents output.new) (seen E.contents errors.old) (seen E.contents errors.new) }
 {
-    let rows = match log_named(alloc, files, path) {
-        Ok(rows) => rows,
-        Err(fault) => return refuse_log(alloc, errors, name_of(path), fault),
-    };
-    let replay = match read_replay(alloc, input) {
-        Ok(replay) => replay,
-        Err(fault) => return fail(errors, failure_by(fault)),
-    };
+    match log_named(alloc, files, path) {
+        Ok(rows) => write_diagram_of(alloc, title, seconds, &rows, input, output, errors),
+        Err(fault) => refuse_log(alloc, errors, name_of(path), fault),
+    }
+}
+
+/// Makes a phase diagram from what a session answers, with these rows of a log.
+fn write_diagram_of<R: Read, W: Write, E: Write>(
+    alloc: Global,
+    title: &[u8],
+    seconds: u32,
+    rows: &Log,
+    input: &mut Watched<R>,
+    output: &mut Watched<W>,
+    errors: &mut Watched<E>,
+) -> u8
+    requires reads { input.old.failed ≡ false }
+    ensures { Drawn (IsDiagram title.now seconds) result rows.now
+        (seen R.remaining input.old) (seen R.remaining input.new) (seen W.contents output.old) (seen W.contents output.new) (seen E.contents errors.old) (seen E.contents errors.new) }
+{
+    match read_replay(alloc, input) {
+        Ok(replay) => draw(alloc, title, seconds, &replay, rows, output, errors),
+        Err(fault) => fail(errors, failure_by(fault)),
+    }
+}
+
+/// Writes the phase diagram of a session and the rows of a log.
+fn draw<W: Write, E: Write>(
+    alloc: Global,
+    title: &[u8],
+    seconds: u32,
+    replay: &Replay,
+    rows: &Log,
+    output: &mut Watched<W>,
+    errors: &mut Watched<E>,
+) -> u8
+    ensures { Draws (diagram_text title.now seconds (changes_in replay.now) (last_in replay.now) rows.now) result
+        (seen W.contents output.old) (seen W.contents output.new) (seen E.contents errors.old) (seen E.contents errors.new) }
+{
     match diagram_text(
         alloc,
         title,

@@ -1,4 +1,4 @@
-use Rattle.std.proofs.Common.{ℕ, List, Option, option_map, subst}
+use Rattle.std.proofs.Common.{Option, subst}
 use Rattle.tsb_program.specs.declared.failure.Failure.{Failure}
 use Rattle.tsb_program.specs.tsb_watched.Seen.{seen}
 use Rattle.tsb_words.specs.FieldWords.{seen_log}
