@@ -1,5 +1,7 @@
 -- Texts and bands that are added number by number.
-use Rattle.std.proofs.Common.{◌≡◌, ◌∙◌, ℕ, ◌+◌, ◌-◌, ◌<◌, ◌≤◌, suc, List, [], ◌∷◌, ◌++◌, length, get_or, drop, sym, ap, arith, append_assoc, append-nil}
+use Rattle.std.proofs.Common.{◌≡◌, ◌∙◌, ℕ, ◌+◌, ◌-◌, ◌<◌, ◌≤◌, suc, List, [], ◌∷◌, ◌++◌, length, get_or, drop, sym, ap, arith, append_assoc, append-nil, OnOk}
+use Rattle.std.specs.declared.result.Result.{Result}
+use Rattle.std.specs.declared.result.Result.TheVariants.{Ok, Err}
 use Rattle.std.proofs.lemmas.List.{drop_all}
 use Rattle.tsb_field_diagram.proofs.BarLemmas.{drop-step}
 
@@ -19,8 +21,13 @@ count-end {A = A} all none k end le text whole held =
     sym (append-nil text) ∙ ap (λ (ts : List A). text ++ ts) (sym (none k)) ∙ ap (λ (n : ℕ). text ++ all k n) (sym zero-left) ∙ held
 
 -- a part, and those after it
-pub then : (old more new one rest : List ℕ) → more ≡ old ++ one → new ≡ more ++ rest → new ≡ old ++ (one ++ rest)
-then old more new one rest first others = others ∙ ap (λ (ts : List ℕ). ts ++ rest) first ∙ append_assoc old one rest
+pub both : (old more new one rest : List ℕ) → more ≡ old ++ one → new ≡ more ++ rest → new ≡ old ++ (one ++ rest)
+both old more new one rest first others = others ∙ ap (λ (ts : List ℕ). ts ++ rest) first ∙ append_assoc old one rest
+
+-- a part, and those after it where the last call went well
+pub then : {T E : Type 0} (r : Result T E) (old more new one rest : List ℕ) → more ≡ old ++ one → OnOk r (new ≡ more ++ rest) → OnOk r (new ≡ old ++ (one ++ rest))
+then (Ok t) old more new one rest first others = both old more new one rest first others
+then (Err e) old more new one rest first others = tt
 
 -- a next part, where many are told by a place and what stands from there on
 pub place-more : {A : Type 0} (one : ℕ → A → List ℕ) (all : ℕ → List A → List ℕ) → ((k : ℕ) (x : A) (xs : List A) → all k (x ∷ xs) ≡ one k x ++ all (k + 1) xs) →

@@ -12,7 +12,7 @@ use tsb_types::NumberSet;
 pub(crate) const BAND: u128 = 16;
 
 /// What a band is about.
-#[derive(Clone, Copy, PartialEq, Eq)]
+#[derive(Clone, Copy)]
 pub enum Kind {
     /// A preempt in service.
     Preempt,
@@ -33,7 +33,7 @@ pub enum Kind {
 }
 
 /// A band of a diagram.
-#[derive(Clone, Copy, PartialEq, Eq)]
+#[derive(Clone, Copy)]
 pub struct Band {
     /// What it is about.
     pub kind: Kind,
@@ -42,7 +42,7 @@ pub struct Band {
 }
 
 /// What a band shows at a tick.
-#[derive(Clone, Copy, PartialEq, Eq)]
+#[derive(Clone, Copy)]
 pub enum Mark {
     /// Nothing: the head is dark, the input is off, no such preempt is in service.
     Dark,

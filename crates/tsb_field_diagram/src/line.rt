@@ -110,8 +110,7 @@ fn append_line(
     append_labels(text, bands)?;
     append_axis(text, bands.len(), seconds, line)?;
     append_plot(text, bands, seconds, last, line, changes, rows)?;
-    append(text, b"</svg>\n")?;
-    Ok(())
+    append(text, b"</svg>\n")
 }
 
 /// Adds the head of a line to a text: where the line is, and its clock.
@@ -122,8 +121,7 @@ fn append_head(text: &mut Vec<u8>, bands: usize, seconds: u32, line: u32) -> Res
     append_attribute(text, b" y=\"", line_top(bands, line))?;
     append(text, b">\n<text class=\"b\" x=\"4\" y=\"12\">")?;
     append_line_clock(text, seconds, line)?;
-    append(text, b"</text>\n")?;
-    Ok(())
+    append(text, b"</text>\n")
 }
 
 /// Adds the labels of bands to a text.
@@ -210,8 +208,7 @@ fn append_frame(
     append_named(text, b" viewBox=\"", u128::from(first))?;
     append_named(text, b" 0 ", 10 * u128::from(seconds))?;
     append_named(text, b" ", height)?;
-    append(text, b"\">\n")?;
-    Ok(())
+    append(text, b"\">\n")
 }
 
 /// Adds the bars of bands to a text, by what is in force in a line.

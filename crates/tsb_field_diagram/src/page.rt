@@ -1,6 +1,7 @@
 //! A diagram as a whole.
 ghost use Rattle.std.specs.Prelude.{◌≡◌, ◌≤◌, ◌++◌, IfOk, OnOk};
 ghost use Rattle.tsb_types.specs.Lists.{or_number};
+ghost use Rattle.tsb_field_diagram.specs.Text.{named_text};
 ghost use Rattle.tsb_field_diagram.specs.Page.{classes_text, clearance_text, diagram_text, flash_text, legend_text, line_seconds, names_text, opening_text, page_head, page_height, picture_text, shapes_text, style_text, titles_text, yellow_text};
 
 use crate::band::Band;
@@ -75,8 +76,7 @@ fn append_picture(
     let height = page_height(bands.len(), seconds, last);
     append_page_head(text, title, seconds, height)?;
     append_lines(text, bands, seconds, last, changes, rows)?;
-    append(text, b"</svg>\n")?;
-    Ok(())
+    append(text, b"</svg>\n")
 }
 
 /// How high the picture is.
@@ -100,8 +100,7 @@ fn append_page_head(
     append_opening(text, height)?;
     append_titles(text, title)?;
     append_classes(text, seconds)?;
-    append_legend(text, seconds)?;
-    Ok(())
+    append_legend(text, seconds)
 }
 
 /// Adds the head of the picture to a text.
@@ -114,8 +113,7 @@ fn append_opening(text: &mut Vec<u8>, height: u128) -> Result<(), AllocError>
         height,
     )?;
     append_named(text, b"\" viewBox=\"0 0 1160 ", height)?;
-    append(text, b"\">\n")?;
-    Ok(())
+    append(text, b"\">\n")
 }
 
 /// Adds the title to a text.
@@ -129,8 +127,7 @@ fn append_titles(text: &mut Vec<u8>, title: &[u8]) -> Result<(), AllocError>
         b"</title>\n<rect width=\"100%\" height=\"100%\" fill=\"#fff\"/>\n<text class=\"t\" x=\"4\" y=\"20\">",
     )?;
     append_title(text, title)?;
-    append(text, b"</text>\n")?;
-    Ok(())
+    append(text, b"</text>\n")
 }
 
 /// Adds the classes and patterns of shapes to a text.
@@ -140,56 +137,56 @@ fn append_classes(text: &mut Vec<u8>, seconds: u32) -> Result<(), AllocError>
     append(text, style())?;
     append_flash(text, seconds)?;
     append_yellow(text, seconds)?;
-    append_clearance(text, seconds)?;
-    Ok(())
+    append_clearance(text, seconds)
+}
+
+/// Adds a pattern to a text, with the seconds of a line between these two parts.
+fn append_pattern(
+    text: &mut Vec<u8>,
+    first: &[u8],
+    seconds: u32,
+    rest: &[u8],
+) -> Result<(), AllocError>
+    ensures { OnOk result (text.new.items ≡ text.old.items ++ (named_text first.now seconds ++ rest.now)) }
+{
+    append_named(text, first, u128::from(seconds))?;
+    append(text, rest)
 }
 
 /// Adds the pattern of what flashes to a text.
 fn append_flash(text: &mut Vec<u8>, seconds: u32) -> Result<(), AllocError>
     ensures { OnOk result (text.new.items ≡ text.old.items ++ flash_text seconds) }
 {
-    append_named(
+    append_pattern(
         text,
         b"<pattern id=\"f\" width=\"10\" height=\"12\" patternUnits=\"userSpaceOnUse\" patternTransform=\"scale(",
-        u128::from(seconds),
-    )?;
-    append(
-        text,
+        seconds,
         b"e-2 1)\"><rect width=\"5\" height=\"12\" fill=\"#c00\"/></pattern>\n",
-    )?;
-    Ok(())
+    )
 }
 
 /// Adds the pattern of yellow to a text.
 fn append_yellow(text: &mut Vec<u8>, seconds: u32) -> Result<(), AllocError>
     ensures { OnOk result (text.new.items ≡ text.old.items ++ yellow_text seconds) }
 {
-    append_named(
+    append_pattern(
         text,
         b"<pattern id=\"h\" width=\"6\" height=\"6\" patternUnits=\"userSpaceOnUse\" patternTransform=\"scale(",
-        u128::from(seconds),
-    )?;
-    append(
-        text,
+        seconds,
         b"e-2 1) rotate(45)\"><rect width=\"6\" height=\"6\" fill=\"#fd4\"/><rect width=\"2\" height=\"6\"/></pattern>\n",
-    )?;
-    Ok(())
+    )
 }
 
 /// Adds the pattern of clearance to a text.
 fn append_clearance(text: &mut Vec<u8>, seconds: u32) -> Result<(), AllocError>
     ensures { OnOk result (text.new.items ≡ text.old.items ++ clearance_text seconds) }
 {
-    append_named(
+    append_pattern(
         text,
         b"<pattern id=\"i\" width=\"4\" height=\"4\" patternUnits=\"userSpaceOnUse\" patternTransform=\"scale(",
-        u128::from(seconds),
-    )?;
-    append(
-        text,
+        seconds,
         b"e-2 1) rotate(-45)\"><rect width=\"4\" height=\"4\" fill=\"#fff\"/><rect width=\"2\" height=\"4\" fill=\"#06c\"/></pattern>\n",
-    )?;
-    Ok(())
+    )
 }
 
 /// Adds the legend to a text.
@@ -203,8 +200,7 @@ fn append_legend(text: &mut Vec<u8>, seconds: u32) -> Result<(), AllocError>
     )?;
     append(text, b" 16\">\n")?;
     append(text, shapes())?;
-    append(text, names())?;
-    Ok(())
+    append(text, names())
 }
 
 /// The classes of its shapes.
