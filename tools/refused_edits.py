@@ -3,26 +3,23 @@
 
 It needs the libraries that `rt ci` left in `crates/*/out/rlib`. The edits of a crate are put into one copy of it, and the
 prover is asked for the functions that they change, and for these alone. Of two edits of one function the second is made
-in a copy of the function, beside one more in which nothing is changed.
+in a copy of the function, beside one more in which nothing is changed. Crates that do not stand on one another share a
+run: what the prover reads before its first function, of its logic and of all libraries, it then reads once for them all.
 
 An edit is refused if the prover names a goal of the very function that it edits, or of one that names the constant that
 it edits, itself or in the fields of its type: a goal that no search proved, or that the answer written for it does not
 fit. A function that is not proved only because of what it calls, or because a proof names what the edit took away, shows
-nothing. Such an edit is tried by itself, and in the end over the whole crate, as `rt ci` tries it. The last line is
+nothing. Such an edit is tried by itself, and in the end over the whole crate, as `rt ci` tries it. Where a run of several
+crates shows nothing at all, as one that cannot be read, each of them is tried by itself first. The last line is
 `N passed, M failed`.
 
 Functions that are not asked for are not proved, and their bodies are left out, with all that is called there alone:
 their contracts stand all the same for those that call them, and what is told of a function for its callees alone shows
-nothing. A program is tried without its `main`, where that is not asked for. Where a crate has several runs, they share
-what they prove, and an edit that the whole crate does not refuse so is tried once more from nothing. That the crate as it
-is would be proved over what they share is not tried, as `rt ci` tries it.
+nothing. A program is tried without its `main`, where that is not asked for.
 """
-import contextlib
 import dataclasses
-import functools
 import pathlib
 import re
-import resource
 import shutil
 import subprocess
 import sys
@@ -37,14 +34,17 @@ from crate_functions import sources, span
 
 # How the prover begins what it says of a goal that is left open, and of an answer that does not fit.
 OPEN_GOAL = re.compile(r"note: (?:\./)?(\S+?):(\d+):\d+: (?:it is not proved that |`search` found no proof \()")
-BAD_ANSWER = re.compile(r"(?:\./)?proofs/(\S+)/[^/\s]+:\d+:\d+: error: ")
+BAD_ANSWER = re.compile(r"(?:\./)?(\w+)/proofs/(\S+)/[^/\s]+:\d+:\d+: error: ")
 # What an answer says that only names what the edit, or another one, took away.
 TAKEN_AWAY = re.compile(r"has no field|is not in scope|has no `|was not admitted|is no name")
 # What the kit says of an edit that shows little. It was tried over the whole crate, which takes minutes, so its line is
 # told again at the end.
 WEAK = "(only because a proof file names what the edit took away"
-# How long to wait before a look at how far a check is, in seconds.
-POLL = 0.02
+# How many edits of several crates share a run at most, so that there are runs for all processors to the end.
+MOST = 60
+# The crate that is checked. It is empty, and those with edits are beside it as sources of libraries.
+EMPTY = "edits"
+
 
 @dataclasses.dataclass(frozen=True)
 class Change:
@@ -57,9 +57,10 @@ class Change:
 
 @dataclasses.dataclass(frozen=True)
 class Edit:
-    """An edit of a crate: its file, what it changes, and the functions that it changes it in; and whether it can as well
+    """An edit: its crate and its file, what it changes, and the functions that it changes it in; and whether it can as well
     be made in a copy of its function."""
 
+    crate: Any
     file: pathlib.Path
     changes: tuple[Change, ...]
     functions: frozenset[tuple[Path, str]]
@@ -78,14 +79,14 @@ def changes_of(file: pathlib.Path) -> Iterator[Change]:
             yield Change(path, old, line.removeprefix("new:").removeprefix(" "))
 
 
-def edit_of(folder: str, file: pathlib.Path) -> Edit:
+def edit_of(crate: Any, file: pathlib.Path) -> Edit:
     """An edit, with the functions that hold the ends of what it changes."""
     changes = tuple(changes_of(file))
-    texts = sources(folder)
+    texts = sources(crate.folder)
     found = (functions_at(it.path, texts, texts[it.path].find(it.old) + len(it.old)) for it in changes if it.path in texts)
     functions = {it for functions in found for it in functions}
     may_be_copied = len(functions) == 1 and is_plain(texts, changes, *functions)
-    return Edit(file, changes, frozenset((it.path, it.name) for it in functions), may_be_copied)
+    return Edit(crate, file, changes, frozenset((it.path, it.name) for it in functions), may_be_copied)
 
 
 def is_plain(texts: dict[Path, str], changes: tuple[Change, ...], function: Function) -> bool:
@@ -97,7 +98,7 @@ def is_plain(texts: dict[Path, str], changes: tuple[Change, ...], function: Func
 
 
 def grouped(edits: list[Edit]) -> list[list[Edit]]:
-    """Edits in groups, in each of which no two change one function in one place; those outside functions stand alone."""
+    """Edits of a crate in groups, in each of which no two change one function in one place; those outside functions stand alone."""
     groups: list[list[Edit]] = []
     for edit in edits:
         for group in groups:
@@ -108,6 +109,30 @@ def grouped(edits: list[Edit]) -> list[list[Edit]]:
         else:
             groups.append([edit])
     return groups
+
+
+def joined(groups: list[list[Edit]]) -> list[list[Edit]]:
+    """Groups of crates put together, so that no crate of a group stands on another one of it."""
+    made: list[list[Edit]] = []
+    for group in groups:
+        for it in made:
+            if len(it) + len(group) <= MOST and all(are_apart(group[0].crate, other.crate) for other in it):
+                it += group
+                break
+        else:
+            made.append([*group])
+    return made
+
+
+def are_apart(crate: Any, other: Any) -> bool:
+    """Whether two crates are different, and neither stands on the other."""
+    return crate.name not in {it.name for it in [other, *other.below()]} and other.name not in {it.name for it in crate.below()}
+
+
+def parts(group: list[Edit]) -> list[list[Edit]]:
+    """The edits of a group, those of each crate by themselves."""
+    names = dict.fromkeys(it.crate.name for it in group)
+    return [[it for it in group if it.crate.name == name] for name in names]
 
 
 @dataclasses.dataclass(frozen=True)
@@ -121,9 +146,9 @@ class Write:
     reason: pathlib.Path
 
 
-def unedited(function: Function) -> pathlib.Path:
-    """What stands for the copy of a function in which nothing is changed."""
-    return pathlib.Path("unedited", function.path, function.name)
+def unedited(crate: Any, function: Function) -> pathlib.Path:
+    """What stands for the copy of a function of a crate in which nothing is changed."""
+    return pathlib.Path("unedited", crate.name, function.path, function.name)
 
 
 def copied(folder: str, texts: dict[Path, str], function: Function, changes: tuple[Change, ...], word: str) -> Iterator[tuple[Path, str]]:
@@ -161,7 +186,7 @@ def placed(folder: str, edits: list[Edit]) -> Iterator[Write]:
             continue
         function = function_of(texts, edit)
         made = [(edit.file, edit.changes, f"_again_{number}")]
-        made += [] if function in seen else [(unedited(function), (), "_again")]
+        made += [] if function in seen else [(unedited(edit.crate, function), (), "_again")]
         seen.add(function)
         for reason, changes, word in made:
             for path, new in copied(folder, texts, function, changes, word):
@@ -232,68 +257,106 @@ def without_main(room: str, functions: set[str]) -> None:
     root.write_text(text[:start] + "\n" * text.count("\n", start, end) + text[end:])
 
 
-def said_by(words: list[str], room: str) -> str:
-    """What a check says. When it has proved what it can, it may open no more files: so it does not prove all once more to
-    show what to write in place of what failed, and says at once what it found."""
-    stages = pathlib.Path(room, "stages")
-    with tempfile.TemporaryFile("w+", errors="replace") as told:
-        running = subprocess.Popen([*words, "--stage-times", str(stages)], cwd=room, stdin=subprocess.DEVNULL,
-                                   stdout=told, stderr=subprocess.STDOUT)
-        while running.poll() is None:
-            if stages.is_file() and "\nstage session " in stages.read_text():
-                with contextlib.suppress(ProcessLookupError):
-                    resource.prlimit(running.pid, resource.RLIMIT_NOFILE, (3, 3))
-                break
-            time.sleep(POLL)
-        running.wait()
-        told.seek(0)
-        return told.read()
+@dataclasses.dataclass(frozen=True)
+class Part:
+    """What a run has of a crate: the files that the edits make of its own, and for each edit, and each copy without a
+    change, the functions by which it is told."""
+
+    crate: Any
+    texts: dict[Path, str]
+    functions: dict[pathlib.Path, list[Function]]
 
 
-def prove(crate: Any, texts: dict[Path, str], functions: set[str], kept: str | None) -> list[str]:
-    """What the prover says of these functions in a copy of the crate with these files. Where there is a folder for it,
-    what it proves goes into that, and what is there and still fits is not proved again."""
+def part_of(edits: list[Edit]) -> Part:
+    """The part of a run that these edits of one crate are."""
+    folder = edits[0].crate.folder
+    texts, ends = applied(folder, edits)
+    whole = sources(folder) | {path: text for path, text in texts.items() if path.startswith("src/")}
+    functions = {file: [it for path, at in places if path in whole for it in functions_at(path, whole, at)]
+                 for file, places in ends.items()}
+    return Part(edits[0].crate, texts, functions)
+
+
+def copy_out(part: Part, room: str) -> set[str]:
+    """Makes a copy of a crate with its edits, in a folder of its name, and gives the prover's names of the functions that
+    are asked for in it."""
+    place = pathlib.Path(room, part.crate.name)
+    for it in kit.kit().rtlib.PARTS:
+        if pathlib.Path(part.crate.folder, it).is_dir():
+            shutil.copytree(pathlib.Path(part.crate.folder, it), place / it)
+    for path, text in part.texts.items():
+        (place / path).parent.mkdir(parents=True, exist_ok=True)
+        (place / path).write_text(text)
+    asked = [it for found in part.functions.values() for it in found]
+    names = {it.name for it in asked}
+    without_main(str(place), names)
+    texts = sources(str(place))
+    leave_out(str(place), texts, names)
+    return {whole_name(part.crate.name, texts, it) for it in asked}
+
+
+def whole_name(crate: str, texts: dict[Path, str], function: Function) -> str:
+    """The prover's name of a function of a crate, from the crate on; of one of a foreign type its end."""
+    proof = proof_of(texts, function)
+    return function.name if proof is None else "::".join([crate, *proof.split("/")[1:]])
+
+
+def words_of(crates: list[Any]) -> list[str]:
+    """The words by which these crates, in folders of their names, are read beside an empty one, over the libraries that
+    they use."""
+    rtlib = kit.kit().rtlib
+    names = dict.fromkeys(["core", *(name for it in crates for name in it.of_kit)])
+    used = {it.name: it for crate in crates for it in crate.deps}
+    below = {it.name: it for crate in crates for it in crate.below()}
+    words = ["--crate-name", EMPTY, "src/lib.rt", "-L", f"dependency={rtlib.KIT}/rlibs"]
+    words += [word for name in names for word in ("--extern", f"{name}={rtlib.KIT}/rlibs/{name}.rlib")]
+    words += [word for it in used.values() for word in ("--extern", f"{it.name}={it.rlib}")]
+    words += [word for it in below.values() for word in ("-L", f"dependency={pathlib.Path(it.rlib).parent}")]
+    for it in crates:
+        uses = dict.fromkeys(["core", *it.of_kit, *(dep.name for dep in it.deps)])
+        words += ["--lib", f"{it.name}:{','.join(uses)}={it.name}/src/{'main' if it.is_program else 'lib'}.rt"]
+    words += ["--antt-project", f"{rtlib.KIT}/rattle/logic/antt-project.json", "--logic-built", f"{rtlib.KIT}/logic_built"]
+    return [*words, "--links", f"{EMPTY}=", "--jobs", "1"]
+
+
+def prove(group: list[Part]) -> list[str]:
+    """What the prover says of the functions that are asked for in these crates. Of a library that is read as source it does
+    not prove all once more, to show what to write in place of what failed."""
     with tempfile.TemporaryDirectory(prefix="edits-") as room:
-        for part in kit.kit().rtlib.PARTS:
-            if pathlib.Path(crate.folder, part).is_dir():
-                shutil.copytree(f"{crate.folder}/{part}", f"{room}/{part}")
-        for path, text in texts.items():
-            pathlib.Path(room, path).parent.mkdir(parents=True, exist_ok=True)
-            pathlib.Path(room, path).write_text(text)
-        without_main(room, functions)
-        leave_out(room, sources(room), functions)
-        asked = [word for name in sorted(functions) for word in ("--only", name)]
-        words = [kit.kit().rtlib.RATTLE, "check", *crate.words(["--jobs", "1"], keeps=False), *asked]
-        return said_by([*words, "--incremental", kept] if kept else words, room).split("\n")
+        asked = sorted(name for part in group for name in copy_out(part, room))
+        pathlib.Path(room, "src").mkdir()
+        pathlib.Path(room, "src", "lib.rt").write_text("//! Nothing.\n#![tactic(auto)]\n")
+        words = [kit.kit().rtlib.RATTLE, "check", *words_of([it.crate for it in group])]
+        words += [word for name in asked for word in ("--only", name)]
+        done = subprocess.run(words, cwd=room, stdin=subprocess.DEVNULL, stdout=subprocess.PIPE, stderr=subprocess.STDOUT,
+                              text=True, errors="replace")
+        return done.stdout.split("\n")
 
 
-def own_goal(lines: list[str], function: Function) -> str | None:
+def own_goal(lines: list[str], crate: str, function: Function) -> str | None:
     """What the prover says of a goal of this function that is not met, if it says so of one."""
     proofs = re.compile(rf"(\S+/)?{function.name.replace('::', '/')}(/\S+)?")
-    if not any(re.match(rf"fn \S*\b{function.name}\S*: (not proved|no proof)", it) for it in lines):
+    if not any(re.match(rf"fn {crate}::\S*\b{function.name}\S*: (not proved|no proof)", it) for it in lines):
         return None
     for line in lines:
         goal, answer = OPEN_GOAL.match(line), BAD_ANSWER.match(line)
-        if goal and goal[1] == function.path and function.first <= int(goal[2]) <= function.last:
+        if goal and goal[1] == f"{crate}/{function.path}" and function.first <= int(goal[2]) <= function.last:
             return line
-        if answer and proofs.fullmatch(answer[1]) and not TAKEN_AWAY.search(line):
+        if answer and answer[1] == crate and proofs.fullmatch(answer[2]) and not TAKEN_AWAY.search(line):
             return line
     return None
 
 
-def refused(crate: Any, group: list[Edit], kept: str | None) -> dict[pathlib.Path, str]:
+def refused(group: list[Edit]) -> dict[pathlib.Path, str]:
     """The edits of a group that are refused, tried together, each with the goal that its own function does not meet."""
-    texts, ends = applied(crate.folder, group)
-    whole = sources(crate.folder) | {path: text for path, text in texts.items() if path.startswith("src/")}
-    functions = {file: [it for path, at in places if path in whole for it in functions_at(path, whole, at)]
-                 for file, places in ends.items()}
-    asked = {it.name for found in functions.values() for it in found}
-    lines = prove(crate, texts, asked, kept) if asked else []
-    goals = {file: next(filter(None, (own_goal(lines, it) for it in found)), None) for file, found in functions.items()}
+    run = [part_of(it) for it in parts(group)]
+    lines = prove(run) if any(it.functions for it in run) else []
+    goals = {file: goal for part in run for file, found in part.functions.items()
+             if (goal := next(filter(None, (own_goal(lines, part.crate.name, it) for it in found)), None))}
     # (where a copy without a change is not proved either, those with one show nothing)
-    texts = sources(crate.folder)
-    lost = {it.file for it in group if it.may_be_copied and goals.get(unedited(function_of(texts, it)))}
-    return {it.file: goal for it in group if (goal := goals.get(it.file)) and it.file not in lost}
+    lost = {it.file for it in group
+            if it.may_be_copied and unedited(it.crate, function_of(sources(it.crate.folder), it)) in goals}
+    return {it.file: goals[it.file] for it in group if it.file in goals and it.file not in lost}
 
 
 @dataclasses.dataclass(frozen=True)
@@ -304,39 +367,29 @@ class Verdict:
     line: str
 
 
-def tried_alone(crate: Any, edit: Edit, kept: str | None) -> Verdict:
+def tried_alone(edit: Edit) -> Verdict:
     """An edit by itself: its own functions, and where that shows nothing the whole crate, as `rt ci` tries it."""
-    goal = refused(crate, [edit], kept).get(edit.file)
+    goal = refused([edit]).get(edit.file)
     if goal:
-        return Verdict(True, f"must-fail {crate.name}/{edit.file.name}: refused, as it must be, alone: {goal[:160]}")
-    said, line = kit.kit().must_fail(crate, str(edit.file), ["--jobs", "1"], kept)
-    if not kit.is_refusal(said) and kept:
-        said, line = kit.kit().must_fail(crate, str(edit.file), ["--jobs", "1"])
+        return Verdict(True, f"must-fail {edit.crate.name}/{edit.file.name}: refused, as it must be, alone: {goal[:160]}")
+    said, line = kit.kit().must_fail(edit.crate, str(edit.file), ["--jobs", "1"])
     return Verdict(kit.is_refusal(said), line)
 
 
-def tried(crate: Any, group: list[Edit], kept: str | None) -> list[Verdict]:
-    """The edits of a group, those alone that were not refused together."""
-    goals = refused(crate, group, kept) if len(group) > 1 else {}
+def tried(group: list[Edit]) -> list[Verdict]:
+    """The edits of a group, those alone that were not refused together. It says how long that took."""
+    start = time.monotonic()
+    goals = refused(group) if len(group) > 1 else {}
+    if not goals and len(parts(group)) > 1:
+        return [verdict for it in parts(group) for verdict in tried(it)]
     verdicts = []
     for edit in group:
         goal = goals.get(edit.file)
-        line = f"must-fail {crate.name}/{edit.file.name}: refused, as it must be: {(goal or '')[:160]}"
-        verdicts.append(Verdict(True, line) if goal else tried_alone(crate, edit, kept))
+        line = f"must-fail {edit.crate.name}/{edit.file.name}: refused, as it must be: {(goal or '')[:160]}"
+        verdicts.append(Verdict(True, line) if goal else tried_alone(edit))
         print(verdicts[-1].line, flush=True)
-    return verdicts
-
-
-def tried_all(crate: Any, edits: list[Edit]) -> list[Verdict]:
-    """The edits of a crate, group after group: what is proved for one group is not proved again for the next. It says how
-    long that took."""
-    start, groups = time.monotonic(), grouped(edits)
-    with tempfile.TemporaryDirectory(prefix="edits-kept-") as kept:
-        # (to keep what one run proves costs that run some five seconds)
-        shared = kept if len(groups) > 1 else None
-        verdicts = [verdict for group in groups for verdict in tried(crate, group, shared)]
-    if edits:
-        print(f"edits of {crate.name}: {len(edits)} in {len(groups)} runs, {time.monotonic() - start:.0f} s", flush=True)
+    names = " ".join(it[0].crate.name for it in parts(group))
+    print(f"edits of {names}: {len(group)}, {time.monotonic() - start:.0f} s", flush=True)
     return verdicts
 
 
@@ -350,7 +403,7 @@ def unfit(crate: Any) -> tuple[list[Edit], list[Verdict]]:
         if why:
             verdicts.append(Verdict(False, f"must-fail {crate.name}/{pathlib.Path(file).name}: BAD EDIT: {why}"))
         else:
-            edits.append(edit_of(crate.folder, pathlib.Path(file)))
+            edits.append(edit_of(crate, pathlib.Path(file)))
     return edits, verdicts
 
 
@@ -359,14 +412,16 @@ def main(names: list[str]) -> int:
     unknown = [it for it in names if it not in crates]
     if unknown:
         sys.exit(f"crates.txt has no {unknown[0]}")
-    verdicts, tasks = [], {}
+    verdicts, groups, tasks = [], [], {}
     for name in names or crates:
-        crate = crates[name]
-        edits, bad = unfit(crate)
+        edits, bad = unfit(crates[name])
         verdicts += bad
+        groups += grouped(edits)
+    for number, group in enumerate(joined(groups)):
+        members = [it[0].crate for it in parts(group)]
         # what a task of the kit is: what it waits for, its work in lines, its memory, and its call
-        call = functools.partial(tried_all, crate, edits)
-        tasks[name, "edits"] = [], crate.count(rb"\n"), kit.kit().need(crate), lambda *_, it=call: it()
+        work = sum(it.count(rb"\n") for it in members)
+        tasks[number, "edits"] = [], work, max(map(kit.kit().need, members)), lambda *_, it=group: tried(it)
     for found in kit.kit().in_lanes(tasks).values():
         verdicts += found
     failed = [it.line for it in verdicts if not it.is_refused]

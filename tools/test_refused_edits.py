@@ -6,8 +6,10 @@ has to be told: one that does not fit; a harmless one, which is made in a copy a
 a function which is not proved in that run, so that the prover refuses them there for their callee alone. Another edit
 turns the one callee, and the other is left out of the proof.
 
-What is left out of a copy of a crate leaves all else on its lines.
+The library and the program share a run. What is left out of a copy of a crate leaves all else on its lines, and no crate
+shares a run with one that it stands on.
 """
+import dataclasses
 import pathlib
 import subprocess
 import sys
@@ -106,7 +108,7 @@ SAID = {
     "its_callee_is_left_out": "NOT REFUSED: ",
     "does_not_fit": "BAD EDIT: ",
     "yields_too_little": "refused, as it must be: ",
-    "a_step_is_lost": "refused, as it must be, alone: ",
+    "a_step_is_lost": "refused, as it must be: ",
 }
 
 
@@ -146,6 +148,25 @@ def test_what_is_left_out_moves_no_line() -> None:
         assert "fn main() -> ExitCode {" in left(room, PROGRAM, "main.rt", {"main"})
 
 
+@dataclasses.dataclass(frozen=True)
+class Crate:
+    """A crate, and those that it stands on."""
+
+    name: str
+    under: tuple["Crate", ...] = ()
+
+    def below(self) -> tuple["Crate", ...]:
+        return self.under
+
+
+def test_crates_that_stand_on_one_another_have_runs_of_their_own() -> None:
+    types, lines = Crate("types"), Crate("lines")
+    plan = Crate("plan", (types,))
+    groups = [[refused_edits.Edit(it, pathlib.Path(it.name), (), frozenset(), False)] for it in (types, lines, plan)]
+    runs = [[edit.crate for edit in group] for group in refused_edits.joined(groups)]
+    assert runs == [[types, lines], [plan]]
+
+
 def test_what_shows_nothing_is_told() -> None:
     with tempfile.TemporaryDirectory() as room:
         fill(pathlib.Path(room))
@@ -154,6 +175,7 @@ def test_what_shows_nothing_is_told() -> None:
     for name, wanted in SAID.items():
         crate = next(it for it, edits in EDITS_OF.items() if name in edits)
         assert f"must-fail {crate}/{name}.edit: {wanted}" in said, said + done.stderr
+    assert "edits of ends small: " in said, said + done.stderr
     assert said.endswith("4 passed, 4 failed\n"), said + done.stderr
     assert done.returncode == 1
 
@@ -161,5 +183,6 @@ def test_what_shows_nothing_is_told() -> None:
 if __name__ == "__main__":
     kit.kit()
     test_what_is_left_out_moves_no_line()
+    test_crates_that_stand_on_one_another_have_runs_of_their_own()
     test_what_shows_nothing_is_told()
     print("refused_edits.py tells what shows nothing")
