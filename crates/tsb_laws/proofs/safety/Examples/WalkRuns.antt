@@ -19,7 +19,7 @@ use Rattle.tsb_step.specs.Runs.{replay, AreTaken}
 use Rattle.tsb_step.specs.Laws.{IsConsistent, is_unlit}
 use Rattle.tsb_step.proofs.Examples.Scenes.{opened, vehicle}
 use Rattle.tsb_laws.specs.Stretches.{IsUntripped, EndsGreen, StartsGreen}
-use Rattle.tsb_laws.specs.Intergreens.{WalksBefore, walk_due, clearance_due}
+use Rattle.tsb_laws.specs.Intergreens.{WalksBefore}
 use Rattle.tsb_laws.specs.Commitments.{CommitsTo}
 use Rattle.tsb_laws.proofs.safety.Examples.PlanFits.{Fits, values_fit, quad_fits, consistent}
 use Rattle.tsb_laws.proofs.safety.Examples.TickRuns.{ticks, now_then, plan_then, all_taken, unlit_then, none_trips, none_trips_since}
@@ -107,15 +107,6 @@ waits_40 = refl
 are_apart : is_concurrent (replay strolling (mid ++ walked)).plan 2 1 ≡ false
 unfolding opened strolling
 are_apart = refl
-
--- the walk lasts 10 ticks, and the clearance 10
-walk_lasts_10 : walk_due strolling 2 walked mid ≡ 10
-unfolding opened strolling
-walk_lasts_10 = refl
-
-clearance_lasts_10 : clearance_due strolling 2 walked mid ≡ 10
-unfolding opened strolling
-clearance_lasts_10 = refl
 
 commits_to_1 : CommitsTo strolling before_end (vehicle 1) 2 Ring1 1
 commits_to_1 = record {
