@@ -1,9 +1,12 @@
 -- A run from power-up that meets all premises of the laws of lit heads and of red revert: preempt 2 wants 6 alone, so that the green
 -- of 2 ends with no commitment; preempt 1 wants 2 again, which waits for its red revert.
-use Rattle.std.proofs.Common.{◌≡◌, ◌≢◌, ℕ, ◌≤◌, nat_le, true, false, List, [], ◌∷◌, ◌++◌, None, refl, sym, ap, arith, ◌∙◌}
+use Rattle.std.proofs.Common.{◌≡◌, ◌≢◌, ℕ, ◌≤◌, nat_le, Bool, true, false, List, [], ◌∷◌, ◌++◌, None, refl, sym, ap, arith, ◌∙◌}
+use Rattle.tsb_step.specs.tsb_cells.declared.timer.Timer.{Timer}
 use Rattle.tsb_step.specs.tsb_cells.declared.timer.Timer.TheVariants.{Off, On}
 use Rattle.tsb_step.specs.tsb_types.Sets.{all_off}
+use Rattle.tsb_step.specs.tsb_types.declared.interval.Interval.{Interval}
 use Rattle.tsb_step.specs.tsb_types.declared.interval.Interval.TheVariants.{Red, Green, Yellow}
+use Rattle.tsb_step.specs.tsb_types.declared.lamp.Aspect.{Aspect}
 use Rattle.tsb_step.specs.tsb_types.declared.lamp.Aspect.TheVariants as aspects
 use Rattle.tsb_step.specs.tsb_types.declared.row.Row.{Row}
 use Rattle.tsb_step.specs.tsb_plan.declared.object.Object.{Object}
@@ -26,7 +29,7 @@ use Rattle.tsb_step.specs.Laws.{IsConsistent, is_unlit}
 use Rattle.tsb_step.proofs.Examples.Scenes.{opened}
 use Rattle.tsb_laws.proofs.safety.Examples.PlanFits.{Fits, values_fit, quad_fits, consistent}
 use Rattle.tsb_laws.specs.RedReverts.{StartsAgain}
-use Rattle.tsb_laws.proofs.safety.Examples.TickRuns.{ticks, all_taken, dark_then, none_trips}
+use Rattle.tsb_laws.proofs.safety.Examples.TickRuns.{ticks, plan_then, all_taken, dark_then, none_trips}
 
 abbrev again_values : List (Object × ℕ × ℕ)
 again_values = (PhaseRedClear, 2, 0) ∷ (PreemptMinimumGreen, 2, 0) ∷ (PreemptDwellPhase, 2, 32) ∷ (PreemptDwellPhase, 1, 34) ∷ []
@@ -80,17 +83,30 @@ record OverlapClearance (plan : Plan) (is : List Input) (row : Row) (o : ℕ) : 
   head : (display (replay plan is)).overlap o ≢ aspects.Red
   head_then : (display (replay plan (Tick row ∷ is))).overlap o ≡ aspects.Red
 
-is_normal : is_minus_green_yellow (replay again (ticks all_off 29 ++ ended)).plan 1 ≡ false
+is_normal_at_first : is_minus_green_yellow (replay again ended).plan 1 ≡ false
 unfolding opened again
-is_normal = refl
+is_normal_at_first = refl
+
+is_normal : is_minus_green_yellow (replay again (ticks all_off 29 ++ ended)).plan 1 ≡ false
+is_normal = ap (λ (x : Plan). is_minus_green_yellow x 1) (plan_then again all_off ended 29) ∙ is_normal_at_first
+
+-- the heads of 2 and of overlap 1
+abbrev heads : State → Aspect × Aspect
+heads s = ((display s).vehicle 2, (display s).overlap 1)
+
+show_yellow : heads (replay again (ticks all_off 29 ++ ended)) ≡ (aspects.Yellow, aspects.Yellow)
+unfolding opened again
+show_yellow = refl
+
+show_red : heads (replay again (ticks all_off 30 ++ ended)) ≡ (aspects.Red, aspects.Red)
+unfolding opened again
+show_red = refl
 
 shows_yellow : (display (replay again (ticks all_off 29 ++ ended))).overlap 1 ≡ aspects.Yellow
-unfolding opened again
-shows_yellow = refl
+shows_yellow = ap (λ (x : Aspect × Aspect). x.1) show_yellow
 
 shows_red : (display (replay again (ticks all_off 30 ++ ended))).overlap 1 ≡ aspects.Red
-unfolding opened again
-shows_red = refl
+shows_red = ap (λ (x : Aspect × Aspect). x.1) show_red
 
 an_overlap : OverlapClearance again (ticks all_off 29 ++ ended) all_off 1
 an_overlap = record {
@@ -110,13 +126,19 @@ record RedRevert (plan : Plan) (is : List Input) (row : Row) (p : ℕ) : Type 0 
   untripped : (replay plan is).trip ≡ None
   starts : is_started (moves (replay plan is) row) p ≡ true
 
-has_waited : ((replay again (ticks all_off 49 ++ ended)).phases 2).red_revert ≡ On 19
+-- the red revert timer and the interval of 2, and whether it starts
+abbrev waits : State → Timer × Interval × Bool
+waits s = ((s.phases 2).red_revert, interval s 2, is_started (moves s all_off) 2)
+
+at_its_start : waits (replay again (ticks all_off 49 ++ ended)) ≡ (On 19, Red, true)
 unfolding opened again
-has_waited = refl
+at_its_start = refl
+
+has_waited : ((replay again (ticks all_off 49 ++ ended)).phases 2).red_revert ≡ On 19
+has_waited = ap (λ (x : Timer × Interval × Bool). x.0) at_its_start
 
 starts_2 : is_started (moves (replay again (ticks all_off 49 ++ ended)) all_off) 2 ≡ true
-unfolding opened again
-starts_2 = refl
+starts_2 = ap (λ (x : Timer × Interval × Bool). x.2) at_its_start
 
 a_red_revert : RedRevert again (ticks all_off 49 ++ ended) all_off 2
 a_red_revert = record { consistent = again_consistent; taken = taken_then 49 (omega arith); untripped = untripped 49 (omega arith); starts = starts_2 }
@@ -128,8 +150,7 @@ unfolding opened again
 was_yellow = refl
 
 was_red : interval (replay again (ticks all_off 49 ++ ended)) 2 ≡ Red
-unfolding opened again
-was_red = refl
+was_red = ap (λ (x : Timer × Interval × Bool). x.1) at_its_start
 
 is_green_then : interval (replay again (ticks all_off 50 ++ ended)) 2 ≡ Green
 unfolding opened again
@@ -171,12 +192,10 @@ record LitPhase (plan : Plan) (is : List Input) (i : Input) (p : ℕ) : Type 0 w
   red_then : (display (replay plan (i ∷ is))).vehicle p ≡ aspects.Red
 
 shows_yellow_2 : (display (replay again (ticks all_off 29 ++ ended))).vehicle 2 ≡ aspects.Yellow
-unfolding opened again
-shows_yellow_2 = refl
+shows_yellow_2 = ap (λ (x : Aspect × Aspect). x.0) show_yellow
 
 shows_red_2 : (display (replay again (ticks all_off 30 ++ ended))).vehicle 2 ≡ aspects.Red
-unfolding opened again
-shows_red_2 = refl
+shows_red_2 = ap (λ (x : Aspect × Aspect). x.0) show_red
 
 a_phase : LitPhase again (ticks all_off 29 ++ ended) (Tick all_off) 2
 a_phase = record {

@@ -1,7 +1,8 @@
 -- A run from power-up that meets all premises of the law of walks: 2 walks for 10 ticks and clears for 10, computed as far as the
 -- tick in which its green ends; 1, which is called meanwhile, starts within 40 ticks more.
-use Rattle.std.proofs.Common.{◌≡◌, ◌≢◌, ℕ, ◌+◌, ◌≤◌, true, false, max, List, [], ◌∷◌, ◌++◌, Some, None, refl, sym, ap, subst, arith, append_assoc, ◌∙◌}
+use Rattle.std.proofs.Common.{◌≡◌, ◌≢◌, ℕ, ◌+◌, ◌≤◌, true, false, max, List, [], ◌∷◌, ◌++◌, Option, Some, None, refl, sym, ap, subst, arith, append_assoc, ◌∙◌}
 use Rattle.tsb_step.specs.tsb_types.Sets.{all_off}
+use Rattle.tsb_step.specs.tsb_types.declared.interval.Interval.{Interval}
 use Rattle.tsb_step.specs.tsb_types.declared.interval.Interval.TheVariants.{Green, Yellow}
 use Rattle.tsb_step.specs.tsb_types.declared.interval.PedestrianInterval.TheVariants.{DontWalk, Walk}
 use Rattle.tsb_step.specs.tsb_types.declared.row.Row.{Row}
@@ -14,11 +15,12 @@ use Rattle.tsb_step.specs.tsb_rules.Rules.{first_broken}
 use Rattle.tsb_step.specs.tsb_ring.Rings.{Ring1, in_ring}
 use Rattle.tsb_step.specs.declared.inputs.Input.{Input}
 use Rattle.tsb_step.specs.declared.inputs.Input.TheVariants.{Tick}
-use Rattle.tsb_step.specs.State.{interval, pedestrian_part}
+use Rattle.tsb_step.specs.State.{State, interval, pedestrian_part}
+use Rattle.tsb_step.specs.Step.{step}
 use Rattle.tsb_step.specs.Runs.{replay, AreTaken}
 use Rattle.tsb_step.specs.Laws.{IsConsistent, is_unlit}
 use Rattle.tsb_step.proofs.Examples.Scenes.{opened, vehicle}
-use Rattle.tsb_laws.specs.Stretches.{IsUntripped, EndsGreen, StartsGreen}
+use Rattle.tsb_laws.specs.Stretches.{StartsGreen}
 use Rattle.tsb_laws.specs.Intergreens.{WalksBefore}
 use Rattle.tsb_laws.specs.Commitments.{CommitsTo}
 use Rattle.tsb_laws.proofs.safety.Examples.PlanFits.{Fits, values_fit, quad_fits, consistent}
@@ -79,34 +81,53 @@ mid = ticks (vehicle 1) 20
 abbrev before_end : List Input
 before_end = ticks (vehicle 1) 19 ++ walked
 
-was_green : interval (replay strolling before_end) 2 ≡ Green
+-- the interval of 2 before and after the tick that ends it, and what ring 1 is committed to and where it crosses to then
+abbrev seen : State → Interval × Interval × Option ℕ × Option ℕ
+seen s = (
+  interval s 2,
+  interval (step s (Tick (vehicle 1))) 2,
+  (step s (Tick (vehicle 1))).rings.commitment Ring1,
+  (step s (Tick (vehicle 1))).rings.crossing,
+)
+
+at_end : seen (replay strolling before_end) ≡ (Green, Yellow, Some 1, None)
 unfolding opened strolling
-was_green = refl
+at_end = refl
+
+was_green : interval (replay strolling before_end) 2 ≡ Green
+was_green = ap (λ (x : Interval × Interval × Option ℕ × Option ℕ). x.0) at_end
 
 ends : interval (replay strolling (mid ++ walked)) 2 ≡ Yellow
-unfolding opened strolling
-ends = refl
-
-ringed : in_ring (replay strolling before_end).plan Ring1 2 ≡ true
-unfolding opened strolling
-ringed = refl
+ends = ap (λ (x : Interval × Interval × Option ℕ × Option ℕ). x.1) at_end
 
 made : (replay strolling (mid ++ walked)).rings.commitment Ring1 ≡ Some 1
-unfolding opened strolling
-made = refl
+made = ap (λ (x : Interval × Interval × Option ℕ × Option ℕ). x.2) at_end
 
 outside : (replay strolling (mid ++ walked)).rings.crossing ≡ None
+outside = ap (λ (x : Interval × Interval × Option ℕ × Option ℕ). x.3) at_end
+
+-- no tick changes the plan
+ringed_1 : in_ring (replay strolling walked).plan Ring1 2 ≡ true
 unfolding opened strolling
-outside = refl
+ringed_1 = refl
+
+ringed : in_ring (replay strolling before_end).plan Ring1 2 ≡ true
+ringed = ap (λ (x : Plan). in_ring x Ring1 2) (plan_then strolling (vehicle 1) walked 19) ∙ ringed_1
+
+waits_40_at_first : max (yellow_change (replay strolling walked).plan 2 + red_clear (replay strolling walked).plan 2) (red_revert (replay strolling walked).plan 1) ≡ 40
+unfolding opened strolling
+waits_40_at_first = refl
 
 waits_40 : max (yellow_change (replay strolling (mid ++ walked)).plan 2 + red_clear (replay strolling (mid ++ walked)).plan 2)
     (red_revert (replay strolling (mid ++ walked)).plan 1) ≡ 40
+waits_40 = ap (λ (x : Plan). max (yellow_change x 2 + red_clear x 2) (red_revert x 1)) (plan_then strolling (vehicle 1) walked 20) ∙ waits_40_at_first
+
+are_apart_1 : is_concurrent (replay strolling walked).plan 2 1 ≡ false
 unfolding opened strolling
-waits_40 = refl
+are_apart_1 = refl
 
 are_apart : is_concurrent (replay strolling (mid ++ walked)).plan 2 1 ≡ false
-unfolding opened strolling
-are_apart = refl
+are_apart = ap (λ (x : Plan). is_concurrent x 2 1) (plan_then strolling (vehicle 1) walked 20) ∙ are_apart_1
 
 commits_to_1 : CommitsTo strolling before_end (vehicle 1) 2 Ring1 1
 commits_to_1 = record {
