@@ -1,5 +1,5 @@
 //! Numbers of JSON, and what they say where they were meant in seconds and have tenths.
-ghost use Rattle.std.specs.Prelude.{◌≡◌, nat_le, option_map, slice_index};
+ghost use Rattle.std.specs.Prelude.{◌≡◌, nat_le, option_and_then, option_map, slice_index};
 ghost use Rattle.json.specs.Find.{as_number};
 ghost use Rattle.json.specs.Value.{value_view};
 ghost use Rattle.tsb_plan_notes.specs.Parts.{is_index, is_whole, is_within, joined, meant, tenths_of};
@@ -23,9 +23,16 @@ pub(crate) fn is_whole(value: &Value<'_>) -> bool
 pub(crate) fn meant(unit: Unit, value: &Value<'_>) -> Option<u64>
     ensures { result ≡ meant unit (value_view value.now) }
 {
-    if unit != Unit::Tenths {
-        return None;
+    match unit {
+        Unit::Tenths => tenths_in(value),
+        _ => None,
     }
+}
+
+/// The tenths of a second that a value says, where it is a number with one decimal.
+fn tenths_in(value: &Value<'_>) -> Option<u64>
+    ensures { result ≡ option_and_then tenths_of (as_number (value_view value.now)) }
+{
     match value.as_number() {
         Some(text) => tenths_of(text.as_bytes()),
         None => None,

@@ -5,7 +5,7 @@ ghost use Rattle.tsb_plan_notes.specs.Units.{unit_of, unit_text};
 use tsb_plan::Object;
 
 /// What a value of an object counts.
-#[derive(Clone, Copy, PartialEq, Eq)]
+#[derive(Clone, Copy)]
 pub enum Unit {
     /// Seconds.
     Seconds,
