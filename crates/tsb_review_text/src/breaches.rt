@@ -26,7 +26,10 @@ pub fn write_breaches<W: Write>(plan: &Plan, output: &mut Watched<W>) -> Result<
     ensures { Wrote result (seen W.contents output.old) (seen W.contents output.new) (breaches_text (plan_of plan.now)) }
 {
     for fault in &Fault::ALL {
-        write_fault(plan, *fault, output)?;
+        match write_fault(plan, *fault, output) {
+            Ok(()) => {}
+            Err(fault) => return Err(fault),
+        }
     }
     Ok(())
 }
@@ -41,7 +44,10 @@ fn write_fault<W: Write>(
 {
     let count = fault.shape().firsts();
     for first in 1..count + 1 {
-        write_breaches_from(plan, fault, first, output)?;
+        match write_breaches_from(plan, fault, first, output) {
+            Ok(()) => {}
+            Err(fault) => return Err(fault),
+        }
     }
     Ok(())
 }
@@ -59,7 +65,10 @@ fn write_breaches_from<W: Write>(
 {
     let count = fault.shape().seconds();
     for second in 1..count + 1 {
-        write_beside(plan, fault, first, second, output)?;
+        match write_beside(plan, fault, first, second, output) {
+            Ok(()) => {}
+            Err(fault) => return Err(fault),
+        }
     }
     Ok(())
 }
@@ -80,7 +89,10 @@ fn write_beside<W: Write>(
 {
     let count = fault.shape().thirds();
     for third in 1..count + 1 {
-        write_breach_at(plan, fault, first, second, third, output)?;
+        match write_breach_at(plan, fault, first, second, third, output) {
+            Ok(()) => {}
+            Err(fault) => return Err(fault),
+        }
     }
     Ok(())
 }

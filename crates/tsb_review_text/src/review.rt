@@ -24,7 +24,10 @@ pub fn write_review<W: Write>(plan: &Plan, output: &mut Watched<W>) -> Result<()
     ensures { Wrote result (seen W.contents output.old) (seen W.contents output.new) (review_text (plan_of plan.now)) }
 {
     for advice in &Advice::ALL {
-        write_advice(plan, *advice, output)?;
+        match write_advice(plan, *advice, output) {
+            Ok(()) => {}
+            Err(fault) => return Err(fault),
+        }
     }
     Ok(())
 }
@@ -39,7 +42,10 @@ fn write_advice<W: Write>(
 {
     let count = advice.shape().firsts();
     for first in 1..count + 1 {
-        write_from(plan, advice, first, output)?;
+        match write_from(plan, advice, first, output) {
+            Ok(()) => {}
+            Err(fault) => return Err(fault),
+        }
     }
     Ok(())
 }
@@ -57,7 +63,10 @@ fn write_from<W: Write>(
 {
     let count = advice.shape().seconds();
     for second in 1..count + 1 {
-        write_at(plan, advice, first, second, output)?;
+        match write_at(plan, advice, first, second, output) {
+            Ok(()) => {}
+            Err(fault) => return Err(fault),
+        }
     }
     Ok(())
 }

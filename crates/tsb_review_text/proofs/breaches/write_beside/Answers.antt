@@ -1,5 +1,4 @@
 use Rattle.std.proofs.Common.{◌≡◌, ◌∙◌, ℕ, ◌+◌, flat_map, refl, sym, ap, arith}
-use Rattle.std.proofs.lemmas.Result.{err_from_is_err_and}
 use Rattle.tsb_types.specs.Lists.{run_from}
 use Rattle.tsb_plan.specs.PlanOf.{plan_of}
 use Rattle.tsb_watched.specs.Seen.{seen}
@@ -19,12 +18,12 @@ loop-third-init g c =
 pub loop-third-preserved : goal.loop-third-preserved
 loop-third-preserved g c =
     next-run (breach_text_at (plan_of c.args.plan.now) c.args.fault c.args.first c.args.second) (seen g.W.Write.contents c.args.output.now) (seen g.W.Write.contents c.loop-third.output) (seen g.W.Write.contents c.write_breach_at.new.output) _
-    c.loop-third.third (c.thirds-count.result + 1) (omega arith) c.loop-third.invariant c.in_ok-write_breach_at.ensures.whole c.in_ok-write_breach_at.ensures.well
+    c.loop-third.third (c.thirds-count.result + 1) (omega arith) c.loop-third.invariant c.in-Ok.ensures.whole c.in-Ok.ensures.well
 
-pub returns-in_err-write_breach_at : goal.returns-in_err-write_breach_at
-returns-in_err-write_breach_at g c = let p = err_from_is_err_and c.from_residual.result c.from_residual.ensures.1 in
-    rw p.1 (fail-run (breach_text_at (plan_of c.args.plan.now) c.args.fault c.args.first c.args.second) (seen g.W.Write.contents c.args.output.now) (seen g.W.Write.contents c.loop-third.output) (seen g.W.Write.contents c.write_breach_at.new.output) _
-    c.loop-third.third (c.thirds-count.result + 1) p.0 (omega arith) c.loop-third.invariant c.in_err-write_breach_at.ensures.front c.in_err-write_breach_at.ensures.blame)
+pub returns-in-Err : goal.returns-in-Err
+returns-in-Err g c =
+    fail-run (breach_text_at (plan_of c.args.plan.now) c.args.fault c.args.first c.args.second) (seen g.W.Write.contents c.args.output.now) (seen g.W.Write.contents c.loop-third.output) (seen g.W.Write.contents c.write_breach_at.new.output) _
+    c.loop-third.third (c.thirds-count.result + 1) c.in-Err.fault (omega arith) c.loop-third.invariant c.in-Err.ensures.front c.in-Err.ensures.blame
 
 pub returns : goal.returns
 returns g c =

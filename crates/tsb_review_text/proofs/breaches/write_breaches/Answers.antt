@@ -1,4 +1,3 @@
-use Rattle.std.proofs.lemmas.Result.{err_from_is_err_and}
 use Rattle.tsb_plan.specs.PlanOf.{plan_of}
 use Rattle.tsb_watched.specs.Seen.{seen}
 use Rattle.tsb_breaches.specs.Breaches.{faults}
@@ -15,13 +14,13 @@ pub loop-fault-preserved : goal.loop-fault-preserved
 unfolding faults
 loop-fault-preserved g c =
     next-list (breach_text_of (plan_of c.args.plan.now)) faults _ (seen g.W.Write.contents c.args.output.now) (seen g.W.Write.contents c.loop-fault.output) (seen g.W.Write.contents c.write_fault.new.output) _
-    c.loop-fault.fault-index c.loop-fault-test.true c.loop-fault.invariant c.in_ok-write_fault.ensures.whole c.in_ok-write_fault.ensures.well
+    c.loop-fault.fault-index c.loop-fault-test.true c.loop-fault.invariant c.in-Ok.ensures.whole c.in-Ok.ensures.well
 
-pub returns-in_err-write_fault : goal.returns-in_err-write_fault
+pub returns-in-Err : goal.returns-in-Err
 unfolding faults
-returns-in_err-write_fault g c = let p = err_from_is_err_and c.from_residual.result c.from_residual.ensures.1 in
-    rw p.1 (fail-list (breach_text_of (plan_of c.args.plan.now)) faults _ (seen g.W.Write.contents c.args.output.now) (seen g.W.Write.contents c.loop-fault.output) (seen g.W.Write.contents c.write_fault.new.output) _
-    c.loop-fault.fault-index p.0 c.loop-fault-test.true c.loop-fault.invariant c.in_err-write_fault.ensures.front c.in_err-write_fault.ensures.blame)
+returns-in-Err g c =
+    fail-list (breach_text_of (plan_of c.args.plan.now)) faults _ (seen g.W.Write.contents c.args.output.now) (seen g.W.Write.contents c.loop-fault.output) (seen g.W.Write.contents c.write_fault.new.output) _
+    c.loop-fault.fault-index c.in-Err.fault c.loop-fault-test.true c.loop-fault.invariant c.in-Err.ensures.front c.in-Err.ensures.blame
 
 pub returns : goal.returns
 unfolding faults

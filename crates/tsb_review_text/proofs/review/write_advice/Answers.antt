@@ -1,5 +1,4 @@
 use Rattle.std.proofs.Common.{◌≡◌, ◌∙◌, ℕ, ◌+◌, flat_map, refl, sym, ap, arith}
-use Rattle.std.proofs.lemmas.Result.{err_from_is_err_and}
 use Rattle.tsb_types.specs.Lists.{run_from}
 use Rattle.tsb_plan.specs.PlanOf.{plan_of}
 use Rattle.tsb_review.specs.Advices.{shape}
@@ -19,12 +18,12 @@ loop-first-init g c =
 pub loop-first-preserved : goal.loop-first-preserved
 loop-first-preserved g c =
     next-run (text_from (plan_of c.args.plan.now) c.args.advice) (seen g.W.Write.contents c.args.output.now) (seen g.W.Write.contents c.loop-first.output) (seen g.W.Write.contents c.write_from.new.output) _
-    c.loop-first.first (c.firsts-count.result + 1) (omega arith) c.loop-first.invariant c.in_ok-write_from.ensures.whole c.in_ok-write_from.ensures.well
+    c.loop-first.first (c.firsts-count.result + 1) (omega arith) c.loop-first.invariant c.in-Ok.ensures.whole c.in-Ok.ensures.well
 
-pub returns-in_err-write_from : goal.returns-in_err-write_from
-returns-in_err-write_from g c = let p = err_from_is_err_and c.from_residual.result c.from_residual.ensures.1 in
-    rw p.1 (fail-run (text_from (plan_of c.args.plan.now) c.args.advice) (seen g.W.Write.contents c.args.output.now) (seen g.W.Write.contents c.loop-first.output) (seen g.W.Write.contents c.write_from.new.output) _
-    c.loop-first.first (c.firsts-count.result + 1) p.0 (omega arith) c.loop-first.invariant c.in_err-write_from.ensures.front c.in_err-write_from.ensures.blame)
+pub returns-in-Err : goal.returns-in-Err
+returns-in-Err g c =
+    fail-run (text_from (plan_of c.args.plan.now) c.args.advice) (seen g.W.Write.contents c.args.output.now) (seen g.W.Write.contents c.loop-first.output) (seen g.W.Write.contents c.write_from.new.output) _
+    c.loop-first.first (c.firsts-count.result + 1) c.in-Err.fault (omega arith) c.loop-first.invariant c.in-Err.ensures.front c.in-Err.ensures.blame
 
 pub returns : goal.returns
 returns g c =

@@ -1,5 +1,4 @@
 use Rattle.std.proofs.Common.{◌≡◌, ◌∙◌, ℕ, ◌+◌, flat_map, refl, sym, ap, arith}
-use Rattle.std.proofs.lemmas.Result.{err_from_is_err_and}
 use Rattle.tsb_types.specs.Lists.{run_from}
 use Rattle.tsb_plan.specs.PlanOf.{plan_of}
 use Rattle.tsb_review.specs.Advices.{shape}
@@ -19,12 +18,12 @@ loop-second-init g c =
 pub loop-second-preserved : goal.loop-second-preserved
 loop-second-preserved g c =
     next-run (text_at (plan_of c.args.plan.now) c.args.advice c.args.first) (seen g.W.Write.contents c.args.output.now) (seen g.W.Write.contents c.loop-second.output) (seen g.W.Write.contents c.write_at.new.output) _
-    c.loop-second.second (c.seconds-count.result + 1) (omega arith) c.loop-second.invariant c.in_ok-write_at.ensures.whole c.in_ok-write_at.ensures.well
+    c.loop-second.second (c.seconds-count.result + 1) (omega arith) c.loop-second.invariant c.in-Ok.ensures.whole c.in-Ok.ensures.well
 
-pub returns-in_err-write_at : goal.returns-in_err-write_at
-returns-in_err-write_at g c = let p = err_from_is_err_and c.from_residual.result c.from_residual.ensures.1 in
-    rw p.1 (fail-run (text_at (plan_of c.args.plan.now) c.args.advice c.args.first) (seen g.W.Write.contents c.args.output.now) (seen g.W.Write.contents c.loop-second.output) (seen g.W.Write.contents c.write_at.new.output) _
-    c.loop-second.second (c.seconds-count.result + 1) p.0 (omega arith) c.loop-second.invariant c.in_err-write_at.ensures.front c.in_err-write_at.ensures.blame)
+pub returns-in-Err : goal.returns-in-Err
+returns-in-Err g c =
+    fail-run (text_at (plan_of c.args.plan.now) c.args.advice c.args.first) (seen g.W.Write.contents c.args.output.now) (seen g.W.Write.contents c.loop-second.output) (seen g.W.Write.contents c.write_at.new.output) _
+    c.loop-second.second (c.seconds-count.result + 1) c.in-Err.fault (omega arith) c.loop-second.invariant c.in-Err.ensures.front c.in-Err.ensures.blame
 
 pub returns : goal.returns
 returns g c =

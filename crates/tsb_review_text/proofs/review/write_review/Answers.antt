@@ -1,4 +1,3 @@
-use Rattle.std.proofs.lemmas.Result.{err_from_is_err_and}
 use Rattle.tsb_plan.specs.PlanOf.{plan_of}
 use Rattle.tsb_review.specs.Advices.{advices}
 use Rattle.tsb_watched.specs.Seen.{seen}
@@ -14,13 +13,13 @@ pub loop-advice-preserved : goal.loop-advice-preserved
 unfolding advices
 loop-advice-preserved g c =
     next-list (text_of (plan_of c.args.plan.now)) advices _ (seen g.W.Write.contents c.args.output.now) (seen g.W.Write.contents c.loop-advice.output) (seen g.W.Write.contents c.write_advice.new.output) _
-    c.loop-advice.advice-index c.loop-advice-test.true c.loop-advice.invariant c.in_ok-write_advice.ensures.whole c.in_ok-write_advice.ensures.well
+    c.loop-advice.advice-index c.loop-advice-test.true c.loop-advice.invariant c.in-Ok.ensures.whole c.in-Ok.ensures.well
 
-pub returns-in_err-write_advice : goal.returns-in_err-write_advice
+pub returns-in-Err : goal.returns-in-Err
 unfolding advices
-returns-in_err-write_advice g c = let p = err_from_is_err_and c.from_residual.result c.from_residual.ensures.1 in
-    rw p.1 (fail-list (text_of (plan_of c.args.plan.now)) advices _ (seen g.W.Write.contents c.args.output.now) (seen g.W.Write.contents c.loop-advice.output) (seen g.W.Write.contents c.write_advice.new.output) _
-    c.loop-advice.advice-index p.0 c.loop-advice-test.true c.loop-advice.invariant c.in_err-write_advice.ensures.front c.in_err-write_advice.ensures.blame)
+returns-in-Err g c =
+    fail-list (text_of (plan_of c.args.plan.now)) advices _ (seen g.W.Write.contents c.args.output.now) (seen g.W.Write.contents c.loop-advice.output) (seen g.W.Write.contents c.write_advice.new.output) _
+    c.loop-advice.advice-index c.in-Err.fault c.loop-advice-test.true c.loop-advice.invariant c.in-Err.ensures.front c.in-Err.ensures.blame
 
 pub returns : goal.returns
 unfolding advices
