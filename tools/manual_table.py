@@ -57,7 +57,7 @@ def objects():
     """The cells of each object's row but the last, by its name, in the order of the source."""
     source = SOURCE.read_text()
     said = dict(comments(source))
-    table = source[source.index("macro_rules! table {"):source.index("macro_rules! rows {")]
+    table = source[source.index("macro_rules! table {"):source.index("macro_rules! names {")]
     found = {}
     for row in filter(None, map(ROW.match, table.splitlines())):
         variant, name, indices, most, absent, narrow_indices, narrow_most, change = row.groups()
