@@ -9,8 +9,8 @@ The three are the built programs. Each subject gives tables of docs/SPEED.md:
 - texts: plan texts that are checked, and a long log;
 - files: the filters of tsb_field on ten hours and on a day, and how many days are recorded in a second;
 - lives: round trips of a tick through pipes;
-- growth: what a tick takes with more phases, with more detectors that change and in longer sessions, and what a commit
-  takes with more edits;
+- phases, changes, ticks: what a tick takes with more phases, with more detectors that change, and in longer sessions;
+- edits: what a transaction takes with more edits;
 - profile: the functions in which a session executes its instructions.
 
 By the clock the median and, in brackets, the least of N runs are told (7 without it). Where valgrind is there, the
@@ -29,10 +29,10 @@ from speed_files import field_files
 from speed_kit import Files, Setup, Table, has_counter
 from speed_live import lives
 from speed_profile import profile
-from speed_sessions import grown, sessions, texts
+from speed_sessions import change_growth, edit_growth, phase_growth, sessions, texts, tick_growth
 
 DOCUMENT = pathlib.Path("docs/SPEED.md")
-SUBJECTS = ["sessions", "texts", "files", "lives", "growth", "profile"]
+SUBJECTS = ["sessions", "texts", "files", "lives", "phases", "changes", "edits", "ticks", "profile"]
 
 
 def words_of() -> argparse.Namespace:
@@ -74,7 +74,10 @@ def main() -> None:
             "texts": lambda: texts(setup),
             "files": lambda: [field_files(setup, field, asked.days)],
             "lives": lambda: [lives(setup, live)],
-            "growth": lambda: grown(setup),
+            "phases": lambda: [phase_growth(setup)],
+            "changes": lambda: [change_growth(setup)],
+            "edits": lambda: [edit_growth(setup)],
+            "ticks": lambda: [tick_growth(setup)],
             "profile": lambda: [profile(setup)] if has_counter() else [],
         }
         for subject in asked.only.split(","):

@@ -208,10 +208,3 @@ def transaction(program: str, edits: int) -> list[Counted]:
              "commit 1\n", "undo\n"]
     runs = [session(program, PLAN, "/dev/null", "".join(parts[:it])) for it in range(1, len(parts) + 1)]
     return [Counted(runs[it], runs[it - 1], edits if it == 1 else 1) for it in range(1, len(runs))]
-
-
-def grown(setup: Setup) -> list[Table]:
-    """The tables of growth."""
-    return [phase_growth(setup), change_growth(setup), edit_growth(setup), tick_growth(setup)]
-
-
