@@ -73,8 +73,8 @@ def trips(live: str, fixed: str, setup: Setup) -> list[list[str]]:
             own[name].append(used)
     cuts = {name: statistics.quantiles(it, n=100) for name, it in found.items()}
     lines = [("a round trip of one tick, the median", {name: it[49] for name, it in cuts.items()}),
-             ("the 99th of a hundred", {name: it[98] for name, it in cuts.items()}),
-             ("of this the program's own code", {name: statistics.median(it) for name, it in own.items()})]
+             ("of this the program's own code", {name: statistics.median(it) for name, it in own.items()}),
+             ("a round trip, the 99th of a hundred", {name: it[98] for name, it in cuts.items()})]
     return [[what, *(f"{rounded(it / MICRO)} us" for it in both.values()), ratio(*both.values())]
             for what, both in lines]
 
