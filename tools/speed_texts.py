@@ -71,8 +71,8 @@ def longest_log() -> bytes:
 
 
 def plan_of(phases: int) -> bytes:
-    """A plan of 2, 4, 8 or 16 phases: as many in each of two rings and on each of two sides; but 2 phases have one ring,
-    and 16 have four sides.
+    """A plan of 2, 4, 8 or 16 phases: as many in each of two rings and on each of two sides. But 2 phases have one
+    ring, and 16 have four sides.
 
     Vehicle detectors 1 to 16 call the phases in turn, and pedestrian detector 2 phase 2.
     """
