@@ -1,10 +1,11 @@
 #!/usr/bin/env python3
 """Runs SUMO's own NEMA controller and the bench on the same traffic, and writes what
-came of it into docs/PEERS.md: tools/peers.py FOLDER [--write].
+came of it into docs/PEERS.md: tools/peers.py FOLDER [--write] [--only WORD,..].
 
 The runs are kept in FOLDER: what is there is not run again, so that it can be stopped
-and started. All runs take an hour or two. It needs SUMO, and the programs tsb and
-tsb_live, built or in a folder that TSB_BIN names.
+and started. All runs take an hour or two. With --only it makes the runs of kinds with
+such a word in their name, and writes the tables with such a word in their head. It
+needs SUMO, and the programs tsb and tsb_live, built or in a folder that TSB_BIN names.
 """
 
 import argparse
@@ -18,6 +19,7 @@ from pathlib import Path
 TOP = Path(__file__).resolve().parent.parent
 sys.path.insert(0, str(TOP / "python"))
 
+import peers_late  # noqa: E402
 import peers_tables  # noqa: E402
 from tsb.plan import Plan  # noqa: E402
 from tsb.sumo import Intersection, Loop, crossroads  # noqa: E402
@@ -26,27 +28,38 @@ from tsb.sumo.peers import ALL_OFF  # noqa: E402
 
 ALL = ("light", "medium", "heavy")
 YELLOW = {1: 35, 2: 43, 3: 35, 4: 39, 5: 35, 6: 43, 7: 35, 8: 39}
+PRESS = 2400  # ticks from press to press of the buttons of phases 4 and 8
 RED = {1: 10, 2: 15, 3: 10, 4: 15, 5: 10, 6: 15, 7: 10, 8: 15}
 
 
 @dataclass(frozen=True)
 class Kind:
     """A kind of runs: its plan, the levels of demand, and whether SUMO's controller
-    runs it, with people on the crossings, or in a pattern."""
+    runs it, with people on the crossings, in a pattern, or with its buttons pressed."""
 
     plan: Callable[[], Plan]
     levels: tuple[str, ...] = ALL
     sumos: bool = False
     walks: bool = False
     pattern: int = 0
+    presses: bool = False
 
 
 def _unequal() -> Plan:
     return crossroads.plan(phaseYellowChange=YELLOW, phaseRedClear=RED)
 
 
-def _pattern() -> Plan:
-    return crossroads.plan(pattern=True)
+def _pattern(mode: int = 0) -> Plan:
+    return crossroads.plan(pattern=True, coordForceMode={1: mode})
+
+
+def _buttons(mode: int = 0) -> Plan:
+    """With walks on phases 4 and 8 that their splits do not hold."""
+    made = _pattern(mode)
+    made["phaseWalk"] = {4: 7, 8: 7}
+    made["phasePedestrianClear"] = {4: 36, 8: 36}
+    made["pedestrianDetectorCallPhase"] = {4: 4, 8: 8}
+    return made
 
 
 KINDS = {
@@ -61,10 +74,14 @@ KINDS = {
     "tsb lag": Kind(crossroads.lagging, ("medium",)),
     "tsb lag latched": Kind(lambda: crossroads.lagging(latched=True), ("medium",)),
     "tsb density": Kind(crossroads.density, ("heavy",)),
+    "tsb late": Kind(lambda: _pattern(1), pattern=1),
+    "tsb buttons": Kind(_buttons, ("heavy",), pattern=1, presses=True),
+    "tsb late buttons": Kind(lambda: _buttons(1), ("heavy",), pattern=1, presses=True),
     "tsb walks": Kind(
         lambda: crossroads.with_pedestrians(crossroads.plan()), ("medium",), walks=True
     ),
 }
+TABLES = {**peers_tables.TABLES, "With late force-off": peers_late.figures}
 
 
 def run(folder: Path, kind: str, level: str, seed: int, seconds: int) -> None:
@@ -90,13 +107,15 @@ def run(folder: Path, kind: str, level: str, seed: int, seconds: int) -> None:
         begin[plan.sequence(1, ring)[0] - 1] = "1"
     start = f"{''.join(begin)}{ALL_OFF[16:]}"
 
-    def first(tick: int, tls: str, row: str) -> str:
+    def given(tick: int, tls: str, row: str) -> str:
+        if it.presses and tick % PRESS == 0:
+            return f"{row[:16]} 00010001 {row[26:]}"
         return start if tick == 1 and not it.pattern else row
 
     trips, ticks = folder / f"{name}.part.xml", folder / f"{name}.part"
     with Loop(
         net / "net.xml", routes, at,
-        additional=files, seed=seed, trips=trips, change=first,
+        additional=files, seed=seed, trips=trips, change=given,
     ) as loop:  # fmt: skip
         if it.pattern and not it.sumos:
             loop.benches["C"].set_pattern(it.pattern)
@@ -118,25 +137,33 @@ def runs(seeds: int) -> Iterator[tuple[str, str, int]]:
                     yield kind, level, seed
 
 
+def _has(words: list[str], name: str) -> bool:
+    return any(it in name for it in words)
+
+
 def main() -> int:
     """Runs what is missing, one after another, and writes."""
     words = argparse.ArgumentParser(description=__doc__)
     words.add_argument("folder", type=Path)
     words.add_argument("--seconds", type=int, default=3600)
     words.add_argument("--seeds", type=int, default=5)
-    words.add_argument("--only", default="", help="the runs of kinds with this word")
+    words.add_argument("--only", default="", help="words, with commas between")
     words.add_argument("--write", action="store_true", help="write docs/PEERS.md")
     given = words.parse_args()
+    only: list[str] = given.only.split(",")
     folder: Path = given.folder
     folder.mkdir(parents=True, exist_ok=True)
     for kind, level, seed in runs(given.seeds):
         name = peers_tables.name_of(kind, level, seed)
-        if given.only in kind and not (folder / f"{name}.ticks.gz").exists():
-            start = time.perf_counter()
-            run(folder, kind, level, seed, given.seconds)
-            print(f"{name}: {time.perf_counter() - start:.0f} s", flush=True)
+        if not _has(only, kind) or (folder / f"{name}.ticks.gz").exists():
+            continue
+        start = time.perf_counter()
+        run(folder, kind, level, seed, given.seconds)
+        print(f"{name}: {time.perf_counter() - start:.0f} s", flush=True)
     if given.write:
-        peers_tables.write(TOP / "docs" / "PEERS.md", folder, given.seeds)
+        found = peers_tables.Runs(folder, given.seeds)
+        made = {head: of(found) for head, of in TABLES.items() if _has(only, head)}
+        peers_tables.write(TOP / "docs" / "PEERS.md", made)
     return 0
 
 

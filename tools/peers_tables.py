@@ -1,9 +1,10 @@
 """The tables of docs/PEERS.md, of the runs that tools/peers.py keeps in a folder."""
 
 import gzip
+import re
 import statistics
 from collections import Counter
-from collections.abc import Iterable, Sequence
+from collections.abc import Callable, Iterable, Mapping, Sequence
 from functools import lru_cache
 from pathlib import Path
 
@@ -225,21 +226,21 @@ def others(runs: Runs) -> str:
     return table(["", "", "lost, car", "lost, walk", "longest without 2 and 6"], rows)
 
 
-def figures(folder: Path, seeds: int) -> str:
-    """All tables."""
-    runs = Runs(folder, seeds)
-    parts = {
-        "### Delay and throughput": closed(runs),
-        "### Greens": greens(runs),
-        "### SUMO's rows given to tsb": alike(runs),
-        "### Other plans": others(runs),
-    }
-    return "\n\n".join(f"{head}\n\n{text}" for head, text in parts.items())
+TABLES: dict[str, Callable[[Runs], str]] = {
+    "Delay and throughput": closed,
+    "Greens": greens,
+    "SUMO's rows given to tsb": alike,
+    "Other plans": others,
+}
 
 
-def write(document: Path, folder: Path, seeds: int) -> None:
-    """Writes the tables into the document, between their marks."""
+def write(document: Path, made: Mapping[str, str]) -> None:
+    """Writes these tables into the document, between its marks, each with its head. The
+    others stay."""
     before, _, rest = document.read_text(encoding="utf-8").partition(BEGIN)
-    _, _, after = rest.partition(END)
-    text = f"{before}{BEGIN}\n\n{figures(folder, seeds)}\n\n{END}{after}"
+    inside, _, after = rest.partition(END)
+    _, *found = re.split(r"^### (.+)\n", inside, flags=re.MULTILINE)
+    kept = zip(found[::2], map(str.strip, found[1::2]), strict=True)
+    parts = [f"### {head}\n\n{text}\n" for head, text in {**dict(kept), **made}.items()]
+    text = "\n".join([f"{before}{BEGIN}\n", *parts, f"{END}{after}"])
     document.write_text(text, encoding="utf-8")
