@@ -154,25 +154,31 @@ def _limits(
     """The table of limits. `full` has each case and mode, `late` the wait of the late
     call with each mode."""
     all_on = [max(max(of[mode][:-1]) for of in full) for mode in MODES]
-    others = [
-        max(max(it[0], it[2]) for of in found for it in of[at].most) for at in (-2, -1)
-    ]
-    light, buttons = ([it.mean for it in of] for of in (found[0], found[-1]))
     rows = [
         _limit("longest green, cars on all detectors", 50, all_on),
-        _limit("longest green of left and side, with SUMO", 50, others),
         _limit("wait of the call a tick later", 6, late),
-        _limit("lost, heavy, with buttons", 56, buttons),
-        _limit("lost, light; the limit is SUMO's", light[0], light[1:]),
     ]
+    others = [
+        max((max(it[0], it[2]) for of in found for it in of[at].most), default=0)
+        for at in (-2, -1)
+    ]
+    if found:
+        rows.append(_limit("longest green of left and side, with SUMO", 50, others))
+    for of in found:
+        means = [it.mean for it in of]
+        if of[-1].kind in BUTTONS:
+            rows.append(_limit("lost, heavy, with buttons", 56, means))
+        elif of[-1].level == "light":
+            rows.append(_limit("lost, light; the limit is SUMO's", means[0], means[1:]))
     return table(["seconds", "limit", "mode 0", "mode 1", ""], rows)
 
 
 def figures(runs: Runs) -> str:
-    """All of it. It needs a run of each kind and level."""
+    """All of it, of the runs that there are."""
     full = [[_full(case, mode) for mode in MODES] for case in CASES]
     waits = [[_wait(mode, late) for mode in MODES] for late in (0, 1)]
-    found = [list(_hours(runs, level, kinds)) for level, kinds in LOOPS]
+    hours = [list(_hours(runs, level, kinds)) for level, kinds in LOOPS]
+    found = [it for it in hours if it]
     cases = [
         [case.name, mode, *(f"{it:.1f}" for it in of[mode])]
         for case, of in zip(CASES, full, strict=True)
