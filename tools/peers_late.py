@@ -18,8 +18,8 @@ PATTERN = ("sumo pattern", "tsb pattern", "tsb late")
 BUTTONS = ("tsb buttons", "tsb late buttons")
 LOOPS = [
     ("light", PATTERN),
-    ("medium", PATTERN),
-    ("heavy", PATTERN),
+    ("medium", PATTERN[1:]),
+    ("heavy", PATTERN[1:]),
     ("heavy", BUTTONS),
 ]
 MOST = [f"longest {it}" for it in GROUPS] + ["without 2 and 6"]
@@ -194,8 +194,7 @@ def figures(runs: Runs) -> str:
             table(["", "mode", *MOST], cases),
             "Without SUMO, a call on phase 8 alone; the seconds until it is green:",
             table(["it comes", *(f"mode {it}" for it in MODES)], calls),
-            "With SUMO; in seconds:",
-            _loops(found),
+            *(["With SUMO; in seconds:", _loops(found)] if found else []),
             "What was to be reached:",
             _limits(full, waits[1], found),
         ]
