@@ -140,6 +140,11 @@ def _loops(found: Sequence[Sequence[Hours]]) -> str:
     return table(["", "", "lost, car", "more than mode 0", *MOST], rows)
 
 
+def _name(of: Sequence[Hours]) -> str:
+    """What runs that are compared are called."""
+    return f"{of[-1].level}{', buttons' if of[-1].kind in BUTTONS else ''}"
+
+
 def _limit(name: str, limit: float, modes: Sequence[float]) -> list[object]:
     """A row: the limit, what there is with mode 0 and 1, and whether 1 meets it."""
     said = [f"{it:.1f}" for it in (limit, *modes)]
@@ -158,16 +163,14 @@ def _limits(
         _limit("longest green, cars on all detectors", 50, all_on),
         _limit("wait of the call a tick later", 6, late),
     ]
-    others = [
-        max((max(it[0], it[2]) for of in found for it in of[at].most), default=0)
-        for at in (-2, -1)
-    ]
-    if found:
-        rows.append(_limit("longest green of left and side, with SUMO", 50, others))
+    for of in found:
+        modes = [max(max(it[0], it[2]) for it in kind.most) for kind in of[-2:]]
+        name = f"longest green of left and side, {_name(of)}"
+        rows.append(_limit(name, 50, modes))
     for of in found:
         means = [it.mean for it in of]
         if of[-1].kind in BUTTONS:
-            rows.append(_limit("lost, heavy, with buttons", 56, means))
+            rows.append(_limit(f"lost, {_name(of)}", 56, means))
         elif of[-1].level == "light":
             rows.append(_limit("lost, light; the limit is SUMO's", means[0], means[1:]))
     return table(["seconds", "limit", "mode 0", "mode 1", ""], rows)
