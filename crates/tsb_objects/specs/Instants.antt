@@ -1,12 +1,12 @@
 -- Force-off instants: when within the cycle of a pattern a phase is forced off, so that its split ends with its red
--- clearance (fixed force-off, no transition after a change of pattern); and late force-off, behind the instant. Cycle,
--- splits, split modes, coordinated phases and sequences are the objects of NTCIP 1202 of these names; that the local
--- counter is 0 where the coordinated split ends, and late force-off, are the profile's own. Times are in ticks, which
--- are tenths of a second.
+-- clearance (fixed force-off, no transition after a change of pattern); and late force-off and the permissive time, behind
+-- the instant. Cycle, splits, split modes, coordinated phases and sequences are the objects of NTCIP 1202 of these names;
+-- that the local counter is 0 where the coordinated split of ring 1 ends, late force-off and the permissive time are the
+-- profile's own. Times are in ticks, which are tenths of a second.
 use Rattle.std.specs.Prelude.{◌≡◌, ℕ, ◌+◌, ◌-◌, ◌%◌, ◌==◌, nat_le, nat_lt, Bool, false, not, ◌&&◌, ◌||◌, if◌then◌else◌, Option, Some, None}
 use Rattle.tsb_types.specs.Lists.{first, or_else}
 use Rattle.tsb_plan.specs.Plan.{Plan, phases, is_enabled, ring_of, yellow_change, red_clear}
-use Rattle.tsb_plan.specs.Parts.{cycle, split_of, forces_late}
+use Rattle.tsb_plan.specs.Parts.{cycle, permissive_time, split_of, forces_late}
 use Rattle.tsb_plan.specs.Running.{sequence_in_effect, is_coordinated_now}
 use Rattle.tsb_rules.specs.PatternRules.{split_end}
 
@@ -25,7 +25,7 @@ abbrev pub end_of : Plan → ℕ → ℕ → ℕ
 end_of plan n p = end_in plan n (split_of plan n) p
 
 -- The force-off instant of p, on the local counter: its split's end less that of the coordinated phase c, and less its
--- yellow change and red clearance, within the cycle. Local 0 is thus the end of the coordinated split.
+-- yellow change and red clearance, within the cycle. Local 0 is thus the end of the split of c.
 abbrev pub instant_from : Plan → ℕ → ℕ → ℕ → ℕ
 instant_from plan n c p =
     residue_of_difference (cycle plan n) (end_of plan n p) (end_of plan n c + yellow_change plan p + red_clear plan p)
@@ -35,10 +35,24 @@ pub is_same_from_both : (plan : Plan) (n c d p : ℕ) →
     end_of plan n c ≡ end_of plan n d → instant_from plan n c p ≡ instant_from plan n d p
 is_same_from_both plan n c d p e = cc
 
--- The coordinated phase that instants are counted from is the first. Any other gives the same: by K20 a pattern that is
--- used has one at least, and the splits of all its coordinated phases end at one time.
+-- p is a coordinated phase of pattern n, and of ring r
+abbrev pub is_coordinated_in : Plan → ℕ → ℕ → ℕ → Bool
+is_coordinated_in plan n r p = is_coordinated_now plan (Some n) p && ring_of plan p == r
+
+-- the first coordinated phase of ring r in pattern n. K20: where the ring has phases on the side of the coordinated
+-- phases it has one, and only one
+abbrev pub coordinated_in_ring : Plan → ℕ → ℕ → Option ℕ
+coordinated_in_ring plan n r = first (is_coordinated_in plan n r) (phases plan)
+
+-- the first coordinated phase of pattern n, of whichever ring
+abbrev pub first_coordinated : Plan → ℕ → Option ℕ
+first_coordinated plan n = first (is_coordinated_now plan (Some n)) (phases plan)
+
+-- The coordinated phase that instants are counted from is that of ring 1, or the first where ring 1 has none. By K20 a
+-- pattern that is used has one at least. Where it does not lead and lag any other gives the same, as the splits of all its
+-- coordinated phases end at one time.
 abbrev pub reference : Plan → ℕ → Option ℕ
-reference plan n = first (is_coordinated_now plan (Some n)) (phases plan)
+reference plan n = or_else (coordinated_in_ring plan n 1) (first_coordinated plan n)
 
 -- counted from coordinated phase c, in tenths of a second; none where the pattern has no coordinated phase
 abbrev pub instant_by : Plan → ℕ → Option ℕ → ℕ → Option ℕ
@@ -58,16 +72,8 @@ agree (Some m) (Some n) = m == n
 
 -- ## Late force-off
 
--- p is a coordinated phase of pattern n, and of ring r
-abbrev pub is_coordinated_in : Plan → ℕ → ℕ → ℕ → Bool
-is_coordinated_in plan n r p = is_coordinated_now plan (Some n) p && ring_of plan p == r
-
--- the first coordinated phase of ring r in pattern n. K20: where the ring has phases on the side of the coordinated
--- phases it has one, and only one
-abbrev pub coordinated_in_ring : Plan → ℕ → ℕ → Option ℕ
-coordinated_in_ring plan n r = first (is_coordinated_in plan n r) (phases plan)
-
--- the coordinated phase up to whose instant p is forced off late: that of the ring of p, or else the first of pattern n
+-- the coordinated phase up to whose instant p is forced off late: that of the ring of p, or else the one that instants are
+-- counted from
 abbrev pub yields_to : Plan → ℕ → ℕ → Option ℕ
 yields_to plan n p = or_else (coordinated_in_ring plan n (ring_of plan p)) (reference plan n)
 
@@ -92,7 +98,38 @@ is_late (Some m) None to = false
 is_late (Some m) (Some i) None = false
 is_late (Some m) (Some i) (Some e) = nat_le i m && nat_lt m e
 
--- p is forced off where the local counter is this: at its instant, or late
+-- ## The permissive time
+
+-- for how long behind its instant p is forced off in pattern n: the permissive time of a coordinated phase, and 0 of any
+-- other
+abbrev pub yields_for : Plan → ℕ → ℕ → ℕ
+yields_for plan n p = if is_coordinated_now plan (Some n) p then permissive_time plan n else 0
+
+-- both are numbers, and the first is at most so long behind the second, in this cycle or from the last one on
+abbrev pub is_behind : ℕ → ℕ → Option ℕ → Option ℕ → Bool
+is_behind m time None instant = false
+is_behind m time (Some l) None = false
+is_behind m time (Some l) (Some i) = (nat_le i l && nat_le l (i + time)) || nat_le (l + m) (i + time)
+
+-- p is forced off where the local counter is this: in its permissive time, which has one; with 0 none is
+abbrev pub is_permitted : Plan → Option ℕ → Option ℕ → ℕ → Bool
+is_permitted plan None local p = false
+is_permitted plan (Some n) local p =
+    nat_lt 0 (yields_for plan n p) && is_behind (cycle plan n) (yields_for plan n p) local (force_off plan (Some n) p)
+
+-- the tick of the local counter behind the permissive time of p, if it has one
+abbrev pub permissive_end_from : ℕ → ℕ → Option ℕ → Option ℕ
+permissive_end_from m time None = None
+permissive_end_from m time (Some i) = if nat_lt 0 time then Some ((i + time + 1) % m) else None
+
+-- on the local counter of pattern n; none in free operation, and for all but coordinated phases
+abbrev pub permissive_end : Plan → Option ℕ → ℕ → Option ℕ
+permissive_end plan None p = None
+permissive_end plan (Some n) p = permissive_end_from (cycle plan n) (yields_for plan n p) (force_off plan (Some n) p)
+
+-- ## Together
+
+-- p is forced off where the local counter is this: at its instant, late, or in its permissive time
 abbrev pub forces_off : Plan → Option ℕ → Option ℕ → ℕ → Bool
 forces_off plan runs local p =
-    agree local (force_off plan runs p) || is_late local (force_off plan runs p) (late_end plan runs p)
+    agree local (force_off plan runs p) || (is_late local (force_off plan runs p) (late_end plan runs p) || is_permitted plan runs local p)

@@ -1,8 +1,8 @@
 -- What a plan says of detectors, overlaps, patterns, splits and preempts, each named by its number from 1. Times are in
 -- tenths of a second. Names are those of NTCIP 1202; the numbers of split modes, overlap types and force modes are the
--- profile's own.
+-- profile's own, as permissive time and lead and lag are.
 use Rattle.std.specs.Prelude.{ℕ, ◌+◌, ◌-◌, ◌*◌, ◌==◌, Bool, not, if◌then◌else◌, Option, Some, None}
-use Rattle.tsb_plan.specs.declared.object.Object.TheVariants.{VehicleDetectorCallPhase, VehicleDetectorDelay, VehicleDetectorExtend, VehicleDetectorNoActivity, VehicleDetectorMaxPresence, VehicleDetectorErraticCounts, VehicleDetectorFailTime, PedestrianDetectorCallPhase, OverlapIncludedPhases, PatternCycleTime, PatternOffsetTime, PatternSplitNumber, PatternSequenceNumber, SplitTime, SplitMode as SplitModeObject, SplitCoordPhase, PreemptDelay, PreemptMinimumDuration, PreemptMaximumPresence, PreemptMinimumGreen, PreemptMinimumWalk, PreemptEnterPedClear, PreemptTrackGreen, PreemptTrackPhase, PreemptDwellPhase, PreemptExitPhase, OverlapType, OverlapModifierPhases, CoordForceMode}
+use Rattle.tsb_plan.specs.declared.object.Object.TheVariants.{VehicleDetectorCallPhase, VehicleDetectorDelay, VehicleDetectorExtend, VehicleDetectorNoActivity, VehicleDetectorMaxPresence, VehicleDetectorErraticCounts, VehicleDetectorFailTime, PedestrianDetectorCallPhase, OverlapIncludedPhases, PatternCycleTime, PatternOffsetTime, PatternSplitNumber, PatternSequenceNumber, SplitTime, SplitMode as SplitModeObject, SplitCoordPhase, PreemptDelay, PreemptMinimumDuration, PreemptMaximumPresence, PreemptMinimumGreen, PreemptMinimumWalk, PreemptEnterPedClear, PreemptTrackGreen, PreemptTrackPhase, PreemptDwellPhase, PreemptExitPhase, OverlapType, OverlapModifierPhases, CoordForceMode, PatternPermissiveTime, PatternLeadLag}
 use Rattle.tsb_plan.specs.declared.plan.patterns.SplitMode.{SplitMode}
 use Rattle.tsb_plan.specs.declared.plan.patterns.SplitMode.TheVariants.{NoMode, MinimumRecall, MaximumRecall, PedestrianRecall, MaximumAndPedestrianRecall, Omitted}
 use Rattle.tsb_plan.specs.Plan.{Plan}
@@ -66,10 +66,14 @@ is_minus_green_yellow plan o = plan.value OverlapType o == 1
 
 -- patterns
 
--- late force-off in all patterns: a phase that is not coordinated is forced off from its instant up to that of a
--- coordinated phase, and otherwise at its instant alone
+-- late force-off in all patterns, modes 1 and 2: a phase that is not coordinated is forced off from its instant up to
+-- that of a coordinated phase, and otherwise at its instant alone
 abbrev pub forces_late : Plan → Bool
-forces_late plan = plan.value CoordForceMode 1 == 1
+forces_late plan = not (plan.value CoordForceMode 1 == 0)
+
+-- floating force-off in all patterns, mode 2: such a phase is besides forced off once its green has lasted its split
+abbrev pub floats : Plan → Bool
+floats plan = plan.value CoordForceMode 1 == 2
 
 -- the cycle length of the pattern, in tenths of a second; 0 for a pattern that is not used
 abbrev pub cycle : Plan → ℕ → ℕ
@@ -82,6 +86,16 @@ is_used plan n = not (plan.value PatternCycleTime n == 0)
 -- how long after tick 0 the local counter of the pattern is first 0, in tenths of a second; K17: below the cycle
 abbrev pub offset : Plan → ℕ → ℕ
 offset plan n = 10 * plan.value PatternOffsetTime n
+
+-- for so long behind their instants the coordinated phases of the pattern are forced off, in tenths of a second; with 0
+-- at their instants alone. K23: below the cycle
+abbrev pub permissive_time : Plan → ℕ → ℕ
+permissive_time plan n = 10 * plan.value PatternPermissiveTime n
+
+-- the splits of the coordinated phases of the pattern may end at different times, as where one direction of a street
+-- has its left turn before and the other one behind
+abbrev pub leads_and_lags : Plan → ℕ → Bool
+leads_and_lags plan n = plan.value PatternLeadLag n == 1
 
 -- the split table of the pattern
 abbrev pub split_of : Plan → ℕ → Option ℕ

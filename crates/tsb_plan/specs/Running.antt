@@ -1,11 +1,13 @@
--- What a plan says while a pattern runs, and in free operation: split modes, coordinated phases and the sequence in
--- effect. Names are those of NTCIP 1202; the numbers of split modes are the profile's own.
-use Rattle.std.specs.Prelude.{ℕ, Bool, true, false, ◌||◌, if◌then◌else◌, Option, Some, None}
+-- What a plan says while a pattern runs, and in free operation: split modes, coordinated phases, the sequence in
+-- effect, and by what time or maximum greens end. Names are those of NTCIP 1202; the numbers of split modes, force modes and maximum modes are
+-- the profile's own. Times are in tenths of a second.
+use Rattle.std.specs.Prelude.{ℕ, ◌-◌, ◌*◌, ◌==◌, Bool, true, false, not, ◌&&◌, ◌||◌, if◌then◌else◌, Option, Some, None}
 use Rattle.tsb_types.specs.Lists.{or_number}
+use Rattle.tsb_plan.specs.declared.object.Object.TheVariants.{CoordMaximumMode, PhaseMaximum1, PhaseMaximum2}
 use Rattle.tsb_plan.specs.declared.plan.patterns.SplitMode.{SplitMode}
 use Rattle.tsb_plan.specs.declared.plan.patterns.SplitMode.TheVariants.{NoMode, MinimumRecall, MaximumRecall, PedestrianRecall, MaximumAndPedestrianRecall, Omitted}
-use Rattle.tsb_plan.specs.Parts.{is_used, split_of, sequence_of, split_mode, is_coordinated}
-use Rattle.tsb_plan.specs.Plan.{Plan, has_minimum_recall, has_maximum_recall, has_pedestrian_recall}
+use Rattle.tsb_plan.specs.Parts.{is_used, split_of, sequence_of, split_time, split_mode, is_coordinated, floats}
+use Rattle.tsb_plan.specs.Plan.{Plan, has_minimum_recall, has_maximum_recall, has_pedestrian_recall, yellow_change, red_clear}
 
 -- the pattern that runs: the one that is selected, if it is used; with none the controller is in free operation
 abbrev pub running : Plan → Option ℕ → Option ℕ
@@ -95,3 +97,26 @@ is_on_maximum_recall plan runs p = has_maximum_recall plan p || recalls_maximum 
 -- pedestrian recall: the phase's own, or its split mode's
 abbrev pub is_on_pedestrian_recall : Plan → Option ℕ → ℕ → Bool
 is_on_pedestrian_recall plan runs p = has_pedestrian_recall plan p || recalls_pedestrians (mode_in_effect plan runs p)
+
+-- the green that split table t has for p: its split less yellow change and red clearance, 0 where these are longer
+abbrev pub split_green : Plan → ℕ → ℕ → ℕ
+split_green plan t p = split_time plan t p - yellow_change plan p - red_clear plan p
+
+-- with floating force-off, the green after which p is forced off, by a split table; none for a coordinated phase
+abbrev pub floating_in : Plan → Option ℕ → ℕ → Option ℕ
+floating_in plan None p = None
+floating_in plan (Some t) p = if floats plan && not (is_coordinated plan t p) then Some (split_green plan t p) else None
+
+-- by that of the pattern that runs; none in free operation
+abbrev pub floating_time : Plan → Option ℕ → ℕ → Option ℕ
+floating_time plan runs p = floating_in plan (split_in_effect plan runs) p
+
+-- the maximum of p by the maximum mode; none with mode 0
+abbrev pub maximum_by_mode : Plan → ℕ → Option ℕ
+maximum_by_mode plan p =
+    if plan.value CoordMaximumMode 1 == 1 then Some (10 * plan.value PhaseMaximum1 p) else
+    (if plan.value CoordMaximumMode 1 == 2 then Some (10 * plan.value PhaseMaximum2 p) else None)
+
+-- that which acts on p while the pattern runs; none for a coordinated phase
+abbrev pub pattern_maximum : Plan → Option ℕ → ℕ → Option ℕ
+pattern_maximum plan runs p = if is_coordinated_now plan runs p then None else maximum_by_mode plan p

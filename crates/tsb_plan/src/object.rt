@@ -134,8 +134,14 @@ pub enum Object {
     OverlapType,
     /// `overlapModifierPhases`: overlap, list of phases; 0 to 65,535.
     OverlapModifierPhases,
-    /// `coordForceMode`: 1 alone, 0 force-off at the instant, 1 late force-off (profile); 0 to 1.
+    /// `coordForceMode`: 1 alone, 0 force-off at the instant, 1 late force-off, 2 floating force-off (profile); 0 to 2.
     CoordForceMode,
+    /// `coordMaximumMode`: 1 alone, 0 no maximum in a pattern, 1 phaseMaximum1, 2 phaseMaximum2 (profile); 0 to 2.
+    CoordMaximumMode,
+    /// `patternPermissiveTime`: pattern, seconds (profile); 0 to 255.
+    PatternPermissiveTime,
+    /// `patternLeadLag`: pattern, yes or no, whether coordinated splits may end apart (profile); 0 to 1.
+    PatternLeadLag,
 }
 
 /// THE TABLE OF OBJECTS, each row as the macro that is named takes it: the object, its name in plan texts,
@@ -208,7 +214,10 @@ macro_rules! table {
             PhaseDynamicMaxStep         "phaseDynamicMaxStep"          1206 [16 255]    [absent]    free
             OverlapType                 "overlapType"                  1222 [4 1]       [absent]    structural
             OverlapModifierPhases       "overlapModifierPhases"        1226 [4 65535]   [absent]    structural
-            CoordForceMode              "coordForceMode"               1230 [1 1]       [absent]    free
+            CoordForceMode              "coordForceMode"               1230 [1 2]       [absent]    free
+            CoordMaximumMode            "coordMaximumMode"             1231 [1 2]       [absent]    free
+            PatternPermissiveTime       "patternPermissiveTime"        1232 [16 255]    [absent]    free
+            PatternLeadLag              "patternLeadLag"               1248 [16 1]      [absent]    free
         }
     };
 }

@@ -1,6 +1,6 @@
 -- What a check asks one by one: of each phase, of each phase that a list names, of each overlap, preempt and pattern. The
 -- rules say the same in their own words, and each comes to one of these tests for all of them.
-use Rattle.std.specs.Prelude.{ℕ, ◌==◌, nat_le, Bool, not, ◌&&◌, ◌||◌, List}
+use Rattle.std.specs.Prelude.{ℕ, ◌==◌, nat_le, nat_lt, Bool, not, ◌&&◌, ◌||◌, List}
 use Rattle.std.specs.List.{list_all}
 use Rattle.tsb_plan.specs.declared.object.Object.TheVariants.{PhaseConcurrency, OverlapIncludedPhases}
 use Rattle.tsb_rules.specs.declared.rules.asked.OfEnabled.{OfEnabled}
@@ -14,10 +14,10 @@ use Rattle.tsb_rules.specs.declared.rules.lists.OfNamed.TheVariants.{IsEnabled, 
 use Rattle.tsb_rules.specs.declared.rules.lists.OfFour.{OfFour}
 use Rattle.tsb_rules.specs.declared.rules.lists.OfFour.TheVariants.{IncludesEnabled, ModifiesRightly, HasConcurrentLists, DwellsOrIsEmpty}
 use Rattle.tsb_rules.specs.declared.rules.patterns.OfPattern.{OfPattern}
-use Rattle.tsb_rules.specs.declared.rules.patterns.OfPattern.TheVariants.{Whole, HoldsPhases, FillsCycle, IsCoordinated}
+use Rattle.tsb_rules.specs.declared.rules.patterns.OfPattern.TheVariants.{Whole, HoldsPhases, FillsCycle, IsCoordinated, PermissiveTimeEnds}
 use Rattle.tsb_rules.specs.declared.rules.sequences.OfListed.{OfListed}
 use Rattle.tsb_rules.specs.declared.rules.sequences.OfListed.TheVariants.{IsOfRing, IsFromSide}
-use Rattle.tsb_plan.specs.Parts.{split_of, sequence_of, is_coordinated}
+use Rattle.tsb_plan.specs.Parts.{cycle, permissive_time, leads_and_lags, split_of, sequence_of, is_coordinated}
 use Rattle.tsb_plan.specs.Plan.{Plan, phases, is_enabled, has_pedestrian_recall, ring_of, side_of, is_concurrent, minimum_green, minimum_gap, passage, yellow_change, dynamic_maximum_limit}
 use Rattle.tsb_rules.specs.PatternRules.{some_and, is_whole, holds_phase, holds_phases, fills, is_on, coordinates, coordinated_agree}
 use Rattle.tsb_rules.specs.Rules.{is_placed, names_across_rings, is_named_back, may_be_concurrent, reaches_minimum, has_walk, goes_with_all, names_enabled, has_concurrent_lists, dwells_or_is_empty, modifies_rightly}
@@ -34,12 +34,13 @@ enabled_meets WalkRecalled plan = λ p. not (has_pedestrian_recall plan p) || ha
 enabled_meets ReachedByLimit plan = λ p. dynamic_maximum_limit plan p == 0 || nat_le (minimum_green plan p) (dynamic_maximum_limit plan p)
 enabled_meets (HeldBy t) plan = holds_phase plan t
 
--- of each phase: K3, K5, K15 of a list, and K20 of sequence s and split table t
+-- of each phase: K3, K5, K15 of a list, and K20 of sequence s and split table t, whose coordinated splits may end apart
+-- or not
 abbrev pub phase_meets : OfPhase → Plan → ℕ → Bool
 phase_meets EmptyUnused plan = λ p. is_enabled plan p || plan.value PhaseConcurrency p == 0
 phase_meets NamedBack plan = is_named_back plan
 phase_meets (ConcurrentIn list) plan = λ p. not (names list p) || (is_enabled plan p && goes_with_all plan list p)
-phase_meets (CoordinatesIn s t) plan = λ p. not (is_coordinated plan t p) || coordinates plan s t p
+phase_meets (CoordinatesIn apart s t) plan = λ p. not (is_coordinated plan t p) || coordinates plan apart s t p
 
 -- what some phase has to be: K1, K20 of split table t, and an enabled one of ring r on side d
 abbrev pub is_sought : Sought → Plan → ℕ → Bool
@@ -65,12 +66,13 @@ four_meet ModifiesRightly plan = modifies_rightly plan
 four_meet HasConcurrentLists plan = has_concurrent_lists plan
 four_meet DwellsOrIsEmpty plan = dwells_or_is_empty plan
 
--- of each used pattern: K17 to K20
+-- of each used pattern: K17 to K20, and K23
 abbrev pub pattern_meets : OfPattern → Plan → ℕ → Bool
 pattern_meets Whole plan = is_whole plan
 pattern_meets HoldsPhases plan = λ n. some_and (holds_phases plan) (split_of plan n)
 pattern_meets FillsCycle plan = λ n. some_and (fills plan n) (split_of plan n)
-pattern_meets IsCoordinated plan = λ n. some_and (λ s. some_and (coordinated_agree plan s) (split_of plan n)) (sequence_of plan n)
+pattern_meets IsCoordinated plan = λ n. some_and (λ s. some_and (coordinated_agree plan (leads_and_lags plan n) s) (split_of plan n)) (sequence_of plan n)
+pattern_meets PermissiveTimeEnds plan = λ n. nat_lt (permissive_time plan n) (cycle plan n)
 
 -- of each listed phase: K6 and K7, that it is of ring r, and that it is of side d or a higher one
 abbrev pub listed_meets : OfListed → Plan → ℕ → Bool

@@ -3,7 +3,7 @@
 use Rattle.std.specs.Prelude.{◌≡◌, ◌≢◌, ℕ, ◌<◌, ◌≤◌, Bool, true, false, List, Some, None}
 use Rattle.tsb_plan.specs.declared.object.Object.TheVariants.{PreemptTrackPhase, PreemptDwellPhase, PreemptExitPhase}
 use Rattle.tsb_types.specs.Lists.{among}
-use Rattle.tsb_plan.specs.Parts.{is_used, cycle, offset, split_of, sequence_of, is_omitted, is_coordinated, is_track_phase, is_dwell_phase, is_exit_phase}
+use Rattle.tsb_plan.specs.Parts.{is_used, cycle, offset, permissive_time, leads_and_lags, split_of, sequence_of, is_omitted, is_coordinated, is_track_phase, is_dwell_phase, is_exit_phase}
 use Rattle.tsb_rules.specs.PatternRules.{split_end, coordinated_count, has_phases}
 use Rattle.tsb_plan.specs.Plan.{Plan, is_enabled, ring_of, side_of, is_concurrent, sequence}
 use Rattle.tsb_rules.specs.Rules.{first_broken}
@@ -97,27 +97,33 @@ pub record IsWhole (plan : Plan) (n : ℕ) : Type 0 where
 abbrev pub PatternsAreWhole : Plan → Type 0
 PatternsAreWhole plan = (n : ℕ) → 1 ≤ n → n ≤ 16 → is_used plan n ≡ true → IsWhole plan n
 
--- two coordinated phases are on one side, the same or concurrent, and their splits end at one time
-pub record EndTogether (plan : Plan) (s t p q : ℕ) : Type 0 where
+-- two coordinated phases are on one side, the same or concurrent, and their splits end at one time unless they may end
+-- apart
+pub record EndTogether (plan : Plan) (apart : Bool) (s t p q : ℕ) : Type 0 where
   pub side : side_of plan p ≡ side_of plan q
   pub concurrent : p ≢ q → is_concurrent plan p q ≡ true
-  pub ends : split_end plan s t p ≡ split_end plan s t q
+  pub ends : apart ≡ false → split_end plan s t p ≡ split_end plan s t q
 
--- the coordinated phases of a pattern: some, enabled, not omitted, ending together, one of each ring that has phases on
--- their side
-pub record AreCoordinated (plan : Plan) (s t : ℕ) : Type 0 where
+-- the coordinated phases of a pattern: some, enabled, not omitted, ending together unless they may end apart, one of each
+-- ring that has phases on their side
+pub record AreCoordinated (plan : Plan) (apart : Bool) (s t : ℕ) : Type 0 where
   pub one : ℕ
   pub is_phase : IsPhase plan one
   pub is_one : is_coordinated plan t one ≡ true
   pub enabled : (p : ℕ) → IsPhase plan p → is_coordinated plan t p ≡ true → is_enabled plan p ≡ true
   pub served : (p : ℕ) → IsPhase plan p → is_coordinated plan t p ≡ true → is_omitted plan t p ≡ false
-  pub together : (p q : ℕ) → IsPhase plan p → IsPhase plan q → is_coordinated plan t p ≡ true → is_coordinated plan t q ≡ true → EndTogether plan s t p q
+  pub together : (p q : ℕ) → IsPhase plan p → IsPhase plan q → is_coordinated plan t p ≡ true → is_coordinated plan t q ≡ true → EndTogether plan apart s t p q
   pub in_each_ring : (p r : ℕ) → IsPhase plan p → is_coordinated plan t p ≡ true → 1 ≤ r → r ≤ 2 → has_phases plan r (side_of plan p) ≡ true →
       coordinated_count plan t r ≡ 1
 
--- K20: each used pattern has coordinated phases that agree, by its sequence and its split table
+-- K20: each used pattern has coordinated phases that agree, by its sequence and its split table. They may end apart where
+-- the pattern leads and lags
 abbrev pub CoordinatedPhasesAgree : Plan → Type 0
-CoordinatedPhasesAgree plan = (n s t : ℕ) → IsInUse plan n s t → AreCoordinated plan s t
+CoordinatedPhasesAgree plan = (n s t : ℕ) → IsInUse plan n s t → AreCoordinated plan (leads_and_lags plan n) s t
+
+-- K23: the permissive time of each used one of the 16 patterns is below its cycle
+abbrev pub PermissiveTimesEnd : Plan → Type 0
+PermissiveTimesEnd plan = (n : ℕ) → 1 ≤ n → n ≤ 16 → is_used plan n ≡ true → permissive_time plan n < cycle plan n
 
 -- a fact of each plan that breaks no rule
 abbrev pub OfConsistentPlans : (Plan → Type 0) → Type 0

@@ -1,9 +1,9 @@
--- What the patterns of a plan must be (profile): rules K17 to K20, and when in the cycle a split ends. A used pattern
+-- What the patterns of a plan must be (profile): rules K17 to K20 and K23, and when in the cycle a split ends. A used pattern
 -- is one whose cycle is not 0. Times are in tenths of a second.
 use Rattle.std.specs.Prelude.{ℕ, ◌+◌, ◌-◌, ◌==◌, nat_le, nat_lt, Bool, false, not, ◌&&◌, ◌||◌, if◌then◌else◌, List, [], Option, Some, None, sum_by}
 use Rattle.std.specs.List.{list_all, list_any}
 use Rattle.tsb_types.specs.Lists.{run_from, up_to}
-use Rattle.tsb_plan.specs.Parts.{is_used, cycle, offset, split_of, sequence_of, split_time, is_omitted, is_coordinated}
+use Rattle.tsb_plan.specs.Parts.{is_used, cycle, offset, permissive_time, leads_and_lags, split_of, sequence_of, split_time, is_omitted, is_coordinated}
 use Rattle.tsb_plan.specs.Plan.{Plan, phases, is_enabled, ring_of, side_of, is_concurrent, minimum_green, yellow_change, red_clear, sequence}
 use Rattle.tsb_rules.specs.SequenceRules.{each_phase, is_blank}
 
@@ -103,14 +103,15 @@ split_end plan s t p =
 abbrev pub may_coordinate : Plan → ℕ → ℕ → Bool
 may_coordinate plan t p = is_enabled plan p && not (is_omitted plan t p)
 
--- p and q are on one side, one phase or concurrent, and their splits end at one time
-abbrev pub ends_with : Plan → ℕ → ℕ → ℕ → ℕ → Bool
-ends_with plan s t p q =
-    side_of plan p == side_of plan q && ((p == q || is_concurrent plan p q) && split_end plan s t p == split_end plan s t q)
+-- p and q are on one side, and one phase or concurrent; and their splits end at one time, unless they may end apart
+abbrev pub ends_with : Plan → Bool → ℕ → ℕ → ℕ → ℕ → Bool
+ends_with plan apart s t p q =
+    side_of plan p == side_of plan q &&
+    ((p == q || is_concurrent plan p q) && (apart || split_end plan s t p == split_end plan s t q))
 
 -- p ends with each coordinated phase of table t
-abbrev pub agrees_with_all : Plan → ℕ → ℕ → ℕ → Bool
-agrees_with_all plan s t p = list_all (λ q. not (is_coordinated plan t q) || ends_with plan s t p q) (phases plan)
+abbrev pub agrees_with_all : Plan → Bool → ℕ → ℕ → ℕ → Bool
+agrees_with_all plan apart s t p = list_all (λ q. not (is_coordinated plan t q) || ends_with plan apart s t p q) (phases plan)
 
 -- p is a coordinated phase of ring r
 abbrev pub is_coordinated_in : Plan → ℕ → ℕ → ℕ → Bool
@@ -125,22 +126,28 @@ abbrev pub has_one_in_each_ring : Plan → ℕ → ℕ → Bool
 has_one_in_each_ring plan t p = list_all (λ r. not (has_phases plan r (side_of plan p)) || coordinated_count plan t r == 1) (run_from 1 2)
 
 -- p may coordinate, agrees with all coordinated phases, and each ring with phases on its side has exactly one
-abbrev pub coordinates : Plan → ℕ → ℕ → ℕ → Bool
-coordinates plan s t p = may_coordinate plan t p && (agrees_with_all plan s t p && has_one_in_each_ring plan t p)
+abbrev pub coordinates : Plan → Bool → ℕ → ℕ → ℕ → Bool
+coordinates plan apart s t p = may_coordinate plan t p && (agrees_with_all plan apart s t p && has_one_in_each_ring plan t p)
 
 -- table t has a coordinated phase
 abbrev pub has_coordinated : Plan → ℕ → Bool
 has_coordinated plan t = list_any (is_coordinated plan t) (phases plan)
 
 -- each coordinated phase of table t coordinates, by sequence s
-abbrev pub all_coordinate : Plan → ℕ → ℕ → Bool
-all_coordinate plan s t = list_all (λ p. not (is_coordinated plan t p) || coordinates plan s t p) (phases plan)
+abbrev pub all_coordinate : Plan → Bool → ℕ → ℕ → Bool
+all_coordinate plan apart s t = list_all (λ p. not (is_coordinated plan t p) || coordinates plan apart s t p) (phases plan)
 
 -- table t has coordinated phases, and by sequence s each is as K20 says
-abbrev pub coordinated_agree : Plan → ℕ → ℕ → Bool
-coordinated_agree plan s t = has_coordinated plan t && all_coordinate plan s t
+abbrev pub coordinated_agree : Plan → Bool → ℕ → ℕ → Bool
+coordinated_agree plan apart s t = has_coordinated plan t && all_coordinate plan apart s t
 
 -- K20: a used pattern has coordinated phases. All are enabled, not omitted, on one side and pairwise concurrent; each
--- ring with phases on that side has exactly one; and their splits end at one time
+-- ring with phases on that side has exactly one; and their splits end at one time, but where the pattern leads and lags
 abbrev pub coordinated_phases_agree : Plan → Bool
-coordinated_phases_agree plan = each_pattern plan (λ n. some_and (λ s. some_and (coordinated_agree plan s) (split_of plan n)) (sequence_of plan n))
+coordinated_phases_agree plan =
+    each_pattern plan (λ n. some_and (λ s. some_and (coordinated_agree plan (leads_and_lags plan n) s) (split_of plan n)) (sequence_of plan n))
+
+-- K23: the permissive time of a used pattern is below its cycle. Otherwise its coordinated phases would be forced off at
+-- all times
+abbrev pub permissive_times_end : Plan → Bool
+permissive_times_end plan = each_pattern plan (λ n. nat_lt (permissive_time plan n) (cycle plan n))

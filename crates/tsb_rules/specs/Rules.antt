@@ -5,10 +5,10 @@ use Rattle.std.specs.List.{list_all, list_any}
 use Rattle.tsb_plan.specs.declared.object.Object.{Object}
 use Rattle.tsb_plan.specs.declared.object.Object.TheVariants.{PhaseConcurrency, PhaseWalk, PhaseMinimumGreen, PhaseMaximum1, PhaseMaximum2, OverlapIncludedPhases, OverlapModifierPhases, PreemptTrackPhase, PreemptDwellPhase, PreemptExitPhase}
 use Rattle.tsb_rules.specs.declared.rules.Rule.{Rule}
-use Rattle.tsb_rules.specs.declared.rules.Rule.TheVariants.{K1, K2, K3, K4, K5, K6, K7, K8, K9, K10, K11, K12, K13, K14, K15, K16, K17, K18, K19, K20, K21, K22}
+use Rattle.tsb_rules.specs.declared.rules.Rule.TheVariants.{K1, K2, K3, K4, K5, K6, K7, K8, K9, K10, K11, K12, K13, K14, K15, K16, K17, K18, K19, K20, K21, K22, K23}
 use Rattle.tsb_types.specs.Lists.{run_from}
 use Rattle.tsb_plan.specs.Parts.{call_phase, pedestrian_call_phase, is_minus_green_yellow}
-use Rattle.tsb_rules.specs.PatternRules.{patterns_are_whole, splits_hold_phases, splits_fill_cycles, coordinated_phases_agree}
+use Rattle.tsb_rules.specs.PatternRules.{patterns_are_whole, splits_hold_phases, splits_fill_cycles, coordinated_phases_agree, permissive_times_end}
 use Rattle.tsb_plan.specs.Plan.{Plan, phases, is_enabled, has_pedestrian_recall, ring_of, side_of, is_concurrent, minimum_green, minimum_gap, passage, yellow_change, dynamic_maximum_limit}
 use Rattle.tsb_rules.specs.SequenceRules.{each_phase, first_sequence_is_ordered, other_sequences_are_ordered}
 use Rattle.tsb_types.specs.Sets.{names}
@@ -183,12 +183,13 @@ broken_by_parts plan =
     (unless (coordinated_phases_agree plan) K20
     None))))))
 
--- the first of K21 and K22, on what plan texts of version 2 alone can give
+-- the first of K21 to K23, on what plan texts of version 2 alone can give
 unfoldable pub broken_by_extensions : Plan → Option Rule
 broken_by_extensions plan =
     unless (modifiers_are_right plan) K21
     (unless (limits_reach_minimums plan) K22
-    None)
+    (unless (permissive_times_end plan) K23
+    None))
 
 -- the first, or where there is none the second
 abbrev pub or_rule : Option Rule → Option Rule → Option Rule

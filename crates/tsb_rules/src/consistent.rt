@@ -1,6 +1,6 @@
 //! What every plan that meets the rules is like, each fact the contract of a function that does nothing.
 //! `Checked::plan` says that a checked plan is such a plan.
-ghost use Rattle.tsb_rules.specs.Consistent.{OfConsistentPlans, PhasesArePlaced, ConcurrentGoTogether, FirstSequenceListsRings, SequencesInUseListRings, PreemptsAreSound, PatternsAreWhole, CoordinatedPhasesAgree};
+ghost use Rattle.tsb_rules.specs.Consistent.{OfConsistentPlans, PhasesArePlaced, ConcurrentGoTogether, FirstSequenceListsRings, SequencesInUseListRings, PreemptsAreSound, PatternsAreWhole, CoordinatedPhasesAgree, PermissiveTimesEnd};
 
 /// Concurrent phases are in different rings and on one side. Each enabled phase is in ring 1 or 2 and on one of the
 /// sides. Two concurrent phases are enabled, in different rings and on one side, and each names the other.
@@ -38,7 +38,7 @@ pub fn preempts_are_sound()
 
 /// The coordinated phases of a pattern go together. A used pattern has a sequence, a split table and an offset below
 /// its cycle. Its coordinated phases are enabled, not omitted, on one side, pairwise concurrent, one of each ring that
-/// has phases there, and their splits end at one time.
+/// has phases there, and their splits end at one time, but where the pattern leads and lags.
 ///
 /// Needs: a plan that breaks no rule.
 /// Mistakes: a K17 that lets an offset be the cycle, `with_offset_of_cycle` (`would_pass_late`, `is_the_cycle`); a K20
@@ -47,4 +47,15 @@ pub fn preempts_are_sound()
 pub fn coordinated_phases_agree()
     ensures whole { OfConsistentPlans PatternsAreWhole }
     ensures coordinated { OfConsistentPlans CoordinatedPhasesAgree }
+{}
+
+/// The permissive time of a pattern ends within its cycle. In a used pattern it is below the cycle, so there are ticks in
+/// which no coordinated phase is forced off.
+///
+/// Needs: a plan that breaks no rule.
+/// Mistake: a K23 that lets a permissive time be the cycle, `with_time_of_cycle` (`would_pass_always`,
+/// `is_always_permitted`).
+/// Witness: `breaks_none` of Mistakes, the built-in plan of eight phases with another offset.
+pub fn permissive_times_end()
+    ensures { OfConsistentPlans PermissiveTimesEnd }
 {}

@@ -68,12 +68,15 @@ pub enum Rule {
     /// sums of the sides add up to the cycle. Omitted phases count.
     K19,
     /// A used pattern has coordinated phases. All are enabled, not omitted, on one side and pairwise
-    /// concurrent, one of each ring that has phases there, and their splits end at one time.
+    /// concurrent, one of each ring that has phases there, and their splits end at one time, but with
+    /// `patternLeadLag`.
     K20,
     /// An overlap's list of modifier phases names only enabled phases, and is empty where its type is 0.
     K21,
     /// `phaseDynamicMaxLimit` of a phase is 0 or at least its `phaseMinimumGreen`.
     K22,
+    /// `patternPermissiveTime` of a used pattern is below its cycle.
+    K23,
 }
 
 /// Whether the plan meets the rules: an `Err` is the first one that it breaks, in the order of their
@@ -129,13 +132,14 @@ fn check_parts(plan: &Plan) -> Result<(), Rule>
     require(each_pattern(plan, OfPattern::IsCoordinated), Rule::K20)
 }
 
-/// Rules K21 and K22, on what plan texts of version 2 alone can give.
+/// Rules K21 to K23, on what plan texts of version 2 alone can give.
 #[tactic(auto, unfolding(tsb_plan::specs::PlanOf::plan_of, crate::specs::Rules::broken_by_extensions))]
 fn check_extensions(plan: &Plan) -> Result<(), Rule>
     ensures { result ≡ or_broken (broken_by_extensions (plan_of plan.now)) }
 {
     require(four_meet(plan, OfFour::ModifiesRightly), Rule::K21)?;
-    require(each_enabled(plan, OfEnabled::ReachedByLimit), Rule::K22)
+    require(each_enabled(plan, OfEnabled::ReachedByLimit), Rule::K22)?;
+    require(each_pattern(plan, OfPattern::PermissiveTimeEnds), Rule::K23)
 }
 
 /// An `Err` with that rule, unless its test is passed.

@@ -65,7 +65,7 @@ fn have_ranges(wanted: &[Value]) -> bool {
 
 #[test]
 fn objects_have_their_ranges(rt: HostRuntime) {
-    assert!(rt; have_ranges(&RANGES) && Object::ALL.len() == 62);
+    assert!(rt; have_ranges(&RANGES) && Object::ALL.len() == 65);
     laws::cells_are_told_apart();
     laws::values_are_told_apart();
 }

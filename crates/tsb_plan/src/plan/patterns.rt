@@ -46,16 +46,24 @@ fn places_before(sequence: Sequence, ring: Ring) -> u32
 }
 
 impl Plan {
-    ghost use Rattle.tsb_plan.specs.Parts.{forces_late, cycle, is_used, offset, split_of, sequence_of, split_time, split_mode, is_omitted, is_coordinated};
+    ghost use Rattle.tsb_plan.specs.Parts.{forces_late, floats, cycle, is_used, offset, permissive_time, leads_and_lags, split_of, sequence_of, split_time, split_mode, is_omitted, is_coordinated};
     ghost use Rattle.tsb_plan.specs.PlanOf.{plan_of};
     ghost use Rattle.tsb_plan.specs.Plan.{sequence as sequence_places};
 
-    /// Whether force-off is late (`coordForceMode` 1, profile): a phase that is not coordinated is forced off from its
-    /// instant up to that of a coordinated phase, and otherwise at its instant alone.
+    /// Whether force-off is late (`coordForceMode` 1 and 2, profile): a phase that is not coordinated is forced off from
+    /// its instant up to that of a coordinated phase, and otherwise at its instant alone.
     pub fn forces_late(&self) -> bool
         ensures { result ≡ forces_late (plan_of self.now) }
     {
-        self.value(Object::CoordForceMode, 1) == 1
+        self.value(Object::CoordForceMode, 1) != 0
+    }
+
+    /// Whether force-off floats (`coordForceMode` 2, profile): a phase that is not coordinated is besides forced off once
+    /// its green has lasted its split less yellow change and red clearance.
+    pub fn floats(&self) -> bool
+        ensures { result ≡ floats (plan_of self.now) }
+    {
+        self.value(Object::CoordForceMode, 1) == 2
     }
 
     /// The cycle of the pattern, 0 where the pattern is not used (`patternCycleTime`), in tenths of a
@@ -79,6 +87,23 @@ impl Plan {
         ensures { result ≡ offset (plan_of self.now) pattern }
     {
         10 * self.value(Object::PatternOffsetTime, u32::from(pattern.number()))
+    }
+
+    /// For how long behind their instants the coordinated phases of the pattern are forced off (`patternPermissiveTime`,
+    /// profile), in tenths of a second; with 0 at their instants alone.
+    pub fn permissive_time(&self, pattern: Pattern) -> u32
+        ensures value { result ≡ permissive_time (plan_of self.now) pattern }
+        ensures range { result ≤ 2550 }
+    {
+        10 * self.value(Object::PatternPermissiveTime, u32::from(pattern.number()))
+    }
+
+    /// Whether the splits of the coordinated phases of the pattern may end at different times (`patternLeadLag`,
+    /// profile).
+    pub fn leads_and_lags(&self, pattern: Pattern) -> bool
+        ensures { result ≡ leads_and_lags (plan_of self.now) pattern }
+    {
+        self.value(Object::PatternLeadLag, u32::from(pattern.number())) == 1
     }
 
     /// The split table of the pattern (`patternSplitNumber`).

@@ -1,11 +1,12 @@
 //! What a plan says while a pattern runs, and in free operation: `runs` is the pattern that runs, and `None` in free
-//! operation.
+//! operation. Times are in tenths of a second.
 #![tactic(auto, unfolding(crate::specs::PlanOf::plan_of))]
 
-ghost use Rattle.std.specs.Prelude.{◌≡◌};
+ghost use Rattle.std.specs.Prelude.{◌≡◌, ◌≤◌, IfSome};
 ghost use Rattle.tsb_plan.specs.PlanOf.{plan_of};
-ghost use Rattle.tsb_plan.specs.Running.{mode_in, coordinates_in, omits, recalls_minimum, recalls_maximum, recalls_pedestrians};
+ghost use Rattle.tsb_plan.specs.Running.{mode_in, coordinates_in, split_green, floating_in, maximum_by_mode, omits, recalls_minimum, recalls_maximum, recalls_pedestrians};
 
+use crate::object::Object;
 use crate::plan::Plan;
 use crate::plan::patterns::SplitMode;
 use tsb_types::{Pattern, Phase, Sequence, Split};
@@ -14,7 +15,7 @@ use tsb_types::{Pattern, Phase, Sequence, Split};
 const FREE_SEQUENCE: u8 = 1;
 
 impl Plan {
-    ghost use Rattle.tsb_plan.specs.Running.{split_in_effect, sequence_in_effect, is_coordinated_now, is_omitted_now, is_on_minimum_recall, is_on_maximum_recall, is_on_pedestrian_recall};
+    ghost use Rattle.tsb_plan.specs.Running.{split_in_effect, sequence_in_effect, is_coordinated_now, is_omitted_now, is_on_minimum_recall, is_on_maximum_recall, is_on_pedestrian_recall, floating_time, pattern_maximum};
 
     /// The sequence in effect: the pattern's, or sequence 1 in free operation.
     pub fn sequence_in_effect(&self, runs: Option<Pattern>) -> Sequence
@@ -96,6 +97,63 @@ impl Plan {
     {
         self.has_pedestrian_recall(phase)
             || recalls_pedestrians(self.mode_in(&self.split_in_effect(runs), phase))
+    }
+
+    /// The green that a split table has for the phase.
+    fn split_green(&self, split: Split, phase: Phase) -> u32
+        ensures { result ≡ split_green (plan_of self.now) split phase }
+    {
+        self.split_time(split, phase)
+            .saturating_sub(self.yellow_change(phase))
+            .saturating_sub(self.red_clear(phase))
+    }
+
+    /// The green after which a split table has the phase forced off.
+    fn floating_in(&self, split: &Option<Split>, phase: Phase) -> Option<u32>
+        ensures { result ≡ floating_in (plan_of self.now) split.now phase }
+    {
+        match split {
+            None => None,
+            Some(split) => {
+                if self.floats() && !self.is_coordinated(*split, phase) {
+                    Some(self.split_green(*split, phase))
+                } else {
+                    None
+                }
+            }
+        }
+    }
+
+    /// The green after which floating force-off forces the phase off while the pattern runs (`coordForceMode` 2,
+    /// profile): its split less yellow change and red clearance. None with another mode, for a coordinated phase, and in
+    /// free operation.
+    pub fn floating_time(&self, runs: Option<Pattern>, phase: Phase) -> Option<u32>
+        ensures { result ≡ floating_time (plan_of self.now) runs phase }
+    {
+        self.floating_in(&self.split_in_effect(runs), phase)
+    }
+
+    /// The maximum of the phase by the maximum mode.
+    fn maximum_by_mode(&self, phase: Phase) -> Option<u32>
+        ensures { result ≡ maximum_by_mode (plan_of self.now) phase }
+    {
+        match self.value(Object::CoordMaximumMode, 1) {
+            1 => Some(10 * self.of_phase(Object::PhaseMaximum1, phase)),
+            2 => Some(10 * self.of_phase(Object::PhaseMaximum2, phase)),
+            _ => None,
+        }
+    }
+
+    /// The maximum that acts on the phase while the pattern runs (`coordMaximumMode`): `phaseMaximum1` with mode 1,
+    /// `phaseMaximum2` with mode 2. None with mode 0 (maximum inhibit), and for a coordinated phase.
+    pub fn pattern_maximum(&self, runs: Option<Pattern>, phase: Phase) -> Option<u32>
+        ensures { result ≡ pattern_maximum (plan_of self.now) runs phase }
+    {
+        if self.is_coordinated_now(runs, phase) {
+            None
+        } else {
+            self.maximum_by_mode(phase)
+        }
     }
 }
 

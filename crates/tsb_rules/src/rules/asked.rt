@@ -47,8 +47,9 @@ pub(super) enum OfPhase {
     NamedBack,
     /// K15: where this list names it, it is enabled and concurrent with each other that the list names.
     ConcurrentIn(u16),
-    /// K20: where this split table coordinates it, it agrees with the others by this sequence.
-    CoordinatesIn(Sequence, Split),
+    /// K20: where this split table coordinates it, it agrees with the others by this sequence; their splits may end apart,
+    /// or not.
+    CoordinatesIn(bool, Sequence, Split),
 }
 
 /// What some phase has to be.
@@ -93,7 +94,9 @@ fn phase_meets(plan: &Plan, asked: OfPhase, phase: Phase) -> bool
         OfPhase::EmptyUnused => has_empty_list(plan, phase),
         OfPhase::NamedBack => is_named_back(plan, phase),
         OfPhase::ConcurrentIn(list) => goes_with_all_in(plan, list, phase),
-        OfPhase::CoordinatesIn(sequence, split) => coordinates_in(plan, sequence, split, phase),
+        OfPhase::CoordinatesIn(apart, sequence, split) => {
+            coordinates_in(plan, apart, sequence, split, phase)
+        }
     }
 }
 

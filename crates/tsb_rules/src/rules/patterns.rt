@@ -1,8 +1,8 @@
-//! Rules K17 to K20: what a used pattern must be.
+//! Rules K17 to K20 and K23: what a used pattern must be.
 #![tactic(auto, unfolding(tsb_plan::specs::PlanOf::plan_of))]
 
 ghost use Rattle.std.specs.Prelude.{◌≡◌, ◌==◌, ◌||◌, not};
-ghost use Rattle.tsb_plan.specs.Parts.{is_coordinated, split_of, sequence_of};
+ghost use Rattle.tsb_plan.specs.Parts.{is_coordinated, leads_and_lags, split_of, sequence_of};
 ghost use Rattle.tsb_plan.specs.PlanOf.{plan_of};
 ghost use Rattle.tsb_rules.specs.Asked.{pattern_meets};
 ghost use Rattle.tsb_rules.specs.PatternRules.{each_pattern, names_sequence, is_whole, holds_phase, holds_phases, some_and, rings_agree_on_sides, fills, may_coordinate, ends_with, agrees_with_all, has_phases, is_coordinated_in, coordinated_count, has_one_in_each_ring, coordinates, has_coordinated, all_coordinate, coordinated_agree};
@@ -24,8 +24,10 @@ pub(super) enum OfPattern {
     /// the cycle.
     FillsCycle,
     /// K20: it has coordinated phases. All are enabled, not omitted, on one side and pairwise concurrent, one of each ring
-    /// that has phases there, and their splits end at one time.
+    /// that has phases there, and their splits end at one time unless it leads and lags.
     IsCoordinated,
+    /// K23: its permissive time is below its cycle.
+    PermissiveTimeEnds,
 }
 
 /// Whether a used pattern is as a rule asks.
@@ -37,6 +39,7 @@ fn pattern_meets(plan: &Plan, asked: OfPattern, pattern: Pattern) -> bool
         OfPattern::HoldsPhases => pattern_holds_phases(plan, pattern),
         OfPattern::FillsCycle => pattern_fills_cycle(plan, pattern),
         OfPattern::IsCoordinated => pattern_is_coordinated(plan, pattern),
+        OfPattern::PermissiveTimeEnds => plan.permissive_time(pattern) < plan.cycle(pattern),
     }
 }
 
@@ -114,18 +117,22 @@ fn rings_agree_on_sides(plan: &Plan, split: Split) -> bool
 }
 
 fn pattern_is_coordinated(plan: &Plan, pattern: Pattern) -> bool
-    ensures { result ≡ some_and (λ s. some_and (coordinated_agree (plan_of plan.now) s) (split_of (plan_of plan.now) pattern)) (sequence_of (plan_of plan.now) pattern) }
+    ensures { result ≡ some_and (λ s. some_and (coordinated_agree (plan_of plan.now) (leads_and_lags (plan_of plan.now) pattern) s) (split_of (plan_of plan.now) pattern)) (sequence_of (plan_of plan.now) pattern) }
 {
     match (plan.sequence_of(pattern), plan.split_of(pattern)) {
-        (Some(sequence), Some(split)) => coordinated_agree(plan, sequence, split),
+        (Some(sequence), Some(split)) => {
+            coordinated_agree(plan, plan.leads_and_lags(pattern), sequence, split)
+        }
         _ => false,
     }
 }
 
-fn coordinated_agree(plan: &Plan, sequence: Sequence, split: Split) -> bool
-    ensures { result ≡ coordinated_agree (plan_of plan.now) sequence split }
+/// Whether the split table has coordinated phases that agree by the sequence; `apart` says whether their splits may end
+/// at different times.
+fn coordinated_agree(plan: &Plan, apart: bool, sequence: Sequence, split: Split) -> bool
+    ensures { result ≡ coordinated_agree (plan_of plan.now) apart sequence split }
 {
-    has_coordinated(plan, split) && all_coordinate(plan, sequence, split)
+    has_coordinated(plan, split) && all_coordinate(plan, apart, sequence, split)
 }
 
 fn has_coordinated(plan: &Plan, split: Split) -> bool
@@ -134,25 +141,31 @@ fn has_coordinated(plan: &Plan, split: Split) -> bool
     some_phase(plan, Sought::CoordinatedIn(split))
 }
 
-fn all_coordinate(plan: &Plan, sequence: Sequence, split: Split) -> bool
-    ensures { result ≡ all_coordinate (plan_of plan.now) sequence split }
+fn all_coordinate(plan: &Plan, apart: bool, sequence: Sequence, split: Split) -> bool
+    ensures { result ≡ all_coordinate (plan_of plan.now) apart sequence split }
 {
-    each_phase(plan, OfPhase::CoordinatesIn(sequence, split))
+    each_phase(plan, OfPhase::CoordinatesIn(apart, sequence, split))
 }
 
 /// Whether the split table does not coordinate the phase, or it agrees with the others by the sequence.
-pub(super) fn coordinates_in(plan: &Plan, sequence: Sequence, split: Split, phase: Phase) -> bool
+pub(super) fn coordinates_in(
+    plan: &Plan,
+    apart: bool,
+    sequence: Sequence,
+    split: Split,
+    phase: Phase,
+) -> bool
     ensures { result ≡ (not (is_coordinated (plan_of plan.now) split phase)
-        || coordinates (plan_of plan.now) sequence split phase) }
+        || coordinates (plan_of plan.now) apart sequence split phase) }
 {
-    !plan.is_coordinated(split, phase) || coordinates(plan, sequence, split, phase)
+    !plan.is_coordinated(split, phase) || coordinates(plan, apart, sequence, split, phase)
 }
 
-fn coordinates(plan: &Plan, sequence: Sequence, split: Split, phase: Phase) -> bool
-    ensures { result ≡ coordinates (plan_of plan.now) sequence split phase }
+fn coordinates(plan: &Plan, apart: bool, sequence: Sequence, split: Split, phase: Phase) -> bool
+    ensures { result ≡ coordinates (plan_of plan.now) apart sequence split phase }
 {
     may_coordinate(plan, split, phase)
-        && agrees_with_all(plan, sequence, split, phase)
+        && agrees_with_all(plan, apart, sequence, split, phase)
         && has_one_in_each_ring(plan, split, phase)
 }
 
@@ -162,21 +175,31 @@ fn may_coordinate(plan: &Plan, split: Split, phase: Phase) -> bool
     plan.is_enabled(phase) && !plan.is_omitted(split, phase)
 }
 
-fn agrees_with_all(plan: &Plan, sequence: Sequence, split: Split, phase: Phase) -> bool
-    ensures { result ≡ agrees_with_all (plan_of plan.now) sequence split phase }
+fn agrees_with_all(plan: &Plan, apart: bool, sequence: Sequence, split: Split, phase: Phase) -> bool
+    ensures { result ≡ agrees_with_all (plan_of plan.now) apart sequence split phase }
 {
     Phase::all().iter().all(|other| {
-        !plan.is_coordinated(split, *other) || ends_with(plan, sequence, split, phase, *other)
+        !plan.is_coordinated(split, *other)
+            || ends_with(plan, apart, sequence, split, phase, *other)
     })
 }
 
-/// Whether the two phases are of one side, the same or concurrent, and their splits end at one time.
-fn ends_with(plan: &Plan, sequence: Sequence, split: Split, phase: Phase, other: Phase) -> bool
-    ensures { result ≡ ends_with (plan_of plan.now) sequence split phase other }
+/// Whether the two phases are of one side, the same or concurrent, and their splits end at one time unless they may end
+/// apart.
+fn ends_with(
+    plan: &Plan,
+    apart: bool,
+    sequence: Sequence,
+    split: Split,
+    phase: Phase,
+    other: Phase,
+) -> bool
+    ensures { result ≡ ends_with (plan_of plan.now) apart sequence split phase other }
 {
     plan.side(phase) == plan.side(other)
         && (phase == other || plan.concurrency(phase).contains(other))
-        && split_end(plan, sequence, split, phase) == split_end(plan, sequence, split, other)
+        && (apart
+            || split_end(plan, sequence, split, phase) == split_end(plan, sequence, split, other))
 }
 
 /// Whether each ring that has phases on the side of the phase has one coordinated phase.

@@ -64,7 +64,7 @@ unfolding opened busy
 how_many = refl
 
 first_cells : DESK ∷ DETECTORS ∷ CALLS ∷ PHASES ∷ RINGS ∷ COORD ∷ PREEMPTS ∷ MONITOR ∷ ALL_CELLS ∷ [] ≡
-    1231 ∷ 1363 ∷ 1417 ∷ 1435 ∷ 1556 ∷ 1562 ∷ 1563 ∷ 1573 ∷ 1580 ∷ []
+    1264 ∷ 1396 ∷ 1450 ∷ 1468 ∷ 1589 ∷ 1595 ∷ 1596 ∷ 1606 ∷ 1613 ∷ []
 first_cells = refl
 
 -- the plan: phaseEnabled of phase 8, and sequenceData at its index 20, which is phase 8
@@ -73,12 +73,12 @@ unfolding opened busy
 plan_cells_stand = refl
 
 -- the desk's owner, the last timer of the detectors, the last count, the first list of the phases
-ends_stand : slice_index (cells_of busy) 1231 ∷ slice_index (cells_of busy) 1434 ∷ slice_index (cells_of busy) 1436 ∷ [] ≡ 3 ∷ 5 ∷ 32768 ∷ []
+ends_stand : slice_index (cells_of busy) 1264 ∷ slice_index (cells_of busy) 1467 ∷ slice_index (cells_of busy) 1469 ∷ [] ≡ 3 ∷ 5 ∷ 32768 ∷ []
 unfolding opened busy
 ends_stand = refl
 
 -- the rings' side, the pattern, the preempt in service
-more_stand : slice_index (cells_of busy) 1560 ∷ slice_index (cells_of busy) 1562 ∷ slice_index (cells_of busy) 1569 ∷ [] ≡ 1 ∷ 2 ∷ 4 ∷ []
+more_stand : slice_index (cells_of busy) 1593 ∷ slice_index (cells_of busy) 1595 ∷ slice_index (cells_of busy) 1602 ∷ [] ≡ 1 ∷ 2 ∷ 4 ∷ []
 unfolding opened busy
 more_stand = refl
 
