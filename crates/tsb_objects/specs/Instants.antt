@@ -90,13 +90,28 @@ late_end plan (Some n) p =
     if forces_late plan && not (is_coordinated_now plan (Some n) p) then instant_of plan n (yields_to plan n p)
     else None
 
--- all are numbers, and the first is from the second on and below the third. Ticks are counted within one cycle: where
--- the instant is not below the end, none is late
-abbrev pub is_late : Option ℕ → Option ℕ → Option ℕ → Bool
-is_late None from to = false
-is_late (Some m) None to = false
-is_late (Some m) (Some i) None = false
-is_late (Some m) (Some i) (Some e) = nat_le i m && nat_lt m e
+-- In a cycle of m ticks the local counter l is from i on and below u, which may be past the end of the cycle: in this
+-- cycle, or in the part of the last one's that goes on in this one
+abbrev pub is_from_to : ℕ → ℕ → ℕ → ℕ → Bool
+is_from_to m l i u = (nat_le i l && nat_lt l u) || nat_lt (l + m) u
+
+-- an instant e, counted on past the end of the cycle where it comes before i
+abbrev pub counted_on : ℕ → ℕ → ℕ → ℕ
+counted_on m i e = if nat_lt e i then e + m else e
+
+-- all are numbers, and the local counter is from the first instant on and has not come to the second, be it in this cycle
+-- or in the next. Where both are one, it never is
+abbrev pub is_late : ℕ → Option ℕ → Option ℕ → Option ℕ → Bool
+is_late m None from to = false
+is_late m (Some l) None to = false
+is_late m (Some l) (Some i) None = false
+is_late m (Some l) (Some i) (Some e) = is_from_to m l i (counted_on m i e)
+
+-- of p in the pattern that runs
+abbrev pub is_forced_late : Plan → Option ℕ → Option ℕ → ℕ → Bool
+is_forced_late plan None local p = false
+is_forced_late plan (Some n) local p =
+    is_late (cycle plan n) local (force_off plan (Some n) p) (late_end plan (Some n) p)
 
 -- ## The permissive time
 
@@ -109,7 +124,7 @@ yields_for plan n p = if is_coordinated_now plan (Some n) p then permissive_time
 abbrev pub is_behind : ℕ → ℕ → Option ℕ → Option ℕ → Bool
 is_behind m time None instant = false
 is_behind m time (Some l) None = false
-is_behind m time (Some l) (Some i) = (nat_le i l && nat_le l (i + time)) || nat_le (l + m) (i + time)
+is_behind m time (Some l) (Some i) = is_from_to m l i (i + time + 1)
 
 -- p is forced off where the local counter is this: in its permissive time, which has one; with 0 none is
 abbrev pub is_permitted : Plan → Option ℕ → Option ℕ → ℕ → Bool
@@ -132,4 +147,4 @@ permissive_end plan (Some n) p = permissive_end_from (cycle plan n) (yields_for 
 -- p is forced off where the local counter is this: at its instant, late, or in its permissive time
 abbrev pub forces_off : Plan → Option ℕ → Option ℕ → ℕ → Bool
 forces_off plan runs local p =
-    agree local (force_off plan runs p) || (is_late local (force_off plan runs p) (late_end plan runs p) || is_permitted plan runs local p)
+    agree local (force_off plan runs p) || (is_forced_late plan runs local p || is_permitted plan runs local p)
