@@ -7,10 +7,10 @@ use Rattle.std.proofs.lemmas.Bool.Decides.{nat_tests}
 use Rattle.tsb_plan.specs.declared.object.Object.TheVariants.{PhaseConcurrency, PreemptTrackPhase, PreemptDwellPhase, PreemptExitPhase, PatternSequenceNumber}
 use Rattle.tsb_rules.specs.Consistent.{IsPhase, IsPlaced, GoTogether, IsInUse, ListsRing, ListsRings, AreCompatible, IsPreemptSound, IsWhole, EndTogether, AreCoordinated}
 use Rattle.tsb_types.specs.Lists.{among}
-use Rattle.tsb_plan.specs.Parts.{unless_zero, is_used, cycle, offset, split_of, sequence_of, is_omitted, is_coordinated}
-use Rattle.tsb_rules.specs.PatternRules.{some_and, names_split, is_whole, patterns_are_whole, splits_hold_phases, splits_fill_cycles, coordinated_phases_agree, coordinated_agree, coordinates, agrees_with_all, ends_with, has_one_in_each_ring, has_coordinated, may_coordinate, has_phases, coordinated_count, each_pattern}
+use Rattle.tsb_plan.specs.Parts.{unless_zero, is_used, cycle, offset, permissive_time, leads_and_lags, split_of, sequence_of, is_omitted, is_coordinated}
+use Rattle.tsb_rules.specs.PatternRules.{some_and, names_split, is_whole, patterns_are_whole, splits_hold_phases, splits_fill_cycles, coordinated_phases_agree, coordinated_agree, coordinates, agrees_with_all, ends_with, has_one_in_each_ring, has_coordinated, may_coordinate, has_phases, coordinated_count, permissive_times_end, split_end, each_pattern}
 use Rattle.tsb_plan.specs.Plan.{Plan, phases, is_enabled, ring_of, side_of, is_concurrent, sequence}
-use Rattle.tsb_rules.specs.Rules.{or_rule, some_enabled, is_placed, are_placed, unused_lists_are_empty, may_be_concurrent, names_across_rings, lists_name_across_rings, is_named_back, concurrency_is_symmetric, included_phases_are_enabled, names_concurrent, goes_with_all, has_concurrent_lists, preempts_are_concurrent, dwells_or_is_empty, preempts_dwell, first_broken, broken_by_rings, broken_by_phases, broken_by_parts, broken_by_extensions}
+use Rattle.tsb_rules.specs.Rules.{or_rule, some_enabled, is_placed, are_placed, unused_lists_are_empty, may_be_concurrent, names_across_rings, lists_name_across_rings, is_named_back, concurrency_is_symmetric, included_phases_are_enabled, names_concurrent, goes_with_all, has_concurrent_lists, preempts_are_concurrent, dwells_or_is_empty, preempts_dwell, modifiers_are_right, limits_reach_minimums, first_broken, broken_by_rings, broken_by_phases, broken_by_parts, broken_by_extensions}
 use Rattle.tsb_rules.specs.SequenceRules.{each_phase, is_ordered, sequence_is_ordered, is_blank, lists_only, lists_each, lists_once, rises, first_sequence_is_ordered, other_sequences_are_ordered}
 use Rattle.tsb_types.specs.Sets.{names}
 use Rattle.tsb_types.proofs.SetLemmas.{names-zero}
@@ -33,18 +33,22 @@ pub record MeetsParts (plan : Plan) : Type 0 where
   pub k19 : splits_fill_cycles plan ≡ true
   pub k20 : coordinated_phases_agree plan ≡ true
 
+pub record MeetsExtensions (plan : Plan) : Type 0 where
+  pub k23 : permissive_times_end plan ≡ true
+
 met-rings : (plan : Plan) → first_broken plan ≡ None → broken_by_rings plan ≡ None
 unfolding first_broken
 met-rings plan none = (or_rule-none (broken_by_rings plan) (or_rule (broken_by_phases plan) (or_rule (broken_by_parts plan) (broken_by_extensions plan))) none).0
 
-met-parts : (plan : Plan) → first_broken plan ≡ None → broken_by_parts plan ≡ None
+-- of the parts and the extensions
+met-late : (plan : Plan) → first_broken plan ≡ None → (broken_by_parts plan ≡ None) × (broken_by_extensions plan ≡ None)
 unfolding first_broken
-met-parts plan none =
+met-late plan none =
     let behind : or_rule (broken_by_phases plan) (or_rule (broken_by_parts plan) (broken_by_extensions plan)) ≡ None =
     (or_rule-none (broken_by_rings plan) (or_rule (broken_by_phases plan) (or_rule (broken_by_parts plan) (broken_by_extensions plan))) none).1 in
     let late : or_rule (broken_by_parts plan) (broken_by_extensions plan) ≡ None =
     (or_rule-none (broken_by_phases plan) (or_rule (broken_by_parts plan) (broken_by_extensions plan)) behind).1 in
-    (or_rule-none (broken_by_parts plan) (broken_by_extensions plan) late).0
+    or_rule-none (broken_by_parts plan) (broken_by_extensions plan) late
 
 rings : (plan : Plan) → broken_by_rings plan ≡ None → MeetsRings plan
 unfolding broken_by_rings
@@ -70,11 +74,22 @@ parts plan none =
     let k20 = unless-met (coordinated_phases_agree plan) _ _ k19.1 in
     record { k15 = k15.0; k16 = k16.0; k17 = k17.0; k18 = k18.0; k19 = k19.0; k20 = k20.0 }
 
+extensions : (plan : Plan) → broken_by_extensions plan ≡ None → MeetsExtensions plan
+unfolding broken_by_extensions
+extensions plan none =
+    let k21 = unless-met (modifiers_are_right plan) _ _ none in
+    let k22 = unless-met (limits_reach_minimums plan) _ _ k21.1 in
+    let k23 = unless-met (permissive_times_end plan) _ _ k22.1 in
+    record { k23 = k23.0 }
+
 pub meets_rings : (plan : Plan) → first_broken plan ≡ None → MeetsRings plan
 meets_rings plan none = rings plan (met-rings plan none)
 
 pub meets_parts : (plan : Plan) → first_broken plan ≡ None → MeetsParts plan
-meets_parts plan none = parts plan (met-parts plan none)
+meets_parts plan none = parts plan (met-late plan none).0
+
+pub meets_extensions : (plan : Plan) → first_broken plan ≡ None → MeetsExtensions plan
+meets_extensions plan none = extensions plan (met-late plan none).1
 
 -- of a test that all phases pass, and of one that each enabled phase passes
 at-phase : (plan : Plan) (test : ℕ → Bool) (p : ℕ) → list_all test (phases plan) ≡ true → IsPhase plan p → test p ≡ true
@@ -285,33 +300,38 @@ preempt_sound plan none n from to =
     }
 
 -- two coordinated phases
-end-together : (plan : Plan) (s t p q : ℕ) → ends_with plan s t p q ≡ true → EndTogether plan s t p q
-end-together plan s t p q e =
+end-together : (plan : Plan) (may : Bool) (s t p q : ℕ) → ends_with plan may s t p q ≡ true → EndTogether plan may s t p q
+end-together plan may s t p q e =
     let side = and_parts (side_of plan p == side_of plan q) _ e in
     let rest = and_parts (p == q || is_concurrent plan p q) _ side.1 in
     record {
       side = grind (arith, nat_tests, side.0);
       concurrent = λ apart. not-same p q (is_concurrent plan p q) rest.0 apart;
-      ends = grind (arith, nat_tests, rest.1);
+      ends = λ one. same-end may (split_end plan s t p) (split_end plan s t q) rest.1 one;
     }
   where
+    same-end : (b : Bool) (m n : ℕ) → (b || m == n) ≡ true → b ≡ false → m ≡ n
+    same-end true m n e one = cc
+    same-end false m n e one = grind (arith, nat_tests, e)
+
     not-same : (p q : ℕ) (b : Bool) → (p == q || b) ≡ true → p ≢ q → b ≡ true
     not-same p q true e apart = refl
     not-same p q false e apart = absurd (apart (grind (arith, nat_tests, e)))
 
-pub coordinated : (plan : Plan) → first_broken plan ≡ None → (n s t : ℕ) → IsInUse plan n s t → AreCoordinated plan s t
+pub coordinated : (plan : Plan) → first_broken plan ≡ None → (n s t : ℕ) → IsInUse plan n s t → AreCoordinated plan (leads_and_lags plan n) s t
 coordinated plan none n s t in-use =
-    let test : some_and (λ x. some_and (coordinated_agree plan x) (split_of plan n)) (sequence_of plan n) ≡ true =
-    at-pattern plan (λ m. some_and (λ x. some_and (coordinated_agree plan x) (split_of plan m)) (sequence_of plan m)) n (meets_parts plan none).k20 in-use.from_one in-use.within in-use.used in
-    let inner : some_and (coordinated_agree plan s) (split_of plan n) ≡ true = some-and (λ x. some_and (coordinated_agree plan x) (split_of plan n)) (sequence_of plan n) s test in-use.sequence in
-    let agree : coordinated_agree plan s t ≡ true = some-and (coordinated_agree plan s) (split_of plan n) t inner in-use.split in
+    let may-end : Bool = leads_and_lags plan n in
+    let test : some_and (λ x. some_and (coordinated_agree plan may-end x) (split_of plan n)) (sequence_of plan n) ≡ true =
+    at-pattern plan (λ m. some_and (λ x. some_and (coordinated_agree plan (leads_and_lags plan m) x) (split_of plan m)) (sequence_of plan m)) n (meets_parts plan none).k20 in-use.from_one in-use.within in-use.used in
+    let inner : some_and (coordinated_agree plan may-end s) (split_of plan n) ≡ true = some-and (λ x. some_and (coordinated_agree plan may-end x) (split_of plan n)) (sequence_of plan n) s test in-use.sequence in
+    let agree : coordinated_agree plan may-end s t ≡ true = some-and (coordinated_agree plan may-end s) (split_of plan n) t inner in-use.split in
     let parts = and_parts (has_coordinated plan t) _ agree in
     let found : Passes (is_coordinated plan t) 1 plan.phase_count = some-run_from (is_coordinated plan t) 1 plan.phase_count parts.0 in
     let below : found.one < 1 + plan.phase_count = found.below in
-    let each : (p : ℕ) → IsPhase plan p → is_coordinated plan t p ≡ true → coordinates plan s t p ≡ true =
-    λ p is named. under (is_coordinated plan t p) _ (at-phase plan (λ x. not (is_coordinated plan t x) || coordinates plan s t x) p parts.1 is) named in
+    let each : (p : ℕ) → IsPhase plan p → is_coordinated plan t p ≡ true → coordinates plan may-end s t p ≡ true =
+    λ p is named. under (is_coordinated plan t p) _ (at-phase plan (λ x. not (is_coordinated plan t x) || coordinates plan may-end s t x) p parts.1 is) named in
     let may : (p : ℕ) → IsPhase plan p → is_coordinated plan t p ≡ true → may_coordinate plan t p ≡ true = λ p is named. (and_parts (may_coordinate plan t p) _ (each p is named)).0 in
-    let rest : (p : ℕ) → IsPhase plan p → is_coordinated plan t p ≡ true → (agrees_with_all plan s t p && has_one_in_each_ring plan t p) ≡ true =
+    let rest : (p : ℕ) → IsPhase plan p → is_coordinated plan t p ≡ true → (agrees_with_all plan may-end s t p && has_one_in_each_ring plan t p) ≡ true =
     λ p is named. (and_parts (may_coordinate plan t p) _ (each p is named)).1 in
     record {
       one = found.one;
@@ -320,11 +340,17 @@ coordinated plan none n s t in-use =
       enabled = λ p is named. (and_parts (is_enabled plan p) _ (may p is named)).0;
       served = λ p is named. is-off (is_omitted plan t p) (and_parts (is_enabled plan p) _ (may p is named)).1;
       together = λ p q is also named other-named.
-          let agrees : agrees_with_all plan s t p ≡ true = (and_parts (agrees_with_all plan s t p) _ (rest p is named)).0 in
-          end-together plan s t p q (under (is_coordinated plan t q) _ (at-phase plan (λ x. not (is_coordinated plan t x) || ends_with plan s t p x) q agrees also) other-named);
+          let agrees : agrees_with_all plan may-end s t p ≡ true = (and_parts (agrees_with_all plan may-end s t p) _ (rest p is named)).0 in
+          end-together plan may-end s t p q (under (is_coordinated plan t q) _ (at-phase plan (λ x. not (is_coordinated plan t x) || ends_with plan may-end s t p x) q agrees also) other-named);
       in_each_ring = λ p r is named from to has.
-          let one : has_one_in_each_ring plan t p ≡ true = (and_parts (agrees_with_all plan s t p) _ (rest p is named)).1 in
+          let one : has_one_in_each_ring plan t p ≡ true = (and_parts (agrees_with_all plan may-end s t p) _ (rest p is named)).1 in
           let it : (coordinated_count plan t r == 1) ≡ true =
           under (has_phases plan r (side_of plan p)) _ (at-run_from (λ x. not (has_phases plan x (side_of plan p)) || coordinated_count plan t x == 1) 1 2 r one from (omega arith)) has in
           grind (arith, nat_tests, it);
     }
+
+pub permissive : (plan : Plan) → first_broken plan ≡ None → (n : ℕ) → 1 ≤ n → n ≤ 16 → is_used plan n ≡ true → permissive_time plan n < cycle plan n
+permissive plan none n from to used =
+    let test : nat_lt (permissive_time plan n) (cycle plan n) ≡ true =
+    at-pattern plan (λ m. nat_lt (permissive_time plan m) (cycle plan m)) n (meets_extensions plan none).k23 from to used in
+    grind (arith, nat_tests, test)

@@ -1,5 +1,5 @@
--- What the patterns of a plan must be (profile): rules K17 to K20 and K23, and when in the cycle a split ends. A used pattern
--- is one whose cycle is not 0. Times are in tenths of a second.
+-- What the patterns of a plan must be (profile): rules K17 to K20 and K23, and when in the cycle a split ends. A used
+-- pattern is one whose cycle is not 0. Times are in tenths of a second.
 use Rattle.std.specs.Prelude.{ℕ, ◌+◌, ◌-◌, ◌==◌, nat_le, nat_lt, Bool, false, not, ◌&&◌, ◌||◌, if◌then◌else◌, List, [], Option, Some, None, sum_by}
 use Rattle.std.specs.List.{list_all, list_any}
 use Rattle.tsb_types.specs.Lists.{run_from, up_to}
@@ -147,7 +147,7 @@ abbrev pub coordinated_phases_agree : Plan → Bool
 coordinated_phases_agree plan =
     each_pattern plan (λ n. some_and (λ s. some_and (coordinated_agree plan (leads_and_lags plan n) s) (split_of plan n)) (sequence_of plan n))
 
--- K23: the permissive time of a used pattern is below its cycle. Otherwise its coordinated phases would be forced off at
--- all times
+-- K23: the permissive time of a used pattern is below its cycle. Otherwise its coordinated phases would be forced off in
+-- each tick
 abbrev pub permissive_times_end : Plan → Bool
 permissive_times_end plan = each_pattern plan (λ n. nat_lt (permissive_time plan n) (cycle plan n))

@@ -42,15 +42,18 @@ pub fn preempts_are_sound()
 ///
 /// Needs: a plan that breaks no rule.
 /// Mistakes: a K17 that lets an offset be the cycle, `with_offset_of_cycle` (`would_pass_late`, `is_the_cycle`); a K20
-/// that does not ask for a coordinated phase in each ring, `with_one_ring` (`would_pass_one_ring`, `none_in_ring_2`).
+/// that does not ask for a coordinated phase in each ring, `with_one_ring` (`would_pass_one_ring`, `none_in_ring_2`);
+/// one that lets all patterns lead and lag, `with_ends_apart` (`would_pass_led`, `ends_at_40`, `ends_at_25`); one that
+/// reads lead and lag at the number of the split table, `with_lead_of_table` (`would_pass_first_leads`,
+/// `second_does_not`).
 /// Witness: `breaks_none` of Mistakes, the built-in plan of eight phases with another offset.
 pub fn coordinated_phases_agree()
     ensures whole { OfConsistentPlans PatternsAreWhole }
     ensures coordinated { OfConsistentPlans CoordinatedPhasesAgree }
 {}
 
-/// The permissive time of a pattern ends within its cycle. In a used pattern it is below the cycle, so there are ticks in
-/// which no coordinated phase is forced off.
+/// The permissive time of a pattern ends within its cycle. In a used pattern it is below the cycle, so each coordinated
+/// phase has ticks in which it is not forced off.
 ///
 /// Needs: a plan that breaks no rule.
 /// Mistake: a K23 that lets a permissive time be the cycle, `with_time_of_cycle` (`would_pass_always`,

@@ -1,16 +1,16 @@
 -- Mistakes in rules, each with a plan that it would let pass and what then is no longer so of every plan. The plans are
--- the built-in one of eight phases with one value changed.
-use Rattle.std.specs.Prelude.{◌≡◌, ℕ, nat_le, Bool, true, false, not, ◌&&◌, ◌||◌, Option, Some, None, refl}
+-- the built-in one of eight phases with a few values changed.
+use Rattle.std.specs.Prelude.{◌≡◌, ℕ, nat_le, Bool, true, false, not, ◌&&◌, ◌||◌, [], ◌∷◌, Option, Some, None, refl}
 use Rattle.std.specs.List.{list_all}
-use Rattle.tsb_plan.specs.declared.object.Object.TheVariants.{PhaseConcurrency, PatternOffsetTime, PreemptTrackPhase, PreemptDwellPhase, PreemptExitPhase, SequenceData, SplitCoordPhase}
+use Rattle.tsb_plan.specs.declared.object.Object.TheVariants.{PhaseConcurrency, PatternLeadLag, PatternOffsetTime, PatternPermissiveTime, PreemptTrackPhase, PreemptDwellPhase, PreemptExitPhase, SequenceData, SplitCoordPhase}
 use Rattle.tsb_types.specs.Lists.{among, run_from}
-use Rattle.tsb_plan.specs.Parts.{cycle, is_coordinated, is_dwell_phase, offset, sequence_of, split_of}
-use Rattle.tsb_plan.specs.Plan.{Plan, is_concurrent, phases, sequence, with_value}
+use Rattle.tsb_plan.specs.Parts.{cycle, is_coordinated, is_dwell_phase, leads_and_lags, offset, permissive_time, sequence_of, split_of}
+use Rattle.tsb_plan.specs.Plan.{Plan, is_concurrent, phases, sequence, with_value, with_values}
 use Rattle.tsb_plan.specs.Quad.{quad}
 use Rattle.tsb_rules.specs.declared.rules.Rule.{Rule}
-use Rattle.tsb_rules.specs.declared.rules.Rule.TheVariants.{K1, K2, K3, K4, K5, K6, K7, K14, K15, K16, K17, K18, K19, K20}
-use Rattle.tsb_rules.specs.PatternRules.{agrees_with_all, coordinated_count, coordinated_phases_agree, each_pattern, has_coordinated, may_coordinate, names_sequence, names_split, patterns_are_whole, some_and, split_end, split_sum, side_sum, splits_fill_cycles, splits_hold_phases}
-use Rattle.tsb_rules.specs.Rules.{are_placed, broken_by_extensions, broken_by_parts, broken_by_phases, broken_by_rings, concurrency_is_symmetric, first_broken, included_phases_are_enabled, lists_name_across_rings, names_enabled, or_rule, preempts_are_concurrent, preempts_dwell, some_enabled, unless, unused_lists_are_empty}
+use Rattle.tsb_rules.specs.declared.rules.Rule.TheVariants.{K1, K2, K3, K4, K5, K6, K7, K14, K15, K16, K17, K18, K19, K20, K21, K22, K23}
+use Rattle.tsb_rules.specs.PatternRules.{agrees_with_all, coordinated_agree, coordinated_count, coordinated_phases_agree, each_pattern, has_coordinated, may_coordinate, names_sequence, names_split, patterns_are_whole, some_and, split_end, split_sum, side_sum, splits_fill_cycles, splits_hold_phases}
+use Rattle.tsb_rules.specs.Rules.{are_placed, broken_by_extensions, broken_by_parts, broken_by_phases, broken_by_rings, concurrency_is_symmetric, first_broken, included_phases_are_enabled, limits_reach_minimums, lists_name_across_rings, modifiers_are_right, names_enabled, or_rule, preempts_are_concurrent, preempts_dwell, some_enabled, unless, unused_lists_are_empty}
 use Rattle.tsb_rules.specs.SequenceRules.{first_sequence_is_ordered, lists_once, lists_only, other_sequences_are_ordered, rises, zeros_last}
 
 -- what a computed line opens
@@ -49,6 +49,17 @@ broken_with_parts concurrent whole agree plan =
     (unless (agree plan) K20
     None)))))))
     (broken_by_extensions plan)))
+
+-- and with this one in place of K23
+abbrev pub broken_with_times : (Plan → Bool) → Plan → Option Rule
+broken_with_times ends plan =
+    or_rule (broken_by_rings plan)
+    (or_rule (broken_by_phases plan)
+    (or_rule (broken_by_parts plan)
+    (unless (modifiers_are_right plan) K21
+    (unless (limits_reach_minimums plan) K22
+    (unless (ends plan) K23
+    None)))))
 
 -- ## A plan that breaks no rule: its second pattern begins 40 seconds later
 
@@ -160,16 +171,16 @@ is_the_cycle = refl
 
 -- ## K20 does not ask for a coordinated phase in each ring: ring 2 has none
 
-abbrev pub coordinates_alone : Plan → ℕ → ℕ → ℕ → Bool
-coordinates_alone plan s t p = may_coordinate plan t p && agrees_with_all plan s t p
+abbrev pub coordinates_alone : Plan → Bool → ℕ → ℕ → ℕ → Bool
+coordinates_alone plan apart s t p = may_coordinate plan t p && agrees_with_all plan apart s t p
 
-abbrev pub agree_alone : Plan → ℕ → ℕ → Bool
-agree_alone plan s t = has_coordinated plan t && list_all (λ p. not (is_coordinated plan t p) || coordinates_alone plan s t p) (phases plan)
+abbrev pub agree_alone : Plan → Bool → ℕ → ℕ → Bool
+agree_alone plan apart s t = has_coordinated plan t && list_all (λ p. not (is_coordinated plan t p) || coordinates_alone plan apart s t p) (phases plan)
 
 abbrev pub with_one_ring : Plan → Option Rule
 with_one_ring plan =
     broken_with_parts preempts_are_concurrent patterns_are_whole
-    (λ p. each_pattern p (λ n. some_and (λ s. some_and (agree_alone p s) (split_of p n)) (sequence_of p n))) plan
+    (λ p. each_pattern p (λ n. some_and (λ s. some_and (agree_alone p (leads_and_lags p n) s) (split_of p n)) (sequence_of p n))) plan
 
 unfoldable pub one_ring : Plan
 one_ring = with_value quad SplitCoordPhase 6 0
@@ -185,3 +196,79 @@ would_pass_one_ring = refl
 none_in_ring_2 : coordinated_count one_ring 1 2 ≡ 0
 unfolding opened one_ring
 none_in_ring_2 = refl
+
+-- ## K20 lets all patterns lead and lag: in ring 2 the coordinated phase comes before the other one of its side
+
+abbrev pub with_ends_apart : Plan → Option Rule
+with_ends_apart plan =
+    broken_with_parts preempts_are_concurrent patterns_are_whole
+    (λ p. each_pattern p (λ n. some_and (λ s. some_and (coordinated_agree p true s) (split_of p n)) (sequence_of p n))) plan
+
+unfoldable pub led : Plan
+led = with_values quad ((SequenceData, 17, 6) ∷ (SequenceData, 18, 5) ∷ [])
+
+breaks_K20_led : first_broken led ≡ Some K20
+unfolding opened led
+breaks_K20_led = refl
+
+would_pass_led : with_ends_apart led ≡ None
+unfolding opened led
+would_pass_led = refl
+
+ends_at_40 : split_end led 1 1 2 ≡ 400
+unfolding opened led
+ends_at_40 = refl
+
+ends_at_25 : split_end led 1 1 6 ≡ 250
+unfolding opened led
+ends_at_25 = refl
+
+-- where both of its patterns lead and lag it breaks no rule
+unfoldable pub both_lead : Plan
+both_lead = with_values led ((PatternLeadLag, 1, 1) ∷ (PatternLeadLag, 2, 1) ∷ [])
+
+both_may_end_apart : first_broken both_lead ≡ None
+unfolding opened led both_lead
+both_may_end_apart = refl
+
+-- ## K20 reads lead and lag at the number of the split table: pattern 2 has table 1, and does not lead and lag
+
+abbrev pub with_lead_of_table : Plan → Option Rule
+with_lead_of_table plan =
+    broken_with_parts preempts_are_concurrent patterns_are_whole
+    (λ p. each_pattern p (λ n. some_and (λ s. some_and (λ t. coordinated_agree p (leads_and_lags p t) s t) (split_of p n)) (sequence_of p n))) plan
+
+unfoldable pub first_leads : Plan
+first_leads = with_value led PatternLeadLag 1 1
+
+breaks_K20_second : first_broken first_leads ≡ Some K20
+unfolding opened led first_leads
+breaks_K20_second = refl
+
+would_pass_first_leads : with_lead_of_table first_leads ≡ None
+unfolding opened led first_leads
+would_pass_first_leads = refl
+
+second_does_not : leads_and_lags first_leads 2 ≡ false
+unfolding opened led first_leads
+second_does_not = refl
+
+-- ## K23 lets a permissive time be the cycle itself, so each tick is at most that long behind any other
+
+abbrev pub with_time_of_cycle : Plan → Option Rule
+with_time_of_cycle plan = broken_with_times (λ p. each_pattern p (λ n. nat_le (permissive_time p n) (cycle p n))) plan
+
+unfoldable pub always : Plan
+always = with_value quad PatternPermissiveTime 2 80
+
+breaks_K23 : first_broken always ≡ Some K23
+unfolding opened always
+breaks_K23 = refl
+
+would_pass_always : with_time_of_cycle always ≡ None
+unfolding opened always
+would_pass_always = refl
+
+is_always_permitted : permissive_time always 2 ≡ cycle always 2
+unfolding opened always
+is_always_permitted = refl
