@@ -76,9 +76,11 @@ BREAKING = {
     18: [[("splitTime", 1, 5)], [("phaseRedClear", 5, 51)]],
     19: [[("splitTime", 3, 7)], [("patternCycleTime", 1, 33)], [("splitMode", 1, 5), ("splitTime", 1, 0)]],
     20: [[("splitCoordPhase", 2, 0)], [("splitMode", 6, 5)], [("splitCoordPhase", 1, 1)], [("splitCoordPhase", 9, 1)],
-         [("splitTime", 1, 7), ("splitTime", 2, 9), ("sequenceData", 1, 2), ("sequenceData", 2, 1)]],
+         [("splitTime", 1, 7), ("splitTime", 2, 9), ("sequenceData", 1, 2), ("sequenceData", 2, 1)],
+         [("sequenceData", 17, 6), ("sequenceData", 18, 5), ("patternLeadLag", 1, 1)]],
     21: [[("overlapModifierPhases", 1, 1)], [("overlapType", 2, 1), ("overlapModifierPhases", 2, 256)]],
     22: [[("phaseDynamicMaxLimit", 1, 1)], [("phaseDynamicMaxLimit", 8, 1), ("phaseDynamicMaxStep", 8, 5)]],
+    23: [[("patternPermissiveTime", 2, 32)], [("patternLeadLag", 1, 1), ("patternPermissiveTime", 1, 255)]],
 }
 MOMENTS = [[], ["step 3"], ["step 25"], ["pattern 1", "step 40"], ["step 9", "preempt 1 on", "step 5"],
            ["step 7", "fault P4 G"], ["step 30", "fault P2 R", "reset"]]
