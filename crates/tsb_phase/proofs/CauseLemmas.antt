@@ -28,9 +28,9 @@ some-either false forced c may same = same
 
 pub cause-may-end : (plan : Plan) (given : Given) (p : ℕ) (w : Phase) → is_some (cause plan given p w) ≡ may_end plan given p w
 cause-may-end plan given p w =
-    some-either (needs_forced given p) (forced_latch given p (held_of w)) (first_cause plan given p w) (has_timed_out plan given p w)
+    some-either (needs_forced given p) (forced_latch plan given p (held_of w)) (first_cause plan given p w) (has_timed_out plan given p w)
     (some-first (is_by_gap plan given p (is_gapped plan given p (held_of w))) (has_maxed_out plan given p (held_of w) w.running_maximum)
-    (forced_latch given p (held_of w)))
+    (forced_latch plan given p (held_of w)))
 
 pub ready-has-cause : (plan : Plan) (given : Given) (p : ℕ) (w : Phase) → is_ready plan given p w ≡ true →
     ended_by given p ≡ None → is_some (cause plan given p w) ≡ true

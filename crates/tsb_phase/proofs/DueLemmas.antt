@@ -1,5 +1,5 @@
 -- Ticks that find the rows of phases as an earlier one did, and leave them so.
-use Rattle.std.proofs.Common.{◌≡◌, ◌≢◌, ℕ, ◌+◌, ◌-◌, ◌*◌, ◌<◌, ◌≤◌, min, nat_le, List, slice_index, Bool, true, false, ◌&&◌, ◌||◌, if◌then◌else◌, Option, Some, None, is_none, refl, sym, ap, ap₂, subst, ◌∙◌, inl, inr, arith}
+use Rattle.std.proofs.Common.{◌≡◌, ◌≢◌, ℕ, ◌+◌, ◌-◌, ◌*◌, ◌<◌, ◌≤◌, min, nat_le, List, slice_index, Bool, true, false, ◌&&◌, ◌||◌, if◌then◌else◌, Option, Some, None, is_some, is_none, refl, sym, ap, ap₂, subst, ◌∙◌, inl, inr, arith}
 use Rattle.std.proofs.lemmas.Bool.{cond-true}
 use Rattle.std.proofs.lemmas.Bool.Decides.{nat_tests, eqb_tells}
 use Rattle.tsb_cells.specs.declared.timer.Timer.{Timer}
@@ -12,10 +12,10 @@ use Rattle.tsb_objects.specs.tsb_types.declared.interval.PedestrianInterval.{Ped
 use Rattle.tsb_objects.specs.tsb_types.declared.interval.PedestrianInterval.TheVariants.{DontWalk, Walk, PedestrianClear}
 use Rattle.tsb_objects.specs.tsb_types.Intervals.{is_green, is_dont_walk, in_service}
 use Rattle.tsb_objects.specs.tsb_plan.Plan.{Plan, yellow_change, red_clear, red_revert, time_before_reduction, disables_simultaneous_gap}
+use Rattle.tsb_objects.specs.tsb_plan.Running.{floating_time}
 use Rattle.tsb_phase.specs.declared.phase_row.PhaseRow.{PhaseRow}
 use Rattle.tsb_phase.specs.Phase.{Phase, Given, none_moved, held_of}
-use Rattle.tsb_phase.specs.Green.{passage_timer, conflict_timer, begun, begins_reduction, has_cars_before_reduction, reduction_timer, gap_has_expired, gapped_latch, forced_latch, is_gapped, is_by_gap, gap, initial}
-use Rattle.tsb_phase.specs.DynamicMaximum.{maximum_in_use}
+use Rattle.tsb_phase.specs.Green.{passage_timer, conflict_timer, begun, begins_reduction, has_cars_before_reduction, reduction_timer, gap_has_expired, gapped_latch, has_reached_some, acting_maximum, has_maxed_out, floats_off, forced_latch, is_gapped, is_by_gap, gap, initial}
 use Rattle.tsb_phase.specs.Pedestrian.{ended_by, walk_time, clearance_time, is_resting_in_walk, pedestrian_now, pedestrian_timer_in}
 use Rattle.tsb_phase.specs.Ready.{is_ready, is_over, is_gapped_now, red_revert_passed, has_passed, green_is_done, may_end, needs_forced, has_timed_out}
 use Rattle.tsb_phase.specs.Next.{next_from_read}
@@ -53,6 +53,10 @@ passed-same t n cell limit h =
 -- the same of a limit that is the same
 pub at-limit : (x y : Timer) (l m : ℕ) → l ≡ m → has_reached x l ≡ has_reached y l → has_reached x m ≡ has_reached y m
 at-limit x y l m e h = subst (λ (n : ℕ). has_reached x n ≡ has_reached y n) e h
+
+-- and of one that there may be
+pub at-some-limit : (x y : Timer) (l m : Option ℕ) → l ≡ m → has_reached_some x l ≡ has_reached_some y l → has_reached_some x m ≡ has_reached_some y m
+at-some-limit x y l m e h = subst (λ (n : Option ℕ). has_reached_some x n ≡ has_reached_some y n) e h
 
 pub not-at-limit : (x : Timer) (l m : ℕ) → l ≡ m → has_reached x l ≡ false → has_reached x m ≡ false
 not-at-limit x l m e h = subst (λ (n : ℕ). has_reached x n ≡ false) e h
@@ -191,6 +195,17 @@ stays-begun now t cell true begins e =
 reach-as : (x y x' y' : Timer) (limit : ℕ) → x ≡ x' → y ≡ y' → has_reached x limit ≡ has_reached y limit → has_reached x' limit ≡ has_reached y' limit
 reach-as x y x' y' limit e f h = ap (λ (z : Timer). has_reached z limit) (sym e) ∙ h ∙ ap (λ (z : Timer). has_reached z limit) f
 
+-- and of a limit that there may be
+reach-some-as : (x y x' y' : Timer) (limit : Option ℕ) → x ≡ x' → y ≡ y' → has_reached_some x limit ≡ has_reached_some y limit →
+    has_reached_some x' limit ≡ has_reached_some y' limit
+reach-some-as x y x' y' limit e f h =
+    ap (λ (z : Timer). has_reached_some z limit) (sym e) ∙ h ∙ ap (λ (z : Timer). has_reached_some z limit) f
+
+-- a latch that tick `now` leaves as it was
+latch-of : (runs free conflict forced latch floats floats' : Bool) → floats ≡ floats' →
+    (runs && (free && (conflict && (forced || (floats || latch))))) ≡ (runs && (free && (conflict && (forced || (floats' || latch)))))
+latch-of runs free conflict forced latch floats floats' e = rw e refl
+
 module _ (plan : Plan) (given : Given) (p : ℕ) (r : PhaseRow) (now t : ℕ) (kept : IsKept plan given p r now) where
   passage-then : timer_at t r.passage ≡ passage_timer given p (held_of (phase_of t r))
   passage-then = stays-unless now t r.passage (given.output p) kept.passage
@@ -201,6 +216,16 @@ module _ (plan : Plan) (given : Given) (p : ℕ) (r : PhaseRow) (now t : ℕ) (k
   reach-conflict : (limit : ℕ) → has_reached (timer_at t r.conflict) limit ≡ has_reached (timer_at now r.conflict) limit →
       has_reached (conflict_timer given p (held_of (phase_of t r))) limit ≡ has_reached (conflict_timer given p (held_of (phase_of now r))) limit
   reach-conflict limit h = reach-as _ _ _ _ limit conflict-then kept.conflict h
+
+  reach-some-conflict : (limit : Option ℕ) → has_reached_some (timer_at t r.conflict) limit ≡ has_reached_some (timer_at now r.conflict) limit →
+      has_reached_some (conflict_timer given p (held_of (phase_of t r))) limit ≡ has_reached_some (conflict_timer given p (held_of (phase_of now r))) limit
+  reach-some-conflict limit h = reach-some-as _ _ _ _ limit conflict-then kept.conflict h
+
+  module _ (floating : floats_off plan given p (held_of (phase_of t r)) ≡ floats_off plan given p (held_of (phase_of now r))) where
+    forced-then : forced_latch plan given p (held_of (phase_of t r)) ≡ forced_latch plan given p (held_of (phase_of now r))
+    forced-then =
+        latch-of (is_some given.runs) (is_none given.service) (given.conflict p) (given.forced p) r.forced
+        (floats_off plan given p (held_of (phase_of t r))) (floats_off plan given p (held_of (phase_of now r))) floating
 
   module _ (before : has_reached (timer_at t r.conflict) (time_before_reduction plan p) ≡ has_reached (timer_at now r.conflict) (time_before_reduction plan p)) where
     begins-then : begins_reduction plan given p (held_of (phase_of t r)) ≡ begins_reduction plan given p (held_of (phase_of now r))
@@ -226,14 +251,17 @@ module _ (plan : Plan) (given : Given) (p : ℕ) (r : PhaseRow) (now t : ℕ) (k
         gapped-then : is_gapped plan given p (held_of (phase_of t r)) ≡ is_gapped plan given p (held_of (phase_of now r))
         gapped-then = ap₂ (λ (a b : Bool). a || b) expired-then latch-then
 
-        module _ (most : has_reached (timer_at t r.conflict) (maximum_in_use plan p (number_in r.running_maximum)) ≡ has_reached (timer_at now r.conflict) (maximum_in_use plan p (number_in r.running_maximum))) where
+        module _ (most : has_reached_some (timer_at t r.conflict) (acting_maximum plan given.runs p (number_in r.running_maximum)) ≡ has_reached_some (timer_at now r.conflict) (acting_maximum plan given.runs p (number_in r.running_maximum)))
+            (floating : floats_off plan given p (held_of (phase_of t r)) ≡ floats_off plan given p (held_of (phase_of now r))) where
+          maxed-then : has_maxed_out plan given p (held_of (phase_of t r)) (number_in r.running_maximum) ≡ has_maxed_out plan given p (held_of (phase_of now r)) (number_in r.running_maximum)
+          maxed-then = reach-some-conflict (acting_maximum plan given.runs p (number_in r.running_maximum)) most
+
           timed-then : has_timed_out plan given p (phase_of t r) ≡ has_timed_out plan given p (phase_of now r)
           timed-then =
-              ap₂ (λ (a b : Bool). is_by_gap plan given p a || ((is_none given.runs && b) || forced_latch given p (held_of (phase_of now r)))) gapped-then
-              (reach-conflict (maximum_in_use plan p (number_in r.running_maximum)) most)
+              ap₂ (λ (a b : Bool). is_by_gap plan given p a || b) gapped-then (ap₂ (λ (a b : Bool). a || b) maxed-then (forced-then floating))
 
           may-end-then : may_end plan given p (phase_of t r) ≡ may_end plan given p (phase_of now r)
-          may-end-then = ap (λ (b : Bool). if needs_forced given p then forced_latch given p (held_of (phase_of now r)) else b) timed-then
+          may-end-then = ap₂ (λ (a b : Bool). if needs_forced given p then a else b) (forced-then floating) timed-then
 
           done-then : (o : Option ℕ) → has_reached (timer_at t r.timer) (least_of plan given p o) ≡ has_reached (timer_at now r.timer) (least_of plan given p o) →
               green_is_done plan given p (phase_of t r) o ≡ green_is_done plan given p (phase_of now r) o
@@ -267,10 +295,11 @@ pub green-still : (plan : Plan) (given : Given) (p : ℕ) (r : PhaseRow) (now t 
     has_reached (timer_at t r.timer) (initial plan p (given.count p)) ≡ has_reached (timer_at now r.timer) (initial plan p (given.count p)) →
     has_expired plan p r t ≡ has_expired plan p r now →
     has_reached (timer_at t r.conflict) (time_before_reduction plan p) ≡ has_reached (timer_at now r.conflict) (time_before_reduction plan p) →
-    has_reached (timer_at t r.conflict) (maximum_in_use plan p (number_in r.running_maximum)) ≡ has_reached (timer_at now r.conflict) (maximum_in_use plan p (number_in r.running_maximum)) →
+    has_reached_some (timer_at t r.conflict) (acting_maximum plan given.runs p (number_in r.running_maximum)) ≡ has_reached_some (timer_at now r.conflict) (acting_maximum plan given.runs p (number_in r.running_maximum)) →
+    has_reached_some (timer_at t r.timer) (floating_time plan given.runs p) ≡ has_reached_some (timer_at now r.timer) (floating_time plan given.runs p) →
     has_reached (timer_at t r.red_revert) (red_revert plan p) ≡ has_reached (timer_at now r.red_revert) (red_revert plan p) →
     IsStill plan given p r now t
-green-still plan given p r now t is by kept part part-now least passed turned before most revert =
+green-still plan given p r now t is by kept part part-now least passed turned before most floating revert =
     let green : interval_of_row r ≡ Green = cond-true r.green Green _ is in
     record {
       state =
@@ -284,12 +313,12 @@ green-still plan given p r now t is by kept part part-now least passed turned be
           (conflict-then plan given p r now t kept)
           (reduction-then plan given p r now t kept before)
           (kept.gapped ∙ sym (latch-then plan given p r now t kept before turned passed))
-          kept.forced
+          (kept.forced ∙ sym (forced-then plan given p r now t kept floating))
           refl
           refl
           refl
           ∙ sym (next-green plan given p (phase_of t r) green);
-      ready = ready-green plan given p (phase_of t r) (phase_of now r) green green (part ∙ sym part-now) (done-then plan given p r now t kept before turned passed most (ended_by given p) least);
+      ready = ready-green plan given p (phase_of t r) (phase_of now r) green green (part ∙ sym part-now) (done-then plan given p r now t kept before turned passed most floating (ended_by given p) least);
       over = over-green plan p (phase_of t r) (phase_of now r) green green;
       gapped = gapped-green plan given p (phase_of t r) (phase_of now r) green green (gapped-then plan given p r now t kept before turned passed);
       reverted = reverted-green plan p (phase_of t r) (phase_of now r) green green (passed-same t now r.red_revert (red_revert plan p) revert);

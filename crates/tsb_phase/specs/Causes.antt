@@ -19,8 +19,8 @@ abbrev pub first_cause : Plan → Given → ℕ → Phase → Option Cause
 first_cause plan given p w =
     if is_by_gap plan given p (is_gapped plan given p (held_of w)) then Some Gap else
     (if has_maxed_out plan given p (held_of w) w.running_maximum then Some Maximum else
-    by_force_off (forced_latch given p (held_of w)))
+    by_force_off (forced_latch plan given p (held_of w)))
 
 -- of a coordinated phase, while no preempt is in service, its force-off alone
 abbrev pub cause : Plan → Given → ℕ → Phase → Option Cause
-cause plan given p w = if needs_forced given p then by_force_off (forced_latch given p (held_of w)) else first_cause plan given p w
+cause plan given p w = if needs_forced given p then by_force_off (forced_latch plan given p (held_of w)) else first_cause plan given p w

@@ -34,7 +34,7 @@ pub record IsKept (plan : Plan) (given : Given) (p : ℕ) (r : PhaseRow) (now : 
   pub conflict : timer_at now r.conflict ≡ conflict_timer given p (held_of (phase_of now r))
   pub reduction : timer_at now r.reduction ≡ reduction_timer plan given p (held_of (phase_of now r))
   pub gapped : r.gapped ≡ gapped_latch plan given p (held_of (phase_of now r))
-  pub forced : r.forced ≡ forced_latch given p (held_of (phase_of now r))
+  pub forced : r.forced ≡ forced_latch plan given p (held_of (phase_of now r))
 
 -- at tick t the red revert timer of phase p has reached its time exactly when it has at tick `now`
 abbrev pub StaysReverted : Plan → List ℕ → ℕ → ℕ → ℕ → Type 0

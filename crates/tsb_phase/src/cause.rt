@@ -10,12 +10,11 @@ ghost use Rattle.tsb_phase.specs.Promises.{given_of, TellsCause, TellsConflicts}
 ghost use Rattle.tsb_phase.specs.Rows.{IsRun};
 
 use crate::conditions::Conditions;
-use crate::dynamic::maximum_in_use;
-use crate::green::{Run, has_reached, is_by_gap, run_green};
+use crate::green::{Run, is_by_gap, run_green};
 use crate::phase_row::PhaseRow;
 use crate::phases::Phases;
 use crate::rows::CONFLICTS;
-use crate::visit::{held, number_in};
+use crate::visit::{has_maxed_out, held};
 use tsb_objects::{Checked, Phase, PhaseSet};
 
 /// Why a green ends that no preempt ends.
@@ -23,9 +22,9 @@ use tsb_objects::{Checked, Phase, PhaseSet};
 pub enum Cause {
     /// Its gap has expired and it has no maximum recall: gap out.
     Gap,
-    /// A conflict has stood for its maximum, in free operation: max out.
+    /// A conflict has stood for the maximum that acts on it: max out.
     Maximum,
-    /// Its force-off has come, in a pattern.
+    /// Its force-off has come, in a pattern: at its instant, late, in its permissive time, or floating.
     ForceOff,
 }
 
@@ -55,8 +54,7 @@ fn found_cause(
     if is_by_gap(plan, conditions, p, run.expired || run.gapped) {
         return Some(Cause::Gap);
     }
-    let maximum = maximum_in_use(plan.plan(), p, number_in(was.running_maximum));
-    if conditions.runs.is_none() && has_reached(now, run.conflict, maximum) {
+    if has_maxed_out(now, plan.plan(), conditions, p, was, run) {
         return Some(Cause::Maximum);
     }
     by_force_off(run.forced)

@@ -4,6 +4,7 @@ ghost use Rattle.tsb_cells.specs.Timer.{timer_at, has_reached};
 ghost use Rattle.tsb_objects.specs.tsb_types.declared.interval.Interval.TheVariants.{RedClear};
 ghost use Rattle.tsb_objects.specs.tsb_types.declared.interval.PedestrianInterval.TheVariants.{Walk, PedestrianClear};
 ghost use Rattle.tsb_objects.specs.tsb_plan.PlanOf.{plan_of};
+ghost use Rattle.tsb_phase.specs.Green.{has_reached_some};
 ghost use Rattle.tsb_phase.specs.Phase.{Given};
 ghost use Rattle.tsb_phase.specs.Pedestrian.{ended_by, pedestrian_now};
 ghost use Rattle.tsb_phase.specs.Promises.{given_of};
@@ -11,8 +12,8 @@ ghost use Rattle.tsb_phase.specs.Cells.{row_in, phase_of, interval_of_row, pedes
 ghost use Rattle.tsb_phase.specs.Due.{least_of, has_expired, IsKept, IsStill, StaysReverted};
 
 use crate::conditions::Conditions;
-use crate::dynamic::maximum_in_use;
-use crate::green::{count, has_reached, run_green};
+use crate::dynamic::acting_maximum;
+use crate::green::{count, floating_time, has_reached, run_green};
 use crate::pedestrian::{clearance_time, ended_by, is_resting_in_walk, pedestrian_of, walk_time};
 use crate::phase_row::PhaseRow;
 use crate::phases::Phases;
@@ -43,6 +44,18 @@ fn turn(now: u32, cell: u32, limit: u32) -> u32
 {
     let at = until(cell, limit);
     if at <= now { u32::MAX } else { at }
+}
+
+/// The tick up to which the timer of a cell has reached a limit, if there is one, exactly when it has at tick `now`.
+#[inline(always)]
+fn turn_some(now: u32, cell: u32, limit: Option<u32>) -> u32
+    requires fits { now + 1 < 2 ^ 32 }
+    ensures { (t : ℕ) → cell ≤ now + 1 → now ≤ t → t < result → has_reached_some (timer_at t cell) limit ≡ has_reached_some (timer_at now cell) limit }
+{
+    match limit {
+        None => u32::MAX,
+        Some(limit) => turn(now, cell, limit),
+    }
 }
 
 /// The tick up to which a walk stays.
@@ -141,13 +154,17 @@ fn due_kept(now: u32, plan: &Plan, conditions: &Conditions, p: Phase, was: &Phas
     let gap = turn_gap(now, plan, p, was);
     let time = plan.time_before_reduction(p);
     let before = turn(now, was.conflict, time);
-    let maximum = maximum_in_use(plan, p, number_in(was.running_maximum));
-    let most = turn(now, was.conflict, maximum);
+    let running = number_in(was.running_maximum);
+    let maximum = acting_maximum(plan, conditions.runs, p, running);
+    let most = turn_some(now, was.conflict, maximum);
+    let split = floating_time(plan, conditions, p);
+    let floating = turn_some(now, was.timer, split);
     let time = plan.red_revert(p);
     let revert = turn(now, was.red_revert, time);
     part.min(least.min(passed))
         .min(gap.min(before))
-        .min(most.min(revert))
+        .min(most.min(floating))
+        .min(revert)
 }
 
 /// The tick up to which a Green phase is still: no further tick, where tick `now` changes its timers or latches.

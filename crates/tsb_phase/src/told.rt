@@ -1,15 +1,15 @@
-//! A phase told as a plain value, and its maximum in use: for those who say how much of a time is left.
+//! A phase told as a plain value, and the maximum that acts on it: for those who say how much of a time is left.
 ghost use Rattle.std.specs.Prelude.{◌≡◌, ◌+◌, ◌<◌, ◌^◌};
 ghost use Rattle.tsb_objects.specs.Checked.{checked_plan};
 ghost use Rattle.tsb_phase.specs.Promises.{TellsPhase, TellsMaximum};
 
-use crate::dynamic::maximum_in_use;
+use crate::dynamic::acting_maximum;
 use crate::pedestrian::pedestrian_of;
 use crate::phase_row::interval_of;
 use crate::phases::Phases;
 use crate::visit::number_in;
 use tsb_cells::Timer;
-use tsb_objects::{Checked, Interval, PedestrianInterval, Phase};
+use tsb_objects::{Checked, Interval, Pattern, PedestrianInterval, Phase};
 
 /// What phase timing keeps of a phase, but for how its last green ended. Timers are in ticks, which are tenths of a
 /// second.
@@ -64,10 +64,16 @@ impl Phases {
         }
     }
 
-    /// The maximum green in use of a phase with this running maximum, in tenths of a second.
-    pub fn maximum(plan: &Checked, p: Phase, running: Option<u32>) -> u32
-        ensures { TellsMaximum (checked_plan plan.now) p running result }
+    /// The maximum that acts on a Green phase with this running maximum, in tenths of a second: in free operation the
+    /// maximum in use, and while a pattern runs that of its maximum mode (`coordMaximumMode`), if any.
+    pub fn maximum(
+        plan: &Checked,
+        runs: Option<Pattern>,
+        p: Phase,
+        running: Option<u32>,
+    ) -> Option<u32>
+        ensures { TellsMaximum (checked_plan plan.now) runs p running result }
     {
-        maximum_in_use(plan.plan(), p, running)
+        acting_maximum(plan.plan(), runs, p, running)
     }
 }

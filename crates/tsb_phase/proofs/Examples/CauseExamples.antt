@@ -52,8 +52,8 @@ no_cause = refl
 
 abbrev pub cause_without_maximum : Plan → Given → ℕ → Phase → Option Cause
 cause_without_maximum plan given p w =
-    if needs_forced given p then by_force_off (forced_latch given p (held_of w))
-    else (if is_by_gap plan given p (is_gapped plan given p (held_of w)) then Some Gap else by_force_off (forced_latch given p (held_of w)))
+    if needs_forced given p then by_force_off (forced_latch plan given p (held_of w))
+    else (if is_by_gap plan given p (is_gapped plan given p (held_of w)) then Some Gap else by_force_off (forced_latch plan given p (held_of w)))
 
 has_no_cause : cause_without_maximum plan driven_on 1 (green_for 300 Off (On 200)) ≡ None
 unfolding plan run_from cars_waiting reduction_timer gap initial maximum_in_use pedestrian_now is_ready

@@ -156,7 +156,7 @@ still_forced : is_ready quad coordinated 2 (record green { forced = true }) ≡ 
 unfolding quad reduction_timer gap initial maximum_in_use pedestrian_now is_ready run_from cars_waiting
 still_forced = refl
 
-no_more_forced : forced_latch (record coordinated { conflict = λ p. false }) 2 (record none_held { forced = true }) ≡ false
+no_more_forced : forced_latch quad (record coordinated { conflict = λ p. false }) 2 (record none_held { forced = true }) ≡ false
 no_more_forced = refl
 
 -- under a preempt that wants it served its gap may end it

@@ -103,7 +103,7 @@ without_its_vehicle = refl
 -- ## A start at its force-off instant is forced
 
 -- by the definition it is not (`starts_unforced`)
-forced_at_start : forced_latch at_instant 1 none_held ≡ true
+forced_at_start : forced_latch quad at_instant 1 none_held ≡ true
 forced_at_start = refl
 
 -- ## A start under a preempt gives Walk
@@ -139,7 +139,7 @@ latch_stands = refl
 abbrev pub timed_out_by_any_gap : Plan → Given → ℕ → Phase → Bool
 timed_out_by_any_gap plan given p w =
     is_gapped plan given p (held_of w) ||
-    (has_maxed_out plan given p (held_of w) w.running_maximum || forced_latch given p (held_of w))
+    (has_maxed_out plan given p (held_of w) w.running_maximum || forced_latch plan given p (held_of w))
 
 abbrev pub recalled : Plan
 recalled = with_value plan PhaseMaxRecall 1 1
@@ -152,12 +152,13 @@ to_its_gap : timed_out_by_any_gap recalled (waiting 0) 1 (green_for 80 (On 30) (
 unfolding plan run_from cars_waiting reduction_timer gap initial maximum_in_use
 to_its_gap = refl
 
--- ## The maximum ends a green while a pattern runs
+-- ## The maximum ends a green while a pattern runs, without a maximum mode
 
 abbrev pub maxed_out_in_pattern : Plan → Given → ℕ → GreenHeld → Bool
 maxed_out_in_pattern plan given p held = has_reached (conflict_timer given p held) (maximum plan p)
 
 no_maximum : has_maxed_out plan (record driven_on { runs = Some 1 }) 1 (held 300 Off (On 200) Off) None ≡ false
+unfolding plan
 no_maximum = refl
 
 a_maximum : maxed_out_in_pattern plan (record driven_on { runs = Some 1 }) 1 (held 300 Off (On 200) Off) ≡ true

@@ -3,13 +3,12 @@ use Rattle.tsb_cells.specs.Timer.{timer_at}
 use Rattle.tsb_objects.specs.tsb_plan.Plan.{Plan}
 use Rattle.tsb_objects.specs.tsb_plan.PlanOf.{plan_of}
 use Rattle.tsb_phase.specs.declared.phase_row.PhaseRow.{PhaseRow}
-use Rattle.tsb_phase.specs.DynamicMaximum.{maximum_in_use}
-use Rattle.tsb_phase.specs.Green.{initial}
+use Rattle.tsb_phase.specs.Green.{initial, acting_maximum}
 use Rattle.tsb_phase.specs.Phase.{Given}
 use Rattle.tsb_phase.specs.Promises.{given_of}
 use Rattle.tsb_phase.specs.Cells.{IsRowBy}
 use Rattle.tsb_phase.proofs.ReadLemmas.{later}
-use Rattle.tsb_phase.proofs.DueLemmas.{green-still, at-limit}
+use Rattle.tsb_phase.proofs.DueLemmas.{green-still, at-limit, at-some-limit}
 use Rattle.tsb_phase.proofs.due.due_kept.Goals as goal
 
 pub returns : goal.returns
@@ -26,6 +25,7 @@ returns c = λ t after soon.
     (at-limit (timer_at t was.timer) (timer_at now was.timer) c.initial-time.result _ (c.initial-time.ensures ∙ ap (λ (n : ℕ). initial plan c.args.p n) c.count.ensures.value) (c.turn-passed.ensures t by.timer (omega (arith, after)) (omega (arith, soon))))
     (c.turn_gap-gap.ensures t (omega (arith, after)) (omega (arith, soon)))
     (at-limit (timer_at t was.conflict) (timer_at now was.conflict) c.time_before_reduction-time.result _ c.time_before_reduction-time.ensures (c.turn-before.ensures t by.conflict (omega (arith, after)) (omega (arith, soon))))
-    (at-limit (timer_at t was.conflict) (timer_at now was.conflict) c.maximum_in_use-maximum.result _ (c.maximum_in_use-maximum.ensures ∙ ap (λ (o : Option ℕ). maximum_in_use plan c.args.p o) c.number_in.ensures)
-    (c.turn-most.ensures t by.conflict (omega (arith, after)) (omega (arith, soon))))
+    (at-some-limit (timer_at t was.conflict) (timer_at now was.conflict) c.acting_maximum-maximum.result _ (c.acting_maximum-maximum.ensures ∙ ap (λ (o : Option ℕ). acting_maximum plan given.runs c.args.p o) c.number_in-running.ensures)
+    (c.turn_some-most.ensures t by.conflict (omega (arith, after)) (omega (arith, soon))))
+    (at-some-limit (timer_at t was.timer) (timer_at now was.timer) c.floating_time-split.result _ c.floating_time-split.ensures (c.turn_some-floating.ensures t by.timer (omega (arith, after)) (omega (arith, soon))))
     (at-limit (timer_at t was.red_revert) (timer_at now was.red_revert) c.red_revert-time.result _ c.red_revert-time.ensures (c.turn-revert.ensures t by.red_revert (omega (arith, after)) (omega (arith, soon))))
