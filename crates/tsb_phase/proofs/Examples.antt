@@ -5,8 +5,10 @@ pub mod MaximumExamples
 pub mod PedestrianExamples
 pub mod ClearanceExamples
 pub mod CauseExamples
+pub mod PatternExamples
 pub mod CellsExamples
 pub mod Mistakes
+pub mod PatternMistakes
 pub mod LawMistakes
 pub mod MoveMistakes
 pub mod RangeMistakes
