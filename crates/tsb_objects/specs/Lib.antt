@@ -1,4 +1,4 @@
--- when a pattern forces each phase off, on its local counter, and how long it does late
+-- when a pattern forces each phase off, on its local counter, how long it does late, and in which permissive time
 pub mod Instants
 -- the tables of phases and detectors of a checked plan
 pub mod Tables

@@ -1,13 +1,12 @@
 -- The tables of a checked plan that are of a pattern that runs, or of free operation.
-use Rattle.std.specs.Prelude.{◌≡◌, ℕ, ◌+◌, ◌-◌, ◌*◌, ◌<◌, ◌≤◌, ◌==◌, max, Bool, true, if◌then◌else◌, List, Option, Some, None, slice_index}
-use Rattle.tsb_plan.specs.Parts.{is_used, unless_zero}
+use Rattle.std.specs.Prelude.{◌≡◌, ℕ, ◌+◌, ◌-◌, ◌*◌, ◌%◌, ◌<◌, ◌≤◌, ◌==◌, nat_lt, max, Bool, true, if◌then◌else◌, List, Option, Some, None, slice_index}
+use Rattle.tsb_plan.specs.Parts.{cycle, is_used, unless_zero}
 use Rattle.tsb_plan.specs.Plan.{Plan}
 use Rattle.tsb_plan.specs.Running.{is_coordinated_now, is_omitted_now, is_on_minimum_recall, is_on_maximum_recall, is_on_pedestrian_recall}
 use Rattle.tsb_objects.specs.declared.pattern_tables.Asked.{Asked}
 use Rattle.tsb_objects.specs.declared.pattern_tables.Asked.TheVariants.{Coordinated, Omitted, MinimumRecall, MaximumRecall, PedestrianRecall}
 use Rattle.tsb_objects.specs.declared.pattern_tables.PatternTables.{PatternTables}
-use Rattle.tsb_objects.specs.Instants.{force_off, late_end}
-use Rattle.tsb_types.specs.Lists.{or_number}
+use Rattle.tsb_objects.specs.Instants.{force_off, late_end, counted_on, yields_for}
 use Rattle.tsb_types.specs.Sets.{names}
 
 -- what is asked of phase p while a pattern runs, or in free operation
@@ -37,17 +36,27 @@ AreInstants plan words =
     (n p : ℕ) → 1 ≤ n → n ≤ 16 → 1 ≤ p → p ≤ 16 → is_used plan n ≡ true →
     instant_in (slice_index words (16 * (n - 1) + (p - 1))) ≡ force_off plan (Some n) p
 
--- the tick of the local counter behind the last one at which a phase with this instant and this late end is forced off;
--- 0 without an instant, as none is below it
-abbrev pub end_behind : Option ℕ → Option ℕ → ℕ
-end_behind None late = 0
-end_behind (Some i) late = max (i + 1) (or_number late 0)
+-- a late end in a cycle of m, counted on from instant i; 0 where there is none
+abbrev pub late_until : ℕ → ℕ → Option ℕ → ℕ
+late_until m i None = 0
+late_until m i (Some e) = counted_on m i e
+
+-- the tick of the local counter behind the last one at which a phase with this instant, this late end and this permissive
+-- time is forced off in a cycle of m, counted on past the cycle; 0 without an instant, as none is below it
+abbrev pub end_behind : ℕ → Option ℕ → Option ℕ → ℕ → ℕ
+end_behind m None late time = 0
+end_behind m (Some i) late time = max (i + time + 1) (late_until m i late)
+
+-- the end of a permissive time, as the words of a coordinated phase tell it in a cycle of m: the end is more than a tick
+-- behind the instant
+abbrev pub permissive_end_in : ℕ → ℕ → ℕ → Option ℕ
+permissive_end_in m word end = if nat_lt (word + 1) end then Some (end % m) else None
 
 -- words in the order of the instants
 abbrev pub AreEnds : Plan → List ℕ → Type 0
 AreEnds plan words =
     (n p : ℕ) → 1 ≤ n → n ≤ 16 → 1 ≤ p → p ≤ 16 → is_used plan n ≡ true →
-    slice_index words (16 * (n - 1) + (p - 1)) ≡ end_behind (force_off plan (Some n) p) (late_end plan (Some n) p)
+    slice_index words (16 * (n - 1) + (p - 1)) ≡ end_behind (cycle plan n) (force_off plan (Some n) p) (late_end plan (Some n) p) (yields_for plan n p)
 
 -- five tables of lists and two of ticks, so that no tick has to search the plan for them
 pub record ArePatternTables (plan : Plan) (tables : PatternTables) : Type 0 where

@@ -5,11 +5,14 @@ ghost use Rattle.std.specs.Prelude.{◌≡◌, ◌≤◌, ◌<◌, ◌*◌, ◌+
 ghost use Rattle.tsb_plan.specs.Parts.{cycle, is_used};
 ghost use Rattle.tsb_plan.specs.Plan.{yellow_change, red_clear};
 ghost use Rattle.tsb_plan.specs.PlanOf.{plan_of};
-ghost use Rattle.tsb_objects.specs.Instants.{end_of, instant_from, reference, force_off};
+ghost use Rattle.tsb_objects.specs.Instants.{end_of, instant_from, is_coordinated_in, coordinated_in_ring, first_coordinated, reference, force_off};
 
 use tsb_plan::Plan;
 use tsb_rules::split_end;
 use tsb_types::{Pattern, Phase};
+
+/// The ring whose coordinated phase instants are counted from.
+const REFERENCE_RING: u32 = 1;
 
 /// The cycle of a pattern that is used.
 fn cycle_of(plan: &Plan, n: Pattern) -> u32
@@ -52,14 +55,41 @@ fn instant_from(plan: &Plan, n: Pattern, c: Phase, p: Phase) -> u32
     (end + (cycle - before)) % cycle
 }
 
-/// The coordinated phase that instants are counted from: the first.
-pub(crate) fn reference(plan: &Plan, n: Pattern) -> Option<Phase>
-    ensures { result ≡ reference (plan_of plan.now) n }
+/// Whether a phase is a coordinated one of a pattern, and of the ring of that number.
+fn is_coordinated_in(plan: &Plan, n: Pattern, ring: u32, p: Phase) -> bool
+    ensures { result ≡ is_coordinated_in (plan_of plan.now) n ring p }
+{
+    plan.is_coordinated_now(Some(n), p) && plan.ring(p) == ring
+}
+
+/// The first coordinated phase of the ring of that number.
+pub(crate) fn coordinated_in_ring(plan: &Plan, n: Pattern, ring: u32) -> Option<Phase>
+    ensures { result ≡ coordinated_in_ring (plan_of plan.now) n ring }
+{
+    Phase::all()
+        .iter()
+        .copied()
+        .find(|p| is_coordinated_in(plan, n, ring, *p))
+}
+
+/// The first coordinated phase, of whichever ring.
+fn first_coordinated(plan: &Plan, n: Pattern) -> Option<Phase>
+    ensures { result ≡ first_coordinated (plan_of plan.now) n }
 {
     Phase::all()
         .iter()
         .copied()
         .find(|p| plan.is_coordinated_now(Some(n), *p))
+}
+
+/// The coordinated phase that instants are counted from: that of ring 1, or else the first.
+pub(crate) fn reference(plan: &Plan, n: Pattern) -> Option<Phase>
+    ensures { result ≡ reference (plan_of plan.now) n }
+{
+    match coordinated_in_ring(plan, n, REFERENCE_RING) {
+        Some(c) => Some(c),
+        None => first_coordinated(plan, n),
+    }
 }
 
 /// The force-off instant of a phase in a pattern that is used.

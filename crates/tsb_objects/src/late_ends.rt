@@ -1,31 +1,15 @@
-//! Up to which instant a phase is forced off late, on the local counter. Times are in tenths of a second.
+//! How far behind its instant a phase is forced off, on the local counter: late, and in the permissive time. Times are in
+//! tenths of a second.
 #![tactic(auto, unfolding(tsb_plan::specs::PlanOf::plan_of))]
 
-ghost use Rattle.std.specs.Prelude.{◌≡◌, ◌<◌, true, Some, IfSome};
+ghost use Rattle.std.specs.Prelude.{◌≡◌, ◌≤◌, ◌<◌, true, Some, IfSome};
 ghost use Rattle.tsb_plan.specs.Parts.{is_used};
 ghost use Rattle.tsb_plan.specs.PlanOf.{plan_of};
-ghost use Rattle.tsb_objects.specs.Instants.{is_coordinated_in, coordinated_in_ring, yields_to, late_end};
+ghost use Rattle.tsb_objects.specs.Instants.{yields_to, late_end, yields_for};
 
-use crate::instants::{instant, reference};
+use crate::instants::{coordinated_in_ring, instant, reference};
 use tsb_plan::Plan;
 use tsb_types::{Pattern, Phase};
-
-/// Whether a phase is a coordinated one of a pattern, and of the ring of that number.
-fn is_coordinated_in(plan: &Plan, n: Pattern, ring: u32, p: Phase) -> bool
-    ensures { result ≡ is_coordinated_in (plan_of plan.now) n ring p }
-{
-    plan.is_coordinated_now(Some(n), p) && plan.ring(p) == ring
-}
-
-/// The first coordinated phase of the ring of that number.
-fn coordinated_in_ring(plan: &Plan, n: Pattern, ring: u32) -> Option<Phase>
-    ensures { result ≡ coordinated_in_ring (plan_of plan.now) n ring }
-{
-    Phase::all()
-        .iter()
-        .copied()
-        .find(|p| is_coordinated_in(plan, n, ring, *p))
-}
 
 /// The coordinated phase up to whose instant a phase is forced off late.
 fn yields_to(plan: &Plan, n: Pattern, p: Phase) -> Option<Phase>
@@ -50,5 +34,18 @@ pub(crate) fn late_end(plan: &Plan, n: Pattern, p: Phase) -> Option<u32>
     match yields_to(plan, n, p) {
         None => None,
         Some(c) => instant(plan, n, c),
+    }
+}
+
+/// For how long behind its instant a phase is forced off: the permissive time of a coordinated phase
+/// (`patternPermissiveTime`), and 0 of any other.
+pub(crate) fn yields_for(plan: &Plan, n: Pattern, p: Phase) -> u32
+    ensures value { result ≡ yields_for (plan_of plan.now) n p }
+    ensures range { result ≤ 2550 }
+{
+    if plan.is_coordinated_now(Some(n), p) {
+        plan.permissive_time(n)
+    } else {
+        0
     }
 }

@@ -1,15 +1,15 @@
 //! What a plan says of all its phases while a pattern runs, and in free operation.
 #![tactic(auto, unfolding(tsb_plan::specs::PlanOf::plan_of))]
 
-ghost use Rattle.std.specs.Prelude.{◌≡◌, ◌≢◌, ℕ, ◌+◌, ◌-◌, ◌*◌, ◌<◌, ◌≤◌, nat_le, nat_lt, ◌&&◌, true, false, Some, length, slice_index};
-ghost use Rattle.tsb_objects.specs.PatternTables.{is_so, AreInEffect, AreInstants, AreEnds, ArePatternTables, instant_in, end_behind};
-ghost use Rattle.tsb_objects.specs.Instants.{force_off, late_end};
-ghost use Rattle.tsb_plan.specs.Parts.{is_used, unless_zero};
+ghost use Rattle.std.specs.Prelude.{◌≡◌, ◌≢◌, ℕ, ◌+◌, ◌-◌, ◌*◌, ◌<◌, ◌≤◌, true, false, Some, IfSome, length, slice_index};
+ghost use Rattle.tsb_objects.specs.PatternTables.{is_so, AreInEffect, AreInstants, AreEnds, ArePatternTables, instant_in, late_until, end_behind, permissive_end_in};
+ghost use Rattle.tsb_objects.specs.Instants.{force_off, late_end, is_from_to, yields_for};
+ghost use Rattle.tsb_plan.specs.Parts.{cycle, is_used, unless_zero};
 ghost use Rattle.tsb_plan.specs.PlanOf.{plan_of};
 ghost use Rattle.tsb_types.specs.Sets.{has};
 
 use crate::instants::instant;
-use crate::late_ends::late_end;
+use crate::late_ends::{late_end, yields_for};
 use tsb_plan::Plan;
 use tsb_types::{Pattern, Phase, PhaseSet};
 
@@ -42,7 +42,8 @@ pub struct PatternTables {
     pub(crate) pedestrian_recall: [u16; 17],
     /// The force-off instants of the phases, 16 for each pattern, or `NEVER`.
     pub(crate) instants: [u16; 256],
-    /// For each of these the tick of the local counter behind the last one at which the phase is forced off, or 0.
+    /// For each of these the tick of the local counter behind the last one at which the phase is forced off, or 0. It is
+    /// counted on past the end of the cycle; at most 5,100.
     pub(crate) ends: [u16; 256],
 }
 
@@ -138,16 +139,34 @@ fn instants(plan: &Plan) -> [u16; 256]
     words
 }
 
+/// A late end in that cycle, counted on from an instant: past the end of the cycle where it comes before it; 0 where there
+/// is none.
+fn late_until(cycle: u32, at: u32, late: &Option<u32>) -> u32
+    requires small { cycle ≤ 2550 }
+    requires below { IfSome late.now (λ i. i < 2550) }
+    ensures value { result ≡ late_until cycle at late.now }
+    ensures range { result < 5100 }
+{
+    match late {
+        None => 0,
+        Some(end) => { if *end < at { *end + cycle } else { *end } }
+    }
+}
+
 /// The tick of the local counter behind the last one at which a phase is forced off in a pattern, by the word of its
-/// instant; 0 where it has none. It has no meaning for a pattern that is not used.
+/// instant, counted on past the cycle; 0 where it has none. It has no meaning for a pattern that is not used.
 fn end_word(plan: &Plan, n: Pattern, p: Phase, at: u16) -> u16
-    ensures { is_used (plan_of plan.now) n ≡ true → result ≡ end_behind (instant_in at) (late_end (plan_of plan.now) (Some n) p) }
+    requires below { is_used (plan_of plan.now) n ≡ true → IfSome (instant_in at) (λ i. i < 2550) }
+    ensures { is_used (plan_of plan.now) n ≡ true →
+        result ≡ end_behind (cycle (plan_of plan.now) n) (instant_in at) (late_end (plan_of plan.now) (Some n) p)
+        (yields_for (plan_of plan.now) n p) }
 {
     if at == NEVER || !plan.is_used(n) {
         return 0;
     }
-    let late = late_end(plan, n, p).unwrap_or(0);
-    (u32::from(at) + 1).max(late) as u16
+    let at = u32::from(at);
+    let late = late_until(plan.cycle(n), at, &late_end(plan, n, p));
+    (at + yields_for(plan, n, p) + 1).max(late) as u16
 }
 
 /// The ticks behind the last ones at which phases are forced off in each pattern, by the words of their instants.
@@ -188,25 +207,52 @@ fn joined(set: PhaseSet, p: Phase, on: bool) -> PhaseSet
     if on { set.with(p, true) } else { set }
 }
 
-/// The phases that are forced off in a pattern at that local counter, from the words of their instants and ends. A
-/// phase without an instant ends at 0, so it is not among them.
+/// The tick of the local counter behind the permissive time of a coordinated phase, from the words of all instants and
+/// ends; none where the phase has no permissive time.
+#[inline(always)]
+pub(crate) fn permissive_end_at(
+    instants: &[u16; 256],
+    ends: &[u16; 256],
+    n: Pattern,
+    p: Phase,
+    cycle: u32,
+) -> Option<u32>
+    requires some { 1 ≤ cycle }
+    ensures { result ≡ permissive_end_in cycle (slice_index instants.now (16 * (n - 1) + (p - 1)))
+        (slice_index ends.now (16 * (n - 1) + (p - 1))) }
+{
+    let place = 16 * (usize::from(n.number()) - 1) + (usize::from(p.number()) - 1);
+    let at = u32::from(instants[place]);
+    let end = u32::from(ends[place]);
+    if at + 1 < end {
+        Some(end % cycle)
+    } else {
+        None
+    }
+}
+
+/// The phases that are forced off in a pattern with that cycle at that local counter, from the words of their instants
+/// and ends: from the instant to the end, in this cycle or from the last one on. A phase without an instant ends at 0, so
+/// it is not among them.
 #[inline(always)]
 pub(crate) fn forced_in(
     instants: &[u16; 256],
     ends: &[u16; 256],
     n: Pattern,
+    cycle: u32,
     local: u32,
 ) -> PhaseSet
     ensures { (p : ℕ) → 1 ≤ p → p ≤ 16 →
-        has result p ≡ (nat_le (slice_index instants.now (16 * (n - 1) + (p - 1))) local
-        && nat_lt local (slice_index ends.now (16 * (n - 1) + (p - 1)))) }
+        has result p ≡ is_from_to cycle local (slice_index instants.now (16 * (n - 1) + (p - 1)))
+        (slice_index ends.now (16 * (n - 1) + (p - 1))) }
 {
     let first = 16 * (usize::from(n.number()) - 1);
+    let from_last = u64::from(local) + u64::from(cycle);
     let mut set = PhaseSet::empty();
     for number in 1..17u8 {
         let at = instants[first + (usize::from(number) - 1)];
         let end = ends[first + (usize::from(number) - 1)];
-        let on = u32::from(at) <= local && local < u32::from(end);
+        let on = (u32::from(at) <= local && local < u32::from(end)) || from_last < u64::from(end);
         set = joined(set, Phase::of(number), on);
     }
     set

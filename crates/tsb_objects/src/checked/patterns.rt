@@ -4,13 +4,13 @@
 
 ghost use Rattle.std.specs.Prelude.{◌≡◌, ℕ, ◌<◌, ◌≤◌, true, Some, IfSome};
 ghost use Rattle.tsb_objects.specs.Checked.{checked_plan};
-ghost use Rattle.tsb_objects.specs.Instants.{force_off, forces_off};
+ghost use Rattle.tsb_objects.specs.Instants.{force_off, permissive_end, forces_off};
 ghost use Rattle.tsb_plan.specs.Parts.{cycle, is_used, unless_zero};
 ghost use Rattle.tsb_plan.specs.Running.{sequence_in_effect, is_coordinated_now, is_omitted_now, is_on_minimum_recall, is_on_maximum_recall, is_on_pedestrian_recall};
 ghost use Rattle.tsb_types.specs.Sets.{has};
 
 use crate::checked::Checked;
-use crate::pattern_tables::{forced_in, instant_at};
+use crate::pattern_tables::{forced_in, instant_at, permissive_end_at};
 use tsb_types::{Pattern, Phase, PhaseSet, Sequence};
 
 /// Which word of a table is for the pattern that runs.
@@ -86,8 +86,28 @@ impl Checked {
         instant_at(&self.pattern_tables.instants, n, p)
     }
 
-    /// The phases that a pattern that is used forces off at that local counter, at their instant or late
-    /// (`coordForceMode`).
+    /// The tick of the local counter behind the permissive time of a phase in a pattern that is used
+    /// (`patternPermissiveTime`); none for a phase that is not coordinated, and where that time is 0.
+    #[inline(always)]
+    pub fn permissive_end(&self, n: Pattern, p: Phase) -> Option<u32>
+        requires used { is_used (checked_plan self.now) n ≡ true }
+        ensures value { result ≡ permissive_end (checked_plan self.now) (Some n) p }
+        ensures below { IfSome result (λ i. i < cycle (checked_plan self.now) n) }
+    {
+        if !self.coordinated(Some(n)).contains(p) {
+            return None;
+        }
+        permissive_end_at(
+            &self.pattern_tables.instants,
+            &self.pattern_tables.ends,
+            n,
+            p,
+            self.plan.cycle(n),
+        )
+    }
+
+    /// The phases that a pattern that is used forces off at that local counter: at their instant, late
+    /// (`coordForceMode`), or in their permissive time (`patternPermissiveTime`).
     #[inline(always)]
     pub fn forced_at(&self, n: Pattern, local: u32) -> PhaseSet
         requires used { is_used (checked_plan self.now) n ≡ true }
@@ -98,6 +118,7 @@ impl Checked {
             &self.pattern_tables.instants,
             &self.pattern_tables.ends,
             n,
+            self.plan.cycle(n),
             local,
         )
     }
