@@ -28,7 +28,7 @@ pub const DONE: u32 = 3;
 
 /// The rule of a number, 0 for none.
 pub fn rule_of(number: u32) -> Option<Rule>
-    requires { number ≤ 22 }
+    requires { number ≤ 23 }
     ensures { result ≡ nth_rule rules number }
 {
     match number {
@@ -54,15 +54,16 @@ pub fn rule_of(number: u32) -> Option<Rule>
         20 => Some(Rule::K20),
         21 => Some(Rule::K21),
         22 => Some(Rule::K22),
+        23 => Some(Rule::K23),
         _ => None,
     }
 }
 
-/// The number of a rule, 1 to 22.
+/// The number of a rule, 1 to 23.
 pub fn rule_number(rule: Rule) -> u32
     ensures cell { result ≡ rule_cell (Some rule) }
     ensures back { nth_rule rules result ≡ Some rule }
-    ensures within { result ≤ 22 }
+    ensures within { result ≤ 23 }
 {
     match rule {
         Rule::K1 => 1,
@@ -87,5 +88,6 @@ pub fn rule_number(rule: Rule) -> u32
         Rule::K20 => 20,
         Rule::K21 => 21,
         Rule::K22 => 22,
+        Rule::K23 => 23,
     }
 }
