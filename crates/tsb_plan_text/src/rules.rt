@@ -4,7 +4,7 @@ ghost use Rattle.tsb_plan_text.specs.RuleLines.{rule_line};
 
 use tsb_objects::Rule;
 
-/// The line that names a rule, without its end: `rule K1` to `rule K22`.
+/// The line that names a rule, without its end: `rule K1` to `rule K23`.
 pub fn rule_line(rule: Rule) -> &'static str
     ensures line { result.now ≡ rule_line rule }
     ensures short { length result.now ≤ 11 }
@@ -32,5 +32,6 @@ pub fn rule_line(rule: Rule) -> &'static str
         Rule::K20 => "rule K20",
         Rule::K21 => "rule K21",
         Rule::K22 => "rule K22",
+        Rule::K23 => "rule K23",
     }
 }
