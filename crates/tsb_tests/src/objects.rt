@@ -24,7 +24,7 @@ fn id(object: Object, index: u32) -> ObjectId {
 }
 
 /// Objects, each with how many indices it has and its greatest value.
-const RANGES: [Value; 17] = [
+const RANGES: [Value; 20] = [
     (Object::PhaseEnabled, 16, 1),
     (Object::PhaseSide, 16, 4),
     (Object::PhaseConcurrency, 16, 65_535),
@@ -41,7 +41,10 @@ const RANGES: [Value; 17] = [
     (Object::UnitRedRevert, 1, 255),
     (Object::PhaseDynamicMaxStep, 16, 255),
     (Object::OverlapType, 4, 1),
-    (Object::CoordForceMode, 1, 1),
+    (Object::CoordForceMode, 1, 2),
+    (Object::CoordMaximumMode, 1, 2),
+    (Object::PatternPermissiveTime, 16, 255),
+    (Object::PatternLeadLag, 16, 1),
 ];
 
 /// Whether the object has so many indices and this greatest value, said in both ways.

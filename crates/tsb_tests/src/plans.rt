@@ -163,8 +163,7 @@ fn tells_of_overlaps(plan: &Plan) -> bool {
 /// Whether the plan tells of patterns.
 fn tells_of_patterns(plan: &Plan) -> bool {
     let (pattern, unused) = (Pattern::of(2), Pattern::of(3));
-    plan.forces_late()
-        && plan.cycle(pattern) == 800
+    plan.cycle(pattern) == 800
         && plan.offset(pattern) == 790
         && plan.is_used(pattern)
         && !plan.is_used(unused)
@@ -172,6 +171,78 @@ fn tells_of_patterns(plan: &Plan) -> bool {
         && plan.split_of(unused) == None
         && plan.sequence_of(pattern) == Some(Sequence::of(1))
         && plan.sequence_of(unused) == None
+}
+
+/// The built-in plan of eight phases with these force and maximum modes and a few other values.
+fn quad_in_modes(force: u32, maximum: u32) -> Option<Plan> {
+    changed_quad(&[
+        (Object::CoordForceMode, 1, force),
+        (Object::CoordMaximumMode, 1, maximum),
+        (Object::PhaseMaximum2, 3, 30),
+        (Object::SplitTime, 4, 3),
+        (Object::PatternPermissiveTime, 2, 15),
+        (Object::PatternLeadLag, 2, 1),
+    ])
+}
+
+/// Whether the plan of these modes tells which force mode it has: late, and floating.
+fn tells_force_mode(force: u32, late: bool, floats: bool) -> bool {
+    match quad_in_modes(force, 0) {
+        Some(plan) => {
+            plan.forces_late() == late
+                && plan.floats() == floats
+                && plan
+                    .floating_time(Some(Pattern::of(2)), Phase::of(3))
+                    .is_some()
+                    == floats
+        }
+        None => false,
+    }
+}
+
+/// Whether the plan with floating force-off tells after what green phases are forced off: coordinated phases never, a
+/// phase whose split is too short for its clearance at once, and in free operation none.
+fn tells_of_floating(plan: &Plan) -> bool {
+    let runs = Some(Pattern::of(2));
+    plan.floating_time(runs, Phase::of(3)) == Some(110)
+        && plan.floating_time(runs, Phase::of(4)) == Some(0)
+        && plan.floating_time(runs, Phase::of(2)) == None
+        && plan.floating_time(None, Phase::of(3)) == None
+}
+
+/// Whether this is the maximum of phase 3 by this maximum mode; a coordinated phase has none.
+fn tells_maximum(mode: u32, maximum: Option<u32>) -> bool {
+    match quad_in_modes(0, mode) {
+        Some(plan) => {
+            let runs = Some(Pattern::of(2));
+            plan.pattern_maximum(runs, Phase::of(3)) == maximum
+                && plan.pattern_maximum(runs, Phase::of(2)) == None
+        }
+        None => false,
+    }
+}
+
+/// Whether the plan tells of permissive times and of lead and lag, pattern by pattern.
+fn tells_patterns_apart(plan: &Plan) -> bool {
+    let (first, second) = (Pattern::of(1), Pattern::of(2));
+    plan.permissive_time(first) == 0
+        && plan.permissive_time(second) == 150
+        && !plan.leads_and_lags(first)
+        && plan.leads_and_lags(second)
+}
+
+#[test]
+fn plans_tell_how_greens_of_patterns_end(rt: HostRuntime) {
+    let Some(plan) = quad_in_modes(2, 0) else {
+        panic!(rt; "a value was refused");
+    };
+    assert!(rt; tells_of_floating(&plan) && tells_patterns_apart(&plan));
+    assert!(rt; tells_force_mode(0, false, false));
+    assert!(rt; tells_force_mode(1, true, false));
+    assert!(rt; tells_force_mode(2, true, true));
+    assert!(rt;
+        tells_maximum(0, None) && tells_maximum(1, Some(200)) && tells_maximum(2, Some(300))
+    );
 }
 
 /// Whether the plan tells of splits.
@@ -206,7 +277,6 @@ fn plans_tell_of_overlaps_patterns_and_preempts(rt: HostRuntime) {
     let values = [
         (Object::OverlapType, 1, 1),
         (Object::OverlapModifierPhases, 1, 32),
-        (Object::CoordForceMode, 1, 1),
         (Object::SplitMode, 3, 5),
         (Object::SplitMode, 4, 4),
         (Object::SplitMode, 128, 2),
@@ -220,6 +290,5 @@ fn plans_tell_of_overlaps_patterns_and_preempts(rt: HostRuntime) {
         panic!(rt; "a value was refused");
     };
     assert!(rt; tells_of_overlaps(&plan) && tells_of_patterns(&plan));
-    assert!(rt; !Plan::quad().forces_late());
     assert!(rt; tells_of_splits(&plan) && tells_of_preempts(&plan));
 }

@@ -244,6 +244,61 @@ fn worked_plans_break_their_rules(rt: HostRuntime) {
     consistent::coordinated_phases_agree();
 }
 
+/// Ring 2 has its coordinated phase before the other one of the side, and so does its sequence.
+const LED: [Value; 2] = [(Object::SequenceData, 17, 6), (Object::SequenceData, 18, 5)];
+
+/// Whether the built-in plan of eight phases is judged so with `LED` and these values put into it.
+fn led_is_judged(values: &[Value], wanted: Result<(), Rule>) -> bool {
+    match changed(Plan::quad(), &LED) {
+        Some(plan) => is_judged(plan, values, wanted),
+        None => false,
+    }
+}
+
+#[test]
+fn coordinated_splits_end_together_or_lead_and_lag(rt: HostRuntime) {
+    let both = [
+        (Object::PatternLeadLag, 1, 1),
+        (Object::PatternLeadLag, 2, 1),
+    ];
+    assert!(rt; led_is_judged(&[], Err(Rule::K20)));
+    // Both patterns are used, and each has to say so.
+    assert!(rt; led_is_judged(&both[..1], Err(Rule::K20)));
+    assert!(rt; led_is_judged(&both[1..], Err(Rule::K20)));
+    assert!(rt; led_is_judged(&both, Ok(())) && quad_is_judged(&both, Ok(())));
+    // One coordinated phase in each ring is asked for even so.
+    let alone = [both[0], both[1], (Object::SplitCoordPhase, 6, 0)];
+    assert!(rt; led_is_judged(&alone, Err(Rule::K20)));
+}
+
+#[test]
+fn permissive_times_end_within_the_cycle(rt: HostRuntime) {
+    let cases: [(Result<(), Rule>, &[Value]); 5] = [
+        (Err(Rule::K23), &[(Object::PatternPermissiveTime, 2, 80)]),
+        (Ok(()), &[(Object::PatternPermissiveTime, 2, 79)]),
+        (
+            Err(Rule::K23),
+            &[
+                (Object::PatternPermissiveTime, 1, 255),
+                (Object::PatternPermissiveTime, 2, 79),
+            ],
+        ),
+        // A pattern that is not used may have any.
+        (Ok(()), &[(Object::PatternPermissiveTime, 3, 255)]),
+        (
+            Err(Rule::K22),
+            &[
+                (Object::PatternPermissiveTime, 2, 80),
+                (Object::PhaseDynamicMaxLimit, 1, 4),
+            ],
+        ),
+    ];
+    for (rule, changes) in cases {
+        assert!(rt; quad_is_judged(changes, rule));
+    }
+    consistent::permissive_times_end();
+}
+
 #[test]
 fn quad_meets_the_rules(rt: HostRuntime) {
     assert!(rt; quad_is_judged(&[], Ok(())));
@@ -297,6 +352,30 @@ fn has_forces_of_quad(quad: &Checked, n: Pattern) -> bool {
         && quad.force_off(n, Phase::of(9)) == None
         && quad.forced_at(n, 760).list() == 0x0022
         && quad.forced_at(n, 759).list() == 0
+}
+
+/// Whether its two coordinated phases have instants of their own, both counted from the end of ring 1's split.
+fn leads_in_ring_2(plan: &Checked, n: Pattern) -> bool {
+    plan.force_off(n, Phase::of(2)) == Some(760)
+        && plan.force_off(n, Phase::of(6)) == Some(610)
+        && plan.force_off(n, Phase::of(5)) == Some(760)
+        && plan.forced_at(n, 760).list() == 0x0012
+        && plan.forced_at(n, 610).list() == 0x0020
+}
+
+#[test]
+fn instants_are_counted_from_ring_1(rt: HostRuntime) {
+    let values = [
+        LED[0],
+        LED[1],
+        (Object::PatternLeadLag, 1, 1),
+        (Object::PatternLeadLag, 2, 1),
+    ];
+    let led = changed(Plan::quad(), &values).map(Checked::new);
+    let Some(Ok(plan)) = led else {
+        panic!(rt; "the plan was refused");
+    };
+    assert!(rt; leads_in_ring_2(&plan, Pattern::of(2)));
 }
 
 #[test]

@@ -45,12 +45,15 @@ const SMALLER: [(Object, u32, u32); 19] = [
 ];
 
 /// What version 1 has none of.
-const NEW: [Object; 5] = [
+const NEW: [Object; 8] = [
     Object::PhaseDynamicMaxLimit,
     Object::PhaseDynamicMaxStep,
     Object::OverlapType,
     Object::OverlapModifierPhases,
     Object::CoordForceMode,
+    Object::CoordMaximumMode,
+    Object::PatternPermissiveTime,
+    Object::PatternLeadLag,
 ];
 
 /// Whether version 1 has the objects with these indices and greatest values.
@@ -124,12 +127,12 @@ fn finds(version: Version, name: &str, wanted: Option<Object>) -> bool {
 fn names_are() -> bool {
     is_named(Object::PhaseEnabled, "phaseEnabled")
         && is_named(Object::UnitMax2, "unitMax2")
-        && is_named(Object::CoordForceMode, "coordForceMode")
+        && is_named(Object::PatternLeadLag, "patternLeadLag")
 }
 
 /// Whether objects are found by their names, where the version has them.
 fn names_are_found() -> bool {
-    let (split, last) = (Object::SplitTime, Object::CoordForceMode);
+    let (split, last) = (Object::SplitTime, Object::PatternLeadLag);
     finds(Version::One, split.name(), Some(split))
         && finds(Version::Two, last.name(), Some(last))
         && finds(Version::One, "overlapType", None)
