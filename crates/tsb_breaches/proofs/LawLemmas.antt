@@ -5,7 +5,7 @@ use Rattle.tsb_plan.specs.declared.object.Object.{Object}
 use Rattle.tsb_plan.specs.Plan.{Plan}
 use Rattle.tsb_rules.specs.declared.rules.Rule.{Rule}
 use Rattle.tsb_rules.specs.declared.rules.Rule.TheVariants as rules
-use Rattle.tsb_rules.specs.PatternRules.{coordinated_phases_agree, patterns_are_whole, splits_fill_cycles, splits_hold_phases}
+use Rattle.tsb_rules.specs.PatternRules.{coordinated_phases_agree, patterns_are_whole, permissive_times_end, splits_fill_cycles, splits_hold_phases}
 use Rattle.tsb_rules.specs.Rules.{are_placed, broken_by_extensions, broken_by_parts, broken_by_phases, broken_by_rings, concurrency_is_symmetric, detectors_call_phases, first_broken, gaps_can_reduce, included_phases_are_enabled, limits_reach_minimums, lists_name_across_rings, maximums_reach_minimums, modifiers_are_right, or_rule, pedestrian_detectors_call_walks, preempts_are_concurrent, preempts_dwell, recalled_pedestrians_walk, some_enabled, unless, unused_lists_are_empty, yellows_are_long}
 use Rattle.tsb_rules.specs.SequenceRules.{first_sequence_is_ordered, other_sequences_are_ordered}
 use Rattle.tsb_breaches.specs.declared.breach.Breach.{Breach}
@@ -17,7 +17,7 @@ use Rattle.tsb_breaches.specs.Laws.{first_rule, of_values}
 use Rattle.tsb_breaches.specs.Places.{places}
 use Rattle.tsb_breaches.proofs.CoordinationLaws.{met-20}
 use Rattle.tsb_breaches.proofs.NoneLemmas.{none_at}
-use Rattle.tsb_breaches.proofs.PatternLaws.{met-17, met-18, met-19}
+use Rattle.tsb_breaches.proofs.PatternLaws.{met-17, met-18, met-19, met-23}
 use Rattle.tsb_breaches.proofs.PhaseLaws.{met-1, met-2, met-3, met-4, met-5, met-8, met-9, met-10, met-11, met-12, met-13, met-14, met-16, met-21, met-22}
 use Rattle.tsb_breaches.proofs.PreemptLaws.{met-15}
 use Rattle.tsb_breaches.proofs.SequenceLaws.{met-6, met-7}
@@ -65,8 +65,11 @@ or-unless true r next rest = refl
 or-unless false r next rest = refl
 
 -- the first rule that is broken, of those from a number on
+from_23 : Plan → Option Rule
+from_23 plan = unless (permissive_times_end plan) rules.K23 None
+
 from_22 : Plan → Option Rule
-from_22 plan = unless (limits_reach_minimums plan) rules.K22 None
+from_22 plan = unless (limits_reach_minimums plan) rules.K22 (from_23 plan)
 
 from_21 : Plan → Option Rule
 from_21 plan = unless (modifiers_are_right plan) rules.K21 (from_22 plan)
@@ -146,7 +149,7 @@ or-six a b c d e f k l m n o p rest =
     ∙ ap (unless d n) (or-unless e o _ rest ∙ ap (unless e o) (or-unless f p None rest)))))
 
 parts-in-order : (plan : Plan) → or_rule (broken_by_parts plan) (broken_by_extensions plan) ≡ from_14 plan
-unfolding broken_by_parts broken_by_extensions from_14 from_15 from_16 from_17 from_18 from_19 from_20 from_21 from_22
+unfolding broken_by_parts broken_by_extensions from_14 from_15 from_16 from_17 from_18 from_19 from_20 from_21 from_22 from_23
 parts-in-order plan =
     or-seven (included_phases_are_enabled plan) (preempts_are_concurrent plan) (preempts_dwell plan) (patterns_are_whole plan) (splits_hold_phases plan) (splits_fill_cycles plan) (coordinated_phases_agree plan)
     rules.K14 rules.K15 rules.K16 rules.K17 rules.K18 rules.K19 rules.K20 (broken_by_extensions plan)
@@ -167,8 +170,11 @@ in-order plan =
 
 -- ## Rules and the ways to break them, from the last on
 
+ways_23 : List Fault
+ways_23 = at.K23 ∷ []
+
 ways_22 : List Fault
-ways_22 = at.K22 ∷ []
+ways_22 = at.K22 ∷ ways_23
 
 ways_21 : List Fault
 ways_21 = at.K21Unused ∷ at.K21Type ∷ ways_22
@@ -233,10 +239,15 @@ ways_2 = at.K2Ring ∷ at.K2Side ∷ ways_3
 ways_1 : List Fault
 ways_1 = at.K1 ∷ ways_2
 
+met-from-23 : (v : Object → ℕ → ℕ) → chain (of_values v) ways_23 ≡ from_23 (of_values v)
+unfolding chain ways_23 from_23
+met-from-23 v =
+    step (none_at (of_values v) at.K23) (permissive_times_end (of_values v)) rules.K23 None None (met-23 v) (λ m. refl)
+
 met-from-22 : (v : Object → ℕ → ℕ) → chain (of_values v) ways_22 ≡ from_22 (of_values v)
 unfolding chain ways_22 from_22
 met-from-22 v =
-    step (none_at (of_values v) at.K22) (limits_reach_minimums (of_values v)) rules.K22 None None (met-22 v) (λ m. refl)
+    step (none_at (of_values v) at.K22) (limits_reach_minimums (of_values v)) rules.K22 (chain (of_values v) ways_23) (from_23 (of_values v)) (met-22 v) (λ m. met-from-23 v)
 
 met-from-21 : (v : Object → ℕ → ℕ) → chain (of_values v) ways_21 ≡ from_21 (of_values v)
 unfolding chain ways_21 from_21
@@ -376,7 +387,7 @@ met-from-1 v =
     step (none_at (of_values v) at.K1) (some_enabled (of_values v)) rules.K1 (chain (of_values v) ways_2) (from_2 (of_values v)) (met-1 (of_values v)) (λ m. met-from-2 v)
 
 all-ways : faults ≡ ways_1
-unfolding faults ways_1 ways_2 ways_3 ways_4 ways_5 ways_6 ways_7 ways_8 ways_9 ways_10 ways_11 ways_12 ways_13 ways_14 ways_15 ways_16 ways_17 ways_18 ways_19 ways_20 ways_21 ways_22
+unfolding faults ways_1 ways_2 ways_3 ways_4 ways_5 ways_6 ways_7 ways_8 ways_9 ways_10 ways_11 ways_12 ways_13 ways_14 ways_15 ways_16 ways_17 ways_18 ways_19 ways_20 ways_21 ways_22 ways_23
 all-ways = refl
 
 pub first-is : (v : Object → ℕ → ℕ) → first_rule (breaches (of_values v)) ≡ first_broken (of_values v)

@@ -1,18 +1,19 @@
--- Rules K17 to K20 are met exactly where none of the ways to break them is anywhere; the last three where K17 is met.
+-- Rules K17 to K19 and K23 are met exactly where none of the ways to break them is anywhere; K18 and K19 where K17 is
+-- met.
 use Rattle.std.proofs.Common.{◌≡◌, ◌∙◌, ℕ, ◌<◌, ◌≤◌, ◌==◌, nat_le, nat_lt, Bool, true, false, not, ◌&&◌, ◌||◌, if◌then◌else◌, Option, Some, None, refl, ap}
 use Rattle.std.specs.List.{list_all}
 use Rattle.std.proofs.lemmas.Bool.{and_parts}
 use Rattle.tsb_plan.specs.declared.object.Object.{Object}
-use Rattle.tsb_plan.specs.Parts.{is_used, cycle, offset, split_of, sequence_of, split_time, is_omitted}
+use Rattle.tsb_plan.specs.Parts.{is_used, cycle, offset, permissive_time, split_of, sequence_of, split_time, is_omitted}
 use Rattle.tsb_plan.specs.Plan.{Plan, is_enabled}
-use Rattle.tsb_rules.specs.PatternRules.{fills, holds_phase, holds_phases, is_whole, names_split, patterns_are_whole, rings_agree, some_and, splits_fill_cycles, splits_hold_phases}
+use Rattle.tsb_rules.specs.PatternRules.{fills, holds_phase, holds_phases, is_whole, names_split, patterns_are_whole, permissive_times_end, rings_agree, some_and, splits_fill_cycles, splits_hold_phases}
 use Rattle.tsb_rules.specs.SequenceRules.{is_blank}
 use Rattle.tsb_rules.proofs.RuleLemmas.{under}
 use Rattle.tsb_types.specs.Lists.{run_from}
-use Rattle.tsb_breaches.specs.declared.fault.Fault.TheVariants.{K17Offset, K17Split, K17Sequence, K17Blank, K18, K19Rings, K19Cycle}
+use Rattle.tsb_breaches.specs.declared.fault.Fault.TheVariants.{K17Offset, K17Split, K17Sequence, K17Blank, K18, K19Rings, K19Cycle, K23}
 use Rattle.tsb_breaches.specs.Breaches.{of_split, of_table}
 use Rattle.tsb_breaches.specs.Laws.{of_values}
-use Rattle.tsb_breaches.specs.Patterns.{has_blank_sequence, has_late_offset, has_no_sequence, has_no_split, has_two_sums, is_too_short, least_split, sides_time}
+use Rattle.tsb_breaches.specs.Patterns.{has_blank_sequence, has_late_offset, has_no_sequence, has_no_split, has_two_sums, is_too_short, least_split, permits_always, sides_time}
 use Rattle.tsb_breaches.proofs.AllLemmas.{all-same, and-both, both-are, not-at-most, not-below, not-not}
 use Rattle.tsb_breaches.proofs.NoneLemmas.{none_at, none_up_to, none-pattern, none-pattern_phase, none-pattern_side}
 use Rattle.tsb_breaches.proofs.PreemptLaws.{at-16}
@@ -133,3 +134,17 @@ met-19 v met =
     ∙ same-run (λ n. none_up_to 4 (λ d. some_and (λ t. has_two_sums plan t d) (if is_used plan n then split_of plan n else None)) && not (some_and (of_table plan K19Cycle n) (if is_used plan n then split_of plan n else None)))
     (λ n. not (is_used plan n) || some_and (fills plan n) (split_of plan n)) 1 16
     (λ n from to. fills-at v n (is_used plan n) (split_of plan n) (names-table plan met n from to))
+
+-- ## K23
+
+ends : (u l c : Bool) → not l ≡ c → not (u && l) ≡ (not u || c)
+ends false l c is = refl
+ends true l c is = is
+
+pub met-23 : (v : Object → ℕ → ℕ) → none_at (of_values v) K23 ≡ permissive_times_end (of_values v)
+met-23 v =
+    let plan : Plan = of_values v in
+    none-pattern plan K23
+    ∙ all-same (λ n. not (permits_always plan n)) (λ n. not (is_used plan n) || nat_lt (permissive_time plan n) (cycle plan n))
+    (λ n. ends (is_used plan n) (nat_le (cycle plan n) (permissive_time plan n)) (nat_lt (permissive_time plan n) (cycle plan n))
+    (not-at-most (permissive_time plan n) (cycle plan n))) (run_from 1 16)

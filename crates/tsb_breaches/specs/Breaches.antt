@@ -2,14 +2,14 @@
 -- plan has, in order.
 use Rattle.std.specs.Prelude.{ℕ, Bool, false, ◌&&◌, if◌then◌else◌, List, [], ◌∷◌, flat_map}
 use Rattle.tsb_plan.specs.declared.object.Object.TheVariants.{PhaseMaximum1, PhaseMaximum2, OverlapIncludedPhases, OverlapModifierPhases, PreemptTrackPhase, PreemptDwellPhase, PreemptExitPhase}
-use Rattle.tsb_plan.specs.Parts.{sequence_of}
+use Rattle.tsb_plan.specs.Parts.{leads_and_lags, sequence_of}
 use Rattle.tsb_plan.specs.Plan.{Plan}
 use Rattle.tsb_rules.specs.declared.rules.Rule.{Rule}
 use Rattle.tsb_rules.specs.declared.rules.Rule.TheVariants as rules
 use Rattle.tsb_rules.specs.PatternRules.{some_and}
 use Rattle.tsb_breaches.specs.declared.breach.Breach.{Breach}
 use Rattle.tsb_breaches.specs.declared.fault.Fault.{Fault}
-use Rattle.tsb_breaches.specs.declared.fault.Fault.TheVariants.{K1, K2Ring, K2Side, K3, K4Unused, K4Ring, K4Side, K5, K6Unused, K6Ring, K6Missing, K6Again, K6Side, K6Gap, K7Unused, K7Ring, K7Missing, K7Again, K7Side, K7Gap, K8, K9, K10Maximum1, K10Maximum2, K11, K12, K13Unused, K13Walk, K14, K15TrackUnused, K15DwellUnused, K15ExitUnused, K15Track, K15Dwell, K15Exit, K16Track, K16Exit, K17Offset, K17Split, K17Sequence, K17Blank, K18, K19Rings, K19Cycle, K20None, K20Unused, K20Omitted, K20Sides, K20Apart, K20Ends, K20Ring, K21Unused, K21Type, K22}
+use Rattle.tsb_breaches.specs.declared.fault.Fault.TheVariants.{K1, K2Ring, K2Side, K3, K4Unused, K4Ring, K4Side, K5, K6Unused, K6Ring, K6Missing, K6Again, K6Side, K6Gap, K7Unused, K7Ring, K7Missing, K7Again, K7Side, K7Gap, K8, K9, K10Maximum1, K10Maximum2, K11, K12, K13Unused, K13Walk, K14, K15TrackUnused, K15DwellUnused, K15ExitUnused, K15Track, K15Dwell, K15Exit, K16Track, K16Exit, K17Offset, K17Split, K17Sequence, K17Blank, K18, K19Rings, K19Cycle, K20None, K20Unused, K20Omitted, K20Sides, K20Apart, K20Ends, K20Ring, K21Unused, K21Type, K22, K23}
 use Rattle.tsb_breaches.specs.declared.fault.TheConstants.Fault.{ALL}
 use Rattle.tsb_breaches.specs.declared.place.Place.{Place}
 use Rattle.tsb_breaches.specs.declared.place.Place.TheVariants as at
@@ -18,7 +18,7 @@ use Rattle.tsb_breaches.specs.declared.place.Shape.TheVariants as shapes
 use Rattle.tsb_breaches.specs.Phases.{has_no_phase, has_no_ring, has_no_side, keeps_list, names_unused, names_same_ring, names_other_side, is_not_named_back, has_short_yellow, has_long_gap, is_under_minimum, recalls_no_walk, has_low_limit}
 use Rattle.tsb_breaches.specs.Sequences.{is_first, is_other, lists_unused as place_lists_unused, lists_other_ring, lists_again, falls, leaves_gap, is_missing}
 use Rattle.tsb_breaches.specs.Lists.{calls_unused, button_calls_unused, button_calls_no_walk, lists_unused, lists_apart, has_no_dwell, modifies_nothing}
-use Rattle.tsb_breaches.specs.Patterns.{has_late_offset, has_no_split, has_no_sequence, has_blank_sequence, table_of, is_too_short, has_two_sums, misses_cycle, coordinates_none, coordinates_unused, coordinates_omitted, are_across, are_apart, end_apart, has_wrong_count}
+use Rattle.tsb_breaches.specs.Patterns.{has_late_offset, has_no_split, has_no_sequence, has_blank_sequence, table_of, is_too_short, has_two_sums, misses_cycle, coordinates_none, coordinates_unused, coordinates_omitted, are_across, are_apart, end_apart, has_wrong_count, permits_always}
 use Rattle.tsb_breaches.specs.Places.{places}
 
 -- all of them, in order
@@ -81,6 +81,7 @@ rule_of K20Ring = rules.K20
 rule_of K21Unused = rules.K21
 rule_of K21Type = rules.K21
 rule_of K22 = rules.K22
+rule_of K23 = rules.K23
 
 -- the kind of the places at which it is
 abbrev pub shape : Fault → Shape
@@ -138,6 +139,7 @@ shape K20Ring = shapes.PatternRing
 shape K21Unused = shapes.OverlapPhase
 shape K21Type = shapes.Overlap
 shape K22 = shapes.Phase
+shape K23 = shapes.Pattern
 
 -- it is there at phase p
 abbrev pub of_phase : Plan → Fault → ℕ → Bool
@@ -242,6 +244,7 @@ of_pattern plan K17Offset n = has_late_offset plan n
 of_pattern plan K17Split n = has_no_split plan n
 of_pattern plan K17Sequence n = has_no_sequence plan n
 of_pattern plan K17Blank n = has_blank_sequence plan n
+of_pattern plan K23 n = permits_always plan n
 of_pattern plan f n = some_and (of_table plan f n) (table_of plan n)
 
 -- it is there at phase p of split table t
@@ -259,7 +262,7 @@ of_pattern_phase plan f n p = some_and (of_split plan f p) (table_of plan n)
 abbrev pub of_splits : Plan → Fault → ℕ → ℕ → ℕ → ℕ → Bool
 of_splits plan K20Sides n p q t = are_across plan t p q
 of_splits plan K20Apart n p q t = are_apart plan t p q
-of_splits plan K20Ends n p q t = some_and (end_apart plan t p q) (sequence_of plan n)
+of_splits plan K20Ends n p q t = some_and (end_apart plan (leads_and_lags plan n) t p q) (sequence_of plan n)
 of_splits plan f n p q t = false
 
 -- it is there at pattern n, for phases p and q

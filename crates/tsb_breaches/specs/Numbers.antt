@@ -3,13 +3,13 @@
 use Rattle.std.specs.Prelude.{ℕ, Option, Some, None}
 use Rattle.tsb_plan.specs.declared.object.Object.TheVariants.{PhaseConcurrency, PhaseMinimumGreen, PhaseMaximum1, PhaseMaximum2, PatternSplitNumber, PatternSequenceNumber, OverlapType}
 use Rattle.tsb_types.specs.Lists.{or_number}
-use Rattle.tsb_plan.specs.Parts.{call_phase, pedestrian_call_phase, cycle, offset, split_of, sequence_of, split_time}
+use Rattle.tsb_plan.specs.Parts.{call_phase, pedestrian_call_phase, cycle, offset, permissive_time, split_of, sequence_of, split_time}
 use Rattle.tsb_plan.specs.Plan.{Plan, ring_of, side_of, yellow_change, minimum_gap, passage, minimum_green, dynamic_maximum_limit}
 use Rattle.tsb_rules.specs.PatternRules.{split_sum, split_end, coordinated_count}
 use Rattle.tsb_review.specs.declared.numbers.Numbers.{Numbers}
 use Rattle.tsb_breaches.specs.declared.breach.Breach.{Breach}
 use Rattle.tsb_breaches.specs.declared.fault.Fault.{Fault}
-use Rattle.tsb_breaches.specs.declared.fault.Fault.TheVariants.{K2Ring, K2Side, K3, K4Ring, K4Side, K6Ring, K6Side, K6Gap, K7Ring, K7Side, K7Gap, K8, K9, K10Maximum1, K10Maximum2, K17Offset, K17Split, K17Sequence, K17Blank, K18, K19Cycle, K20Sides, K20Ends, K22}
+use Rattle.tsb_breaches.specs.declared.fault.Fault.TheVariants.{K2Ring, K2Side, K3, K4Ring, K4Side, K6Ring, K6Side, K6Gap, K7Ring, K7Side, K7Gap, K8, K9, K10Maximum1, K10Maximum2, K17Offset, K17Split, K17Sequence, K17Blank, K18, K19Cycle, K20Sides, K20Ends, K22, K23}
 use Rattle.tsb_breaches.specs.declared.place.Place.{Place}
 use Rattle.tsb_breaches.specs.declared.place.Place.TheVariants as at
 use Rattle.tsb_breaches.specs.Patterns.{least_split, sides_time}
@@ -67,6 +67,7 @@ of_pattern plan K17Split n = five n (plan.value PatternSplitNumber n) 0 0 0
 of_pattern plan K17Sequence n = five n (plan.value PatternSequenceNumber n) 0 0 0
 of_pattern plan K17Blank n = five n (plan.value PatternSequenceNumber n) 0 0 0
 of_pattern plan K19Cycle n = five n (in_table (split_of plan n) (sides_time plan)) (cycle plan n) 0 0
+of_pattern plan K23 n = five n (permissive_time plan n) (cycle plan n) 0 0
 of_pattern plan f n = five n 0 0 0 0
 
 -- of a phase in a pattern: both, and its split and what that has to hold

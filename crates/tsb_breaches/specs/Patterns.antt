@@ -1,9 +1,9 @@
--- What of a used pattern breaks a rule (profile): K17 to K20. A pattern without a split table breaks K17, and has no place
--- at which it could break K18, K19 or K20; without a sequence no splits end. Times are in tenths of a second.
+-- What of a used pattern breaks a rule (profile): K17 to K20 and K23. A pattern without a split table breaks K17, and has
+-- no place at which it could break K18, K19 or K20; without a sequence no splits end. Times are in tenths of a second.
 use Rattle.std.specs.Prelude.{ℕ, ◌+◌, ◌==◌, nat_le, nat_lt, Bool, not, ◌&&◌, Option, None, if◌then◌else◌, sum_by}
 use Rattle.std.specs.List.{list_any}
 use Rattle.tsb_types.specs.Lists.{run_from}
-use Rattle.tsb_plan.specs.Parts.{is_used, cycle, offset, split_of, sequence_of, split_time, is_omitted, is_coordinated}
+use Rattle.tsb_plan.specs.Parts.{is_used, cycle, offset, permissive_time, split_of, sequence_of, split_time, is_omitted, is_coordinated}
 use Rattle.tsb_plan.specs.Plan.{Plan, phases, is_enabled, side_of, minimum_green, yellow_change, red_clear}
 use Rattle.tsb_rules.specs.PatternRules.{some_and, names_split, rings_agree, side_sum, has_phases, split_end, coordinated_count, has_coordinated}
 use Rattle.tsb_rules.specs.SequenceRules.{is_blank}
@@ -89,9 +89,10 @@ are_apart plan t p q = are_coordinated plan t p q && (side_of plan p == side_of 
 abbrev pub are_together : Plan → ℕ → ℕ → ℕ → Bool
 are_together plan t p q = are_coordinated plan t p q && (side_of plan p == side_of plan q && go_together plan p q)
 
--- K20: two of these are, and by sequence s their splits end at two times
-abbrev pub end_apart : Plan → ℕ → ℕ → ℕ → ℕ → Bool
-end_apart plan t p q s = are_together plan t p q && not (split_end plan s t p == split_end plan s t q)
+-- K20: two of these are, and by sequence s their splits end at two times, where they may not end apart
+abbrev pub end_apart : Plan → Bool → ℕ → ℕ → ℕ → ℕ → Bool
+end_apart plan apart t p q s =
+    not apart && (are_together plan t p q && not (split_end plan s t p == split_end plan s t q))
 
 -- ring r has phases on the side of p, a coordinated phase of table t
 abbrev pub is_beside : Plan → ℕ → ℕ → ℕ → Bool
@@ -100,3 +101,7 @@ is_beside plan t r p = is_coordinated plan t p && has_phases plan r (side_of pla
 -- K20: it is beside one, and has no coordinated phase or several
 abbrev pub has_wrong_count : Plan → ℕ → ℕ → Bool
 has_wrong_count plan t r = list_any (is_beside plan t r) (phases plan) && not (coordinated_count plan t r == 1)
+
+-- K23: pattern n is used, and its permissive time is not below its cycle
+abbrev pub permits_always : Plan → ℕ → Bool
+permits_always plan n = is_used plan n && nat_le (cycle plan n) (permissive_time plan n)

@@ -276,6 +276,7 @@ fn of_pattern(plan: &Plan, fault: Fault, pattern: Pattern) -> bool
         Fault::K17Split => patterns::has_no_split(plan, pattern),
         Fault::K17Sequence => patterns::has_no_sequence(plan, pattern),
         Fault::K17Blank => patterns::has_blank_sequence(plan, pattern),
+        Fault::K23 => patterns::permits_always(plan, pattern),
         _ => of_pattern_table(plan, fault, pattern),
     }
 }

@@ -109,7 +109,8 @@ pub enum Fault {
     K20Sides,
     /// Two coordinated phases of one side are not concurrent.
     K20Apart,
-    /// The splits of two coordinated phases that are concurrent end at two times.
+    /// The splits of two coordinated phases that are concurrent end at two times, and the pattern does not lead and
+    /// lag.
     K20Ends,
     /// A ring with phases on the side of a coordinated one has none itself, or several.
     K20Ring,
@@ -119,11 +120,13 @@ pub enum Fault {
     K21Type,
     /// The dynamic maximum limit of a phase is not 0, and under its minimum green.
     K22,
+    /// The permissive time of a used pattern is not below its cycle.
+    K23,
 }
 
 impl Fault {
     /// All of them, in order.
-    pub const ALL: [Fault; 54] = [
+    pub const ALL: [Fault; 55] = [
         Fault::K1,
         Fault::K2Ring,
         Fault::K2Side,
@@ -178,6 +181,7 @@ impl Fault {
         Fault::K21Unused,
         Fault::K21Type,
         Fault::K22,
+        Fault::K23,
     ];
 
     /// The rule that is broken.
@@ -228,6 +232,7 @@ impl Fault {
             | Fault::K20Ring => Rule::K20,
             Fault::K21Unused | Fault::K21Type => Rule::K21,
             Fault::K22 => Rule::K22,
+            Fault::K23 => Rule::K23,
         }
     }
 
@@ -270,7 +275,8 @@ impl Fault {
             | Fault::K17Sequence
             | Fault::K17Blank
             | Fault::K19Cycle
-            | Fault::K20None => Shape::Pattern,
+            | Fault::K20None
+            | Fault::K23 => Shape::Pattern,
             Fault::K18 | Fault::K20Unused | Fault::K20Omitted => Shape::PatternPhase,
             Fault::K19Rings => Shape::PatternSide,
             Fault::K20Sides | Fault::K20Apart | Fault::K20Ends => Shape::PatternPhases,

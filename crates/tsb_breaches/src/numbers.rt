@@ -253,6 +253,7 @@ fn of_pattern(plan: &Plan, fault: Fault, pattern: Pattern) -> Numbers
         Fault::K17Sequence => five(n, plan.at(Object::PatternSequenceNumber, n), 0, 0, 0),
         Fault::K17Blank => five(n, plan.at(Object::PatternSequenceNumber, n), 0, 0, 0),
         Fault::K19Cycle => five(n, sides_in(plan, pattern), plan.cycle(pattern), 0, 0),
+        Fault::K23 => five(n, plan.permissive_time(pattern), plan.cycle(pattern), 0, 0),
         _ => five(n, 0, 0, 0, 0),
     }
 }

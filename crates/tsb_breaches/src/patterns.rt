@@ -1,13 +1,13 @@
-//! What of a used pattern breaks a rule: K17 to K20. Times are in tenths of a second.
+//! What of a used pattern breaks a rule: K17 to K20 and K23. Times are in tenths of a second.
 #![tactic(auto, unfolding(tsb_plan::specs::PlanOf::plan_of))]
 
 ghost use Rattle.std.specs.Prelude.{◌≡◌, ◌≤◌};
 ghost use Rattle.std.specs.List.{list_any};
-ghost use Rattle.tsb_plan.specs.Parts.{sequence_of};
+ghost use Rattle.tsb_plan.specs.Parts.{leads_and_lags, sequence_of};
 ghost use Rattle.tsb_plan.specs.Plan.{phases};
 ghost use Rattle.tsb_plan.specs.PlanOf.{plan_of};
 ghost use Rattle.tsb_rules.specs.PatternRules.{some_and};
-ghost use Rattle.tsb_breaches.specs.Patterns.{has_late_offset, has_no_split, has_no_sequence, names_blank, has_blank_sequence, table_of, least_split, is_too_short, sides_time, misses_cycle, coordinates_none, coordinates_unused, coordinates_omitted, coordinates_used, are_coordinated, are_across, are_apart, are_together, end_apart, is_beside, has_wrong_count};
+ghost use Rattle.tsb_breaches.specs.Patterns.{has_late_offset, has_no_split, has_no_sequence, names_blank, has_blank_sequence, table_of, least_split, is_too_short, sides_time, misses_cycle, coordinates_none, coordinates_unused, coordinates_omitted, coordinates_used, are_coordinated, are_across, are_apart, are_together, end_apart, is_beside, has_wrong_count, permits_always};
 
 use crate::lists::go_together;
 use crate::sequences::is_blank;
@@ -157,15 +157,23 @@ fn are_together(plan: &Plan, split: Split, phase: Phase, other: Phase) -> bool
         && go_together(plan, phase, other)
 }
 
-/// Whether the two are, and their splits end at two times by the sequence.
-fn end_apart(plan: &Plan, split: Split, phase: Phase, other: Phase, sequence: Sequence) -> bool
-    ensures { result ≡ end_apart (plan_of plan.now) split phase other sequence }
+/// Whether the two are, and their splits end at two times by the sequence, where they may not end apart.
+fn end_apart(
+    plan: &Plan,
+    apart: bool,
+    split: Split,
+    phase: Phase,
+    other: Phase,
+    sequence: Sequence,
+) -> bool
+    ensures { result ≡ end_apart (plan_of plan.now) apart split phase other sequence }
 {
-    are_together(plan, split, phase, other)
+    !apart
+        && are_together(plan, split, phase, other)
         && split_end(plan, sequence, split, phase) != split_end(plan, sequence, split, other)
 }
 
-/// Whether the two are, and their splits end at two times by the sequence of the pattern.
+/// Whether the two are, and their splits end at two times by the sequence of the pattern, which does not lead and lag.
 pub(crate) fn end_apart_in(
     plan: &Plan,
     pattern: Pattern,
@@ -173,10 +181,11 @@ pub(crate) fn end_apart_in(
     phase: Phase,
     other: Phase,
 ) -> bool
-    ensures { result ≡ some_and (end_apart (plan_of plan.now) split phase other) (sequence_of (plan_of plan.now) pattern) }
+    ensures { result ≡ some_and (end_apart (plan_of plan.now) (leads_and_lags (plan_of plan.now) pattern) split phase other) (sequence_of (plan_of plan.now) pattern) }
 {
+    let apart = plan.leads_and_lags(pattern);
     match plan.sequence_of(pattern) {
-        Some(sequence) => end_apart(plan, split, phase, other, sequence),
+        Some(sequence) => end_apart(plan, apart, split, phase, other, sequence),
         None => false,
     }
 }
@@ -202,4 +211,11 @@ pub(crate) fn has_wrong_count(plan: &Plan, split: Split, ring: Ring) -> bool
     ensures { result ≡ has_wrong_count (plan_of plan.now) split ring }
 {
     is_beside_some(plan, split, ring) && coordinated_count(plan, split, ring) != 1
+}
+
+/// Whether the pattern is used, and its permissive time is not below its cycle.
+pub(crate) fn permits_always(plan: &Plan, pattern: Pattern) -> bool
+    ensures { result ≡ permits_always (plan_of plan.now) pattern }
+{
+    plan.is_used(pattern) && plan.cycle(pattern) <= plan.permissive_time(pattern)
 }

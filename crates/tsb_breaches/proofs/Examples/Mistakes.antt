@@ -1,12 +1,17 @@
--- A mistake in a way to break a rule, with a plan that meets the rules and of which it would be told.
-use Rattle.std.specs.Prelude.{◌≡◌, ℕ, nat_le, Bool, true, ◌&&◌, Some, None, refl}
-use Rattle.tsb_plan.specs.declared.object.Object.TheVariants.{PhaseYellowChange}
+-- Mistakes in ways to break a rule, each with a plan that meets the rules and of which it would be told, or with one
+-- that breaks a rule and of which nothing would be told.
+use Rattle.std.specs.Prelude.{◌≡◌, ℕ, ◌==◌, nat_le, nat_lt, Bool, true, false, not, ◌&&◌, [], ◌∷◌, Some, None, refl}
+use Rattle.tsb_plan.specs.declared.object.Object.TheVariants.{PatternLeadLag, PatternPermissiveTime, PhaseYellowChange, SequenceData}
 use Rattle.tsb_types.specs.Lists.{run_from}
-use Rattle.tsb_plan.specs.Plan.{Plan, is_enabled, with_value, yellow_change}
+use Rattle.tsb_plan.specs.Parts.{cycle, is_used, permissive_time}
+use Rattle.tsb_plan.specs.Plan.{Plan, is_enabled, with_value, with_values, yellow_change}
 use Rattle.tsb_plan.specs.Quad.{quad}
-use Rattle.tsb_rules.specs.declared.rules.Rule.TheVariants.{K8}
+use Rattle.tsb_rules.specs.declared.rules.Rule.TheVariants.{K8, K20, K23}
 use Rattle.tsb_rules.specs.PatternRules.{coordinated_count, side_sum, split_end, split_sum}
 use Rattle.tsb_rules.specs.Rules.{broken_by_extensions, broken_by_parts, broken_by_phases, broken_by_rings, first_broken}
+use Rattle.tsb_breaches.specs.declared.fault.Fault.TheVariants.{K20Ends}
+use Rattle.tsb_breaches.specs.Breaches.{of_pattern_phases}
+use Rattle.tsb_breaches.specs.Patterns.{are_together, permits_always}
 use Rattle.tsb_breaches.specs.Phases.{has_short_yellow}
 
 -- what a computed line opens
@@ -42,3 +47,57 @@ breaks_8 = refl
 tells_4 : has_short_yellow short_yellow 4 ≡ true
 unfolding opened short_yellow
 tells_4 = refl
+
+-- ## K20 tells ends of a pattern that leads and lags too
+
+abbrev pub tells_all_ends : Plan → ℕ → ℕ → ℕ → ℕ → Bool
+tells_all_ends plan t p q s = are_together plan t p q && not (split_end plan s t p == split_end plan s t q)
+
+-- phase 5 is behind phase 6, and phase 1 before phase 2
+unfoldable pub lead_and_lag : Plan
+lead_and_lag =
+    with_values quad ((SequenceData, 17, 6) ∷ (SequenceData, 18, 5) ∷ (PatternLeadLag, 1, 1) ∷ (PatternLeadLag, 2, 1) ∷ [])
+
+may_end_apart : first_broken lead_and_lag ≡ None
+unfolding opened lead_and_lag
+may_end_apart = refl
+
+tells_no_ends : of_pattern_phases lead_and_lag K20Ends 1 2 6 ≡ false
+unfolding opened lead_and_lag
+tells_no_ends = refl
+
+would_tell_ends : tells_all_ends lead_and_lag 1 2 6 1 ≡ true
+unfolding opened lead_and_lag
+would_tell_ends = refl
+
+-- and pattern 1 does not lead and lag
+unfoldable pub lead_alone : Plan
+lead_alone = with_value lead_and_lag PatternLeadLag 1 0
+
+breaks_20 : first_broken lead_alone ≡ Some K20
+unfolding opened lead_and_lag lead_alone
+breaks_20 = refl
+
+tells_ends : of_pattern_phases lead_alone K20Ends 1 2 6 ≡ true
+unfolding opened lead_and_lag lead_alone
+tells_ends = refl
+
+-- ## K23 does not tell a permissive time of the whole cycle
+
+abbrev pub tells_over_cycle : Plan → ℕ → Bool
+tells_over_cycle plan n = is_used plan n && nat_lt (cycle plan n) (permissive_time plan n)
+
+unfoldable pub whole_cycle : Plan
+whole_cycle = with_value quad PatternPermissiveTime 1 80
+
+breaks_23 : first_broken whole_cycle ≡ Some K23
+unfolding opened whole_cycle
+breaks_23 = refl
+
+tells_1 : permits_always whole_cycle 1 ≡ true
+unfolding opened whole_cycle
+tells_1 = refl
+
+would_not_be_told : tells_over_cycle whole_cycle 1 ≡ false
+unfolding opened whole_cycle
+would_not_be_told = refl
