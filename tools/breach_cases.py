@@ -85,8 +85,13 @@ CASES = [
     Case(20, {"splitCoordPhase.6": 0}, ["pattern 1, ring 2: 0 of its phases are coordinated, not 1"], {"splitCoordPhase.6": 1}),
     Case(20, {"sequenceData.17": 6, "sequenceData.18": 5}, ["pattern 1: the coordinated phases 2 and 6 end at 45 s and 25 s"],
          {"sequenceData.1": 2, "sequenceData.2": 1}),
+    Case(20, {"sequenceData.1": 2, "sequenceData.2": 1, "patternLeadLag.2": 1}, ["pattern 1: the coordinated phases 2 and 6 end at 25 s and 45 s"],
+         {"patternLeadLag.1": 1}),
     Case(21, {"overlapType.1": 1, "overlapModifierPhases.1": 256}, ["overlap 1: its modifier phase 9 is not enabled"], {"overlapModifierPhases.1": 2}),
     Case(21, {"overlapModifierPhases.1": 2}, ["overlap 1: it has modifier phases, and its type is 0"], {"overlapType.1": 1}),
     Case(22, {"phaseDynamicMaxLimit.1": 4, "phaseDynamicMaxStep.1": 10}, ["phase 1: its dynamic maximum limit of 4 s is under its minimum green of 5 s"],
          {"phaseDynamicMaxLimit.1": 5}),
+    Case(23, {"patternPermissiveTime.1": 90, "patternPermissiveTime.2": 1}, ["pattern 1: its permissive time of 90 s is not below its cycle of 90 s"],
+         {"patternPermissiveTime.1": 89}),
+    Case(23, {"patternPermissiveTime.1": 255}, ["pattern 1: its permissive time of 255 s is not below its cycle of 90 s"], {"patternCycleTime.1": 0}),
 ]

@@ -10,7 +10,7 @@ import breach_rules
 import review_cases
 from review_cases import Table
 
-RULES = 22
+RULES = 23
 # What a plan has many of, with values that break rules. The number is that of the indices that are changed.
 LISTS = [0, 1, 2, 3, 8, 9, 17, 34, 42, 48, 72, 129, 136, 192, 256, 304, 65535]
 VALUES: dict[str, tuple[int, list[int]]] = {
@@ -24,6 +24,7 @@ VALUES: dict[str, tuple[int, list[int]]] = {
     "patternCycleTime": (3, [0, 1, 89, 90, 91]), "patternOffsetTime": (3, [0, 45, 89, 90, 254]), "patternSplitNumber": (3, [0, 1, 2, 8]),
     "patternSequenceNumber": (3, [0, 1, 2, 4]), "splitTime": (32, [0, 9, 10, 19, 20, 25, 255]), "splitMode": (32, [0, 1, 5]),
     "splitCoordPhase": (32, [0, 1]), "phaseDynamicMaxLimit": (9, [0, 4, 5]),
+    "patternPermissiveTime": (3, [0, 1, 89, 90, 91, 255]), "patternLeadLag": (3, [0, 1]),
 }
 
 # The lines that a review says of each of some plans.

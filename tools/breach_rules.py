@@ -173,6 +173,14 @@ def numbers(plan: Plan) -> Iterator[Told]:
             yield 17, 3, f"pattern {n}: its sequence {sequence} is all zeros"
 
 
+def permissive(plan: Plan) -> Iterator[Told]:
+    """Rule K23."""
+    for n in plan.patterns:
+        cycle, time = plan.value("patternCycleTime", n), plan.value("patternPermissiveTime", n)
+        if time >= cycle:
+            yield 23, 0, f"pattern {n}: its permissive time of {time} s is not below its cycle of {cycle} s"
+
+
 def here(plan: Plan, ring: int, side: int) -> list[int]:
     """The phases of a ring on a side."""
     return [p for p in plan.enabled if plan.phase("Ring", p) == ring and plan.phase("Side", p) == side]
@@ -214,7 +222,7 @@ def coordination(plan: Plan, n: int) -> Iterator[Told]:
             yield 20, 3, f"{two} are on sides {sides[0]} and {sides[1]}"
         elif not both_ways(plan, p, q):
             yield 20, 4, f"{two} are not concurrent"
-        elif plan.value("patternSequenceNumber", n):
+        elif plan.value("patternSequenceNumber", n) and not plan.value("patternLeadLag", n):
             ends = plan.split_end(n, p), plan.split_end(n, q)
             if ends[0] != ends[1]:
                 yield 20, 5, f"{two} end at {seconds(ends[0])} s and {seconds(ends[1])} s"
@@ -235,6 +243,6 @@ def patterns(plan: Plan) -> Iterator[Told]:
 def breaches(text: Table) -> list[str]:
     """The lines of all places at which a plan breaks a rule, in order."""
     plan = Plan(text)
-    parts = (rings_and_sides, concurrency, sequences, times, calls, overlaps, preempts, numbers, patterns)
+    parts = (rings_and_sides, concurrency, sequences, times, calls, overlaps, preempts, numbers, patterns, permissive)
     told = [it for part in parts for it in part(plan)]
     return [f"K{rule} {line}" for rule, _way, line in sorted(told, key=lambda it: it[:2])]
