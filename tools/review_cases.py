@@ -81,6 +81,17 @@ CASES = [
     Case(14, {"phaseRestInWalk.6": 1, "phasePedestrianClear.6": 15},
          ["phase 6: it rests in walk, and its clearance of 15 s can end after the force-off of phase 3 in pattern 1"],
          {"coordForceMode.1": 1}),
+    # With floating force-off too; and where a maximum acts, demand does not hold it to the next cycle.
+    Case(14, {"phaseRestInWalk.6": 1, "phasePedestrianClear.6": 15},
+         ["phase 6: it rests in walk, and its clearance of 15 s can end after the force-off of phase 3 in pattern 1"],
+         {"coordForceMode.1": 2}),
+    Case(14, {"phaseRestInWalk.6": 1, "phasePedestrianClear.6": 15},
+         ["phase 6: it rests in walk, and its clearance of 15 s can end after the force-off of phase 3 in pattern 1"],
+         {"coordMaximumMode.1": 2}),
+    # A conflict that begins at the end of the permissive time ends the walk so much later.
+    Case(14, {"phaseRestInWalk.2": 1, "phasePedestrianClear.2": 12, "patternPermissiveTime.1": 3},
+         ["phase 2: it rests in walk, and its clearance of 12 s can end after the force-off of phase 3 in pattern 1"],
+         {"patternPermissiveTime.1": 2}),
     Case(14, {"phaseRestInWalk.2": 1, "phasePedestrianClear.2": 15, "splitMode.3": 5},
          ["phase 2: it rests in walk, and its clearance of 15 s can end after the force-off of phase 7 in pattern 1"],
          {"splitMode.7": 5}),
@@ -128,10 +139,18 @@ CASES = [
     Case(28, {"phasePedestrianClear.8": 38},
          ["phase 8: its walk and clearance can end after the force-off of phase 1 in pattern 1, which then lasts up to a cycle"],
          {"coordForceMode.1": 1}),
+    Case(28, {"phasePedestrianClear.8": 38},
+         ["phase 8: its walk and clearance can end after the force-off of phase 1 in pattern 1, which then lasts up to a cycle"],
+         {"coordMaximumMode.1": 1}),
     Case(29, {"splitMode.3": 5, "phaseMinRecall.3": 1}, ["phase 3: its recall has no effect in pattern 1, which omits it"],
          {"phaseMinRecall.3": 0}),
     Case(30, {"patternCycleTime.4": 90, "patternOffsetTime.4": 45, "patternSplitNumber.4": 1, "patternSequenceNumber.4": 1},
          ["pattern 4: it is the same as pattern 1"], {"patternOffsetTime.4": 44}),
+    Case(30, {"patternCycleTime.4": 90, "patternOffsetTime.4": 45, "patternSplitNumber.4": 1, "patternSequenceNumber.4": 1,
+              "patternPermissiveTime.4": 5, "patternPermissiveTime.1": 5},
+         ["pattern 4: it is the same as pattern 1"], {"patternPermissiveTime.4": 6}),
+    Case(30, {"patternCycleTime.4": 90, "patternOffsetTime.4": 45, "patternSplitNumber.4": 1, "patternSequenceNumber.4": 1},
+         ["pattern 4: it is the same as pattern 1"], {"patternLeadLag.4": 1}),
     Case(31, {"patternOffsetTime.1": 46}, ["pattern 1: its offset of 46 s is beyond half of its cycle of 90 s"],
          {"patternOffsetTime.1": 45}),
     Case(32, {"splitMode.7": 0},
@@ -141,6 +160,9 @@ CASES = [
     Case(32, {"splitMode.3": 0, "coordForceMode.1": 1},
          ["pattern 1: its coordinated phases yield in one tick of each cycle of 90 s, so a later call waits for the next one"],
          {"splitMode.3": 1}),
+    Case(32, {"splitMode.3": 0},
+         ["pattern 1: its coordinated phases yield in one tick of each cycle of 90 s, so a later call waits for the next one"],
+         {"patternPermissiveTime.1": 1}),
     Case(33, {"preemptTrackPhase.1": 34}, [f"preempt 1: phase {p} is a track phase and a dwell phase, so cars go on to come over the track"
                                            for p in (2, 6)], {"preemptDwellPhase.1": 17}),
     Case(34, {"preemptTrackPhase.1": 0}, ["preempt 1: it has no delay and no track phases, so it clears no track"], {"preemptDelay.1": 1}),
@@ -161,6 +183,22 @@ CASES = [
          {"overlapIncludedPhases.1": 41}),
     Case(41, {"overlapIncludedPhases.2": 1}, ["overlap 2: no phase of it follows another in a ring, so it shows what its phases show"],
          {"overlapType.2": 1, "overlapModifierPhases.2": 2}),
+    # Phases 3 and 7 have 15 s of green in splits of 20 s, and 4 and 8 have 20 s.
+    Case(42, {"coordMaximumMode.1": 1, "phaseMaximum1.4": 19},
+         ["phase 4: its maximum of 19 s is under the 20 s of green that its split leaves in pattern 1"], {"phaseMaximum1.4": 20}),
+    Case(42, {"coordMaximumMode.1": 2, "phaseMaximum2.7": 14},
+         ["phase 7: its maximum of 14 s is under the 15 s of green that its split leaves in pattern 1"], {"coordMaximumMode.1": 1}),
+    # The instant of phases 3 and 7 is 15 s after the end of the coordinated splits, and their minimum green 5 s.
+    Case(43, {"patternPermissiveTime.1": 11},
+         [f"phase {p}: its permissive time of 11 s can leave less than the minimum green of phase 3 before its force-off in pattern 1"
+          for p in (2, 6)], {"patternPermissiveTime.1": 10}),
+    Case(43, {"patternPermissiveTime.1": 10, "phaseMinimumGreen.7": 6, "coordForceMode.1": 2},
+         [f"phase {p}: its permissive time of 10 s can leave less than the minimum green of phase 7 before its force-off in pattern 1"
+          for p in (2, 6)], {"splitMode.7": 5}),
+    # Phase 5 behind phase 6 takes the end of its split to another time than that of phase 2.
+    Case(44, {"patternLeadLag.1": 1},
+         ["pattern 1: patternLeadLag has no effect, since the splits of its coordinated phases end at one time"],
+         {"sequenceData.17": 6, "sequenceData.18": 5}),
 ]
 
 

@@ -13,8 +13,6 @@ PREEMPTS = range(1, 5)
 OVERLAPS = range(1, 5)
 # What the modes of a split ask for.
 MINIMUM, MAXIMUM, WALK, BOTH, OMITTED = 1, 2, 3, 4, 5
-# The force mode in which a green that begins behind its force-off instant is forced off.
-LATE = 1
 SETTINGS = ["Delay", "Extend", "NoActivity", "MaxPresence", "ErraticCounts", "FailTime"]
 TIMES = ["Delay", "MinimumDuration", "MaximumPresence", "MinimumGreen", "MinimumWalk", "EnterPedClear", "TrackGreen"]
 
@@ -122,19 +120,33 @@ class Plan:
                 break
         return end
 
-    def passed(self, pattern: int, phase: int, late: int) -> int | None:
-        """The first phase that a phase which ends so late makes begin at its force-off instant or after it, and that is
-        not forced off there: with late force-off there is none."""
-        if self.value("coordForceMode", 1) == LATE:
-            return None
+    def permissive(self, pattern: int) -> int:
+        """The permissive time."""
+        return 10 * self.value("patternPermissiveTime", pattern)
+
+    def acting_maximum(self, phase: int) -> int | None:
+        """The maximum that acts in patterns on a phase that is not coordinated."""
+        mode = self.value("coordMaximumMode", 1)
+        return 10 * self.phase(f"Maximum{mode}", phase) if mode else None
+
+    def waiting(self, pattern: int, phase: int) -> list[tuple[int, int]]:
+        """The phases that wait for a phase, each with its force-off instant from the end of the split of that phase."""
         cycle = 10 * self.value("patternCycleTime", pattern)
-        for other in self.rivals(phase):
-            if self.coordinated(pattern, other) or self.mode(pattern, other) == OMITTED:
-                continue
-            instant = self.split_end(pattern, other) - self.leaving(other)
-            if (instant - self.split_end(pattern, phase)) % cycle <= late:
-                return other
-        return None
+        return [(q, (self.split_end(pattern, q) - self.leaving(q) - self.split_end(pattern, phase)) % cycle)
+                for q in self.rivals(phase) if not self.coordinated(pattern, q) and self.mode(pattern, q) != OMITTED]
+
+    def passed(self, pattern: int, phase: int, late: int) -> int | None:
+        """The first phase that a phase which ends so late makes begin at its force-off instant or after it, and that
+        then lasts as long as its demand: with a force mode or a maximum mode there is none."""
+        if self.value("coordForceMode", 1) or self.value("coordMaximumMode", 1):
+            return None
+        return next((q for q, instant in self.waiting(pattern, phase) if instant <= late), None)
+
+    def short(self, pattern: int, phase: int) -> int | None:
+        """The first phase that begins with less than its minimum green left, where a phase yields at the end of its
+        permissive time."""
+        time = self.permissive(pattern)
+        return next((q for q, instant in self.waiting(pattern, phase) if instant - time < 10 * self.phase("MinimumGreen", q)), None)
 
     # Of a preempt and an overlap
 
@@ -209,7 +221,7 @@ def pedestrians(plan: Plan) -> Iterator[tuple[int, str]]:
                 yield 12, (f"phase {p}: its walk and clearance of {seconds(plan.crossing(p))} s are longer than the "
                            f"{seconds(plan.green(n, p))} s of green that its split leaves in pattern {n}")
             clear = plan.phase("PedestrianClear", p)
-            passed = plan.passed(n, p, 10 * clear)
+            passed = plan.passed(n, p, 10 * clear + plan.permissive(n))
             if plan.phase("RestInWalk", p) and plan.coordinated(n, p) and passed:
                 yield 14, (f"phase {p}: it rests in walk, and its clearance of {clear} s can end after "
                            f"the force-off of phase {passed} in pattern {n}")
@@ -273,7 +285,7 @@ def actuation(plan: Plan) -> Iterator[tuple[int, str]]:
 
 
 def coordination(plan: Plan) -> Iterator[tuple[int, str]]:
-    """Advices A27 to A32."""
+    """Advices A27 to A32, and A42 to A44."""
     for n in plan.patterns:
         for p in plan.enabled:
             omitted = plan.mode(n, p) == OMITTED
@@ -287,7 +299,15 @@ def coordination(plan: Plan) -> Iterator[tuple[int, str]]:
                            "which then lasts up to a cycle")
             if omitted and (plan.own_recall(p) or plan.phase("SoftRecall", p)):
                 yield 29, f"phase {p}: its recall has no effect in pattern {n}, which omits it"
-    kinds = ["CycleTime", "OffsetTime", "SplitNumber", "SequenceNumber"]
+            most = plan.acting_maximum(p)
+            if not omitted and not plan.coordinated(n, p) and most is not None and most < plan.green(n, p):
+                yield 42, (f"phase {p}: its maximum of {seconds(most)} s is under the {seconds(plan.green(n, p))} s of green "
+                           f"that its split leaves in pattern {n}")
+            short = plan.short(n, p) if plan.coordinated(n, p) and plan.permissive(n) else None
+            if short:
+                yield 43, (f"phase {p}: its permissive time of {seconds(plan.permissive(n))} s can leave less than the minimum green "
+                           f"of phase {short} before its force-off in pattern {n}")
+    kinds = ["CycleTime", "OffsetTime", "SplitNumber", "SequenceNumber", "PermissiveTime", "LeadLag"]
     for n in plan.patterns:
         cycle, offset = plan.value("patternCycleTime", n), plan.value("patternOffsetTime", n)
         same = [m for m in plan.patterns if m < n and all(plan.value(f"pattern{it}", m) == plan.value(f"pattern{it}", n)
@@ -296,9 +316,12 @@ def coordination(plan: Plan) -> Iterator[tuple[int, str]]:
             yield 30, f"pattern {n}: it is the same as pattern {same[0]}"
         if 2 * offset > cycle:
             yield 31, f"pattern {n}: its offset of {offset} s is beyond half of its cycle of {cycle} s"
-        if any(plan.mode(n, p) != OMITTED and not plan.recall(n, p) for p in plan.enabled):
+        if not plan.permissive(n) and any(plan.mode(n, p) != OMITTED and not plan.recall(n, p) for p in plan.enabled):
             yield 32, (f"pattern {n}: its coordinated phases yield in one tick of each cycle of {cycle} s, "
                        "so a later call waits for the next one")
+        ends = {plan.split_end(n, p) for p in plan.enabled if plan.coordinated(n, p)}
+        if plan.value("patternLeadLag", n) and len(ends) == 1:
+            yield 44, f"pattern {n}: patternLeadLag has no effect, since the splits of its coordinated phases end at one time"
 
 
 def preempts(plan: Plan) -> Iterator[tuple[int, str]]:

@@ -42,7 +42,7 @@ KINDS = ["it stands twice", "is no whole number: seconds", "is no whole number: 
 REVIEWED, REFUSED = 0, 1
 # What `tsb check` says of a plan that breaks a rule begins so.
 RULE = "plan: rule "
-ADVICES = 41
+ADVICES = 44
 # Display lines have so many characters.
 DISPLAY = 53
 # Objects of phases, detectors and so on, with the number of their indices and values that bring advices about.
@@ -58,7 +58,8 @@ VALUES = {
     "phaseCarsBeforeReduction": (8, [0, 1, 5]), "phasePassage": (8, [0, 10, 20, 25, 30]), "phaseMinimumGap": (8, [0, 10, 20, 25]),
     "phaseYellowChange": (8, [30, 35, 40]), "phaseRedClear": (8, [0, 1, 10, 15, 20, 55]), "phaseRedRevert": (8, [0, 10, 20]),
     "phaseDynamicMaxLimit": (8, [0, 30]), "phaseDynamicMaxStep": (8, [0, 50]), "unitRedRevert": (1, [0, 19, 20]), "unitMax2": (1, [0, 1]),
-    "coordForceMode": (1, [0, 1]),
+    "coordForceMode": (1, [0, 0, 1, 2]), "coordMaximumMode": (1, [0, 0, 1, 2]), "patternPermissiveTime": (2, [0, 1, 5, 9, 10, 11, 15, 25]),
+    "patternLeadLag": (2, [0, 1]),
     "vehicleDetectorCallPhase": (16, list(range(9))), "vehicleDetectorDelay": (16, [0, 5, 150, 200, 250, 251, 400]),
     "vehicleDetectorExtend": (16, [0, 5]), "vehicleDetectorMaxPresence": (16, [0, 5]), "pedestrianDetectorCallPhase": (8, list(range(9))),
     "patternOffsetTime": (2, [0, 10, 40, 45, 46, 79]), "splitMode": (8, [0, 1, 2, 3, 4, 5]),
@@ -69,7 +70,8 @@ VALUES = {
     "overlapIncludedPhases": (4, LIST), "overlapType": (4, [0, 1]), "overlapModifierPhases": (4, LIST),
 }
 # A pattern, given as a whole, with what it may have of each.
-PATTERN = {"patternCycleTime": [80, 90], "patternOffsetTime": [0, 40, 45, 50], "patternSplitNumber": [1], "patternSequenceNumber": [1]}
+PATTERN = {"patternCycleTime": [80, 90], "patternOffsetTime": [0, 40, 45, 50], "patternSplitNumber": [1], "patternSequenceNumber": [1],
+           "patternPermissiveTime": [0, 0, 0, 10], "patternLeadLag": [0, 0, 0, 1]}
 
 
 def examples() -> list[Table]:
@@ -98,6 +100,9 @@ def at_random(source: random.Random, bases: list[Table]) -> Table:
     if source.random() < 0.2:
         pattern = source.randint(1, 16)
         change |= {f"{name}.{pattern}": source.choice(values) for name, values in PATTERN.items()}
+    if source.random() < 0.1:
+        # (ring 2 serves its left turn of side 1 last, and may end its coordinated split before ring 1)
+        change |= {"sequenceData.17": 6, "sequenceData.18": 5, "patternLeadLag.1": 1}
     if source.random() < 0.3:
         # (two splits of one ring and side, whose sum stays)
         one, other = source.choice([(1, 2), (3, 4), (5, 6), (7, 8)])

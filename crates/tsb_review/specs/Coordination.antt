@@ -1,14 +1,15 @@
--- Advices on coordination: A27 to A32. Times are in tenths of a second.
-use Rattle.std.specs.Prelude.{ℕ, ◌+◌, ◌-◌, ◌*◌, ◌==◌, nat_lt, Bool, not, ◌&&◌, ◌||◌, Option, Some, None, is_some}
+-- Advices on coordination: A27 to A32, and A42 to A44. Times are in tenths of a second.
+use Rattle.std.specs.Prelude.{ℕ, ◌+◌, ◌-◌, ◌*◌, ◌==◌, nat_lt, Bool, false, not, ◌&&◌, ◌||◌, Option, Some, None, is_some}
 use Rattle.std.specs.List.{list_any}
 use Rattle.tsb_types.specs.Lists.{first, run_from}
-use Rattle.tsb_plan.specs.declared.object.Object.TheVariants.{PatternCycleTime, PatternOffsetTime, PatternSplitNumber, PatternSequenceNumber}
-use Rattle.tsb_plan.specs.Parts.{is_used, cycle, offset}
+use Rattle.tsb_plan.specs.declared.object.Object.TheVariants.{PatternCycleTime, PatternOffsetTime, PatternSplitNumber, PatternSequenceNumber, PatternPermissiveTime, PatternLeadLag}
+use Rattle.tsb_plan.specs.Parts.{is_used, cycle, offset, permissive_time, leads_and_lags}
 use Rattle.tsb_plan.specs.Plan.{Plan, phases, is_enabled, minimum_green, has_soft_recall}
-use Rattle.tsb_plan.specs.Running.{is_coordinated_now, is_omitted_now}
+use Rattle.tsb_plan.specs.Running.{is_coordinated_now, is_omitted_now, pattern_maximum}
+use Rattle.tsb_objects.specs.Instants.{end_of}
 use Rattle.tsb_review.specs.Calls.{is_recalled}
 use Rattle.tsb_review.specs.Pedestrians.{overruns_split, pedestrian_time}
-use Rattle.tsb_review.specs.Splits.{green_of_split, passed_by}
+use Rattle.tsb_review.specs.Splits.{green_of_split, passed_by, left_short}
 
 -- what the split of p in pattern n leaves over its minimum green, yellow change and red clearance
 abbrev pub spare_time : Plan → ℕ → ℕ → ℕ
@@ -23,8 +24,8 @@ has_tight_split plan n p =
 abbrev pub overrun : Plan → ℕ → ℕ → ℕ
 overrun plan n p = pedestrian_time plan p - green_of_split plan n p
 
--- A28: walk and clearance of p overrun its split in pattern n, and the phase that waits then begins at its force-off
--- instant or after it, and is not forced off late
+-- A28: walk and clearance of p overrun its split in pattern n, and a phase that waits then begins at its force-off
+-- instant or after it, and demand holds it until the next cycle
 abbrev pub makes_late : Plan → ℕ → ℕ → Bool
 makes_late plan n p = overruns_split plan n p && is_some (passed_by plan n p (overrun plan n p))
 
@@ -33,11 +34,18 @@ abbrev pub recalls_omitted : Plan → ℕ → ℕ → Bool
 recalls_omitted plan n p =
     is_used plan n && (is_enabled plan p && (is_omitted_now plan (Some n) p && (is_recalled plan None p || has_soft_recall plan p)))
 
--- pattern m comes before pattern n, and is used with the same cycle, offset, split table and sequence
+-- patterns m and n have the same permissive time, and lead and lag alike
+abbrev pub yields_alike : Plan → ℕ → ℕ → Bool
+yields_alike plan n m =
+    plan.value PatternPermissiveTime m == plan.value PatternPermissiveTime n && plan.value PatternLeadLag m == plan.value PatternLeadLag n
+
+-- pattern m comes before pattern n, and is used with the same cycle, offset, split table and sequence, with the same
+-- permissive time, and leading and lagging alike
 abbrev pub is_same_before : Plan → ℕ → ℕ → Bool
 is_same_before plan n m =
     nat_lt m n && (plan.value PatternCycleTime m == plan.value PatternCycleTime n && (plan.value PatternOffsetTime m == plan.value PatternOffsetTime n &&
-    (plan.value PatternSplitNumber m == plan.value PatternSplitNumber n && plan.value PatternSequenceNumber m == plan.value PatternSequenceNumber n)))
+    (plan.value PatternSplitNumber m == plan.value PatternSplitNumber n && (plan.value PatternSequenceNumber m == plan.value PatternSequenceNumber n &&
+    yields_alike plan n m))))
 
 -- the first such pattern
 abbrev pub first_same : Plan → ℕ → Option ℕ
@@ -56,7 +64,39 @@ abbrev pub is_actuated : Plan → ℕ → ℕ → Bool
 is_actuated plan n p =
     is_enabled plan p && (not (is_coordinated_now plan (Some n) p) && (not (is_omitted_now plan (Some n) p) && not (is_recalled plan (Some n) p)))
 
--- A32: the used pattern n has such a phase: a call of it that comes after the one tick in which the coordinated phases
--- yield waits for the next cycle
+-- A32: the used pattern n has no permissive time and such a phase: a call of it that comes after the one tick in which
+-- a coordinated phase yields waits for the next cycle
 abbrev pub yields_once : Plan → ℕ → Bool
-yields_once plan n = is_used plan n && list_any (is_actuated plan n) (phases plan)
+yields_once plan n = is_used plan n && (permissive_time plan n == 0 && list_any (is_actuated plan n) (phases plan))
+
+-- there is a maximum, and it is under this time
+abbrev pub is_under : Option ℕ → ℕ → Bool
+is_under None time = false
+is_under (Some maximum) time = nat_lt maximum time
+
+-- A42: the maximum that acts on p in the used pattern n is under the green that its split leaves
+abbrev pub has_short_maximum : Plan → ℕ → ℕ → Bool
+has_short_maximum plan n p =
+    is_used plan n && (is_enabled plan p && (not (is_omitted_now plan (Some n) p) &&
+    is_under (pattern_maximum plan (Some n) p) (green_of_split plan n p)))
+
+-- p is a coordinated phase of pattern n, which has a permissive time
+abbrev pub is_permissive : Plan → ℕ → ℕ → Bool
+is_permissive plan n p = is_enabled plan p && (is_coordinated_now plan (Some n) p && nat_lt 0 (permissive_time plan n))
+
+-- A43: the permissive time of the coordinated phase p of the used pattern n can leave a phase that waits less than its
+-- minimum green before its force-off instant
+abbrev pub yields_too_long : Plan → ℕ → ℕ → Bool
+yields_too_long plan n p = is_permissive plan n p && is_some (left_short plan n p)
+
+-- q is a coordinated phase of pattern n, and its split ends at another time than that of p
+abbrev pub ends_apart_from : Plan → ℕ → ℕ → ℕ → Bool
+ends_apart_from plan n p q = is_coordinated_now plan (Some n) q && not (end_of plan n q == end_of plan n p)
+
+-- p is a coordinated phase of pattern n, and the split of another one ends at another time
+abbrev pub ends_apart : Plan → ℕ → ℕ → Bool
+ends_apart plan n p = is_coordinated_now plan (Some n) p && list_any (ends_apart_from plan n p) (phases plan)
+
+-- A44: the used pattern n leads and lags, and the splits of its coordinated phases end at one time
+abbrev pub leads_for_nothing : Plan → ℕ → Bool
+leads_for_nothing plan n = is_used plan n && (leads_and_lags plan n && not (list_any (ends_apart plan n) (phases plan)))

@@ -1,17 +1,18 @@
 -- The numbers that the line of a finding shows, up to four, named `a` to `d`. Times are in tenths of a second.
 use Rattle.std.specs.Prelude.{ℕ, Option, Some, None}
 use Rattle.tsb_types.specs.Lists.{or_number}
-use Rattle.tsb_plan.specs.Parts.{call_phase, detector_delay, detector_extend, cycle, offset, minimum_duration, preempt_maximum_presence}
+use Rattle.tsb_plan.specs.Parts.{call_phase, detector_delay, detector_extend, cycle, offset, permissive_time, minimum_duration, preempt_maximum_presence}
 use Rattle.tsb_plan.specs.Plan.{Plan, walk, pedestrian_clear, minimum_green, maximum, passage, minimum_gap, time_before_reduction, red_revert}
+use Rattle.tsb_plan.specs.Running.{pattern_maximum}
 use Rattle.tsb_review.specs.declared.advice.Advice.{Advice}
-use Rattle.tsb_review.specs.declared.advice.Advice.TheVariants.{A4, A7, A8, A9, A10, A11, A12, A13, A14, A16, A18, A19, A20, A21, A25, A26, A27, A28, A30, A31, A32, A35, A39}
+use Rattle.tsb_review.specs.declared.advice.Advice.TheVariants.{A4, A7, A8, A9, A10, A11, A12, A13, A14, A16, A18, A19, A20, A21, A25, A26, A27, A28, A30, A31, A32, A35, A39, A42, A43}
 use Rattle.tsb_review.specs.declared.finding.Finding.{Finding}
 use Rattle.tsb_review.specs.declared.numbers.Numbers.{Numbers}
 use Rattle.tsb_review.specs.declared.place.Place.{Place}
 use Rattle.tsb_review.specs.declared.place.Place.TheVariants as at
 use Rattle.tsb_review.specs.Service.{apart_from, rivalled, rival_of}
-use Rattle.tsb_review.specs.Pedestrians.{pedestrian_time}
-use Rattle.tsb_review.specs.Splits.{green_of_split, passed_by}
+use Rattle.tsb_review.specs.Pedestrians.{pedestrian_time, rest_end}
+use Rattle.tsb_review.specs.Splits.{green_of_split, passed_by, left_short}
 use Rattle.tsb_review.specs.Clearance.{reverting}
 use Rattle.tsb_review.specs.Coordination.{spare_time, overrun, first_same}
 use Rattle.tsb_review.specs.Overlaps.{split_at, split_from}
@@ -20,7 +21,7 @@ use Rattle.tsb_review.specs.Overlaps.{split_at, split_from}
 abbrev pub four : ℕ → ℕ → ℕ → ℕ → Numbers
 four a b c d = record { a = a; b = b; c = c; d = d; e = 0 }
 
--- a number of a phase or of a pattern, 0 where there is none
+-- a number of a phase or of a pattern, or a time, 0 where there is none
 abbrev pub number_of : Option ℕ → ℕ
 number_of n = or_number n 0
 
@@ -58,9 +59,11 @@ of_detector plan x d = four d 0 0 0
 abbrev pub of_split : Plan → Advice → ℕ → ℕ → Numbers
 of_split plan A4 n p = four p 0 (number_of (apart_from plan n p)) n
 of_split plan A12 n p = four p (pedestrian_time plan p) (green_of_split plan n p) n
-of_split plan A14 n p = four p (pedestrian_clear plan p) (number_of (passed_by plan n p (pedestrian_clear plan p))) n
+of_split plan A14 n p = four p (pedestrian_clear plan p) (number_of (passed_by plan n p (rest_end plan n p))) n
 of_split plan A27 n p = four p (spare_time plan n p) 0 n
 of_split plan A28 n p = four p 0 (number_of (passed_by plan n p (overrun plan n p))) n
+of_split plan A42 n p = four p (number_of (pattern_maximum plan (Some n) p)) (green_of_split plan n p) n
+of_split plan A43 n p = four p (permissive_time plan n) (number_of (left_short plan n p)) n
 of_split plan x n p = four p 0 0 n
 
 -- of a pattern: its number, and another pattern or times

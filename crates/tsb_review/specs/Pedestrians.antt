@@ -1,6 +1,6 @@
 -- Advices on pedestrians: A8 to A14. Times are in tenths of a second.
 use Rattle.std.specs.Prelude.{ℕ, ◌+◌, ◌-◌, ◌==◌, nat_lt, Bool, not, ◌&&◌, ◌||◌, Option, Some, None, is_some}
-use Rattle.tsb_plan.specs.Parts.{is_used}
+use Rattle.tsb_plan.specs.Parts.{is_used, permissive_time}
 use Rattle.tsb_plan.specs.Plan.{Plan, is_enabled, rests_in_walk, walk, pedestrian_clear, maximum, has_pedestrian_recall}
 use Rattle.tsb_plan.specs.Running.{is_coordinated_now, is_omitted_now}
 use Rattle.tsb_rules.specs.Rules.{has_walk, serves_pedestrians}
@@ -43,7 +43,12 @@ abbrev pub rests_coordinated : Plan → ℕ → ℕ → Bool
 rests_coordinated plan n p =
     is_used plan n && (serves_pedestrians plan p && (rests_in_walk plan p && is_coordinated_now plan (Some n) p))
 
--- A14: a coordinated phase p of pattern n rests in walk; where a conflict begins at its force-off instant, its clearance
--- is over after the force-off instant of a phase that waits, which is not forced off late
+-- how long after the end of the split of p, which rests in walk, its red clearance is over, where a conflict begins at
+-- the end of its permissive time in pattern n
+abbrev pub rest_end : Plan → ℕ → ℕ → ℕ
+rest_end plan n p = permissive_time plan n + pedestrian_clear plan p
+
+-- A14: a coordinated phase p of pattern n rests in walk; where a conflict begins at the end of its permissive time, a
+-- phase that waits begins at its force-off instant or after it, and demand holds it until the next cycle
 abbrev pub rests_too_long : Plan → ℕ → ℕ → Bool
-rests_too_long plan n p = rests_coordinated plan n p && is_some (passed_by plan n p (pedestrian_clear plan p))
+rests_too_long plan n p = rests_coordinated plan n p && is_some (passed_by plan n p (rest_end plan n p))

@@ -2,13 +2,13 @@
 use Rattle.std.specs.Prelude.{ℕ, Bool}
 use Rattle.tsb_plan.specs.Plan.{Plan}
 use Rattle.tsb_review.specs.declared.sought.Sought.{Sought}
-use Rattle.tsb_review.specs.declared.sought.Sought.TheVariants.{InConflict, Across, InRing, Rival, SplitFrom, Beside, Actuated, SoonReverting, ServedApart, Passed}
+use Rattle.tsb_review.specs.declared.sought.Sought.TheVariants.{InConflict, Across, InRing, Rival, SplitFrom, Beside, Actuated, SoonReverting, ServedApart, Passed, LeftShort, EndingApart}
 use Rattle.tsb_review.specs.Calls.{conflicts}
 use Rattle.tsb_review.specs.Clearance.{is_across, reverts_soon}
-use Rattle.tsb_review.specs.Coordination.{is_actuated}
+use Rattle.tsb_review.specs.Coordination.{is_actuated, ends_apart_from}
 use Rattle.tsb_review.specs.Overlaps.{is_beside, is_split_from}
 use Rattle.tsb_review.specs.Service.{is_in_ring, is_rival, is_served_apart}
-use Rattle.tsb_review.specs.Splits.{is_passed}
+use Rattle.tsb_review.specs.Splits.{is_passed, is_left_short}
 
 -- what a phase has to be
 abbrev pub is_sought : Sought → Plan → ℕ → Bool
@@ -22,3 +22,5 @@ is_sought (Actuated n) plan = is_actuated plan n
 is_sought SoonReverting plan = reverts_soon plan
 is_sought (ServedApart n p) plan = is_served_apart plan n p
 is_sought (Passed n p late) plan = is_passed plan n p late
+is_sought (LeftShort n p) plan = is_left_short plan n p
+is_sought (EndingApart n p) plan = ends_apart_from plan n p

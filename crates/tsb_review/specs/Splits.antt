@@ -1,9 +1,9 @@
 -- Splits of a used pattern, and what a green that ends late does to those that wait. Times are in tenths of a second.
-use Rattle.std.specs.Prelude.{ℕ, ◌+◌, ◌-◌, nat_le, Bool, not, ◌&&◌, Option, Some, None}
+use Rattle.std.specs.Prelude.{ℕ, ◌+◌, ◌-◌, nat_le, nat_lt, Bool, not, ◌&&◌, Option, Some, None, is_none}
 use Rattle.tsb_types.specs.Lists.{first}
-use Rattle.tsb_plan.specs.Parts.{is_used, split_of, split_time, forces_late}
-use Rattle.tsb_plan.specs.Plan.{Plan, phases, yellow_change, red_clear}
-use Rattle.tsb_plan.specs.Running.{is_coordinated_now, is_omitted_now}
+use Rattle.tsb_plan.specs.Parts.{is_used, permissive_time, split_of, split_time, forces_late}
+use Rattle.tsb_plan.specs.Plan.{Plan, phases, minimum_green, yellow_change, red_clear}
+use Rattle.tsb_plan.specs.Running.{is_coordinated_now, is_omitted_now, pattern_maximum}
 use Rattle.tsb_objects.specs.Instants.{instant_from}
 use Rattle.tsb_review.specs.Calls.{conflicts}
 
@@ -20,18 +20,32 @@ split_time_in plan n p = split_in plan (split_of plan n) p
 abbrev pub green_of_split : Plan → ℕ → ℕ → ℕ
 green_of_split plan n p = split_time_in plan n p - (yellow_change plan p + red_clear plan p)
 
--- q waits for p in pattern n, and its green ends by force-off alone or by a gap: it conflicts with p, and is neither
--- coordinated nor omitted
+-- q waits for p in pattern n, and is not one of those that are held until their force-off: it conflicts with p, and is
+-- neither coordinated nor omitted
 abbrev pub is_forced_after : Plan → ℕ → ℕ → ℕ → Bool
 is_forced_after plan n p q =
     conflicts plan p q && (not (is_coordinated_now plan (Some n) q) && not (is_omitted_now plan (Some n) q))
 
--- in the used pattern n a phase q that begins so long after the end of the split of p begins at its force-off instant or
--- after it, and so is not forced off in this cycle: there is no late force-off
+-- no maximum acts on q in pattern n, and its force-off instant is at most so long after the end of the split of p
+abbrev pub is_behind : Plan → ℕ → ℕ → ℕ → ℕ → Bool
+is_behind plan n p late q = is_none (pattern_maximum plan (Some n) q) && nat_le (instant_from plan n p q) late
+
+-- in the used pattern n a phase q that begins so long after the end of the split of p begins at its force-off instant
+-- or after it, and demand holds it until the next cycle: there is neither late force-off nor a maximum that acts
 abbrev pub is_passed : Plan → ℕ → ℕ → ℕ → ℕ → Bool
 is_passed plan n p late q =
-    not (forces_late plan) && (is_used plan n && (is_forced_after plan n p q && nat_le (instant_from plan n p q) late))
+    not (forces_late plan) && (is_used plan n && (is_forced_after plan n p q && is_behind plan n p late q))
 
 -- the first such phase
 abbrev pub passed_by : Plan → ℕ → ℕ → ℕ → Option ℕ
 passed_by plan n p late = first (is_passed plan n p late) (phases plan)
+
+-- in the used pattern n a phase q that begins at the end of the permissive time of p has less than its minimum green
+-- before its force-off instant
+abbrev pub is_left_short : Plan → ℕ → ℕ → ℕ → Bool
+is_left_short plan n p q =
+    is_used plan n && (is_forced_after plan n p q && nat_lt (instant_from plan n p q) (permissive_time plan n + minimum_green plan q))
+
+-- the first such phase
+abbrev pub left_short : Plan → ℕ → ℕ → Option ℕ
+left_short plan n p = first (is_left_short plan n p) (phases plan)

@@ -7,7 +7,8 @@ use crate::place::Shape;
 /// An advice on a plan that meets the rules: it can run, and this may still be wrong.
 ///
 /// They stand in the order in which a review gives them: on service (A1 to A7), pedestrians (A8 to A14), clearance (A15
-/// and A16), actuation (A17 to A26), coordination (A27 to A32), preempts (A33 to A38) and overlaps (A39 to A41).
+/// and A16), actuation (A17 to A26), coordination (A27 to A32), preempts (A33 to A38), overlaps (A39 to A41), and
+/// options of coordination (A42 to A44).
 #[derive(Clone, Copy)]
 pub enum Advice {
     /// An enabled phase is called by no detector, button, recall or split mode.
@@ -64,7 +65,8 @@ pub enum Advice {
     A26,
     /// A split leaves under 1 second over minimum green, yellow and red clearance.
     A27,
-    /// Walk and clearance overrun the split, so a phase that waits begins at its force-off instant or after it.
+    /// Walk and clearance overrun the split: a phase that waits begins at its force-off instant or after it, and demand
+    /// holds it.
     A28,
     /// A pattern omits a phase that has a recall.
     A29,
@@ -72,7 +74,8 @@ pub enum Advice {
     A30,
     /// An offset is beyond half of its cycle.
     A31,
-    /// The coordinated phases yield in one tick of a cycle, and a phase of the pattern waits for a call.
+    /// Coordinated phases without a permissive time yield in one tick of a cycle, and a phase of the pattern waits for
+    /// a call.
     A32,
     /// A phase is both a track and a dwell phase of a preempt.
     A33,
@@ -92,11 +95,17 @@ pub enum Advice {
     A40,
     /// No phase of an overlap follows another of it.
     A41,
+    /// The maximum that acts in a pattern is under the green that the split leaves.
+    A42,
+    /// The permissive time can leave a phase that waits less than its minimum green before its force-off instant.
+    A43,
+    /// A pattern leads and lags, and its coordinated splits end at one time.
+    A44,
 }
 
 impl Advice {
     /// All advices, in order.
-    pub const ALL: [Advice; 41] = [
+    pub const ALL: [Advice; 44] = [
         Advice::A1,
         Advice::A2,
         Advice::A3,
@@ -138,6 +147,9 @@ impl Advice {
         Advice::A39,
         Advice::A40,
         Advice::A41,
+        Advice::A42,
+        Advice::A43,
+        Advice::A44,
     ];
 
     /// What the advice is given for.
@@ -164,11 +176,17 @@ impl Advice {
             | Advice::A24 => Shape::Phase,
             Advice::A2 | Advice::A25 | Advice::A26 => Shape::Detector,
             Advice::A3 => Shape::Phases,
-            Advice::A4 | Advice::A12 | Advice::A14 | Advice::A27 | Advice::A28 | Advice::A29 =>
-                Shape::Split,
+            Advice::A4
+            | Advice::A12
+            | Advice::A14
+            | Advice::A27
+            | Advice::A28
+            | Advice::A29
+            | Advice::A42
+            | Advice::A43 => Shape::Split,
             Advice::A5 => Shape::Ring,
             Advice::A16 => Shape::Unit,
-            Advice::A30 | Advice::A31 | Advice::A32 => Shape::Pattern,
+            Advice::A30 | Advice::A31 | Advice::A32 | Advice::A44 => Shape::Pattern,
             Advice::A33 | Advice::A36 | Advice::A37 => Shape::PreemptPhase,
             Advice::A34 | Advice::A35 | Advice::A38 => Shape::Preempt,
             Advice::A39 | Advice::A41 => Shape::Overlap,

@@ -1,17 +1,19 @@
-//! Advices on coordination: A27 to A32. Times are in tenths of a second.
+//! Advices on coordination: A27 to A32, and A42 to A44. Times are in tenths of a second.
 #![tactic(auto, unfolding(tsb_plan::specs::PlanOf::plan_of))]
 
 ghost use Rattle.std.specs.Prelude.{◌≡◌, ◌==◌};
+ghost use Rattle.std.specs.List.{list_any};
 ghost use Rattle.tsb_plan.specs.Objects.{indices};
+ghost use Rattle.tsb_plan.specs.Plan.{phases};
 ghost use Rattle.tsb_plan.specs.PlanOf.{plan_of};
 ghost use Rattle.tsb_review.specs.Splits.{passed_by};
-ghost use Rattle.tsb_review.specs.Coordination.{spare_time, has_tight_split, overrun, makes_late, recalls_omitted, is_same_before, first_same, is_repeated, has_long_offset, is_actuated, yields_once};
+ghost use Rattle.tsb_review.specs.Coordination.{spare_time, has_tight_split, overrun, makes_late, recalls_omitted, yields_alike, is_same_before, first_same, is_repeated, has_long_offset, is_actuated, yields_once, is_under, has_short_maximum, is_permissive, yields_too_long, ends_apart_from, ends_apart, leads_for_nothing};
 
 use crate::calls::{is_recalled, is_recalled_in};
 use crate::pedestrians::{overruns_split, pedestrian_time};
 use crate::service::has_soft_recall;
 use crate::sought::{Sought, some_phase};
-use crate::splits::{green_of_split, passed_by};
+use crate::splits::{end_of, green_of_split, left_short, passed_by};
 use tsb_plan::{Object, Plan};
 use tsb_types::{Pattern, Phase};
 
@@ -42,16 +44,16 @@ fn overrun(plan: &Plan, pattern: Pattern, phase: Phase) -> u32
     pedestrian_time(plan, phase).saturating_sub(green_of_split(plan, pattern, phase))
 }
 
-/// A28: whether walk and clearance of the phase overrun its split in the pattern, and the phase that waits then begins at
-/// its force-off instant or after it, and is not forced off late.
+/// A28: whether walk and clearance of the phase overrun its split in the pattern, and a phase that waits then begins at
+/// its force-off instant or after it, and demand holds it until the next cycle.
 pub(crate) fn makes_late(plan: &Plan, pattern: Pattern, phase: Phase) -> bool
     ensures { result ≡ makes_late (plan_of plan.now) pattern phase }
 {
     overruns_split(plan, pattern, phase) && passed_by_overrun(plan, pattern, phase).is_some()
 }
 
-/// The first phase that an overrun of the phase makes begin at its force-off instant or after it, and that is not
-/// forced off late.
+/// The first phase that an overrun of the phase makes begin at its force-off instant or after it, and that demand holds
+/// until the next cycle.
 pub(crate) fn passed_by_overrun(plan: &Plan, pattern: Pattern, phase: Phase) -> Option<Phase>
     ensures { result ≡ passed_by (plan_of plan.now) pattern phase (overrun (plan_of plan.now) pattern phase) }
 {
@@ -68,7 +70,16 @@ pub(crate) fn recalls_omitted(plan: &Plan, pattern: Pattern, phase: Phase) -> bo
         && (is_recalled(plan, phase) || has_soft_recall(plan, phase))
 }
 
-/// Whether pattern `other` comes before the pattern, and is used with the same cycle, offset, split table and sequence.
+/// Whether the two patterns have the same permissive time, and lead and lag alike.
+fn yields_alike(plan: &Plan, pattern: Pattern, other: Pattern) -> bool
+    ensures { result ≡ yields_alike (plan_of plan.now) pattern other }
+{
+    has_same(plan, Object::PatternPermissiveTime, pattern, other)
+        && has_same(plan, Object::PatternLeadLag, pattern, other)
+}
+
+/// Whether pattern `other` comes before the pattern, and is used with the same cycle, offset, split table and sequence,
+/// with the same permissive time, and leading and lagging alike.
 fn is_same_before(plan: &Plan, pattern: Pattern, other: Pattern) -> bool
     ensures { result ≡ is_same_before (plan_of plan.now) pattern other }
 {
@@ -77,6 +88,7 @@ fn is_same_before(plan: &Plan, pattern: Pattern, other: Pattern) -> bool
         && has_same(plan, Object::PatternOffsetTime, pattern, other)
         && has_same(plan, Object::PatternSplitNumber, pattern, other)
         && has_same(plan, Object::PatternSequenceNumber, pattern, other)
+        && yields_alike(plan, pattern, other)
 }
 
 /// Whether two patterns have one value of an object of patterns.
@@ -121,9 +133,83 @@ pub(crate) fn is_actuated(plan: &Plan, pattern: Pattern, phase: Phase) -> bool
         && !is_recalled_in(plan, pattern, phase)
 }
 
-/// A32: whether the used pattern has a phase that waits for a call.
+/// A32: whether the used pattern has no permissive time, and a phase that waits for a call.
 pub(crate) fn yields_once(plan: &Plan, pattern: Pattern) -> bool
     ensures { result ≡ yields_once (plan_of plan.now) pattern }
 {
-    plan.is_used(pattern) && some_phase(plan, Sought::Actuated(pattern))
+    plan.is_used(pattern)
+        && plan.permissive_time(pattern) == 0
+        && some_phase(plan, Sought::Actuated(pattern))
+}
+
+/// Whether there is a maximum, and it is under this time.
+fn is_under(maximum: Option<u32>, time: u32) -> bool
+    ensures { result ≡ is_under maximum time }
+{
+    match maximum {
+        Some(maximum) => maximum < time,
+        None => false,
+    }
+}
+
+/// A42: whether the maximum that acts on the phase in the used pattern is under the green that its split leaves.
+pub(crate) fn has_short_maximum(plan: &Plan, pattern: Pattern, phase: Phase) -> bool
+    ensures { result ≡ has_short_maximum (plan_of plan.now) pattern phase }
+{
+    plan.is_used(pattern)
+        && plan.is_enabled(phase)
+        && !plan.is_omitted_now(Some(pattern), phase)
+        && is_under(
+            plan.pattern_maximum(Some(pattern), phase),
+            green_of_split(plan, pattern, phase),
+        )
+}
+
+/// Whether the phase is a coordinated one of the pattern, which has a permissive time.
+fn is_permissive(plan: &Plan, pattern: Pattern, phase: Phase) -> bool
+    ensures { result ≡ is_permissive (plan_of plan.now) pattern phase }
+{
+    plan.is_enabled(phase)
+        && plan.is_coordinated_now(Some(pattern), phase)
+        && plan.permissive_time(pattern) > 0
+}
+
+/// A43: whether the permissive time of the coordinated phase can leave a phase that waits less than its minimum green
+/// before its force-off instant in the used pattern.
+pub(crate) fn yields_too_long(plan: &Plan, pattern: Pattern, phase: Phase) -> bool
+    ensures { result ≡ yields_too_long (plan_of plan.now) pattern phase }
+{
+    is_permissive(plan, pattern, phase) && left_short(plan, pattern, phase).is_some()
+}
+
+/// Whether `other` is a coordinated phase of the pattern, and its split ends at another time than that of the phase.
+pub(crate) fn ends_apart_from(plan: &Plan, pattern: Pattern, phase: Phase, other: Phase) -> bool
+    ensures { result ≡ ends_apart_from (plan_of plan.now) pattern phase other }
+{
+    plan.is_coordinated_now(Some(pattern), other)
+        && end_of(plan, pattern, other) != end_of(plan, pattern, phase)
+}
+
+/// Whether the phase is a coordinated one of the pattern, and the split of another one ends at another time.
+fn ends_apart(plan: &Plan, pattern: Pattern, phase: Phase) -> bool
+    ensures { result ≡ ends_apart (plan_of plan.now) pattern phase }
+{
+    plan.is_coordinated_now(Some(pattern), phase)
+        && some_phase(plan, Sought::EndingApart(pattern, phase))
+}
+
+/// Whether the splits of the coordinated phases of the pattern end at different times.
+fn has_ends_apart(plan: &Plan, pattern: Pattern) -> bool
+    ensures { result ≡ list_any (ends_apart (plan_of plan.now) pattern) (phases (plan_of plan.now)) }
+{
+    Phase::all()
+        .iter()
+        .any(|phase| ends_apart(plan, pattern, *phase))
+}
+
+/// A44: whether the used pattern leads and lags, and the splits of its coordinated phases end at one time.
+pub(crate) fn leads_for_nothing(plan: &Plan, pattern: Pattern) -> bool
+    ensures { result ≡ leads_for_nothing (plan_of plan.now) pattern }
+{
+    plan.is_used(pattern) && plan.leads_and_lags(pattern) && !has_ends_apart(plan, pattern)
 }

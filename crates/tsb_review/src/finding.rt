@@ -140,6 +140,7 @@ fn of_pattern(plan: &Plan, advice: Advice, pattern: Pattern) -> bool
         Advice::A30 => coordination::is_repeated(plan, pattern),
         Advice::A31 => coordination::has_long_offset(plan, pattern),
         Advice::A32 => coordination::yields_once(plan, pattern),
+        Advice::A44 => coordination::leads_for_nothing(plan, pattern),
         _ => false,
     }
 }
@@ -155,6 +156,8 @@ fn of_split(plan: &Plan, advice: Advice, pattern: Pattern, phase: Phase) -> bool
         Advice::A27 => coordination::has_tight_split(plan, pattern, phase),
         Advice::A28 => coordination::makes_late(plan, pattern, phase),
         Advice::A29 => coordination::recalls_omitted(plan, pattern, phase),
+        Advice::A42 => coordination::has_short_maximum(plan, pattern, phase),
+        Advice::A43 => coordination::yields_too_long(plan, pattern, phase),
         _ => false,
     }
 }

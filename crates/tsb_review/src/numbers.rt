@@ -10,10 +10,10 @@ use crate::clearance::reverting;
 use crate::coordination::{first_same, passed_by_overrun, spare_time};
 use crate::finding::Finding;
 use crate::overlaps::{split_at, split_from};
-use crate::pedestrians::pedestrian_time;
+use crate::pedestrians::{passed_by_rest, pedestrian_time};
 use crate::place::Place;
 use crate::service::{apart_from, rival_of, rivalled};
-use crate::splits::{green_of_split, passed_by};
+use crate::splits::{green_of_split, left_short};
 use tsb_plan::Plan;
 use tsb_types::{Detector, Overlap, Pattern, Phase, Preempt};
 
@@ -56,6 +56,16 @@ fn pattern_or_zero(pattern: Option<Pattern>) -> u32
 {
     match pattern {
         Some(pattern) => u32::from(pattern.number()),
+        None => 0,
+    }
+}
+
+/// A time, 0 for none.
+fn time_or_zero(time: Option<u32>) -> u32
+    ensures { result ≡ number_of time }
+{
+    match time {
+        Some(time) => time,
         None => 0,
     }
 }
@@ -164,14 +174,21 @@ fn of_split(plan: &Plan, advice: Advice, pattern: Pattern, phase: Phase) -> Numb
             four(p, pedestrian_time(plan, phase), green, n)
         }
         Advice::A14 => {
-            let clearance = plan.pedestrian_clear(phase);
-            let passed = passed_by(plan, pattern, phase, clearance);
-            four(p, clearance, phase_or_zero(passed), n)
+            let passed = passed_by_rest(plan, pattern, phase);
+            four(p, plan.pedestrian_clear(phase), phase_or_zero(passed), n)
         }
         Advice::A27 => four(p, spare_time(plan, pattern, phase), 0, n),
         Advice::A28 => {
             let passed = passed_by_overrun(plan, pattern, phase);
             four(p, 0, phase_or_zero(passed), n)
+        }
+        Advice::A42 => {
+            let maximum = time_or_zero(plan.pattern_maximum(Some(pattern), phase));
+            four(p, maximum, green_of_split(plan, pattern, phase), n)
+        }
+        Advice::A43 => {
+            let short = left_short(plan, pattern, phase);
+            four(p, plan.permissive_time(pattern), phase_or_zero(short), n)
         }
         _ => four(p, 0, 0, n),
     }

@@ -3,7 +3,8 @@
 
 ghost use Rattle.std.specs.Prelude.{◌≡◌, ◌≤◌};
 ghost use Rattle.tsb_plan.specs.PlanOf.{plan_of};
-ghost use Rattle.tsb_review.specs.Pedestrians.{has_no_clearance, has_short_walk, has_no_walk, has_idle_walk, pedestrian_time, overruns_split, overruns_maximum, rests_coordinated, rests_too_long};
+ghost use Rattle.tsb_review.specs.Splits.{passed_by};
+ghost use Rattle.tsb_review.specs.Pedestrians.{has_no_clearance, has_short_walk, has_no_walk, has_idle_walk, pedestrian_time, overruns_split, overruns_maximum, rests_coordinated, rest_end, rests_too_long};
 
 use crate::calls::{
     has_button, has_detector, has_walk, recalls_pedestrians_in_pattern, serves_pedestrians,
@@ -82,11 +83,25 @@ fn rests_coordinated(plan: &Plan, pattern: Pattern, phase: Phase) -> bool
         && plan.is_coordinated_now(Some(pattern), phase)
 }
 
+/// How long after the end of the split of the phase, which rests in walk, its red clearance is over, where a conflict
+/// begins at the end of its permissive time in the pattern.
+fn rest_end(plan: &Plan, pattern: Pattern, phase: Phase) -> u32
+    ensures { result ≡ rest_end (plan_of plan.now) pattern phase }
+{
+    plan.permissive_time(pattern) + plan.pedestrian_clear(phase)
+}
+
+/// The first phase that then begins at its force-off instant or after it, and that demand holds until the next cycle.
+pub(crate) fn passed_by_rest(plan: &Plan, pattern: Pattern, phase: Phase) -> Option<Phase>
+    ensures { result ≡ passed_by (plan_of plan.now) pattern phase (rest_end (plan_of plan.now) pattern phase) }
+{
+    passed_by(plan, pattern, phase, rest_end(plan, pattern, phase))
+}
+
 /// A14: whether a coordinated phase rests in walk, and its clearance can be over after the force-off instant of a phase
-/// that waits, which is not forced off late.
+/// that waits, which demand then holds until the next cycle.
 pub(crate) fn rests_too_long(plan: &Plan, pattern: Pattern, phase: Phase) -> bool
     ensures { result ≡ rests_too_long (plan_of plan.now) pattern phase }
 {
-    rests_coordinated(plan, pattern, phase)
-        && passed_by(plan, pattern, phase, plan.pedestrian_clear(phase)).is_some()
+    rests_coordinated(plan, pattern, phase) && passed_by_rest(plan, pattern, phase).is_some()
 }

@@ -10,10 +10,10 @@ ghost use Rattle.tsb_review.specs.Sought.{is_sought};
 
 use crate::calls::conflicts;
 use crate::clearance::{is_across, reverts_soon};
-use crate::coordination::is_actuated;
+use crate::coordination::{ends_apart_from, is_actuated};
 use crate::overlaps::{is_beside, is_split_from};
 use crate::service::{is_in_ring, is_rival, is_served_apart};
-use crate::splits::is_passed;
+use crate::splits::{is_left_short, is_passed};
 use tsb_plan::Plan;
 use tsb_types::{Overlap, Pattern, Phase, Ring};
 
@@ -40,6 +40,10 @@ pub(crate) enum Sought {
     ServedApart(Pattern, Phase),
     /// In this pattern it begins at its force-off instant or after it, so long after the end of the split of this phase.
     Passed(Pattern, Phase, u32),
+    /// The permissive time of this phase can leave it less than its minimum green in this pattern.
+    LeftShort(Pattern, Phase),
+    /// It is coordinated in this pattern, and its split ends at another time than that of this phase.
+    EndingApart(Pattern, Phase),
 }
 
 /// Whether the phase is so.
@@ -57,6 +61,8 @@ fn is_sought(plan: &Plan, sought: Sought, phase: Phase) -> bool
         Sought::SoonReverting => reverts_soon(plan, phase),
         Sought::ServedApart(pattern, other) => is_served_apart(plan, pattern, other, phase),
         Sought::Passed(pattern, other, late) => is_passed(plan, pattern, other, late, phase),
+        Sought::LeftShort(pattern, other) => is_left_short(plan, pattern, other, phase),
+        Sought::EndingApart(pattern, other) => ends_apart_from(plan, pattern, other, phase),
     }
 }
 

@@ -6,7 +6,7 @@ ghost use Rattle.tsb_plan.specs.Parts.{cycle, is_used};
 ghost use Rattle.tsb_plan.specs.Plan.{yellow_change, red_clear};
 ghost use Rattle.tsb_plan.specs.PlanOf.{plan_of};
 ghost use Rattle.tsb_objects.specs.Instants.{end_of, instant_from};
-ghost use Rattle.tsb_review.specs.Splits.{split_time_in, green_of_split, is_forced_after, is_passed, passed_by};
+ghost use Rattle.tsb_review.specs.Splits.{split_time_in, green_of_split, is_forced_after, is_behind, is_passed, passed_by, is_left_short, left_short};
 
 use crate::calls::conflicts;
 use crate::sought::{Sought, first_phase};
@@ -50,7 +50,7 @@ fn cycle_of(plan: &Plan, pattern: Pattern) -> u32
 }
 
 /// When the split of the phase ends, from the beginning of side 1's first split.
-fn end_of(plan: &Plan, pattern: Pattern, phase: Phase) -> u32
+pub(crate) fn end_of(plan: &Plan, pattern: Pattern, phase: Phase) -> u32
     ensures { result ≡ end_of (plan_of plan.now) pattern phase }
 {
     match plan.split_of(pattern) {
@@ -70,7 +70,7 @@ fn instant_from(plan: &Plan, pattern: Pattern, phase: Phase, next: Phase) -> u32
     (end + (cycle - before)) % cycle
 }
 
-/// Whether `next` waits for the phase in the pattern, and its green ends by force-off alone or by a gap.
+/// Whether `next` waits for the phase in the pattern, and is not one of those that are held until their force-off.
 fn is_forced_after(plan: &Plan, pattern: Pattern, phase: Phase, next: Phase) -> bool
     ensures { result ≡ is_forced_after (plan_of plan.now) pattern phase next }
 {
@@ -79,20 +79,48 @@ fn is_forced_after(plan: &Plan, pattern: Pattern, phase: Phase, next: Phase) -> 
         && !plan.is_omitted_now(Some(pattern), next)
 }
 
+/// Whether no maximum acts on `next` in the pattern, and its force-off instant is at most so long after the end of the
+/// split of the phase.
+fn is_behind(plan: &Plan, pattern: Pattern, phase: Phase, late: u32, next: Phase) -> bool
+    requires used { is_used (plan_of plan.now) pattern ≡ true }
+    ensures { result ≡ is_behind (plan_of plan.now) pattern phase late next }
+{
+    plan.pattern_maximum(Some(pattern), next).is_none()
+        && instant_from(plan, pattern, phase, next) <= late
+}
+
 /// Whether `next`, where it begins so long after the end of the split of the phase, begins at its force-off instant or
-/// after it, and there is no late force-off.
+/// after it, and demand holds it until the next cycle: there is neither late force-off nor a maximum that acts.
 pub(crate) fn is_passed(plan: &Plan, pattern: Pattern, phase: Phase, late: u32, next: Phase) -> bool
     ensures { result ≡ is_passed (plan_of plan.now) pattern phase late next }
 {
     !plan.forces_late()
         && plan.is_used(pattern)
         && is_forced_after(plan, pattern, phase, next)
-        && instant_from(plan, pattern, phase, next) <= late
+        && is_behind(plan, pattern, phase, late, next)
 }
 
-/// The first phase that then begins at its force-off instant or after it, and is not forced off late.
+/// The first phase that then begins at its force-off instant or after it, and that demand holds until the next cycle.
 pub(crate) fn passed_by(plan: &Plan, pattern: Pattern, phase: Phase, late: u32) -> Option<Phase>
     ensures { result ≡ passed_by (plan_of plan.now) pattern phase late }
 {
     first_phase(plan, Sought::Passed(pattern, phase, late))
+}
+
+/// Whether `next`, where it begins at the end of the permissive time of the phase, has less than its minimum green
+/// before its force-off instant in the used pattern.
+pub(crate) fn is_left_short(plan: &Plan, pattern: Pattern, phase: Phase, next: Phase) -> bool
+    ensures { result ≡ is_left_short (plan_of plan.now) pattern phase next }
+{
+    plan.is_used(pattern)
+        && is_forced_after(plan, pattern, phase, next)
+        && instant_from(plan, pattern, phase, next)
+            < plan.permissive_time(pattern) + plan.minimum_green(next)
+}
+
+/// The first phase that the permissive time of the phase can leave less than its minimum green.
+pub(crate) fn left_short(plan: &Plan, pattern: Pattern, phase: Phase) -> Option<Phase>
+    ensures { result ≡ left_short (plan_of plan.now) pattern phase }
+{
+    first_phase(plan, Sought::LeftShort(pattern, phase))
 }

@@ -2,7 +2,7 @@
 -- a finding; W, X, Y and Z are the same as times, in seconds.
 use Rattle.std.specs.Prelude.{ℕ, List, codes}
 use Rattle.tsb_review.specs.declared.advice.Advice.{Advice}
-use Rattle.tsb_review.specs.declared.advice.Advice.TheVariants.{A1, A2, A3, A4, A5, A6, A7, A8, A9, A10, A11, A12, A13, A14, A15, A16, A17, A18, A19, A20, A21, A22, A23, A24, A25, A26, A27, A28, A29, A30, A31, A32, A33, A34, A35, A36, A37, A38, A39, A40, A41}
+use Rattle.tsb_review.specs.declared.advice.Advice.TheVariants.{A1, A2, A3, A4, A5, A6, A7, A8, A9, A10, A11, A12, A13, A14, A15, A16, A17, A18, A19, A20, A21, A22, A23, A24, A25, A26, A27, A28, A29, A30, A31, A32, A33, A34, A35, A36, A37, A38, A39, A40, A41, A42, A43, A44}
 
 -- the text of an advice
 abbrev pub template : Advice → List ℕ
@@ -47,3 +47,6 @@ template A38 = codes "A38 preempt P: it has no dwell phases, so its times have n
 template A39 = codes "A39 overlap P: it includes phases Q and R of two rings that are not concurrent, so it turns yellow between them"
 template A40 = codes "A40 overlap P: phase Q is an included and a modifier phase, so it is not green with it"
 template A41 = codes "A41 overlap P: no phase of it follows another in a ring, so it shows what its phases show"
+template A42 = codes "A42 phase P: its maximum of X s is under the Y s of green that its split leaves in pattern S"
+template A43 = codes "A43 phase P: its permissive time of X s can leave less than the minimum green of phase R before its force-off in pattern S"
+template A44 = codes "A44 pattern P: patternLeadLag has no effect, since the splits of its coordinated phases end at one time"

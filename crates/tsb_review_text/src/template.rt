@@ -105,5 +105,14 @@ pub(crate) fn template(advice: Advice) -> &'static [u8]
         Advice::A41 => {
             b"A41 overlap P: no phase of it follows another in a ring, so it shows what its phases show"
         }
+        Advice::A42 => {
+            b"A42 phase P: its maximum of X s is under the Y s of green that its split leaves in pattern S"
+        }
+        Advice::A43 => {
+            b"A43 phase P: its permissive time of X s can leave less than the minimum green of phase R before its force-off in pattern S"
+        }
+        Advice::A44 => {
+            b"A44 pattern P: patternLeadLag has no effect, since the splits of its coordinated phases end at one time"
+        }
     }
 }
