@@ -31,6 +31,15 @@ KINDS = list(field_rules.MOST)
 
 # How the stored picture of the hour was drawn.
 HOUR_SECONDS, HOUR_TITLE = 1200, "An hour of made-up traffic on quad"
+# The pictures of the options of coordination: their names but for the value, plan and log, the option, two values of it,
+# and the seconds. Those of lead and lag are of two patterns.
+OPTIONS = [
+    ("late_force_off", "late_force_off", "late_force_off", "coordForceMode", (0, 1), 330),
+    ("floating_force_off", "coordination", "coordination", "coordForceMode", (0, 2), 300),
+    ("coordination_maximum", "coordination", "coordination", "coordMaximumMode", (0, 1), 300),
+    ("permissive_time", "coordination", "permissive_time", "patternPermissiveTime", (0, 5), 300),
+    ("lead_and_lag", "coordination", "lead_and_lag", "pattern", (1, 2), 300),
+]
 SVG = "{http://www.w3.org/2000/svg}"
 
 
@@ -418,15 +427,25 @@ def hour(program, bench):
     yield from difference("picture of the hour", answer(program, words, lines), (0, picture, b""))
 
 
-def force_modes(program, bench):
-    """What is otherwise of the stored pictures of a pattern with fixed and with late force-off."""
-    plan = EXAMPLES / "late_force_off.json"
-    for mode in (0, 1):
-        commands = f"begin 1\nset 1 coordForceMode 1 {mode}\nverify 1\ncommit 1\npattern 1\nstep 3300\n".encode()
-        run = subprocess.run([bench, "run", plan, plan.with_suffix(".log")], input=commands, capture_output=True)
-        words = ["diagram", "--seconds-per-line=330", "--title", f"coordForceMode {mode}"]
-        picture = plan.with_name(f"late_force_off_{mode}.svg").read_bytes()
-        yield from difference(f"picture of coordForceMode {mode}", answer(program, words, run.stdout), (0, picture, b""))
+def option_commands(option, value, seconds):
+    """The commands that run pattern 1 with a value of an option, or a pattern, for so many seconds."""
+    run = ["pattern 1", f"step {10 * seconds}"]
+    if option == "pattern":
+        run[0] = f"pattern {value}"
+    else:
+        run = ["begin 1", f"set 1 {option} 1 {value}", "verify 1", "commit 1", *run]
+    return "".join(f"{it}\n" for it in run).encode()
+
+
+def option_pictures(program, bench):
+    """What is otherwise of the stored pictures of patterns with an option of coordination off and on."""
+    for name, plan, log, option, values, seconds in OPTIONS:
+        for value in values:
+            commands = option_commands(option, value, seconds)
+            run = subprocess.run([bench, "run", EXAMPLES / f"{plan}.json", EXAMPLES / f"{log}.log"], input=commands, capture_output=True)
+            words = ["diagram", f"--seconds-per-line={seconds}", "--title", f"{option} {value}"]
+            picture = (EXAMPLES / f"{name}_{value}.svg").read_bytes()
+            yield from difference(f"picture of {option} {value}", answer(program, words, run.stdout), (0, picture, b""))
 
 
 def worked_runs():
@@ -458,7 +477,7 @@ def main(words):
         wrong += events_of_displays(program, folder)
         wrong += [*diagrams(program, folder), *closed_pipes(program), *one_stream(program)]
         wrong += [*long_session(program), *greatest(program)]
-    wrong += [*hour(program, bench), *force_modes(program, bench)]
+    wrong += [*hour(program, bench), *option_pictures(program, bench)]
     of_sessions, count = sessions(program)
     wrong += of_sessions
     told = f"{len(runs)} worked runs, {count} sessions, {TRIPS} round trips, {EXPORTS + LATE} exports and {2 * TEXTS} texts " \
