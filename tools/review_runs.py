@@ -40,6 +40,10 @@ CARS = row(20, 4) + "".join(row(tick, 2, 4) + row(tick + 5, 4) for tick in range
 AT_INSTANT, LATE = row(1245, 3), row(1246, 3)
 # A green that begins behind its force-off instant is forced off.
 FORCED_LATE: Change = {"coordForceMode.1": 1}
+# All phases but the coordinated ones wait for calls.
+ACTUATED: Change = {f"splitMode.{phase}": 0 for phase in (1, 3, 4, 5, 7, 8)}
+# Clearances of 10 s beside Main Street.
+SHORT_CROSSINGS: Change = {"phasePedestrianClear.2": 10, "phasePedestrianClear.6": 10}
 # Someone presses button 4 in the first cycle, and cars stay on detectors 1 and 3.
 CROSSING = row(100, 1, 3, button=4) + row(103, 1, 3)
 
@@ -66,8 +70,12 @@ RUNS = [
         ["pattern 1", "step 2309", "when ped 2", "when interval 3", "step 1", "when interval 3"],
         ["ok", "tick 0001365", "tick 0001420", "tick 0002310"]),
     # A clearance of 10 s: phase 3 begins 1 s before its instant. It ends after the 7 s of phase 8, which is green beside it.
-    Run(14, False, changed(example("main_and_oak"), {"phasePedestrianClear.2": 10, "phasePedestrianClear.6": 10}), AT_INSTANT,
+    Run(14, False, changed(example("main_and_oak"), SHORT_CROSSINGS), AT_INSTANT,
         ["pattern 1", "step 1470", "when interval 3"], ["ok", "tick 0001470"]),
+    # With a permissive time of 2 s the car can come 2 s later, and phase 3 begins 1 s behind its instant again.
+    Run(14, True, changed(example("main_and_oak"), {**SHORT_CROSSINGS, "patternPermissiveTime.1": 2}), row(1265, 3),
+        ["pattern 1", "step 2309", "when ped 2", "when interval 3", "step 1", "when interval 3"],
+        ["ok", "tick 0001365", "tick 0001420", "tick 0002310"]),
     # With late force-off phase 3 begins behind its instant too, and ends after the 7 s of phase 8.
     Run(14, False, changed(example("main_and_oak"), FORCED_LATE), AT_INSTANT,
         ["pattern 1", "step 1489", "when ped 2", "when interval 3", "step 1", "when interval 3"],
@@ -85,10 +93,30 @@ RUNS = [
     Run(28, False, changed(CLEAN, {"phasePedestrianClear.4": 28, **FORCED_LATE}), CROSSING,
         ["pattern 1", "step 1099", "when interval 1", "step 1", "when interval 1"],
         ["ok", "tick 0001050", "tick 0001100"]),
+    # Where a maximum acts, phase 1 begins at its instant too, and ends after its maximum of 25 s.
+    Run(28, False, changed(CLEAN, {"phasePedestrianClear.4": 28, "coordMaximumMode.1": 1}), CROSSING,
+        ["pattern 1", "step 1299", "when interval 1", "step 1", "when interval 1"],
+        ["ok", "tick 0001050", "tick 0001300"]),
     # The same car a tick later finds no yield, and waits for the next cycle.
     Run(32, True, example("main_and_oak"), LATE, ["pattern 1", "step 2199", "when interval 3", "step 1", "when interval 3"],
         ["ok", "never", "tick 0002200"]),
     # It does with late force-off too.
     Run(32, True, changed(example("main_and_oak"), FORCED_LATE), LATE,
         ["pattern 1", "step 2199", "when interval 3", "step 1", "when interval 3"], ["ok", "never", "tick 0002200"]),
+    # With a permissive time of 1 s it finds one: the clearance of phase 2 begins with it, and phase 3 a tick later.
+    Run(32, False, changed(example("main_and_oak"), {"patternPermissiveTime.1": 1}), LATE,
+        ["pattern 1", "step 1420", "when interval 3", "step 1", "when interval 3"], ["ok", "never", "tick 0001421"]),
+    # Cars stay on detectors 3 and 4. The maximum of phase 4 ends it 1 s before its instant, tick 850.
+    Run(42, True, changed(CLEAN, {"coordMaximumMode.1": 1, "phaseMaximum1.4": 19}), row(100, 3, 4),
+        ["pattern 1", "step 839", "when interval 4", "step 1", "when interval 4"], ["ok", "tick 0000650", "tick 0000840"]),
+    Run(42, False, changed(CLEAN, {"coordMaximumMode.1": 1, "phaseMaximum1.4": 20}), row(100, 3, 4),
+        ["pattern 1", "step 849", "when interval 4", "step 1", "when interval 4"], ["ok", "tick 0000650", "tick 0000850"]),
+    # A car comes to detector 3 at the end of a permissive time, and stays. The instant of phase 3 is tick 600. With 11 s
+    # its minimum ends 1 s behind it, and with 10 s at it. With 15 s it begins there, and is green for a cycle.
+    Run(43, True, changed(CLEAN, {**ACTUATED, "patternPermissiveTime.1": 11}), row(510, 3),
+        ["pattern 1", "step 609", "when interval 3", "step 1", "when interval 3"], ["ok", "tick 0000560", "tick 0000610"]),
+    Run(43, False, changed(CLEAN, {**ACTUATED, "patternPermissiveTime.1": 10}), row(500, 3),
+        ["pattern 1", "step 599", "when interval 3", "step 1", "when interval 3"], ["ok", "tick 0000550", "tick 0000600"]),
+    Run(43, True, changed(CLEAN, {**ACTUATED, "patternPermissiveTime.1": 15}), row(550, 3),
+        ["pattern 1", "step 1499", "when interval 3", "step 1", "when interval 3"], ["ok", "tick 0000600", "tick 0001500"]),
 ]
