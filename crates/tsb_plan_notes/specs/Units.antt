@@ -1,7 +1,7 @@
 -- THE UNITS OF VALUES, as docs/MANUAL.md has them for each object.
 use Rattle.std.specs.Prelude.{ℕ, List, [], codes}
 use Rattle.tsb_plan.specs.declared.object.Object.{Object}
-use Rattle.tsb_plan.specs.declared.object.Object.TheVariants.{PatternCycleTime, PatternOffsetTime, PhaseAddedInitial, PhaseDynamicMaxLimit, PhaseDynamicMaxStep, PhaseMaximum1, PhaseMaximum2, PhaseMaximumInitial, PhaseMinimumGap, PhaseMinimumGreen, PhasePassage, PhasePedestrianClear, PhaseRedClear, PhaseRedRevert, PhaseTimeBeforeReduction, PhaseTimeToReduce, PhaseWalk, PhaseYellowChange, PreemptDelay, PreemptEnterPedClear, PreemptMaximumPresence, PreemptMinimumDuration, PreemptMinimumGreen, PreemptMinimumWalk, PreemptTrackGreen, SplitTime, UnitRedRevert, VehicleDetectorDelay, VehicleDetectorExtend, VehicleDetectorFailTime, VehicleDetectorMaxPresence, VehicleDetectorNoActivity}
+use Rattle.tsb_plan.specs.declared.object.Object.TheVariants.{PatternCycleTime, PatternOffsetTime, PatternPermissiveTime, PhaseAddedInitial, PhaseDynamicMaxLimit, PhaseDynamicMaxStep, PhaseMaximum1, PhaseMaximum2, PhaseMaximumInitial, PhaseMinimumGap, PhaseMinimumGreen, PhasePassage, PhasePedestrianClear, PhaseRedClear, PhaseRedRevert, PhaseTimeBeforeReduction, PhaseTimeToReduce, PhaseWalk, PhaseYellowChange, PreemptDelay, PreemptEnterPedClear, PreemptMaximumPresence, PreemptMinimumDuration, PreemptMinimumGreen, PreemptMinimumWalk, PreemptTrackGreen, SplitTime, UnitRedRevert, VehicleDetectorDelay, VehicleDetectorExtend, VehicleDetectorFailTime, VehicleDetectorMaxPresence, VehicleDetectorNoActivity}
 use Rattle.tsb_plan_notes.specs.declared.units.Unit.{Unit}
 use Rattle.tsb_plan_notes.specs.declared.units.Unit.TheVariants.{Minutes, Plain, Seconds, Tenths}
 
@@ -39,6 +39,7 @@ unit_of PreemptTrackGreen = Seconds
 unit_of UnitRedRevert = Tenths
 unit_of PhaseDynamicMaxLimit = Seconds
 unit_of PhaseDynamicMaxStep = Tenths
+unit_of PatternPermissiveTime = Seconds
 unit_of o = Plain
 
 -- what a line says of a unit

@@ -41,7 +41,8 @@ pub fn unit_of(object: Object) -> Unit
         | Object::PreemptMinimumWalk
         | Object::PreemptEnterPedClear
         | Object::PreemptTrackGreen
-        | Object::PhaseDynamicMaxLimit => Unit::Seconds,
+        | Object::PhaseDynamicMaxLimit
+        | Object::PatternPermissiveTime => Unit::Seconds,
         Object::PhasePassage
         | Object::PhaseYellowChange
         | Object::PhaseRedClear
