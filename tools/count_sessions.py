@@ -4,8 +4,9 @@
     tools/count_sessions.py --reference FOLDER FILE..
 
 FOLDER holds the independent reference (make_sessions.py says what that is). Two tables are printed: totals, and for
-each command, refusal, rule, watch, trip, stage and force-off in how many places and in how many sessions it occurs. Of
-the sessions that have `coordForceMode` 1 it is told of how many the answers are others with 0.
+each command, refusal, rule, watch, trip, stage, force-off and cause of an ending in a pattern in how many places and in
+how many sessions it occurs. Of the sessions that have options of coordination it is told of how many the answers are
+others with an option at 0.
 """
 import argparse
 import os
@@ -14,7 +15,12 @@ from collections import Counter
 
 import stored_cases
 from make_sessions import Reference
-from reference_events import Tick, force_off_instant
+from reference_events import (Tick, coordinated_phases, force_off_cause, force_off_instant, has_gapped_out,
+                              has_maxed_out, has_maximum_recall, is_coordinated, is_ended_by_preempt, is_forced_off,
+                              runs_pattern)
+
+# The options that are 0 where a plan does not name them, and their values that stand in a plan text or in a command.
+OPTIONS = "coordForceMode coordMaximumMode patternPermissiveTime patternLeadLag".split()
 
 
 def counting(bench, found):
@@ -31,7 +37,7 @@ def counting(bench, found):
             else:
                 count_change(found, given, before, self.states[-1])
                 if given[0] == "tick":
-                    count_force_offs(found, Tick(bench, before, self.states[-1], given[1]))
+                    count_coordination(found, self, Tick(bench, before, self.states[-1], given[1]))
             return refusal
 
         def answer(self, command, out):
@@ -104,23 +110,88 @@ def count_tick(found, before, after):
         found["endings that move a maximum"] += 1
 
 
+def count_coordination(found, session, tick):
+    """Counts the force-offs of a tick of a session, the newest, and what ends greens in it, where a pattern runs."""
+    if tick.before.trip or not runs_pattern(tick.before):
+        return
+    count_force_offs(found, tick)
+    for phase in ended_in(tick):
+        found[f"green in a pattern ends by {causes(session, tick, phase)}"] += 1
+
+
+def causes(session, tick, phase):
+    """What ends a green: the gap, the maximum and a force-off, with what it is forced off by first."""
+    if is_ended_by_preempt(tick, phase):
+        return "a preempt"
+    gapped = has_gapped_out(tick, phase) and not has_maximum_recall(tick.before, phase)
+    named = ["the gap"] * gapped + ["the maximum"] * has_maxed_out(tick, phase)
+    if is_coordinated(tick.before, phase) and not tick.after.service:
+        named = []
+    if is_forced_off(tick, phase):
+        named.append(f"force-off {first_cause(session, tick, phase)}")
+    return " and ".join(named) or "no cause"
+
+
+def first_cause(session, tick, phase):
+    """By what a phase is forced off in the tick from which on it is."""
+    states, place = session.states, len(session.states) - 2
+    while place > 0 and states[place].forced[phase]:
+        given = session.inputs[place - 1]
+        if given[0] == "tick" and not states[place - 1].forced[phase]:
+            return force_off_cause(Tick(tick.bench, states[place - 1], states[place], given[1]), phase)
+        place -= 1
+    return force_off_cause(tick, phase)
+
+
+def ended_in(tick):
+    """The phases whose greens end in a tick."""
+    letters = enumerate(zip(tick.before.interval, tick.after.interval))
+    return [phase for phase, (was, now) in letters if (was, now) == ("G", "Y")]
+
+
+def is_apart(bench, state):
+    """Whether a pattern with lead and lag runs in which the splits of the coordinated phases end at different times."""
+    plan = state.plan
+    if not plan["patternLeadLag"][state.pattern]:
+        return False
+    table, order = plan["patternSplitNumber"][state.pattern], plan["patternSequenceNumber"][state.pattern]
+    held = coordinated_phases(bench, state)
+    return len({bench.ends_at(plan, state.lim, order, table, phase) for phase in held}) > 1
+
+
 def count_force_offs(found, tick):
-    """Counts the phases that are forced off from a tick on, by when that is."""
-    begun = [p for p, forced in enumerate(tick.after.forced) if forced and not tick.before.forced[p]]
+    """Counts the phases that are forced off from a tick on, by what that is: where they end in it too."""
+    begun = {p for p, forced in enumerate(tick.after.forced) if forced and not tick.before.forced[p]}
+    begun |= {p for p in ended_in(tick) if not tick.before.forced[p] and is_forced_off(tick, p)}
     for phase in begun:
-        is_at = tick.bench.local_of(tick.after) == force_off_instant(tick, phase)
-        found["force-offs at the instant" if is_at else "force-offs behind the instant"] += 1
+        cause = force_off_cause(tick, phase)
+        found[f"force-offs {cause}"] += 1
+        is_new = tick.bench.local_of(tick.after) < force_off_instant(tick.bench, tick.before, phase)
+        if is_new and cause not in ("at the instant", "by the length of the green"):
+            found[f"force-offs {cause}, past the end of the cycle"] += 1
+        if is_apart(tick.bench, tick.before):
+            kind = "coordinated" if is_coordinated(tick.before, phase) else "other"
+            found[f"force-offs with lead and lag {cause}, {kind} phase of ring {ring_of(tick, phase)}"] += 1
 
 
-def with_mode_0(case):
-    """The plan and the commands of a case, with `coordForceMode` 0 in the place of 1."""
-    plan = re.sub(rb'("coordForceMode": *\{"1": *)1', rb"\g<1>0", case.plan)
-    return plan, re.sub(rb"(?m)^(set [1-4] coordForceMode 1) 1$", rb"\1 0", case.commands)
+def ring_of(tick, phase):
+    """The ring of a phase."""
+    return tick.before.plan["phaseRing"][phase]
 
 
-def is_by_the_mode(reference, case, answers):
-    """Whether a case is answered otherwise with `coordForceMode` 0."""
-    plan, commands = with_mode_0(case)
+def without(case, option):
+    """The plan and the commands of a case, with 0 in the place of each value of an option."""
+    def cleared(table):
+        return re.sub(rb":[0-9]+", b":0", table.group(0))
+
+    name = option.encode()
+    plan = re.sub(rb'"%s":\{[^}]*\}' % name, cleared, case.plan)
+    return plan, re.sub(rb"(?m)^(set [1-4] %s [0-9]+) [0-9]+$" % name, rb"\1 0", case.commands)
+
+
+def is_by_the_option(reference, case, answers, option):
+    """Whether a case is answered otherwise with an option at 0."""
+    plan, commands = without(case, option)
     if (plan, commands) == (case.plan, case.commands):
         return False
     return reference.answers(plan, case.log, commands) != answers
@@ -189,7 +260,8 @@ def main():
             sessions.update(found.keys())
             totals.update({"sessions": 1, "answer lines": case.lines, "answer bytes": len(answers)})
             totals["sessions told in full"] += case.answers is not None
-            totals["sessions that differ with coordForceMode 0"] += is_by_the_mode(reference, case, answers)
+            totals.update(f"sessions that differ with {option} 0" for option in OPTIONS
+                          if is_by_the_option(reference, case, answers, option))
             if (answers.count(b"\n"), stored_cases.checksum(answers)) != (case.lines, case.sum):
                 print(f"{case.name}: the reference answers something else")
     print("| Total | |\n|---|---|")

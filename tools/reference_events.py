@@ -40,6 +40,10 @@ STAGE_LISTS = {"Track": "preemptTrackPhase", "Dwell": "preemptDwellPhase", "Exit
 INPUT_CODES = [(82, 81), (90, 89), (102, 104)]
 # What is told of a pattern where none is selected.
 FREE = 254
+# The force modes in which phases are forced off behind their instants, and in which by the length of their greens too.
+LATE, FLOATING = (1, 2), 2
+# The maximum that acts in a pattern, by the maximum mode.
+PATTERN_MAXIMUMS = {1: "phaseMaximum1", 2: "phaseMaximum2"}
 # Split modes of the pattern that runs.
 MINIMUM, MAXIMUM, PEDESTRIAN, MAXIMUM_AND_PEDESTRIAN, OMITTED = 1, 2, 3, 4, 5
 
@@ -111,6 +115,42 @@ def of_split(state: State, name: str, phase: int) -> int:
 def is_coordinated(state: State, phase: int) -> bool:
     """Whether it is a coordinated phase of the pattern that runs."""
     return of_split(state, "splitCoordPhase", phase) == 1
+
+
+def acting_maximum(bench: Any, state: State, phase: int) -> int | None:
+    """The maximum that acts on a green, and none where none does: in a pattern it is by the mode, and never on a
+    coordinated phase."""
+    if not runs_pattern(state):
+        return bench.maximum(state, phase)
+    name = PATTERN_MAXIMUMS.get(state.plan["coordMaximumMode"][1])
+    return None if name is None or is_coordinated(state, phase) else 10 * state.plan[name][phase]
+
+
+def coordinated_phases(bench: Any, state: State) -> list[int]:
+    """The coordinated phases of the pattern that runs, that of ring 1 first."""
+    rings = state.plan["phaseRing"]
+    held = [it for it in bench.enabled(state.plan, state.lim) if is_coordinated(state, it)]
+    return sorted(held, key=lambda it: rings[it])
+
+
+def clearance(state: State, phase: int) -> int:
+    """Yellow and red clearance of a phase."""
+    return state.plan["phaseYellowChange"][phase] + state.plan["phaseRedClear"][phase]
+
+
+def cycle_of(state: State) -> int:
+    """The cycle of the pattern that runs, in ticks."""
+    return 10 * state.plan["patternCycleTime"][state.pattern]
+
+
+def force_off_instant(bench: Any, state: State, phase: int) -> int:
+    """The local counter at which the phase is forced off in the pattern that runs: it is 0 at the end of the split of
+    ring 1's coordinated phase, or else of ring 2's."""
+    plan = state.plan
+    table, order = plan["patternSplitNumber"][state.pattern], plan["patternSequenceNumber"][state.pattern]
+    held = coordinated_phases(bench, state)[0]
+    end, zero = (bench.ends_at(plan, state.lim, order, table, it) for it in (phase, held))
+    return (10 * (end - zero) - clearance(state, phase)) % cycle_of(state)
 
 
 def has_minimum_recall(state: State, phase: int) -> bool:
@@ -252,42 +292,52 @@ def has_gapped_out(tick: Tick, phase: int) -> bool:
 
 
 def has_maxed_out(tick: Tick, phase: int) -> bool:
-    """Whether in free operation a conflict has stood for the maximum in use."""
+    """Whether a conflict has stood for the maximum that acts."""
     stood = one_more(tick.before.conf[phase]) if conflicting(tick, phase) else None
-    return not runs_pattern(tick.before) and stood is not None and stood >= tick.bench.maximum(tick.before, phase)
+    most = acting_maximum(tick.bench, tick.before, phase)
+    return stood is not None and most is not None and stood >= most
 
 
-def coordinated_phases(tick: Tick) -> list[int]:
-    """The coordinated phases of the pattern that runs, by their numbers."""
-    return [it for it in tick.bench.enabled(tick.before.plan, tick.before.lim) if is_coordinated(tick.before, it)]
+def behind_instant(tick: Tick, phase: int) -> int:
+    """How many ticks ago the local counter was at the instant of the phase last."""
+    return (tick.bench.local_of(tick.after) - force_off_instant(tick.bench, tick.before, phase)) % cycle_of(tick.before)
 
 
-def force_off_instant(tick: Tick, phase: int) -> int:
-    """The local counter at which the phase is forced off in the pattern that runs."""
-    before, plan = tick.before, tick.before.plan
-    table, order = plan["patternSplitNumber"][before.pattern], plan["patternSequenceNumber"][before.pattern]
-    held = coordinated_phases(tick)[0]
-    end, zero = (tick.bench.ends_at(plan, before.lim, order, table, it) for it in (phase, held))
-    cycle = 10 * plan["patternCycleTime"][before.pattern]
-    return (10 * (end - zero) - plan["phaseYellowChange"][phase] - plan["phaseRedClear"][phase]) % cycle
-
-
-def force_off_instants(tick: Tick, phase: int) -> range:
-    """The local counters at which the phase is forced off: its instant, and by the force mode those behind it, up to
-    that of the coordinated phase of its ring, or else of the first one."""
-    instant, rings = force_off_instant(tick, phase), tick.before.plan["phaseRing"]
-    if tick.before.plan["coordForceMode"][1] == 0 or is_coordinated(tick.before, phase):
-        return range(instant, instant + 1)
-    held = coordinated_phases(tick)
+def late_ticks(tick: Tick, phase: int) -> int:
+    """In how many ticks from its instant on the force mode has a phase forced off that is not coordinated: those up to
+    the instant of the coordinated phase of its ring, or else of the other ring."""
+    if tick.before.plan["coordForceMode"][1] not in LATE:
+        return 0
+    held, rings = coordinated_phases(tick.bench, tick.before), tick.before.plan["phaseRing"]
     beside = [it for it in held if rings[it] == rings[phase]]
-    return range(instant, max(instant + 1, force_off_instant(tick, [*beside, *held][0])))
+    ends, begins = (force_off_instant(tick.bench, tick.before, it) for it in ([*beside, *held][0], phase))
+    return (ends - begins) % cycle_of(tick.before)
+
+
+def has_floated(tick: Tick, phase: int) -> bool:
+    """Whether by the force mode a green is forced off that has lasted its split without its clearance."""
+    time = max(0, 10 * of_split(tick.before, "splitTime", phase) - clearance(tick.before, phase))
+    return tick.before.plan["coordForceMode"][1] == FLOATING and one_more(tick.before.itime[phase]) >= time
+
+
+def force_off_cause(tick: Tick, phase: int) -> str | None:
+    """Why a phase is forced off in a tick in which a pattern runs, and none where it is not."""
+    behind = behind_instant(tick, phase)
+    if behind == 0:
+        return "at the instant"
+    if is_coordinated(tick.before, phase):
+        permissive = 10 * tick.before.plan["patternPermissiveTime"][tick.before.pattern]
+        return "within the permissive time" if behind <= permissive else None
+    if behind < late_ticks(tick, phase):
+        return "behind the instant"
+    return "by the length of the green" if has_floated(tick, phase) else None
 
 
 def is_forced_off(tick: Tick, phase: int) -> bool:
     """Whether a conflict has stood from a tick on in which it is forced off, in a pattern and outside of preempts."""
     if not runs_pattern(tick.before) or tick.after.service or not conflicting(tick, phase):
         return False
-    return tick.before.forced[phase] or tick.bench.local_of(tick.after) in force_off_instants(tick, phase)
+    return tick.before.forced[phase] or force_off_cause(tick, phase) is not None
 
 
 def is_ended_by_preempt(tick: Tick, phase: int) -> bool:

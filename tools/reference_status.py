@@ -10,9 +10,10 @@ import json
 from typing import Any, NamedTuple
 
 from make_sessions import Reference
-from reference_events import (DETECTORS, FREE, OVERLAPS, STAGE_LISTS, State, failed_detectors, has_maximum_recall,
-                              is_coordinated, of_split, overlap_heads, pedestrian_calls, runs_pattern, shown_intervals,
-                              shown_parts, showing, vehicle_calls)
+from reference_events import (DETECTORS, FREE, OVERLAPS, STAGE_LISTS, State, acting_maximum, cycle_of,
+                              failed_detectors, force_off_instant, has_maximum_recall, is_coordinated, of_split,
+                              overlap_heads, pedestrian_calls, runs_pattern, shown_intervals, shown_parts, showing,
+                              vehicle_calls)
 
 RINGS, PREEMPTS = (1, 2), range(1, 5)
 OMITTED = 5
@@ -123,13 +124,19 @@ def has_gapped(bench: Any, state: State, phase: int) -> bool:
     return expired or disabled and (state.gapped[phase] or lasted and expired)
 
 
+def maximum_left(bench: Any, state: State, phase: int) -> int | None:
+    """What is left of the maximum that acts on a green, and none where none does or there is no conflict."""
+    most, stood = acting_maximum(bench, state, phase), state.conf[phase]
+    return None if most is None or stood is None else left(most, stood)
+
+
 def may_end(bench: Any, state: State, phase: int) -> bool:
     """Whether a green may end by its gap, its maximum or its force-off."""
     runs, waited = runs_pattern(state), state.conf[phase] is not None
     forced = runs and not state.service and waited and state.forced[phase]
     if is_coordinated(state, phase) and not state.service:
         return forced
-    maxed = not runs and waited and state.conf[phase] >= bench.maximum(state, phase)
+    maxed = maximum_left(bench, state, phase) == 0
     return has_gapped(bench, state, phase) and not has_maximum_recall(state, phase) or maxed or forced
 
 
@@ -237,13 +244,7 @@ def force_off_in(bench: Any, state: State, phase: int) -> int | None:
     """How long until the force-off instant of a phase, in a pattern."""
     if not runs_pattern(state):
         return None
-    plan = state.plan
-    table, order = plan["patternSplitNumber"][state.pattern], plan["patternSequenceNumber"][state.pattern]
-    held = next(it for it in bench.enabled(plan, state.lim) if is_coordinated(state, it))
-    end, zero = (bench.ends_at(plan, state.lim, order, table, it) for it in (phase, held))
-    cycle = 10 * plan["patternCycleTime"][state.pattern]
-    instant = 10 * (end - zero) - plan["phaseYellowChange"][phase] - plan["phaseRedClear"][phase]
-    return (instant - bench.local_of(state)) % cycle
+    return (force_off_instant(bench, state, phase) - bench.local_of(state)) % cycle_of(state)
 
 
 def ring_status(bench: Any, state: State, ring: int) -> dict[str, int | None]:
@@ -252,7 +253,6 @@ def ring_status(bench: Any, state: State, ring: int) -> dict[str, int | None]:
     interval, part = (state.interval[phase], state.ped[phase]) if phase else ("R", "D")
     green, plan = interval == "G", state.plan
     parts = {"R": RED_REST, "Y": YELLOW_CHANGE, "C": RED_CLEARANCE}
-    maxes = green and not runs_pattern(state) and state.conf[phase] is not None
     return {
         "ringStatus": green_part(bench, state, phase) if green else parts[interval],
         "phase": phase,
@@ -260,7 +260,7 @@ def ring_status(bench: Any, state: State, ring: int) -> dict[str, int | None]:
         "initialLeft": initial_left(bench, state, phase) if green else None,
         "gap": bench.gap(plan, phase, state.red[phase]) if green else None,
         "gapLeft": gap_left(bench, state, phase) if green else None,
-        "maximumLeft": left(bench.maximum(state, phase), state.conf[phase]) if maxes else None,
+        "maximumLeft": maximum_left(bench, state, phase) if green else None,
         "walkLeft": walk_left(bench, state, phase) if part == "W" else None,
         "clearanceLeft": clearance_left(bench, state, phase) if part == "C" else None,
         "yellowLeft": left(plan["phaseYellowChange"][phase], state.itime[phase]) if interval == "Y" else None,
