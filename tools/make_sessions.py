@@ -24,7 +24,7 @@ from itertools import takewhile
 
 import stored_cases
 from mangled_texts import mangled
-from option_families import family_of, options
+from option_families import broken_plans, family_of, options
 from session_families import FAMILIES, brisk, odd_words
 from trip_families import trips
 
@@ -35,7 +35,8 @@ TITLES = {
     "late": "Sessions at random: detectors that fail, maximums that move, overlaps, trips, transactions, cycles of 0.",
     "aimed": "Sessions of what others seldom meet: each rule, refusals, stages, alarms, coincidences, the way back.",
     "tripped": "Sessions in which the monitor trips: in crossings, in each stage of preempts, in transactions, and back.",
-    "options": "Sessions in patterns with each `coordForceMode`: greens that begin behind their force-off instants.",
+    "options": "Sessions in patterns with the options of coordination: force modes, maximums, permissive times, lead "
+               "and lag.",
     "mangled": "Sessions of which the plan text, the log or the commands were mangled: bytes changed at random.",
 }
 
@@ -190,9 +191,11 @@ def tripped_session(reference, seed):
 
 
 def option_session(reference, seed):
-    """A session with an option of coordination."""
+    """A session with options of coordination."""
     plan, log, commands = options(reference, random.Random(f"options {seed}"), seed)
-    assert reference.accepts(plan), f"seed {seed}: {family_of(seed).__name__} makes a plan that has a fault"
+    family = family_of(seed)
+    is_well = family is broken_plans or reference.accepts(plan)
+    assert is_well, f"seed {seed}: {family.__name__} makes a plan that has a fault"
     return plan, log.encode(), "".join(command + "\n" for command in commands).encode()
 
 
