@@ -2,7 +2,7 @@
 -- numbers a to e of a breach; W, X, Y, Z and U are the same as times, in seconds.
 use Rattle.std.specs.Prelude.{ℕ, List, codes}
 use Rattle.tsb_breaches.specs.declared.fault.Fault.{Fault}
-use Rattle.tsb_breaches.specs.declared.fault.Fault.TheVariants.{K1, K2Ring, K2Side, K3, K4Unused, K4Ring, K4Side, K5, K6Unused, K6Ring, K6Missing, K6Again, K6Side, K6Gap, K7Unused, K7Ring, K7Missing, K7Again, K7Side, K7Gap, K8, K9, K10Maximum1, K10Maximum2, K11, K12, K13Unused, K13Walk, K14, K15TrackUnused, K15DwellUnused, K15ExitUnused, K15Track, K15Dwell, K15Exit, K16Track, K16Exit, K17Offset, K17Split, K17Sequence, K17Blank, K18, K19Rings, K19Cycle, K20None, K20Unused, K20Omitted, K20Sides, K20Apart, K20Ends, K20Ring, K21Unused, K21Type, K22}
+use Rattle.tsb_breaches.specs.declared.fault.Fault.TheVariants.{K1, K2Ring, K2Side, K3, K4Unused, K4Ring, K4Side, K5, K6Unused, K6Ring, K6Missing, K6Again, K6Side, K6Gap, K7Unused, K7Ring, K7Missing, K7Again, K7Side, K7Gap, K8, K9, K10Maximum1, K10Maximum2, K11, K12, K13Unused, K13Walk, K14, K15TrackUnused, K15DwellUnused, K15ExitUnused, K15Track, K15Dwell, K15Exit, K16Track, K16Exit, K17Offset, K17Split, K17Sequence, K17Blank, K18, K19Rings, K19Cycle, K20None, K20Unused, K20Omitted, K20Sides, K20Apart, K20Ends, K20Ring, K21Unused, K21Type, K22, K23}
 
 -- the text of a breach
 abbrev pub breach_template : Fault → List ℕ
@@ -60,3 +60,4 @@ breach_template K20Ring = codes "K20 pattern P, ring Q: R of its phases are coor
 breach_template K21Unused = codes "K21 overlap P: its modifier phase Q is not enabled"
 breach_template K21Type = codes "K21 overlap P: it has modifier phases, and its type is Q"
 breach_template K22 = codes "K22 phase P: its dynamic maximum limit of X s is under its minimum green of Y s"
+breach_template K23 = codes "K23 pattern P: its permissive time of X s is not below its cycle of Y s"

@@ -79,5 +79,6 @@ pub(crate) fn breach_template(fault: Fault) -> &'static [u8]
         Fault::K22 => {
             b"K22 phase P: its dynamic maximum limit of X s is under its minimum green of Y s"
         }
+        Fault::K23 => b"K23 pattern P: its permissive time of X s is not below its cycle of Y s",
     }
 }
