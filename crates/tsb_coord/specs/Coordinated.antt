@@ -1,8 +1,8 @@
 -- What coordination asks of the rings in a tick: the pattern that runs, its local counter, and by it hold, force-off
 -- and omit. Cycle, offset, splits, split modes, coordinated phases and sequences are the objects of NTCIP 1202 of these
--- names. That the local counter is 0 where the coordinated split ends, that a phase is forced off in time for its split
--- to end with its red clearance (fixed force-off, no transition after a change of pattern), late force-off, and the
--- orders, are the profile's own.
+-- names. That the local counter is 0 where the coordinated split of ring 1 ends, that a phase is forced off in time for its
+-- split to end with its red clearance (fixed force-off, no transition after a change of pattern), late force-off, the
+-- permissive time, and the orders, are the profile's own.
 --
 -- `t` is the number of this tick, and `selected` the pattern that the operator selected, if any. Times are in ticks,
 -- which are tenths of a second. All is found from these and the plan, so the only state is which pattern is selected.
@@ -12,7 +12,7 @@ use Rattle.tsb_objects.specs.tsb_types.declared.refusal.Refusal.TheVariants.{NoS
 use Rattle.tsb_objects.specs.tsb_plan.Plan.{Plan, sequence}
 use Rattle.tsb_objects.specs.tsb_plan.Parts.{is_used, cycle, offset, unless_zero}
 use Rattle.tsb_objects.specs.tsb_plan.Running.{running, sequence_in_effect, is_coordinated_now, is_omitted_now}
-pub use Rattle.tsb_objects.specs.Instants.{residue_of_difference, end_in, end_of, instant_from, is_same_from_both, reference, instant_by, agree, yields_to, instant_of, late_end, is_late, forces_off}
+pub use Rattle.tsb_objects.specs.Instants.{residue_of_difference, end_in, end_of, instant_from, is_same_from_both, coordinated_in_ring, first_coordinated, reference, instant_by, agree, yields_to, instant_of, late_end, is_from_to, counted_on, is_late, is_forced_late, yields_for, is_behind, is_permitted, permissive_end_from, permissive_end, forces_off}
 -- re-exported as well: the instant with which the local counter is compared
 unfoldable pub use Rattle.tsb_objects.specs.Instants.{force_off}
 
@@ -41,7 +41,15 @@ local plan t selected = local_in plan t (running plan selected)
 abbrev pub is_at_force_off : Plan → ℕ → Option ℕ → ℕ → Bool
 is_at_force_off plan t selected p = agree (local plan t selected) (force_off plan (running plan selected) p)
 
--- force-off: it is there, or p is forced off late in this tick
+-- the local counter is in the permissive time of p in this tick, which has one
+abbrev pub is_in_permissive_time : Plan → ℕ → Option ℕ → ℕ → Bool
+is_in_permissive_time plan t selected p = is_permitted plan (running plan selected) (local plan t selected) p
+
+-- the permissive time of p has just ended in this tick: it is the first behind it
+abbrev pub ends_permissive_time : Plan → ℕ → Option ℕ → ℕ → Bool
+ends_permissive_time plan t selected p = agree (local plan t selected) (permissive_end plan (running plan selected) p)
+
+-- force-off: it is at the instant, or p is forced off late in this tick, or it is in the permissive time
 abbrev pub asks_force_off : Plan → ℕ → Option ℕ → ℕ → Bool
 asks_force_off plan t selected p = forces_off plan (running plan selected) (local plan t selected) p
 

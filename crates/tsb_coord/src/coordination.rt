@@ -11,7 +11,7 @@ pub struct Coordination {
     pub sequence: Sequence,
     /// The coordinated phases, which end their green only by force-off while no preempt is in service.
     pub hold: PhaseSet,
-    /// Phases that are forced off in this tick, at their instant or late.
+    /// Phases that are forced off in this tick, at their instant, late, or in their permissive time.
     pub forced: PhaseSet,
     /// Phases that no call and no dual entry brings into service, as their split mode omits them. A preempt does,
     /// where its target has them.

@@ -2,35 +2,44 @@
 //! that does nothing.
 ghost use Rattle.tsb_objects.specs.tsb_plan.Plan.{Plan};
 ghost use Rattle.tsb_objects.specs.tsb_rules.Consistent.{OfConsistentPlans};
-ghost use Rattle.tsb_coord.specs.Laws.{EndWithTheirSplits, CoordinatedEndAtZero, AtInstantsInMode0, CoordinatedAtInstants, ForcedAtInstants, EndsWhereItYields, RowsAreTold, StatesAreRead, StatesAreBy};
+ghost use Rattle.tsb_coord.specs.Laws.{EndWithTheirSplits, CoordinatedEndAtZero, CoordinatedEndInTime, CoordinatedEndNearZero, AtInstantsInMode0, CoordinatedAtInstants, OthersAreNotPermitted, NoneIsPermittedWithout, ForcedAtInstants, EndsWhereItYields, RowsAreTold, StatesAreRead, StatesAreBy};
 
 /// A phase that is forced off at its instant has time to clear by the end of its split. Its yellow change and red
-/// clearance, counted from its force-off instant, end where its split ends on the local counter; those of a coordinated
-/// phase end at local 0.
+/// clearance, counted from its force-off instant, end where its split ends on the local counter; those of the coordinated
+/// phase that instants are counted from end at local 0. In each mode those of a coordinated phase, whenever it is forced
+/// off, end there or at most its permissive time behind.
 ///
 /// Needs: a plan that breaks no rule.
 /// Not said: that the green ends at the instant; that the phase is over then, which `coordinated_phases_clear_at_zero`
 /// of tsb_step says of coordinated phases.
 /// Mistakes: an instant counted from the end of the phase's own split, `instant_from_own`; one without the red
 /// clearance, `instant_without_clearance`, or without the yellow change, `instant_without_yellow`; one counted from the
-/// start of side 1, `instant_from_begin`; a difference below 0 that counts as 0, `instant_cut_off`.
-/// Witness: `ends_at_zero`, `ends_with_split`.
+/// start of side 1, `instant_from_begin`; a difference below 0 that counts as 0, `instant_cut_off`; instants that are
+/// counted from the first coordinated phase in a pattern that leads and lags, `instant_from_first` (`clears_elsewhere`); a
+/// permissive time that is counted from local 0, `behind_zero` (`clears_too_late`).
+/// Witness: `ends_at_zero`, `ends_with_split`; `leads` and `ends_with_its_own` of LeadLagExamples; `ends_behind_zero` of
+/// PermissiveExamples.
 pub fn forced_phases_end_with_their_splits()
     ensures ends { OfConsistentPlans EndWithTheirSplits }
     ensures at_zero { OfConsistentPlans CoordinatedEndAtZero }
+    ensures in_time { OfConsistentPlans CoordinatedEndInTime }
+    ensures near_zero { OfConsistentPlans CoordinatedEndNearZero }
 {}
 
-/// Late force-off is an option. With `coordForceMode` 0 a phase is forced off at its instant alone. In both modes a
-/// coordinated phase is, and no phase misses its instant. At the instant of the coordinated phase that it yields to, a
-/// phase is forced off only where that is its own.
+/// Late force-off is an option, and so is the permissive time. With `coordForceMode` 0 a phase is forced off at its instant
+/// and in its permissive time alone. In each mode a coordinated phase is, and no phase misses its instant. No other phase
+/// has a permissive time, and none has where that of the pattern is 0. At the instant of the coordinated phase that it
+/// yields to, a phase is not late.
 ///
 /// Mistakes: the mode is not read, `late_in_both_modes` (`would_be_late_in_mode_0`); a coordinated phase is forced off
 /// late as well, `late_for_all` (`would_be_late`); the instant of the coordinated phase is counted in, `is_late_to`
-/// (`would_go_on`).
-/// Witness: `in_mode_0`, `in_mode_1`, `at_its_own` of LateExamples.
+/// (`would_go_on`); all phases have a permissive time, `time_for_all` (`would_be_permitted`).
+/// Witness: `in_mode_0`, `in_mode_1`, `at_its_own` of LateExamples; `in_its_time` of PermissiveExamples.
 pub fn late_force_off_is_an_option()
     ensures off { (plan : Plan) → AtInstantsInMode0 plan }
     ensures coordinated { (plan : Plan) → CoordinatedAtInstants plan }
+    ensures others { (plan : Plan) → OthersAreNotPermitted plan }
+    ensures without { (plan : Plan) → NoneIsPermittedWithout plan }
     ensures at_instant { (plan : Plan) → ForcedAtInstants plan }
     ensures yields { (plan : Plan) → EndsWhereItYields plan }
 {}

@@ -1,9 +1,10 @@
-//! How long the local counter takes to reach the next force-off instant.
+//! How long the local counter takes to the next tick at which coordination may force off other phases: a force-off instant,
+//! or the end of a permissive time.
 ghost use Rattle.std.specs.Prelude.{◌≡◌, ◌≤◌, ◌<◌, ◌+◌, ◌%◌, ◌⊎◌, ℕ, true, false, Some, IfSome};
 ghost use Rattle.tsb_objects.specs.tsb_plan.Parts.{cycle, is_used};
 ghost use Rattle.tsb_objects.specs.Checked.{checked_plan};
-ghost use Rattle.tsb_coord.specs.Coordinated.{force_off, agree};
-ghost use Rattle.tsb_coord.specs.Due.{IsMet};
+ghost use Rattle.tsb_coord.specs.Coordinated.{force_off, agree, permissive_end};
+ghost use Rattle.tsb_coord.specs.Due.{IsMet, IsEnded};
 
 use crate::counting::cycle_of;
 use tsb_objects::{Checked, Pattern, Phase};
@@ -33,8 +34,32 @@ fn ticks_to(cycle: u32, local: u32, instant: &Option<u32>) -> u32
     }
 }
 
+/// How many ticks the local counter takes to reach the end of a permissive time again, one at least; a cycle where there is
+/// none, or it is there now.
+#[inline(always)]
+fn ticks_to_end(cycle: u32, local: u32, end: &Option<u32>) -> u32
+    requires local { local < cycle }
+    requires small { cycle ≤ 2550 }
+    requires below { IfSome end.now (λ i. i < cycle) }
+    ensures from_one { 1 ≤ result }
+    ensures within { result ≤ cycle }
+    ensures quiet { (k : ℕ) → 1 ≤ k → k < result → agree (Some ((local + k) % cycle)) end.now ≡ false }
+    ensures met { (result ≡ cycle) ⊎ IsEnded cycle local end.now result }
+{
+    match end {
+        None => cycle,
+        Some(end) => {
+            if local < *end {
+                *end - local
+            } else {
+                *end + cycle - local
+            }
+        }
+    }
+}
+
 /// How many ticks the local counter takes to reach the next force-off instant of a phase, one at least.
-pub(crate) fn ticks_to_next(plan: &Checked, n: Pattern, local: u32) -> u32
+fn ticks_to_instant(plan: &Checked, n: Pattern, local: u32) -> u32
     requires used { is_used (checked_plan plan.now) n ≡ true }
     requires local { local < cycle (checked_plan plan.now) n }
     ensures from_one { 1 ≤ result }
@@ -51,4 +76,42 @@ pub(crate) fn ticks_to_next(plan: &Checked, n: Pattern, local: u32) -> u32
         ticks = ticks.min(ticks_to(cycle, local, &at));
     }
     ticks
+}
+
+/// How many ticks the local counter takes to reach the next end of a permissive time, one at least; a cycle where there is
+/// none.
+fn ticks_to_permissive_end(plan: &Checked, n: Pattern, local: u32) -> u32
+    requires used { is_used (checked_plan plan.now) n ≡ true }
+    requires local { local < cycle (checked_plan plan.now) n }
+    ensures from_one { 1 ≤ result }
+    ensures within { result ≤ 2550 }
+    ensures quiet { (p k : ℕ) → 1 ≤ p → p ≤ 16 → 1 ≤ k → k < result →
+        agree (Some ((local + k) % cycle (checked_plan plan.now) n)) (permissive_end (checked_plan plan.now) (Some n) p) ≡ false }
+    ensures met { (result ≡ cycle (checked_plan plan.now) n)
+        ⊎ ((p : ℕ) × IsEnded (cycle (checked_plan plan.now) n) local (permissive_end (checked_plan plan.now) (Some n) p) result) }
+{
+    let cycle = cycle_of(plan, n);
+    let mut ticks = cycle;
+    for number in 1..17u8 {
+        let end = plan.permissive_end(n, Phase::of(number));
+        ticks = ticks.min(ticks_to_end(cycle, local, &end));
+    }
+    ticks
+}
+
+/// How many ticks it takes to the next instant or end of a permissive time, one at least.
+pub(crate) fn ticks_to_next(plan: &Checked, n: Pattern, local: u32) -> u32
+    requires used { is_used (checked_plan plan.now) n ≡ true }
+    requires local { local < cycle (checked_plan plan.now) n }
+    ensures from_one { 1 ≤ result }
+    ensures within { result ≤ 2550 }
+    ensures quiet { (p k : ℕ) → 1 ≤ p → p ≤ 16 → k < result → 1 < result →
+        agree (Some ((local + k) % cycle (checked_plan plan.now) n)) (force_off (checked_plan plan.now) (Some n) p) ≡ false }
+    ensures permitted { (p k : ℕ) → 1 ≤ p → p ≤ 16 → 1 ≤ k → k < result →
+        agree (Some ((local + k) % cycle (checked_plan plan.now) n)) (permissive_end (checked_plan plan.now) (Some n) p) ≡ false }
+    ensures met { (result ≡ cycle (checked_plan plan.now) n)
+        ⊎ (((p : ℕ) × IsMet (cycle (checked_plan plan.now) n) local (force_off (checked_plan plan.now) (Some n) p) result)
+        ⊎ ((p : ℕ) × IsEnded (cycle (checked_plan plan.now) n) local (permissive_end (checked_plan plan.now) (Some n) p) result)) }
+{
+    ticks_to_instant(plan, n, local).min(ticks_to_permissive_end(plan, n, local))
 }

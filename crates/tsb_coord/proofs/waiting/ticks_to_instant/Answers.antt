@@ -4,7 +4,7 @@ use Rattle.tsb_objects.specs.Checked.{checked_plan}
 use Rattle.tsb_coord.specs.Coordinated.{force_off, agree}
 use Rattle.tsb_coord.specs.Due.{IsMet}
 use Rattle.tsb_coord.proofs.WaitLemmas.{met_least}
-use Rattle.tsb_coord.proofs.waiting.ticks_to_next.Goals as goal
+use Rattle.tsb_coord.proofs.waiting.ticks_to_instant.Goals as goal
 
 pub loop-number-preserved : goal.loop-number-preserved
 loop-number-preserved c =

@@ -3,7 +3,7 @@ use Rattle.tsb_objects.specs.Checked.{checked_plan}
 use Rattle.tsb_objects.specs.tsb_plan.Parts.{cycle}
 use Rattle.tsb_coord.specs.Coordinated.{force_off, agree}
 use Rattle.tsb_coord.specs.Due.{IsMet}
-use Rattle.tsb_coord.proofs.waiting.ticks_to_next.Given as goal
+use Rattle.tsb_coord.proofs.waiting.ticks_to_instant.Given as goal
 
 -- no phase so far is forced off earlier
 abbrev pub invariant-loop-number : goal.invariant-loop-number
