@@ -2,7 +2,10 @@
 pub mod Examples
 pub mod PatternExamples
 pub mod LateExamples
+pub mod PermissiveExamples
+pub mod LeadLagExamples
 pub mod Mistakes
 pub mod LawMistakes
 pub mod LateMistakes
+pub mod PermissiveMistakes
 pub mod RangeMistakes

@@ -1,25 +1,26 @@
--- How long the local counter takes to the next force-off instant, and that nothing is ordered anew until then. What is
--- forced off late stays so between instants, as late force-off begins and ends at them, within a cycle.
-use Rattle.std.proofs.Common.{zero, suc, ◌≡◌, ◌≢◌, ℕ, ◌+◌, ◌-◌, ◌*◌, ◌%◌, ◌<◌, ◌≤◌, ◌==◌, ◌⊎◌, nat_le, nat_lt, min, Bool, true, false, not, ◌&&◌, ◌||◌, if◌then◌else◌, List, Option, Some, None, IfSome, refl, sym, ap, subst, ◌∙◌, arith, inl, inr}
+-- How long the local counter takes to the next force-off instant or end of a permissive time, and that nothing is ordered
+-- anew until then. What is forced off late stays so between instants, as late force-off begins and ends at them, and what
+-- is in its permissive time does between its instant and its end.
+use Rattle.std.proofs.Common.{zero, suc, ◌≡◌, ◌≢◌, ℕ, ◌+◌, ◌-◌, ◌*◌, ◌%◌, ◌<◌, ◌≤◌, ◌==◌, ◌⊎◌, nat_lt, min, Bool, true, false, not, ◌&&◌, ◌||◌, if◌then◌else◌, List, Option, Some, None, IfSome, refl, sym, ap, subst, ◌∙◌, arith, inl, inr}
 use Rattle.std.proofs.Math.Nat.{mod-eq_of_lt, mod-lt, mod-add-mod, mul-mod_left, add-mul-mod_self_right}
 use Rattle.std.proofs.lemmas.Bool.{cases_lt, ne_eqb, eq-eqb}
 use Rattle.std.proofs.lemmas.Bool.Decides.{nat_tests}
 use Rattle.tsb_objects.specs.tsb_types.Lists.{first, run_from, or_else}
 use Rattle.tsb_objects.specs.tsb_plan.Plan.{Plan, is_enabled, ring_of}
 use Rattle.tsb_objects.specs.tsb_plan.declared.object.Object.TheVariants.{PatternCycleTime}
-use Rattle.tsb_objects.specs.tsb_plan.Parts.{is_used, cycle, offset, forces_late}
+use Rattle.tsb_objects.specs.tsb_plan.Parts.{is_used, cycle, offset, leads_and_lags, forces_late}
 use Rattle.tsb_objects.specs.tsb_plan.Running.{running, coordinates_in, is_coordinated_now}
 use Rattle.tsb_objects.specs.tsb_rules.Rules.{first_broken}
 use Rattle.tsb_objects.specs.tsb_rules.Consistent.{IsWhole, AreCoordinated}
 use Rattle.tsb_objects.specs.Instants.{is_coordinated_in, coordinated_in_ring}
 use Rattle.tsb_objects.proofs.tsb_rules.ConsistentLemmas.{whole, coordinated}
-use Rattle.tsb_objects.proofs.InstantLemmas.{instants-below}
+use Rattle.tsb_objects.proofs.InstantLemmas.{instants-below, late-end-below}
 use Rattle.tsb_coord.specs.declared.coordination.Coordination.{Coordination}
 use Rattle.tsb_coord.specs.Cells.{pattern_in}
-use Rattle.tsb_coord.specs.Coordinated.{counter, local_in, instant_from, reference, force_off, agree, yields_to, instant_of, late_end, is_late, forces_off, asks_force_off}
-use Rattle.tsb_coord.specs.Due.{ForcesOff, IsMet, IsExact}
+use Rattle.tsb_coord.specs.Coordinated.{counter, local_in, instant_from, first_coordinated, reference, force_off, agree, yields_to, instant_of, late_end, is_from_to, counted_on, is_late, is_forced_late, yields_for, is_behind, is_permitted, permissive_end_from, permissive_end, forces_off, asks_force_off}
+use Rattle.tsb_coord.specs.Due.{ForcesOff, EndsPermission, IsMet, IsEnded, IsExact}
 use Rattle.tsb_coord.specs.Promises.{AreOrders}
-use Rattle.tsb_coord.proofs.LocalLemmas.{counter_moves_on, IsFirst, first_passes, at_instant_asks}
+use Rattle.tsb_coord.proofs.LocalLemmas.{counter_moves_on, IsFirst, first_passes, IsReference, reference_is, reference_found, at_instant_asks}
 
 -- ## Until an instant is met
 
@@ -42,13 +43,26 @@ not_yet m local i k earlier below before =
           ∙ ne_eqb (local + k - m) i (λ e. omega (arith, e, before, over))
     ]
 
+-- one in the next cycle, or that is met now, from the next tick on
+pub not_again : (m local i k : ℕ) → i ≤ local → local < m → 1 ≤ k → k < i + m - local → ((local + k) % m == i) ≡ false
+not_again m local i k earlier below some before =
+    elim (cases_lt (local + k) m) [
+      | inl within ↦ ap (λ x. x == i) (mod-eq_of_lt within) ∙ ne_eqb (local + k) i (λ e. omega (arith, e, earlier, some))
+      | inr over ↦
+          let turn : local + k ≡ local + k - m + 1 * m = omega (arith, over) in
+          let rest : local + k - m < m = omega arith in
+          ap (λ x. x % m == i) turn
+          ∙ ap (λ x. x == i) (add-mul-mod_self_right (local + k - m) 1 m ∙ mod-eq_of_lt rest)
+          ∙ ne_eqb (local + k - m) i (λ e. omega (arith, e, before, over))
+    ]
+
 -- an instant is met: later in this cycle, and in the next
 pub met_later : (m local i : ℕ) → local < i → i < m → ((local + (i - local)) % m == i) ≡ true
 met_later m local i later below =
     let at : local + (i - local) ≡ i = omega arith in
     eq-eqb _ _ (ap (λ x. x % m) at ∙ mod-eq_of_lt below)
 
-pub met_next : (m local i : ℕ) → i < local → local < m → ((local + (i + m - local)) % m == i) ≡ true
+pub met_next : (m local i : ℕ) → i ≤ local → local < m → ((local + (i + m - local)) % m == i) ≡ true
 met_next m local i earlier below =
     let at : local + (i + m - local) ≡ i + 1 * m = omega arith in
     let within : i < m = omega arith in
@@ -60,7 +74,7 @@ met_within m local i here below =
     elim (cases_lt local i) [
       | inl later ↦ (i - local, (omega arith, met_later m local i later below))
       | inr from ↦ elim (cases_lt i local) [
-        | inl earlier ↦ (i + m - local, (omega (arith, earlier), met_next m local i earlier here))
+        | inl earlier ↦ (i + m - local, (omega (arith, earlier), met_next m local i (omega (arith, earlier)) here))
         | inr to ↦ (let at : local + 0 ≡ i = omega (arith, from, to) in
             (0, (omega arith, eq-eqb _ _ (ap (λ x. x % m) at ∙ mod-eq_of_lt below))))
       ]
@@ -80,7 +94,34 @@ met_least test m local ticks other a one two =
           elim one [ inl whole ↦ inl (e ∙ whole) | inr met ↦ inr (met.0, subst (λ (x : ℕ). IsMet m local (test met.0) x) (sym e) met.1) ]
     ]
 
--- ## Late force-off until an instant is met
+-- the lesser of two waits to the end of a permissive time, likewise
+pub ended_least : {A : Type 0} (test : A → Option ℕ) (m local ticks other : ℕ) (a : A) →
+    ((ticks ≡ m) ⊎ ((x : A) × IsEnded m local (test x) ticks)) → ((other ≡ m) ⊎ IsEnded m local (test a) other) →
+    ((min ticks other ≡ m) ⊎ ((x : A) × IsEnded m local (test x) (min ticks other)))
+ended_least test m local ticks other a one two =
+    elim (cases_lt other ticks) [
+      | inl less ↦
+          let e : min ticks other ≡ other = omega arith in
+          elim two [ inl whole ↦ inl (e ∙ whole) | inr met ↦ inr (a, subst (λ (x : ℕ). IsEnded m local (test a) x) (sym e) met) ]
+      | inr more ↦
+          let e : min ticks other ≡ ticks = omega arith in
+          elim one [ inl whole ↦ inl (e ∙ whole) | inr met ↦ inr (met.0, subst (λ (x : ℕ). IsEnded m local (test met.0) x) (sym e) met.1) ]
+    ]
+
+-- and of one to an instant and one to an end
+pub next_of_both : (A B : ℕ → Type 0) (m ticks other : ℕ) → ((ticks ≡ m) ⊎ A ticks) → ((other ≡ m) ⊎ B other) →
+    ((min ticks other ≡ m) ⊎ (A (min ticks other) ⊎ B (min ticks other)))
+next_of_both A B m ticks other one two =
+    elim (cases_lt other ticks) [
+      | inl less ↦
+          let e : min ticks other ≡ other = omega arith in
+          elim two [ inl whole ↦ inl (e ∙ whole) | inr met ↦ inr (inr (subst (λ (x : ℕ). B x) (sym e) met)) ]
+      | inr more ↦
+          let e : min ticks other ≡ ticks = omega arith in
+          elim one [ inl whole ↦ inl (e ∙ whole) | inr met ↦ inr (inl (subst (λ (x : ℕ). A x) (sym e) met)) ]
+    ]
+
+-- ## From an instant to an end, until one of them is met
 
 -- the tick after m - 1 is 0, and after any other the next number
 next_is : (m here : ℕ) → here < m → ((here + 1) % m ≡ here + 1) ⊎ (((here + 1) % m ≡ 0) × (here + 1 ≡ m))
@@ -93,38 +134,88 @@ next_is m here below =
           inr (ap (λ x. x % m) turn ∙ mul-mod_left 1 m, last)
     ]
 
--- from one tick to the next, neither of which is the begin or the end
-span_next : (m from to here next : ℕ) → from < m → to < m → here < m → ((next ≡ here + 1) ⊎ ((next ≡ 0) × (here + 1 ≡ m))) →
-    (here == from) ≡ false → (here == to) ≡ false → (next == from) ≡ false → (next == to) ≡ false →
-    (nat_le from here && nat_lt here to) ≡ (nat_le from next && nat_lt next to)
-span_next m from to here next low high below (inl step) not_from not_to nor_from nor_to = grind (arith, nat_tests)
-span_next m from to here next low high below (inr turn) not_from not_to nor_from nor_to =
+-- from one tick to the next, which is neither the begin i nor the end u: where the end is in this cycle, where it is in the
+-- next, and where from one begin to the next all is within
+step_in_cycle : (m i u here next : ℕ) → u < m → here < m → ((next ≡ here + 1) ⊎ ((next ≡ 0) × (here + 1 ≡ m))) →
+    (next == i) ≡ false → (next == u) ≡ false → is_from_to m here i u ≡ is_from_to m next i u
+step_in_cycle m i u here next low below (inl step) not_from not_to = grind (arith, nat_tests)
+step_in_cycle m i u here next low below (inr turn) not_from not_to =
     let zero_next : next ≡ 0 = turn.0 in
     let last : here + 1 ≡ m = turn.1 in
     grind (arith, nat_tests)
 
+step_over_end : (m i u e here next : ℕ) → i < m → u ≡ e + m → e < i → here < m → next < m →
+    ((next ≡ here + 1) ⊎ ((next ≡ 0) × (here + 1 ≡ m))) → (next == i) ≡ false → (next == e) ≡ false →
+    is_from_to m here i u ≡ is_from_to m next i u
+step_over_end m i u e here next first over within below then_below (inl step) not_from not_to = grind (arith, nat_tests)
+step_over_end m i u e here next first over within below then_below (inr turn) not_from not_to =
+    let zero_next : next ≡ 0 = turn.0 in
+    let last : here + 1 ≡ m = turn.1 in
+    grind (arith, nat_tests)
+
+all_within : (m i u l : ℕ) → i < m → i + m ≤ u → l < m → is_from_to m l i u ≡ true
+all_within m i u l first long here = grind (arith, nat_tests)
+
+step_alike : (m i u here next : ℕ) → i < m → here < m → next < m → ((next ≡ here + 1) ⊎ ((next ≡ 0) × (here + 1 ≡ m))) →
+    (next == i) ≡ false → (next == u % m) ≡ false → is_from_to m here i u ≡ is_from_to m next i u
+step_alike m i u here next first below then_below step not_from not_to =
+    elim (cases_lt u m) [
+      | inl low ↦ step_in_cycle m i u here next low below step not_from (ap (λ x. next == x) (sym (mod-eq_of_lt low)) ∙ not_to)
+      | inr over ↦ elim (cases_lt u (i + m)) [
+        | inl within ↦
+            let turn : u ≡ u - m + 1 * m = omega (arith, over) in
+            let counted : u ≡ u - m + m = omega (arith, over) in
+            let before : u - m < i = omega (arith, over, within) in
+            let rest : u - m < m = omega (arith, within, first) in
+            let end : u % m ≡ u - m = ap (λ x. x % m) turn ∙ add-mul-mod_self_right (u - m) 1 m ∙ mod-eq_of_lt rest in
+            step_over_end m i u (u - m) here next first counted before below then_below step not_from (ap (λ x. next == x) (sym end) ∙ not_to)
+        | inr long ↦ all_within m i u here first long below ∙ sym (all_within m i u next first long then_below)
+      ]
+    ]
+
 -- so over any number of ticks, also where the local counter goes on from 0
-same_span : (m from to local : ℕ) → from < m → to < m → (k : ℕ) → ((j : ℕ) → j ≤ k → ((local + j) % m == from) ≡ false) →
-    ((j : ℕ) → j ≤ k → ((local + j) % m == to) ≡ false) →
-    (nat_le from ((local + 0) % m) && nat_lt ((local + 0) % m) to) ≡ (nat_le from ((local + k) % m) && nat_lt ((local + k) % m) to)
-same_span m from to local low high zero not_from not_to = refl
-same_span m from to local low high (suc k) not_from not_to =
+same_span : (m i u local : ℕ) → i < m → (k : ℕ) → ((j : ℕ) → 1 ≤ j → j ≤ k → ((local + j) % m == i) ≡ false) →
+    ((j : ℕ) → 1 ≤ j → j ≤ k → ((local + j) % m == u % m) ≡ false) →
+    is_from_to m ((local + 0) % m) i u ≡ is_from_to m ((local + k) % m) i u
+same_span m i u local low zero not_from not_to = refl
+same_span m i u local low (suc k) not_from not_to =
     let some : 0 < m = omega (arith, low) in
     let step : ((local + k) % m + 1) % m ≡ (local + suc k) % m = mod-add-mod (local + k) m 1 ∙ ap (λ x. x % m) (one_more local k) in
-    same_span m from to local low high k (λ j to_k. not_from j (omega (arith, to_k))) (λ j to_k. not_to j (omega (arith, to_k)))
-    ∙ span_next m from to ((local + k) % m) ((local + suc k) % m) low high (mod-lt (local + k) some)
+    same_span m i u local low k (λ j one to_k. not_from j one (omega (arith, to_k))) (λ j one to_k. not_to j one (omega (arith, to_k)))
+    ∙ step_alike m i u ((local + k) % m) ((local + suc k) % m) low (mod-lt (local + k) some) (mod-lt (local + suc k) some)
     (subst (λ (x : ℕ). (x ≡ (local + k) % m + 1) ⊎ ((x ≡ 0) × ((local + k) % m + 1 ≡ m))) step (next_is m ((local + k) % m) (mod-lt (local + k) some)))
-    (not_from k (omega arith)) (not_to k (omega arith)) (not_from (suc k) (omega arith)) (not_to (suc k) (omega arith))
+    (not_from (suc k) (omega arith) (omega arith)) (not_to (suc k) (omega arith) (omega arith))
   where
     one_more : (local k : ℕ) → local + k + 1 ≡ local + suc k
     one_more local k = omega arith
 
+-- a late end that is counted on is met where it is met
+counted_within : (m i e : ℕ) → e < m → counted_on m i e % m ≡ e
+counted_within m i e low = go (nat_lt e i)
+  where
+    go : (b : Bool) → (if b then e + m else e) % m ≡ e
+    go true = let turn : e + m ≡ e + 1 * m = omega arith in ap (λ x. x % m) turn ∙ add-mul-mod_self_right e 1 m ∙ mod-eq_of_lt low
+    go false = mod-eq_of_lt low
+
 same_late : (m local k : ℕ) (from to : Option ℕ) → IfSome from (λ i. i < m) → IfSome to (λ i. i < m) →
-    ((j : ℕ) → j ≤ k → agree (Some ((local + j) % m)) from ≡ false) → ((j : ℕ) → j ≤ k → agree (Some ((local + j) % m)) to ≡ false) →
-    is_late (Some ((local + 0) % m)) from to ≡ is_late (Some ((local + k) % m)) from to
+    ((j : ℕ) → 1 ≤ j → j ≤ k → agree (Some ((local + j) % m)) from ≡ false) → ((j : ℕ) → 1 ≤ j → j ≤ k → agree (Some ((local + j) % m)) to ≡ false) →
+    is_late m (Some ((local + 0) % m)) from to ≡ is_late m (Some ((local + k) % m)) from to
 same_late m local k None to low high not_from not_to = refl
 same_late m local k (Some i) None low high not_from not_to = refl
-same_late m local k (Some i) (Some e) low high not_from not_to = same_span m i e local low high k not_from not_to
+same_late m local k (Some i) (Some e) low high not_from not_to =
+    same_span m i (counted_on m i e) local low k not_from (λ j one to_k. ap (λ x. (local + j) % m == x) (counted_within m i e high) ∙ not_to j one to_k)
+
+same_behind : (m time local k : ℕ) (from : Option ℕ) → IfSome from (λ i. i < m) →
+    ((j : ℕ) → 1 ≤ j → j ≤ k → agree (Some ((local + j) % m)) from ≡ false) →
+    ((j : ℕ) → 1 ≤ j → j ≤ k → agree (Some ((local + j) % m)) (permissive_end_from m time from) ≡ false) →
+    (nat_lt 0 time && is_behind m time (Some ((local + 0) % m)) from) ≡ (nat_lt 0 time && is_behind m time (Some ((local + k) % m)) from)
+same_behind m time local k None low not_from not_to = refl
+same_behind m time local k (Some i) low not_from not_to = go (nat_lt 0 time) not_to
+  where
+    go : (b : Bool) → ((j : ℕ) → 1 ≤ j → j ≤ k → agree (Some ((local + j) % m)) (if b then Some ((i + time + 1) % m) else None) ≡ false) →
+        (b && is_from_to m ((local + 0) % m) i (i + time + 1)) ≡ (b && is_from_to m ((local + k) % m) i (i + time + 1))
+    go true ends = same_span m i (i + time + 1) local low k not_from ends
+    go false ends = refl
 
 -- a late end is an instant
 pub record IsInstant (plan : Plan) (n : ℕ) (end : Option ℕ) : Type 0 where
@@ -135,14 +226,19 @@ pub record IsInstant (plan : Plan) (n : ℕ) (end : Option ℕ) : Type 0 where
 
 -- the phase that a phase yields to is one of the plan
 yields_within : (plan : Plan) → plan.phase_count ≤ 16 → (n p c : ℕ) → yields_to plan n p ≡ Some c → (1 ≤ c) × (c ≤ 16)
-yields_within plan few n p c = go (coordinated_in_ring plan n (ring_of plan p)) (reference plan n)
-    (in_range (is_coordinated_in plan n (ring_of plan p))) (in_range (is_coordinated_now plan (Some n)))
+yields_within plan few n p c = go (coordinated_in_ring plan n (ring_of plan p)) (reference plan n) of_ring of_pattern
   where
-    in_range : (test : ℕ → Bool) → first test (run_from 1 plan.phase_count) ≡ Some c → (1 ≤ c) × (c ≤ 16)
-    in_range test e =
-        let it : IsFirst test 1 plan.phase_count c = first_passes test 1 plan.phase_count c e in
+    of_ring : coordinated_in_ring plan n (ring_of plan p) ≡ Some c → (1 ≤ c) × (c ≤ 16)
+    of_ring e =
+        let it : IsFirst (is_coordinated_in plan n (ring_of plan p)) 1 plan.phase_count c = first_passes (is_coordinated_in plan n (ring_of plan p)) 1 plan.phase_count c e in
         let below : c < 1 + plan.phase_count = it.below in
         (it.from, omega (arith, below, few))
+
+    of_pattern : reference plan n ≡ Some c → (1 ≤ c) × (c ≤ 16)
+    of_pattern e =
+        let it : IsReference plan n c = reference_is plan n c e in
+        let below : c ≤ plan.phase_count = it.is_phase.within in
+        (it.is_phase.from_one, omega (arith, below, few))
 
     go : (one other : Option ℕ) → (one ≡ Some c → (1 ≤ c) × (c ≤ 16)) → (other ≡ Some c → (1 ≤ c) × (c ≤ 16)) →
         or_else one other ≡ Some c → (1 ≤ c) × (c ≤ 16)
@@ -159,26 +255,26 @@ late_end_is plan few n p =
     go true None each = inl refl
     go true (Some c) each = inr (record { phase = c; from_one = (each c refl).0; within = (each c refl).1; is = refl })
 
-late_end_below : (plan : Plan) → plan.phase_count ≤ 16 → (n p : ℕ) → is_used plan n ≡ true → IfSome (late_end plan (Some n) p) (λ i. i < cycle plan n)
-late_end_below plan few n p used =
-    elim (late_end_is plan few n p) [
-      | inl no_end ↦ subst (λ (o : Option ℕ). IfSome o (λ i. i < cycle plan n)) (sym no_end) tt
-      | inr it ↦ instants-below plan n it.phase (late_end plan (Some n) p) used it.is
-    ]
-
 -- ## Orders in the meantime
 
--- nothing is asked of a phase, now and at each tick of the meantime, while the pattern n runs
+-- no instant is met, now and at each tick of the meantime, and no permissive time ends from the next tick on, while the
+-- pattern n runs
 pub record IsQuiet (plan : Plan) (n now wait : ℕ) : Type 0 where
   pub at : (p k : ℕ) → 1 ≤ p → p ≤ 16 → k < wait → 1 < wait →
       agree (Some ((counter plan n now + k) % cycle plan n)) (force_off plan (Some n) p) ≡ false
+  pub permitted : (p k : ℕ) → 1 ≤ p → p ≤ 16 → 1 ≤ k → k < wait →
+      agree (Some ((counter plan n now + k) % cycle plan n)) (permissive_end plan (Some n) p) ≡ false
 
 -- as the code tells it
 pub quiet_from : (plan : Plan) (n now wait local : ℕ) → local ≡ counter plan n now →
-    ((p k : ℕ) → 1 ≤ p → p ≤ 16 → k < wait → 1 < wait → agree (Some ((local + k) % cycle plan n)) (force_off plan (Some n) p) ≡ false) → IsQuiet plan n now wait
-quiet_from plan n now wait local told each = record {
+    ((p k : ℕ) → 1 ≤ p → p ≤ 16 → k < wait → 1 < wait → agree (Some ((local + k) % cycle plan n)) (force_off plan (Some n) p) ≡ false) →
+    ((p k : ℕ) → 1 ≤ p → p ≤ 16 → 1 ≤ k → k < wait → agree (Some ((local + k) % cycle plan n)) (permissive_end plan (Some n) p) ≡ false) →
+    IsQuiet plan n now wait
+quiet_from plan n now wait local told each ends = record {
   at = λ p k from to within some.
       subst (λ (x : ℕ). agree (Some ((x + k) % cycle plan n)) (force_off plan (Some n) p) ≡ false) told (each p k from to within some);
+  permitted = λ p k from to some within.
+      subst (λ (x : ℕ). agree (Some ((x + k) % cycle plan n)) (permissive_end plan (Some n) p) ≡ false) told (ends p k from to some within);
 }
 
 module _ (plan : Plan) (few : plan.phase_count ≤ 16) (none : first_broken plan ≡ None) (n now wait : ℕ) (from_one : 1 ≤ n) (within : n ≤ 16)
@@ -197,21 +293,31 @@ module _ (plan : Plan) (few : plan.phase_count ≤ 16) (none : first_broken plan
       ap (λ o. forces_off plan o (local_in plan (now + k) o) p) runs
       ∙ ap (λ x. forces_off plan (Some n) (Some x) p) (counter_moves_on plan n now k below)
 
-  -- at no instant a phase is forced off where it is late
-  asked_late : (p k : ℕ) → 1 ≤ p → p ≤ 16 → k < wait → 1 < wait →
+  -- at no instant a phase is forced off where it is late, or in its permissive time
+  asked_between : (p k : ℕ) → 1 ≤ p → p ≤ 16 → k < wait → 1 < wait →
       asks_force_off plan (now + k) selected p
-      ≡ is_late (Some ((counter plan n now + k) % cycle plan n)) (force_off plan (Some n) p) (late_end plan (Some n) p)
-  asked_late p k from to before some =
+      ≡ (is_late (cycle plan n) (Some ((counter plan n now + k) % cycle plan n)) (force_off plan (Some n) p) (late_end plan (Some n) p)
+      || (nat_lt 0 (yields_for plan n p) && is_behind (cycle plan n) (yields_for plan n p) (Some ((counter plan n now + k) % cycle plan n)) (force_off plan (Some n) p)))
+  asked_between p k from to before some =
       asked p k
-      ∙ ap (λ b. b || is_late (Some ((counter plan n now + k) % cycle plan n)) (force_off plan (Some n) p) (late_end plan (Some n) p)) (quiet.at p k from to before some)
+      ∙ ap (λ b. b || (is_forced_late plan (Some n) (Some ((counter plan n now + k) % cycle plan n)) p || is_permitted plan (Some n) (Some ((counter plan n now + k) % cycle plan n)) p))
+      (quiet.at p k from to before some)
 
   same_asked : (p k : ℕ) → 1 ≤ p → p ≤ 16 → k < wait → 1 < wait → asks_force_off plan (now + 0) selected p ≡ asks_force_off plan (now + k) selected p
   same_asked p k from to before some =
-      asked_late p 0 from to (omega arith) some
-      ∙ same_late (cycle plan n) (counter plan n now) k (force_off plan (Some n) p) (late_end plan (Some n) p)
-      (instants-below plan n p (force_off plan (Some n) p) used refl) (late_end_below plan few n p used)
-      (λ j to_k. quiet.at p j from to (omega arith) some) (λ j to_k. end_unmet p j (omega arith) some)
-      ∙ sym (asked_late p k from to before some)
+      let m : ℕ = cycle plan n in
+      let time : ℕ = yields_for plan n p in
+      let at : Option ℕ = force_off plan (Some n) p in
+      let low : IfSome at (λ i. i < m) = instants-below plan n p at used refl in
+      let late : is_late m (Some ((counter plan n now + 0) % m)) at (late_end plan (Some n) p) ≡ is_late m (Some ((counter plan n now + k) % m)) at (late_end plan (Some n) p) =
+      same_late m (counter plan n now) k at (late_end plan (Some n) p) low (late-end-below plan n p used)
+      (λ j one to_k. quiet.at p j from to (omega arith) some) (λ j one to_k. end_unmet p j (omega arith) some) in
+      let permitted : (nat_lt 0 time && is_behind m time (Some ((counter plan n now + 0) % m)) at) ≡ (nat_lt 0 time && is_behind m time (Some ((counter plan n now + k) % m)) at) =
+      same_behind m time (counter plan n now) k at low (λ j one to_k. quiet.at p j from to (omega arith) some) (λ j one to_k. quiet.permitted p j from to one (omega arith)) in
+      asked_between p 0 from to (omega arith) some
+      ∙ ap (λ b. b || (nat_lt 0 time && is_behind m time (Some ((counter plan n now + 0) % m)) at)) late
+      ∙ ap (λ b. is_late m (Some ((counter plan n now + k) % m)) at (late_end plan (Some n) p) || b) permitted
+      ∙ sym (asked_between p k from to before some)
 
   pub same_orders : (row : List ℕ) (t : ℕ) (orders : Coordination) → pattern_in row ≡ selected → now < t → t < now + wait →
       AreOrders now plan row orders → AreOrders t plan row orders
@@ -273,22 +379,26 @@ pub record HasInstant (plan : Plan) (n : ℕ) : Type 0 where
   pub is : force_off plan (Some n) phase ≡ Some instant
   pub below : instant < cycle plan n
 
-pub has_instant : (plan : Plan) → first_broken plan ≡ None → (n : ℕ) → 1 ≤ n → n ≤ 16 → is_used plan n ≡ true → HasInstant plan n
+has_one : (plan : Plan) (n c p : ℕ) → is_enabled plan p ≡ true → reference plan n ≡ Some c → force_off plan (Some n) p ≡ Some (instant_from plan n c p)
 unfolding force_off
+has_one plan n c p enabled counted = rw (enabled, counted) refl
+
+pub has_instant : (plan : Plan) → first_broken plan ≡ None → (n : ℕ) → 1 ≤ n → n ≤ 16 → is_used plan n ≡ true → HasInstant plan n
 has_instant plan none n from_one within used =
     let parts : IsWhole plan n = whole plan none n from_one within used in
-    let them : AreCoordinated plan parts.its_sequence parts.its_split = coordinated plan none n parts.its_sequence parts.its_split parts.in_use in
+    let them : AreCoordinated plan (leads_and_lags plan n) parts.its_sequence parts.its_split = coordinated plan none n parts.its_sequence parts.its_split parts.in_use in
     let named : is_coordinated_now plan (Some n) them.one ≡ true = ap (λ o. coordinates_in plan o them.one) parts.in_use.split ∙ them.is_one in
     let enabled : is_enabled plan them.one ≡ true = them.enabled them.one them.is_phase them.is_one in
-    let counted : (d : ℕ) × (reference plan n ≡ Some d) =
+    let some : (d : ℕ) × (first_coordinated plan n ≡ Some d) =
     found (is_coordinated_now plan (Some n)) 1 plan.phase_count them.one them.is_phase.from_one (let to : them.one ≤ plan.phase_count = them.is_phase.within in omega arith) named in
+    let counted : (d : ℕ) × (reference plan n ≡ Some d) = reference_found plan n some.0 some.1 in
     let offset_below : offset plan n < cycle plan n = parts.below in
     record {
       phase = them.one;
       from_one = them.is_phase.from_one;
       within = them.is_phase.within;
       instant = instant_from plan n counted.0 them.one;
-      is = rw (enabled, counted.1) refl;
+      is = has_one plan n counted.0 them.one enabled counted.1;
       below = mod-lt _ (omega (arith, offset_below));
     }
 
@@ -323,19 +433,39 @@ forced_then plan none n now ticks p from_one within used selected runs met =
       | inr here ↦ inr (ap (λ (k : ℕ). now + k) here.0, (p, at_instant_asks plan now selected p (ap (λ o. agree (local_in plan now o) (force_off plan o p)) runs ∙ here.1)))
     ]
 
+-- a phase whose permissive time is at its end has ended it then
+ended_then : (plan : Plan) → first_broken plan ≡ None → (n now ticks p : ℕ) → 1 ≤ n → n ≤ 16 → is_used plan n ≡ true →
+    (selected : Option ℕ) → running plan selected ≡ Some n → IsEnded (cycle plan n) (counter plan n now) (permissive_end plan (Some n) p) ticks →
+    EndsPermission plan selected (now + ticks)
+ended_then plan none n now ticks p from_one within used selected runs ended =
+    let below : offset plan n < cycle plan n = (whole plan none n from_one within used).below in (
+      p,
+      ap (λ o. agree (local_in plan (now + ticks) o) (permissive_end plan o p)) runs
+          ∙ ap (λ x. agree (Some x) (permissive_end plan (Some n) p)) (counter_moves_on plan n now ticks below) ∙ ended,
+    )
+
 some_cycle : (plan : Plan) (n : ℕ) → is_used plan n ≡ true → 1 < cycle plan n
 some_cycle plan n used = let some : 1 ≤ plan.value PatternCycleTime n = grind (arith, nat_tests, used) in omega arith
 
 pub is_exact : (plan : Plan) → plan.phase_count ≤ 16 → first_broken plan ≡ None → (n now ticks local : ℕ) → 1 ≤ n → n ≤ 16 → is_used plan n ≡ true →
     (row : List ℕ) → running plan (pattern_in row) ≡ Some n → local ≡ counter plan n now → local < cycle plan n → IsQuiet plan n now ticks →
-    ((ticks ≡ cycle plan n) ⊎ ((p : ℕ) × IsMet (cycle plan n) local (force_off plan (Some n) p) ticks)) → IsExact now plan row (now + ticks)
+    ((ticks ≡ cycle plan n) ⊎ (((p : ℕ) × IsMet (cycle plan n) local (force_off plan (Some n) p) ticks)
+    ⊎ ((p : ℕ) × IsEnded (cycle plan n) local (permissive_end plan (Some n) p) ticks))) → IsExact now plan row (now + ticks)
 is_exact plan most none n now ticks local from_one within used row runs told below quiet met =
     let here : counter plan n now < cycle plan n = subst (λ (x : ℕ). x < cycle plan n) told below in
-    let forces : ForcesOff plan (pattern_in row) (now + ticks) ⊎ ((now + ticks ≡ now + 1) × ForcesOff plan (pattern_in row) now) =
+    let forces : ForcesOff plan (pattern_in row) (now + ticks)
+    ⊎ (EndsPermission plan (pattern_in row) (now + ticks) ⊎ ((now + ticks ≡ now + 1) × ForcesOff plan (pattern_in row) now)) =
     elim met [
       | inl whole_cycle ↦ absurd (no_whole_cycle plan most none n now ticks from_one within used here quiet (some_cycle plan n used) whole_cycle)
-      | inr it ↦ forced_then plan none n now ticks it.0 from_one within used (pattern_in row) runs
-          (subst (λ (x : ℕ). IsMet (cycle plan n) x (force_off plan (Some n) it.0) ticks) told it.1)
+      | inr either ↦ elim either [
+        | inl it ↦ elim (forced_then plan none n now ticks it.0 from_one within used (pattern_in row) runs
+            (subst (λ (x : ℕ). IsMet (cycle plan n) x (force_off plan (Some n) it.0) ticks) told it.1)) [
+              | inl there ↦ inl there
+              | inr next ↦ inr (inr next)
+            ]
+        | inr it ↦ inr (inl (ended_then plan none n now ticks it.0 from_one within used (pattern_in row) runs
+            (subst (λ (x : ℕ). IsEnded (cycle plan n) x (permissive_end plan (Some n) it.0) ticks) told it.1)))
+      ]
     ] in
     record { runs = λ m is. forces; free = λ is. absurd (not_both (pattern_in row) n runs is) }
   where

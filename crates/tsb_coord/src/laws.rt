@@ -15,7 +15,7 @@ ghost use Rattle.tsb_coord.specs.Laws.{EndWithTheirSplits, CoordinatedEndAtZero,
 /// Mistakes: an instant counted from the end of the phase's own split, `instant_from_own`; one without the red
 /// clearance, `instant_without_clearance`, or without the yellow change, `instant_without_yellow`; one counted from the
 /// start of side 1, `instant_from_begin`; a difference below 0 that counts as 0, `instant_cut_off`; instants that are
-/// counted from the first coordinated phase in a pattern that leads and lags, `instant_from_first` (`clears_elsewhere`); a
+/// counted from the first coordinated phase in a pattern that leads and lags, `counted_from_it` (`clears_elsewhere`); a
 /// permissive time that is counted from local 0, `behind_zero` (`clears_too_late`).
 /// Witness: `ends_at_zero`, `ends_with_split`; `leads` and `ends_with_its_own` of LeadLagExamples; `ends_behind_zero` of
 /// PermissiveExamples.

@@ -50,15 +50,15 @@ late_ends : map (late_end late (Some 1)) (run_from 1 8)
 unfolding late quad run_from split_sum side_sum split_end force_off
 late_ends = refl
 
--- ## An instant behind that of the coordinated phase, which is 360: phase 3 at 390 alone, and phase 7 from 60 on
+-- ## An instant behind that of the coordinated phase, which is 360: phase 3 from 390 on, past local 0 up to the next 360
 
 unfoldable pub short_late : Plan
 short_late = with_value short CoordForceMode 1 1
 
-behind_alone : map (forced short_late) (59 ∷ 60 ∷ 359 ∷ 360 ∷ 389 ∷ 390 ∷ 391 ∷ [])
-    ≡ [] ∷ (7 ∷ []) ∷ (1 ∷ 4 ∷ 5 ∷ 7 ∷ 8 ∷ []) ∷ (2 ∷ 6 ∷ []) ∷ [] ∷ (3 ∷ []) ∷ [] ∷ []
+goes_on_past_zero : map (forced short_late) (59 ∷ 60 ∷ 359 ∷ 360 ∷ 389 ∷ 390 ∷ 399 ∷ 400 ∷ [])
+    ≡ (3 ∷ []) ∷ (3 ∷ 7 ∷ []) ∷ (1 ∷ 3 ∷ 4 ∷ 5 ∷ 7 ∷ 8 ∷ []) ∷ (2 ∷ 6 ∷ []) ∷ [] ∷ (3 ∷ []) ∷ (3 ∷ []) ∷ (3 ∷ []) ∷ []
 unfolding short_late quad run_from split_sum side_sum split_end force_off
-behind_alone = refl
+goes_on_past_zero = refl
 
 -- ## Each ring has its own coordinated phase: 2 at 760, and 6 at 750, as its yellow is a second longer
 

@@ -2,7 +2,7 @@
 use Rattle.std.specs.Prelude.{◌≡◌, ℕ, nat_le, nat_lt, Bool, true, false, not, ◌&&◌, ◌||◌, if◌then◌else◌, [], ◌∷◌, Option, Some, None, refl}
 use Rattle.tsb_objects.specs.tsb_types.Lists.{run_from}
 use Rattle.tsb_objects.specs.tsb_plan.declared.object.Object.TheVariants.{CoordForceMode, SplitCoordPhase}
-use Rattle.tsb_objects.specs.tsb_plan.Parts.{forces_late}
+use Rattle.tsb_objects.specs.tsb_plan.Parts.{cycle, forces_late}
 use Rattle.tsb_objects.specs.tsb_plan.Plan.{Plan, with_values}
 use Rattle.tsb_objects.specs.tsb_plan.Running.{is_coordinated_now}
 use Rattle.tsb_objects.specs.tsb_plan.Quad.{quad}
@@ -12,7 +12,7 @@ use Rattle.tsb_coord.proofs.Examples.LateExamples.{late, short_late, apart}
 
 -- p is forced off at local counter m of pattern 1 by a late end
 abbrev pub forced_by : Plan → Option ℕ → ℕ → ℕ → Bool
-forced_by plan to m p = agree (Some m) (force_off plan (Some 1) p) || is_late (Some m) (force_off plan (Some 1) p) to
+forced_by plan to m p = agree (Some m) (force_off plan (Some 1) p) || is_late (cycle plan 1) (Some m) (force_off plan (Some 1) p) to
 
 -- ## The mode is not read
 
@@ -43,17 +43,17 @@ would_go_on : is_late_to (Some 760) (force_off late (Some 1) 1) (late_end late (
 unfolding late quad run_from split_sum side_sum split_end force_off
 would_go_on = refl
 
--- ## Ticks are counted over the end of the cycle: phase 3, with an instant of 390 and an end of 360, at 391 and at 0
+-- ## Ticks are counted within one cycle: phase 3, with an instant of 390 and an end of 360, is never late
 
-abbrev pub is_late_around : ℕ → ℕ → ℕ → Bool
-is_late_around m i e = if nat_lt i e then nat_le i m && nat_lt m e else nat_le i m || nat_lt m e
+abbrev pub is_late_within : ℕ → ℕ → ℕ → Bool
+is_late_within m i e = nat_le i m && nat_lt m e
 
-within_the_cycle : asks_force_off short_late 391 (Some 1) 3 ∷ asks_force_off short_late 400 (Some 1) 3 ∷ [] ≡ false ∷ false ∷ []
+past_zero : asks_force_off short_late 391 (Some 1) 3 ∷ asks_force_off short_late 400 (Some 1) 3 ∷ [] ≡ true ∷ true ∷ []
 unfolding short_late quad run_from split_sum side_sum split_end force_off
-within_the_cycle = refl
+past_zero = refl
 
-would_go_around : is_late_around 391 390 360 ∷ is_late_around 0 390 360 ∷ [] ≡ true ∷ true ∷ []
-would_go_around = refl
+would_be_lost : is_late_within 391 390 360 ∷ is_late_within 0 390 360 ∷ [] ≡ false ∷ false ∷ []
+would_be_lost = refl
 
 -- ## A phase yields to the first coordinated phase of the pattern, whatever its ring: phase 5 at 755, behind 750
 

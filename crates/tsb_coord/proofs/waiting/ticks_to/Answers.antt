@@ -19,4 +19,4 @@ pub returns-else-local-instant-2-clause-met : goal.returns-else-local-instant-2-
 returns-else-local-instant-2-clause-met c =
     let earlier : c.in-Some.instant < c.args.local = omega arith in
     inr (inl (ap (λ (o : Option ℕ). agree (Some ((c.args.local + (c.in-Some.instant + c.args.cycle - c.args.local)) % c.args.cycle)) o) c.in-Some.is
-    ∙ met_next c.args.cycle c.args.local c.in-Some.instant earlier c.requires.local))
+    ∙ met_next c.args.cycle c.args.local c.in-Some.instant (omega (arith, earlier)) c.requires.local))
