@@ -14,6 +14,8 @@ mod cells;
 #[cfg(test)]
 mod commands;
 #[cfg(test)]
+mod coordination;
+#[cfg(test)]
 mod desk;
 #[cfg(test)]
 mod devices;

@@ -1,0 +1,167 @@
+//! When patterns force phases off, worked by hand. Times are in tenths of a second, on the local counter of pattern 1 of
+//! the built-in plan of eight phases: a cycle of 800 with instants 510, 760, 110 and 360 of phases 1 to 4 and of 5 to 8,
+//! where 2 and 6 are coordinated.
+
+use tsb_cells::Reversible;
+use tsb_coord::{Coord, laws};
+use tsb_objects::{Checked, Object, ObjectId, Pattern, Phase, Plan};
+
+/// An object, an index and a value.
+type Value = (Object, u32, u32);
+
+/// The built-in plan of eight phases with these values, if it breaks no rule.
+fn quad_with(values: &[Value]) -> Option<Checked> {
+    let mut plan = Plan::quad();
+    for (object, index, value) in values {
+        let id = ObjectId {
+            object: *object,
+            index: *index,
+        };
+        plan.put(id, *value).ok()?;
+    }
+    Checked::new(plan).ok()
+}
+
+/// A permissive time of 10 seconds, from 760 up to 860, which is 60 of the next cycle.
+const PERMISSIVE: [Value; 1] = [(Object::PatternPermissiveTime, 1, 10)];
+
+/// The rings changed over, so that 5 to 8 are of ring 1, and 2 before 1 in ring 2: the split of 2 ends 15 seconds before
+/// that of 6, which ends at local 0.
+const LEADING: [Value; 18] = [
+    (Object::PhaseRing, 1, 2),
+    (Object::PhaseRing, 2, 2),
+    (Object::PhaseRing, 3, 2),
+    (Object::PhaseRing, 4, 2),
+    (Object::PhaseRing, 5, 1),
+    (Object::PhaseRing, 6, 1),
+    (Object::PhaseRing, 7, 1),
+    (Object::PhaseRing, 8, 1),
+    (Object::SequenceData, 1, 5),
+    (Object::SequenceData, 2, 6),
+    (Object::SequenceData, 3, 7),
+    (Object::SequenceData, 4, 8),
+    (Object::SequenceData, 17, 2),
+    (Object::SequenceData, 18, 1),
+    (Object::SequenceData, 19, 3),
+    (Object::SequenceData, 20, 4),
+    (Object::PatternLeadLag, 1, 1),
+    (Object::PatternLeadLag, 2, 1),
+];
+
+/// Whether pattern 1 forces these off, each list at its local time.
+fn forces(plan: &Checked, wanted: &[(u32, u16)]) -> bool {
+    let n = Pattern::of(1);
+    for (local, phases) in wanted {
+        if !plan.plan().is_used(n) || plan.forced_at(n, *local).list() != *phases {
+            return false;
+        }
+    }
+    true
+}
+
+/// Whether phases 1 to 8 have these instants in pattern 1.
+fn has_instants(plan: &Checked, wanted: &[u32; 8]) -> bool {
+    let n = Pattern::of(1);
+    for number in 1..9u8 {
+        let instant = wanted[usize::from(number) - 1];
+        if !plan.plan().is_used(n) || plan.force_off(n, Phase::of(number)) != Some(instant) {
+            return false;
+        }
+    }
+    true
+}
+
+/// Whether the phase has this end of a permissive time in pattern 1.
+fn has_end(plan: &Checked, phase: u8, wanted: Option<u32>) -> bool {
+    let n = Pattern::of(1);
+    if phase < 1 || phase > 16 || !plan.plan().is_used(n) {
+        return false;
+    }
+    plan.permissive_end(n, Phase::of(phase)) == wanted
+}
+
+/// Whether what pattern 1 asks is due at these ticks, each after its tick.
+fn is_due(plan: &Checked, wanted: &[(u32, u32)]) -> bool {
+    let mut coord = Coord::new();
+    coord.open();
+    if coord.set_pattern(1, plan).is_err() {
+        return false;
+    }
+    let _changes = coord.close();
+    for (now, due) in wanted {
+        if *now > 1000 || coord.due(*now, plan) != *due {
+            return false;
+        }
+    }
+    true
+}
+
+/// Coordinated phases are forced off to the end of the permissive time, also past local 0; no others are.
+#[test]
+fn permissive_times_go_past_zero(rt: HostRuntime) {
+    let wanted = [
+        (0, 0x0022),
+        (60, 0x0022),
+        (61, 0),
+        (510, 0x0011),
+        (511, 0),
+        (759, 0),
+        (760, 0x0022),
+        (799, 0x0022),
+    ];
+    let plan = quad_with(&PERMISSIVE);
+    assert!(rt; matches!(&plan, Some(plan) if forces(plan, &wanted)));
+    assert!(rt;
+        matches!(&plan, Some(plan) if has_end(plan, 2, Some(61)) && has_end(plan, 1, None))
+    );
+    assert!(rt; matches!(&quad_with(&[]), Some(plan) if has_end(plan, 2, None)));
+    laws::late_force_off_is_an_option();
+}
+
+/// Another tick is due where a permissive time has ended.
+#[test]
+fn coordination_is_due_behind_permissive_times(rt: HostRuntime) {
+    let wanted = [
+        (0, 61),
+        (60, 61),
+        (61, 110),
+        (110, 111),
+        (111, 360),
+        (760, 761),
+        (761, 861),
+        (799, 861),
+    ];
+    assert!(rt; matches!(&quad_with(&PERMISSIVE), Some(plan) if is_due(plan, &wanted)));
+    let without = [(0, 110), (110, 111), (760, 761), (761, 910)];
+    assert!(rt; matches!(&quad_with(&[]), Some(plan) if is_due(plan, &without)));
+}
+
+/// Local 0 is the end of ring 1's coordinated split, and ring 2's coordinated phase has its own instant.
+#[test]
+fn coordinated_splits_end_apart(rt: HostRuntime) {
+    let instants = [760, 610, 110, 360, 510, 760, 110, 360];
+    let plan = quad_with(&LEADING);
+    assert!(rt; matches!(&plan, Some(plan) if has_instants(plan, &instants)));
+    let wanted = [(110, 0x0044), (610, 0x0002), (760, 0x0021), (761, 0)];
+    assert!(rt; matches!(&plan, Some(plan) if forces(plan, &wanted)));
+    laws::forced_phases_end_with_their_splits();
+}
+
+/// Late force-off of ring 2 ends at 610: that of phase 1, from 760 on, goes past local 0 to there.
+#[test]
+fn late_force_off_goes_past_zero(rt: HostRuntime) {
+    let mut values = [(Object::CoordForceMode, 1, 1); 19];
+    for k in 0..18usize {
+        values[k] = LEADING[k];
+    }
+    let wanted = [
+        (0, 0x0001),
+        (110, 0x0045),
+        (609, 0x00DD),
+        (610, 0x00D2),
+        (759, 0x00D0),
+        (760, 0x0021),
+        (799, 0x0001),
+    ];
+    assert!(rt; matches!(&quad_with(&values), Some(plan) if forces(plan, &wanted)));
+}
