@@ -18,8 +18,7 @@ use Rattle.tsb_objects.specs.tsb_plan.Parts.{cycle}
 use Rattle.tsb_objects.specs.tsb_plan.Plan.{Plan, is_enabled, yellow_change, red_clear}
 use Rattle.tsb_objects.specs.tsb_rules.Rules.{serves_pedestrians}
 use Rattle.tsb_coord.specs.Coordinated.{force_off}
-use Rattle.tsb_phase.specs.DynamicMaximum.{maximum_in_use}
-use Rattle.tsb_phase.specs.Green.{gap, is_gapped}
+use Rattle.tsb_phase.specs.Green.{gap, is_gapped, acting_maximum}
 use Rattle.tsb_phase.specs.Pedestrian.{ended_by, walk_time, clearance_time}
 use Rattle.tsb_phase.specs.Phase.{held_of}
 use Rattle.tsb_ring.specs.Rings.{Ring, Ring1, Ring2}
@@ -48,7 +47,7 @@ pub record RingStatus : Type 0 where
   pub phase : Option ℕ
   pub next : Option ℕ
   -- of a green: of its initial time; the gap in force, and what is left of it, all of it while an output is on; of its
-  -- maximum, while there is a conflict in free operation
+  -- maximum, while one acts and there is a conflict
   pub initial_left : Option ℕ
   pub gap : Option ℕ
   pub gap_left : Option ℕ
@@ -71,6 +70,11 @@ abbrev pub where_is : (ℕ → Bool) → (ℕ → ℕ) → Option ℕ → Option
 where_is test value None = None
 where_is test value (Some p) = if test p then Some (value p) else None
 
+-- and of a value that not each phase has
+abbrev pub where_has : (ℕ → Bool) → (ℕ → Option ℕ) → Option ℕ → Option ℕ
+where_has test value None = None
+where_has test value (Some p) = if test p then value p else None
+
 -- of its initial time, or the shorter one of a preempt that ends it
 abbrev pub initial_left : State → ℕ → ℕ
 initial_left s p = left (time_to_last s.plan (phases_again s) p (ended_by (phases_again s) p)) (s.phases p).timer
@@ -83,9 +87,10 @@ walk_left s p = left (walk_time s.plan p (ended_by (phases_again s) p)) (s.phase
 abbrev pub clearance_left : State → ℕ → ℕ
 clearance_left s p = left (clearance_time s.plan p (ended_by (phases_again s) p)) (s.phases p).pedestrian_timer
 
--- of the maximum in use, since its conflict began
-abbrev pub maximum_left : State → ℕ → ℕ
-maximum_left s p = left (maximum_in_use s.plan p (s.phases p).running_maximum) (s.phases p).conflict
+-- of the maximum that acts, since its conflict began; none where none acts
+abbrev pub maximum_left : State → ℕ → Option ℕ
+maximum_left s p =
+    option_map (λ m. left m (s.phases p).conflict) (acting_maximum s.plan (runs s) p (s.phases p).running_maximum)
 
 -- its gap has expired, or it has gapped out for as long as there is a conflict
 abbrev pub has_gapped : State → ℕ → Bool
@@ -141,7 +146,7 @@ ring_with s r o = record {
   initial_left = where_is (λ p. is_green (interval s p)) (initial_left s) o;
   gap = where_is (λ p. is_green (interval s p)) (λ p. gap s.plan p (s.phases p).reduction) o;
   gap_left = where_is (λ p. is_green (interval s p)) (λ p. gap_left s.plan p (s.phases p)) o;
-  maximum_left = where_is (λ p. is_green (interval s p) && (is_none (runs s) && is_on (s.phases p).conflict)) (maximum_left s) o;
+  maximum_left = where_has (λ p. is_green (interval s p) && is_on (s.phases p).conflict) (maximum_left s) o;
   walk_left = where_is (λ p. is_walk (pedestrian_part s p)) (walk_left s) o;
   clearance_left = where_is (λ p. is_clearance (pedestrian_part s p)) (clearance_left s) o;
   yellow_left = where_is (λ p. is_yellow (interval s p)) (λ p. left (yellow_change s.plan p) (s.phases p).timer) o;

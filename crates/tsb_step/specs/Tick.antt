@@ -76,7 +76,8 @@ runs s = running s.plan s.pattern
 abbrev pub hold : State → ℕ → Bool
 hold s = coordination.asks_hold s.plan s.pattern
 
--- the phase is forced off in this tick: at its force-off instant, or late, which no coordinated phase is
+-- the phase is forced off in this tick by the cycle: at its force-off instant, late, or as a coordinated phase in its
+-- permissive time. By floating force-off phase timing forces it off
 abbrev pub forced : State → ℕ → Bool
 forced s = coordination.asks_force_off s.plan (s.now + 1) s.pattern
 

@@ -5,6 +5,9 @@ use Rattle.tsb_cells.specs.declared.timer.Timer.TheVariants.{On}
 use Rattle.tsb_types.specs.declared.interval.Interval.TheVariants.{Yellow}
 use Rattle.tsb_types.specs.Events.{numbers_with}
 use Rattle.tsb_types.specs.Lists.{among}
+use Rattle.tsb_objects.specs.tsb_plan.declared.object.Object.TheVariants.{CoordMaximumMode}
+use Rattle.tsb_objects.specs.tsb_plan.Plan.{Plan, with_value}
+use Rattle.tsb_objects.specs.tsb_plan.Quad.{quad}
 use Rattle.tsb_phase.specs.Phase as phase
 use Rattle.tsb_phase.specs.Phase.{Phase}
 use Rattle.tsb_ring.specs.Rings.{Ring1}
@@ -120,6 +123,22 @@ green_of_59 : (status (passing (record (green 59) { passage = On 5; conflict = O
 }
 unfolding opened
 green_of_59 = refl
+
+-- In pattern 1 the maximum that acts is told: none without a maximum mode, with mode 1 that of 200 of a phase that is not
+-- coordinated, and none of one that is.
+abbrev crossed : Plan → State
+crossed plan = record (coordinated 60) { plan = plan; phases = these (3 ∷ 8 ∷ []) (record (green 59) { conflict = On 30 }) all_red }
+
+abbrev pressed : State
+pressed = record (coordinated 60) {
+  plan = with_value quad CoordMaximumMode 1 1;
+  phases = these (2 ∷ 6 ∷ []) (record (green 59) { conflict = On 30 }) all_red;
+}
+
+maximum_in_pattern : map (λ s. ((status s).ring Ring1).maximum_left) (crossed quad ∷ crossed (with_value quad CoordMaximumMode 1 1) ∷ pressed ∷ []) ≡
+    None ∷ Some 170 ∷ None ∷ []
+unfolding opened
+maximum_in_pattern = refl
 
 -- of a green of 9
 initial : ((status short).ring Ring1).initial_left ≡ Some 41

@@ -5,7 +5,7 @@ use Rattle.std.specs.Prelude.{◌≡◌, ℕ, true, List, [], ◌∷◌, Some, N
 use Rattle.tsb_cells.specs.declared.timer.Timer.TheVariants.{Off, On}
 use Rattle.tsb_types.specs.declared.interval.PedestrianInterval.TheVariants.{PedestrianClear}
 use Rattle.tsb_types.specs.Sets.{all_off}
-use Rattle.tsb_objects.specs.tsb_plan.declared.object.Object.TheVariants.{PhaseConcurrency, SplitMode}
+use Rattle.tsb_objects.specs.tsb_plan.declared.object.Object.TheVariants.{CoordForceMode, CoordMaximumMode, PhaseConcurrency, SplitMode}
 use Rattle.tsb_objects.specs.tsb_plan.Plan.{with_value, with_values}
 use Rattle.tsb_objects.specs.tsb_plan.Quad.{quad}
 use Rattle.tsb_heads.specs.declared.monitor.Trip.TheVariants.{GreenToRed}
@@ -236,3 +236,34 @@ maximum = refl
 force_off : waits_for (calling (1 ∷ []) (coordinated 60)) 1 ≡ Some (waits.Green 2 lacks.ForceOff)
 unfolding opened
 force_off = refl
+
+-- 3 is not coordinated, and is driven; with floating force-off it lacks nothing once its green has lasted 150 ticks less
+-- yellow change and red clearance
+abbrev pub driven : ℕ → State
+driven n = record (coordinated 60) {
+  plan = with_value quad CoordForceMode 1 2;
+  phases = these (3 ∷ []) (record (green n) { passage = Off; conflict = On 30 }) all_red;
+}
+
+before_floating : lack (driven 109) 3 ≡ Some (lacks.Gap 20)
+unfolding opened
+before_floating = refl
+
+floating : lack (driven 110) 3 ≡ None
+unfolding opened
+floating = refl
+
+-- or by its maximum in the pattern, once it has had a conflict for 200
+abbrev pub pressed : ℕ → State
+pressed n = record (driven 400) {
+  plan = with_value quad CoordMaximumMode 1 1;
+  phases = these (3 ∷ []) (record (green 400) { passage = Off; conflict = On n }) all_red;
+}
+
+before_maximum : lack (pressed 199) 3 ≡ Some (lacks.Gap 20)
+unfolding opened
+before_maximum = refl
+
+maximum_in_pattern : lack (pressed 200) 3 ≡ None
+unfolding opened
+maximum_in_pattern = refl
