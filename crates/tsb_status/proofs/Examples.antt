@@ -3,8 +3,11 @@ use Rattle.std.specs.Prelude.{◌≡◌, ℕ, true, false, if◌then◌else◌, 
 use Rattle.tsb_step.specs.tsb_cells.declared.timer.Timer.TheVariants.{Off, On}
 use Rattle.tsb_step.specs.tsb_types.declared.interval.Interval.TheVariants.{Green}
 use Rattle.tsb_step.specs.tsb_types.declared.interval.PedestrianInterval.TheVariants.{DontWalk}
+use Rattle.tsb_step.specs.tsb_plan.declared.object.Object.TheVariants.{CoordForceMode, CoordMaximumMode}
+use Rattle.tsb_step.specs.tsb_plan.Plan.{Plan, with_value}
 use Rattle.tsb_step.specs.tsb_plan.Quad.{quad}
 use Rattle.tsb_phase.specs.declared.told.PhaseTimes.{PhaseTimes}
+use Rattle.tsb_phase.specs.DynamicMaximum.{maximum_in_use}
 use Rattle.tsb_phase.specs.Green.{cars_waiting, gap, initial, is_gapped, reduction_timer}
 use Rattle.tsb_phase.specs.Phase.{held_of}
 use Rattle.tsb_step.specs.declared.waits.Lack.{Lack}
@@ -19,7 +22,7 @@ use Rattle.tsb_step.specs.declared.status.RingPart.{RingPart}
 use Rattle.tsb_step.specs.declared.status.RingPart.TheVariants as parts
 use Rattle.tsb_status.specs.declared.rings.PhaseFound.{PhaseFound}
 use Rattle.tsb_status.specs.declared.times.GreenFound.{GreenFound}
-use Rattle.tsb_status.specs.RingBy.{part_by}
+use Rattle.tsb_status.specs.RingBy.{maximum_by, part_by}
 use Rattle.tsb_status.specs.Times.{given_by, phase_by, read_by}
 use Rattle.tsb_status.specs.WaitBy.{wait_by}
 use Rattle.tsb_step.specs.Waits.{part_lack}
@@ -126,3 +129,37 @@ resting_part q = if is_gapped quad (given_by q.found q.times) q.phase (held_of (
 would_be_maximum : resting_part resting_1 ≡ parts.Maximum
 unfolding quad initial gap reduction_timer cars_waiting
 would_be_maximum = refl
+
+-- ## In a pattern, and mistakes: the maximum of free operation; a force-off by the cycle alone
+
+-- phase 3, with a split of 150, has been Green for 110 ticks in pattern 1, 30 of them with a conflict, and is driven
+abbrev pub driven_3 : PhaseFound
+driven_3 = record {
+  phase = 3;
+  times = record green_of_49 { timer = On 110; passage = Off; conflict = On 30 };
+  found = record free { runs = Some 1 };
+}
+
+no_maximum : maximum_by quad driven_3 ≡ None
+unfolding quad
+no_maximum = refl
+
+would_be_told : maximum_by quad (record driven_3 { found = free }) ≡ Some 170
+unfolding quad maximum_in_use
+would_be_told = refl
+
+maximum_1 : maximum_by (with_value quad CoordMaximumMode 1 1) driven_3 ≡ Some 170
+unfolding quad
+maximum_1 = refl
+
+abbrev lack_in : Plan → PhaseFound → Option Lack
+lack_in plan q = part_lack plan (given_by q.found q.times) q.phase (phase_by q.times) DontWalk
+
+lacks_its_gap : lack_in quad driven_3 ≡ Some (lacks.Gap 20)
+unfolding quad initial gap reduction_timer cars_waiting
+lacks_its_gap = refl
+
+-- with floating force-off it could have ended
+lacks_nothing : lack_in (with_value quad CoordForceMode 1 2) driven_3 ≡ None
+unfolding quad initial gap reduction_timer cars_waiting
+lacks_nothing = refl

@@ -1,4 +1,5 @@
--- No vehicles wait where no phase is callable, so that the gap of a green is reduced by its time alone.
+-- No vehicles wait where no phase is callable, so that the gap of a green is reduced by its time alone; and a force-off that
+-- has come is told once.
 use Rattle.std.proofs.Common.{zero, suc, ◌≡◌, ℕ, nat_le, nat_lt, Bool, true, false, ◌&&◌, ◌||◌, if◌then◌else◌, List, [], ◌∷◌, sum_by, refl, sym, ap, arith, ◌∙◌}
 use Rattle.std.proofs.lemmas.Bool.Decides.{nat_tests}
 use Rattle.std.proofs.Math.Bool.{and-false}
@@ -37,3 +38,9 @@ reduction-rests plan found x p time on off same short =
     go Off r cars e f h l = absurd cc
     go (On n) (On m) cars e f h l = absurd cc
     go (On n) Off cars e f h l = rw (l, h) refl
+
+-- the latch stands for the force-off by the cycle too
+pub once_forced : (forced floats : Bool) → (forced || (floats || forced)) ≡ (forced || floats)
+once_forced true floats = refl
+once_forced false true = refl
+once_forced false false = refl

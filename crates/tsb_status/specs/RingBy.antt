@@ -1,13 +1,12 @@
 -- The status of a ring, of its phase in service as it was told: the definition of tsb_step, with what was found of the
 -- phase in place of the state.
-use Rattle.std.specs.Prelude.{ℕ, nat_lt, Bool, not, ◌&&◌, ◌||◌, if◌then◌else◌, Option, Some, None, is_none}
+use Rattle.std.specs.Prelude.{ℕ, nat_lt, Bool, not, ◌&&◌, ◌||◌, if◌then◌else◌, Option, Some, None, option_map}
 use Rattle.tsb_step.specs.tsb_cells.Timer.{is_on}
 use Rattle.tsb_step.specs.tsb_types.declared.interval.Interval.{Interval}
 use Rattle.tsb_step.specs.tsb_types.declared.interval.Interval.TheVariants.{Red, Green, Yellow, RedClear}
 use Rattle.tsb_step.specs.tsb_types.Intervals.{is_green, is_yellow, is_red_clear, is_walk, is_clearance}
 use Rattle.tsb_step.specs.tsb_plan.Plan.{Plan, yellow_change, red_clear}
-use Rattle.tsb_phase.specs.DynamicMaximum.{maximum_in_use}
-use Rattle.tsb_phase.specs.Green.{gap, is_gapped}
+use Rattle.tsb_phase.specs.Green.{gap, is_gapped, acting_maximum}
 use Rattle.tsb_phase.specs.Pedestrian.{ended_by, walk_time, clearance_time}
 use Rattle.tsb_phase.specs.Phase.{held_of}
 use Rattle.tsb_step.specs.declared.status.RingPart.{RingPart}
@@ -29,6 +28,11 @@ walk_by plan q = left (walk_time plan q.phase (ended_by (given_by q.found q.time
 -- of its pedestrian clearance
 abbrev pub clearance_by : Plan → PhaseFound → ℕ
 clearance_by plan q = left (clearance_time plan q.phase (ended_by (given_by q.found q.times) q.phase)) q.times.pedestrian_timer
+
+-- of the maximum that acts on it
+abbrev pub maximum_by : Plan → PhaseFound → Option ℕ
+maximum_by plan q =
+    option_map (λ m. left m q.times.conflict) (acting_maximum plan q.found.runs q.phase q.times.running_maximum)
 
 -- one of these goes on
 abbrev pub times_minimum_by : Plan → PhaseFound → Bool
@@ -66,8 +70,7 @@ served_by plan next q force_off_in = record {
   initial_left = when (is_green q.times.interval) (initial_by plan q);
   gap = when (is_green q.times.interval) (gap plan q.phase q.times.reduction);
   gap_left = when (is_green q.times.interval) (gap_left plan q.phase (phase_by q.times));
-  maximum_left = when (is_green q.times.interval && (is_none q.found.runs && is_on q.times.conflict))
-      (left (maximum_in_use plan q.phase q.times.running_maximum) q.times.conflict);
+  maximum_left = if is_green q.times.interval && is_on q.times.conflict then maximum_by plan q else None;
   walk_left = when (is_walk q.times.pedestrian) (walk_by plan q);
   clearance_left = when (is_clearance q.times.pedestrian) (clearance_by plan q);
   yellow_left = when (is_yellow q.times.interval) (left (yellow_change plan q.phase) q.times.timer);

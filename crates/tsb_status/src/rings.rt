@@ -2,9 +2,8 @@
 ghost use Rattle.std.specs.Prelude.{◌≡◌, Some, None, if◌then◌else◌};
 ghost use Rattle.tsb_step.specs.tsb_types.Intervals.{is_clearance, is_green, is_red_clear, is_walk, is_yellow};
 ghost use Rattle.tsb_objects.specs.Checked.{checked_plan};
-ghost use Rattle.tsb_phase.specs.DynamicMaximum.{maximum_in_use};
 ghost use Rattle.tsb_step.specs.Waits.{left};
-ghost use Rattle.tsb_status.specs.RingBy.{green_part_by, part_by, ring_by, served_by, times_minimum_by};
+ghost use Rattle.tsb_status.specs.RingBy.{green_part_by, maximum_by, part_by, ring_by, served_by, times_minimum_by};
 
 use crate::status::RingStatus;
 use crate::times::{
@@ -77,6 +76,17 @@ fn times_minimum(plan: &Checked, q: &PhaseFound) -> bool
     (0 < initial || walks) || is_clearance(q.times.pedestrian)
 }
 
+/// What is left of the maximum that acts on a green with a conflict.
+fn maximum_left(plan: &Checked, q: &PhaseFound) -> Option<u32>
+    ensures { result ≡ maximum_by (checked_plan plan.now) q.now }
+{
+    let running = q.times.running_maximum;
+    match Phases::maximum(plan, q.found.runs, q.phase, running) {
+        None => None,
+        Some(maximum) => Some(left(maximum, q.times.conflict)),
+    }
+}
+
 /// The part of a green.
 fn green_part(plan: &Checked, q: &PhaseFound) -> RingPart
     ensures { result ≡ green_part_by (checked_plan plan.now) q.now }
@@ -116,8 +126,7 @@ fn serving(
     ensures { result ≡ served_by (checked_plan plan.now) next q.now force_off_in }
 {
     let green = is_green(q.times.interval);
-    let maxes = green && (q.found.runs.is_none() && q.times.conflict.is_on());
-    let maximum = Phases::maximum(plan, q.phase, q.times.running_maximum);
+    let maxes = green && q.times.conflict.is_on();
     RingStatus {
         part: part(plan, q),
         phase: Some(q.phase),
@@ -125,7 +134,7 @@ fn serving(
         initial_left: when(green, initial_left(plan, q.phase, &q.found, &q.times)),
         gap: when(green, gap_of(plan, q.phase, q.times.reduction)),
         gap_left: when(green, gap_left(plan, q.phase, &q.times)),
-        maximum_left: when(maxes, left(maximum, q.times.conflict)),
+        maximum_left: if maxes { maximum_left(plan, q) } else { None },
         walk_left: when(
             is_walk(q.times.pedestrian),
             walk_left(plan, q.phase, &q.found, &q.times),

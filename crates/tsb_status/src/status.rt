@@ -21,7 +21,7 @@ pub struct RingStatus {
     pub gap: Option<u32>,
     /// Of a green: of that gap, all of it while an output of the phase is on.
     pub gap_left: Option<u32>,
-    /// Of a green with a conflict in free operation: of its maximum, at most 2,550.
+    /// Of a green with a conflict: of the maximum that acts on it, if one does, at most 2,550.
     pub maximum_left: Option<u32>,
     /// Of its walk; 0 where it rests in walk.
     pub walk_left: Option<u32>,

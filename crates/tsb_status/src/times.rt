@@ -3,7 +3,7 @@
 ghost use Rattle.std.specs.Prelude.{◌≡◌, None, if◌then◌else◌};
 ghost use Rattle.tsb_step.specs.tsb_cells.Timer.{has_reached, advanced};
 ghost use Rattle.tsb_objects.specs.Checked.{checked_plan};
-ghost use Rattle.tsb_phase.specs.Green.{conflict_timer, forced_latch, gap_has_expired, gapped_latch, has_maxed_out, initial_has_passed, is_gapped, passage_timer, reduction_timer};
+ghost use Rattle.tsb_phase.specs.Green.{conflict_timer, floats_off, forced_latch, gap_has_expired, gapped_latch, has_maxed_out, initial_has_passed, is_gapped, passage_timer, reduction_timer};
 ghost use Rattle.tsb_phase.specs.Green as timing;
 ghost use Rattle.tsb_phase.specs.Pedestrian.{clearance_time, ended_by, walk_time};
 ghost use Rattle.tsb_phase.specs.Phase.{held_of};
@@ -237,26 +237,41 @@ pub fn has_gapped(plan: &Checked, p: Phase, found: &GreenFound, x: &PhaseTimes) 
     has_expired(plan, p, found, x) || stays_gapped(plan, p, found, x)
 }
 
-/// Whether its force-off has come.
-fn is_forced(p: Phase, found: &GreenFound, x: &PhaseTimes) -> bool
-    ensures { result ≡ forced_latch (given_by found.now x.now) p (held_of (phase_by x.now)) }
+/// Whether a green has lasted its split, with floating force-off.
+fn floats_off(plan: &Checked, p: Phase, found: &GreenFound, x: &PhaseTimes) -> bool
+    ensures { result ≡ floats_off (checked_plan plan.now) (given_by found.now x.now) p (held_of (phase_by x.now)) }
 {
-    found.runs.is_some() && (found.service.is_none() && (x.conflict.is_on() && x.forced))
+    match plan.plan().floating_time(found.runs, p) {
+        None => false,
+        Some(time) => x.timer.has_reached(time),
+    }
 }
 
-/// Whether its maximum has passed, in free operation.
+/// Whether its force-off has come.
+#[tactic(auto, using(crate::proofs::TimesLemmas::once_forced))]
+fn is_forced(plan: &Checked, p: Phase, found: &GreenFound, x: &PhaseTimes) -> bool
+    ensures { result ≡ forced_latch (checked_plan plan.now) (given_by found.now x.now) p (held_of (phase_by x.now)) }
+{
+    let comes = x.forced || floats_off(plan, p, found, x);
+    found.runs.is_some() && (found.service.is_none() && (x.conflict.is_on() && comes))
+}
+
+/// Whether the maximum that acts on it has passed, if one does.
 fn has_maxed_out(plan: &Checked, p: Phase, found: &GreenFound, x: &PhaseTimes) -> bool
     ensures { result ≡ has_maxed_out (checked_plan plan.now) (given_by found.now x.now) p (held_of (phase_by x.now)) x.now.running_maximum }
 {
-    let maximum = Phases::maximum(plan, p, x.running_maximum);
-    found.runs.is_none() && conflict(p, found, x).has_reached(maximum)
+    let conflict = conflict(p, found, x);
+    match Phases::maximum(plan, found.runs, p, x.running_maximum) {
+        None => false,
+        Some(maximum) => conflict.has_reached(maximum),
+    }
 }
 
 /// Whether a green that has lasted its initial time may end.
 fn may_end(plan: &Checked, p: Phase, found: &GreenFound, x: &PhaseTimes) -> bool
     ensures { result ≡ may_end (checked_plan plan.now) (given_by found.now x.now) p (phase_by x.now) }
 {
-    let forced = is_forced(p, found, x);
+    let forced = is_forced(plan, p, found, x);
     if found.is_held && found.service.is_none() {
         return forced;
     }
