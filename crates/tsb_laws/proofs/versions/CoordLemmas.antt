@@ -1,17 +1,18 @@
 -- What runs, and what coordination asks of phases 1 to 8, is the same on the wide plan.
-use Rattle.std.proofs.Common.{◌≡◌, ℕ, ◌+◌, ◌-◌, nat_le, true, false, ◌&&◌, ◌++◌, Option, Some, None, refl, sym, ◌∙◌, ap, ap₂, inl, inr, sum_by}
+use Rattle.std.proofs.Common.{◌≡◌, ℕ, ◌+◌, ◌-◌, ◌==◌, nat_le, Bool, true, false, ◌&&◌, ◌++◌, Option, Some, None, refl, sym, ◌∙◌, ap, ap₂, inl, inr, sum_by}
 use Rattle.std.proofs.Math.Path.{fun_ext}
 use Rattle.std.proofs.lemmas.Bool.{cases_Bool}
-use Rattle.tsb_step.specs.tsb_types.Lists.{run_from, up_to}
+use Rattle.tsb_step.specs.tsb_types.Lists.{or_else, run_from, up_to}
 use Rattle.tsb_step.specs.tsb_plan.Plan.{Plan, is_enabled, ring_of, side_of, sequence}
 use Rattle.tsb_step.specs.tsb_plan.Parts.{split_of}
 use Rattle.tsb_step.specs.tsb_plan.Running.{running, split_in_effect, sequence_in_effect, mode_in, mode_in_effect, coordinates_in, is_coordinated_now, is_omitted_now, is_on_minimum_recall, is_on_maximum_recall, is_on_pedestrian_recall}
 use Rattle.tsb_step.specs.tsb_rules.PatternRules.{is_on, has_phases, split_on, split_sum, side_sum, split_before, ring_sequence, split_end}
 use Rattle.tsb_step.specs.tsb_coord.Coordinated.{local_in, local, end_in, instant_from, reference, instant_by, force_off, is_at_force_off, asks_force_off, asks_hold, asks_omit, sequence_now, serving_order}
+use Rattle.tsb_step.specs.tsb_objects.Instants.{is_coordinated_in, coordinated_in_ring, first_coordinated}
 use Rattle.tsb_step.proofs.tsb_coord.LocalLemmas.{options_off}
 use Rattle.tsb_laws.specs.Widened.{IsNarrow, widened}
 use Rattle.tsb_laws.proofs.versions.ListLemmas.{is_narrow, is_beyond, sum-up_to}
-use Rattle.tsb_laws.proofs.versions.PlanLemmas.{first-same, any-same, sum-same, beyond-narrow, not-enabled, enabled-narrow, split_time-same, split_mode-same, is_coordinated-same, not-coordinated, not-late, forces_late-same, zeros, sequence-same}
+use Rattle.tsb_laws.proofs.versions.PlanLemmas.{first-same, any-same, sum-same, beyond-narrow, not-enabled, enabled-narrow, split_time-same, split_mode-same, is_coordinated-same, not-coordinated, not-late, no-permissive_time, zeros, sequence-same}
 
 -- ## What runs
 
@@ -126,10 +127,19 @@ pub instant_from-same : (plan : Plan) (n c p : ℕ) → IsNarrow plan → instan
 instant_from-same plan n c p narrow =
     rw (end_in-same plan n (split_of plan n) p narrow, end_in-same plan n (split_of plan n) c narrow) refl
 
-pub reference-same : (plan : Plan) (n : ℕ) → IsNarrow plan → reference (widened plan) n ≡ reference plan n
-reference-same plan n narrow =
+first_coordinated-same : (plan : Plan) (n : ℕ) → IsNarrow plan → first_coordinated (widened plan) n ≡ first_coordinated plan n
+first_coordinated-same plan n narrow =
     first-same plan (is_coordinated_now (widened plan) (Some n)) (is_coordinated_now plan (Some n)) narrow
     (λ p in_it. is_coordinated_now-same plan (Some n) p narrow in_it) (λ p out. not-coordinated_now plan (Some n) p out)
+
+coordinated_in_ring-same : (plan : Plan) (n r : ℕ) → IsNarrow plan → coordinated_in_ring (widened plan) n r ≡ coordinated_in_ring plan n r
+coordinated_in_ring-same plan n r narrow =
+    first-same plan (is_coordinated_in (widened plan) n r) (is_coordinated_in plan n r) narrow
+    (λ p in_it. ap (λ (b : Bool). b && ring_of plan p == r) (is_coordinated_now-same plan (Some n) p narrow in_it))
+    (λ p out. ap (λ (b : Bool). b && ring_of plan p == r) (not-coordinated_now plan (Some n) p out))
+
+pub reference-same : (plan : Plan) (n : ℕ) → IsNarrow plan → reference (widened plan) n ≡ reference plan n
+reference-same plan n narrow = ap₂ or_else (coordinated_in_ring-same plan n 1 narrow) (first_coordinated-same plan n narrow)
 
 instant_by-same : (plan : Plan) (n : ℕ) (o : Option ℕ) (p : ℕ) → IsNarrow plan → instant_by (widened plan) n o p ≡ instant_by plan n o p
 instant_by-same plan n None p narrow = refl
@@ -154,12 +164,12 @@ is_at_force_off-same : (plan : Plan) (t : ℕ) (selected : Option ℕ) (p : ℕ)
 is_at_force_off-same plan t selected p narrow =
     rw (running-same plan selected, local_in-same plan t (running plan selected), force_off-same plan (running plan selected) p narrow) refl
 
--- in neither is force-off late
+-- in neither is force-off late, nor is there a permissive time
 pub asks_force_off-same : (plan : Plan) (t : ℕ) (selected : Option ℕ) (p : ℕ) → IsNarrow plan →
     asks_force_off (widened plan) t selected p ≡ asks_force_off plan t selected p
 asks_force_off-same plan t selected p narrow =
-    options_off (widened plan) t selected p (forces_late-same plan ∙ not-late plan narrow)
-    ∙ is_at_force_off-same plan t selected p narrow ∙ sym (options_off plan t selected p (not-late plan narrow))
+    options_off (widened plan) t selected p (not-late plan narrow) (λ n. no-permissive_time plan n narrow)
+    ∙ is_at_force_off-same plan t selected p narrow ∙ sym (options_off plan t selected p (not-late plan narrow) (λ n. no-permissive_time plan n narrow))
 
 pub asks_hold-same : (plan : Plan) (selected : Option ℕ) (p : ℕ) → IsNarrow plan → is_narrow p ≡ true →
     asks_hold (widened plan) selected p ≡ asks_hold plan selected p

@@ -1,14 +1,14 @@
 -- Patterns of the wide plan meet the rules where those of the narrow one do.
-use Rattle.std.proofs.Common.{◌≡◌, ℕ, ◌≤◌, ◌==◌, nat_le, Bool, true, false, not, ◌&&◌, ◌||◌, if◌then◌else◌, List, [], ◌∷◌, refl, arith, sym, ◌∙◌, ap, ap₂, sum_by}
+use Rattle.std.proofs.Common.{◌≡◌, ℕ, ◌≤◌, ◌==◌, nat_le, nat_lt, Bool, true, false, not, ◌&&◌, ◌||◌, if◌then◌else◌, List, [], ◌∷◌, refl, arith, sym, ◌∙◌, ap, ap₂, sum_by}
 use Rattle.std.specs.List.{list_all, list_any}
 use Rattle.std.proofs.Math.Path.{fun_ext}
 use Rattle.std.proofs.lemmas.Bool.Decides.{nat_tests}
 use Rattle.std.proofs.lemmas.List.Sums.{sum_by-cons}
 use Rattle.tsb_step.specs.tsb_types.Lists.{run_from}
 use Rattle.tsb_step.specs.tsb_plan.declared.object.Object.TheVariants.{PhaseSide}
-use Rattle.tsb_step.specs.tsb_plan.Parts.{is_used, split_of, sequence_of, is_coordinated, cycle}
+use Rattle.tsb_step.specs.tsb_plan.Parts.{is_used, split_of, sequence_of, is_coordinated, cycle, permissive_time, leads_and_lags}
 use Rattle.tsb_step.specs.tsb_plan.Plan.{Plan, phases, is_enabled, ring_of, side_of}
-use Rattle.tsb_step.specs.tsb_rules.PatternRules.{some_and, each_pattern, names_sequence, is_whole, patterns_are_whole, holds_phase, holds_phases, splits_hold_phases, is_on, has_phases, split_on, split_sum, side_sum, rings_agree, rings_agree_on_sides, fills, splits_fill_cycles, ends_with, agrees_with_all, is_coordinated_in, coordinated_count, has_one_in_each_ring, coordinates, has_coordinated, all_coordinate, coordinated_agree, coordinated_phases_agree}
+use Rattle.tsb_step.specs.tsb_rules.PatternRules.{some_and, each_pattern, names_sequence, is_whole, patterns_are_whole, holds_phase, holds_phases, splits_hold_phases, is_on, has_phases, split_on, split_sum, side_sum, rings_agree, rings_agree_on_sides, fills, splits_fill_cycles, ends_with, agrees_with_all, is_coordinated_in, coordinated_count, has_one_in_each_ring, coordinates, has_coordinated, all_coordinate, coordinated_agree, coordinated_phases_agree, permissive_times_end}
 use Rattle.tsb_laws.specs.Widened.{IsNarrow, widened}
 use Rattle.tsb_laws.proofs.versions.ListLemmas.{is_narrow}
 use Rattle.tsb_laws.proofs.versions.PlanLemmas.{any-same, all-same, sum-same, split_time-same, is_omitted-same, is_coordinated-same, not-coordinated}
@@ -110,14 +110,15 @@ filling-same plan narrow =
 
 -- ## Coordinated phases
 
-ends_with-same : (plan : Plan) (s t p q : ℕ) → IsNarrow plan → ends_with (widened plan) s t p q ≡ ends_with plan s t p q
-ends_with-same plan s t p q narrow = rw (split_end-same plan s t p narrow, split_end-same plan s t q narrow) refl
+ends_with-same : (plan : Plan) (apart : Bool) (s t p q : ℕ) → IsNarrow plan → ends_with (widened plan) apart s t p q ≡ ends_with plan apart s t p q
+ends_with-same plan apart s t p q narrow = rw (split_end-same plan s t p narrow, split_end-same plan s t q narrow) refl
 
-agrees_with_all-same : (plan : Plan) (s t p : ℕ) → IsNarrow plan → agrees_with_all (widened plan) s t p ≡ agrees_with_all plan s t p
-agrees_with_all-same plan s t p narrow =
-    all-same plan (λ q. not (is_coordinated (widened plan) t q) || ends_with (widened plan) s t p q)
-    (λ q. not (is_coordinated plan t q) || ends_with plan s t p q) narrow
-    (λ q in_it. ap₂ (λ a b. not a || b) (is_coordinated-same plan t q narrow in_it) (ends_with-same plan s t p q narrow))
+agrees_with_all-same : (plan : Plan) (apart : Bool) (s t p : ℕ) → IsNarrow plan →
+    agrees_with_all (widened plan) apart s t p ≡ agrees_with_all plan apart s t p
+agrees_with_all-same plan apart s t p narrow =
+    all-same plan (λ q. not (is_coordinated (widened plan) t q) || ends_with (widened plan) apart s t p q)
+    (λ q. not (is_coordinated plan t q) || ends_with plan apart s t p q) narrow
+    (λ q in_it. ap₂ (λ a b. not a || b) (is_coordinated-same plan t q narrow in_it) (ends_with-same plan apart s t p q narrow))
     (λ q out. rw (not-coordinated plan t q out) refl)
 
 coordinated_count-same : (plan : Plan) (t r : ℕ) → IsNarrow plan → coordinated_count (widened plan) t r ≡ coordinated_count plan t r
@@ -132,29 +133,37 @@ one_in_each-same plan t p narrow =
     ap (λ (test : ℕ → Bool). list_all test (run_from 1 2))
     (fun_ext (λ r. ap₂ (λ a n. not a || n == 1) (has_phases-same plan r (side_of plan p) narrow) (coordinated_count-same plan t r narrow)))
 
-coordinates-same : (plan : Plan) (s t p : ℕ) → IsNarrow plan → is_narrow p ≡ true → coordinates (widened plan) s t p ≡ coordinates plan s t p
-coordinates-same plan s t p narrow in_it =
-    rw (is_omitted-same plan t p narrow in_it, agrees_with_all-same plan s t p narrow, one_in_each-same plan t p narrow) refl
+coordinates-same : (plan : Plan) (apart : Bool) (s t p : ℕ) → IsNarrow plan → is_narrow p ≡ true →
+    coordinates (widened plan) apart s t p ≡ coordinates plan apart s t p
+coordinates-same plan apart s t p narrow in_it =
+    rw (is_omitted-same plan t p narrow in_it, agrees_with_all-same plan apart s t p narrow, one_in_each-same plan t p narrow) refl
 
 has_coordinated-same : (plan : Plan) (t : ℕ) → IsNarrow plan → has_coordinated (widened plan) t ≡ has_coordinated plan t
 has_coordinated-same plan t narrow =
     any-same plan (is_coordinated (widened plan) t) (is_coordinated plan t) narrow
     (λ p in_it. is_coordinated-same plan t p narrow in_it) (λ p out. not-coordinated plan t p out)
 
-all_coordinate-same : (plan : Plan) (s t : ℕ) → IsNarrow plan → all_coordinate (widened plan) s t ≡ all_coordinate plan s t
-all_coordinate-same plan s t narrow =
-    all-same plan (λ p. not (is_coordinated (widened plan) t p) || coordinates (widened plan) s t p)
-    (λ p. not (is_coordinated plan t p) || coordinates plan s t p) narrow
-    (λ p in_it. ap₂ (λ a b. not a || b) (is_coordinated-same plan t p narrow in_it) (coordinates-same plan s t p narrow in_it))
+all_coordinate-same : (plan : Plan) (apart : Bool) (s t : ℕ) → IsNarrow plan → all_coordinate (widened plan) apart s t ≡ all_coordinate plan apart s t
+all_coordinate-same plan apart s t narrow =
+    all-same plan (λ p. not (is_coordinated (widened plan) t p) || coordinates (widened plan) apart s t p)
+    (λ p. not (is_coordinated plan t p) || coordinates plan apart s t p) narrow
+    (λ p in_it. ap₂ (λ a b. not a || b) (is_coordinated-same plan t p narrow in_it) (coordinates-same plan apart s t p narrow in_it))
     (λ p out. rw (not-coordinated plan t p out) refl)
 
-coordinated_agree-same : (plan : Plan) (s t : ℕ) → IsNarrow plan → coordinated_agree (widened plan) s t ≡ coordinated_agree plan s t
-coordinated_agree-same plan s t narrow = ap₂ (λ a b. a && b) (has_coordinated-same plan t narrow) (all_coordinate-same plan s t narrow)
+coordinated_agree-same : (plan : Plan) (apart : Bool) (s t : ℕ) → IsNarrow plan →
+    coordinated_agree (widened plan) apart s t ≡ coordinated_agree plan apart s t
+coordinated_agree-same plan apart s t narrow = ap₂ (λ a b. a && b) (has_coordinated-same plan t narrow) (all_coordinate-same plan apart s t narrow)
 
 pub coordinating-same : (plan : Plan) → IsNarrow plan → coordinated_phases_agree (widened plan) ≡ coordinated_phases_agree plan
 coordinating-same plan narrow =
     each_pattern-same plan
-    (λ n. some_and (λ s. some_and (coordinated_agree (widened plan) s) (split_of plan n)) (sequence_of plan n))
-    (λ n. some_and (λ s. some_and (coordinated_agree plan s) (split_of plan n)) (sequence_of plan n))
+    (λ n. some_and (λ s. some_and (coordinated_agree (widened plan) (leads_and_lags plan n) s) (split_of plan n)) (sequence_of plan n))
+    (λ n. some_and (λ s. some_and (coordinated_agree plan (leads_and_lags plan n) s) (split_of plan n)) (sequence_of plan n))
     (λ n. ap (λ (f : ℕ → Bool). some_and f (sequence_of plan n))
-    (fun_ext (λ s. ap (λ (f : ℕ → Bool). some_and f (split_of plan n)) (fun_ext (λ t. coordinated_agree-same plan s t narrow)))))
+    (fun_ext (λ s. ap (λ (f : ℕ → Bool). some_and f (split_of plan n)) (fun_ext (λ t. coordinated_agree-same plan (leads_and_lags plan n) s t narrow)))))
+
+-- ## Permissive times
+
+pub permissive-same : (plan : Plan) → IsNarrow plan → permissive_times_end (widened plan) ≡ permissive_times_end plan
+permissive-same plan narrow =
+    each_pattern-same plan (λ n. nat_lt (permissive_time plan n) (cycle plan n)) (λ n. nat_lt (permissive_time plan n) (cycle plan n)) (λ n. refl)

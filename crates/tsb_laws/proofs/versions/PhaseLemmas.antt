@@ -1,6 +1,6 @@
 -- Phases 1 to 8 are timed the same on the wide plan, where orders are the same of them; and a phase that no ring moves
 -- stays as it was at power-up.
-use Rattle.std.proofs.Common.{◌≡◌, ℕ, ◌==◌, Bool, true, false, if◌then◌else◌, Option, Some, None, refl, inl, inr}
+use Rattle.std.proofs.Common.{◌≡◌, ℕ, ◌==◌, Bool, true, false, if◌then◌else◌, Option, Some, None, refl, sym, ap, ◌∙◌, inl, inr}
 use Rattle.std.proofs.lemmas.Bool.{cases_Bool}
 use Rattle.tsb_step.specs.tsb_cells.declared.timer.Timer.{Timer}
 use Rattle.tsb_step.specs.tsb_cells.declared.timer.Timer.TheVariants.{Off, On}
@@ -14,13 +14,14 @@ use Rattle.tsb_step.specs.tsb_phase.declared.ending.Ending.{Ending}
 use Rattle.tsb_step.specs.tsb_phase.declared.ending.Ending.TheVariants.{MaxOut, GapOut}
 use Rattle.tsb_step.specs.tsb_phase.Phase.{Phase, Given, Moved, GreenHeld, as_read, held_of}
 use Rattle.tsb_step.specs.tsb_phase.DynamicMaximum.{effective_maximum, maximum_in_use, stepped, running_maximum_after}
-use Rattle.tsb_step.specs.tsb_phase.Green.{waits_for, cars_waiting, reduction_timer, gap, initial, gap_has_expired, gapped_latch, is_gapped, is_by_gap}
+use Rattle.tsb_step.specs.tsb_phase.Green.{waits_for, cars_waiting, reduction_timer, gap, initial, gap_has_expired, gapped_latch, is_gapped, is_by_gap, has_reached_some, conflict_timer, acting_maximum, has_maxed_out, forced_latch}
 use Rattle.tsb_step.specs.tsb_phase.Pedestrian.{ended_by, walk_time, clearance_time, pedestrian_after, pedestrian_now}
 use Rattle.tsb_step.specs.tsb_phase.Ready.{is_gapped_now, has_timed_out, green_is_done, is_ready, is_over_in, is_over, red_revert_passed}
 use Rattle.tsb_step.specs.tsb_phase.Next.{interval_after, held_now, ending_now, next}
 use Rattle.tsb_laws.specs.Widened.{IsNarrow, widened}
 use Rattle.tsb_laws.proofs.versions.ListLemmas.{is_narrow, IsSameOnNarrow, IsBeyondNarrow}
-use Rattle.tsb_laws.proofs.versions.PlanLemmas.{sum-same}
+use Rattle.tsb_laws.proofs.versions.PlanLemmas.{sum-same, not-floating, no-maximum_mode}
+use Rattle.tsb_laws.proofs.operation.OptionLemmas.{never_floats, latched_by_instant, never_in_patterns}
 use Rattle.tsb_laws.proofs.versions.CoordLemmas.{maximum_recall-same}
 
 -- what phase timing is given on the wide plan: other phases may be held, beyond the eighth
@@ -43,6 +44,25 @@ effective_maximum-same plan p (Some n) = rw (maximum-same plan p) refl
 maximum_in_use-same : (plan : Plan) (p : ℕ) (running : Option ℕ) → maximum_in_use (widened plan) p running ≡ maximum_in_use plan p running
 unfolding maximum_in_use
 maximum_in_use-same plan p running = rw (effective_maximum-same plan p running, maximum-same plan p) refl
+
+-- in a pattern no maximum acts
+acting_maximum-same : (plan : Plan) (runs : Option ℕ) (p : ℕ) (running : Option ℕ) → IsNarrow plan →
+    acting_maximum (widened plan) runs p running ≡ acting_maximum plan runs p running
+acting_maximum-same plan None p running narrow = ap Some (maximum_in_use-same plan p running)
+acting_maximum-same plan (Some n) p running narrow =
+    never_in_patterns (widened plan) (Some n) p (no-maximum_mode plan p narrow) ∙ sym (never_in_patterns plan (Some n) p (no-maximum_mode plan p narrow))
+
+has_maxed_out-same : (plan : Plan) (hold : ℕ → Bool) (given : Given) (p : ℕ) (held : GreenHeld) (running : Option ℕ) → IsNarrow plan →
+    has_maxed_out (widened plan) (wide_given hold given) p held running ≡ has_maxed_out plan given p held running
+has_maxed_out-same plan hold given p held running narrow =
+    ap (has_reached_some (conflict_timer given p held)) (acting_maximum-same plan given.runs p running narrow)
+
+-- no green floats
+forced_latch-same : (plan : Plan) (hold : ℕ → Bool) (given : Given) (p : ℕ) (held : GreenHeld) → IsNarrow plan →
+    forced_latch (widened plan) (wide_given hold given) p held ≡ forced_latch plan given p held
+forced_latch-same plan hold given p held narrow =
+    latched_by_instant (widened plan) (wide_given hold given) p held (never_floats (widened plan) given.runs p (not-floating plan narrow))
+    ∙ sym (latched_by_instant plan given p held (never_floats plan given.runs p (not-floating plan narrow)))
 
 stepped-same : (plan : Plan) (p : ℕ) (e : Ending) (n : ℕ) → stepped (widened plan) p e n ≡ stepped plan p e n
 stepped-same plan p MaxOut n = rw (maximum-same plan p) refl
@@ -135,14 +155,20 @@ has_timed_out-same plan hold given p w narrow in_it none =
     rw (
       is_gapped-same plan hold given p (held_of w) narrow none,
       maximum_recall-same plan given.runs p narrow in_it,
-      maximum_in_use-same plan p w.running_maximum,
+      has_maxed_out-same plan hold given p (held_of w) w.running_maximum narrow,
+      forced_latch-same plan hold given p (held_of w) narrow,
     ) refl
 
 green_is_done-same : (plan : Plan) (hold : ℕ → Bool) (given : Given) (p : ℕ) (w : Phase) (o : Option ℕ) → IsNarrow plan →
     is_narrow p ≡ true → IsBeyondNarrow given.callable false → IsSameOnNarrow hold given.hold →
     green_is_done (widened plan) (wide_given hold given) p w o ≡ green_is_done plan given p w o
 green_is_done-same plan hold given p w None narrow in_it none agree =
-    rw (has_timed_out-same plan hold given p w narrow in_it none, initial-same plan p (given.count p), agree p in_it) refl
+    rw (
+      has_timed_out-same plan hold given p w narrow in_it none,
+      forced_latch-same plan hold given p (held_of w) narrow,
+      initial-same plan p (given.count p),
+      agree p in_it,
+    ) refl
 green_is_done-same plan hold given p w (Some n) narrow in_it none agree = rw (initial-same plan p (given.count p)) refl
 
 pub is_ready-same : (plan : Plan) (hold : ℕ → Bool) (given : Given) (p : ℕ) (w : Phase) → IsNarrow plan →
@@ -191,5 +217,6 @@ next-same plan hold given moved p was narrow in_it none =
       ending_now-same plan hold given p (as_read was) narrow in_it none,
       running_maximum_after-same plan p (ending_now plan given p (as_read was)) (as_read was),
       gapped_latch-same plan hold given p (held_now moved p (as_read was)) narrow none,
+      forced_latch-same plan hold given p (held_of (as_read was)) narrow,
       reduction_timer-same plan hold given p (held_now moved p (as_read was)) narrow none,
     ) refl

@@ -1,14 +1,15 @@
 -- What a plan of version 1 gives of phases beyond the eighth, and where the wide plan has the values of its rows.
-use Rattle.std.proofs.Common.{◌≡◌, ℕ, ◌+◌, ◌-◌, ◌*◌, ◌/◌, ◌%◌, ◌≤◌, ◌==◌, nat_le, nat_lt, Bool, true, false, ◌&&◌, ◌⊎◌, List, [], ◌∷◌, ◌++◌, refl, arith, ◌∙◌, ap, inl, inr, sum_by, map}
+use Rattle.std.proofs.Common.{◌≡◌, ℕ, ◌+◌, ◌-◌, ◌*◌, ◌/◌, ◌%◌, ◌≤◌, ◌==◌, nat_le, nat_lt, Bool, true, false, ◌&&◌, ◌⊎◌, List, [], ◌∷◌, ◌++◌, None, refl, arith, ◌∙◌, ap, inl, inr, sum_by, map}
 use Rattle.std.specs.List.{list_all, list_any}
 use Rattle.std.proofs.lemmas.Bool.{cases_Bool}
 use Rattle.std.proofs.lemmas.Bool.Decides.{nat_tests}
 use Rattle.tsb_step.specs.tsb_types.Lists.{first, run_from}
 use Rattle.tsb_step.specs.tsb_types.Sets.{names}
 use Rattle.tsb_step.proofs.tsb_types.SetLemmas.{names-above}
-use Rattle.tsb_step.specs.tsb_plan.declared.object.Object.TheVariants.{PhaseEnabled, PhaseRing, PhaseConcurrency, SplitTime, SplitMode, SplitCoordPhase, SequenceData, CoordForceMode}
+use Rattle.tsb_step.specs.tsb_plan.declared.object.Object.TheVariants.{PhaseEnabled, PhaseRing, PhaseConcurrency, SplitTime, SplitMode, SplitCoordPhase, SequenceData, CoordForceMode, CoordMaximumMode, PatternPermissiveTime, PatternLeadLag}
 use Rattle.tsb_step.specs.tsb_plan.Plan.{Plan, phases, is_enabled, is_concurrent, sequence}
-use Rattle.tsb_step.specs.tsb_plan.Parts.{forces_late, split_index, mode_of, split_time, split_mode, is_omitted, is_coordinated}
+use Rattle.tsb_step.specs.tsb_plan.Parts.{forces_late, floats, permissive_time, leads_and_lags, split_index, mode_of, split_time, split_mode, is_omitted, is_coordinated}
+use Rattle.tsb_step.specs.tsb_plan.Running.{maximum_by_mode}
 use Rattle.tsb_step.specs.tsb_ring.Rings.{Ring, Ring1, Ring2, in_ring}
 use Rattle.tsb_laws.specs.Widened.{IsNarrow, widened, widened_row}
 use Rattle.tsb_laws.proofs.versions.ListLemmas.{is_narrow, is_beyond, IsSameOnNarrow, IsBeyondNarrow, first-phases, any-phases, all-phases, sum-phases}
@@ -117,14 +118,26 @@ is_coordinated-same plan t p narrow in_it = ap (λ n. n == 1) (split-value plan 
 pub not-coordinated : (plan : Plan) (t p : ℕ) → is_beyond p ≡ true → is_coordinated (widened plan) t p ≡ false
 not-coordinated plan t p out = ap (λ n. n == 1) (split-behind (plan.value SplitCoordPhase) t p out)
 
--- ## Force modes
+-- ## Options of coordination: version 1 has none of them
 
--- version 1 has no force mode, so force-off is never late
+-- force-off is never late, and does not float
 pub not-late : (plan : Plan) → IsNarrow plan → forces_late plan ≡ false
 not-late plan narrow = rw (narrow.placed CoordForceMode 1 refl) refl
 
-pub forces_late-same : (plan : Plan) → forces_late (widened plan) ≡ forces_late plan
-forces_late-same plan = refl
+pub not-floating : (plan : Plan) → IsNarrow plan → floats plan ≡ false
+not-floating plan narrow = rw (narrow.placed CoordForceMode 1 refl) refl
+
+-- no maximum acts in a pattern
+pub no-maximum_mode : (plan : Plan) (p : ℕ) → IsNarrow plan → maximum_by_mode plan p ≡ None
+no-maximum_mode plan p narrow = rw (narrow.placed CoordMaximumMode 1 refl) refl
+
+-- a coordinated phase is forced off at its instant alone
+pub no-permissive_time : (plan : Plan) (n : ℕ) → IsNarrow plan → permissive_time plan n ≡ 0
+no-permissive_time plan n narrow = rw (narrow.placed PatternPermissiveTime n refl) refl
+
+-- coordinated splits end at one time
+pub not-apart : (plan : Plan) (n : ℕ) → IsNarrow plan → leads_and_lags plan n ≡ false
+not-apart plan n narrow = rw (narrow.placed PatternLeadLag n refl) refl
 
 -- ## Sequences
 

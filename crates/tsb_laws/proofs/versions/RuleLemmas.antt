@@ -12,7 +12,7 @@ use Rattle.tsb_step.specs.tsb_rules.Rules.{some_enabled, is_placed, are_placed, 
 use Rattle.tsb_laws.specs.Widened.{IsNarrow, widened}
 use Rattle.tsb_laws.proofs.versions.PlanLemmas.{any-same, all-same, beyond-narrow, not-enabled, names-none, not-concurrent}
 use Rattle.tsb_laws.proofs.versions.SequenceLemmas.{each_phase-same, first_sequence-same, other_sequences-same}
-use Rattle.tsb_laws.proofs.versions.PatternLemmas.{whole-same, holding-same, filling-same, coordinating-same}
+use Rattle.tsb_laws.proofs.versions.PatternLemmas.{whole-same, holding-same, filling-same, coordinating-same, permissive-same}
 
 -- ## Rings, sides and concurrency
 
@@ -164,7 +164,7 @@ limits-same plan narrow = each_phase-same plan _ _ narrow (λ p in_it. refl)
 
 broken_by_extensions-same : (plan : Plan) → IsNarrow plan → broken_by_extensions (widened plan) ≡ broken_by_extensions plan
 unfolding broken_by_extensions
-broken_by_extensions-same plan narrow = rw (modifiers-same plan narrow, limits-same plan narrow) refl
+broken_by_extensions-same plan narrow = rw (modifiers-same plan narrow, limits-same plan narrow, permissive-same plan narrow) refl
 
 -- ## All rules
 
