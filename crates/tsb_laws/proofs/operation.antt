@@ -57,3 +57,4 @@ pub mod ReturnCrossLemmas
 pub mod ReturnRunLemmas
 pub mod CalledStartLemmas
 pub mod LateGreenLemmas
+pub mod OptionLemmas
