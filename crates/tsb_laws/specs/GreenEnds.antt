@@ -3,15 +3,15 @@
 --
 -- A plan here has 16 phases at most, as every plan in memory has: of a phase of a greater number phase timing is told
 -- nothing.
-use Rattle.std.specs.Prelude.{◌≡◌, ℕ, suc, ◌+◌, ◌≤◌, Bool, true, false, not, ◌&&◌, if◌then◌else◌, min, List, [], ◌∷◌, Some, None, is_some, is_none, ◌⊎◌}
+use Rattle.std.specs.Prelude.{◌≡◌, ℕ, suc, ◌+◌, ◌≤◌, Bool, true, false, not, ◌&&◌, if◌then◌else◌, min, List, [], ◌∷◌, Option, Some, None, is_some, is_none, ◌⊎◌}
 use Rattle.tsb_step.specs.tsb_types.declared.row.Row.{Row}
 use Rattle.tsb_step.specs.tsb_types.Intervals.{is_green}
 use Rattle.tsb_step.specs.tsb_plan.Parts.{preempt_minimum_green}
 use Rattle.tsb_step.specs.tsb_plan.Plan.{Plan, disables_simultaneous_gap}
-use Rattle.tsb_step.specs.tsb_plan.Running.{is_on_maximum_recall}
+use Rattle.tsb_step.specs.tsb_plan.Running.{is_on_maximum_recall, floating_time}
 use Rattle.tsb_step.specs.tsb_calls.Memories.{has_output}
 use Rattle.tsb_step.specs.tsb_phase.Phase.{held_of}
-use Rattle.tsb_step.specs.tsb_phase.Green.{gap, initial, reduction_timer}
+use Rattle.tsb_step.specs.tsb_phase.Green.{gap, initial, reduction_timer, acting_maximum}
 use Rattle.tsb_step.specs.declared.inputs.Input.{Input}
 use Rattle.tsb_step.specs.declared.inputs.Input.TheVariants.{Tick, Pattern}
 use Rattle.tsb_step.specs.State.{State, interval}
@@ -22,7 +22,6 @@ use Rattle.tsb_step.specs.Past.{ticks_of}
 use Rattle.tsb_step.specs.Laws.{IsConsistent}
 use Rattle.tsb_step.specs.TimeLaws.{held_for}
 use Rattle.tsb_laws.specs.Stretches.{EndsGreen}
-use Rattle.tsb_laws.specs.RunningMaximum.{maximum_of}
 
 -- ## What has held in a green
 
@@ -87,10 +86,28 @@ pub record IsByGap (plan : Plan) (p : ℕ) (is : List Input) (row : Row) : Type 
 
 -- ## By its maximum, or by force-off
 
--- p ends by its maximum: it has a conflict, and has had one in so many ticks of this green before as its maximum in use
+-- the maximum that acts on p: in free operation its maximum in use. While a pattern runs it is by `coordMaximumMode`, none
+-- with 0 and of a coordinated phase
+abbrev pub maximum_acting : State → ℕ → Option ℕ
+maximum_acting s p = acting_maximum s.plan (runs s) p (s.phases p).running_maximum
+
+-- p ends by its maximum: one acts on it, it has a conflict, and it has had one in so many ticks of this green before
 pub record IsByMaximum (plan : Plan) (p : ℕ) (is : List Input) (row : Row) : Type 0 where
+  pub maximum : ℕ
+  pub acts : maximum_acting (replay plan is) p ≡ Some maximum
   pub conflict : has_conflict p (replay plan is) row ≡ true
-  pub long : maximum_of (replay plan is) p ≤ ticks_in_green (in_ticks (has_conflict p)) p plan is
+  pub long : maximum ≤ ticks_in_green (in_ticks (has_conflict p)) p plan is
+
+-- for how many ticks p has been Green, the one that comes included
+abbrev pub green_for : Plan → ℕ → List Input → ℕ
+green_for plan p is = suc (held_for (λ s. is_green (interval s p)) plan is)
+
+-- floating force-off has come to p: its green has lasted its split less yellow change and red clearance, where the plan
+-- has floating force-off and p is not coordinated in the pattern that runs
+pub record HasFloated (plan : Plan) (p : ℕ) (is : List Input) : Type 0 where
+  pub time : ℕ
+  pub floating : floating_time (replay plan is).plan (runs (replay plan is)) p ≡ Some time
+  pub long : time ≤ green_for plan p is
 
 -- a pattern runs, no preempt is in service, and p has a conflict; a pattern that is selected takes its force-off back
 abbrev pub keeps_force_off : ℕ → State → Input → Bool
@@ -98,10 +115,11 @@ keeps_force_off p s (Tick row) = is_some (runs s) && (is_none (service s row) &&
 keeps_force_off p s (Pattern n) = false
 keeps_force_off p s i = true
 
--- p is forced off in this tick, at its instant or late, and was Green before it
+-- p is forced off in this tick, and was Green before it: by the cycle, at its instant, late or in its permissive time, or
+-- by floating force-off
 pub record IsForcedOff (plan : Plan) (p : ℕ) (is : List Input) (row : Row) : Type 0 where
   pub was_green : is_green (interval (replay plan is) p) ≡ true
-  pub forced : forced (replay plan is) p ≡ true
+  pub forced : (forced (replay plan is) p ≡ true) ⊎ HasFloated plan p is
 
 -- it was an earlier tick of this green, from which on it has not been taken back
 abbrev pub HasBeenForcedOff : Plan → ℕ → List Input → Type 0
@@ -118,19 +136,15 @@ pub record IsByForceOff (plan : Plan) (p : ℕ) (is : List Input) (row : Row) : 
 abbrev pub initial_of : State → ℕ → ℕ
 initial_of s p = initial s.plan p (s.memories.count p)
 
--- for how many ticks p has been Green, this one included
-abbrev pub green_for : Plan → ℕ → List Input → ℕ
-green_for plan p is = suc (held_for (λ s. is_green (interval s p)) plan is)
-
 -- The tick `row` after the inputs `is` ends the green of p, and why.
 pub record EndsForAReason (plan : Plan) (p : ℕ) (is : List Input) (row : Row) : Type 0 where
   -- with no preempt in service it has lasted its initial time
   pub initial : service (replay plan is) row ≡ None → initial_of (replay plan is) p ≤ green_for plan p is
   -- and in free operation it ends by its gap or by its maximum
   pub free : service (replay plan is) row ≡ None → runs (replay plan is) ≡ None → IsByGap plan p is row ⊎ IsByMaximum plan p is row
-  -- while a pattern runs, by its gap or by force-off
+  -- while a pattern runs, by its gap, by a maximum where one acts in patterns, or by force-off
   pub pattern : (n : ℕ) → service (replay plan is) row ≡ None → runs (replay plan is) ≡ Some n →
-      IsByGap plan p is row ⊎ IsByForceOff plan p is row
+      IsByGap plan p is row ⊎ (IsByMaximum plan p is row ⊎ IsByForceOff plan p is row)
   -- a coordinated phase by force-off alone
   pub coordinated : service (replay plan is) row ≡ None → hold (replay plan is) p ≡ true → IsByForceOff plan p is row
   -- under a preempt only as it is none of the phases that this wants, after the smaller of its initial time and the

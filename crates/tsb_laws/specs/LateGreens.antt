@@ -7,9 +7,9 @@ use Rattle.std.specs.Prelude.{◌≡◌, ℕ, ◌+◌, ◌<◌, ◌≤◌, true,
 use Rattle.tsb_step.specs.tsb_types.declared.interval.Interval.TheVariants.{Green}
 use Rattle.tsb_step.specs.tsb_types.declared.interval.PedestrianInterval.TheVariants.{DontWalk}
 use Rattle.tsb_step.specs.tsb_types.declared.row.Row.{Row}
-use Rattle.tsb_step.specs.tsb_plan.Parts.{forces_late}
+use Rattle.tsb_step.specs.tsb_plan.Parts.{cycle, forces_late}
 use Rattle.tsb_step.specs.tsb_plan.Plan.{Plan, walk, pedestrian_clear}
-use Rattle.tsb_step.specs.tsb_coord.Coordinated.{counter, force_off, yields_to}
+use Rattle.tsb_step.specs.tsb_coord.Coordinated.{counter, force_off, yields_to, counted_on, is_from_to}
 use Rattle.tsb_step.specs.tsb_phase.Phase.{held_of}
 use Rattle.tsb_step.specs.tsb_phase.Green.{initial_has_passed}
 use Rattle.tsb_step.specs.tsb_phase.Pedestrian.{pedestrian_now}
@@ -24,7 +24,8 @@ use Rattle.tsb_laws.specs.ServedCalls.{longest_initial}
 use Rattle.tsb_laws.specs.CoordinatedGreens.{HasGoneOn, is_pressed_in_pattern}
 
 -- The plan forces off late, p is not coordinated in the pattern that runs, and in the next tick the local counter has
--- come to the instant of p and not to that of the coordinated phase that p yields to.
+-- come to the instant of p and not to that of the coordinated phase that p yields to, also where it has begun anew at 0
+-- in between.
 pub record IsInLateSpan (s : State) (p : ℕ) : Type 0 where
   pub late : forces_late s.plan ≡ true
   pub number : ℕ
@@ -36,8 +37,7 @@ pub record IsInLateSpan (s : State) (p : ℕ) : Type 0 where
   pub yields : yields_to s.plan number p ≡ Some coordinated
   pub limit : ℕ
   pub until : force_off s.plan (Some number) coordinated ≡ Some limit
-  pub from : instant ≤ counter s.plan number (s.now + 1)
-  pub below : counter s.plan number (s.now + 1) < limit
+  pub within : is_from_to (cycle s.plan number) (counter s.plan number (s.now + 1)) instant (counted_on (cycle s.plan number) instant limit) ≡ true
 
 -- ## In one tick
 

@@ -19,7 +19,8 @@ use Rattle.tsb_step.specs.tsb_rules.Consistent.{IsPhase}
 use Rattle.tsb_step.specs.tsb_ring.Rings.{Ring, other, in_ring}
 use Rattle.tsb_step.specs.declared.inputs.Input.{Input}
 use Rattle.tsb_step.specs.declared.inputs.Input.TheVariants.{Tick}
-use Rattle.tsb_step.specs.ClearanceLaws.{EndsNow, ClearsInTime, IsForcedOff, IsOverAtZero}
+use Rattle.tsb_step.specs.ClearanceLaws.{EndsNow, ClearsInTime, IsForcedOff, IsOverInTime, split_end_from}
+use Rattle.tsb_step.specs.tsb_coord.Laws.{IsCountedFrom}
 use Rattle.tsb_step.specs.Laws.{IsConsistent, ServesTogether, WalksBesideGreen, StartsWaiting, ServesPreempt, is_unlit}
 use Rattle.tsb_step.specs.Runs.{replay}
 use Rattle.tsb_step.specs.Signs.{display, field, IsSafe}
@@ -30,7 +31,7 @@ use Rattle.tsb_step.specs.TimeLaws.{held_for, is_tick, is_yellow_head, EndsInTim
 use Rattle.tsb_step.specs.WaitLaws.{IsKeptNext}
 use Rattle.tsb_laws.specs.AllRed.{HasBeenRed, HasBeenWanted}
 use Rattle.tsb_laws.specs.Commitments.{ServesEnabled, CommitsTo, wait, StartsWithin}
-use Rattle.tsb_laws.specs.Coordination.{was_forced_off, OmitsHold}
+use Rattle.tsb_laws.specs.Coordination.{in_permissive_time, was_forced_off, OmitsHold}
 use Rattle.tsb_laws.specs.CrossingGreens.{IsCalm}
 use Rattle.tsb_laws.specs.Crossings.{BeginsCrossing, TakesAtMost, CompletesWithin}
 use Rattle.tsb_laws.specs.GreenEnds.{EndsForAReason}
@@ -59,9 +60,15 @@ use Rattle.tsb_laws.specs.CoordinatedGreens.{HasGoneOn, IsAwaited, ComesInCycle,
 abbrev pub ClearsGreens : State → Type 0
 ClearsGreens s = (rows : ℕ → Row) (p : ℕ) → EndsNow s rows p → ClearsInTime s rows p
 
--- a coordinated phase that is forced off at its instant in the first of them is over at local zero
+-- a coordinated phase that is forced off in the first of them is over at local zero, or within its permissive time of it:
+-- each, and where the pattern leads and lags the one that instants are counted from
 abbrev pub ClearsAtZero : State → Type 0
-ClearsAtZero s = (rows : ℕ → Row) (n p : ℕ) → IsForcedOff s n p → EndsNow s rows p → IsOverAtZero s rows p
+ClearsAtZero s = (rows : ℕ → Row) (n p : ℕ) → IsForcedOff s n p → IsCountedFrom s.plan n p → EndsNow s rows p → IsOverInTime s rows n p 0
+
+-- and any at the end of its own split, or within its permissive time of it
+abbrev pub ClearsWithItsSplit : State → Type 0
+ClearsWithItsSplit s = (rows : ℕ → Row) (n p c : ℕ) → IsForcedOff s n p → IsCountedFrom s.plan n c → EndsNow s rows p →
+    IsOverInTime s rows n p (split_end_from s.plan n c p)
 
 -- unless the controller has tripped, the field, with a lamp that a fault has lit, is in no conflict
 abbrev pub HasSafeField : State → Type 0
@@ -131,7 +138,8 @@ RevertsOrOff plan is = (row : Row) (p : ℕ) → is_started (moves (replay plan 
 -- while a pattern runs and no preempt is in service, the next tick ends a coordinated green only by its force-off
 abbrev pub EndsByForceOff : Plan → List Input → Type 0
 EndsByForceOff plan is = (row : Row) (p : ℕ) → EndsGreen plan is row p → hold (replay plan is) p ≡ true →
-    service (replay plan is) row ≡ None → (at_force_off (replay plan is) p ≡ true) ⊎ (was_forced_off plan p is ≡ true)
+    service (replay plan is) row ≡ None →
+    ((at_force_off (replay plan is) p ≡ true) ⊎ (in_permissive_time (replay plan is) p ≡ true)) ⊎ (was_forced_off plan p is ≡ true)
 
 -- without a preempt in service the next tick starts an omitted phase only by an older commitment
 abbrev pub KeepsOmits : Plan → List Input → Type 0
@@ -310,6 +318,7 @@ pub record KeepsLaws (plan : Plan) (is : List Input) (s : State) : Type 0 where
   -- tsb_step, clearance_laws
   pub greens_clear_in_time : ClearsGreens s
   pub coordinated_phases_clear_at_zero : ClearsAtZero s
+  pub coordinated_phases_clear_at_zero_splits : ClearsWithItsSplit s
   -- tsb_step, time_laws
   pub timers_tell_time : Untripped (λ plan is. (p : ℕ) → TellsTime plan is p) plan is
   pub ticks_end_in_time : (row : Row) (p : ℕ) → EndsInTime s row p

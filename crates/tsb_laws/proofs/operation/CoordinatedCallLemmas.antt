@@ -9,7 +9,7 @@ use Rattle.tsb_step.specs.tsb_types.Sets.{is_phase}
 use Rattle.tsb_step.specs.tsb_plan.declared.object.Object.TheVariants.{SplitMode as SplitModeObject}
 use Rattle.tsb_step.specs.tsb_plan.declared.plan.patterns.SplitMode.{SplitMode}
 use Rattle.tsb_step.specs.tsb_plan.declared.plan.patterns.SplitMode.TheVariants.{NoMode, MinimumRecall, MaximumRecall, PedestrianRecall, MaximumAndPedestrianRecall, Omitted}
-use Rattle.tsb_step.specs.tsb_plan.Parts.{is_used, split_index, is_coordinated, mode_of}
+use Rattle.tsb_step.specs.tsb_plan.Parts.{is_used, leads_and_lags, split_index, is_coordinated, mode_of}
 use Rattle.tsb_step.specs.tsb_plan.Plan.{Plan, phases, is_enabled, is_concurrent, has_minimum_recall}
 use Rattle.tsb_step.specs.tsb_plan.Running.{running, mode_in, mode_in_effect, coordinates_in, is_coordinated_now, omits, recalls_minimum, is_omitted_now, is_on_minimum_recall, is_on_maximum_recall}
 use Rattle.tsb_step.specs.tsb_rules.Consistent.{IsPhase, IsWhole, AreCoordinated}
@@ -79,7 +79,7 @@ pub record IsServed (plan : Plan) (k c : ℕ) : Type 0 where
 pub coordinated_is : (plan : Plan) → first_broken plan ≡ None → (k c : ℕ) → IsWhole plan k → IsPhase plan c →
     is_coordinated_now plan (Some k) c ≡ true → IsServed plan k c
 coordinated_is plan none k c parts phase on =
-    let them : AreCoordinated plan parts.its_sequence parts.its_split =
+    let them : AreCoordinated plan (leads_and_lags plan k) parts.its_sequence parts.its_split =
     coordinated plan none k parts.its_sequence parts.its_split parts.in_use in
     let one : is_coordinated plan parts.its_split c ≡ true = ap (λ (o : Option ℕ). coordinates_in plan o c) (sym parts.in_use.split) ∙ on in
     record {

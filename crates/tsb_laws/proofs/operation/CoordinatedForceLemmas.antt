@@ -15,7 +15,7 @@ use Rattle.tsb_step.specs.tsb_types.Sets.{is_phase}
 use Rattle.tsb_step.specs.tsb_plan.Plan.{Plan, walk, pedestrian_clear}
 use Rattle.tsb_step.specs.tsb_coord.Coordinated.{asks_force_off}
 use Rattle.tsb_step.specs.tsb_phase.Phase.{Phase, Given, held_of}
-use Rattle.tsb_step.specs.tsb_phase.Green.{initial, initial_has_passed, is_gapped, is_by_gap, has_maxed_out, forced_latch}
+use Rattle.tsb_step.specs.tsb_phase.Green.{initial, initial_has_passed, is_gapped, is_by_gap, has_maxed_out, floats_off, forced_latch}
 use Rattle.tsb_step.specs.tsb_phase.Pedestrian.{ended_by, pedestrian_now, pedestrian_timer_in}
 use Rattle.tsb_step.specs.tsb_phase.Ready.{needs_forced, has_timed_out, may_end, green_is_done, is_ready}
 use Rattle.tsb_step.specs.tsb_ring.Moves.{is_ended, is_started}
@@ -26,24 +26,29 @@ use Rattle.tsb_laws.proofs.operation.PhaseTimeLemmas.{left, walking_in, Runs, Is
 use Rattle.tsb_laws.proofs.operation.PressedGreenLemmas.{initial_most, walks_down, walks_no_more}
 
 -- what is forced off may end, be it coordinated or not
-may_end_forced : (plan : Plan) (given : Given) (p : ℕ) (w : Phase) → forced_latch given p (held_of w) ≡ true → may_end plan given p w ≡ true
+pub may_end_forced : (plan : Plan) (given : Given) (p : ℕ) (w : Phase) → forced_latch plan given p (held_of w) ≡ true → may_end plan given p w ≡ true
 may_end_forced plan given p w h = go (needs_forced given p)
   where
-    go : (b : Bool) → (if b then forced_latch given p (held_of w) else has_timed_out plan given p w) ≡ true
+    go : (b : Bool) → (if b then forced_latch plan given p (held_of w) else has_timed_out plan given p w) ≡ true
     go true = h
     go false =
         or_right (is_by_gap plan given p (is_gapped plan given p (held_of w)))
-        (has_maxed_out plan given p (held_of w) w.running_maximum || forced_latch given p (held_of w))
-        (or_right (has_maxed_out plan given p (held_of w) w.running_maximum) (forced_latch given p (held_of w)) h)
+        (has_maxed_out plan given p (held_of w) w.running_maximum || forced_latch plan given p (held_of w))
+        (or_right (has_maxed_out plan given p (held_of w) w.running_maximum) (forced_latch plan given p (held_of w)) h)
 
-ready_by : (plan : Plan) (given : Given) (p : ℕ) (w : Phase) → is_green w.interval ≡ true → pedestrian_now plan given p w ≡ DontWalk →
-    ended_by given p ≡ None → initial_has_passed plan given p (held_of w) ≡ true → forced_latch given p (held_of w) ≡ true → is_ready plan given p w ≡ true
+-- a green that nothing keeps is ready
+pub ready_by_end : (plan : Plan) (given : Given) (p : ℕ) (w : Phase) → is_green w.interval ≡ true → pedestrian_now plan given p w ≡ DontWalk →
+    ended_by given p ≡ None → initial_has_passed plan given p (held_of w) ≡ true → may_end plan given p w ≡ true → is_ready plan given p w ≡ true
 unfolding is_ready
-ready_by plan given p w green still ends long latch =
+ready_by_end plan given p w green still ends long may =
     and_from (is_green w.interval) (is_dont_walk (pedestrian_now plan given p w) && green_is_done plan given p w (ended_by given p)) green
     (and_from (is_dont_walk (pedestrian_now plan given p w)) (green_is_done plan given p w (ended_by given p)) (ap is_dont_walk still)
     (ap (λ (o : Option ℕ). green_is_done plan given p w o) ends
-    ∙ and_from (initial_has_passed plan given p (held_of w)) (may_end plan given p w) long (may_end_forced plan given p w latch)))
+    ∙ and_from (initial_has_passed plan given p (held_of w)) (may_end plan given p w) long may))
+
+pub ready_by : (plan : Plan) (given : Given) (p : ℕ) (w : Phase) → is_green w.interval ≡ true → pedestrian_now plan given p w ≡ DontWalk →
+    ended_by given p ≡ None → initial_has_passed plan given p (held_of w) ≡ true → forced_latch plan given p (held_of w) ≡ true → is_ready plan given p w ≡ true
+ready_by plan given p w green still ends long latch = ready_by_end plan given p w green still ends long (may_end_forced plan given p w latch)
 
 no_preempt : (b : Bool) (o : Option ℕ) → o ≡ None → (if b then o else None) ≡ None
 no_preempt true o h = h
@@ -64,19 +69,16 @@ abbrev pub IsAhead : ℕ → ℕ → Bool → Type 0
 IsAhead f t true = Unit {0}
 IsAhead f t false = t ≤ f
 
-module _ (s : State) (row : Row) (p f : ℕ) (on : is_phase p ≡ true) (pressed : conflict s row p ≡ true) (running : is_some (runs s) ≡ true) (quiet : service s row ≡ None)
-    (comes : asks_force_off s.plan f s.pattern p ≡ true) where
-  ended_by_none : ended_by (phases_given s row) p ≡ None
+-- ## What a green of a pattern is told
+
+module _ (s : State) (row : Row) (p : ℕ) (on : is_phase p ≡ true) (pressed : conflict s row p ≡ true) (quiet : service s row ≡ None) where
+  pub ended_by_none : ended_by (phases_given s row) p ≡ None
   unfolding phases_given
   ended_by_none = no_preempt ((phases_given s row).must_end p) (service s row) quiet
 
-  told_conflict : (phases_given s row).conflict p ≡ true
+  pub told_conflict : (phases_given s row).conflict p ≡ true
   unfolding phases_given
   told_conflict = rw (on, pressed) refl
-
-  told_runs : is_some (phases_given s row).runs ≡ true
-  unfolding phases_given
-  told_runs = running
 
   told_service : (phases_given s row).service ≡ None
   unfolding phases_given
@@ -86,9 +88,31 @@ module _ (s : State) (row : Row) (p f : ℕ) (on : is_phase p ≡ true) (pressed
   unfolding phases_given
   told_forced = ap (λ (b : Bool). b && forced s p) on
 
-  -- it is forced off in this tick, or was in an earlier one
-  latches : forced_latch (phases_given s row) p (held_of (phase_read s p)) ≡ (forced s p || (s.phases p).forced)
-  latches = rw (told_runs, told_service, told_conflict, told_forced) refl
+  told_runs : is_some (runs s) ≡ true → is_some (phases_given s row).runs ≡ true
+  unfolding phases_given
+  told_runs running = running
+
+  -- its floating time has come in this tick
+  abbrev pub floats_now : Bool
+  floats_now = floats_off s.plan (phases_given s row) p (held_of (phase_read s p))
+
+  -- it is forced off in this tick, by the cycle or by floating force-off, or was in an earlier one
+  pub latches : is_some (runs s) ≡ true → forced_latch s.plan (phases_given s row) p (held_of (phase_read s p)) ≡ (forced s p || (floats_now || (s.phases p).forced))
+  latches running = let some = told_runs running in rw (some, told_service, told_conflict, told_forced) refl
+
+module _ (s : State) (row : Row) (p f : ℕ) (on : is_phase p ≡ true) (pressed : conflict s row p ≡ true) (running : is_some (runs s) ≡ true) (quiet : service s row ≡ None)
+    (comes : asks_force_off s.plan f s.pattern p ≡ true) where
+  ends_by_none : ended_by (phases_given s row) p ≡ None
+  ends_by_none = ended_by_none s row p on pressed quiet
+
+  busy : (phases_given s row).conflict p ≡ true
+  busy = told_conflict s row p on pressed quiet
+
+  abbrev floating : Bool
+  floating = floats_now s row p on pressed quiet
+
+  latch_is : forced_latch s.plan (phases_given s row) p (held_of (phase_read s p)) ≡ (forced s p || (floating || (s.phases p).forced))
+  latch_is = latches s row p on pressed quiet running
 
   forced_at : s.now + 1 ≡ f → forced s p ≡ true
   forced_at e = ap (λ (t : ℕ). asks_force_off s.plan t s.pattern p) e ∙ comes
@@ -97,16 +121,16 @@ module _ (s : State) (row : Row) (p f : ℕ) (on : is_phase p ≡ true) (pressed
   pub ready_at_once : s.now + 1 ≡ f → interval s p ≡ Green → initial_has_passed s.plan (phases_given s row) p (held_of (phase_read s p)) ≡ true →
       pedestrian_now s.plan (phases_given s row) p (phase_read s p) ≡ DontWalk → ready s row p ≡ true
   ready_at_once e green long still =
-      ready_by s.plan (phases_given s row) p (phase_read s p) (ap is_green green) still ended_by_none long
-      (latches ∙ or_left (forced s p) (s.phases p).forced (forced_at e))
+      ready_by s.plan (phases_given s row) p (phase_read s p) (ap is_green green) still ends_by_none long
+      (latch_is ∙ or_left (forced s p) (floating || (s.phases p).forced) (forced_at e))
 
   latched_now : IsAhead f (s.now + 1) (s.phases p).forced → forcing_left f (s.now + 1) (s.phases p).forced ≡ 0 →
-      forced_latch (phases_given s row) p (held_of (phase_read s p)) ≡ true
-  latched_now ahead none = latches ∙ go (s.phases p).forced refl ahead none
+      forced_latch s.plan (phases_given s row) p (held_of (phase_read s p)) ≡ true
+  latched_now ahead none = latch_is ∙ go (s.phases p).forced refl ahead none
     where
-      go : (l : Bool) → (s.phases p).forced ≡ l → IsAhead f (s.now + 1) l → forcing_left f (s.now + 1) l ≡ 0 → (forced s p || (s.phases p).forced) ≡ true
-      go true e h z = or_right (forced s p) (s.phases p).forced e
-      go false e h z = or_left (forced s p) (s.phases p).forced (forced_at (omega (arith, h, z)))
+      go : (l : Bool) → (s.phases p).forced ≡ l → IsAhead f (s.now + 1) l → forcing_left f (s.now + 1) l ≡ 0 → (forced s p || (floating || (s.phases p).forced)) ≡ true
+      go true e h z = or_right (forced s p) (floating || (s.phases p).forced) (or_right floating (s.phases p).forced e)
+      go false e h z = or_left (forced s p) (floating || (s.phases p).forced) (forced_at (omega (arith, h, z)))
 
   -- a green that does not end has a tick less until then
   pub record Forces : Type 0 where
@@ -114,9 +138,9 @@ module _ (s : State) (row : Row) (p f : ℕ) (on : is_phase p ≡ true) (pressed
     pub less : forcing_left f (s.now + 1 + 1) ((next s row).phases p).forced ≤ forcing_left f (s.now + 1) (s.phases p).forced - 1
 
   pub forces_down : IsAhead f (s.now + 1) (s.phases p).forced → interval s p ≡ Green → is_ended (moves s row) p ≡ false → is_started (moves s row) p ≡ false → Forces
-  forces_down ahead e no_end no_start = go (s.phases p).forced (forced s p) refl refl ahead
+  forces_down ahead e no_end no_start = go (s.phases p).forced floating (forced s p) refl refl refl ahead
     where
-      then_is : ((next s row).phases p).forced ≡ forced_latch (phases_given s row) p (held_of (phase_read s p))
+      then_is : ((next s row).phases p).forced ≡ forced_latch s.plan (phases_given s row) p (held_of (phase_read s p))
       then_is = rw (no_start, e, no_end) refl
 
       latched : (m : Bool) → (s.phases p).forced ≡ m → ((next s row).phases p).forced ≡ true → Forces
@@ -129,11 +153,14 @@ module _ (s : State) (row : Row) (p f : ℕ) (on : is_phase p ≡ true) (pressed
           strict (inl less) apart = omega (arith, less)
           strict (inr more) apart = absurd (apart (omega (arith, le, more)))
 
-      go : (m b : Bool) → (s.phases p).forced ≡ m → forced s p ≡ b → IsAhead f (s.now + 1) m → Forces
-      go true b g h k = latched true g (then_is ∙ (latches ∙ or_right (forced s p) (s.phases p).forced g))
-      go false true g h k = latched false g (then_is ∙ (latches ∙ or_left (forced s p) (s.phases p).forced h))
-      go false false g h k =
-          let now : ((next s row).phases p).forced ≡ false = then_is ∙ (latches ∙ rw (h, g) refl) in
+      go : (m l b : Bool) → (s.phases p).forced ≡ m → floating ≡ l → forced s p ≡ b → IsAhead f (s.now + 1) m → Forces
+      go true l b g i h k =
+          latched true g (then_is ∙ (latch_is ∙ or_right (forced s p) (floating || (s.phases p).forced) (or_right floating (s.phases p).forced g)))
+      go false true b g i h k =
+          latched false g (then_is ∙ (latch_is ∙ or_right (forced s p) (floating || (s.phases p).forced) (or_left floating (s.phases p).forced i)))
+      go false false true g i h k = latched false g (then_is ∙ (latch_is ∙ or_left (forced s p) (floating || (s.phases p).forced) h))
+      go false false false g i h k =
+          let now : ((next s row).phases p).forced ≡ false = then_is ∙ (latch_is ∙ rw (h, i, g) refl) in
           let after = ap (λ (l : Bool). forcing_left f (s.now + 1 + 1) l) now in
           let before = ap (λ (l : Bool). forcing_left f (s.now + 1) l) g in
           let sooner : s.now + 1 + 1 ≤ f = below (s.now + 1) k (λ same. true≢false (sym (forced_at same) ∙ h)) in
@@ -156,7 +183,7 @@ module _ (s : State) (row : Row) (p f : ℕ) (on : is_phase p ≡ true) (pressed
       (pedestrian_now s.plan (phases_given s row) p (phase_read s p)) =
       ap (λ (t : Timer). walking_in a b t ((next s row).phases p).pedestrian) timer
       ∙ ap (λ (x : PedestrianInterval). walking_in a b (pedestrian_timer_in (s.phases p).pedestrian (pedestrian_now s.plan (phases_given s row) p (phase_read s p)) (phase_read s p).pedestrian_timer) x) part in
-      let down = walks_down s.plan (phases_given s row) p (phase_read s p) ended_by_none told_conflict a b most_a most_b (s.phases p).pedestrian_timer refl
+      let down = walks_down s.plan (phases_given s row) p (phase_read s p) ends_by_none busy a b most_a most_b (s.phases p).pedestrian_timer refl
       timed.walk timed.clearance in
       at_most (forcing_left f (s.now + 1 + 1) ((next s row).phases p).forced) (forcing_left f (s.now + 1) (s.phases p).forced)
       (left i ((next s row).phases p).timer) (left i (s.phases p).timer)
@@ -181,6 +208,6 @@ module _ (s : State) (row : Row) (p f : ℕ) (on : is_phase p ≡ true) (pressed
       let reached : nat_le (initial s.plan p ((phases_given s row).count p)) (run.count + 1) ≡ true = grind (arith, nat_tests, zero, most, most_i) in
       let long : initial_has_passed s.plan (phases_given s row) p (held_of (phase_read s p)) ≡ true = rw now reached in
       let still : pedestrian_now s.plan (phases_given s row) p (phase_read s p) ≡ DontWalk =
-      walks_no_more s.plan (phases_given s row) p (phase_read s p) ended_by_none told_conflict a b most_a most_b (s.phases p).pedestrian_timer refl
+      walks_no_more s.plan (phases_given s row) p (phase_read s p) ends_by_none busy a b most_a most_b (s.phases p).pedestrian_timer refl
       timed.walk timed.clearance third in
-      ready_by s.plan (phases_given s row) p (phase_read s p) (ap is_green e) still ended_by_none long (latched_now ahead first)
+      ready_by s.plan (phases_given s row) p (phase_read s p) (ap is_green e) still ends_by_none long (latched_now ahead first)

@@ -40,7 +40,7 @@ use Rattle.tsb_laws.proofs.operation.CoordinatedForceLemmas.{forcing_left, patte
 
 -- ## Inputs that leave plan and pattern
 
-pattern_stays : (s : State) (row : Row) → (step s (Tick row)).pattern ≡ s.pattern
+pub pattern_stays : (s : State) (row : Row) → (step s (Tick row)).pattern ≡ s.pattern
 unfolding step watched
 pattern_stays s row = go (is_some s.trip)
   where
@@ -70,7 +70,7 @@ reset_leaves s p dark = go (is_some s.trip) (ap is_some dark)
     go true h = absurd (true≢false h)
     go false h = record { plan = refl; pattern = refl; now = refl; phase = refl }
 
-leaves : (s : State) (i : Input) (p : ℕ) → is_tick i ≡ false → is_pressed_in_pattern p s i ≡ true → s.trip ≡ None → Leaves s (step s i) p
+pub leaves : (s : State) (i : Input) (p : ℕ) → is_tick i ≡ false → is_pressed_in_pattern p s i ≡ true → s.trip ≡ None → Leaves s (step s i) p
 unfolding step
 leaves s (inputs.Tick row) p t h dark = absurd (true≢false t)
 leaves s (inputs.Pattern n) p t h dark = absurd (false≢true h)
@@ -81,17 +81,17 @@ leaves s i p t h dark = record { plan = refl; pattern = refl; now = refl; phase 
 
 -- ## Along a stretch
 
-record IsPressed (s : State) (row : Row) (p : ℕ) : Type 0 where
-  green : interval s p ≡ Green
-  conflict : conflict s row p ≡ true
-  runs : is_some (runs s) ≡ true
-  quiet : service s row ≡ None
+pub record IsPressed (s : State) (row : Row) (p : ℕ) : Type 0 where
+  pub green : interval s p ≡ Green
+  pub conflict : conflict s row p ≡ true
+  pub runs : is_some (runs s) ≡ true
+  pub quiet : service s row ≡ None
 
 pub none_is : (o : Option ℕ) → is_none o ≡ true → o ≡ None
 none_is None h = refl
 none_is (Some x) h = absurd (false≢true h)
 
-pressed_parts : (s : State) (row : Row) (p : ℕ) → is_pressed_in_pattern p s (Tick row) ≡ true → IsPressed s row p
+pub pressed_parts : (s : State) (row : Row) (p : ℕ) → is_pressed_in_pattern p s (Tick row) ≡ true → IsPressed s row p
 pressed_parts s row p h =
     let outer = and_parts (is_green (interval s p) && conflict s row p) (is_some (runs s) && is_none (service s row)) h in
     let inner = and_parts (is_green (interval s p)) (conflict s row p) outer.0 in

@@ -16,8 +16,7 @@ use Rattle.tsb_step.specs.tsb_rules.Rules.{first_broken}
 use Rattle.tsb_step.proofs.tsb_rules.ConsistentLemmas.{together}
 use Rattle.tsb_step.specs.tsb_calls.Memories.{counted}
 use Rattle.tsb_step.specs.tsb_phase.Phase.{Phase, Given, held_of}
-use Rattle.tsb_step.specs.tsb_phase.Green.{initial, gap_has_expired, gapped_latch, initial_has_passed, is_gapped, is_by_gap, conflict_timer, has_maxed_out, forced_latch}
-use Rattle.tsb_step.specs.tsb_phase.DynamicMaximum.{maximum_in_use}
+use Rattle.tsb_step.specs.tsb_phase.Green.{initial, gap_has_expired, gapped_latch, initial_has_passed, is_gapped, is_by_gap, conflict_timer, has_reached_some, acting_maximum, has_maxed_out, floats_off, forced_latch}
 use Rattle.tsb_step.specs.tsb_phase.Pedestrian.{ended_by, pedestrian_now}
 use Rattle.tsb_step.specs.tsb_phase.Ready.{needs_forced, has_timed_out, may_end, green_is_done, is_ready}
 use Rattle.tsb_step.specs.tsb_preempt.Service.{Service, stage_phases}
@@ -52,12 +51,12 @@ use Rattle.tsb_step.proofs.TellLemmas.{timers_tell_time}
 use Rattle.tsb_step.proofs.WaitedLemmas.{ended_was_ready}
 use Rattle.tsb_step.proofs.YellowLemmas.{lasted_by}
 use Rattle.tsb_laws.specs.Stretches.{EndsGreen}
-use Rattle.tsb_laws.specs.GreenEnds.{GapExpires, HasLatchedGap, IsByGap, IsByMaximum, IsByForceOff, initial_of, green_for, EndsForAReason}
+use Rattle.tsb_laws.specs.GreenEnds.{GapExpires, HasLatchedGap, IsByGap, maximum_acting, IsByMaximum, IsByForceOff, initial_of, green_for, EndsForAReason}
 use Rattle.tsb_laws.proofs.safety.DueLemmas.{count_run, clipped_at}
 use Rattle.tsb_laws.proofs.safety.EnabledLemmas.{callable_on, enabled_run}
 use Rattle.tsb_laws.proofs.safety.IntergreenLemmas.{turns_yellow}
 use Rattle.tsb_laws.proofs.safety.SideSoughtLemmas.{goes_to_other}
-use Rattle.tsb_laws.proofs.operation.GreenTimeLemmas.{expires, lasts, gapped_out, IsForced, forced_by, forced_off}
+use Rattle.tsb_laws.proofs.operation.GreenTimeLemmas.{expires, lasts, gapped_out, IsForced, forced_by, forced_off_now, forced_off}
 
 -- ## A phase that a preempt wants stays Green, by the rings alone
 
@@ -195,12 +194,8 @@ is_done plan given p w h =
 -- one of the three
 data Timed (plan : Plan) (p : ℕ) (is : List Input) (row : Row) : Type 0 where
   by_gap : IsByGap plan p is row → Timed plan p is row
-  by_maximum : runs (replay plan is) ≡ None → IsByMaximum plan p is row → Timed plan p is row
+  by_maximum : IsByMaximum plan p is row → Timed plan p is row
   by_force_off : is_some (runs (replay plan is)) ≡ true → IsByForceOff plan p is row → Timed plan p is row
-
-none-of : (o : Option ℕ) → is_none o ≡ true → o ≡ None
-none-of None h = refl
-none-of (Some n) h = cc
 
 not_so : (b : Bool) → not b ≡ true → b ≡ false
 not_so true h = absurd (false≢true h)
@@ -247,24 +242,25 @@ module _ (plan : Plan) (p : ℕ) (is : List Input) (row : Row) (ok : IsConsisten
         gapped = gapped_now both.0;
       }
 
-  maximum_ends : has_maxed_out (replay plan is).plan told p (held_of now) now.running_maximum ≡ true →
-      (runs (replay plan is) ≡ None) × IsByMaximum plan p is row
+  maximum_ends : has_maxed_out (replay plan is).plan told p (held_of now) now.running_maximum ≡ true → IsByMaximum plan p is row
   maximum_ends h =
-      let both = and_parts (is_none told.runs)
-      (has_reached (conflict_timer told p (held_of now)) (maximum_in_use (replay plan is).plan p now.running_maximum)) h in
-      let it = lasts plan p is row (maximum_in_use (replay plan is).plan p ((replay plan is).phases p).running_maximum) dark both.1 in
-      (sym runs_told ∙ none-of told.runs both.0, record { conflict = it.0; long = it.1 })
+      go (maximum_acting (replay plan is) p) refl
+      (ap (λ (o : Option ℕ). has_reached_some (conflict_timer told p (held_of now)) (acting_maximum (replay plan is).plan o p ((replay plan is).phases p).running_maximum)) (sym runs_told) ∙ h)
+    where
+      go : (o : Option ℕ) → maximum_acting (replay plan is) p ≡ o → has_reached_some (conflict_timer told p (held_of now)) o ≡ true → IsByMaximum plan p is row
+      go None e k = absurd (false≢true k)
+      go (Some limit) e k = let it = lasts plan p is row limit dark k in record { maximum = limit; acts = e; conflict = it.0; long = it.1 }
 
-  force_off_ends : forced_latch told p (held_of now) ≡ true → (is_some (runs (replay plan is)) ≡ true) × IsByForceOff plan p is row
+  force_off_ends : forced_latch (replay plan is).plan told p (held_of now) ≡ true → (is_some (runs (replay plan is)) ≡ true) × IsByForceOff plan p is row
   force_off_ends h =
       let it : IsForced (replay plan is) row p = forced_by (replay plan is) row p h in (
         ap (λ (o : Option ℕ). is_some o) (sym runs_told) ∙ (and_parts (is_some told.runs)
-            (is_none told.service && (told.conflict p && (told.forced p || ((replay plan is).phases p).forced))) h).0,
+            (is_none told.service && (told.conflict p && (told.forced p || (floats_off (replay plan is).plan told p (held_of now) || ((replay plan is).phases p).forced)))) h).0,
         record {
           conflict = it.conflict;
           forced = elim it.since [
-            | inl k ↦ inl (record { was_green = was_green; forced = k })
-            | inr k ↦ inr (forced_off plan p is taken dark k)
+            | inl k ↦ inl (forced_off_now plan is row p ok taken dark was_green k)
+            | inr k ↦ inr (forced_off plan p ok is taken dark k)
           ];
         },
       )
@@ -272,17 +268,17 @@ module _ (plan : Plan) (p : ℕ) (is : List Input) (row : Row) (ok : IsConsisten
   timed : may_end (replay plan is).plan told p now ≡ true → Timed plan p is row
   timed h = go (needs_forced told p) h
     where
-      forces : forced_latch told p (held_of now) ≡ true → Timed plan p is row
+      forces : forced_latch (replay plan is).plan told p (held_of now) ≡ true → Timed plan p is row
       forces k = let it = force_off_ends k in by_force_off it.0 it.1
 
-      go : (b : Bool) → (if b then forced_latch told p (held_of now) else has_timed_out (replay plan is).plan told p now) ≡ true → Timed plan p is row
+      go : (b : Bool) → (if b then forced_latch (replay plan is).plan told p (held_of now) else has_timed_out (replay plan is).plan told p now) ≡ true → Timed plan p is row
       go true k = forces k
       go false k =
           elim (or_cases (is_by_gap (replay plan is).plan told p (is_gapped (replay plan is).plan told p (held_of now)))
-          (has_maxed_out (replay plan is).plan told p (held_of now) now.running_maximum || forced_latch told p (held_of now)) k) [
+          (has_maxed_out (replay plan is).plan told p (held_of now) now.running_maximum || forced_latch (replay plan is).plan told p (held_of now)) k) [
             | inl l ↦ by_gap (gap_ends l)
-            | inr l ↦ elim (or_cases (has_maxed_out (replay plan is).plan told p (held_of now) now.running_maximum) (forced_latch told p (held_of now)) l) [
-              | inl m ↦ (let it = maximum_ends m in by_maximum it.0 it.1)
+            | inr l ↦ elim (or_cases (has_maxed_out (replay plan is).plan told p (held_of now) now.running_maximum) (forced_latch (replay plan is).plan told p (held_of now)) l) [
+              | inl m ↦ by_maximum (maximum_ends m)
               | inr m ↦ forces m
             ]
           ]
@@ -293,14 +289,14 @@ module _ (plan : Plan) (p : ℕ) (is : List Input) (row : Row) (ok : IsConsisten
 
 in_free : (plan : Plan) (p : ℕ) (is : List Input) (row : Row) → runs (replay plan is) ≡ None → Timed plan p is row → IsByGap plan p is row ⊎ IsByMaximum plan p is row
 in_free plan p is row none (by_gap k) = inl k
-in_free plan p is row none (by_maximum e k) = inr k
+in_free plan p is row none (by_maximum k) = inr k
 in_free plan p is row none (by_force_off e k) = absurd (false≢true (ap (λ (o : Option ℕ). is_some o) (sym none) ∙ e))
 
 in_pattern : (plan : Plan) (p : ℕ) (is : List Input) (row : Row) (n : ℕ) → runs (replay plan is) ≡ Some n → Timed plan p is row →
-    IsByGap plan p is row ⊎ IsByForceOff plan p is row
+    IsByGap plan p is row ⊎ (IsByMaximum plan p is row ⊎ IsByForceOff plan p is row)
 in_pattern plan p is row n runs_n (by_gap k) = inl k
-in_pattern plan p is row n runs_n (by_maximum e k) = (let bad : None ≡ Some n = sym e ∙ runs_n in absurd cc)
-in_pattern plan p is row n runs_n (by_force_off e k) = inr k
+in_pattern plan p is row n runs_n (by_maximum k) = inr (inl k)
+in_pattern plan p is row n runs_n (by_force_off e k) = inr (inr k)
 
 -- ## All of it
 

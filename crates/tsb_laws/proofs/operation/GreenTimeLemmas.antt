@@ -1,6 +1,6 @@
 -- The timers of a green tell for how many ticks of it a test has held, and its latches what has happened in it, through
 -- inputs of every kind.
-use Rattle.std.proofs.Common.{suc, ◌≡◌, ℕ, ◌+◌, ◌≤◌, Bool, true, false, not, ◌&&◌, ◌||◌, if◌then◌else◌, List, [], ◌∷◌, Option, None, is_some, is_none, refl, sym, ap, arith, ◌∙◌, inl, inr, ◌⊎◌}
+use Rattle.std.proofs.Common.{suc, ◌≡◌, ℕ, ◌+◌, ◌≤◌, Bool, true, false, not, ◌&&◌, ◌||◌, if◌then◌else◌, List, [], ◌∷◌, Option, Some, None, is_some, is_none, refl, sym, ap, arith, ◌∙◌, inl, inr, ◌⊎◌}
 use Rattle.std.proofs.lemmas.Bool.{cases_Bool, and_parts, or_cases, leb-true, true≢false, false≢true}
 use Rattle.tsb_step.specs.tsb_cells.declared.timer.Timer.{Timer}
 use Rattle.tsb_step.specs.tsb_cells.declared.timer.Timer.TheVariants.{Off, On}
@@ -11,9 +11,10 @@ use Rattle.tsb_step.specs.tsb_types.Clip.{clipped}
 use Rattle.tsb_step.specs.tsb_types.Intervals.{is_green}
 use Rattle.tsb_step.specs.tsb_types.Sets.{is_phase}
 use Rattle.tsb_step.specs.tsb_plan.Plan.{Plan, disables_simultaneous_gap}
+use Rattle.tsb_step.specs.tsb_plan.Running.{floating_time}
 use Rattle.tsb_step.specs.tsb_calls.Memories.{has_output}
 use Rattle.tsb_step.specs.tsb_phase.Phase.{Phase, Given, GreenHeld, at_power_up, as_read, held_of, none_held}
-use Rattle.tsb_step.specs.tsb_phase.Green.{conflict_timer, reduction_timer, gap, initial_has_passed, gap_has_expired, forced_latch}
+use Rattle.tsb_step.specs.tsb_phase.Green.{conflict_timer, reduction_timer, gap, initial_has_passed, gap_has_expired, has_reached_some, floats_off, forced_latch}
 use Rattle.tsb_step.specs.tsb_phase.Next.{is_green_after, held_now}
 use Rattle.tsb_step.specs.tsb_ring.Moves.{is_started, is_ended}
 use Rattle.tsb_step.specs.declared.inputs.Input.{Input}
@@ -26,14 +27,15 @@ use Rattle.tsb_step.specs.Step.{with_lamp, step, kind_of}
 use Rattle.tsb_step.specs.Runs.{replay, AreTaken}
 use Rattle.tsb_step.specs.Past.{ticks_of}
 use Rattle.tsb_step.specs.Laws.{IsConsistent}
-use Rattle.tsb_step.specs.TimeLaws.{is_tick, is_reset, Rests}
+use Rattle.tsb_step.specs.TimeLaws.{held_for, is_tick, is_reset, Rests}
 use Rattle.tsb_step.proofs.ClearLemmas.{phases_then}
 use Rattle.tsb_step.proofs.ClipLemmas.{clipped_holds}
 use Rattle.tsb_step.proofs.GoodLemmas.{good_run}
 use Rattle.tsb_step.proofs.LeaveLemmas.{others_leave}
 use Rattle.tsb_step.proofs.RestLemmas.{rests_run}
-use Rattle.tsb_step.proofs.TellLemmas.{is_in_green, starts_no_green, dark_before, reset_or_not}
-use Rattle.tsb_laws.specs.GreenEnds.{in_ticks, ticks_in_green, has_no_output, has_conflict, StandsInGreen, gap_now, GapExpires, HasGappedOut, keeps_force_off, IsForcedOff, HasBeenForcedOff}
+use Rattle.tsb_step.proofs.TellLemmas.{is_in_green, starts_no_green, dark_before, reset_or_not, timers_tell_time}
+use Rattle.tsb_step.proofs.YellowLemmas.{lasted_by}
+use Rattle.tsb_laws.specs.GreenEnds.{in_ticks, ticks_in_green, has_no_output, has_conflict, StandsInGreen, gap_now, GapExpires, HasGappedOut, green_for, HasFloated, keeps_force_off, IsForcedOff, HasBeenForcedOff}
 use Rattle.tsb_laws.proofs.safety.StretchLemmas.{at_next}
 
 -- ## Counting
@@ -377,23 +379,54 @@ module _ (plan : Plan) (p : ℕ) (ok : IsConsistent plan) (on : is_phase p ≡ t
 pub record IsForced (s : State) (row : Row) (p : ℕ) : Type 0 where
   pub kept : keeps_force_off p s (Tick row) ≡ true
   pub conflict : has_conflict p s row ≡ true
-  pub since : (forced s p ≡ true) ⊎ ((s.phases p).forced ≡ true)
+  pub since : ((forced s p ≡ true) ⊎ (floats_off s.plan (phases_given s row) p (held_of (phase_read s p)) ≡ true)) ⊎ ((s.phases p).forced ≡ true)
 
-pub forced_by : (s : State) (row : Row) (p : ℕ) → forced_latch (phases_given s row) p (held_of (phase_read s p)) ≡ true → IsForced s row p
+pub forced_by : (s : State) (row : Row) (p : ℕ) → forced_latch s.plan (phases_given s row) p (held_of (phase_read s p)) ≡ true → IsForced s row p
 unfolding phases_given
 forced_by s row p h =
-    let it = and_four (is_some (runs s)) (is_none (service s row)) (clipped (conflict s row) p) (clipped (forced s) p || (s.phases p).forced) h in
+    let it = and_four (is_some (runs s)) (is_none (service s row)) (clipped (conflict s row) p) (clipped (forced s) p || (floats_off s.plan (phases_given s row) p (held_of (phase_read s p)) || (s.phases p).forced)) h in
     let apart : conflict s row p ≡ true = clipped_holds (conflict s row) p it.2 in
     let runs_now = it.0 in
     let alone = it.1 in
     record {
       kept = rw (runs_now, alone, apart) refl;
       conflict = apart;
-      since = elim (or_cases (clipped (forced s) p) (s.phases p).forced it.3) [
-        | inl k ↦ inl (clipped_holds (forced s) p k)
-        | inr k ↦ inr k
+      since = elim (or_cases (clipped (forced s) p) (floats_off s.plan (phases_given s row) p (held_of (phase_read s p)) || (s.phases p).forced) it.3) [
+        | inl k ↦ inl (inl (clipped_holds (forced s) p k))
+        | inr k ↦ elim (or_cases (floats_off s.plan (phases_given s row) p (held_of (phase_read s p))) (s.phases p).forced k) [
+          | inl l ↦ inl (inr l)
+          | inr l ↦ inr l
+        ]
       ];
     }
+
+-- a green that floating force-off ends has lasted its floating time
+pub has_floated : (plan : Plan) (is : List Input) (row : Row) (p : ℕ) → IsConsistent plan → AreTaken plan is → (replay plan is).trip ≡ None →
+    is_green (interval (replay plan is) p) ≡ true →
+    floats_off (replay plan is).plan (phases_given (replay plan is) row) p (held_of (phase_read (replay plan is) p)) ≡ true → HasFloated plan p is
+unfolding phases_given
+has_floated plan is row p ok taken dark green h = go (floating_time (replay plan is).plan (runs (replay plan is)) p) refl h
+  where
+    told : ((replay plan is).phases p).timer ≡ On (held_for (λ s. is_green (interval s p)) plan is)
+    told = (timers_tell_time plan is ok taken dark p).green (is_in_green (interval (replay plan is) p) green)
+
+    go : (o : Option ℕ) → floating_time (replay plan is).plan (runs (replay plan is)) p ≡ o → has_reached_some (phase_read (replay plan is) p).timer o ≡ true →
+        HasFloated plan p is
+    go None e k = absurd (false≢true k)
+    go (Some limit) e k = record {
+      time = limit;
+      floating = e;
+      long = (let reached : limit ≤ held_for (λ s. is_green (interval s p)) plan is + 1 =
+          lasted_by ((replay plan is).phases p).timer (held_for (λ s. is_green (interval s p)) plan is) limit told k in
+          omega (arith, reached));
+    }
+
+pub forced_off_now : (plan : Plan) (is : List Input) (row : Row) (p : ℕ) → IsConsistent plan → AreTaken plan is → (replay plan is).trip ≡ None →
+    is_green (interval (replay plan is) p) ≡ true →
+    (forced (replay plan is) p ≡ true) ⊎ (floats_off (replay plan is).plan (phases_given (replay plan is) row) p (held_of (phase_read (replay plan is) p)) ≡ true) →
+    IsForcedOff plan p is row
+forced_off_now plan is row p ok taken dark green (inl k) = record { was_green = green; forced = inl k }
+forced_off_now plan is row p ok taken dark green (inr k) = record { was_green = green; forced = inr (has_floated plan is row p ok taken dark green k) }
 
 -- a latch after a tick is of a phase that was Green
 was_green_then : (s : State) (row : Row) (p : ℕ) → is_green_after (moved s row) p (phase_read s p) ≡ true → is_started (moves s row) p ≡ false →
@@ -408,12 +441,12 @@ not_so : (b : Bool) → not b ≡ true → b ≡ false
 not_so true h = absurd (false≢true h)
 not_so false h = refl
 
-forced_in_tick : (plan : Plan) (p : ℕ) (is : List Input) (row : Row) → ((next (replay plan is) row).phases p).forced ≡ true →
+forced_in_tick : (plan : Plan) (p : ℕ) (is : List Input) (row : Row) → IsConsistent plan → AreTaken plan is → (replay plan is).trip ≡ None → ((next (replay plan is) row).phases p).forced ≡ true →
     StandsIn (λ x. x.forced) (IsForcedOff plan p) (keeps_force_off p) plan is row p
-forced_in_tick plan p is row h =
+forced_in_tick plan p is row ok taken dark h =
     let both = and_parts (is_green_after (moved (replay plan is) row) p (phase_read (replay plan is) p))
-    (not (is_started (moves (replay plan is) row) p) && forced_latch (phases_given (replay plan is) row) p (held_of (phase_read (replay plan is) p))) h in
-    let rest = and_parts (not (is_started (moves (replay plan is) row) p)) (forced_latch (phases_given (replay plan is) row) p (held_of (phase_read (replay plan is) p))) both.1 in
+    (not (is_started (moves (replay plan is) row) p) && forced_latch (replay plan is).plan (phases_given (replay plan is) row) p (held_of (phase_read (replay plan is) p))) h in
+    let rest = and_parts (not (is_started (moves (replay plan is) row) p)) (forced_latch (replay plan is).plan (phases_given (replay plan is) row) p (held_of (phase_read (replay plan is) p))) both.1 in
     let it : IsForced (replay plan is) row p = forced_by (replay plan is) row p rest.1 in
     let was : is_green (interval (replay plan is) p) ≡ true =
     was_green_then (replay plan is) row p both.0 (not_so (is_started (moves (replay plan is) row) p) rest.0) in
@@ -421,7 +454,7 @@ forced_in_tick plan p is row h =
       green = green_then (replay plan is) row p both.0;
       held = it.kept;
       since = elim it.since [
-        | inl k ↦ inl (record { was_green = was; forced = k })
+        | inl k ↦ inl (forced_off_now plan is row p ok taken dark was k)
         | inr k ↦ inr k
       ];
     }
@@ -443,15 +476,15 @@ forced_others s (inputs.Pattern n) p t r h = absurd (false≢true h)
 forced_others s (inputs.Fault lamp) p t r h = (sym (forced_lit s lamp p) ∙ h, refl)
 forced_others s i p t r h = (h, refl)
 
-latches_force_off : (plan : Plan) (p : ℕ) → LatchesGreen (λ x. x.forced) (IsForcedOff plan p) (keeps_force_off p) plan p
-latches_force_off plan p = record {
+latches_force_off : (plan : Plan) (p : ℕ) → IsConsistent plan → LatchesGreen (λ x. x.forced) (IsForcedOff plan p) (keeps_force_off p) plan p
+latches_force_off plan p ok = record {
   begins = refl;
   rests = λ x r k. r.forced k;
-  ticks = λ is row taken dark h. forced_in_tick plan p is row h;
+  ticks = λ is row taken dark h. forced_in_tick plan p is row ok taken dark h;
   others = λ s i t r h. forced_others s i p t r h;
   resets = λ s. refl;
 }
 
-pub forced_off : (plan : Plan) (p : ℕ) (is : List Input) → AreTaken plan is → (replay plan is).trip ≡ None → ((replay plan is).phases p).forced ≡ true →
+pub forced_off : (plan : Plan) (p : ℕ) → IsConsistent plan → (is : List Input) → AreTaken plan is → (replay plan is).trip ≡ None → ((replay plan is).phases p).forced ≡ true →
     HasBeenForcedOff plan p is
-forced_off plan p = stood (λ x. x.forced) (IsForcedOff plan p) (keeps_force_off p) plan p (latches_force_off plan p)
+forced_off plan p ok = stood (λ x. x.forced) (IsForcedOff plan p) (keeps_force_off p) plan p (latches_force_off plan p ok)

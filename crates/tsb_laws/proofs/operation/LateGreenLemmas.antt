@@ -1,13 +1,12 @@
 -- In each tick of its late span a phase is forced off, and so what nothing else keeps is ready.
-use Rattle.std.proofs.Common.{◌≡◌, ℕ, ◌+◌, ◌≤◌, nat_le, nat_lt, true, false, List, ◌∷◌, ◌++◌, Some, is_some, refl, ap, arith}
-use Rattle.std.proofs.lemmas.Bool.{or_right}
-use Rattle.std.proofs.lemmas.Bool.Decides.{nat_tests}
+use Rattle.std.proofs.Common.{◌≡◌, ℕ, ◌+◌, ◌≤◌, ◌||◌, true, false, List, ◌∷◌, ◌++◌, Option, Some, is_some, refl, ap, ◌∙◌, arith}
+use Rattle.std.proofs.lemmas.Bool.{or_left, or_right}
 use Rattle.tsb_step.specs.tsb_types.declared.row.Row.{Row}
 use Rattle.tsb_step.specs.tsb_types.Intervals.{in_service}
 use Rattle.tsb_step.specs.tsb_types.Sets.{is_phase}
 use Rattle.tsb_step.specs.tsb_plan.Plan.{Plan, walk, pedestrian_clear}
 use Rattle.tsb_step.specs.tsb_plan.Running.{is_coordinated_now}
-use Rattle.tsb_step.specs.tsb_coord.Coordinated.{counter, agree, late_end, is_late, asks_force_off}
+use Rattle.tsb_step.specs.tsb_coord.Coordinated.{counter, local_in, force_off, agree, late_end, is_forced_late, is_permitted, forces_off, asks_force_off}
 use Rattle.tsb_step.specs.declared.inputs.Input.{Input}
 use Rattle.tsb_step.specs.declared.inputs.Input.TheVariants.{Tick}
 use Rattle.tsb_step.specs.State.{State}
@@ -34,12 +33,12 @@ ends_late s p it =
 -- it is forced off in the next tick
 forced_late : (s : State) (p : ℕ) → IsInLateSpan s p → asks_force_off s.plan (s.now + 1) s.pattern p ≡ true
 forced_late s p it =
-    let above : nat_le it.instant (counter s.plan it.number (s.now + 1)) ≡ true = (let from = it.from in grind (arith, nat_tests, from)) in
-    let under : nat_lt (counter s.plan it.number (s.now + 1)) it.limit ≡ true = (let below = it.below in grind (arith, nat_tests, below)) in
-    let late : is_late (Some (counter s.plan it.number (s.now + 1))) (Some it.instant) (Some it.limit) ≡ true = rw (above, under) refl in
-    rw (it.runs, it.own, ends_late s p it)
-    (or_right (agree (Some (counter s.plan it.number (s.now + 1))) (Some it.instant))
-    (is_late (Some (counter s.plan it.number (s.now + 1))) (Some it.instant) (Some it.limit)) late)
+    let late : is_forced_late s.plan (Some it.number) (Some (counter s.plan it.number (s.now + 1))) p ≡ true = rw (it.own, ends_late s p it) it.within in
+    ap (λ (o : Option ℕ). forces_off s.plan o (local_in s.plan (s.now + 1) o) p) it.runs
+    ∙ or_right (agree (Some (counter s.plan it.number (s.now + 1))) (force_off s.plan (Some it.number) p))
+    (is_forced_late s.plan (Some it.number) (Some (counter s.plan it.number (s.now + 1))) p || is_permitted s.plan (Some it.number) (Some (counter s.plan it.number (s.now + 1))) p)
+    (or_left (is_forced_late s.plan (Some it.number) (Some (counter s.plan it.number (s.now + 1))) p)
+    (is_permitted s.plan (Some it.number) (Some (counter s.plan it.number (s.now + 1))) p) late)
 
 pub late_is_ready : (plan : Plan) (is : List Input) (row : Row) (p : ℕ) → IsConsistent plan → plan.phase_count ≤ 16 →
     AreTaken plan is → IsLateGreen (replay plan is) row p → ready (replay plan is) row p ≡ true

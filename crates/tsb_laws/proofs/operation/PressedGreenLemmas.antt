@@ -56,6 +56,11 @@ initial_most plan p cars = go (has_variable_initial plan p) (added_initial plan 
     go true x = omega arith
     go false x = omega arith
 
+-- a conflict that has nothing left has lasted a time
+pub reached_all : (limit most : ℕ) (t : Timer) → limit ≤ most → left most t ≡ 0 → has_reached (started (advanced t)) limit ≡ true
+reached_all limit most Off h none = grind (arith, nat_tests, h, none)
+reached_all limit most (On n) h none = grind (arith, nat_tests, h, none)
+
 -- ## The pedestrians of a green that nothing but a conflict ends
 
 module _ (plan : Plan) (given : Given) (p : ℕ) (w : Phase) (ends : ended_by given p ≡ None) (busy : given.conflict p ≡ true) where
@@ -142,10 +147,6 @@ module _ (plan : Plan) (given : Given) (p : ℕ) (w : Phase) (ends : ended_by gi
 
   -- ## Its green
 
-  reached_all : (limit most : ℕ) (t : Timer) → limit ≤ most → left most t ≡ 0 → has_reached (started (advanced t)) limit ≡ true
-  reached_all limit most Off h none = grind (arith, nat_tests, h, none)
-  reached_all limit most (On n) h none = grind (arith, nat_tests, h, none)
-
   maxed_out : (m : ℕ) → longest_maximum plan p ≤ m → given.runs ≡ None → (t : Timer) → w.conflict ≡ advanced t → left m t ≡ 0 →
       has_maxed_out plan given p (held_of w) w.running_maximum ≡ true
   maxed_out m most free t read none =
@@ -159,10 +160,10 @@ module _ (plan : Plan) (given : Given) (p : ℕ) (w : Phase) (ends : ended_by gi
   or_middle false true f h = refl
   or_middle false false f h = absurd (false≢true h)
 
-  times_out : has_maxed_out plan given p (held_of w) w.running_maximum ≡ true → has_timed_out plan given p w ≡ true
+  pub times_out : has_maxed_out plan given p (held_of w) w.running_maximum ≡ true → has_timed_out plan given p w ≡ true
   times_out h =
       or_middle (is_by_gap plan given p (is_gapped plan given p (held_of w))) (has_maxed_out plan given p (held_of w) w.running_maximum)
-      (forced_latch given p (held_of w)) h
+      (forced_latch plan given p (held_of w)) h
 
   pub is_ready_then : (m i a b : ℕ) → longest_maximum plan p ≤ m → longest_initial plan p ≤ i → walk plan p ≤ a → pedestrian_clear plan p ≤ b →
       given.runs ≡ None → given.hold p ≡ false → (s t u : Timer) → w.conflict ≡ advanced s → w.timer ≡ advanced t → w.pedestrian_timer ≡ advanced u →
@@ -196,31 +197,23 @@ pub free_parts : (s : State) (row : Row) → is_free s row ≡ true → (service
 free_parts s row h =
     let both = and_parts (is_none (service s row)) (is_none (runs s)) h in (none_when (service s row) both.0, none_when (runs s) both.1)
 
-module _ (s : State) (row : Row) (p : ℕ) (on : is_phase p ≡ true) (pressed : conflict s row p ≡ true) (free : is_free s row ≡ true) where
-  ended_by_none : ended_by (phases_given s row) p ≡ None
+module _ (s : State) (row : Row) (p : ℕ) (on : is_phase p ≡ true) (pressed : conflict s row p ≡ true) (quiet : service s row ≡ None) where
+  ends_by_none : ended_by (phases_given s row) p ≡ None
   unfolding phases_given
-  ended_by_none = no_preempt ((phases_given s row).must_end p) (service s row) (free_parts s row free).0
+  ends_by_none = no_preempt ((phases_given s row).must_end p) (service s row) quiet
 
-  told_conflict : (phases_given s row).conflict p ≡ true
+  busy_told : (phases_given s row).conflict p ≡ true
   unfolding phases_given
-  told_conflict = rw (on, pressed) refl
-
-  told_runs : (phases_given s row).runs ≡ None
-  unfolding phases_given
-  told_runs = (free_parts s row free).1
-
-  told_hold : (phases_given s row).hold p ≡ false
-  unfolding phases_given
-  told_hold = rw (on, (free_parts s row free).1) refl
+  busy_told = rw (on, pressed) refl
 
   -- a green that does not end has a tick less
-  pub presses_down : (m i a b : ℕ) → walk s.plan p ≤ a → pedestrian_clear s.plan p ≤ b → IsTimed (s.phases p) → interval s p ≡ Green →
+  pub presses_down_quiet : (m i a b : ℕ) → walk s.plan p ≤ a → pedestrian_clear s.plan p ≤ b → IsTimed (s.phases p) → interval s p ≡ Green →
       is_ended (moves s row) p ≡ false → is_started (moves s row) p ≡ false →
       pressed_left m i a b ((next s row).phases p) ≤ pressed_left m i a b (s.phases p) - 1
   unfolding pressed_left
-  presses_down m i a b most_a most_b timed e no_end no_start =
+  presses_down_quiet m i a b most_a most_b timed e no_end no_start =
       let run : Runs (s.phases p).timer = timed.green e in
-      let counts : ((next s row).phases p).conflict ≡ started (advanced (s.phases p).conflict) = rw (no_start, e, no_end, told_conflict) refl in
+      let counts : ((next s row).phases p).conflict ≡ started (advanced (s.phases p).conflict) = rw (no_start, e, no_end, busy_told) refl in
       let zeroth : left m ((next s row).phases p).conflict ≡ left m (started (advanced (s.phases p).conflict)) = ap (λ (t : Timer). left m t) counts in
       let lower : left m (started (advanced (s.phases p).conflict)) ≤ left m (s.phases p).conflict - 1 = counts_down (s.phases p).conflict in
       let ticks : ((next s row).phases p).timer ≡ On (run.count + 1) = rw (no_start, e, no_end, run.is) refl in
@@ -235,7 +228,7 @@ module _ (s : State) (row : Row) (p : ℕ) (on : is_phase p ≡ true) (pressed :
       (pedestrian_now s.plan (phases_given s row) p (phase_read s p)) =
       ap (λ (t : Timer). walking_in a b t ((next s row).phases p).pedestrian) timer
       ∙ ap (λ (x : PedestrianInterval). walking_in a b (pedestrian_timer_in (s.phases p).pedestrian (pedestrian_now s.plan (phases_given s row) p (phase_read s p)) (phase_read s p).pedestrian_timer) x) part in
-      let down = walks_down s.plan (phases_given s row) p (phase_read s p) ended_by_none told_conflict a b most_a most_b (s.phases p).pedestrian_timer refl
+      let down = walks_down s.plan (phases_given s row) p (phase_read s p) ends_by_none busy_told a b most_a most_b (s.phases p).pedestrian_timer refl
       timed.walk timed.clearance in
       at_most (left m ((next s row).phases p).conflict) (left m (s.phases p).conflict)
       (left i ((next s row).phases p).timer) (left i (s.phases p).timer)
@@ -249,6 +242,27 @@ module _ (s : State) (row : Row) (p : ℕ) (on : is_phase p ≡ true) (pressed :
 
       at_most : (c d j k x y : ℕ) → c ≤ d - 1 → j ≤ k - 1 → x ≤ y - 1 → max c (max j x) ≤ max d (max k y) - 1
       at_most c d j k x y f g h = omega (arith, f, g, h)
+
+module _ (s : State) (row : Row) (p : ℕ) (on : is_phase p ≡ true) (pressed : conflict s row p ≡ true) (free : is_free s row ≡ true) where
+  ended_by_none : ended_by (phases_given s row) p ≡ None
+  ended_by_none = ends_by_none s row p on pressed (free_parts s row free).0
+
+  told_conflict : (phases_given s row).conflict p ≡ true
+  told_conflict = busy_told s row p on pressed (free_parts s row free).0
+
+  told_runs : (phases_given s row).runs ≡ None
+  unfolding phases_given
+  told_runs = (free_parts s row free).1
+
+  told_hold : (phases_given s row).hold p ≡ false
+  unfolding phases_given
+  told_hold = rw (on, (free_parts s row free).1) refl
+
+  -- a green that does not end has a tick less
+  pub presses_down : (m i a b : ℕ) → walk s.plan p ≤ a → pedestrian_clear s.plan p ≤ b → IsTimed (s.phases p) → interval s p ≡ Green →
+      is_ended (moves s row) p ≡ false → is_started (moves s row) p ≡ false →
+      pressed_left m i a b ((next s row).phases p) ≤ pressed_left m i a b (s.phases p) - 1
+  presses_down = presses_down_quiet s row p on pressed (free_parts s row free).0
 
   -- one that is not ready has a tick left
   pub not_ready_yet : (m i a b : ℕ) → longest_maximum s.plan p ≤ m → longest_initial s.plan p ≤ i → walk s.plan p ≤ a → pedestrian_clear s.plan p ≤ b →

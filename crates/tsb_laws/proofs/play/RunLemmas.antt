@@ -6,7 +6,7 @@ use Rattle.tsb_step.specs.Good.{IsGood}
 use Rattle.tsb_step.specs.Laws.{IsConsistent}
 use Rattle.tsb_step.specs.Runs.{replay, AreTaken}
 use Rattle.tsb_step.specs.State.{State}
-use Rattle.tsb_step.proofs.ClearLemmas.{clears_in_time, clears_at_zero}
+use Rattle.tsb_step.proofs.ClearLemmas.{clears_in_time, clears_at_zero, clears_with_its_split}
 use Rattle.tsb_step.proofs.EndLemmas.{ends_in_time}
 use Rattle.tsb_step.proofs.FieldLemmas.{fields_are_quiet}
 use Rattle.tsb_step.proofs.GoodLemmas.{good_run}
@@ -77,7 +77,8 @@ module _ (plan : Plan) (held : IsHeld plan) where
     preempts_have_phases = serves_preempt (replay plan is) good;
     faults_alone_trip = faults_alone_trip plan is ok taken;
     greens_clear_in_time = λ rows p ends. clears_in_time (replay plan is) rows p good ends;
-    coordinated_phases_clear_at_zero = λ rows n p off ends. clears_at_zero (replay plan is) rows n p good off ends;
+    coordinated_phases_clear_at_zero = λ rows n p off counted ends. clears_at_zero (replay plan is) rows n p good off counted ends;
+    coordinated_phases_clear_at_zero_splits = λ rows n p c off counted ends. clears_with_its_split (replay plan is) rows n p c good off counted ends;
     timers_tell_time = timers_tell_time plan is ok taken;
     ticks_end_in_time = ends_in_time (replay plan is) good;
     starts_after_red_revert = starts_after_red_revert plan is ok taken;

@@ -1,17 +1,19 @@
 -- Coordinated phases end by their force-off, and what is omitted is not served.
 use Rattle.std.proofs.Common.{◌≡◌, ℕ, ◌+◌, ◌≤◌, arith, Bool, true, false, not, ◌&&◌, ◌||◌, if◌then◌else◌, List, [], ◌∷◌, Option, Some, None, is_some, is_none, option_map, refl, sym, ap, ◌∙◌, inl, inr, ◌⊎◌}
-use Rattle.std.proofs.lemmas.Bool.{cases_Bool, and_parts, or_cases, true≢false, false≢true}
+use Rattle.std.proofs.lemmas.Bool.{cases_Bool, and_parts, or_cases, or_left, or_right, true≢false, false≢true}
 use Rattle.tsb_step.specs.tsb_types.declared.lamp.Lamp.{Lamp}
 use Rattle.tsb_step.specs.tsb_types.declared.row.Row.{Row}
 use Rattle.tsb_step.specs.tsb_types.Intervals.{is_green, is_dont_walk, in_service}
 use Rattle.tsb_step.specs.tsb_types.Lists.{is}
 use Rattle.tsb_step.specs.tsb_plan.Plan.{Plan}
+use Rattle.tsb_step.specs.tsb_plan.Parts.{cycle, forces_late, floats}
+use Rattle.tsb_step.specs.tsb_plan.Running.{split_in_effect, coordinates_in, is_coordinated_now, split_green, floating_in}
 use Rattle.tsb_step.specs.tsb_phase.Phase.{Phase, Given, held_of}
-use Rattle.tsb_step.specs.tsb_phase.Green.{initial_has_passed, forced_latch}
+use Rattle.tsb_step.specs.tsb_phase.Green.{initial_has_passed, has_reached_some, floats_off, forced_latch}
 use Rattle.tsb_step.specs.tsb_phase.Pedestrian.{ended_by, pedestrian_now}
 use Rattle.tsb_step.specs.tsb_phase.Next.{is_green_after}
 use Rattle.tsb_step.specs.tsb_phase.Ready.{needs_forced, may_end, green_is_done, is_ready}
-use Rattle.tsb_step.proofs.tsb_coord.LocalLemmas.{coordinated_at_instant}
+use Rattle.tsb_step.specs.tsb_coord.Coordinated.{local, force_off, yields_to, instant_of, late_end, is_late, is_forced_late}
 use Rattle.tsb_step.specs.tsb_preempt.Service.{Service}
 use Rattle.tsb_step.specs.tsb_preempt.Preempts as preempts
 use Rattle.tsb_step.specs.tsb_ring.Rings as rings
@@ -28,7 +30,7 @@ use Rattle.tsb_step.specs.declared.inputs.Input.{Input}
 use Rattle.tsb_step.specs.declared.inputs.Input.TheVariants as inputs
 use Rattle.tsb_step.specs.declared.inputs.Input.TheVariants.{Tick}
 use Rattle.tsb_step.specs.State.{State, restarted, interval}
-use Rattle.tsb_step.specs.Tick.{preempts_given, preempts_read, new_service, service, hold, forced, at_force_off, omitted, phases_given, phase_read, rings_given, moves, moved, yellow_done, next}
+use Rattle.tsb_step.specs.Tick.{preempts_given, preempts_read, new_service, service, runs, hold, forced, at_force_off, omitted, phases_given, phase_read, rings_given, moves, moved, yellow_done, next}
 use Rattle.tsb_step.specs.Signs.{watched}
 use Rattle.tsb_step.specs.Step.{with_lamp, reset, step}
 use Rattle.tsb_step.specs.Runs.{replay, AreTaken}
@@ -43,7 +45,7 @@ use Rattle.tsb_step.proofs.RestLemmas.{rests_run}
 use Rattle.tsb_step.proofs.StandLemmas.{rings_then}
 use Rattle.tsb_step.proofs.WaitedLemmas.{ended_was_ready}
 use Rattle.tsb_laws.specs.Stretches.{EndsGreen}
-use Rattle.tsb_laws.specs.Coordination.{was_forced_off, OmitsHold}
+use Rattle.tsb_laws.specs.Coordination.{is_forced_off, in_permissive_time, was_forced_off, OmitsHold}
 use Rattle.tsb_laws.proofs.safety.IntergreenLemmas.{good_then, turns_yellow, started_now, listed_then}
 use Rattle.tsb_laws.proofs.safety.ChoiceLemmas.{pick_not_omitted, entry_not_omitted}
 use Rattle.tsb_laws.proofs.safety.EnabledLemmas.{callable_not_omitted}
@@ -69,18 +71,28 @@ done_without plan given p w h none =
     (and_parts (initial_has_passed plan given p (held_of w)) (may_end plan given p w) (rw none at ended)).1
 
 latch_of : (plan : Plan) (given : Given) (p : ℕ) (w : Phase) → needs_forced given p ≡ true → may_end plan given p w ≡ true →
-    forced_latch given p (held_of w) ≡ true
+    forced_latch plan given p (held_of w) ≡ true
 latch_of plan given p w needs ends = rw needs at ends
+
+-- what the latch asks for besides: force-off in this tick, or in an earlier one
+forced_or : (s : State) (row : Row) (p : ℕ) → ((phases_given s row).forced p || (floats_off s.plan (phases_given s row) p (held_of (phase_read s p)) || (s.phases p).forced)) ≡ true →
+    (is_forced_off s row p ≡ true) ⊎ ((s.phases p).forced ≡ true)
+unfolding phases_given
+forced_or s row p h =
+    elim (or_cases ((phases_given s row).forced p) (floats_off s.plan (phases_given s row) p (held_of (phase_read s p)) || (s.phases p).forced) h) [
+      | inl k ↦ inl (or_left (forced s p) (floats_off s.plan (phases_given s row) p (held_of (phase_read s p))) (clipped_holds (forced s) p k))
+      | inr k ↦ elim (or_cases (floats_off s.plan (phases_given s row) p (held_of (phase_read s p))) (s.phases p).forced k) [
+        | inl l ↦ inl (or_right (forced s p) (floats_off s.plan (phases_given s row) p (held_of (phase_read s p))) l)
+        | inr l ↦ inr l
+      ]
+    ]
 
 -- its force-off is now, or is latched
 latched_or_now : (s : State) (row : Row) (p : ℕ) → s.plan.phase_count ≤ 16 → IsListed s.plan p → is_ended (moves s row) p ≡ true →
-    hold s p ≡ true → service s row ≡ None → (forced s p ≡ true) ⊎ ((s.phases p).forced ≡ true)
+    hold s p ≡ true → service s row ≡ None → (is_forced_off s row p ≡ true) ⊎ ((s.phases p).forced ≡ true)
 unfolding phases_given
 latched_or_now s row p few listed ended held quiet =
-    elim (or_cases ((phases_given s row).forced p) (s.phases p).forced conflict.1) [
-      | inl k ↦ inl (clipped_holds (forced s) p k)
-      | inr k ↦ inr k
-    ]
+    forced_or s row p conflict.1
   where
     ends : may_end s.plan (phases_given s row) p (phase_read s p) ≡ true
     ends = done_without s.plan (phases_given s row) p (phase_read s p) (ended_was_ready s row p ended) (ended_by_none s row p quiet)
@@ -88,37 +100,34 @@ latched_or_now s row p few listed ended held quiet =
     needs : needs_forced (phases_given s row) p ≡ true
     needs = ap (λ (b : Bool). b && is_none (service s row)) (clipped_at (hold s) s.plan p few listed ∙ held) ∙ ap (λ (o : Option ℕ). is_none o) quiet
 
-    latch : forced_latch (phases_given s row) p (held_of (phase_read s p)) ≡ true
+    latch : forced_latch s.plan (phases_given s row) p (held_of (phase_read s p)) ≡ true
     latch = latch_of s.plan (phases_given s row) p (phase_read s p) needs ends
 
     runs : (is_some (phases_given s row).runs ≡ true)
-        × ((is_none (phases_given s row).service && ((phases_given s row).conflict p && ((phases_given s row).forced p || (s.phases p).forced))) ≡ true)
+        × ((is_none (phases_given s row).service && ((phases_given s row).conflict p && ((phases_given s row).forced p || (floats_off s.plan (phases_given s row) p (held_of (phase_read s p)) || (s.phases p).forced)))) ≡ true)
     runs = and_parts (is_some (phases_given s row).runs)
-        (is_none (phases_given s row).service && ((phases_given s row).conflict p && ((phases_given s row).forced p || (s.phases p).forced))) latch
+        (is_none (phases_given s row).service && ((phases_given s row).conflict p && ((phases_given s row).forced p || (floats_off s.plan (phases_given s row) p (held_of (phase_read s p)) || (s.phases p).forced)))) latch
 
-    free : (is_none (phases_given s row).service ≡ true) × (((phases_given s row).conflict p && ((phases_given s row).forced p || (s.phases p).forced)) ≡ true)
-    free = and_parts (is_none (phases_given s row).service) ((phases_given s row).conflict p && ((phases_given s row).forced p || (s.phases p).forced)) runs.1
+    free : (is_none (phases_given s row).service ≡ true) × (((phases_given s row).conflict p && ((phases_given s row).forced p || (floats_off s.plan (phases_given s row) p (held_of (phase_read s p)) || (s.phases p).forced))) ≡ true)
+    free = and_parts (is_none (phases_given s row).service) ((phases_given s row).conflict p && ((phases_given s row).forced p || (floats_off s.plan (phases_given s row) p (held_of (phase_read s p)) || (s.phases p).forced))) runs.1
 
-    conflict : ((phases_given s row).conflict p ≡ true) × (((phases_given s row).forced p || (s.phases p).forced) ≡ true)
-    conflict = and_parts ((phases_given s row).conflict p) ((phases_given s row).forced p || (s.phases p).forced) free.1
+    conflict : ((phases_given s row).conflict p ≡ true) × (((phases_given s row).forced p || (floats_off s.plan (phases_given s row) p (held_of (phase_read s p)) || (s.phases p).forced)) ≡ true)
+    conflict = and_parts ((phases_given s row).conflict p) ((phases_given s row).forced p || (floats_off s.plan (phases_given s row) p (held_of (phase_read s p)) || (s.phases p).forced)) free.1
 
 -- ## A latch is of this green
 
 latched_in_tick : (s : State) (row : Row) (p : ℕ) → ((next s row).phases p).forced ≡ true →
-    (is_green (interval s p) ≡ true) × ((forced s p ≡ true) ⊎ ((s.phases p).forced ≡ true))
+    (is_green (interval s p) ≡ true) × ((is_forced_off s row p ≡ true) ⊎ ((s.phases p).forced ≡ true))
 unfolding phases_given
 latched_in_tick s row p h =
-    let both = and_parts (is_green_after (moved s row) p (phase_read s p)) (not (is_started (moves s row) p) && forced_latch (phases_given s row) p (held_of (phase_read s p))) h in
-    let rest = and_parts (not (is_started (moves s row) p)) (forced_latch (phases_given s row) p (held_of (phase_read s p))) both.1 in
+    let both = and_parts (is_green_after (moved s row) p (phase_read s p)) (not (is_started (moves s row) p) && forced_latch s.plan (phases_given s row) p (held_of (phase_read s p))) h in
+    let rest = and_parts (not (is_started (moves s row) p)) (forced_latch s.plan (phases_given s row) p (held_of (phase_read s p))) both.1 in
     let runs = and_parts (is_some (phases_given s row).runs)
-    (is_none (phases_given s row).service && ((phases_given s row).conflict p && ((phases_given s row).forced p || (s.phases p).forced))) rest.1 in
-    let free = and_parts (is_none (phases_given s row).service) ((phases_given s row).conflict p && ((phases_given s row).forced p || (s.phases p).forced)) runs.1 in
-    let conflict = and_parts ((phases_given s row).conflict p) ((phases_given s row).forced p || (s.phases p).forced) free.1 in (
+    (is_none (phases_given s row).service && ((phases_given s row).conflict p && ((phases_given s row).forced p || (floats_off s.plan (phases_given s row) p (held_of (phase_read s p)) || (s.phases p).forced)))) rest.1 in
+    let free = and_parts (is_none (phases_given s row).service) ((phases_given s row).conflict p && ((phases_given s row).forced p || (floats_off s.plan (phases_given s row) p (held_of (phase_read s p)) || (s.phases p).forced))) runs.1 in
+    let conflict = and_parts ((phases_given s row).conflict p) ((phases_given s row).forced p || (floats_off s.plan (phases_given s row) p (held_of (phase_read s p)) || (s.phases p).forced)) free.1 in (
       green (is_started (moves s row) p) (is_green (interval s p)) refl refl both.0 rest.0,
-      elim (or_cases ((phases_given s row).forced p) (s.phases p).forced conflict.1) [
-        | inl k ↦ inl (clipped_holds (forced s) p k)
-        | inr k ↦ inr k
-      ],
+      forced_or s row p conflict.1,
     )
   where
     green : (starts was : Bool) → is_started (moves s row) p ≡ starts → is_green (interval s p) ≡ was →
@@ -129,11 +138,11 @@ latched_in_tick s row p h =
 
 -- the forced latch after an input
 latch_tick : (s : State) (row : Row) (p : ℕ) → (is_green (interval s p) ≡ false → (s.phases p).forced ≡ false) → ((step s (Tick row)).phases p).forced ≡ true →
-    (is_green (interval s p) ≡ true) × ((forced s p ≡ true) ⊎ ((s.phases p).forced ≡ true))
+    (is_green (interval s p) ≡ true) × ((is_forced_off s row p ≡ true) ⊎ ((s.phases p).forced ≡ true))
 unfolding step watched
 latch_tick s row p rests h = go (is_some s.trip) h
   where
-    still : (s.phases p).forced ≡ true → (is_green (interval s p) ≡ true) × ((forced s p ≡ true) ⊎ ((s.phases p).forced ≡ true))
+    still : (s.phases p).forced ≡ true → (is_green (interval s p) ≡ true) × ((is_forced_off s row p ≡ true) ⊎ ((s.phases p).forced ≡ true))
     still k =
         elim (cases_Bool (is_green (interval s p))) [
           | inl g ↦ (g, inr k)
@@ -141,7 +150,7 @@ latch_tick s row p rests h = go (is_some s.trip) h
         ]
 
     go : (b : Bool) → ((if b then record s { now = s.now + 1 } else (if b then next s row else watched s (next s row))).phases p).forced ≡ true →
-        (is_green (interval s p) ≡ true) × ((forced s p ≡ true) ⊎ ((s.phases p).forced ≡ true))
+        (is_green (interval s p) ≡ true) × ((is_forced_off s row p ≡ true) ⊎ ((s.phases p).forced ≡ true))
     go true k = still k
     go false k = latched_in_tick s row p k
 
@@ -167,7 +176,7 @@ latched plan (inputs.Tick row ∷ is) p h =
     let it = latch_tick (replay plan is) row p (rests_run plan is p).forced h in
     elim it.1 [
       | inl k ↦ rw (it.0, k) refl
-      | inr k ↦ (let before : was_forced_off plan p is ≡ true = latched plan is p k in rw (it.0, before) (or_true (forced (replay plan is) p)))
+      | inr k ↦ (let before : was_forced_off plan p is ≡ true = latched plan is p k in rw (it.0, before) (or_true (is_forced_off (replay plan is) row p)))
     ]
   where
     or_true : (b : Bool) → (b || true) ≡ true
@@ -181,18 +190,54 @@ latched plan (i ∷ is) p h = latched plan is p h
 few_now : (plan : Plan) (is : List Input) → plan.phase_count ≤ 16 → (replay plan is).plan.phase_count ≤ 16
 few_now plan is few = let same = count_run plan is in omega (arith, same, few)
 
--- a coordinated phase is forced off at its instant alone
-at_instant : (s : State) (p : ℕ) → hold s p ≡ true → forced s p ≡ true → at_force_off s p ≡ true
-at_instant s p held h = sym (coordinated_at_instant s.plan (s.now + 1) s.pattern p held) ∙ h
+-- a coordinated phase is forced off at its instant and in its permissive time, and neither late nor by floating force-off
+never_late : (m : ℕ) (at from : Option ℕ) → is_late m at from None ≡ false
+never_late m None from = refl
+never_late m (Some l) None = refl
+never_late m (Some l) (Some i) = refl
+
+never_forced_late : (plan : Plan) (o at : Option ℕ) (p : ℕ) → is_coordinated_now plan o p ≡ true → is_forced_late plan o at p ≡ false
+never_forced_late plan None at p h = refl
+never_forced_late plan (Some n) at p h =
+    let none : late_end plan (Some n) p ≡ None = rw h (go (forces_late plan)) in
+    ap (λ (to : Option ℕ). is_late (cycle plan n) at (force_off plan (Some n) p) to) none ∙ never_late (cycle plan n) at (force_off plan (Some n) p)
+  where
+    go : (b : Bool) → (if b && false then instant_of plan n (yields_to plan n p) else None) ≡ None
+    go true = refl
+    go false = refl
+
+never_floats : (plan : Plan) (o : Option ℕ) (p : ℕ) → coordinates_in plan o p ≡ true → floating_in plan o p ≡ None
+never_floats plan None p h = refl
+never_floats plan (Some t) p h = rw h (go (floats plan))
+  where
+    go : (b : Bool) → (if b && false then Some (split_green plan t p) else None) ≡ None
+    go true = refl
+    go false = refl
+
+by_the_cycle : (s : State) (row : Row) (p : ℕ) → hold s p ≡ true → is_forced_off s row p ≡ true → forced s p ≡ true
+unfolding phases_given
+by_the_cycle s row p held h =
+    elim (or_cases (forced s p) (floats_off s.plan (phases_given s row) p (held_of (phase_read s p))) h) [
+      | inl k ↦ k
+      | inr k ↦ absurd (false≢true (ap (λ (o : Option ℕ). has_reached_some (phase_read s p).timer o) (sym (never_floats s.plan (split_in_effect s.plan (runs s)) p held)) ∙ k))
+    ]
+
+at_instant : (s : State) (p : ℕ) → hold s p ≡ true → forced s p ≡ true → (at_force_off s p ≡ true) ⊎ (in_permissive_time s p ≡ true)
+at_instant s p held h =
+    elim (or_cases (at_force_off s p) (is_forced_late s.plan (runs s) (local s.plan (s.now + 1) s.pattern) p || in_permissive_time s p) h) [
+      | inl k ↦ inl k
+      | inr k ↦ inr (ap (λ (b : Bool). b || in_permissive_time s p) (sym (never_forced_late s.plan (runs s) (local s.plan (s.now + 1) s.pattern) p held)) ∙ k)
+    ]
 
 pub ends_by_force_off : (plan : Plan) (is : List Input) (row : Row) (p : ℕ) → IsConsistent plan → plan.phase_count ≤ 16 →
     AreTaken plan is → (replay plan is).trip ≡ None → EndsGreen plan is row p → hold (replay plan is) p ≡ true →
-    service (replay plan is) row ≡ None → (at_force_off (replay plan is) p ≡ true) ⊎ (was_forced_off plan p is ≡ true)
+    service (replay plan is) row ≡ None →
+    ((at_force_off (replay plan is) p ≡ true) ⊎ (in_permissive_time (replay plan is) p ≡ true)) ⊎ (was_forced_off plan p is ≡ true)
 ends_by_force_off plan is row p ok few taken dark ends held quiet =
     elim (latched_or_now (replay plan is) row p (few_now plan is few)
     ((good_run plan is ok taken).rings.listed p (ap in_service ends.was_green))
     (ended_now (replay plan is) row p dark ends.was_green (turns_yellow plan is row p ok taken ends)) held quiet) [
-      | inl k ↦ inl (at_instant (replay plan is) p held k)
+      | inl k ↦ inl (at_instant (replay plan is) p held (by_the_cycle (replay plan is) row p held k))
       | inr k ↦ inr (latched plan is p k)
     ]
 

@@ -7,11 +7,11 @@ use Rattle.tsb_step.specs.tsb_types.declared.row.Row.{Row}
 use Rattle.tsb_step.specs.tsb_plan.declared.object.Object.{Object}
 use Rattle.tsb_step.specs.tsb_plan.declared.object.Object.TheVariants.{PhaseMinimumGreen, PatternOffsetTime, SplitCoordPhase, CoordForceMode}
 use Rattle.tsb_step.specs.tsb_plan.Objects.{greatest}
-use Rattle.tsb_step.specs.tsb_plan.Parts.{forces_late}
+use Rattle.tsb_step.specs.tsb_plan.Parts.{cycle, forces_late}
 use Rattle.tsb_step.specs.tsb_plan.Plan.{Plan, walk, pedestrian_clear, with_values}
 use Rattle.tsb_step.specs.tsb_plan.Quad.{quad}
 use Rattle.tsb_step.specs.tsb_rules.Rules.{first_broken}
-use Rattle.tsb_step.specs.tsb_coord.Coordinated.{counter, force_off, yields_to}
+use Rattle.tsb_step.specs.tsb_coord.Coordinated.{counter, force_off, yields_to, counted_on, is_from_to}
 use Rattle.tsb_step.specs.tsb_phase.Phase.{held_of}
 use Rattle.tsb_step.specs.tsb_phase.Green.{initial_has_passed}
 use Rattle.tsb_step.specs.tsb_phase.Pedestrian.{pedestrian_now}
@@ -92,9 +92,10 @@ until_760 : force_off (replay late started).plan (Some 1) 8 ≡ Some 760
 unfolding opened late
 until_760 = refl
 
-comes_at_402 : counter (replay late started).plan 1 ((replay late started).now + 1) ≡ 402
+is_within : is_from_to (cycle (replay late started).plan 1) (counter (replay late started).plan 1 ((replay late started).now + 1)) 360
+    (counted_on (cycle (replay late started).plan 1) 360 760) ≡ true
 unfolding opened late
-comes_at_402 = refl
+is_within = refl
 
 in_span : IsInLateSpan (replay late started) 6
 in_span = record {
@@ -108,8 +109,7 @@ in_span = record {
   yields = yields_to_8;
   limit = 760;
   until = until_760;
-  from = (let at = comes_at_402 in omega (arith, at));
-  below = (let at = comes_at_402 in omega (arith, at));
+  within = is_within;
 }
 
 -- ## In one tick
