@@ -58,3 +58,5 @@ pub mod ReturnRunLemmas
 pub mod CalledStartLemmas
 pub mod LateGreenLemmas
 pub mod OptionLemmas
+pub mod PatternPressLemmas
+pub mod PatternEndLemmas

@@ -70,6 +70,8 @@ pub mod CoordinatedGreens
 pub mod Options
 -- that greens which begin behind their force-off instant end late, where the plan says so
 pub mod LateGreens
+-- by what else greens may end in a pattern: floating force-off, maximums and the permissive time
+pub mod PatternEnds
 -- what the laws of runs, and those of cells and records, say of one run
 pub mod PlayLaws
 pub mod PlayRecords

@@ -12,6 +12,7 @@ use Rattle.tsb_step.specs.tsb_plan.Parts.{is_minus_green_yellow, track_green}
 use Rattle.tsb_step.specs.tsb_plan.Plan.{Plan, red_revert}
 use Rattle.tsb_step.specs.tsb_plan.Parts.{is_minus_green_yellow}
 use Rattle.tsb_step.specs.tsb_plan.Plan.{Plan, is_enabled, side_of, walk, pedestrian_clear, red_revert}
+use Rattle.tsb_step.specs.tsb_plan.Running.{pattern_maximum}
 use Rattle.tsb_step.specs.tsb_heads.Monitoring.{conflict, gives_way}
 use Rattle.tsb_step.specs.tsb_preempt.Service.{has_track}
 use Rattle.tsb_step.specs.tsb_ring.Moves.{is_started}
@@ -34,10 +35,11 @@ use Rattle.tsb_laws.specs.Commitments.{ServesEnabled, CommitsTo, wait, StartsWit
 use Rattle.tsb_laws.specs.Coordination.{in_permissive_time, was_forced_off, OmitsHold}
 use Rattle.tsb_laws.specs.CrossingGreens.{IsCalm}
 use Rattle.tsb_laws.specs.Crossings.{BeginsCrossing, TakesAtMost, CompletesWithin}
-use Rattle.tsb_laws.specs.GreenEnds.{EndsForAReason}
+use Rattle.tsb_laws.specs.GreenEnds.{HasFloated, EndsForAReason}
 use Rattle.tsb_laws.specs.Intergreens.{AreApart, HasCleared, WalksBefore, HasWalked}
 use Rattle.tsb_laws.specs.KeptCalls.{restarts, RunsOn, Remembers, HasTurnedGreen, HasBegunWalk}
 use Rattle.tsb_laws.specs.LateGreens.{IsInLateSpan, IsLateGreen}
+use Rattle.tsb_laws.specs.PatternEnds.{LacksOnlyItsEnd, HasWaitedInPattern, HasMaxedInPattern, IsInPermissiveTime}
 use Rattle.tsb_laws.specs.LitHeads.{KeepsLitHeads, StaysOrClears}
 use Rattle.tsb_laws.specs.OverlapPhases.{GoesWithPhases}
 use Rattle.tsb_laws.specs.PreemptDwells.{BeginsService, is_served}
@@ -275,6 +277,22 @@ ReadiesLateGreensInTime plan is = (base later : List Input) (row : Row) (p n : �
     longest_initial (replay plan base).plan p ≤ n → walk (replay plan base).plan p + pedestrian_clear (replay plan base).plan p ≤ n →
     (replay plan base).now + n ≤ (replay plan is).now → ready (replay plan is) row p ≡ true
 
+-- a green of a pattern that has waited for so long is ready in the next tick, where floating force-off has come to it
+abbrev pub ReadiesFloatingGreensInTime : Plan → List Input → Type 0
+ReadiesFloatingGreensInTime plan is = (base later : List Input) (row : Row) (p n : ℕ) → is ≡ later ++ base → IsUntripped plan base later →
+    HasWaitedInPattern plan base later row p n → HasFloated plan p is → ready (replay plan is) row p ≡ true
+
+-- where a maximum acts on it that is no longer
+abbrev pub ReadiesMaximumGreensInTime : Plan → List Input → Type 0
+ReadiesMaximumGreensInTime plan is = (base later : List Input) (row : Row) (p n m : ℕ) → is ≡ later ++ base → IsUntripped plan base later →
+    HasWaitedInPattern plan base later row p n → pattern_maximum (replay plan base).plan (runs (replay plan base)) p ≡ Some m → m ≤ n →
+    ready (replay plan is) row p ≡ true
+
+-- and where it began to wait in its permissive time
+abbrev pub ReadiesPermittedGreensInTime : Plan → List Input → Type 0
+ReadiesPermittedGreensInTime plan is = (base later : List Input) (row : Row) (p n : ℕ) → is ≡ later ++ base → IsUntripped plan base later →
+    HasWaitedInPattern plan base later row p n → IsInPermissiveTime (replay plan base) p → ready (replay plan is) row p ≡ true
+
 -- while a pattern ran, a phase that stayed called has not waited for longer than it may, nor has a coordinated one
 abbrev pub ServesInPatterns : (ℕ → State → Input → Bool) → Plan → List Input → Type 0
 ServesInPatterns waits plan is = (base later : List Input) (k j h : ℕ) (r : Ring) (c : ℕ) → is ≡ later ++ base → IsUntripped plan base later →
@@ -295,6 +313,18 @@ HasInstants s = (k p : ℕ) → runs s ≡ Some k → is_enabled s.plan p ≡ tr
 -- a green that is late, and that nothing else keeps, is ready in the next tick
 abbrev pub ReadiesLateGreens : State → Type 0
 ReadiesLateGreens s = (row : Row) (p : ℕ) → IsLateGreen s row p → ready s row p ≡ true
+
+-- a green that lacks only its end is ready in the next tick where floating force-off has come to it
+abbrev pub ReadiesFloatingGreens : Plan → List Input → Type 0
+ReadiesFloatingGreens plan is = (row : Row) (p : ℕ) → LacksOnlyItsEnd (replay plan is) row p → HasFloated plan p is → ready (replay plan is) row p ≡ true
+
+-- where its conflict has stood for the maximum that acts in the pattern
+abbrev pub ReadiesMaximumGreens : State → Type 0
+ReadiesMaximumGreens s = (row : Row) (p : ℕ) → LacksOnlyItsEnd s row p → HasMaxedInPattern s row p → ready s row p ≡ true
+
+-- and where it is coordinated, and the next tick is in its permissive time
+abbrev pub ReadiesPermittedGreens : State → Type 0
+ReadiesPermittedGreens s = (row : Row) (p : ℕ) → LacksOnlyItsEnd s row p → IsInPermissiveTime s p → ready s row p ≡ true
 
 -- a green that is ready and has a conflict ends by the next tick, or the other ring keeps it at the barrier
 abbrev pub MakesWay : Plan → List Input → Type 0
@@ -375,5 +405,11 @@ pub record KeepsLaws (plan : Plan) (is : List Input) (s : State) : Type 0 where
   pub coordination_goes_on_ends : Untripped MakesWay plan is
   pub late_greens_are_ready : ReadiesLateGreens s
   pub late_greens_are_ready_in_time : ReadiesLateGreensInTime plan is
+  pub floating_greens_are_ready : Untripped ReadiesFloatingGreens plan is
+  pub floating_greens_are_ready_in_time : ReadiesFloatingGreensInTime plan is
+  pub maximums_end_greens_in_patterns : ReadiesMaximumGreens s
+  pub maximums_end_greens_in_patterns_in_time : ReadiesMaximumGreensInTime plan is
+  pub permissive_times_let_calls_in : ReadiesPermittedGreens s
+  pub permissive_times_let_calls_in_in_time : ReadiesPermittedGreensInTime plan is
   pub phases_are_served_in_patterns_called : ServesInPatterns is_called_in_pattern plan is
   pub phases_are_served_in_patterns_coordinated : ServesInPatterns is_out plan is

@@ -6,6 +6,7 @@ ghost use Rattle.tsb_laws.specs.GreenEnds.{GreensEndForAReason};
 ghost use Rattle.tsb_laws.specs.LateGreens.{LateGreensAreReady, LateGreensMayEnd};
 ghost use Rattle.tsb_laws.specs.Options.{OptionsOffChangeNothing};
 ghost use Rattle.tsb_laws.specs.OverlapPhases.{OverlapsGoWithPhases};
+ghost use Rattle.tsb_laws.specs.PatternEnds.{FloatingGreensAreReady, FloatingGreensMayEnd, MaximumGreensAreReady, MaximumGreensMayEnd, PermittedGreensAreReady, PermittedGreensMayEnd};
 ghost use Rattle.tsb_laws.specs.PreemptEntries.{PreemptsLetInTheirOwn};
 ghost use Rattle.tsb_laws.specs.PreemptStages.{DwellsAreReached, ExitsEnd, StagesAreReached};
 ghost use Rattle.tsb_laws.specs.PreemptTurns.{PreemptsGiveWay, ServicesEnd};
@@ -47,9 +48,10 @@ pub fn calls_are_kept()
 {}
 
 /// A green ends for a reason. With no preempt in service it has lasted its initial time, added initial included. In
-/// free operation it ends by its gap, and then has no maximum recall, or after its maximum of conflict; while a pattern
-/// runs by its gap or its force-off, a coordinated phase by that alone. Under a preempt only a phase ends that this does
-/// not want. The gap means that no output was on in so many ticks, and the maximum that each of so many had a conflict.
+/// free operation it ends by its gap, and then has no maximum recall, or after its maximum of conflict. While a pattern
+/// runs it ends by its gap, after the maximum of `coordMaximumMode` if there is one, or by its force-off, a coordinated phase
+/// by that alone. Under a preempt only a phase ends that this does not want. The gap means that no output was on in so many
+/// ticks, the maximum that each of so many had a conflict, and floating force-off that the green has lasted so many.
 ///
 /// Needs: an untripped run; at most 16 phases.
 /// Not said: that a green with a reason ends, as its ring may want no other phase.
@@ -262,8 +264,9 @@ pub fn called_phases_are_served()
 /// Witness: `a_pattern` of CoordinatedRuns.
 ///
 /// `forced`: A green that is forced off may end, whatever calls it. Where it has a conflict in each tick, and has been
-/// forced off, at its instant or late, it is ready as soon as its initial time, its walk and its pedestrian clearance have
-/// passed. That is so of coordinated phases and all others, also where a green began behind its instant.
+/// forced off, at its instant, late or in its permissive time, it is ready as soon as its initial time, its walk and its
+/// pedestrian clearance have passed. That is so of coordinated phases and all others, also where a green began behind its
+/// instant.
 ///
 /// Needs: a pattern that runs, and no preempt in service; no pattern selected and nothing committed meanwhile; an untripped
 /// run; at most 16 phases.
@@ -333,9 +336,10 @@ pub fn options_off_change_nothing()
     ensures { OptionsOffChangeNothing }
 {}
 
-/// `ready`: A green that is late may end. With `coordForceMode` 1, a phase that is not coordinated is ready in each tick
-/// from its force-off instant up to that of the coordinated phase that it yields to. That is so wherever it is Green with
-/// a conflict, its initial time has passed and its pedestrian part is DontWalk; so it needs no gap and no next cycle.
+/// `ready`: A green that is late may end. With `coordForceMode` 1 or 2, a phase that is not coordinated is ready in each
+/// tick from its force-off instant up to that of the coordinated phase that it yields to, also past the end of the cycle.
+/// That is so wherever it is Green with a conflict, its initial time has passed and its pedestrian part is DontWalk; so it
+/// needs no gap and no next cycle.
 ///
 /// Needs: no preempt in service; at most 16 phases.
 /// Not said: that it ends then, as it may wait for the other ring at the barrier (`coordination_goes_on`).
@@ -355,4 +359,77 @@ pub fn options_off_change_nothing()
 pub fn late_greens_are_ready()
     ensures ready { LateGreensAreReady }
     ensures in_time { LateGreensMayEnd }
+{}
+
+/// `ready`: A green that has lasted its split may end, with floating force-off. With `coordForceMode` 2, a phase that is not
+/// coordinated is ready in each tick in which its green has lasted its split less yellow change and red clearance. That is
+/// so wherever it is Green with a conflict, its initial time has passed and its pedestrian part is DontWalk; so it needs
+/// neither a gap nor its instant.
+///
+/// Needs: no preempt in service; an untripped run; at most 16 phases.
+/// Not said: that it ends then, as it may wait for the other ring at the barrier (`coordination_goes_on`).
+/// Mistake: force-off by the cycle alone, as with mode 1, `by_the_cycle` (`is_ready_6`, `would_not_be_forced`,
+/// `would_not_be_ready`).
+/// Witness: `a_floating_green` of PatternEndRuns.
+///
+/// `in_time`: A green waits no longer than its split, its initial time and its pedestrian times ask for, with floating
+/// force-off. It is ready as soon as it has lasted its split less yellow change and red clearance, and has had a conflict in
+/// each tick for its initial time, and for its walk and pedestrian clearance, whatever calls it.
+///
+/// Needs: a pattern that runs, and no preempt in service; no pattern selected and nothing committed meanwhile; an untripped
+/// run; at most 16 phases.
+/// Not said: that it ends then.
+/// Mistake: as of `ready`, `by_the_cycle` (`would_not_be_ready`).
+/// Witness: `a_floating_wait` of PatternEndRuns.
+pub fn floating_greens_are_ready()
+    ensures ready { FloatingGreensAreReady }
+    ensures in_time { FloatingGreensMayEnd }
+{}
+
+/// `ready`: A maximum ends greens in a pattern, where the plan says so. With `coordMaximumMode` 1 or 2, a phase that is not
+/// coordinated is ready in each tick in which a conflict has stood for its `phaseMaximum1` or `phaseMaximum2`. That is so
+/// wherever it is Green, its initial time has passed and its pedestrian part is DontWalk.
+///
+/// Needs: no preempt in service; at most 16 phases.
+/// Not said: that it ends then, as it may wait for the other ring at the barrier (`coordination_goes_on`). Of a dynamic
+/// maximum nothing, as none acts there.
+/// Mistake: maximums that do not act in a pattern, as with mode 0, `free_alone` (`is_maxed`, `would_not_max_out`,
+/// `would_be_held`).
+/// Witness: `a_maximum_green` of PatternEndRuns.
+///
+/// `in_time`: A green with a conflict waits no longer in a pattern than its maximum, its initial time and its pedestrian times
+/// ask for, where a maximum acts there. It is ready as soon as it has had a conflict in each tick for that maximum, for its
+/// initial time, and for its walk and pedestrian clearance, whatever calls it.
+///
+/// Needs: a pattern that runs, and no preempt in service; no pattern selected and nothing committed meanwhile; an untripped
+/// run; at most 16 phases.
+/// Not said: that it ends then.
+/// Mistake: as of `ready`, `free_alone` (`would_be_held`).
+/// Witness: `a_maximum_wait` of PatternEndRuns.
+pub fn maximums_end_greens_in_patterns()
+    ensures ready { MaximumGreensAreReady }
+    ensures in_time { MaximumGreensMayEnd }
+{}
+
+/// `ready`: A call within the permissive time is served as one before the instant. A coordinated phase is ready in each tick
+/// in which the local counter is at most `patternPermissiveTime` behind its force-off instant, also past the end of the
+/// cycle. That is so wherever it is Green with a conflict, its initial time has passed and its pedestrian part is DontWalk.
+///
+/// Needs: a permissive time that is not 0; no preempt in service; at most 16 phases.
+/// Not said: that it ends then, as it may wait for the other ring at the barrier (`coordination_goes_on`).
+/// Mistake: a coordinated phase that is forced off at its instant alone, `at_instant_alone` (`is_permitted_6`,
+/// `would_miss_the_call`, `would_wait_a_cycle`).
+/// Witness: `a_permitted_green` of PatternEndRuns.
+///
+/// `in_time`: A coordinated green with a conflict in its permissive time may end in time. It is ready as soon as it has had a
+/// conflict in each tick from then on for its initial time, and for its walk and pedestrian clearance.
+///
+/// Needs: a pattern that runs, and no preempt in service; no pattern selected and nothing committed meanwhile; an untripped
+/// run; at most 16 phases.
+/// Not said: that it ends then. The permissive time may be over by then: what is forced off stays so.
+/// Mistake: as of `ready`, `at_instant_alone` (`would_wait_a_cycle`).
+/// Witness: `a_permitted_wait` of PatternEndRuns.
+pub fn permissive_times_let_calls_in()
+    ensures ready { PermittedGreensAreReady }
+    ensures in_time { PermittedGreensMayEnd }
 {}

@@ -14,3 +14,4 @@ pub mod CoordinatedRuns
 pub mod CalledStartRuns
 pub mod OptionMistakes
 pub mod LateGreenRuns
+pub mod PatternEndRuns

@@ -47,6 +47,7 @@ use Rattle.tsb_laws.proofs.operation.CoordinatedInstantLemmas.{instants_come}
 use Rattle.tsb_laws.proofs.operation.CoordinatedRunLemmas.{forced_may_end}
 use Rattle.tsb_laws.proofs.operation.CoordinatedBarrierLemmas.{makes_way_or_kept}
 use Rattle.tsb_laws.proofs.operation.LateGreenLemmas.{late_is_ready, late_may_end}
+use Rattle.tsb_laws.proofs.operation.PatternEndLemmas.{floating_is_ready, floating_may_end, maximum_is_ready, maximum_may_end, permitted_is_ready, permitted_may_end}
 use Rattle.tsb_laws.proofs.operation.ReturnRunLemmas.{served_in_pattern, coordinated_in_time}
 use Rattle.tsb_laws.proofs.safety.AllRedLemmas.{all_red_ends}
 use Rattle.tsb_laws.proofs.safety.CoordinationLemmas.{ends_by_force_off, omits_hold}
@@ -139,6 +140,15 @@ module _ (plan : Plan) (held : IsHeld plan) where
     late_greens_are_ready = λ row p it. late_is_ready plan is row p ok (few plan held) taken it;
     late_greens_are_ready_in_time = λ base later row p n e dark pressed span initial walks long.
         rw e (late_may_end plan base later row p n ok (few plan held) (rw e at taken) dark pressed span initial walks (rw e at long));
+    floating_greens_are_ready = λ dark row p it floated. floating_is_ready plan is row p ok (few plan held) taken dark it floated;
+    floating_greens_are_ready_in_time = λ base later row p n e dark waited floated.
+        rw e (floating_may_end plan base later row p n ok (few plan held) (rw e at taken) dark waited (rw e at floated));
+    maximums_end_greens_in_patterns = λ row p it maxed. maximum_is_ready plan is row p ok (few plan held) taken it maxed;
+    maximums_end_greens_in_patterns_in_time = λ base later row p n m e dark waited acts within.
+        rw e (maximum_may_end plan base later row p n m ok (few plan held) (rw e at taken) dark waited acts within);
+    permissive_times_let_calls_in = λ row p it span. permitted_is_ready plan is row p ok (few plan held) taken it span;
+    permissive_times_let_calls_in_in_time = λ base later row p n e dark waited span.
+        rw e (permitted_may_end plan base later row p n ok (few plan held) (rw e at taken) dark waited span);
     phases_are_served_in_patterns_called = λ base later k j h r c e dark full running own times out.
         rw e (served_in_pattern plan base later k j h r c ok (few plan held) (rw e at taken) dark full running own times out);
     phases_are_served_in_patterns_coordinated = λ base later k j h r c e dark full running own times out.
