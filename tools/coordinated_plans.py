@@ -1,7 +1,9 @@
 """Plans at random with a pattern, in which all phases of one side and of different rings are concurrent.
 
 They aim at what makes a coordinated phase wait: walks and clearances that are longer than splits or than the cycle,
-splits of their least time, unequal clearances, maximum recalls, phases that are omitted, lead and lag.
+splits of their least time, unequal clearances, maximum recalls, phases that are omitted, lead and lag. The options of
+coordination have each of their values; permissive times are below the cycle, and with `patternLeadLag` the coordinated
+splits of the two rings may end apart.
 """
 import random
 from dataclasses import dataclass
@@ -87,17 +89,19 @@ def times(rng: random.Random, phases: list[int], longest: int) -> dict[str, Valu
     }
 
 
-def halves(rng: random.Random, orders: list[list[int]]) -> list[int]:
-    """How many phases of each ring's order come up to the coordinated one: all, or some in both rings."""
+def halves(rng: random.Random, orders: list[list[int]], apart: bool) -> list[int]:
+    """How many phases of each ring's order come up to the coordinated one: all, or some in both rings; any if apart."""
     places = [rng.randint(1, len(order)) for order in orders]
+    if apart:
+        return places
     whole = [place == len(order) for place, order in zip(places, orders)]
     if rng.random() < 0.4 or any(whole) and not all(whole):
         places = [len(order) for order in orders]
     return places
 
 
-def splits(rng: random.Random, found: Layout, asked: dict[str, Values]) -> tuple[Values, Values]:
-    """The splits, and the coordinated phases."""
+def splits(rng: random.Random, found: Layout, asked: dict[str, Values], apart: bool) -> tuple[Values, Values]:
+    """The splits, and the coordinated phases, whose splits may end apart or not."""
     tight = rng.random()
     split: Values = {}
     coordinated: Values = {}
@@ -117,12 +121,25 @@ def splits(rng: random.Random, found: Layout, asked: dict[str, Values]) -> tuple
         if side != found.coordinated_side:
             share(orders)
             continue
-        places = halves(rng, orders)
+        places = halves(rng, orders, apart)
         coordinated.update((order[place - 1], 1) for order, place in zip(orders, places))
+        if apart:
+            share(orders)
+            continue
         share([order[:place] for order, place in zip(orders, places)])
         if all(place < len(order) for order, place in zip(orders, places)):
             share([order[place:] for order, place in zip(orders, places)])
     return split, coordinated
+
+
+def options(rng: random.Random, cycle: int, apart: bool) -> dict[str, Values]:
+    """The options of coordination; half of the plans have no permissive time, and a third no maximum in a pattern."""
+    return {
+        "coordForceMode": {1: rng.randint(0, 2)},
+        "coordMaximumMode": {1: rng.randint(0, 2)},
+        "patternPermissiveTime": {1: rng.choice([0, rng.randrange(cycle)])},
+        "patternLeadLag": {1: int(apart)},
+    }
 
 
 def sequence(found: Layout, rng: random.Random | None = None) -> Values:
@@ -146,7 +163,8 @@ def plan(rng: random.Random, longest: int = 255) -> dict[str, Any] | None:
     if not phases:
         return None
     asked = times(rng, phases, longest)
-    split, coordinated = splits(rng, found, asked)
+    apart = rng.random() < 0.4
+    split, coordinated = splits(rng, found, asked, apart)
     cycle = sum(
         max(sum(split[p] for p in found.orders[ring, side]) for ring in (1, 2)) for side in set(found.sides.values())
     )
@@ -156,6 +174,7 @@ def plan(rng: random.Random, longest: int = 255) -> dict[str, Any] | None:
     walkers = [p for p in phases if asked["phaseWalk"][p]]
     rows: dict[str, Values] = {
         **asked,
+        **options(rng, cycle, apart),
         "phaseEnabled": dict.fromkeys(phases, 1),
         "phaseRing": found.rings,
         "phaseSide": found.sides,
