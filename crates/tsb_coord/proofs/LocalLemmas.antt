@@ -1,5 +1,5 @@
--- The local counter a yellow change and a red clearance after a force-off instant, and so long behind it as the permissive
--- time lets; and where force-off is late.
+-- The local counter a yellow change and a red clearance after a force-off instant, and so long behind it as the
+-- permissive time lets; and where force-off is late.
 use Rattle.std.proofs.Common.{zero, suc, ◌≡◌, ℕ, ◌+◌, ◌-◌, ◌*◌, ◌/◌, ◌%◌, ◌<◌, ◌≤◌, ◌==◌, nat_le, nat_lt, Bool, true, false, not, ◌&&◌, ◌||◌, if◌then◌else◌, Option, Some, None, refl, arith, sym, ap, ◌∙◌, inl, inr}
 use Rattle.std.proofs.Math.Nat.{div-add-mod', mod-lt, mod-eq_of_lt, mod-add-mod, add-mul-mod_self_right, mul-mod_left}
 use Rattle.std.proofs.lemmas.Bool.{and_parts, cases_lt, leb-true}

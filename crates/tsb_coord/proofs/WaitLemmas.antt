@@ -1,6 +1,6 @@
--- How long the local counter takes to the next force-off instant or end of a permissive time, and that nothing is ordered
--- anew until then. What is forced off late stays so between instants, as late force-off begins and ends at them, and what
--- is in its permissive time does between its instant and its end.
+-- How long the local counter takes to the next force-off instant or end of a permissive time, and that nothing is
+-- ordered anew until then. What is forced off late stays so between instants, as late force-off begins and ends at
+-- them, and what is in its permissive time does between its instant and its end.
 use Rattle.std.proofs.Common.{zero, suc, ◌≡◌, ◌≢◌, ℕ, ◌+◌, ◌-◌, ◌*◌, ◌%◌, ◌<◌, ◌≤◌, ◌==◌, ◌⊎◌, nat_lt, min, Bool, true, false, not, ◌&&◌, ◌||◌, if◌then◌else◌, List, Option, Some, None, IfSome, refl, sym, ap, subst, ◌∙◌, arith, inl, inr}
 use Rattle.std.proofs.Math.Nat.{mod-eq_of_lt, mod-lt, mod-add-mod, mul-mod_left, add-mul-mod_self_right}
 use Rattle.std.proofs.lemmas.Bool.{cases_lt, ne_eqb, eq-eqb}
@@ -134,8 +134,8 @@ next_is m here below =
           inr (ap (λ x. x % m) turn ∙ mul-mod_left 1 m, last)
     ]
 
--- from one tick to the next, which is neither the begin i nor the end u: where the end is in this cycle, where it is in the
--- next, and where from one begin to the next all is within
+-- from one tick to the next, which is neither the begin i nor the end u: where the end is in this cycle, where it is in
+-- the next, and where from one begin to the next all is within
 step_in_cycle : (m i u here next : ℕ) → u < m → here < m → ((next ≡ here + 1) ⊎ ((next ≡ 0) × (here + 1 ≡ m))) →
     (next == i) ≡ false → (next == u) ≡ false → is_from_to m here i u ≡ is_from_to m next i u
 step_in_cycle m i u here next low below (inl step) not_from not_to = grind (arith, nat_tests)

@@ -21,8 +21,8 @@ ForcesOff plan selected t = (p : ℕ) × (asks_force_off plan t selected p ≡ t
 abbrev pub EndsPermission : Plan → Option ℕ → ℕ → Type 0
 EndsPermission plan selected t = (p : ℕ) × (ends_permissive_time plan t selected p ≡ true)
 
--- clause `exact`: while a pattern runs, a phase is forced off in that tick, or a permissive time has just ended there, or
--- it is the next tick and a phase is forced off now; in free operation it is after the last tick that there is
+-- clause `exact`: while a pattern runs, a phase is forced off in that tick, or a permissive time has just ended there,
+-- or it is the next tick and a phase is forced off now; in free operation it is after the last tick that there is
 pub record IsExact (now : ℕ) (plan : Plan) (row : List ℕ) (result : ℕ) : Type 0 where
   pub runs : (n : ℕ) → running plan (pattern_in row) ≡ Some n →
       ForcesOff plan (pattern_in row) result

@@ -1,6 +1,6 @@
 -- Where the local counter stands once a phase that is forced off in time has ended its yellow change and red clearance;
--- of which phases and modes late force-off and the permissive time are; and that the cell of coordination is that of what it
--- says. Each law here is the contract of a function in src/laws.rt, and proved there.
+-- of which phases and modes late force-off and the permissive time are; and that the cell of coordination is that of
+-- what it says. Each law here is the contract of a function in src/laws.rt, and proved there.
 use Rattle.std.specs.Prelude.{◌≡◌, ℕ, ◌+◌, ◌%◌, ◌≤◌, true, false, ◌||◌, List, Option, Some}
 use Rattle.tsb_objects.specs.tsb_plan.Plan.{Plan, yellow_change, red_clear}
 use Rattle.tsb_objects.specs.tsb_plan.Parts.{cycle, permissive_time, leads_and_lags, forces_late}
@@ -35,8 +35,8 @@ CoordinatedEndAtZero plan = (n t p : ℕ) → is_pattern plan n ≡ true → IsC
 abbrev pub IsAtMostBehind : Plan → ℕ → ℕ → ℕ → Option ℕ → Type 0
 IsAtMostBehind plan n from most at = (k : ℕ) × ((k ≤ most) × (at ≡ Some ((from + k) % cycle plan n)))
 
--- in each mode that of a coordinated phase, whenever it is forced off, is where its split ends, or behind by its permissive
--- time at most
+-- in each mode that of a coordinated phase, whenever it is forced off, is where its split ends, or behind by its
+-- permissive time at most
 abbrev pub CoordinatedEndInTime : Plan → Type 0
 CoordinatedEndInTime plan = (n t p c : ℕ) → is_pattern plan n ≡ true → is_coordinated_now plan (Some n) p ≡ true →
     asks_force_off plan t (Some n) p ≡ true → IsCountedFrom plan n c →
@@ -76,8 +76,8 @@ abbrev pub ForcedAtInstants : Plan → Type 0
 ForcedAtInstants plan = (t : ℕ) (selected : Option ℕ) (p : ℕ) → is_at_force_off plan t selected p ≡ true →
     asks_force_off plan t selected p ≡ true
 
--- at the instant of the coordinated phase that it yields to, a phase is not late: it is forced off only where that is its
--- own instant, or in its permissive time
+-- at the instant of the coordinated phase that it yields to, a phase is not late: it is forced off only where that is
+-- its own instant, or in its permissive time
 abbrev pub EndsWhereItYields : Plan → Type 0
 EndsWhereItYields plan = (n t p c : ℕ) → is_pattern plan n ≡ true → yields_to plan n p ≡ Some c →
     is_at_force_off plan t (Some n) c ≡ true →

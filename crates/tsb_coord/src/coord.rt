@@ -161,8 +161,8 @@ impl Coord {
     }
 
     /// The first tick after `now` at which `orders` may differ: the next force-off instant of the pattern that runs, or
-    /// the first tick behind a permissive time, or the next tick, where `now` is at an instant. Late force-off begins and
-    /// ends at instants too. In free operation it is after the last tick that there is.
+    /// the first tick behind a permissive time, or the next tick, where `now` is at an instant. Late force-off begins
+    /// and ends at instants too. In free operation it is after the last tick that there is.
     pub fn due(&self, now: u32, plan: &Checked) -> u32
         requires by { IsBy (cells_of self.now) }
         requires in_time { now ≤ TICKS }

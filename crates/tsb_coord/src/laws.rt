@@ -5,9 +5,9 @@ ghost use Rattle.tsb_objects.specs.tsb_rules.Consistent.{OfConsistentPlans};
 ghost use Rattle.tsb_coord.specs.Laws.{EndWithTheirSplits, CoordinatedEndAtZero, CoordinatedEndInTime, CoordinatedEndNearZero, AtInstantsInMode0, CoordinatedAtInstants, OthersAreNotPermitted, NoneIsPermittedWithout, ForcedAtInstants, EndsWhereItYields, RowsAreTold, StatesAreRead, StatesAreBy};
 
 /// A phase that is forced off at its instant has time to clear by the end of its split. Its yellow change and red
-/// clearance, counted from its force-off instant, end where its split ends on the local counter; those of the coordinated
-/// phase that instants are counted from end at local 0. In each mode those of a coordinated phase, whenever it is forced
-/// off, end there or at most its permissive time behind.
+/// clearance, counted from its force-off instant, end where its split ends on the local counter; those of the
+/// coordinated phase that instants are counted from end at local 0. In each mode those of a coordinated phase, whenever
+/// it is forced off, end there or at most its permissive time behind.
 ///
 /// Needs: a plan that breaks no rule.
 /// Not said: that the green ends at the instant; that the phase is over then, which `coordinated_phases_clear_at_zero`
@@ -17,8 +17,8 @@ ghost use Rattle.tsb_coord.specs.Laws.{EndWithTheirSplits, CoordinatedEndAtZero,
 /// start of side 1, `instant_from_begin`; a difference below 0 that counts as 0, `instant_cut_off`; instants that are
 /// counted from the first coordinated phase in a pattern that leads and lags, `counted_from_it` (`clears_elsewhere`); a
 /// permissive time that is counted from local 0, `behind_zero` (`clears_too_late`).
-/// Witness: `ends_at_zero`, `ends_with_split`; `leads` and `ends_with_its_own` of LeadLagExamples; `ends_behind_zero` of
-/// PermissiveExamples.
+/// Witness: `ends_at_zero`, `ends_with_split`; `leads` and `ends_with_its_own` of LeadLagExamples; `ends_behind_zero`
+/// of PermissiveExamples.
 pub fn forced_phases_end_with_their_splits()
     ensures ends { OfConsistentPlans EndWithTheirSplits }
     ensures at_zero { OfConsistentPlans CoordinatedEndAtZero }
@@ -26,10 +26,10 @@ pub fn forced_phases_end_with_their_splits()
     ensures near_zero { OfConsistentPlans CoordinatedEndNearZero }
 {}
 
-/// Late force-off is an option, and so is the permissive time. With `coordForceMode` 0 a phase is forced off at its instant
-/// and in its permissive time alone. In each mode a coordinated phase is, and no phase misses its instant. No other phase
-/// has a permissive time, and none has where that of the pattern is 0. At the instant of the coordinated phase that it
-/// yields to, a phase is not late.
+/// Late force-off is an option, and so is the permissive time. With `coordForceMode` 0 a phase is forced off at its
+/// instant and in its permissive time alone. In each mode a coordinated phase is, and no phase misses its instant. No
+/// other phase has a permissive time, and none has where that of the pattern is 0. At the instant of the coordinated
+/// phase that it yields to, a phase is not late.
 ///
 /// Mistakes: the mode is not read, `late_in_both_modes` (`would_be_late_in_mode_0`); a coordinated phase is forced off
 /// late as well, `late_for_all` (`would_be_late`); the instant of the coordinated phase is counted in, `is_late_to`

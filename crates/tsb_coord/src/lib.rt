@@ -4,9 +4,9 @@
 //! `Coord` keeps the number of the pattern that is selected; all else is found from it, the plan and the number of the
 //! tick. The laws: in a plan that meets the rules a phase whose green ends at its force-off instant has cleared where
 //! its split ends, a coordinated phase at local 0, and one that is forced off in its permissive time by so much behind;
-//! late force-off and the permissive time are options; and the cell encodes what is read in it. Names are those of NTCIP
-//! 1202 (cycle, offset, splits, sequences, coordinated phases); the orders, the instants at which splits end, late
-//! force-off and the permissive time are the profile's own.
+//! late force-off and the permissive time are options; and the cell encodes what is read in it. Names are those of
+//! NTCIP 1202 (cycle, offset, splits, sequences, coordinated phases); the orders, the instants at which splits end,
+//! late force-off and the permissive time are the profile's own.
 #![tactic(auto)]
 
 pub mod coord;

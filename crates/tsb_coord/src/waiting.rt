@@ -1,5 +1,5 @@
-//! How long the local counter takes to the next tick at which coordination may force off other phases: a force-off instant,
-//! or the end of a permissive time.
+//! How long the local counter takes to the next tick at which coordination may force off other phases: a force-off
+//! instant, or the end of a permissive time.
 ghost use Rattle.std.specs.Prelude.{◌≡◌, ◌≤◌, ◌<◌, ◌+◌, ◌%◌, ◌⊎◌, ℕ, true, false, Some, IfSome};
 ghost use Rattle.tsb_objects.specs.tsb_plan.Parts.{cycle, is_used};
 ghost use Rattle.tsb_objects.specs.Checked.{checked_plan};
@@ -34,8 +34,8 @@ fn ticks_to(cycle: u32, local: u32, instant: &Option<u32>) -> u32
     }
 }
 
-/// How many ticks the local counter takes to reach the end of a permissive time again, one at least; a cycle where there is
-/// none, or it is there now.
+/// How many ticks the local counter takes to reach the end of a permissive time again, one at least; a cycle where
+/// there is none, or it is there now.
 #[inline(always)]
 fn ticks_to_end(cycle: u32, local: u32, end: &Option<u32>) -> u32
     requires local { local < cycle }
@@ -78,8 +78,8 @@ fn ticks_to_instant(plan: &Checked, n: Pattern, local: u32) -> u32
     ticks
 }
 
-/// How many ticks the local counter takes to reach the next end of a permissive time, one at least; a cycle where there is
-/// none.
+/// How many ticks the local counter takes to reach the next end of a permissive time, one at least; a cycle where there
+/// is none.
 fn ticks_to_permissive_end(plan: &Checked, n: Pattern, local: u32) -> u32
     requires used { is_used (checked_plan plan.now) n ≡ true }
     requires local { local < cycle (checked_plan plan.now) n }

@@ -1,6 +1,6 @@
-//! When patterns force phases off, worked by hand. Times are in tenths of a second, on the local counter of pattern 1 of
-//! the built-in plan of eight phases: a cycle of 800 with instants 510, 760, 110 and 360 of phases 1 to 4 and of 5 to 8,
-//! where 2 and 6 are coordinated.
+//! When patterns force phases off, worked by hand. Times are in tenths of a second, on the local counter of pattern 1
+//! of the built-in plan of eight phases: a cycle of 800 with instants 510, 760, 110 and 360 of phases 1 to 4 and of 5
+//! to 8, where 2 and 6 are coordinated.
 
 use tsb_cells::Reversible;
 use tsb_coord::{Coord, laws};
@@ -25,8 +25,8 @@ fn quad_with(values: &[Value]) -> Option<Checked> {
 /// A permissive time of 10 seconds, from 760 up to 860, which is 60 of the next cycle.
 const PERMISSIVE: [Value; 1] = [(Object::PatternPermissiveTime, 1, 10)];
 
-/// The rings changed over, so that 5 to 8 are of ring 1, and 2 before 1 in ring 2: the split of 2 ends 15 seconds before
-/// that of 6, which ends at local 0.
+/// The rings changed over, so that 5 to 8 are of ring 1, and 2 before 1 in ring 2: the split of 2 ends 15 seconds
+/// before that of 6, which ends at local 0.
 const LEADING: [Value; 18] = [
     (Object::PhaseRing, 1, 2),
     (Object::PhaseRing, 2, 2),

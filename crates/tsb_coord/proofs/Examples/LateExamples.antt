@@ -50,7 +50,7 @@ late_ends : map (late_end late (Some 1)) (run_from 1 8)
 unfolding late quad run_from split_sum side_sum split_end force_off
 late_ends = refl
 
--- ## An instant behind that of the coordinated phase, which is 360: phase 3 from 390 on, past local 0 up to the next 360
+-- ## An instant behind that of the coordinated phase, which is 360: phase 3 from 390 on, past local 0, up to 360
 
 unfoldable pub short_late : Plan
 short_late = with_value short CoordForceMode 1 1

@@ -1,6 +1,6 @@
--- What a pattern gives that leads and lags, by computing: the built-in plan of eight phases with its rings changed over, so
--- that phases 5 to 8 are ring 1's, and with 2 before 1 in ring 2. Phase 2's split ends at 250 of the cycle of 800, phase
--- 6's at 400: local 0 is the latter.
+-- What a pattern gives that leads and lags, by computing: the built-in plan of eight phases with its rings changed
+-- over, so that phases 5 to 8 are ring 1's, and with 2 before 1 in ring 2. Phase 2's split ends at 250 of the cycle of
+-- 800, phase 6's at 400: local 0 is the latter.
 use Rattle.std.specs.Prelude.{◌≡◌, [], ◌∷◌, true, Some, None, map, refl}
 use Rattle.tsb_objects.specs.tsb_types.Lists.{run_from}
 use Rattle.tsb_objects.specs.tsb_plan.declared.object.Object.TheVariants.{CoordForceMode, PhaseRing, SequenceData, PatternLeadLag}

@@ -9,7 +9,8 @@ use Rattle.tsb_coord.specs.Coordinated.{local, force_off, is_behind, asks_force_
 use Rattle.tsb_coord.specs.Laws.{clear_of}
 use Rattle.tsb_coord.proofs.Examples.PermissiveExamples.{permitted}
 
--- ## It is counted from local 0, and not from the instant: phase 2 at local 100, so that it clears 140 ticks behind local 0
+-- ## It is counted from local 0, and not from the instant: phase 2 at local 100, so that it clears 140 ticks behind
+-- local 0
 
 abbrev pub behind_zero : Plan → ℕ → ℕ → Bool
 behind_zero plan n l = nat_le l (permissive_time plan n)
