@@ -6,13 +6,15 @@ use Rattle.tsb_cells.specs.Timer.{has_reached}
 use Rattle.tsb_types.specs.declared.interval.Interval.TheVariants.{Yellow, RedClear}
 use Rattle.tsb_types.specs.declared.interval.PedestrianInterval.TheVariants.{DontWalk}
 use Rattle.tsb_types.specs.declared.row.Row.{Row}
-use Rattle.tsb_objects.specs.tsb_plan.Plan.{is_enabled, yellow_change}
+use Rattle.tsb_objects.specs.tsb_plan.Plan.{Plan, is_enabled, yellow_change}
+use Rattle.tsb_objects.specs.tsb_plan.Parts.{cycle, permissive_time}
 use Rattle.tsb_objects.specs.tsb_plan.Running.{is_coordinated_now}
 use Rattle.tsb_phase.specs.ClearanceLaws.{clearance}
 use Rattle.tsb_phase.specs.Laws.{least_green}
 use Rattle.tsb_phase.specs.Pedestrian.{ended_by, pedestrian_now}
 use Rattle.tsb_ring.specs.Moves.{is_ended, is_cleared, is_started}
-use Rattle.tsb_coord.specs.Coordinated.{is_pattern}
+use Rattle.tsb_coord.specs.Coordinated.{is_pattern, residue_of_difference, end_of}
+use Rattle.tsb_coord.specs.Laws.{IsCountedFrom, IsAtMostBehind}
 use Rattle.tsb_step.specs.declared.inputs.Input.TheVariants.{Tick}
 use Rattle.tsb_step.specs.State.{State, interval}
 use Rattle.tsb_step.specs.Tick.{phases_given, phase_read, forced, moves, over, reverted}
@@ -67,19 +69,30 @@ pub record ClearsInTime (s : State) (rows : ℕ → Row) (p : ℕ) : Type 0 wher
 abbrev pub GreensClearInTime : Type 0
 GreensClearInTime = OfEveryRun (λ s. (rows : ℕ → Row) (p : ℕ) → EndsNow s rows p → ClearsInTime s rows p)
 
--- a coordinated phase of the pattern that runs, forced off in the tick in which its green ends; that is at its instant
+-- a coordinated phase of the pattern that runs, forced off in the tick in which its green ends; that is at its instant,
+-- or in its permissive time
 pub record IsForcedOff (s : State) (n p : ℕ) : Type 0 where
   pub selected : s.pattern ≡ Some n
   pub used : is_pattern s.plan n ≡ true
   pub coordinated : is_coordinated_now s.plan (Some n) p ≡ true
   pub forced : forced s p ≡ true
 
--- it is over in a tick after which the local counter is 0
-pub record IsOverAtZero (s : State) (rows : ℕ → Row) (p : ℕ) : Type 0 where
+-- it is over in a tick after which the local counter is this, or at most the permissive time of pattern n behind it
+pub record IsOverInTime (s : State) (rows : ℕ → Row) (n p from : ℕ) : Type 0 where
   pub over : over (after_ticks s rows (clearance s.plan p)) p ≡ true
-  pub local : local (after_ticks s rows (suc (clearance s.plan p))) ≡ Some 0
+  pub local : IsAtMostBehind s.plan n from (permissive_time s.plan n) (local (after_ticks s rows (suc (clearance s.plan p))))
 
--- A coordinated phase that is forced off at its instant has ended its yellow change and red clearance at local zero.
+-- A coordinated phase that is forced off has ended its yellow change and red clearance at local zero, or within its
+-- permissive time of it: each, and where the pattern leads and lags the one that instants are counted from.
 abbrev pub CoordinatedClearAtZero : Type 0
-CoordinatedClearAtZero = OfEveryRun (λ s. (rows : ℕ → Row) (n p : ℕ) → IsForcedOff s n p → EndsNow s rows p →
-    IsOverAtZero s rows p)
+CoordinatedClearAtZero = OfEveryRun (λ s. (rows : ℕ → Row) (n p : ℕ) → IsForcedOff s n p → IsCountedFrom s.plan n p → EndsNow s rows p →
+    IsOverInTime s rows n p 0)
+
+-- the end of the split of p in pattern n, on the local counter that is 0 at the end of the split of c
+abbrev pub split_end_from : Plan → ℕ → ℕ → ℕ → ℕ
+split_end_from plan n c p = residue_of_difference (cycle plan n) (end_of plan n p) (end_of plan n c)
+
+-- So it is with any coordinated phase, also where the pattern leads and lags, at the end of its own split.
+abbrev pub CoordinatedClearWithTheirSplits : Type 0
+CoordinatedClearWithTheirSplits = OfEveryRun (λ s. (rows : ℕ → Row) (n p c : ℕ) → IsForcedOff s n p → IsCountedFrom s.plan n c →
+    EndsNow s rows p → IsOverInTime s rows n p (split_end_from s.plan n c p))

@@ -1,6 +1,6 @@
 //! What moves have waited for, and what follows a green that ends, each law the contract of a function that does
 //! nothing.
-ghost use Rattle.tsb_step.specs.ClearanceLaws.{ClearedAreOver, CoordinatedClearAtZero, EndedGreensHaveLasted, GreensClearInTime, StartedHaveReverted};
+ghost use Rattle.tsb_step.specs.ClearanceLaws.{ClearedAreOver, CoordinatedClearAtZero, CoordinatedClearWithTheirSplits, EndedGreensHaveLasted, GreensClearInTime, StartedHaveReverted};
 
 /// `ended`: A green that ends has lasted its least green and shows DontWalk. This holds at a crossing too, or where a
 /// preempt ends it; from any state, not only in runs.
@@ -38,14 +38,26 @@ pub fn greens_clear_in_time()
     ensures { GreensClearInTime }
 {}
 
-/// A coordinated phase that is forced off at its instant has cleared at local zero. Where its green ends at its
-/// force-off instant, it is over in a tick after which the local counter is 0.
+/// `zero`: A coordinated phase that is forced off has cleared at local zero, or within its permissive time of it. Where
+/// its green ends at its force-off instant, it is over in a tick after which the local counter is 0; where it ends in
+/// its permissive time, the local counter is then at most that time behind 0. Where the pattern leads and lags, this is
+/// of the phase that instants are counted from.
 ///
 /// Needs: what `greens_clear_in_time` needs: only ticks come between, and the controller does not trip.
 /// Not said: that the green ends at the instant. A force-off waits for the initial time, for pedestrians and for a
 /// conflict.
 /// Mistakes: those of the law `forced_phases_end_with_their_splits` of tsb_coord, such as `instant_from_own`.
-/// Witness: `forced_off`, `paced_ends`, `at_zero` of TimeRuns.
+/// Witness: `forced_off`, `counted`, `paced_ends`, `at_zero` of TimeRuns.
+///
+/// `splits`: A coordinated phase that is forced off has cleared where its split ends, or within its permissive time of
+/// it. So it is with each coordinated phase, and where the pattern leads and lags too.
+///
+/// Needs: what `greens_clear_in_time` needs.
+/// Not said: that the green ends at the instant.
+/// Mistake: instants that are counted from the first coordinated phase in a pattern that leads and lags,
+/// `instant_from_first` of tsb_coord (`clears_elsewhere`).
+/// Witness: `forced_off`, `counted`, `paced_ends`, `at_zero` of TimeRuns.
 pub fn coordinated_phases_clear_at_zero()
-    ensures { CoordinatedClearAtZero }
+    ensures zero { CoordinatedClearAtZero }
+    ensures splits { CoordinatedClearWithTheirSplits }
 {}

@@ -23,6 +23,7 @@ use Rattle.tsb_objects.specs.tsb_plan.Two.{two, two_values}
 use Rattle.tsb_objects.proofs.tsb_plan.TableLemmas.{order-injective}
 use Rattle.tsb_objects.proofs.tsb_plan.PlanLemmas.{same-parts}
 use Rattle.tsb_objects.specs.tsb_rules.Rules.{first_broken}
+use Rattle.tsb_coord.specs.Laws.{IsCountedFrom}
 use Rattle.tsb_ring.specs.Moves.{is_cleared, is_started}
 use Rattle.tsb_ring.specs.Rings.{Ring1}
 use Rattle.tsb_heads.specs.Monitoring.{conflict}
@@ -395,6 +396,11 @@ paced_met n few =
 forced_off : IsForcedOff (paced_at 59) 1 2
 unfolding opened paced brisk two
 forced_off = record { selected = refl; used = refl; coordinated = refl; forced = refl }
+
+-- both laws count from phase 2, the one that is coordinated
+counted : IsCountedFrom paced 1 2
+unfolding paced brisk two
+counted = record { is_phase = record { from_one = omega arith; within = omega arith }; is_one = refl; counted = λ leads. absurd (true≢false (sym leads)) }
 
 paced_ends : EndsNow (paced_at 59) (λ k. all_off) 2
 unfolding opened paced brisk two
