@@ -1,8 +1,8 @@
 -- What a bench keeps: once an input was taken, and once one was taken back.
-use Rattle.std.proofs.Common.{◌≡◌, ℕ, zero, suc, ◌-◌, ◌<◌, ◌≤◌, List, [], ◌∷◌, length, Some, None, sym, ap, ap₂, subst, ◌∙◌, refl, arith}
+use Rattle.std.proofs.Common.{◌≡◌, ℕ, zero, suc, ◌-◌, ◌<◌, ◌≤◌, List, [], ◌∷◌, length, Option, Some, None, sym, ap, ap₂, subst, ◌∙◌, refl, arith}
 use Rattle.std.specs.Prelude.{Result, Ok, Err, OnOk, OnErr}
 use Rattle.std.proofs.lemmas.Bool.Decides.{nat_tests}
-use Rattle.tsb_history.specs.History.{Change, newest, newest_kind, older}
+use Rattle.tsb_history.specs.History.{Change, newest, newest_at, newest_start, newest_kind, older}
 use Rattle.tsb_plan.specs.Objects.{AreInRange}
 use Rattle.tsb_transact.specs.Cells.{desk_in}
 use Rattle.tsb_transact.specs.Desk as desk
@@ -119,6 +119,23 @@ newest-is now a (q ∷ rs) r sound is =
       before = sound.2;
       whole_is = ap (λ (s : State). let made : Whole = record { state = s; records = rs } in made) (back-said now a q sound.0 sound.1);
     })
+
+-- the history tells the newest record with the place at which it begins: the record, and the place
+abbrev told_record : Option (Change × ℕ) → Option Change
+told_record None = None
+told_record (Some told) = Some told.0
+
+abbrev told_place : Option (Change × ℕ) → Option ℕ
+told_place None = None
+told_place (Some told) = Some told.1
+
+pub newest-told : (rs : List Change) (r : Change) (at : ℕ) → newest_at rs ≡ Some (r, at) → newest rs ≡ Some r
+newest-told [] r at is = ap told_record is
+newest-told (q ∷ rs) r at is = ap told_record is
+
+pub start-told : (rs : List Change) (r : Change) (at : ℕ) → newest_at rs ≡ Some (r, at) → newest_start rs ≡ Some at
+start-told [] r at is = ap told_place is
+start-told (q ∷ rs) r at is = ap told_place is
 
 pub kind-newest : (rs : List Change) (r : Change) → newest rs ≡ Some r → newest_kind rs ≡ Some r.kind
 kind-newest [] r is = absurd (cc)

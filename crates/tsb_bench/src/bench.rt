@@ -274,13 +274,13 @@ impl Bench {
         ensures room { self.old.room ≤ self.new.room }
         ensures memory { memory self.new ≡ memory self.old }
     {
-        let Some(change) = self.history.last() else {
+        let Some((change, start)) = self.history.last() else {
             return Err(Nothing);
         };
         let kind = change.kind();
-        self.cabinet.undo(&change);
+        self.cabinet.undo(change);
         self.tick -= ticks_of(kind);
-        let _ = self.history.pop();
+        self.history.pop(start);
         Ok(kind)
     }
 

@@ -1,7 +1,7 @@
 -- Reading by places: how many entries and records are read, which one stands at an index, and that
 -- lists of bytes which agree before a place hold the same records before it.
 use Rattle.std.proofs.Common.{◌≡◌, ℕ, zero, suc, ◌+◌, ◌-◌, ◌*◌, ◌<◌, ◌≤◌, List, ◌∷◌, length, get_or, refl, sym, ap, subst, arith, ◌∙◌, slice_get, Some, None}
-use Rattle.tsb_history.specs.History.{Change, newest, newest_kind, older, size_of}
+use Rattle.tsb_history.specs.History.{Change, newest_at, newest_start, older, size_of}
 use Rattle.tsb_history.specs.Bytes.{entries_at, count_at, start_at, change_at, changes_at, IsRecordAt, IsLaid, two_at, four_at, kind_of}
 
 -- so many entries are read as are asked for, and so many records
@@ -13,14 +13,31 @@ pub length-changes_at : (n : ℕ) (bs : List ℕ) (end : ℕ) → length (change
 length-changes_at zero bs end = refl
 length-changes_at (suc n) bs end = ap suc (length-changes_at n bs (start_at bs end))
 
--- the newest of some records is the one that ends last
-pub newest-some : (n : ℕ) (bs : List ℕ) (end : ℕ) → (n ≡ 0 → ⊥) → newest (changes_at n bs end) ≡ Some (change_at bs end)
-newest-some zero bs end some = absurd (some refl)
-newest-some (suc n) bs end some = refl
+-- records take all bytes before the place at which the last of them ends
+pub size-laid : (n : ℕ) (bs : List ℕ) (end : ℕ) → IsLaid n bs end → size_of (changes_at n bs end) ≡ end
+size-laid zero bs end laid = sym laid
+size-laid (suc n) bs end laid =
+    let fits : 6 * count_at bs end + 3 ≤ end = laid.0.whole in
+    let count : length (entries_at (count_at bs end) bs (start_at bs end)) ≡ count_at bs end = length-entries_at (count_at bs end) bs (start_at bs end) in
+    let rest : size_of (changes_at n bs (start_at bs end)) ≡ start_at bs end = size-laid n bs (start_at bs end) laid.1 in
+    omega arith
 
-pub newest_kind-some : (n : ℕ) (bs : List ℕ) (end : ℕ) → (n ≡ 0 → ⊥) → newest_kind (changes_at n bs end) ≡ Some (change_at bs end).kind
-newest_kind-some zero bs end some = absurd (some refl)
-newest_kind-some (suc n) bs end some = refl
+-- the newest of some records is the one that ends last, and begins behind all others
+pub newest_at-some : (n : ℕ) (bs : List ℕ) (end : ℕ) → (n ≡ 0 → ⊥) → IsLaid n bs end → newest_at (changes_at n bs end) ≡ Some (change_at bs end, start_at bs end)
+newest_at-some zero bs end some laid = absurd (some refl)
+newest_at-some (suc n) bs end some laid = ap (λ (m : ℕ). Some (change_at bs end, m)) (size-laid n bs (start_at bs end) laid.1)
+
+-- so where one begins at a place, there is one, and it is that
+pub start-some : (n : ℕ) (bs : List ℕ) (end start : ℕ) → newest_start (changes_at n bs end) ≡ Some start → n ≡ 0 → ⊥
+start-some zero bs end start begins e = cc
+start-some (suc n) bs end start begins e = omega (arith, e)
+
+pub start-is : (n : ℕ) (bs : List ℕ) (end start : ℕ) → IsLaid n bs end → newest_start (changes_at n bs end) ≡ Some start → start ≡ start_at bs end
+start-is zero bs end start laid begins = absurd (cc)
+start-is (suc n) bs end start laid begins =
+    let rest : size_of (changes_at n bs (start_at bs end)) ≡ start_at bs end = size-laid n bs (start_at bs end) laid.1 in
+    let same : size_of (changes_at n bs (start_at bs end)) ≡ start = cc in
+    sym same ∙ rest
 
 -- the newest record takes the bytes from its start on
 pub size-newest : (n : ℕ) (bs : List ℕ) (end : ℕ) → (n ≡ 0 → ⊥) → IsLaid n bs end → size_of (changes_at n bs end) + start_at bs end ≡ size_of (older (changes_at n bs end)) + end

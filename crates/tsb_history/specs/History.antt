@@ -29,6 +29,16 @@ abbrev pub newest : List Change → Option Change
 newest [] = None
 newest (r ∷ rs) = Some r
 
+-- the newest record with the place of its first byte, which is behind those of all older ones
+abbrev pub newest_at : List Change → Option (Change × ℕ)
+newest_at [] = None
+newest_at (r ∷ rs) = Some (r, size_of rs)
+
+-- that place, if there is a record
+abbrev pub newest_start : List Change → Option ℕ
+newest_start [] = None
+newest_start (r ∷ rs) = Some (size_of rs)
+
 -- its kind
 abbrev pub newest_kind : List Change → Option Kind
 newest_kind [] = None

@@ -49,6 +49,7 @@ pub fn write_record(bytes: &mut Vec<u8>, kind: Kind, entries: &[(u16, u32)])
 }
 
 // The record that ends before a place, and where it begins.
+#[inline(always)]
 pub fn read_record(bytes: &[u8], end: usize) -> (Record<'_>, usize)
     requires within { end ≤ length bytes.now }
     requires whole { IsRecordAt bytes.now end }

@@ -1,6 +1,6 @@
-ghost use Rattle.std.specs.Prelude.{◌≡◌, ◌+◌, ◌<◌, ◌≤◌, ◌↔◌, ◌∷◌, [], All, length, OnOk, OnErr, IfOk, IsTrue};
+ghost use Rattle.std.specs.Prelude.{◌≡◌, ◌+◌, ◌<◌, ◌≤◌, ◌↔◌, ◌∷◌, [], All, Some, length, OnOk, OnErr, IfOk, IsTrue};
 ghost use Rattle.tsb_history.specs.Bytes.{bytes_of};
-ghost use Rattle.tsb_history.specs.History.{newest, newest_kind, older, record_size, size_of, FitsRecord};
+ghost use Rattle.tsb_history.specs.History.{newest_at, newest_start, older, record_size, size_of, FitsRecord};
 
 use crate::bytes::{read_record, write_record};
 use crate::kinds::Kind;
@@ -71,33 +71,28 @@ impl History {
         write_record(&mut self.bytes, kind, entries);
     }
 
-    /// The newest record, or `None` where there is no record.
-    pub fn last(&self) -> Option<Record<'_>>
-        ensures newest { result ≡ newest self.now.records }
+    /// The newest record, with the place of its first byte in `bytes`, or `None` where there is no record.
+    #[inline(always)]
+    pub fn last(&self) -> Option<(Record<'_>, usize)>
+        ensures newest { result ≡ newest_at self.now.records }
         ensures fits { All FitsRecord self.now.records }
     {
         if self.count == 0 {
             return None;
         }
-        let (change, _) = read_record(&self.bytes, self.bytes.len());
-        Some(change)
+        Some(read_record(&self.bytes, self.bytes.len()))
     }
 
-    /// Takes the newest record away and gives its kind, or `None` where there is no record. It takes no memory, and
-    /// gives none back: there is more room, by the bytes of the record.
-    pub fn pop(&mut self) -> Option<Kind>
-        ensures kind { result ≡ newest_kind self.old.records }
+    /// Takes the newest record away, which begins at that place, as `last` says. It takes no memory, and gives none back:
+    /// there is more room, by the bytes of the record.
+    #[inline(always)]
+    pub fn pop(&mut self, start: usize)
+        requires start { newest_start self.old.records ≡ Some start }
         ensures rest { self.new.records ≡ older self.old.records }
         ensures room { size_of self.new.records + self.new.room ≡ size_of self.old.records + self.old.room }
     {
-        if self.count == 0 {
-            return None;
-        }
-        let (change, start) = read_record(&self.bytes, self.bytes.len());
-        let kind = change.kind();
         self.bytes.truncate(start);
         self.count -= 1;
-        Some(kind)
     }
 
     /// How many records there are. Each has at most 65,535 entries, with cells below 65,536 and old

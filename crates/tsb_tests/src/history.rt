@@ -91,12 +91,15 @@ fn spells(history: &History, bytes: &[u8]) -> bool {
 
 /// The kind of the newest record, with its second and third change.
 fn newest(history: &History) -> Option<(Kind, Option<(u16, u32)>, Option<(u16, u32)>)> {
-    let record = history.last()?;
+    let (record, _) = history.last()?;
     Some((record.kind(), record.entry(1), record.entry(2)))
 }
 
 fn popped(history: &mut History) -> Option<Kind> {
-    history.pop()
+    let (record, start) = history.last()?;
+    let kind = record.kind();
+    history.pop(start);
+    Some(kind)
 }
 
 /// Whether the three records are taken back, and nothing is left.

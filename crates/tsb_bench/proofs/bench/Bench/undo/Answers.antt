@@ -4,29 +4,33 @@ use Rattle.tsb_controller.specs.Whole.{All, all_in, all_put_back}
 use Rattle.tsb_step.specs.Past.{ticks_of, taken_back}
 use Rattle.tsb_bench.specs.Cabinet.{rows_of}
 use Rattle.tsb_bench.specs.Held.{Held, state_of, memory, IsHeld, HasSoundPast}
-use Rattle.tsb_bench.proofs.HeldLemmas.{IsNewest, newest-is, sound-held}
+use Rattle.tsb_bench.proofs.HeldLemmas.{IsNewest, newest-is, newest-told, start-told, sound-held}
 use Rattle.tsb_bench.proofs.RoomLemmas.{more-left}
 use Rattle.tsb_bench.proofs.bench.Bench.undo.Goals as goal
 
 -- the rows before the newest input are such as a bench may have
 pub undo-requires-clause-few : goal.undo-requires-clause-few
-undo-requires-clause-few c = (newest-is _ _ _ c.in-Some.change c.self.invariant.1 (sym c.in-Some.ensures.newest)).can.few
+undo-requires-clause-few c = (newest-is _ _ _ c.in-Some.change c.self.invariant.1 (newest-told _ _ _ (sym c.in-Some.ensures.newest))).can.few
 
 pub undo-requires-clause-ranged : goal.undo-requires-clause-ranged
-undo-requires-clause-ranged c = (sound-held _ _ _ (newest-is _ _ _ c.in-Some.change c.self.invariant.1 (sym c.in-Some.ensures.newest)).before).ranged
+undo-requires-clause-ranged c = (sound-held _ _ _ (newest-is _ _ _ c.in-Some.change c.self.invariant.1 (newest-told _ _ _ (sym c.in-Some.ensures.newest))).before).ranged
 
 pub undo-requires-clause-passed : goal.undo-requires-clause-passed
-undo-requires-clause-passed c = (sound-held _ _ _ (newest-is _ _ _ c.in-Some.change c.self.invariant.1 (sym c.in-Some.ensures.newest)).before).good.plan.rules
+undo-requires-clause-passed c = (sound-held _ _ _ (newest-is _ _ _ c.in-Some.change c.self.invariant.1 (newest-told _ _ _ (sym c.in-Some.ensures.newest))).before).good.plan.rules
 
 pub undo-requires-clause-desk : goal.undo-requires-clause-desk
 undo-requires-clause-desk c =
     let held : IsHeld (c.self.inside.tick - ticks_of c.in-Some.change.kind) (all_put_back (rows_of c.self.inside.cabinet) c.in-Some.change.entries) =
-    sound-held _ _ _ (newest-is _ _ _ c.in-Some.change c.self.invariant.1 (sym c.in-Some.ensures.newest)).before in
+    sound-held _ _ _ (newest-is _ _ _ c.in-Some.change c.self.invariant.1 (newest-told _ _ _ (sym c.in-Some.ensures.newest))).before in
     record { by = held.by.desk; sound = held.desk }
+
+-- the record begins where the history says
+pub pop-requires : goal.pop-requires
+pop-requires c = record { start = start-told _ _ _ (sym c.in-Some.ensures.newest) }
 
 -- what the record says, of the state that was
 newest : (c : goal.After-pop) → IsNewest c.self.inside.tick (rows_of c.self.inside.cabinet) c.self.inside.history.records c.in-Some.change
-newest c = newest-is _ _ _ c.in-Some.change c.self.invariant.1 (sym c.in-Some.ensures.newest)
+newest c = newest-is _ _ _ c.in-Some.change c.self.invariant.1 (newest-told _ _ _ (sym c.in-Some.ensures.newest))
 
 ticks-are : (c : goal.After-pop) → c.ticks_of.result ≡ ticks_of c.in-Some.change.kind
 ticks-are c = c.ticks_of.ensures ∙ ap ticks_of c.kind-kind.ensures
