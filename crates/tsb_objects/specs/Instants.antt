@@ -1,8 +1,8 @@
 -- Force-off instants: when within the cycle of a pattern a phase is forced off, so that its split ends with its red
--- clearance (fixed force-off, no transition after a change of pattern); and late force-off and the permissive time, behind
--- the instant. Cycle, splits, split modes, coordinated phases and sequences are the objects of NTCIP 1202 of these names;
--- that the local counter is 0 where the coordinated split of ring 1 ends, late force-off and the permissive time are the
--- profile's own. Times are in ticks, which are tenths of a second.
+-- clearance (fixed force-off, no transition after a change of pattern); and late force-off and the permissive time,
+-- behind the instant. Cycle, splits, split modes, coordinated phases and sequences are the objects of NTCIP 1202 of
+-- these names; that the local counter is 0 where the coordinated split of ring 1 ends, late force-off and the
+-- permissive time are the profile's own. Times are in ticks, which are tenths of a second.
 use Rattle.std.specs.Prelude.{◌≡◌, ℕ, ◌+◌, ◌-◌, ◌%◌, ◌==◌, nat_le, nat_lt, Bool, false, not, ◌&&◌, ◌||◌, if◌then◌else◌, Option, Some, None}
 use Rattle.tsb_types.specs.Lists.{first, or_else}
 use Rattle.tsb_plan.specs.Plan.{Plan, phases, is_enabled, ring_of, yellow_change, red_clear}
@@ -49,8 +49,8 @@ abbrev pub first_coordinated : Plan → ℕ → Option ℕ
 first_coordinated plan n = first (is_coordinated_now plan (Some n)) (phases plan)
 
 -- The coordinated phase that instants are counted from is that of ring 1, or the first where ring 1 has none. By K20 a
--- pattern that is used has one at least. Where it does not lead and lag any other gives the same, as the splits of all its
--- coordinated phases end at one time.
+-- pattern that is used has one at least. Where it does not lead and lag any other gives the same, as the splits of all
+-- its coordinated phases end at one time.
 abbrev pub reference : Plan → ℕ → Option ℕ
 reference plan n = or_else (coordinated_in_ring plan n 1) (first_coordinated plan n)
 
@@ -72,8 +72,8 @@ agree (Some m) (Some n) = m == n
 
 -- ## Late force-off
 
--- the coordinated phase up to whose instant p is forced off late: that of the ring of p, or else the one that instants are
--- counted from
+-- the coordinated phase up to whose instant p is forced off late: that of the ring of p, or else the one that instants
+-- are counted from
 abbrev pub yields_to : Plan → ℕ → ℕ → Option ℕ
 yields_to plan n p = or_else (coordinated_in_ring plan n (ring_of plan p)) (reference plan n)
 
@@ -99,8 +99,8 @@ is_from_to m l i u = (nat_le i l && nat_lt l u) || nat_lt (l + m) u
 abbrev pub counted_on : ℕ → ℕ → ℕ → ℕ
 counted_on m i e = if nat_lt e i then e + m else e
 
--- all are numbers, and the local counter is from the first instant on and has not come to the second, be it in this cycle
--- or in the next. Where both are one, it never is
+-- all are numbers, and the local counter is from the first instant on and has not come to the second, be it in this
+-- cycle or in the next. Where both are one, it never is
 abbrev pub is_late : ℕ → Option ℕ → Option ℕ → Option ℕ → Bool
 is_late m None from to = false
 is_late m (Some l) None to = false
@@ -115,8 +115,8 @@ is_forced_late plan (Some n) local p =
 
 -- ## The permissive time
 
--- for how long behind its instant p is forced off in pattern n: the permissive time of a coordinated phase, and 0 of any
--- other
+-- for how long behind its instant p is forced off in pattern n: the permissive time of a coordinated phase, and 0 of
+-- any other
 abbrev pub yields_for : Plan → ℕ → ℕ → ℕ
 yields_for plan n p = if is_coordinated_now plan (Some n) p then permissive_time plan n else 0
 

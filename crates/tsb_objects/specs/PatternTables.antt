@@ -41,14 +41,14 @@ abbrev pub late_until : ℕ → ℕ → Option ℕ → ℕ
 late_until m i None = 0
 late_until m i (Some e) = counted_on m i e
 
--- the tick of the local counter behind the last one at which a phase with this instant, this late end and this permissive
--- time is forced off in a cycle of m, counted on past the cycle; 0 without an instant, as none is below it
+-- the tick of the local counter behind the last one at which a phase with this instant, this late end and this
+-- permissive time is forced off in a cycle of m, counted on past the cycle; 0 without an instant, as none is below it
 abbrev pub end_behind : ℕ → Option ℕ → Option ℕ → ℕ → ℕ
 end_behind m None late time = 0
 end_behind m (Some i) late time = max (i + time + 1) (late_until m i late)
 
--- the end of a permissive time, as the words of a coordinated phase tell it in a cycle of m: the end is more than a tick
--- behind the instant
+-- the end of a permissive time, as the words of a coordinated phase tell it in a cycle of m: the end is more than a
+-- tick behind the instant
 abbrev pub permissive_end_in : ℕ → ℕ → ℕ → Option ℕ
 permissive_end_in m word end = if nat_lt (word + 1) end then Some (end % m) else None
 

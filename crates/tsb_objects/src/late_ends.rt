@@ -1,5 +1,5 @@
-//! How far behind its instant a phase is forced off, on the local counter: late, and in the permissive time. Times are in
-//! tenths of a second.
+//! How far behind its instant a phase is forced off, on the local counter: late, and in the permissive time. Times are
+//! in tenths of a second.
 #![tactic(auto, unfolding(tsb_plan::specs::PlanOf::plan_of))]
 
 ghost use Rattle.std.specs.Prelude.{◌≡◌, ◌≤◌, ◌<◌, true, Some, IfSome};

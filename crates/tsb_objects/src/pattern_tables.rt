@@ -42,8 +42,8 @@ pub struct PatternTables {
     pub(crate) pedestrian_recall: [u16; 17],
     /// The force-off instants of the phases, 16 for each pattern, or `NEVER`.
     pub(crate) instants: [u16; 256],
-    /// For each of these the tick of the local counter behind the last one at which the phase is forced off, or 0. It is
-    /// counted on past the end of the cycle; at most 5,100.
+    /// For each of these the tick of the local counter behind the last one at which the phase is forced off, or 0. It
+    /// is counted on past the end of the cycle; at most 5,100.
     pub(crate) ends: [u16; 256],
 }
 
@@ -139,8 +139,8 @@ fn instants(plan: &Plan) -> [u16; 256]
     words
 }
 
-/// A late end in that cycle, counted on from an instant: past the end of the cycle where it comes before it; 0 where there
-/// is none.
+/// A late end in that cycle, counted on from an instant: past the end of the cycle where it comes before it; 0 where
+/// there is none.
 fn late_until(cycle: u32, at: u32, late: &Option<u32>) -> u32
     requires small { cycle ≤ 2550 }
     requires below { IfSome late.now (λ i. i < 2550) }
@@ -232,8 +232,8 @@ pub(crate) fn permissive_end_at(
 }
 
 /// The phases that are forced off in a pattern with that cycle at that local counter, from the words of their instants
-/// and ends: from the instant to the end, in this cycle or from the last one on. A phase without an instant ends at 0, so
-/// it is not among them.
+/// and ends: from the instant to the end, in this cycle or from the last one on. A phase without an instant ends at 0,
+/// so it is not among them.
 #[inline(always)]
 pub(crate) fn forced_in(
     instants: &[u16; 256],

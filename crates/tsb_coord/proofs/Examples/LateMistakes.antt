@@ -70,7 +70,8 @@ unfolding apart quad run_from split_sum side_sum split_end force_off
 would_last_longer = refl
 
 -- ## A coordinated phase is forced off late as well. In a plan that breaks no rule a coordinated phase yields to
--- itself, and no tick is late; here rule K20 is broken, as 1 and 2 of one ring are coordinated, with instants 760 and 210
+-- itself, and no tick is late; here rule K20 is broken, as 1 and 2 of one ring are coordinated, with instants 760 and
+-- 210
 
 unfoldable pub two_of_a_ring : Plan
 two_of_a_ring = with_values quad ((CoordForceMode, 1, 1) ∷ (SplitCoordPhase, 1, 1) ∷ [])
