@@ -1,7 +1,7 @@
 -- What the options of coordination make of a green while a pattern runs, by computing: floating force-off, and the
 -- maximum that acts. The plan is the built-in one of eight phases, in pattern 1, whose coordinated phases are 2 and 6.
 -- Phase 3 has a split of 15 seconds, less a yellow change of 3 and a red clearance of 1, and a maximum of 20.
-use Rattle.std.specs.Prelude.{◌≡◌, ℕ, ◌==◌, true, false, [], ◌∷◌, Option, Some, None, refl}
+use Rattle.std.specs.Prelude.{◌≡◌, ◌==◌, true, false, [], ◌∷◌, Some, None, refl}
 use Rattle.tsb_cells.specs.declared.timer.Timer.TheVariants.{Off, On}
 use Rattle.tsb_objects.specs.tsb_types.Lists.{run_from}
 use Rattle.tsb_objects.specs.tsb_plan.declared.object.Object.TheVariants.{CoordForceMode, CoordMaximumMode, PhaseMaximum2, PhaseDynamicMaxLimit, PhaseDynamicMaxStep, SplitTime, UnitMax2}

@@ -1,9 +1,9 @@
 -- Mistakes in floating force-off and in the maximum that acts while a pattern runs, each with an example that tells it
 -- from the definition. PatternExamples has what the definition gives there.
-use Rattle.std.specs.Prelude.{◌≡◌, ℕ, ◌-◌, ◌*◌, ◌==◌, Bool, true, false, not, ◌&&◌, if◌then◌else◌, Option, Some, None, refl}
+use Rattle.std.specs.Prelude.{◌≡◌, ℕ, ◌-◌, ◌*◌, ◌==◌, Bool, true, false, if◌then◌else◌, Option, Some, None, refl}
 use Rattle.tsb_cells.specs.declared.timer.Timer.TheVariants.{Off, On}
 use Rattle.tsb_objects.specs.tsb_plan.declared.object.Object.TheVariants.{CoordMaximumMode, PhaseMaximum1}
-use Rattle.tsb_objects.specs.tsb_plan.Parts.{floats, is_coordinated, split_time}
+use Rattle.tsb_objects.specs.tsb_plan.Parts.{floats, split_time}
 use Rattle.tsb_objects.specs.tsb_plan.Plan.{Plan, red_clear}
 use Rattle.tsb_objects.specs.tsb_plan.Quad.{quad}
 use Rattle.tsb_objects.specs.tsb_plan.Running.{split_green, floating_in, floating_time, maximum_by_mode}
