@@ -455,8 +455,10 @@ def test_a_proposal_for_a_net_with_three_legs(tmp_path: Path) -> None:
 
 def test_a_program_of_type_nema_is_read_back(cars: Path, tmp_path: Path) -> None:
     at = Intersection.of(cars / "net.xml", "C", cars / "mapping.json")
-    for pattern in (0, 1):
+    for pattern, floating in ((0, False), (1, False), (1, True)):
         plan = crossroads.plan(pattern=bool(pattern))
+        if floating:
+            plan["coordForceMode"][1] = 2
         (tmp_path / "nema.xml").write_text(nema_of(plan, at, pattern=pattern))
         draft = read_nema(cars / "net.xml", tmp_path / "nema.xml", "C")
         assert draft.plan.fault() is None
@@ -467,6 +469,10 @@ def test_a_program_of_type_nema_is_read_back(cars: Path, tmp_path: Path) -> None
         read = {name: dict(it) for name, it in draft.plan.items()}
         assert {name: it for name, it in read.items() if name not in lacking} == mine
         assert draft.mapping.phases == at.mapping.phases
+    plan = crossroads.plan(pattern=True)
+    plan.set_sequence(1, 2, [6, 5, 7, 8])
+    with pytest.raises(NemaFault, match="phase 6 is coordinated, and not last"):
+        nema_of(plan, at, pattern=1)
     with pytest.raises(NemaFault, match="no tlLogic of type NEMA for X"):
         read_nema(cars / "net.xml", tmp_path / "nema.xml", "X")
 

@@ -17,6 +17,10 @@ from tsb.sumo.intersection import Intersection
 from tsb.sumo.mapping import Mapping
 
 
+# coordForceMode with floating force-off.
+FLOATING = 2
+
+
 class NemaFault(Error):
     """A program that is none of type NEMA, or that no plan can be made of."""
 
@@ -54,13 +58,15 @@ def _detectors(plan: Plan, at: Intersection) -> dict[str, str]:
 def _offset(plan: Plan, pattern: int) -> float:
     """SUMO's offset: its cycle begins with the coordinated green. (Tick k + 1 of the
     bench is SUMO's time k / 10.)"""
-    ring = plan.sequence(1, 1)
     table = plan["patternSplitNumber"][pattern]
-    coordinated = next(it for it in ring if plan["splitCoordPhase"][table, it])
-    side = [it for it in ring if plan["phaseSide"][it] == 1]
-    if coordinated != side[-1]:
-        raise NemaFault(f"phase {coordinated} is coordinated, and not last of side 1")
-    behind = plan["splitTime"][table, coordinated]
+    ends = []
+    for ring in (plan.sequence(1, 1), plan.sequence(1, 2)):
+        side = [it for it in ring if plan["phaseSide"][it] == 1]
+        ends += side[-1:]
+        for it in ring:
+            if plan["splitCoordPhase"][table, it] and it not in ends:
+                raise NemaFault(f"phase {it} is coordinated, and not last of side 1")
+    behind = plan["splitTime"][table, ends[0]]
     cycle = plan["patternCycleTime"][pattern]
     return (plan["patternOffsetTime"][pattern] - behind) % cycle - 0.1
 
@@ -102,7 +108,7 @@ def _keys(plan: Plan, pattern: int) -> dict[str, str]:
         "minRecall": listed("phaseMinRecall"),
         "maxRecall": listed("phaseMaxRecall"),
         "latchingDetectors": listed("phaseNonLock", 0),
-        "fixForceOff": "true",
+        "fixForceOff": str(plan["coordForceMode"][1] != FLOATING).lower(),
         "controllerType": "TS2",
         "whetherOutputState": "false",
         "show-detectors": "false",
@@ -249,7 +255,8 @@ class _Program:
         offset = round(float(self._logic.getAttributeSecure("offset", 0)) + 0.1 - 1e-9)
         plan["patternOffsetTime"][1] = (offset + behind) % cycle
         if self._keys.get("fixForceOff", "false") != "true":
-            self.notes.append("floating force-offs are none of the bench's: fixed ones")
+            plan["coordForceMode"][1] = FLOATING
+            self.notes.append("floating force-off is late here too, and not in SUMO")
 
     def _mapping(self) -> Mapping:
         phases: dict[int, tuple[int, ...]] = {}
