@@ -1,6 +1,6 @@
 -- What a plan says while a pattern runs, and in free operation: split modes, coordinated phases, the sequence in
--- effect, and by what time or maximum greens end. Names are those of NTCIP 1202; the numbers of split modes, force modes and maximum modes are
--- the profile's own. Times are in tenths of a second.
+-- effect, and by what time or maximum greens end. Names are those of NTCIP 1202; the numbers of split modes, force
+-- modes and maximum modes are the profile's own. Times are in tenths of a second.
 use Rattle.std.specs.Prelude.{ℕ, ◌-◌, ◌*◌, ◌==◌, Bool, true, false, not, ◌&&◌, ◌||◌, if◌then◌else◌, Option, Some, None}
 use Rattle.tsb_types.specs.Lists.{or_number}
 use Rattle.tsb_plan.specs.declared.object.Object.TheVariants.{CoordMaximumMode, PhaseMaximum1, PhaseMaximum2}

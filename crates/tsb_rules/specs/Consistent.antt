@@ -104,8 +104,8 @@ pub record EndTogether (plan : Plan) (apart : Bool) (s t p q : ℕ) : Type 0 whe
   pub concurrent : p ≢ q → is_concurrent plan p q ≡ true
   pub ends : apart ≡ false → split_end plan s t p ≡ split_end plan s t q
 
--- the coordinated phases of a pattern: some, enabled, not omitted, ending together unless they may end apart, one of each
--- ring that has phases on their side
+-- the coordinated phases of a pattern: some, enabled, not omitted, ending together unless they may end apart, one of
+-- each ring that has phases on their side
 pub record AreCoordinated (plan : Plan) (apart : Bool) (s t : ℕ) : Type 0 where
   pub one : ℕ
   pub is_phase : IsPhase plan one
@@ -116,8 +116,8 @@ pub record AreCoordinated (plan : Plan) (apart : Bool) (s t : ℕ) : Type 0 wher
   pub in_each_ring : (p r : ℕ) → IsPhase plan p → is_coordinated plan t p ≡ true → 1 ≤ r → r ≤ 2 → has_phases plan r (side_of plan p) ≡ true →
       coordinated_count plan t r ≡ 1
 
--- K20: each used pattern has coordinated phases that agree, by its sequence and its split table. They may end apart where
--- the pattern leads and lags
+-- K20: each used pattern has coordinated phases that agree, by its sequence and its split table. They may end apart
+-- where the pattern leads and lags
 abbrev pub CoordinatedPhasesAgree : Plan → Type 0
 CoordinatedPhasesAgree plan = (n s t : ℕ) → IsInUse plan n s t → AreCoordinated plan (leads_and_lags plan n) s t
 

@@ -1,7 +1,7 @@
 -- rules K6 and K7: what a sequence has for each ring
 pub mod SequenceRules
--- rules K17 to K20 and K23: offsets, splits, cycles, coordinated phases and permissive times of used patterns, and when a
--- split ends
+-- rules K17 to K20 and K23: offsets, splits, cycles, coordinated phases and permissive times of used patterns, and when
+-- a split ends
 pub mod PatternRules
 -- all other rules, and the first of K1 to K23 that a plan breaks
 pub mod Rules

@@ -147,7 +147,7 @@ abbrev pub coordinated_phases_agree : Plan → Bool
 coordinated_phases_agree plan =
     each_pattern plan (λ n. some_and (λ s. some_and (coordinated_agree plan (leads_and_lags plan n) s) (split_of plan n)) (sequence_of plan n))
 
--- K23: the permissive time of a used pattern is below its cycle. Otherwise its coordinated phases would be forced off in
--- each tick
+-- K23: the permissive time of a used pattern is below its cycle. Otherwise its coordinated phases would be forced off
+-- in each tick
 abbrev pub permissive_times_end : Plan → Bool
 permissive_times_end plan = each_pattern plan (λ n. nat_lt (permissive_time plan n) (cycle plan n))

@@ -1,5 +1,5 @@
--- No vehicles wait where no phase is callable, so that the gap of a green is reduced by its time alone; and a force-off that
--- has come is told once.
+-- No vehicles wait where no phase is callable, so that the gap of a green is reduced by its time alone; and a force-off
+-- that has come is told once.
 use Rattle.std.proofs.Common.{zero, suc, ◌≡◌, ℕ, nat_le, nat_lt, Bool, true, false, ◌&&◌, ◌||◌, if◌then◌else◌, List, [], ◌∷◌, sum_by, refl, sym, ap, arith, ◌∙◌}
 use Rattle.std.proofs.lemmas.Bool.Decides.{nat_tests}
 use Rattle.std.proofs.Math.Bool.{and-false}

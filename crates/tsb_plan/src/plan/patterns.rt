@@ -50,16 +50,16 @@ impl Plan {
     ghost use Rattle.tsb_plan.specs.PlanOf.{plan_of};
     ghost use Rattle.tsb_plan.specs.Plan.{sequence as sequence_places};
 
-    /// Whether force-off is late (`coordForceMode` 1 and 2, profile): a phase that is not coordinated is forced off from
-    /// its instant up to that of a coordinated phase, and otherwise at its instant alone.
+    /// Whether force-off is late (`coordForceMode` 1 and 2, profile): a phase that is not coordinated is forced off
+    /// from its instant up to that of a coordinated phase, and otherwise at its instant alone.
     pub fn forces_late(&self) -> bool
         ensures { result ≡ forces_late (plan_of self.now) }
     {
         self.value(Object::CoordForceMode, 1) != 0
     }
 
-    /// Whether force-off floats (`coordForceMode` 2, profile): a phase that is not coordinated is besides forced off once
-    /// its green has lasted its split less yellow change and red clearance.
+    /// Whether force-off floats (`coordForceMode` 2, profile): a phase that is not coordinated is besides forced off
+    /// once its green has lasted its split less yellow change and red clearance.
     pub fn floats(&self) -> bool
         ensures { result ≡ floats (plan_of self.now) }
     {
@@ -89,8 +89,8 @@ impl Plan {
         10 * self.value(Object::PatternOffsetTime, u32::from(pattern.number()))
     }
 
-    /// For how long behind their instants the coordinated phases of the pattern are forced off (`patternPermissiveTime`,
-    /// profile), in tenths of a second; with 0 at their instants alone.
+    /// For how long behind their instants the coordinated phases of the pattern are forced off
+    /// (`patternPermissiveTime`, profile), in tenths of a second; with 0 at their instants alone.
     pub fn permissive_time(&self, pattern: Pattern) -> u32
         ensures value { result ≡ permissive_time (plan_of self.now) pattern }
         ensures range { result ≤ 2550 }

@@ -125,8 +125,8 @@ impl Plan {
     }
 
     /// The green after which floating force-off forces the phase off while the pattern runs (`coordForceMode` 2,
-    /// profile): its split less yellow change and red clearance. None with another mode, for a coordinated phase, and in
-    /// free operation.
+    /// profile): its split less yellow change and red clearance. None with another mode, for a coordinated phase, and
+    /// in free operation.
     pub fn floating_time(&self, runs: Option<Pattern>, phase: Phase) -> Option<u32>
         ensures { result ≡ floating_time (plan_of self.now) runs phase }
     {

@@ -47,8 +47,8 @@ pub(super) enum OfPhase {
     NamedBack,
     /// K15: where this list names it, it is enabled and concurrent with each other that the list names.
     ConcurrentIn(u16),
-    /// K20: where this split table coordinates it, it agrees with the others by this sequence; their splits may end apart,
-    /// or not.
+    /// K20: where this split table coordinates it, it agrees with the others by this sequence; their splits may end
+    /// apart, or not.
     CoordinatesIn(bool, Sequence, Split),
 }
 

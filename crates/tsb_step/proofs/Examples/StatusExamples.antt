@@ -124,8 +124,8 @@ green_of_59 : (status (passing (record (green 59) { passage = On 5; conflict = O
 unfolding opened
 green_of_59 = refl
 
--- In pattern 1 the maximum that acts is told: none without a maximum mode, with mode 1 that of 200 of a phase that is not
--- coordinated, and none of one that is.
+-- In pattern 1 the maximum that acts is told: none without a maximum mode, with mode 1 that of 200 of a phase that is
+-- not coordinated, and none of one that is.
 abbrev crossed : Plan → State
 crossed plan = record (coordinated 60) { plan = plan; phases = these (3 ∷ 8 ∷ []) (record (green 59) { conflict = On 30 }) all_red }
 

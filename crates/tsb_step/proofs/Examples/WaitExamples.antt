@@ -237,8 +237,8 @@ force_off : waits_for (calling (1 ∷ []) (coordinated 60)) 1 ≡ Some (waits.Gr
 unfolding opened
 force_off = refl
 
--- 3 is not coordinated, and is driven; with floating force-off it lacks nothing once its green has lasted 150 ticks less
--- yellow change and red clearance
+-- 3 is not coordinated, and is driven; with floating force-off it lacks nothing once its green has lasted 150 ticks
+-- less yellow change and red clearance
 abbrev pub driven : ℕ → State
 driven n = record (coordinated 60) {
   plan = with_value quad CoordForceMode 1 2;
