@@ -32,6 +32,8 @@ mod logs;
 #[cfg(test)]
 mod objects;
 #[cfg(test)]
+mod patterns;
+#[cfg(test)]
 mod plan_texts;
 #[cfg(test)]
 mod plans;
