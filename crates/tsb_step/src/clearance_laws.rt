@@ -55,7 +55,7 @@ pub fn greens_clear_in_time()
 /// Needs: what `greens_clear_in_time` needs.
 /// Not said: that the green ends at the instant.
 /// Mistake: instants that are counted from the first coordinated phase in a pattern that leads and lags,
-/// `instant_from_first` of tsb_coord (`clears_elsewhere`).
+/// `counted_from_it` of tsb_coord (`clears_elsewhere`).
 /// Witness: `forced_off`, `counted`, `paced_ends`, `at_zero` of TimeRuns.
 pub fn coordinated_phases_clear_at_zero()
     ensures zero { CoordinatedClearAtZero }
