@@ -68,8 +68,8 @@ is_pressed_in_pattern p s (Pattern n) = false
 is_pressed_in_pattern p s (Commit station) = false
 is_pressed_in_pattern p s i = true
 
--- p is forced off, at its instant, late or in its permissive time, n ticks after the next one at the latest; n is as large
--- as its initial time, whatever it has counted, and as its walk and its pedestrian clearance together
+-- p is forced off, at its instant, late or in its permissive time, n ticks after the next one at the latest; n is as
+-- large as its initial time, whatever it has counted, and as its walk and its pedestrian clearance together
 pub record IsForcedWithin (s : State) (p n : ℕ) : Type 0 where
   pub tick : ℕ
   pub later : s.now < tick
@@ -120,8 +120,8 @@ pub record ClearsWithin (plan : Plan) (j : ℕ) : Type 0 where
   pub revert : (p : ℕ) → red_revert plan p ≤ j
 
 -- The longest that p is Green in pattern k once it has a conflict: until it is forced off at its instant and may end. A
--- late or floating force-off and a maximum end it sooner. A permissive time ends greens that have a conflict only behind
--- the instant; what has one at the instant is forced off there.
+-- late or floating force-off and a maximum end it sooner. A permissive time ends greens that have a conflict only
+-- behind the instant; what has one at the instant is forced off there.
 unfoldable pub longest_in_pattern : Plan → ℕ → ℕ → ℕ
 longest_in_pattern plan k p = max (cycle plan k) (max (longest_initial plan p) (walk plan p + pedestrian_clear plan p))
 

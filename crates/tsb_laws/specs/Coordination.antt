@@ -35,9 +35,9 @@ was_forced_off plan p [] = false
 was_forced_off plan p (Tick row ∷ is) = is_green (interval (replay plan is) p) && (is_forced_off (replay plan is) row p || was_forced_off plan p is)
 was_forced_off plan p (i ∷ is) = was_forced_off plan p is
 
--- While a pattern runs and no preempt is in service, a tick ends the green of a coordinated phase only by its force-off:
--- the force-off instant is this tick, or this tick is in the permissive time behind it, or the phase was forced off in an
--- earlier one of this green. Where the pattern has no permissive time, no tick is in one.
+-- While a pattern runs and no preempt is in service, a tick ends the green of a coordinated phase only by its
+-- force-off: the force-off instant is this tick, or this tick is in the permissive time behind it, or the phase was
+-- forced off in an earlier one of this green. Where the pattern has no permissive time, no tick is in one.
 abbrev pub CoordinatedEndByForceOff : Type 0
 CoordinatedEndByForceOff = (plan : Plan) (is : List Input) (row : Row) (p : ℕ) → IsConsistent plan → plan.phase_count ≤ 16 →
     AreTaken plan is → (replay plan is).trip ≡ None → EndsGreen plan is row p → hold (replay plan is) p ≡ true →

@@ -86,8 +86,8 @@ pub record IsByGap (plan : Plan) (p : ℕ) (is : List Input) (row : Row) : Type 
 
 -- ## By its maximum, or by force-off
 
--- the maximum that acts on p: in free operation its maximum in use. While a pattern runs it is by `coordMaximumMode`, none
--- with 0 and of a coordinated phase
+-- the maximum that acts on p: in free operation its maximum in use. While a pattern runs it is by `coordMaximumMode`,
+-- none with 0 and of a coordinated phase
 abbrev pub maximum_acting : State → ℕ → Option ℕ
 maximum_acting s p = acting_maximum s.plan (runs s) p (s.phases p).running_maximum
 
@@ -115,8 +115,8 @@ keeps_force_off p s (Tick row) = is_some (runs s) && (is_none (service s row) &&
 keeps_force_off p s (Pattern n) = false
 keeps_force_off p s i = true
 
--- p is forced off in this tick, and was Green before it: by the cycle, at its instant, late or in its permissive time, or
--- by floating force-off
+-- p is forced off in this tick, and was Green before it: by the cycle, at its instant, late or in its permissive time,
+-- or by floating force-off
 pub record IsForcedOff (plan : Plan) (p : ℕ) (is : List Input) (row : Row) : Type 0 where
   pub was_green : is_green (interval (replay plan is) p) ≡ true
   pub forced : (forced (replay plan is) p ≡ true) ⊎ HasFloated plan p is

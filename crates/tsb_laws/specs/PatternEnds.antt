@@ -1,7 +1,7 @@
--- By what a green may end in a pattern besides its instant: by floating force-off once it has lasted its split, by a maximum
--- once its conflict has lasted that, and a coordinated one within its permissive time; each where the plan says so. The laws
--- here are the contracts of functions in src/operation.rt, and proved there. Times are in tenths of a second, which are
--- ticks.
+-- By what a green may end in a pattern besides its instant: by floating force-off once it has lasted its split, by a
+-- maximum once its conflict has lasted that, and a coordinated one within its permissive time; each where the plan says
+-- so. The laws here are the contracts of functions in src/operation.rt, and proved there. Times are in tenths of a
+-- second, which are ticks.
 --
 -- That a green is ready is said, and not that it ends: what is ready makes way or waits at the barrier
 -- (`ReadyGreensMakeWay` in CoordinatedGreens).
@@ -28,8 +28,8 @@ use Rattle.tsb_laws.specs.ServedCalls.{longest_initial}
 use Rattle.tsb_laws.specs.GreenEnds.{HasFloated}
 use Rattle.tsb_laws.specs.CoordinatedGreens.{HasGoneOn, is_pressed_in_pattern}
 
--- in the tick p was Green, has a conflict and no preempt in service; its initial time has passed, and its pedestrian part is
--- DontWalk: nothing but what ends its green is lacking
+-- in the tick p was Green, has a conflict and no preempt in service; its initial time has passed, and its pedestrian
+-- part is DontWalk: nothing but what ends its green is lacking
 pub record LacksOnlyItsEnd (s : State) (row : Row) (p : ℕ) : Type 0 where
   pub green : interval s p ≡ Green
   pub conflict : conflict s row p ≡ true
@@ -37,8 +37,8 @@ pub record LacksOnlyItsEnd (s : State) (row : Row) (p : ℕ) : Type 0 where
   pub initial : initial_has_passed s.plan (phases_given s row) p (held_of (phase_read s p)) ≡ true
   pub dont_walk : pedestrian_now s.plan (phases_given s row) p (phase_read s p) ≡ DontWalk
 
--- p has been Green with a conflict in each tick of a pattern since `base`, for its initial time, whatever it has counted,
--- and for its walk and its pedestrian clearance together
+-- p has been Green with a conflict in each tick of a pattern since `base`, for its initial time, whatever it has
+-- counted, and for its walk and its pedestrian clearance together
 pub record HasWaitedInPattern (plan : Plan) (base later : List Input) (row : Row) (p n : ℕ) : Type 0 where
   pub pressed : HasGoneOn (is_pressed_in_pattern p) plan base (Tick row ∷ later)
   pub initial : longest_initial (replay plan base).plan p ≤ n
@@ -53,8 +53,8 @@ FloatingGreensAreReady = (plan : Plan) (is : List Input) (row : Row) (p : ℕ) �
     AreTaken plan is → (replay plan is).trip ≡ None → LacksOnlyItsEnd (replay plan is) row p → HasFloated plan p is →
     ready (replay plan is) row p ≡ true
 
--- And so it is as soon as it has waited for so long, be it from its begin or later. So no such green waits longer than its
--- split, its initial time and its pedestrian times ask for.
+-- And so it is as soon as it has waited for so long, be it from its begin or later. So no such green waits longer than
+-- its split, its initial time and its pedestrian times ask for.
 abbrev pub FloatingGreensMayEnd : Type 0
 FloatingGreensMayEnd = (plan : Plan) (base later : List Input) (row : Row) (p n : ℕ) → IsConsistent plan → plan.phase_count ≤ 16 →
     AreTaken plan (later ++ base) → IsUntripped plan base later → HasWaitedInPattern plan base later row p n →
@@ -83,8 +83,8 @@ MaximumGreensMayEnd = (plan : Plan) (base later : List Input) (row : Row) (p n m
 
 -- ## The permissive time
 
--- p is coordinated in the pattern that runs, and in the next tick the local counter is at most the permissive time behind
--- the instant of p, in this cycle or from the last one on
+-- p is coordinated in the pattern that runs, and in the next tick the local counter is at most the permissive time
+-- behind the instant of p, in this cycle or from the last one on
 pub record IsInPermissiveTime (s : State) (p : ℕ) : Type 0 where
   pub number : ℕ
   pub runs : runs s ≡ Some number

@@ -62,8 +62,8 @@ use Rattle.tsb_laws.specs.CoordinatedGreens.{HasGoneOn, IsAwaited, ComesInCycle,
 abbrev pub ClearsGreens : State → Type 0
 ClearsGreens s = (rows : ℕ → Row) (p : ℕ) → EndsNow s rows p → ClearsInTime s rows p
 
--- a coordinated phase that is forced off in the first of them is over at local zero, or within its permissive time of it:
--- each, and where the pattern leads and lags the one that instants are counted from
+-- a coordinated phase that is forced off in the first of them is over at local zero, or within its permissive time of
+-- it: each, and where the pattern leads and lags the one that instants are counted from
 abbrev pub ClearsAtZero : State → Type 0
 ClearsAtZero s = (rows : ℕ → Row) (n p : ℕ) → IsForcedOff s n p → IsCountedFrom s.plan n p → EndsNow s rows p → IsOverInTime s rows n p 0
 

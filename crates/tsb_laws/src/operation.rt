@@ -49,9 +49,10 @@ pub fn calls_are_kept()
 
 /// A green ends for a reason. With no preempt in service it has lasted its initial time, added initial included. In
 /// free operation it ends by its gap, and then has no maximum recall, or after its maximum of conflict. While a pattern
-/// runs it ends by its gap, after the maximum of `coordMaximumMode` if there is one, or by its force-off, a coordinated phase
-/// by that alone. Under a preempt only a phase ends that this does not want. The gap means that no output was on in so many
-/// ticks, the maximum that each of so many had a conflict, and floating force-off that the green has lasted so many.
+/// runs it ends by its gap, after the maximum of `coordMaximumMode` if there is one, or by its force-off, a coordinated
+/// phase by that alone. Under a preempt only a phase ends that this does not want. The gap means that no output was on
+/// in so many ticks, the maximum that each of so many had a conflict, and floating force-off that the green has lasted
+/// so many.
 ///
 /// Needs: an untripped run; at most 16 phases.
 /// Not said: that a green with a reason ends, as its ring may want no other phase.
@@ -264,9 +265,9 @@ pub fn called_phases_are_served()
 /// Witness: `a_pattern` of CoordinatedRuns.
 ///
 /// `forced`: A green that is forced off may end, whatever calls it. Where it has a conflict in each tick, and has been
-/// forced off, at its instant, late or in its permissive time, it is ready as soon as its initial time, its walk and its
-/// pedestrian clearance have passed. That is so of coordinated phases and all others, also where a green began behind its
-/// instant.
+/// forced off, at its instant, late or in its permissive time, it is ready as soon as its initial time, its walk and
+/// its pedestrian clearance have passed. That is so of coordinated phases and all others, also where a green began
+/// behind its instant.
 ///
 /// Needs: a pattern that runs, and no preempt in service; no pattern selected and nothing committed meanwhile; an untripped
 /// run; at most 16 phases.
@@ -319,27 +320,27 @@ pub fn phases_are_served_in_patterns()
 
 /// Options that are 0 change nothing. Each definition that reads one is then the definition without it. Where
 /// `coordForceMode` and all permissive times are 0, a phase is forced off where the local counter is at its force-off
-/// instant, and in no other tick; and no green is forced off for its length. Where `coordMaximumMode` is 0, maximums end
-/// greens in free operation alone. Where no pattern leads and lags, K20 asks that coordinated splits end at one time, and
-/// instants are as counted from the first coordinated phase. K23 then asks for nothing. So it is in every tick, for each
-/// phase, and whatever pattern is selected.
+/// instant, and in no other tick; and no green is forced off for its length. Where `coordMaximumMode` is 0, maximums
+/// end greens in free operation alone. Where no pattern leads and lags, K20 asks that coordinated splits end at one
+/// time, and instants are as counted from the first coordinated phase. K23 then asks for nothing. So it is in every
+/// tick, for each phase, and whatever pattern is selected.
 ///
 /// Needs: for what instants are counted from, a plan that breaks no rule and a pattern that is used.
 /// Mistakes: force-off that is late whatever the mode is, `late_always` (`is_not_asked`, `would_ask`); that floats,
 /// `floating_always` (`is_not_forced`, `would_be_forced`); a permissive time where there is none, `permits_always`
 /// (`is_not_permitted`, `would_permit`); a maximum that acts in patterns, `maximum_always` (`is_not_out`,
-/// `would_be_out`); a K20 that lets splits end apart (`ends_at_another_time`, `would_agree`); instants from the begin of
-/// the cycle, `from_the_begin` (`is_counted`, `would_be_later`); a K23 that asks for a time, `asks_for_time`
+/// `would_be_out`); a K20 that lets splits end apart (`ends_at_another_time`, `would_agree`); instants from the begin
+/// of the cycle, `from_the_begin` (`is_counted`, `would_be_later`); a K23 that asks for a time, `asks_for_time`
 /// (`ends_in_time`, `would_refuse`).
 /// Witness: `two_has_none`, `quad_has_none` of OptionMistakes, the built-in plans.
 pub fn options_off_change_nothing()
     ensures { OptionsOffChangeNothing }
 {}
 
-/// `ready`: A green that is late may end. With `coordForceMode` 1 or 2, a phase that is not coordinated is ready in each
-/// tick from its force-off instant up to that of the coordinated phase that it yields to, also past the end of the cycle.
-/// That is so wherever it is Green with a conflict, its initial time has passed and its pedestrian part is DontWalk; so it
-/// needs no gap and no next cycle.
+/// `ready`: A green that is late may end. With `coordForceMode` 1 or 2, a phase that is not coordinated is ready in
+/// each tick from its force-off instant up to that of the coordinated phase that it yields to, also past the end of the
+/// cycle. That is so wherever it is Green with a conflict, its initial time has passed and its pedestrian part is
+/// DontWalk; so it needs no gap and no next cycle.
 ///
 /// Needs: no preempt in service; at most 16 phases.
 /// Not said: that it ends then, as it may wait for the other ring at the barrier (`coordination_goes_on`).
@@ -361,10 +362,10 @@ pub fn late_greens_are_ready()
     ensures in_time { LateGreensMayEnd }
 {}
 
-/// `ready`: A green that has lasted its split may end, with floating force-off. With `coordForceMode` 2, a phase that is not
-/// coordinated is ready in each tick in which its green has lasted its split less yellow change and red clearance. That is
-/// so wherever it is Green with a conflict, its initial time has passed and its pedestrian part is DontWalk; so it needs
-/// neither a gap nor its instant.
+/// `ready`: A green that has lasted its split may end, with floating force-off. With `coordForceMode` 2, a phase that
+/// is not coordinated is ready in each tick in which its green has lasted its split less yellow change and red
+/// clearance. That is so wherever it is Green with a conflict, its initial time has passed and its pedestrian part is
+/// DontWalk; so it needs neither a gap nor its instant.
 ///
 /// Needs: no preempt in service; an untripped run; at most 16 phases.
 /// Not said: that it ends then, as it may wait for the other ring at the barrier (`coordination_goes_on`).
@@ -373,8 +374,8 @@ pub fn late_greens_are_ready()
 /// Witness: `a_floating_green` of PatternEndRuns.
 ///
 /// `in_time`: A green waits no longer than its split, its initial time and its pedestrian times ask for, with floating
-/// force-off. It is ready as soon as it has lasted its split less yellow change and red clearance, and has had a conflict in
-/// each tick for its initial time, and for its walk and pedestrian clearance, whatever calls it.
+/// force-off. It is ready as soon as it has lasted its split less yellow change and red clearance, and has had a
+/// conflict in each tick for its initial time, and for its walk and pedestrian clearance, whatever calls it.
 ///
 /// Needs: a pattern that runs, and no preempt in service; no pattern selected and nothing committed meanwhile; an untripped
 /// run; at most 16 phases.
@@ -386,9 +387,9 @@ pub fn floating_greens_are_ready()
     ensures in_time { FloatingGreensMayEnd }
 {}
 
-/// `ready`: A maximum ends greens in a pattern, where the plan says so. With `coordMaximumMode` 1 or 2, a phase that is not
-/// coordinated is ready in each tick in which a conflict has stood for its `phaseMaximum1` or `phaseMaximum2`. That is so
-/// wherever it is Green, its initial time has passed and its pedestrian part is DontWalk.
+/// `ready`: A maximum ends greens in a pattern, where the plan says so. With `coordMaximumMode` 1 or 2, a phase that is
+/// not coordinated is ready in each tick in which a conflict has stood for its `phaseMaximum1` or `phaseMaximum2`. That
+/// is so wherever it is Green, its initial time has passed and its pedestrian part is DontWalk.
 ///
 /// Needs: no preempt in service; at most 16 phases.
 /// Not said: that it ends then, as it may wait for the other ring at the barrier (`coordination_goes_on`). Of a dynamic
@@ -397,9 +398,9 @@ pub fn floating_greens_are_ready()
 /// `would_be_held`).
 /// Witness: `a_maximum_green` of PatternEndRuns.
 ///
-/// `in_time`: A green with a conflict waits no longer in a pattern than its maximum, its initial time and its pedestrian times
-/// ask for, where a maximum acts there. It is ready as soon as it has had a conflict in each tick for that maximum, for its
-/// initial time, and for its walk and pedestrian clearance, whatever calls it.
+/// `in_time`: A green with a conflict waits no longer in a pattern than its maximum, its initial time and its
+/// pedestrian times ask for, where a maximum acts there. It is ready as soon as it has had a conflict in each tick for
+/// that maximum, for its initial time, and for its walk and pedestrian clearance, whatever calls it.
 ///
 /// Needs: a pattern that runs, and no preempt in service; no pattern selected and nothing committed meanwhile; an untripped
 /// run; at most 16 phases.
@@ -411,9 +412,10 @@ pub fn maximums_end_greens_in_patterns()
     ensures in_time { MaximumGreensMayEnd }
 {}
 
-/// `ready`: A call within the permissive time is served as one before the instant. A coordinated phase is ready in each tick
-/// in which the local counter is at most `patternPermissiveTime` behind its force-off instant, also past the end of the
-/// cycle. That is so wherever it is Green with a conflict, its initial time has passed and its pedestrian part is DontWalk.
+/// `ready`: A call within the permissive time is served as one before the instant. A coordinated phase is ready in each
+/// tick in which the local counter is at most `patternPermissiveTime` behind its force-off instant, also past the end
+/// of the cycle. That is so wherever it is Green with a conflict, its initial time has passed and its pedestrian part
+/// is DontWalk.
 ///
 /// Needs: a permissive time that is not 0; no preempt in service; at most 16 phases.
 /// Not said: that it ends then, as it may wait for the other ring at the barrier (`coordination_goes_on`).
@@ -421,8 +423,8 @@ pub fn maximums_end_greens_in_patterns()
 /// `would_miss_the_call`, `would_wait_a_cycle`).
 /// Witness: `a_permitted_green` of PatternEndRuns.
 ///
-/// `in_time`: A coordinated green with a conflict in its permissive time may end in time. It is ready as soon as it has had a
-/// conflict in each tick from then on for its initial time, and for its walk and pedestrian clearance.
+/// `in_time`: A coordinated green with a conflict in its permissive time may end in time. It is ready as soon as it has
+/// had a conflict in each tick from then on for its initial time, and for its walk and pedestrian clearance.
 ///
 /// Needs: a pattern that runs, and no preempt in service; no pattern selected and nothing committed meanwhile; an untripped
 /// run; at most 16 phases.

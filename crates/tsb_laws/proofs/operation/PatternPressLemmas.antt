@@ -1,6 +1,6 @@
--- A green that has had a conflict in each tick of a pattern for long enough has its initial time, its walk and its pedestrian
--- clearance behind it, and its conflict has lasted as long: along a run, over inputs of every kind but those that select a
--- pattern or commit.
+-- A green that has had a conflict in each tick of a pattern for long enough has its initial time, its walk and its
+-- pedestrian clearance behind it, and its conflict has lasted as long: along a run, over inputs of every kind but those
+-- that select a pattern or commit.
 use Rattle.std.proofs.Common.{◌≡◌, ℕ, ◌+◌, ◌-◌, ◌≤◌, nat_le, true, false, max, List, [], ◌∷◌, ◌++◌, None, is_some, refl, sym, ap, subst, arith, ◌∙◌, inl, inr}
 use Rattle.std.proofs.lemmas.Bool.{cases_Bool, true≢false}
 use Rattle.std.proofs.lemmas.Bool.Decides.{nat_tests}

@@ -190,7 +190,8 @@ latched plan (i ∷ is) p h = latched plan is p h
 few_now : (plan : Plan) (is : List Input) → plan.phase_count ≤ 16 → (replay plan is).plan.phase_count ≤ 16
 few_now plan is few = let same = count_run plan is in omega (arith, same, few)
 
--- a coordinated phase is forced off at its instant and in its permissive time, and neither late nor by floating force-off
+-- a coordinated phase is forced off at its instant and in its permissive time, and neither late nor by floating
+-- force-off
 never_late : (m : ℕ) (at from : Option ℕ) → is_late m at from None ≡ false
 never_late m None from = refl
 never_late m (Some l) None = refl

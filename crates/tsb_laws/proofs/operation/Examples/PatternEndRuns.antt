@@ -1,5 +1,5 @@
--- Runs from power-up that meet all premises of the laws of greens that end in a pattern by floating force-off, by a maximum
--- and in their permissive time, and mistakes that these laws refuse.
+-- Runs from power-up that meet all premises of the laws of greens that end in a pattern by floating force-off, by a
+-- maximum and in their permissive time, and mistakes that these laws refuse.
 use Rattle.std.proofs.Common.{◌≡◌, ℕ, ◌+◌, ◌<◌, ◌≤◌, Bool, true, false, ◌&&◌, List, [], ◌∷◌, ◌++◌, Some, None, is_none, refl, arith, inl, inr, ◌⊎◌}
 use Rattle.tsb_step.specs.tsb_cells.Timer.{has_reached}
 use Rattle.tsb_step.specs.tsb_types.Sets.{all_off}
