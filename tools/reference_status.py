@@ -10,8 +10,8 @@ import json
 from typing import Any, NamedTuple
 
 from make_sessions import Reference
-from reference_events import (DETECTORS, FREE, OVERLAPS, STAGE_LISTS, State, acting_maximum, cycle_of,
-                              failed_detectors, force_off_instant, has_maximum_recall, is_coordinated, of_split,
+from reference_events import (DETECTORS, FLOATING, FREE, OVERLAPS, STAGE_LISTS, State, acting_maximum, clearance,
+                              cycle_of, failed_detectors, force_off_instant, has_maximum_recall, is_coordinated, of_split,
                               overlap_heads, pedestrian_calls, runs_pattern, shown_intervals, shown_parts, showing,
                               vehicle_calls)
 
@@ -130,12 +130,19 @@ def maximum_left(bench: Any, state: State, phase: int) -> int | None:
     return None if most is None or stood is None else left(most, stood)
 
 
+def has_floated(state: State, phase: int) -> bool:
+    """Whether by the force mode a green has lasted its split without its clearance, by its timer as the last tick left
+    it."""
+    time = max(0, 10 * of_split(state, "splitTime", phase) - clearance(state, phase))
+    return state.plan["coordForceMode"][1] == FLOATING and state.itime[phase] >= time
+
+
 def may_end(bench: Any, state: State, phase: int) -> bool:
     """Whether a green may end by its gap, its maximum or its force-off."""
-    runs, waited = runs_pattern(state), state.conf[phase] is not None
-    forced = runs and not state.service and waited and state.forced[phase]
+    can_force = runs_pattern(state) and not state.service and state.conf[phase] is not None
     if is_coordinated(state, phase) and not state.service:
-        return forced
+        return can_force and state.forced[phase]
+    forced = can_force and (state.forced[phase] or has_floated(state, phase))
     maxed = maximum_left(bench, state, phase) == 0
     return has_gapped(bench, state, phase) and not has_maximum_recall(state, phase) or maxed or forced
 
