@@ -19,7 +19,7 @@ from pathlib import Path
 TOP = Path(__file__).resolve().parent.parent
 sys.path.insert(0, str(TOP / "python"))
 
-import peers_late  # noqa: E402
+import peers_options  # noqa: E402
 import peers_tables  # noqa: E402
 from tsb.plan import Plan  # noqa: E402
 from tsb.sumo import Intersection, Loop, crossroads  # noqa: E402
@@ -49,13 +49,13 @@ def _unequal() -> Plan:
     return crossroads.plan(phaseYellowChange=YELLOW, phaseRedClear=RED)
 
 
-def _pattern(mode: int = 0) -> Plan:
-    return crossroads.plan(pattern=True, coordForceMode={1: mode})
+def _pattern(setting: str = "none") -> Plan:
+    return crossroads.plan(pattern=True, **peers_options.SETTINGS[setting])
 
 
-def _buttons(mode: int = 0) -> Plan:
+def _buttons(setting: str = "none") -> Plan:
     """With walks on phases 4 and 8 that their splits do not hold."""
-    made = _pattern(mode)
+    made = _pattern(setting)
     made["phaseWalk"] = {4: 7, 8: 7}
     made["phasePedestrianClear"] = {4: 36, 8: 36}
     made["pedestrianDetectorCallPhase"] = {4: 4, 8: 8}
@@ -74,14 +74,23 @@ KINDS = {
     "tsb lag": Kind(crossroads.lagging, ("medium",)),
     "tsb lag latched": Kind(lambda: crossroads.lagging(latched=True), ("medium",)),
     "tsb density": Kind(crossroads.density, ("heavy",)),
-    "tsb late": Kind(lambda: _pattern(1), pattern=1),
+    "tsb late": Kind(lambda: _pattern("late"), pattern=1),
+    "tsb permissive": Kind(lambda: _pattern("permissive"), pattern=1),
     "tsb buttons": Kind(_buttons, ("heavy",), pattern=1, presses=True),
-    "tsb late buttons": Kind(lambda: _buttons(1), ("heavy",), pattern=1, presses=True),
+    "tsb late buttons": Kind(
+        lambda: _buttons("late"), ("heavy",), pattern=1, presses=True
+    ),
+    "tsb maximum buttons": Kind(
+        lambda: _buttons("maximum"), ("heavy",), pattern=1, presses=True
+    ),
     "tsb walks": Kind(
         lambda: crossroads.with_pedestrians(crossroads.plan()), ("medium",), walks=True
     ),
 }
-TABLES = {**peers_tables.TABLES, "With late force-off": peers_late.figures}
+TABLES = {
+    **peers_tables.TABLES,
+    "With the options of coordination": peers_options.figures,
+}
 
 
 def run(folder: Path, kind: str, level: str, seed: int, seconds: int) -> None:
