@@ -47,13 +47,14 @@ observed row s = record {
   service_ended = s.asked.ended;
 }
 
--- what coordination and preemption ask of the phases: hold, force-off and omit; the phases that must end, and the
--- target
+-- what coordination and preemption ask of the phases: hold, force-off, recycle and omit; the phases that must end, and
+-- the target
 abbrev pub orders : Sensed → Orders
 orders s = record {
   hold = s.coordination.hold;
   must_end = s.asked.must_end;
   forced = s.coordination.forced;
+  recycle = s.coordination.recycle;
   omit = s.coordination.omit;
   target = s.asked.target;
 }
@@ -81,6 +82,7 @@ pub record AreDecided (s : Sensed) (called : Called) (m : Movement) (d : Decided
   pub starts_are : (p : ℕ) → has d.starts p ≡ is_started m.moves p
   pub ends_are : (p : ℕ) → has d.ends p ≡ is_ended m.moves p
   pub gapped_are : d.gapped ≡ m.timing.gapped
+  pub walks_are : d.walks ≡ m.timing.walks
   pub pedestrian_are : d.pedestrian ≡ called.pedestrian
   pub service_is : d.service ≡ s.service
 
@@ -116,6 +118,7 @@ pub record IsMoved (now : ℕ) (s : Sensed) (called : Called) (plan : Plan) (old
   pub over : phases.TellsOver now plan old.phases m.timing
   pub reverted : phases.TellsRedRevertPassed now plan old.phases m.timing
   pub gapped : phases.TellsGapped now conditions plan old.phases m.timing
+  pub walks : phases.TellsWalks now conditions old.phases m.timing
   pub decided : rings.IsDecided plan (for_rings s called m.timing) old.rings m.moves
   pub ones : AreOnes m.moves
   pub carried : IsCarriedOut m.moves now m.timing conditions plan timed new.phases

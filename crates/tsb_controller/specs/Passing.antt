@@ -67,6 +67,7 @@ pub record ArePhasesStill (now : ℕ) (row : Row) (plan : Plan) (rows : Rows) (d
   pub over : phases.KeepsOver now plan rows.phases due
   pub reverted : phases.KeepsRedRevertPassed now plan rows.phases due
   pub gapped : phases.KeepsGapped now conditions plan rows.phases due
+  pub walks : phases.KeepsWalks now conditions rows.phases due
 
 -- ## Of the other layers
 

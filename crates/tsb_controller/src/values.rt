@@ -66,6 +66,7 @@ impl Sensed {
             hold: self.coordination.hold,
             must_end: self.asked.must_end,
             forced: self.coordination.forced,
+            recycle: self.coordination.recycle,
             omit: self.coordination.omit,
             target: self.asked.target,
         }
@@ -107,6 +108,7 @@ impl Sensed {
             starts: either(movement.moves.first.starts, movement.moves.second.starts),
             ends: either(movement.moves.first.ends, movement.moves.second.ends),
             gapped: movement.timing.gapped,
+            walks: movement.timing.walks,
             pedestrian: called.pedestrian,
             service: self.service,
         }

@@ -1,5 +1,5 @@
--- What coordination asks of the rings in a tick: the pattern that runs, its local counter, and by it hold, force-off
--- and omit. Cycle, offset, splits, split modes, coordinated phases and sequences are the objects of NTCIP 1202 of these
+-- What coordination asks of the rings in a tick: the pattern that runs, its local counter, and by it hold, force-off,
+-- pedestrian recycle and omit. Cycle, offset, splits, split modes, coordinated phases and sequences are the objects of NTCIP 1202 of these
 -- names. That the local counter is 0 where the coordinated split of ring 1 ends, that a phase is forced off in time for
 -- its split to end with its red clearance (fixed force-off, no transition after a change of pattern), late force-off,
 -- the permissive time, and the orders, are the profile's own.
@@ -12,7 +12,7 @@ use Rattle.tsb_objects.specs.tsb_types.declared.refusal.Refusal.TheVariants.{NoS
 use Rattle.tsb_objects.specs.tsb_plan.Plan.{Plan, sequence}
 use Rattle.tsb_objects.specs.tsb_plan.Parts.{is_used, cycle, offset, unless_zero}
 use Rattle.tsb_objects.specs.tsb_plan.Running.{running, sequence_in_effect, is_coordinated_now, is_omitted_now}
-pub use Rattle.tsb_objects.specs.Instants.{residue_of_difference, end_in, end_of, instant_from, is_same_from_both, coordinated_in_ring, first_coordinated, reference, instant_by, agree, yields_to, instant_of, late_end, is_from_to, counted_on, is_late, is_forced_late, yields_for, is_behind, is_permitted, permissive_end_from, permissive_end, forces_off}
+pub use Rattle.tsb_objects.specs.Instants.{residue_of_difference, end_in, end_of, instant_from, is_same_from_both, coordinated_in_ring, first_coordinated, reference, instant_by, agree, yields_to, instant_of, late_end, is_from_to, counted_on, is_late, is_forced_late, yields_for, is_behind, is_permitted, permissive_end_from, permissive_end, forces_off, walk_and_clearance, may_recycle, is_left, recycles, recycle_end_from, recycle_end}
 -- re-exported as well: the instant with which the local counter is compared
 unfoldable pub use Rattle.tsb_objects.specs.Instants.{force_off}
 
@@ -52,6 +52,14 @@ ends_permissive_time plan t selected p = agree (local plan t selected) (permissi
 -- force-off: it is at the instant, or p is forced off late in this tick, or it is in the permissive time
 abbrev pub asks_force_off : Plan → ℕ → Option ℕ → ℕ → Bool
 asks_force_off plan t selected p = forces_off plan (running plan selected) (local plan t selected) p
+
+-- recycle: p may walk again within its green in this tick
+abbrev pub asks_recycle : Plan → ℕ → Option ℕ → ℕ → Bool
+asks_recycle plan t selected p = recycles plan (running plan selected) (local plan t selected) p
+
+-- in this tick the walk and the pedestrian clearance of p have just ceased to fit up to its instant
+abbrev pub ends_recycle : Plan → ℕ → Option ℕ → ℕ → Bool
+ends_recycle plan t selected p = agree (local plan t selected) (recycle_end plan (running plan selected) p)
 
 -- hold: p is a coordinated phase of the pattern that runs
 abbrev pub asks_hold : Plan → Option ℕ → ℕ → Bool

@@ -5,7 +5,7 @@ use Rattle.tsb_objects.specs.tsb_plan.Plan.{Plan}
 use Rattle.tsb_objects.specs.tsb_plan.Running.{running}
 use Rattle.tsb_coord.specs.declared.coordination.Coordination.{Coordination}
 use Rattle.tsb_coord.specs.Cells.{pattern_in}
-use Rattle.tsb_coord.specs.Coordinated.{agree, asks_force_off, ends_permissive_time}
+use Rattle.tsb_coord.specs.Coordinated.{agree, asks_force_off, ends_permissive_time, ends_recycle}
 use Rattle.tsb_coord.specs.Promises.{AreOrders}
 
 -- clause `quiet`: the orders of `now` are those of each tick in between
@@ -21,12 +21,18 @@ ForcesOff plan selected t = (p : ℕ) × (asks_force_off plan t selected p ≡ t
 abbrev pub EndsPermission : Plan → Option ℕ → ℕ → Type 0
 EndsPermission plan selected t = (p : ℕ) × (ends_permissive_time plan t selected p ≡ true)
 
--- clause `exact`: while a pattern runs, a phase is forced off in that tick, or a permissive time has just ended there,
--- or it is the next tick and a phase is forced off now; in free operation it is after the last tick that there is
+-- in tick t a coordinated phase with pedestrian recycle has just ceased to have time for a walk up to its instant
+abbrev pub EndsRecycle : Plan → Option ℕ → ℕ → Type 0
+EndsRecycle plan selected t = (p : ℕ) × (ends_recycle plan t selected p ≡ true)
+
+-- clause `exact`: while a pattern runs, a phase is forced off in that tick, or a permissive time or the time for a walk
+-- has just ended there, or it is the next tick and a phase is forced off now; in free operation it is after the last
+-- tick that there is
 pub record IsExact (now : ℕ) (plan : Plan) (row : List ℕ) (result : ℕ) : Type 0 where
   pub runs : (n : ℕ) → running plan (pattern_in row) ≡ Some n →
       ForcesOff plan (pattern_in row) result
-      ⊎ (EndsPermission plan (pattern_in row) result ⊎ ((result ≡ now + 1) × ForcesOff plan (pattern_in row) now))
+      ⊎ (EndsPermission plan (pattern_in row) result
+      ⊎ (EndsRecycle plan (pattern_in row) result ⊎ ((result ≡ now + 1) × ForcesOff plan (pattern_in row) now)))
   pub free : running plan (pattern_in row) ≡ None → result ≡ 6000001
 
 -- the local counter is at the instant so many ticks later, or it is there now and it is one tick
@@ -34,6 +40,6 @@ abbrev pub IsMet : ℕ → ℕ → Option ℕ → ℕ → Type 0
 IsMet cycle local instant ticks =
     (agree (Some ((local + ticks) % cycle)) instant ≡ true) ⊎ ((ticks ≡ 1) × (agree (Some local) instant ≡ true))
 
--- so many ticks later the local counter is at the end of a permissive time
+-- so many ticks later the local counter is at the end of a permissive time, or of the time for a walk
 abbrev pub IsEnded : ℕ → ℕ → Option ℕ → ℕ → Type 0
 IsEnded cycle local end ticks = agree (Some ((local + ticks) % cycle)) end ≡ true

@@ -7,19 +7,20 @@ use Rattle.tsb_objects.specs.tsb_types.Sets.{has}
 use Rattle.tsb_objects.specs.tsb_plan.Plan.{Plan}
 use Rattle.tsb_objects.specs.tsb_plan.Running.{running}
 use Rattle.tsb_coord.specs.declared.coordination.Coordination.{Coordination}
-use Rattle.tsb_coord.specs.Coordinated.{at_power_up, local, asks_force_off, asks_hold, asks_omit, sequence_now, refusal, selects}
+use Rattle.tsb_coord.specs.Coordinated.{at_power_up, local, asks_force_off, asks_recycle, asks_hold, asks_omit, sequence_now, refusal, selects}
 use Rattle.tsb_coord.specs.Cells.{pattern_in}
 
 -- `new`, `reset(now)`: no pattern is selected
 abbrev pub IsAtPowerUp : List ℕ → Type 0
 IsAtPowerUp new = pattern_in new ≡ at_power_up
 
--- `orders(now, plan)`: the pattern that runs and its sequence, and of every phase the three orders
+-- `orders(now, plan)`: the pattern that runs and its sequence, and of every phase the four orders
 pub record AreOrders (now : ℕ) (plan : Plan) (row : List ℕ) (result : Coordination) : Type 0 where
   pub runs : result.runs ≡ running plan (pattern_in row)
   pub sequence : result.sequence ≡ sequence_now plan (pattern_in row)
   pub hold : (p : ℕ) → 1 ≤ p → p ≤ 16 → has result.hold p ≡ asks_hold plan (pattern_in row) p
   pub forced : (p : ℕ) → 1 ≤ p → p ≤ 16 → has result.forced p ≡ asks_force_off plan now (pattern_in row) p
+  pub recycle : (p : ℕ) → 1 ≤ p → p ≤ 16 → has result.recycle p ≡ asks_recycle plan now (pattern_in row) p
   pub omit : (p : ℕ) → 1 ≤ p → p ≤ 16 → has result.omit p ≡ asks_omit plan (pattern_in row) p
 
 -- `set_pattern(n, plan)`, clause `refused`: it answers the refusal, if there is one

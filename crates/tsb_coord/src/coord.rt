@@ -39,6 +39,7 @@ fn free() -> Coordination
     ensures sequence { result.sequence ≡ 1 }
     ensures hold { (p : ℕ) → has result.hold p ≡ false }
     ensures forced { (p : ℕ) → has result.forced p ≡ false }
+    ensures recycle { (p : ℕ) → has result.recycle p ≡ false }
     ensures omit { (p : ℕ) → has result.omit p ≡ false }
 {
     Coordination {
@@ -46,6 +47,7 @@ fn free() -> Coordination
         sequence: Sequence::of(FREE_SEQUENCE),
         hold: PhaseSet::empty(),
         forced: PhaseSet::empty(),
+        recycle: PhaseSet::empty(),
         omit: PhaseSet::empty(),
     }
 }
@@ -150,19 +152,25 @@ impl Coord {
     {
         match self.running(plan) {
             None => free(),
-            Some(n) => Coordination {
-                runs: Some(n),
-                sequence: plan.sequence_in_effect(Some(n)),
-                hold: plan.coordinated(Some(n)),
-                forced: plan.forced_at(n, counter(plan, n, now)),
-                omit: plan.omitted(Some(n)),
-            },
+            Some(n) => {
+                let local = counter(plan, n, now);
+                let forced = plan.forced_at(n, local);
+                Coordination {
+                    runs: Some(n),
+                    sequence: plan.sequence_in_effect(Some(n)),
+                    hold: plan.coordinated(Some(n)),
+                    forced,
+                    recycle: plan.recycled_at(n, local, forced),
+                    omit: plan.omitted(Some(n)),
+                }
+            }
         }
     }
 
     /// The first tick after `now` at which `orders` may differ: the next force-off instant of the pattern that runs, or
-    /// the first tick behind a permissive time, or the next tick, where `now` is at an instant. Late force-off begins
-    /// and ends at instants too. In free operation it is after the last tick that there is.
+    /// the first tick behind a permissive time, or the first at which a recycled walk no longer fits, or the next tick,
+    /// where `now` is at an instant. Late force-off begins and ends at instants too. In free operation it is after the
+    /// last tick that there is.
     pub fn due(&self, now: u32, plan: &Checked) -> u32
         requires by { IsBy (cells_of self.now) }
         requires in_time { now ≤ TICKS }

@@ -13,6 +13,8 @@ pub struct Coordination {
     pub hold: PhaseSet,
     /// Phases that are forced off in this tick, at their instant, late, or in their permissive time.
     pub forced: PhaseSet,
+    /// Coordinated phases that may walk again within their green in this tick.
+    pub recycle: PhaseSet,
     /// Phases that no call and no dual entry brings into service, as their split mode omits them. A preempt does,
     /// where its target has them.
     pub omit: PhaseSet,

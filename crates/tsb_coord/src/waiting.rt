@@ -1,9 +1,9 @@
-//! How long the local counter takes to the next tick at which coordination may force off other phases: a force-off
-//! instant, or the end of a permissive time.
+//! How long the local counter takes to the next tick at which coordination may ask something else: a force-off instant,
+//! or the end of a permissive time, or of the time for a walk within a green.
 ghost use Rattle.std.specs.Prelude.{◌≡◌, ◌≤◌, ◌<◌, ◌+◌, ◌%◌, ◌⊎◌, ℕ, true, false, Some, IfSome};
 ghost use Rattle.tsb_objects.specs.tsb_plan.Parts.{cycle, is_used};
 ghost use Rattle.tsb_objects.specs.Checked.{checked_plan};
-ghost use Rattle.tsb_coord.specs.Coordinated.{force_off, agree, permissive_end};
+ghost use Rattle.tsb_coord.specs.Coordinated.{force_off, agree, permissive_end, recycle_end};
 ghost use Rattle.tsb_coord.specs.Due.{IsMet, IsEnded};
 
 use crate::counting::cycle_of;
@@ -34,8 +34,8 @@ fn ticks_to(cycle: u32, local: u32, instant: &Option<u32>) -> u32
     }
 }
 
-/// How many ticks the local counter takes to reach the end of a permissive time again, one at least; a cycle where
-/// there is none, or it is there now.
+/// How many ticks the local counter takes to reach the end of a permissive time, or of the time for a walk, again, one
+/// at least; a cycle where there is none, or it is there now.
 #[inline(always)]
 fn ticks_to_end(cycle: u32, local: u32, end: &Option<u32>) -> u32
     requires local { local < cycle }
@@ -78,28 +78,38 @@ fn ticks_to_instant(plan: &Checked, n: Pattern, local: u32) -> u32
     ticks
 }
 
-/// How many ticks the local counter takes to reach the next end of a permissive time, one at least; a cycle where there
-/// is none.
-fn ticks_to_permissive_end(plan: &Checked, n: Pattern, local: u32) -> u32
+/// How many ticks the local counter takes to reach the next end of a permissive time, or of the time for a walk of a
+/// phase with pedestrian recycle, one at least; a cycle where there is none.
+fn ticks_to_ends(plan: &Checked, n: Pattern, local: u32) -> u32
     requires used { is_used (checked_plan plan.now) n ≡ true }
     requires local { local < cycle (checked_plan plan.now) n }
     ensures from_one { 1 ≤ result }
     ensures within { result ≤ 2550 }
-    ensures quiet { (p k : ℕ) → 1 ≤ p → p ≤ 16 → 1 ≤ k → k < result →
+    ensures permitted { (p k : ℕ) → 1 ≤ p → p ≤ 16 → 1 ≤ k → k < result →
         agree (Some ((local + k) % cycle (checked_plan plan.now) n)) (permissive_end (checked_plan plan.now) (Some n) p) ≡ false }
+    ensures recycled { (p k : ℕ) → 1 ≤ p → p ≤ 16 → 1 ≤ k → k < result →
+        agree (Some ((local + k) % cycle (checked_plan plan.now) n)) (recycle_end (checked_plan plan.now) (Some n) p) ≡ false }
     ensures met { (result ≡ cycle (checked_plan plan.now) n)
-        ⊎ ((p : ℕ) × IsEnded (cycle (checked_plan plan.now) n) local (permissive_end (checked_plan plan.now) (Some n) p) result) }
+        ⊎ (((p : ℕ) × IsEnded (cycle (checked_plan plan.now) n) local (permissive_end (checked_plan plan.now) (Some n) p) result)
+        ⊎ ((p : ℕ) × IsEnded (cycle (checked_plan plan.now) n) local (recycle_end (checked_plan plan.now) (Some n) p) result)) }
 {
     let cycle = cycle_of(plan, n);
+    let coordinated = plan.coordinated(Some(n));
     let mut ticks = cycle;
     for number in 1..17u8 {
-        let end = plan.permissive_end(n, Phase::of(number));
-        ticks = ticks.min(ticks_to_end(cycle, local, &end));
+        let p = Phase::of(number);
+        if coordinated.contains(p) {
+            let permissive = plan.permissive_end(n, p);
+            let recycle = plan.recycle_end(n, p);
+            ticks = ticks
+                .min(ticks_to_end(cycle, local, &permissive))
+                .min(ticks_to_end(cycle, local, &recycle));
+        }
     }
     ticks
 }
 
-/// How many ticks it takes to the next instant or end of a permissive time, one at least.
+/// How many ticks it takes to the next instant, or end of a permissive time or of the time for a walk, one at least.
 pub(crate) fn ticks_to_next(plan: &Checked, n: Pattern, local: u32) -> u32
     requires used { is_used (checked_plan plan.now) n ≡ true }
     requires local { local < cycle (checked_plan plan.now) n }
@@ -109,9 +119,12 @@ pub(crate) fn ticks_to_next(plan: &Checked, n: Pattern, local: u32) -> u32
         agree (Some ((local + k) % cycle (checked_plan plan.now) n)) (force_off (checked_plan plan.now) (Some n) p) ≡ false }
     ensures permitted { (p k : ℕ) → 1 ≤ p → p ≤ 16 → 1 ≤ k → k < result →
         agree (Some ((local + k) % cycle (checked_plan plan.now) n)) (permissive_end (checked_plan plan.now) (Some n) p) ≡ false }
+    ensures recycled { (p k : ℕ) → 1 ≤ p → p ≤ 16 → 1 ≤ k → k < result →
+        agree (Some ((local + k) % cycle (checked_plan plan.now) n)) (recycle_end (checked_plan plan.now) (Some n) p) ≡ false }
     ensures met { (result ≡ cycle (checked_plan plan.now) n)
         ⊎ (((p : ℕ) × IsMet (cycle (checked_plan plan.now) n) local (force_off (checked_plan plan.now) (Some n) p) result)
-        ⊎ ((p : ℕ) × IsEnded (cycle (checked_plan plan.now) n) local (permissive_end (checked_plan plan.now) (Some n) p) result)) }
+        ⊎ (((p : ℕ) × IsEnded (cycle (checked_plan plan.now) n) local (permissive_end (checked_plan plan.now) (Some n) p) result)
+        ⊎ ((p : ℕ) × IsEnded (cycle (checked_plan plan.now) n) local (recycle_end (checked_plan plan.now) (Some n) p) result))) }
 {
-    ticks_to_instant(plan, n, local).min(ticks_to_permissive_end(plan, n, local))
+    ticks_to_instant(plan, n, local).min(ticks_to_ends(plan, n, local))
 }

@@ -1,11 +1,12 @@
 -- Force-off instants: when within the cycle of a pattern a phase is forced off, so that its split ends with its red
--- clearance (fixed force-off, no transition after a change of pattern); and late force-off and the permissive time,
--- behind the instant. Cycle, splits, split modes, coordinated phases and sequences are the objects of NTCIP 1202 of
--- these names; that the local counter is 0 where the coordinated split of ring 1 ends, late force-off and the
--- permissive time are the profile's own. Times are in ticks, which are tenths of a second.
+-- clearance (fixed force-off, no transition after a change of pattern); late force-off and the permissive time, behind
+-- the instant; and pedestrian recycle, before it. Cycle, splits, split modes, coordinated phases and sequences are the
+-- objects of NTCIP 1202 of these names; that the local counter is 0 where the coordinated split of ring 1 ends, late
+-- force-off, the permissive time and pedestrian recycle are the profile's own. Times are in ticks, which are tenths of
+-- a second.
 use Rattle.std.specs.Prelude.{◌≡◌, ℕ, ◌+◌, ◌-◌, ◌%◌, ◌==◌, nat_le, nat_lt, Bool, false, not, ◌&&◌, ◌||◌, if◌then◌else◌, Option, Some, None}
 use Rattle.tsb_types.specs.Lists.{first, or_else}
-use Rattle.tsb_plan.specs.Plan.{Plan, phases, is_enabled, ring_of, yellow_change, red_clear}
+use Rattle.tsb_plan.specs.Plan.{Plan, phases, is_enabled, ring_of, walk, pedestrian_clear, recycles_walk, yellow_change, red_clear}
 use Rattle.tsb_plan.specs.Parts.{cycle, permissive_time, split_of, forces_late}
 use Rattle.tsb_plan.specs.Running.{sequence_in_effect, is_coordinated_now}
 use Rattle.tsb_rules.specs.PatternRules.{split_end}
@@ -148,3 +149,41 @@ permissive_end plan (Some n) p = permissive_end_from (cycle plan n) (yields_for 
 abbrev pub forces_off : Plan → Option ℕ → Option ℕ → ℕ → Bool
 forces_off plan runs local p =
     agree local (force_off plan runs p) || (is_forced_late plan runs local p || is_permitted plan runs local p)
+
+-- ## Pedestrian recycle
+
+-- how long a walk of p with its pedestrian clearance lasts, in tenths of a second
+abbrev pub walk_and_clearance : Plan → ℕ → ℕ
+walk_and_clearance plan p = walk plan p + pedestrian_clear plan p
+
+-- p has pedestrian recycle, and is a coordinated phase of the pattern that runs
+abbrev pub may_recycle : Plan → Option ℕ → ℕ → Bool
+may_recycle plan runs p = recycles_walk plan p && is_coordinated_now plan runs p
+
+-- in a cycle of m ticks, both are numbers, and from the local counter to the instant there is that time
+abbrev pub is_left : ℕ → ℕ → Option ℕ → Option ℕ → Bool
+is_left m time None instant = false
+is_left m time (Some l) None = false
+is_left m time (Some l) (Some i) = nat_le time (residue_of_difference m i l)
+
+-- p may walk again within its green where the local counter is this: it is a coordinated phase with pedestrian recycle
+-- that is not forced off there, and what is left to its instant holds its walk and pedestrian clearance
+abbrev pub recycles : Plan → Option ℕ → Option ℕ → ℕ → Bool
+recycles plan None local p = false
+recycles plan (Some n) local p =
+    may_recycle plan (Some n) p &&
+    (not (forces_off plan (Some n) local p) &&
+    is_left (cycle plan n) (walk_and_clearance plan p) local (force_off plan (Some n) p))
+
+-- the first tick of the local counter, in a cycle of m, from which that time is no longer left to an instant
+abbrev pub recycle_end_from : ℕ → ℕ → Option ℕ → Option ℕ
+recycle_end_from m time None = None
+recycle_end_from m time (Some i) = Some ((residue_of_difference m i time + 1) % m)
+
+-- of p on the local counter of pattern n, where it is a coordinated phase with pedestrian recycle; no other has one
+abbrev pub recycle_end : Plan → Option ℕ → ℕ → Option ℕ
+recycle_end plan None p = None
+recycle_end plan (Some n) p =
+    if may_recycle plan (Some n) p
+    then recycle_end_from (cycle plan n) (walk_and_clearance plan p) (force_off plan (Some n) p)
+    else None

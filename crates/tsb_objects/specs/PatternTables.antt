@@ -4,9 +4,9 @@ use Rattle.tsb_plan.specs.Parts.{cycle, is_used, unless_zero}
 use Rattle.tsb_plan.specs.Plan.{Plan}
 use Rattle.tsb_plan.specs.Running.{is_coordinated_now, is_omitted_now, is_on_minimum_recall, is_on_maximum_recall, is_on_pedestrian_recall}
 use Rattle.tsb_objects.specs.declared.pattern_tables.Asked.{Asked}
-use Rattle.tsb_objects.specs.declared.pattern_tables.Asked.TheVariants.{Coordinated, Omitted, MinimumRecall, MaximumRecall, PedestrianRecall}
+use Rattle.tsb_objects.specs.declared.pattern_tables.Asked.TheVariants.{Coordinated, Omitted, MinimumRecall, MaximumRecall, PedestrianRecall, PedestrianRecycle}
 use Rattle.tsb_objects.specs.declared.pattern_tables.PatternTables.{PatternTables}
-use Rattle.tsb_objects.specs.Instants.{force_off, late_end, counted_on, yields_for}
+use Rattle.tsb_objects.specs.Instants.{force_off, late_end, counted_on, yields_for, may_recycle}
 use Rattle.tsb_types.specs.Sets.{names}
 
 -- what is asked of phase p while a pattern runs, or in free operation
@@ -16,6 +16,7 @@ is_so Omitted plan runs p = is_omitted_now plan runs p
 is_so MinimumRecall plan runs p = is_on_minimum_recall plan runs p
 is_so MaximumRecall plan runs p = is_on_maximum_recall plan runs p
 is_so PedestrianRecall plan runs p = is_on_pedestrian_recall plan runs p
+is_so PedestrianRecycle plan runs p = may_recycle plan runs p
 
 -- word 0 is of free operation, word n of pattern n; each is the list of the phases of which it is so
 abbrev pub AreInEffect : Plan → Asked → List ℕ → Type 0
@@ -58,12 +59,13 @@ AreEnds plan words =
     (n p : ℕ) → 1 ≤ n → n ≤ 16 → 1 ≤ p → p ≤ 16 → is_used plan n ≡ true →
     slice_index words (16 * (n - 1) + (p - 1)) ≡ end_behind (cycle plan n) (force_off plan (Some n) p) (late_end plan (Some n) p) (yields_for plan n p)
 
--- five tables of lists and two of ticks, so that no tick has to search the plan for them
+-- six tables of lists and two of ticks, so that no tick has to search the plan for them
 pub record ArePatternTables (plan : Plan) (tables : PatternTables) : Type 0 where
   pub coordinated : AreInEffect plan Coordinated tables.coordinated
   pub omitted : AreInEffect plan Omitted tables.omitted
   pub minimum_recall : AreInEffect plan MinimumRecall tables.minimum_recall
   pub maximum_recall : AreInEffect plan MaximumRecall tables.maximum_recall
   pub pedestrian_recall : AreInEffect plan PedestrianRecall tables.pedestrian_recall
+  pub pedestrian_recycle : AreInEffect plan PedestrianRecycle tables.pedestrian_recycle
   pub instants : AreInstants plan tables.instants
   pub ends : AreEnds plan tables.ends

@@ -10,6 +10,7 @@ mod detector_tables;
 mod instants;
 mod late_ends;
 mod pattern_tables;
+mod recycle;
 mod tables;
 mod union_tables;
 mod unions;

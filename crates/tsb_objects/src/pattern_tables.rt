@@ -24,6 +24,7 @@ enum Asked {
     MinimumRecall,
     MaximumRecall,
     PedestrianRecall,
+    PedestrianRecycle,
 }
 
 /// What a plan says of all its phases while a pattern runs. In an array of 17 words, word 0 is for free operation and
@@ -40,6 +41,8 @@ pub struct PatternTables {
     pub(crate) maximum_recall: [u16; 17],
     /// The phases with pedestrian recall in effect.
     pub(crate) pedestrian_recall: [u16; 17],
+    /// The coordinated phases with pedestrian recycle (`phasePedestrianRecycle`).
+    pub(crate) pedestrian_recycle: [u16; 17],
     /// The force-off instants of the phases, 16 for each pattern, or `NEVER`.
     pub(crate) instants: [u16; 256],
     /// For each of these the tick of the local counter behind the last one at which the phase is forced off, or 0. It
@@ -59,6 +62,7 @@ impl PatternTables {
             minimum_recall: in_effect(plan, Asked::MinimumRecall),
             maximum_recall: in_effect(plan, Asked::MaximumRecall),
             pedestrian_recall: in_effect(plan, Asked::PedestrianRecall),
+            pedestrian_recycle: in_effect(plan, Asked::PedestrianRecycle),
             instants: words,
             ends: ends(plan, &words),
         }
@@ -84,6 +88,9 @@ fn is_so(plan: &Plan, k: usize, asked: Asked, phase: Phase) -> bool
         Asked::MinimumRecall => plan.is_on_minimum_recall(runs_at(k), phase),
         Asked::MaximumRecall => plan.is_on_maximum_recall(runs_at(k), phase),
         Asked::PedestrianRecall => plan.is_on_pedestrian_recall(runs_at(k), phase),
+        Asked::PedestrianRecycle => {
+            plan.recycles_walk(phase) && plan.is_coordinated_now(runs_at(k), phase)
+        }
     }
 }
 
@@ -199,7 +206,7 @@ pub(crate) fn instant_at(words: &[u16; 256], n: Pattern, p: Phase) -> Option<u32
 
 /// The set with the phase if `on`, for a set that does not have it yet: it only adds.
 #[inline(always)]
-fn joined(set: PhaseSet, p: Phase, on: bool) -> PhaseSet
+pub(crate) fn joined(set: PhaseSet, p: Phase, on: bool) -> PhaseSet
     requires { has set p ≡ false }
     ensures set { has result p ≡ on }
     ensures others { (q : ℕ) → q ≢ p → has result q ≡ has set q }

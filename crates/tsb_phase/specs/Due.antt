@@ -7,6 +7,7 @@ use Rattle.tsb_objects.specs.tsb_plan.Parts.{preempt_minimum_green}
 use Rattle.tsb_phase.specs.declared.phase_row.PhaseRow.{PhaseRow}
 use Rattle.tsb_phase.specs.Phase.{Given, none_moved, held_of}
 use Rattle.tsb_phase.specs.Green.{initial, gap, passage_timer, conflict_timer, reduction_timer, gapped_latch, forced_latch}
+use Rattle.tsb_phase.specs.Pedestrian.{walks_again}
 use Rattle.tsb_phase.specs.Ready.{is_ready, is_over, is_gapped_now, red_revert_passed}
 use Rattle.tsb_phase.specs.Next.{next_from_read}
 use Rattle.tsb_phase.specs.Cells.{phase_of, row_in}
@@ -18,6 +19,7 @@ pub record IsStill (plan : Plan) (given : Given) (p : ℕ) (r : PhaseRow) (now t
   pub over : is_over plan p (phase_of t r) ≡ is_over plan p (phase_of now r)
   pub gapped : is_gapped_now plan given p (phase_of t r) ≡ is_gapped_now plan given p (phase_of now r)
   pub reverted : red_revert_passed plan p (phase_of t r) ≡ red_revert_passed plan p (phase_of now r)
+  pub walks : walks_again given p (phase_of t r) ≡ walks_again given p (phase_of now r)
 
 -- the least time of a green: its initial time, under a preempt that ends it at most the preempt's minimum green
 abbrev pub least_of : Plan → Given → ℕ → Option ℕ → ℕ

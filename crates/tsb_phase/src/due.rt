@@ -14,7 +14,9 @@ ghost use Rattle.tsb_phase.specs.Due.{least_of, has_expired, IsKept, IsStill, St
 use crate::conditions::Conditions;
 use crate::dynamic::acting_maximum;
 use crate::green::{count, floating_time, has_reached, run_green};
-use crate::pedestrian::{clearance_time, ended_by, is_resting_in_walk, pedestrian_of, walk_time};
+use crate::pedestrian::{
+    clearance_time, ended_by, is_resting_in_walk, may_walk_again, pedestrian_of, walk_time,
+};
 use crate::phase_row::PhaseRow;
 use crate::phases::Phases;
 use crate::rows::RED_REVERTS;
@@ -88,7 +90,13 @@ fn due_pedestrian(plan: &Plan, conditions: &Conditions, p: Phase, was: &PhaseRow
         pedestrian_now (plan_of plan.now) (given_of conditions.now) p (phase_of t was.now) ≡ pedestrian_of_row was.now }
 {
     match pedestrian_of(was) {
-        PedestrianInterval::DontWalk => u32::MAX,
+        PedestrianInterval::DontWalk => {
+            if may_walk_again(conditions, p, was) {
+                0
+            } else {
+                u32::MAX
+            }
+        }
         PedestrianInterval::Walk => due_walk(plan, conditions, p, was),
         PedestrianInterval::PedestrianClear => due_clearance(plan, conditions, p, was),
     }

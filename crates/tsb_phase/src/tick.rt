@@ -49,6 +49,7 @@ impl Phases {
             self.store(p, &was, &visit.row);
             timing.ready = timing.ready.joined(p, visit.ready);
             timing.gapped = timing.gapped.joined(p, visit.gapped);
+            timing.walks = timing.walks.joined(p, visit.walks);
             return;
         }
         if was.yellow {
@@ -104,6 +105,7 @@ impl Phases {
             over: PhaseSet::empty(),
             red_revert_passed: self.reverted(now, plan),
             gapped: PhaseSet::empty(),
+            walks: PhaseSet::empty(),
         };
         let mut rest = self.in_service();
         while let Some(p) = rest.pop() {

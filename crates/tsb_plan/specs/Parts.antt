@@ -79,7 +79,7 @@ floats plan = plan.value CoordForceMode 1 == 2
 abbrev pub cycle : Plan → ℕ → ℕ
 cycle plan n = 10 * plan.value PatternCycleTime n
 
--- the pattern has a cycle: only then may it run, and rules K17 to K20 ask something of it
+-- the pattern has a cycle: only then may it run, and rules K17 to K20 and K23 ask something of it
 abbrev pub is_used : Plan → ℕ → Bool
 is_used plan n = not (plan.value PatternCycleTime n == 0)
 

@@ -3,7 +3,7 @@
 -- the profile's own.
 use Rattle.std.specs.Prelude.{ℕ, ◌+◌, ◌-◌, ◌*◌, ◌==◌, Bool, ◌&&◌, if◌then◌else◌, List, [], ◌∷◌, ◌++◌, map, max}
 use Rattle.tsb_plan.specs.declared.object.Object.{Object}
-use Rattle.tsb_plan.specs.declared.object.Object.TheVariants.{PhaseEnabled, PhaseNonLock, PhaseMinRecall, PhaseMaxRecall, PhasePedRecall, PhaseSoftRecall, PhaseDualEntry, PhaseSimGapDisable, PhaseRestInWalk, PhaseVariableInitial, PhaseRing, PhaseSide, PhaseConcurrency, PhaseWalk, PhasePedestrianClear, PhaseMinimumGreen, PhaseMaximum1, PhaseMaximum2, PhaseMaximumInitial, PhaseTimeBeforeReduction, PhaseTimeToReduce, PhasePassage, PhaseYellowChange, PhaseRedClear, PhaseRedRevert, PhaseAddedInitial, PhaseMinimumGap, PhaseCarsBeforeReduction, SequenceData, UnitRedRevert, UnitMax2, PhaseDynamicMaxLimit, PhaseDynamicMaxStep}
+use Rattle.tsb_plan.specs.declared.object.Object.TheVariants.{PhaseEnabled, PhaseNonLock, PhaseMinRecall, PhaseMaxRecall, PhasePedRecall, PhaseSoftRecall, PhaseDualEntry, PhaseSimGapDisable, PhaseRestInWalk, PhaseVariableInitial, PhaseRing, PhaseSide, PhaseConcurrency, PhaseWalk, PhasePedestrianClear, PhaseMinimumGreen, PhaseMaximum1, PhaseMaximum2, PhaseMaximumInitial, PhaseTimeBeforeReduction, PhaseTimeToReduce, PhasePassage, PhaseYellowChange, PhaseRedClear, PhaseRedRevert, PhaseAddedInitial, PhaseMinimumGap, PhaseCarsBeforeReduction, SequenceData, UnitRedRevert, UnitMax2, PhaseDynamicMaxLimit, PhaseDynamicMaxStep, PhasePedestrianRecycle}
 use Rattle.tsb_types.specs.Lists.{run_from}
 use Rattle.tsb_plan.specs.Objects.{order}
 use Rattle.tsb_types.specs.Sets.{names}
@@ -55,6 +55,10 @@ disables_simultaneous_gap plan p = plan.value PhaseSimGapDisable p == 1
 -- its walk goes on past its time until there is a conflict, or a preempt ends the phase
 abbrev pub rests_in_walk : Plan → ℕ → Bool
 rests_in_walk plan p = plan.value PhaseRestInWalk p == 1
+
+-- as a coordinated phase it may walk again within its green (profile)
+abbrev pub recycles_walk : Plan → ℕ → Bool
+recycles_walk plan p = plan.value PhasePedestrianRecycle p == 1
 
 -- the initial time grows with the vehicles counted, by the added initial for each (profile)
 abbrev pub has_variable_initial : Plan → ℕ → Bool

@@ -142,6 +142,8 @@ pub enum Object {
     PatternPermissiveTime,
     /// `patternLeadLag`: pattern, yes or no, whether coordinated splits may end apart (profile); 0 to 1.
     PatternLeadLag,
+    /// `phasePedestrianRecycle`: phase, yes or no, whether a coordinated phase may walk again (profile); 0 to 1.
+    PhasePedestrianRecycle,
 }
 
 /// THE TABLE OF OBJECTS, each row as the macro that is named takes it: the object, its name in plan texts,
@@ -218,6 +220,7 @@ macro_rules! table {
             CoordMaximumMode            "coordMaximumMode"             1231 [1 2]       [absent]    free
             PatternPermissiveTime       "patternPermissiveTime"        1232 [16 255]    [absent]    free
             PatternLeadLag              "patternLeadLag"               1248 [16 1]      [absent]    free
+            PhasePedestrianRecycle      "phasePedestrianRecycle"       1264 [16 1]      [absent]    free
         }
     };
 }

@@ -22,6 +22,7 @@ use Rattle.tsb_calls.specs.Callable as called
 use Rattle.tsb_calls.specs.Settled as settled
 use Rattle.tsb_phase.specs.Phase as phase
 use Rattle.tsb_phase.specs.Next as phase_next
+use Rattle.tsb_phase.specs.Pedestrian as pedestrian
 use Rattle.tsb_phase.specs.Ready as timing
 use Rattle.tsb_ring.specs.Rings as rings
 use Rattle.tsb_ring.specs.Rings.{Ring, number}
@@ -80,6 +81,11 @@ hold s = coordination.asks_hold s.plan s.pattern
 -- permissive time. By floating force-off phase timing forces it off
 abbrev pub forced : State → ℕ → Bool
 forced s = coordination.asks_force_off s.plan (s.now + 1) s.pattern
+
+-- the phase may walk again within its green in this tick: it is a coordinated phase with pedestrian recycle that is not
+-- forced off, and a walk and the pedestrian clearance end by its instant
+abbrev pub recycle : State → ℕ → Bool
+recycle s = coordination.asks_recycle s.plan (s.now + 1) s.pattern
 
 -- the local counter is at the phase's force-off instant in this tick
 abbrev pub at_force_off : State → ℕ → Bool
@@ -148,6 +154,7 @@ phases_given s row = record {
   hold = clipped (hold s);
   must_end = clipped (must_end s row);
   forced = clipped (forced s);
+  recycle = clipped (recycle s);
 }
 
 -- as the tick reads it: a timer that was On n is On (n + 1)
@@ -169,6 +176,10 @@ reverted s p = timing.red_revert_passed s.plan p (phase_read s p)
 -- it was Green and has gapped out
 abbrev pub gapped : State → Row → ℕ → Bool
 gapped s row p = timing.is_gapped_now s.plan (phases_given s row) p (phase_read s p)
+
+-- a walk begins within its green in this tick, by pedestrian recycle
+abbrev pub walks_again : State → Row → ℕ → Bool
+walks_again s row p = pedestrian.walks_again (phases_given s row) p (phase_read s p)
 
 -- it was Yellow, and its yellow change time has passed
 abbrev pub yellow_done : State → ℕ → Bool
@@ -201,12 +212,14 @@ moved s row = record {
   starts = ring_moves.is_started (moves s row);
 }
 
--- the same as the calls are told it, with who has gapped out and the preempt in service
+-- the same as the calls are told it, with who has gapped out, whose walk begins within the green, and the preempt in
+-- service
 abbrev pub done : State → Row → settled.Done
 done s row = record {
   starts = ring_moves.is_started (moves s row);
   ends = ring_moves.is_ended (moves s row);
   gapped = clipped (gapped s row);
+  walks = clipped (walks_again s row);
   service = service s row;
 }
 

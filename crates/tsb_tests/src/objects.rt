@@ -45,6 +45,7 @@ const RANGES: [Value; 20] = [
     (Object::CoordMaximumMode, 1, 2),
     (Object::PatternPermissiveTime, 16, 255),
     (Object::PatternLeadLag, 16, 1),
+    (Object::PhasePedestrianRecycle, 16, 1),
 ];
 
 /// Whether the object has so many indices and this greatest value, said in both ways.
@@ -68,7 +69,7 @@ fn have_ranges(wanted: &[Value]) -> bool {
 
 #[test]
 fn objects_have_their_ranges(rt: HostRuntime) {
-    assert!(rt; have_ranges(&RANGES) && Object::ALL.len() == 65);
+    assert!(rt; have_ranges(&RANGES) && Object::ALL.len() == 66);
     laws::cells_are_told_apart();
     laws::values_are_told_apart();
 }

@@ -35,6 +35,8 @@ pub struct Orders {
     pub must_end: PhaseSet,
     /// Phases that are forced off in this tick.
     pub forced: PhaseSet,
+    /// Coordinated phases that may walk again within their green in this tick.
+    pub recycle: PhaseSet,
     /// Phases that the pattern that runs omits: no call and no dual entry brings them into service. A preempt
     /// does, where they are in its target.
     pub omit: PhaseSet,
@@ -66,6 +68,8 @@ pub struct Timing {
     pub red_revert_passed: PhaseSet,
     /// Phases that have gapped out.
     pub gapped: PhaseSet,
+    /// Phases of which a walk begins within their green in this tick.
+    pub walks: PhaseSet,
 }
 
 /// What one ring does in a tick.

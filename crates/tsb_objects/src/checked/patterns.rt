@@ -2,15 +2,16 @@
 //! in free operation. Times are in tenths of a second.
 #![tactic(auto, unfolding(tsb_plan::specs::PlanOf::plan_of, crate::specs::Checked::checked_plan))]
 
-ghost use Rattle.std.specs.Prelude.{◌≡◌, ℕ, ◌<◌, ◌≤◌, true, Some, IfSome};
+ghost use Rattle.std.specs.Prelude.{◌≡◌, ℕ, ◌<◌, ◌≤◌, ◌&&◌, not, true, Some, IfSome};
 ghost use Rattle.tsb_objects.specs.Checked.{checked_plan};
-ghost use Rattle.tsb_objects.specs.Instants.{force_off, permissive_end, forces_off};
+ghost use Rattle.tsb_objects.specs.Instants.{force_off, permissive_end, forces_off, walk_and_clearance, is_left, may_recycle, recycle_end};
 ghost use Rattle.tsb_plan.specs.Parts.{cycle, is_used, unless_zero};
 ghost use Rattle.tsb_plan.specs.Running.{sequence_in_effect, is_coordinated_now, is_omitted_now, is_on_minimum_recall, is_on_maximum_recall, is_on_pedestrian_recall};
 ghost use Rattle.tsb_types.specs.Sets.{has};
 
 use crate::checked::Checked;
-use crate::pattern_tables::{forced_in, instant_at, permissive_end_at};
+use crate::pattern_tables::{forced_in, instant_at, joined, permissive_end_at};
+use crate::recycle;
 use tsb_types::{Pattern, Phase, PhaseSet, Sequence};
 
 /// Which word of a table is for the pattern that runs.
@@ -121,5 +122,76 @@ impl Checked {
             self.plan.cycle(n),
             local,
         )
+    }
+
+    /// The coordinated phases of the pattern that runs with pedestrian recycle (`phasePedestrianRecycle`).
+    #[inline(always)]
+    fn recycling(&self, runs: Option<Pattern>) -> PhaseSet
+        ensures { (p : ℕ) → 1 ≤ p → p ≤ 16 → has result p ≡ may_recycle (checked_plan self.now) runs p }
+    {
+        PhaseSet::from_list(self.pattern_tables.pedestrian_recycle[word_of(runs)])
+    }
+
+    /// Whether a walk and the pedestrian clearance of a phase end by its instant where a pattern that is used has that
+    /// local counter.
+    fn has_time_to_walk(&self, n: Pattern, local: u32, p: Phase) -> bool
+        requires used { is_used (checked_plan self.now) n ≡ true }
+        ensures { result ≡ is_left (cycle (checked_plan self.now) n) (walk_and_clearance (checked_plan self.now) p)
+            (Some local) (force_off (checked_plan self.now) (Some n) p) }
+    {
+        let time = recycle::walk_and_clearance(&self.plan, p);
+        recycle::is_left(self.plan.cycle(n), time, local, &self.force_off(n, p))
+    }
+
+    /// The coordinated phases that a pattern that is used lets walk again within their green at that local counter
+    /// (`phasePedestrianRecycle`): of those that it does not force off there, those with time for it up to their
+    /// instant.
+    #[inline(always)]
+    pub fn recycled_at(&self, n: Pattern, local: u32, forced: PhaseSet) -> PhaseSet
+        requires used { is_used (checked_plan self.now) n ≡ true }
+        ensures { (p : ℕ) → 1 ≤ p → p ≤ 16 → has result p ≡ (may_recycle (checked_plan self.now) (Some n) p
+            && (not (has forced p) && is_left (cycle (checked_plan self.now) n)
+            (walk_and_clearance (checked_plan self.now) p) (Some local) (force_off (checked_plan self.now) (Some n) p))) }
+    {
+        let recycling = self.recycling(Some(n));
+        if recycling.is_empty() {
+            return recycling;
+        }
+        self.with_time_to_walk(n, local, recycling.difference(forced))
+    }
+
+    /// Those of some phases whose walk and pedestrian clearance end by their instant where a pattern that is used has
+    /// that local counter.
+    fn with_time_to_walk(&self, n: Pattern, local: u32, phases: PhaseSet) -> PhaseSet
+        requires used { is_used (checked_plan self.now) n ≡ true }
+        ensures { (p : ℕ) → 1 ≤ p → p ≤ 16 → has result p ≡ (has phases p && is_left (cycle (checked_plan self.now) n)
+            (walk_and_clearance (checked_plan self.now) p) (Some local) (force_off (checked_plan self.now) (Some n) p)) }
+    {
+        let mut set = PhaseSet::empty();
+        for number in 1..17u8 {
+            let p = Phase::of(number);
+            let on = phases.contains(p) && self.has_time_to_walk(n, local, p);
+            set = joined(set, p, on);
+        }
+        set
+    }
+
+    /// The first tick of the local counter from which no walk of a phase fits any more up to its instant, in a pattern
+    /// that is used; none for all but coordinated phases with pedestrian recycle (`phasePedestrianRecycle`).
+    pub fn recycle_end(&self, n: Pattern, p: Phase) -> Option<u32>
+        requires used { is_used (checked_plan self.now) n ≡ true }
+        ensures value { result ≡ recycle_end (checked_plan self.now) (Some n) p }
+        ensures below { IfSome result (λ i. i < cycle (checked_plan self.now) n) }
+    {
+        if !self.recycling(Some(n)).contains(p) {
+            return None;
+        }
+        match self.force_off(n, p) {
+            None => None,
+            Some(instant) => {
+                let time = recycle::walk_and_clearance(&self.plan, p);
+                Some(recycle::recycle_end(self.plan.cycle(n), time, instant))
+            }
+        }
     }
 }

@@ -8,7 +8,7 @@ use crate::plan::Plan;
 use tsb_types::{Phase, PhaseSet};
 
 impl Plan {
-    ghost use Rattle.tsb_plan.specs.Plan.{is_enabled, has_minimum_recall, has_maximum_recall, has_pedestrian_recall, disables_simultaneous_gap, rests_in_walk, has_variable_initial, ring_of, side_of, is_concurrent, walk, pedestrian_clear, minimum_green, maximum, maximum_initial, added_initial, passage, minimum_gap, time_before_reduction, cars_before_reduction, time_to_reduce, dynamic_maximum_limit, dynamic_maximum_step, yellow_change, red_clear, red_revert};
+    ghost use Rattle.tsb_plan.specs.Plan.{is_enabled, has_minimum_recall, has_maximum_recall, has_pedestrian_recall, disables_simultaneous_gap, rests_in_walk, recycles_walk, has_variable_initial, ring_of, side_of, is_concurrent, walk, pedestrian_clear, minimum_green, maximum, maximum_initial, added_initial, passage, minimum_gap, time_before_reduction, cars_before_reduction, time_to_reduce, dynamic_maximum_limit, dynamic_maximum_step, yellow_change, red_clear, red_revert};
     ghost use Rattle.tsb_plan.specs.PlanOf.{plan_of};
     ghost use Rattle.tsb_types.specs.Sets.{has};
 
@@ -52,6 +52,13 @@ impl Plan {
         ensures { result ≡ rests_in_walk (plan_of self.now) phase }
     {
         self.of_phase(Object::PhaseRestInWalk, phase) == 1
+    }
+
+    /// Whether the phase may walk again within its green, as a coordinated phase (`phasePedestrianRecycle`, profile).
+    pub fn recycles_walk(&self, phase: Phase) -> bool
+        ensures { result ≡ recycles_walk (plan_of self.now) phase }
+    {
+        self.of_phase(Object::PhasePedestrianRecycle, phase) == 1
     }
 
     /// Whether added initial counts for the phase (`phaseVariableInitial`, profile).

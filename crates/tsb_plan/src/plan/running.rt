@@ -2,7 +2,7 @@
 //! operation. Times are in tenths of a second.
 #![tactic(auto, unfolding(crate::specs::PlanOf::plan_of))]
 
-ghost use Rattle.std.specs.Prelude.{◌≡◌, ◌≤◌, IfSome};
+ghost use Rattle.std.specs.Prelude.{◌≡◌};
 ghost use Rattle.tsb_plan.specs.PlanOf.{plan_of};
 ghost use Rattle.tsb_plan.specs.Running.{mode_in, coordinates_in, split_green, floating_in, maximum_by_mode, omits, recalls_minimum, recalls_maximum, recalls_pedestrians};
 
@@ -149,10 +149,15 @@ impl Plan {
     pub fn pattern_maximum(&self, runs: Option<Pattern>, phase: Phase) -> Option<u32>
         ensures { result ≡ pattern_maximum (plan_of self.now) runs phase }
     {
-        if self.is_coordinated_now(runs, phase) {
-            None
-        } else {
-            self.maximum_by_mode(phase)
+        match self.maximum_by_mode(phase) {
+            None => None,
+            Some(maximum) => {
+                if self.is_coordinated_now(runs, phase) {
+                    None
+                } else {
+                    Some(maximum)
+                }
+            }
         }
     }
 }

@@ -64,7 +64,7 @@ unfolding opened busy
 how_many = refl
 
 first_cells : DESK ∷ DETECTORS ∷ CALLS ∷ PHASES ∷ RINGS ∷ COORD ∷ PREEMPTS ∷ MONITOR ∷ ALL_CELLS ∷ [] ≡
-    1264 ∷ 1396 ∷ 1450 ∷ 1468 ∷ 1589 ∷ 1595 ∷ 1596 ∷ 1606 ∷ 1613 ∷ []
+    1280 ∷ 1412 ∷ 1466 ∷ 1484 ∷ 1605 ∷ 1611 ∷ 1612 ∷ 1622 ∷ 1629 ∷ []
 first_cells = refl
 
 -- the plan: phaseEnabled of phase 8, and sequenceData at its index 20, which is phase 8
@@ -73,12 +73,12 @@ unfolding opened busy
 plan_cells_stand = refl
 
 -- the desk's owner, the last timer of the detectors, the last count, the first list of the phases
-ends_stand : slice_index (cells_of busy) 1264 ∷ slice_index (cells_of busy) 1467 ∷ slice_index (cells_of busy) 1469 ∷ [] ≡ 3 ∷ 5 ∷ 32768 ∷ []
+ends_stand : slice_index (cells_of busy) 1280 ∷ slice_index (cells_of busy) 1483 ∷ slice_index (cells_of busy) 1485 ∷ [] ≡ 3 ∷ 5 ∷ 32768 ∷ []
 unfolding opened busy
 ends_stand = refl
 
 -- the rings' side, the pattern, the preempt in service
-more_stand : slice_index (cells_of busy) 1593 ∷ slice_index (cells_of busy) 1595 ∷ slice_index (cells_of busy) 1602 ∷ [] ≡ 1 ∷ 2 ∷ 4 ∷ []
+more_stand : slice_index (cells_of busy) 1609 ∷ slice_index (cells_of busy) 1611 ∷ slice_index (cells_of busy) 1618 ∷ [] ≡ 1 ∷ 2 ∷ 4 ∷ []
 unfolding opened busy
 more_stand = refl
 
