@@ -1,7 +1,7 @@
 //! Pedestrian recycle: when a coordinated phase may walk again within its green. Times are in tenths of a second.
 #![tactic(auto, unfolding(tsb_plan::specs::PlanOf::plan_of))]
 
-ghost use Rattle.std.specs.Prelude.{◌≡◌, ℕ, ◌+◌, ◌<◌, ◌≤◌, ◌%◌};
+ghost use Rattle.std.specs.Prelude.{◌≡◌, ◌+◌, ◌<◌, ◌≤◌, ◌%◌, Some, IfSome};
 ghost use Rattle.tsb_plan.specs.PlanOf.{plan_of};
 ghost use Rattle.tsb_objects.specs.Instants.{residue_of_difference, walk_and_clearance, is_left};
 
@@ -20,6 +20,7 @@ pub(crate) fn walk_and_clearance(plan: &Plan, p: Phase) -> u32
 pub(crate) fn is_left(cycle: u32, time: u32, local: u32, instant: &Option<u32>) -> bool
     requires some { 1 ≤ cycle }
     requires small { cycle ≤ 2550 }
+    requires below { IfSome instant.now (λ i. i < cycle) }
     ensures { result ≡ is_left cycle time (Some local) instant.now }
 {
     match instant {
