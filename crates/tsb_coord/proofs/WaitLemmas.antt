@@ -1,9 +1,10 @@
--- How long the local counter takes to the next force-off instant or end of a permissive time, and that nothing is
--- ordered anew until then. What is forced off late stays so between instants, as late force-off begins and ends at
--- them, and what is in its permissive time does between its instant and its end.
-use Rattle.std.proofs.Common.{zero, suc, ◌≡◌, ◌≢◌, ℕ, ◌+◌, ◌-◌, ◌*◌, ◌%◌, ◌<◌, ◌≤◌, ◌==◌, ◌⊎◌, nat_lt, min, Bool, true, false, not, ◌&&◌, ◌||◌, if◌then◌else◌, List, Option, Some, None, IfSome, refl, sym, ap, subst, ◌∙◌, arith, inl, inr}
+-- How long the local counter takes to the next force-off instant, or end of a permissive time or of the time for a walk,
+-- and that nothing is ordered anew until then. What is forced off late stays so between instants, as late force-off
+-- begins and ends at them, and what is in its permissive time does between its instant and its end. What is left to an
+-- instant is enough for a walk from that instant to the end of the time for a walk.
+use Rattle.std.proofs.Common.{zero, suc, ◌≡◌, ◌≢◌, ℕ, ◌+◌, ◌-◌, ◌*◌, ◌%◌, ◌<◌, ◌≤◌, ◌==◌, ◌⊎◌, nat_le, nat_lt, min, Bool, true, false, not, ◌&&◌, ◌||◌, if◌then◌else◌, List, Option, Some, None, IfSome, refl, sym, ap, subst, ◌∙◌, arith, inl, inr}
 use Rattle.std.proofs.Math.Nat.{mod-eq_of_lt, mod-lt, mod-add-mod, mul-mod_left, add-mul-mod_self_right}
-use Rattle.std.proofs.lemmas.Bool.{cases_lt, ne_eqb, eq-eqb}
+use Rattle.std.proofs.lemmas.Bool.{cases_lt, cases_eq, ne_eqb, eq-eqb}
 use Rattle.std.proofs.lemmas.Bool.Decides.{nat_tests}
 use Rattle.tsb_objects.specs.tsb_types.Lists.{first, run_from, or_else}
 use Rattle.tsb_objects.specs.tsb_plan.Plan.{Plan, is_enabled, ring_of}
@@ -17,8 +18,8 @@ use Rattle.tsb_objects.proofs.tsb_rules.ConsistentLemmas.{whole, coordinated}
 use Rattle.tsb_objects.proofs.InstantLemmas.{instants-below, late-end-below}
 use Rattle.tsb_coord.specs.declared.coordination.Coordination.{Coordination}
 use Rattle.tsb_coord.specs.Cells.{pattern_in}
-use Rattle.tsb_coord.specs.Coordinated.{counter, local_in, instant_from, first_coordinated, reference, force_off, agree, yields_to, instant_of, late_end, is_from_to, counted_on, is_late, is_forced_late, yields_for, is_behind, is_permitted, permissive_end_from, permissive_end, forces_off, asks_force_off}
-use Rattle.tsb_coord.specs.Due.{ForcesOff, EndsPermission, IsMet, IsEnded, IsExact}
+use Rattle.tsb_coord.specs.Coordinated.{counter, local_in, residue_of_difference, instant_from, first_coordinated, reference, force_off, agree, yields_to, instant_of, late_end, is_from_to, counted_on, is_late, is_forced_late, yields_for, is_behind, is_permitted, permissive_end_from, permissive_end, forces_off, walk_and_clearance, may_recycle, is_left, recycles, recycle_end_from, recycle_end, asks_force_off, asks_recycle}
+use Rattle.tsb_coord.specs.Due.{ForcesOff, EndsPermission, EndsRecycle, IsMet, IsEnded, IsExact}
 use Rattle.tsb_coord.specs.Promises.{AreOrders}
 use Rattle.tsb_coord.proofs.LocalLemmas.{counter_moves_on, IsFirst, first_passes, IsReference, reference_is, reference_found, at_instant_asks}
 
@@ -94,21 +95,15 @@ met_least test m local ticks other a one two =
           elim one [ inl whole ↦ inl (e ∙ whole) | inr met ↦ inr (met.0, subst (λ (x : ℕ). IsMet m local (test met.0) x) (sym e) met.1) ]
     ]
 
--- the lesser of two waits to the end of a permissive time, likewise
-pub ended_least : {A : Type 0} (test : A → Option ℕ) (m local ticks other : ℕ) (a : A) →
-    ((ticks ≡ m) ⊎ ((x : A) × IsEnded m local (test x) ticks)) → ((other ≡ m) ⊎ IsEnded m local (test a) other) →
-    ((min ticks other ≡ m) ⊎ ((x : A) × IsEnded m local (test x) (min ticks other)))
-ended_least test m local ticks other a one two =
+-- of two that are met, or a whole cycle, the lesser is, likewise
+pub least_of : (A : ℕ → Type 0) (m ticks other : ℕ) → ((ticks ≡ m) ⊎ A ticks) → ((other ≡ m) ⊎ A other) → ((min ticks other ≡ m) ⊎ A (min ticks other))
+least_of A m ticks other one two =
     elim (cases_lt other ticks) [
-      | inl less ↦
-          let e : min ticks other ≡ other = omega arith in
-          elim two [ inl whole ↦ inl (e ∙ whole) | inr met ↦ inr (a, subst (λ (x : ℕ). IsEnded m local (test a) x) (sym e) met) ]
-      | inr more ↦
-          let e : min ticks other ≡ ticks = omega arith in
-          elim one [ inl whole ↦ inl (e ∙ whole) | inr met ↦ inr (met.0, subst (λ (x : ℕ). IsEnded m local (test met.0) x) (sym e) met.1) ]
+      | inl less ↦ let e : min ticks other ≡ other = omega arith in subst (λ (x : ℕ). (x ≡ m) ⊎ A x) (sym e) two
+      | inr more ↦ let e : min ticks other ≡ ticks = omega arith in subst (λ (x : ℕ). (x ≡ m) ⊎ A x) (sym e) one
     ]
 
--- and of one to an instant and one to an end
+-- and of two that differ in what is met
 pub next_of_both : (A B : ℕ → Type 0) (m ticks other : ℕ) → ((ticks ≡ m) ⊎ A ticks) → ((other ≡ m) ⊎ B other) →
     ((min ticks other ≡ m) ⊎ (A (min ticks other) ⊎ B (min ticks other)))
 next_of_both A B m ticks other one two =
@@ -217,6 +212,108 @@ same_behind m time local k (Some i) low not_from not_to = go (nat_lt 0 time) not
     go true ends = same_span m i (i + time + 1) local low k not_from ends
     go false ends = refl
 
+-- ## What is left to an instant
+
+-- what is left of a cycle from here to the instant i, which is below it: in this cycle or in the next
+left_in_cycle : (m i here : ℕ) → here ≤ i → i < m → residue_of_difference m i here ≡ i - here
+left_in_cycle m i here before low =
+    let below : here < m = omega (arith, before, low) in
+    let turn : i + (m - here) ≡ i - here + 1 * m = omega (arith, before, low) in
+    let rest : i - here < m = omega (arith, low) in
+    ap (λ x. (i + (m - x)) % m) (mod-eq_of_lt below) ∙ ap (λ x. x % m) turn ∙ add-mul-mod_self_right (i - here) 1 m ∙ mod-eq_of_lt rest
+
+left_over_end : (m i here : ℕ) → i < here → here < m → residue_of_difference m i here ≡ i + (m - here)
+left_over_end m i here behind below =
+    let rest : i + (m - here) < m = omega (arith, behind, below) in
+    ap (λ x. (i + (m - x)) % m) (mod-eq_of_lt below) ∙ mod-eq_of_lt rest
+
+-- it is one tick less in the next tick, where it is not 0 here
+one_less : (m i here next : ℕ) → i < m → here < m → next < m → ((next ≡ here + 1) ⊎ ((next ≡ 0) × (here + 1 ≡ m))) → here ≢ i →
+    residue_of_difference m i here ≡ residue_of_difference m i next + 1
+one_less m i here next low below then_below step apart =
+    elim (cases_lt i here) [
+      | inl behind ↦ elim step [
+        | inl one ↦
+            let less : i + (m - here) ≡ i + (m - next) + 1 = omega (arith, one, then_below) in
+            let after : i < next = omega (arith, one, behind) in
+            left_over_end m i here behind below ∙ less ∙ ap (λ x. x + 1) (sym (left_over_end m i next after then_below))
+        | inr turn ↦
+            let zero_next : next ≡ 0 = turn.0 in
+            let last : here + 1 ≡ m = turn.1 in
+            let less : i + (m - here) ≡ i - next + 1 = omega (arith, last, zero_next) in
+            let to : next ≤ i = omega (arith, zero_next) in
+            left_over_end m i here behind below ∙ less ∙ ap (λ x. x + 1) (sym (left_in_cycle m i next to low))
+      ]
+      | inr to ↦
+          let before : here < i = omega (arith, to, apart) in
+          elim step [
+            | inl one ↦
+                let less : i - here ≡ i - next + 1 = omega (arith, one, before) in
+                let still : next ≤ i = omega (arith, one, before) in
+                left_in_cycle m i here to low ∙ less ∙ ap (λ x. x + 1) (sym (left_in_cycle m i next still low))
+            | inr turn ↦ let last : here + 1 ≡ m = turn.1 in absurd (omega (arith, last, before, low))
+          ]
+    ]
+
+-- what is left of it, counted back from the instant, is here
+left_back : (m i here : ℕ) → i < m → here < m → residue_of_difference m i (residue_of_difference m i here) ≡ here
+left_back m i here low below =
+    elim (cases_lt i here) [
+      | inl behind ↦
+          let after : i < i + (m - here) = omega (arith, below) in
+          let within : i + (m - here) < m = omega (arith, behind, below) in
+          let e : i + (m - (i + (m - here))) ≡ here = omega (arith, behind, below) in
+          ap (residue_of_difference m i) (left_over_end m i here behind below) ∙ left_over_end m i (i + (m - here)) after within ∙ e
+      | inr to ↦
+          let e : i - (i - here) ≡ here = omega (arith, to) in
+          ap (residue_of_difference m i) (left_in_cycle m i here to low) ∙ left_in_cycle m i (i - here) (omega arith) low ∙ e
+    ]
+
+-- so from one tick to the next the same times fit, but at the instant and at the end of the time for a walk
+step_left : (m time i here next : ℕ) → i < m → here < m → next < m → (here + 1) % m ≡ next → (here == i) ≡ false →
+    (next == (residue_of_difference m i time + 1) % m) ≡ false →
+    nat_le time (residue_of_difference m i here) ≡ nat_le time (residue_of_difference m i next)
+step_left m time i here next low below then_below step not_at not_end =
+    ap (nat_le time) less
+    ∙ elim (cases_eq time (residue_of_difference m i here)) [
+      | inl same ↦
+          let end : (residue_of_difference m i time + 1) % m ≡ next = ap (λ x. (residue_of_difference m i x + 1) % m) same ∙ ap (λ x. (x + 1) % m) (left_back m i here low below) ∙ step in
+          absurd (differ (sym (eq-eqb next _ (sym end)) ∙ not_end))
+      | inr other ↦ one_more time (residue_of_difference m i next) (λ e. other (e ∙ sym less))
+    ]
+  where
+    differ : true ≡ false → ⊥
+    differ e = cc
+
+    apart : here ≢ i
+    apart e = differ (sym (eq-eqb here i e) ∙ not_at)
+
+    less : residue_of_difference m i here ≡ residue_of_difference m i next + 1
+    less = one_less m i here next low below then_below (subst (λ (x : ℕ). (x ≡ here + 1) ⊎ ((x ≡ 0) × (here + 1 ≡ m))) step (next_is m here below)) apart
+
+    one_more : (time rest : ℕ) → time ≢ rest + 1 → nat_le time (rest + 1) ≡ nat_le time rest
+    one_more time rest other = grind (arith, nat_tests, other)
+
+same_rest : (m time i local : ℕ) → i < m → (k : ℕ) → ((j : ℕ) → j ≤ k → ((local + j) % m == i) ≡ false) →
+    ((j : ℕ) → 1 ≤ j → j ≤ k → ((local + j) % m == (residue_of_difference m i time + 1) % m) ≡ false) →
+    nat_le time (residue_of_difference m i ((local + 0) % m)) ≡ nat_le time (residue_of_difference m i ((local + k) % m))
+same_rest m time i local low zero not_at not_end = refl
+same_rest m time i local low (suc k) not_at not_end =
+    let some : 0 < m = omega (arith, low) in
+    same_rest m time i local low k (λ j to_k. not_at j (omega (arith, to_k))) (λ j one to_k. not_end j one (omega (arith, to_k)))
+    ∙ step_left m time i ((local + k) % m) ((local + suc k) % m) low (mod-lt (local + k) some) (mod-lt (local + suc k) some)
+    (mod-add-mod (local + k) m 1 ∙ ap (λ x. x % m) (one_more local k)) (not_at k (omega arith)) (not_end (suc k) (omega arith) (omega arith))
+  where
+    one_more : (local k : ℕ) → local + k + 1 ≡ local + suc k
+    one_more local k = omega arith
+
+same_left : (m time local k : ℕ) (at : Option ℕ) → IfSome at (λ i. i < m) →
+    ((j : ℕ) → j ≤ k → agree (Some ((local + j) % m)) at ≡ false) →
+    ((j : ℕ) → 1 ≤ j → j ≤ k → agree (Some ((local + j) % m)) (recycle_end_from m time at) ≡ false) →
+    is_left m time (Some ((local + 0) % m)) at ≡ is_left m time (Some ((local + k) % m)) at
+same_left m time local k None low not_at not_end = refl
+same_left m time local k (Some i) low not_at not_end = same_rest m time i local low k not_at not_end
+
 -- a late end is an instant
 pub record IsInstant (plan : Plan) (n : ℕ) (end : Option ℕ) : Type 0 where
   pub phase : ℕ
@@ -257,24 +354,29 @@ late_end_is plan few n p =
 
 -- ## Orders in the meantime
 
--- no instant is met, now and at each tick of the meantime, and no permissive time ends from the next tick on, while the
--- pattern n runs
+-- no instant is met, now and at each tick of the meantime, and no permissive time and no time for a walk ends from the
+-- next tick on, while the pattern n runs
 pub record IsQuiet (plan : Plan) (n now wait : ℕ) : Type 0 where
   pub at : (p k : ℕ) → 1 ≤ p → p ≤ 16 → k < wait → 1 < wait →
       agree (Some ((counter plan n now + k) % cycle plan n)) (force_off plan (Some n) p) ≡ false
   pub permitted : (p k : ℕ) → 1 ≤ p → p ≤ 16 → 1 ≤ k → k < wait →
       agree (Some ((counter plan n now + k) % cycle plan n)) (permissive_end plan (Some n) p) ≡ false
+  pub recycled : (p k : ℕ) → 1 ≤ p → p ≤ 16 → 1 ≤ k → k < wait →
+      agree (Some ((counter plan n now + k) % cycle plan n)) (recycle_end plan (Some n) p) ≡ false
 
 -- as the code tells it
 pub quiet_from : (plan : Plan) (n now wait local : ℕ) → local ≡ counter plan n now →
     ((p k : ℕ) → 1 ≤ p → p ≤ 16 → k < wait → 1 < wait → agree (Some ((local + k) % cycle plan n)) (force_off plan (Some n) p) ≡ false) →
     ((p k : ℕ) → 1 ≤ p → p ≤ 16 → 1 ≤ k → k < wait → agree (Some ((local + k) % cycle plan n)) (permissive_end plan (Some n) p) ≡ false) →
+    ((p k : ℕ) → 1 ≤ p → p ≤ 16 → 1 ≤ k → k < wait → agree (Some ((local + k) % cycle plan n)) (recycle_end plan (Some n) p) ≡ false) →
     IsQuiet plan n now wait
-quiet_from plan n now wait local told each ends = record {
+quiet_from plan n now wait local told each ends walks = record {
   at = λ p k from to within some.
       subst (λ (x : ℕ). agree (Some ((x + k) % cycle plan n)) (force_off plan (Some n) p) ≡ false) told (each p k from to within some);
   permitted = λ p k from to some within.
       subst (λ (x : ℕ). agree (Some ((x + k) % cycle plan n)) (permissive_end plan (Some n) p) ≡ false) told (ends p k from to some within);
+  recycled = λ p k from to some within.
+      subst (λ (x : ℕ). agree (Some ((x + k) % cycle plan n)) (recycle_end plan (Some n) p) ≡ false) told (walks p k from to some within);
 }
 
 module _ (plan : Plan) (few : plan.phase_count ≤ 16) (none : first_broken plan ≡ None) (n now wait : ℕ) (from_one : 1 ≤ n) (within : n ≤ 16)
@@ -319,6 +421,43 @@ module _ (plan : Plan) (few : plan.phase_count ≤ 16) (none : first_broken plan
       ∙ ap (λ b. is_late m (Some ((counter plan n now + k) % m)) at (late_end plan (Some n) p) || b) permitted
       ∙ sym (asked_between p k from to before some)
 
+  -- nor is a phase let walk again, or no more
+  asked_recycle : (p k : ℕ) → asks_recycle plan (now + k) selected p ≡ recycles plan (Some n) (Some ((counter plan n now + k) % cycle plan n)) p
+  asked_recycle p k =
+      let below : offset plan n < cycle plan n = (whole plan none n from_one within used).below in
+      ap (λ o. recycles plan o (local_in plan (now + k) o) p) runs
+      ∙ ap (λ x. recycles plan (Some n) (Some x) p) (counter_moves_on plan n now k below)
+
+  same_recycle : (p k : ℕ) → 1 ≤ p → p ≤ 16 → k < wait → 1 < wait → asks_recycle plan (now + 0) selected p ≡ asks_recycle plan (now + k) selected p
+  same_recycle p k from to before some =
+      asked_recycle p 0 ∙ go (may_recycle plan (Some n) p) (λ j one to_k. quiet.recycled p j from to one (omega arith)) ∙ sym (asked_recycle p k)
+    where
+      m : ℕ
+      m = cycle plan n
+
+      time : ℕ
+      time = walk_and_clearance plan p
+
+      at : Option ℕ
+      at = force_off plan (Some n) p
+
+      forced : ℕ → Bool
+      forced j = forces_off plan (Some n) (Some ((counter plan n now + j) % m)) p
+
+      left : ℕ → Bool
+      left j = is_left m time (Some ((counter plan n now + j) % m)) at
+
+      same_forced : forced 0 ≡ forced k
+      same_forced = sym (asked p 0) ∙ same_asked p k from to before some ∙ asked p k
+
+      go : (b : Bool) → ((j : ℕ) → 1 ≤ j → j ≤ k → agree (Some ((counter plan n now + j) % m)) (if b then recycle_end_from m time at else None) ≡ false) →
+          (b && (not (forced 0) && left 0)) ≡ (b && (not (forced k) && left k))
+      go false ends = refl
+      go true ends =
+          ap (λ f. not f && left 0) same_forced
+          ∙ ap (λ l. not (forced k) && l)
+          (same_left m time (counter plan n now) k at (instants-below plan n p at used refl) (λ j to_k. quiet.at p j from to (omega arith) some) ends)
+
   pub same_orders : (row : List ℕ) (t : ℕ) (orders : Coordination) → pattern_in row ≡ selected → now < t → t < now + wait →
       AreOrders now plan row orders → AreOrders t plan row orders
   same_orders row t orders is later before said =
@@ -328,12 +467,17 @@ module _ (plan : Plan) (few : plan.phase_count ≤ 16) (none : first_broken plan
       let same : (p : ℕ) → 1 ≤ p → p ≤ 16 → asks_force_off plan now selected p ≡ asks_force_off plan t selected p =
       λ p from to. ap (λ x. asks_force_off plan x selected p) (sym here) ∙ same_asked p (t - now) from to (omega arith) some
       ∙ ap (λ x. asks_force_off plan x selected p) there in
+      let same_walks : (p : ℕ) → 1 ≤ p → p ≤ 16 → asks_recycle plan now selected p ≡ asks_recycle plan t selected p =
+      λ p from to. ap (λ x. asks_recycle plan x selected p) (sym here) ∙ same_recycle p (t - now) from to (omega arith) some
+      ∙ ap (λ x. asks_recycle plan x selected p) there in
       record {
         runs = said.runs;
         sequence = said.sequence;
         hold = said.hold;
         forced = λ p from to. said.forced p from to ∙ ap (λ o. asks_force_off plan now o p) is ∙ same p from to
             ∙ sym (ap (λ o. asks_force_off plan t o p) is);
+        recycle = λ p from to. said.recycle p from to ∙ ap (λ o. asks_recycle plan now o p) is ∙ same_walks p from to
+            ∙ sym (ap (λ o. asks_recycle plan t o p) is);
         omit = said.omit;
       }
 
@@ -345,9 +489,13 @@ free_orders plan row now t orders free said = record {
   sequence = said.sequence;
   hold = said.hold;
   forced = λ p from to. said.forced p from to ∙ unasked now p ∙ sym (unasked t p);
+  recycle = λ p from to. said.recycle p from to ∙ no_walk now p ∙ sym (no_walk t p);
   omit = said.omit;
 }
   where
+    no_walk : (t p : ℕ) → asks_recycle plan t (pattern_in row) p ≡ false
+    no_walk t p = ap (λ o. recycles plan o (local_in plan t o) p) free
+
     unasked : (t p : ℕ) → asks_force_off plan t (pattern_in row) p ≡ false
     unasked t p = ap (λ o. forces_off plan o (local_in plan t o) p) free
 
@@ -444,27 +592,44 @@ ended_then plan none n now ticks p from_one within used selected runs ended =
           ∙ ap (λ x. agree (Some x) (permissive_end plan (Some n) p)) (counter_moves_on plan n now ticks below) ∙ ended,
     )
 
+-- and one whose time for a walk is at its end has ended it then
+recycle_ended_then : (plan : Plan) → first_broken plan ≡ None → (n now ticks p : ℕ) → 1 ≤ n → n ≤ 16 → is_used plan n ≡ true →
+    (selected : Option ℕ) → running plan selected ≡ Some n → IsEnded (cycle plan n) (counter plan n now) (recycle_end plan (Some n) p) ticks →
+    EndsRecycle plan selected (now + ticks)
+recycle_ended_then plan none n now ticks p from_one within used selected runs ended =
+    let below : offset plan n < cycle plan n = (whole plan none n from_one within used).below in (
+      p,
+      ap (λ o. agree (local_in plan (now + ticks) o) (recycle_end plan o p)) runs
+          ∙ ap (λ x. agree (Some x) (recycle_end plan (Some n) p)) (counter_moves_on plan n now ticks below) ∙ ended,
+    )
+
 some_cycle : (plan : Plan) (n : ℕ) → is_used plan n ≡ true → 1 < cycle plan n
 some_cycle plan n used = let some : 1 ≤ plan.value PatternCycleTime n = grind (arith, nat_tests, used) in omega arith
 
 pub is_exact : (plan : Plan) → plan.phase_count ≤ 16 → first_broken plan ≡ None → (n now ticks local : ℕ) → 1 ≤ n → n ≤ 16 → is_used plan n ≡ true →
     (row : List ℕ) → running plan (pattern_in row) ≡ Some n → local ≡ counter plan n now → local < cycle plan n → IsQuiet plan n now ticks →
     ((ticks ≡ cycle plan n) ⊎ (((p : ℕ) × IsMet (cycle plan n) local (force_off plan (Some n) p) ticks)
-    ⊎ ((p : ℕ) × IsEnded (cycle plan n) local (permissive_end plan (Some n) p) ticks))) → IsExact now plan row (now + ticks)
+    ⊎ (((p : ℕ) × IsEnded (cycle plan n) local (permissive_end plan (Some n) p) ticks)
+    ⊎ ((p : ℕ) × IsEnded (cycle plan n) local (recycle_end plan (Some n) p) ticks)))) → IsExact now plan row (now + ticks)
 is_exact plan most none n now ticks local from_one within used row runs told below quiet met =
     let here : counter plan n now < cycle plan n = subst (λ (x : ℕ). x < cycle plan n) told below in
     let forces : ForcesOff plan (pattern_in row) (now + ticks)
-    ⊎ (EndsPermission plan (pattern_in row) (now + ticks) ⊎ ((now + ticks ≡ now + 1) × ForcesOff plan (pattern_in row) now)) =
+    ⊎ (EndsPermission plan (pattern_in row) (now + ticks)
+    ⊎ (EndsRecycle plan (pattern_in row) (now + ticks) ⊎ ((now + ticks ≡ now + 1) × ForcesOff plan (pattern_in row) now))) =
     elim met [
       | inl whole_cycle ↦ absurd (no_whole_cycle plan most none n now ticks from_one within used here quiet (some_cycle plan n used) whole_cycle)
       | inr either ↦ elim either [
         | inl it ↦ elim (forced_then plan none n now ticks it.0 from_one within used (pattern_in row) runs
             (subst (λ (x : ℕ). IsMet (cycle plan n) x (force_off plan (Some n) it.0) ticks) told it.1)) [
               | inl there ↦ inl there
-              | inr next ↦ inr (inr next)
+              | inr next ↦ inr (inr (inr next))
             ]
-        | inr it ↦ inr (inl (ended_then plan none n now ticks it.0 from_one within used (pattern_in row) runs
-            (subst (λ (x : ℕ). IsEnded (cycle plan n) x (permissive_end plan (Some n) it.0) ticks) told it.1)))
+        | inr ends ↦ elim ends [
+          | inl it ↦ inr (inl (ended_then plan none n now ticks it.0 from_one within used (pattern_in row) runs
+              (subst (λ (x : ℕ). IsEnded (cycle plan n) x (permissive_end plan (Some n) it.0) ticks) told it.1)))
+          | inr it ↦ inr (inr (inl (recycle_ended_then plan none n now ticks it.0 from_one within used (pattern_in row) runs
+              (subst (λ (x : ℕ). IsEnded (cycle plan n) x (recycle_end plan (Some n) it.0) ticks) told it.1))))
+        ]
       ]
     ] in
     record { runs = λ m is. forces; free = λ is. absurd (not_both (pattern_in row) n runs is) }

@@ -1,8 +1,8 @@
 -- What coordination asks of the rings in a tick: the pattern that runs, its local counter, and by it hold, force-off,
--- pedestrian recycle and omit. Cycle, offset, splits, split modes, coordinated phases and sequences are the objects of NTCIP 1202 of these
--- names. That the local counter is 0 where the coordinated split of ring 1 ends, that a phase is forced off in time for
--- its split to end with its red clearance (fixed force-off, no transition after a change of pattern), late force-off,
--- the permissive time, and the orders, are the profile's own.
+-- pedestrian recycle and omit. Cycle, offset, splits, split modes, coordinated phases and sequences are the objects of
+-- NTCIP 1202 of these names. That the local counter is 0 where the coordinated split of ring 1 ends, that a phase is
+-- forced off in time for its split to end with its red clearance (fixed force-off, no transition after a change of
+-- pattern), late force-off, the permissive time, pedestrian recycle, and the orders, are the profile's own.
 --
 -- `t` is the number of this tick, and `selected` the pattern that the operator selected, if any. Times are in ticks,
 -- which are tenths of a second. All is found from these and the plan, so the only state is which pattern is selected.

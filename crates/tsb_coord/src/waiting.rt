@@ -78,6 +78,31 @@ fn ticks_to_instant(plan: &Checked, n: Pattern, local: u32) -> u32
     ticks
 }
 
+/// How many ticks the local counter takes to reach the end of a phase's permissive time, or of its time for a walk, one
+/// at least; a cycle where it has neither, as all but coordinated phases.
+#[inline(always)]
+fn ticks_to_ends_of(plan: &Checked, n: Pattern, local: u32, p: Phase) -> u32
+    requires used { is_used (checked_plan plan.now) n ≡ true }
+    requires local { local < cycle (checked_plan plan.now) n }
+    ensures from_one { 1 ≤ result }
+    ensures within { result ≤ cycle (checked_plan plan.now) n }
+    ensures permitted { (k : ℕ) → 1 ≤ k → k < result →
+        agree (Some ((local + k) % cycle (checked_plan plan.now) n)) (permissive_end (checked_plan plan.now) (Some n) p) ≡ false }
+    ensures recycled { (k : ℕ) → 1 ≤ k → k < result →
+        agree (Some ((local + k) % cycle (checked_plan plan.now) n)) (recycle_end (checked_plan plan.now) (Some n) p) ≡ false }
+    ensures met { (result ≡ cycle (checked_plan plan.now) n)
+        ⊎ (IsEnded (cycle (checked_plan plan.now) n) local (permissive_end (checked_plan plan.now) (Some n) p) result
+        ⊎ IsEnded (cycle (checked_plan plan.now) n) local (recycle_end (checked_plan plan.now) (Some n) p) result) }
+{
+    let cycle = cycle_of(plan, n);
+    if !plan.coordinated(Some(n)).contains(p) {
+        return cycle;
+    }
+    let permitted = ticks_to_end(cycle, local, &plan.permissive_end(n, p));
+    let recycled = ticks_to_end(cycle, local, &plan.recycle_end(n, p));
+    permitted.min(recycled)
+}
+
 /// How many ticks the local counter takes to reach the next end of a permissive time, or of the time for a walk of a
 /// phase with pedestrian recycle, one at least; a cycle where there is none.
 fn ticks_to_ends(plan: &Checked, n: Pattern, local: u32) -> u32
@@ -93,18 +118,9 @@ fn ticks_to_ends(plan: &Checked, n: Pattern, local: u32) -> u32
         ⊎ (((p : ℕ) × IsEnded (cycle (checked_plan plan.now) n) local (permissive_end (checked_plan plan.now) (Some n) p) result)
         ⊎ ((p : ℕ) × IsEnded (cycle (checked_plan plan.now) n) local (recycle_end (checked_plan plan.now) (Some n) p) result)) }
 {
-    let cycle = cycle_of(plan, n);
-    let coordinated = plan.coordinated(Some(n));
-    let mut ticks = cycle;
+    let mut ticks = cycle_of(plan, n);
     for number in 1..17u8 {
-        let p = Phase::of(number);
-        if coordinated.contains(p) {
-            let permissive = plan.permissive_end(n, p);
-            let recycle = plan.recycle_end(n, p);
-            ticks = ticks
-                .min(ticks_to_end(cycle, local, &permissive))
-                .min(ticks_to_end(cycle, local, &recycle));
-        }
+        ticks = ticks.min(ticks_to_ends_of(plan, n, local, Phase::of(number)));
     }
     ticks
 }

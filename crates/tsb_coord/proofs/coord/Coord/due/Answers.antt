@@ -11,7 +11,8 @@ returns-in-Some-clause-quiet c =
     λ t later before orders said.
     same_orders (checked_plan c.args.plan.now) (omega (arith, checked-phase_count c.args.plan.now)) c.plan-consistent.ensures.consistent c.in-Some.n c.args.now c.ticks_to_next.result c.known.ensures.from
     c.known.ensures.within c.in-Some.ensures.used
-    (quiet_from (checked_plan c.args.plan.now) c.in-Some.n c.args.now c.ticks_to_next.result c.counter.result c.counter.ensures.value c.ticks_to_next.ensures.quiet c.ticks_to_next.ensures.permitted)
+    (quiet_from (checked_plan c.args.plan.now) c.in-Some.n c.args.now c.ticks_to_next.result c.counter.result c.counter.ensures.value c.ticks_to_next.ensures.quiet c.ticks_to_next.ensures.permitted
+    c.ticks_to_next.ensures.recycled)
     (pattern_in (cells_of c.args.self.now)) (sym c.running.ensures.runs ∙ c.in-Some.is) (cells_of c.args.self.now) t orders refl later before said
 
 pub returns-in-Some-clause-exact : goal.returns-in-Some-clause-exact
@@ -20,5 +21,6 @@ returns-in-Some-clause-exact c =
     is_exact (checked_plan c.args.plan.now) few c.plan-consistent.ensures.consistent c.in-Some.n c.args.now c.ticks_to_next.result c.counter.result
     c.known.ensures.from c.known.ensures.within c.in-Some.ensures.used (cells_of c.args.self.now) (sym c.running.ensures.runs ∙ c.in-Some.is)
     c.counter.ensures.value c.counter.ensures.below
-    (quiet_from (checked_plan c.args.plan.now) c.in-Some.n c.args.now c.ticks_to_next.result c.counter.result c.counter.ensures.value c.ticks_to_next.ensures.quiet c.ticks_to_next.ensures.permitted)
+    (quiet_from (checked_plan c.args.plan.now) c.in-Some.n c.args.now c.ticks_to_next.result c.counter.result c.counter.ensures.value c.ticks_to_next.ensures.quiet c.ticks_to_next.ensures.permitted
+    c.ticks_to_next.ensures.recycled)
     c.ticks_to_next.ensures.met
