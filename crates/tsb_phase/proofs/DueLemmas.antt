@@ -16,7 +16,7 @@ use Rattle.tsb_objects.specs.tsb_plan.Running.{floating_time}
 use Rattle.tsb_phase.specs.declared.phase_row.PhaseRow.{PhaseRow}
 use Rattle.tsb_phase.specs.Phase.{Phase, Given, none_moved, held_of}
 use Rattle.tsb_phase.specs.Green.{passage_timer, conflict_timer, begun, begins_reduction, has_cars_before_reduction, reduction_timer, gap_has_expired, gapped_latch, has_reached_some, acting_maximum, has_maxed_out, floats_off, forced_latch, is_gapped, is_by_gap, gap, initial}
-use Rattle.tsb_phase.specs.Pedestrian.{ended_by, walk_time, clearance_time, is_resting_in_walk, pedestrian_now, pedestrian_timer_in}
+use Rattle.tsb_phase.specs.Pedestrian.{ended_by, walk_time, clearance_time, is_resting_in_walk, may_walk_again, pedestrian_now, pedestrian_timer_in}
 use Rattle.tsb_phase.specs.Ready.{is_ready, is_over, is_gapped_now, red_revert_passed, has_passed, green_is_done, may_end, needs_forced, has_timed_out}
 use Rattle.tsb_phase.specs.Next.{next_from_read}
 use Rattle.tsb_phase.specs.Cells.{number_in, row_in, phase_of, interval_of_row, pedestrian_of_row, IsRowBy}
@@ -136,9 +136,9 @@ rest-false true x = refl
 rest-false false x = refl
 
 module _ (plan : Plan) (given : Given) (p : ℕ) (w : Phase) where
-  pub part_dont_walk : w.pedestrian ≡ DontWalk → pedestrian_now plan given p w ≡ w.pedestrian
+  pub part-dont_walk : w.pedestrian ≡ DontWalk → may_walk_again given p w ≡ false → pedestrian_now plan given p w ≡ w.pedestrian
   unfolding pedestrian_now
-  part_dont_walk e = rw e refl
+  part-dont_walk e not = rw (e, not) refl
 
   pub part-rests : w.pedestrian ≡ Walk → is_resting_in_walk plan given p ≡ true → pedestrian_now plan given p w ≡ w.pedestrian
   unfolding pedestrian_now
@@ -322,6 +322,7 @@ green-still plan given p r now t is by kept part part-now least passed turned be
       over = over-green plan p (phase_of t r) (phase_of now r) green green;
       gapped = gapped-green plan given p (phase_of t r) (phase_of now r) green green (gapped-then plan given p r now t kept before turned passed);
       reverted = reverted-green plan p (phase_of t r) (phase_of now r) green green (passed-same t now r.red_revert (red_revert plan p) revert);
+      walks = refl;
     }
 
 -- ## A phase that is not Green
@@ -385,6 +386,7 @@ yellow-still plan given p r now t green yellow by not not_now revert =
       over = told.1 ∙ sym told_now.1;
       gapped = told.2 ∙ sym told_now.2;
       reverted = told.3 ∙ passed-same t now r.red_revert (red_revert plan p) revert ∙ sym told_now.3;
+      walks = refl;
     }
 
 pub red_clear-still : (plan : Plan) (given : Given) (p : ℕ) (r : PhaseRow) (now t : ℕ) → interval_of_row r ≡ RedClear → IsRowBy t r →
@@ -401,6 +403,7 @@ red_clear-still plan given p r now t is by over revert =
       over = told.1 ∙ over ∙ sym told_now.1;
       gapped = told.2 ∙ sym told_now.2;
       reverted = told.3 ∙ passed-same t now r.red_revert (red_revert plan p) revert ∙ sym told_now.3;
+      walks = refl;
     }
 
 pub red-still : (plan : Plan) (given : Given) (p : ℕ) (r : PhaseRow) (now t : ℕ) → in_service (interval_of_row r) ≡ false → IsRowBy t r →
@@ -416,4 +419,5 @@ red-still plan given p r now t out by revert =
       over = sym told.1 ∙ told_now.1;
       gapped = sym told.2 ∙ told_now.2;
       reverted = sym told.3 ∙ passed-same t now r.red_revert (red_revert plan p) revert ∙ told_now.3;
+      walks = refl;
     }

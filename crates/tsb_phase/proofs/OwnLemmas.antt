@@ -8,7 +8,7 @@ use Rattle.tsb_objects.proofs.tsb_types.ClipLemmas.{sum-agree}
 use Rattle.tsb_objects.specs.tsb_plan.Plan.{Plan}
 use Rattle.tsb_phase.specs.Phase.{Phase, Given, Moved, GreenHeld, as_read, held_of, none_held}
 use Rattle.tsb_phase.specs.Green.{waits_for, cars_waiting, reduction_timer, gapped_latch, is_gapped}
-use Rattle.tsb_phase.specs.Pedestrian.{ended_by, pedestrian_after, pedestrian_now}
+use Rattle.tsb_phase.specs.Pedestrian.{ended_by, pedestrian_after, pedestrian_now, walks_again}
 use Rattle.tsb_phase.specs.Ready.{is_gapped_now, is_ready, green_is_done}
 use Rattle.tsb_phase.specs.Next.{next, held_now, interval_after, new_interval, new_timer}
 use Rattle.tsb_phase.specs.Moves.{ended, started_by}
@@ -36,13 +36,16 @@ module _ (plan : Plan) (g h : Given) (count : plan.phase_count ≤ 16) (same : A
   gapped_now-same w = rw (gapped-same (held_of w)) refl
 
   after-same : (w : Phase) (part : PedestrianInterval) → pedestrian_after plan g p w part ≡ pedestrian_after plan h p w part
-  after-same w DontWalk = refl
+  after-same w DontWalk = rw (same.recycle p from to, same.pedestrian_call p from to, same.service, same.conflict p from to) refl
   after-same w Walk = rw (same.must_end p from to, same.service, same.conflict p from to) refl
   after-same w PedestrianClear = rw (same.must_end p from to, same.service) refl
 
   pedestrian-same : (w : Phase) → pedestrian_now plan g p w ≡ pedestrian_now plan h p w
   unfolding pedestrian_now
   pedestrian-same w = after-same w w.pedestrian
+
+  walks-same : (w : Phase) → walks_again g p w ≡ walks_again h p w
+  walks-same w = rw (same.recycle p from to, same.pedestrian_call p from to, same.service, same.conflict p from to) refl
 
   done-same : (w : Phase) (o : Option ℕ) → green_is_done plan g p w o ≡ green_is_done plan h p w o
   done-same w None =
@@ -129,6 +132,7 @@ pub looks_only : phases.LooksOnlyAtItsOwn
 looks_only plan g h count same p from to = record {
   ready = ready-same plan g h count same p from to;
   gapped = gapped_now-same plan g h count same p from to;
+  walks = walks-same plan g h count same p from to;
   goes_on = next-same plan g h count same p from to;
   ends = ended-same plan g h count same p from to;
   starts = started-same plan g h count same p from to;

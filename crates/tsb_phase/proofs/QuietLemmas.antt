@@ -4,10 +4,11 @@ use Rattle.tsb_objects.specs.tsb_types.declared.flow.Timing.{Timing}
 use Rattle.tsb_objects.specs.tsb_plan.Plan.{Plan}
 use Rattle.tsb_phase.specs.declared.conditions.Conditions.{Conditions}
 use Rattle.tsb_phase.specs.Phase.{Phase, none_moved}
+use Rattle.tsb_phase.specs.Pedestrian.{walks_again}
 use Rattle.tsb_phase.specs.Ready.{is_ready, is_over, is_gapped_now, red_revert_passed}
 use Rattle.tsb_phase.specs.Next.{next_from_read}
 use Rattle.tsb_phase.specs.Cells.{IsBy, row_in, phase_of}
-use Rattle.tsb_phase.specs.Promises.{given_of, read_in, IsTicked, TellsReady, TellsOver, TellsRedRevertPassed, TellsGapped}
+use Rattle.tsb_phase.specs.Promises.{given_of, read_in, IsTicked, TellsReady, TellsOver, TellsRedRevertPassed, TellsGapped, TellsWalks}
 use Rattle.tsb_phase.specs.Due.{IsStill}
 use Rattle.tsb_phase.proofs.ReadLemmas.{phase_in-row, stays-by, read-in}
 
@@ -48,3 +49,6 @@ module _ (now t : ℕ) (conditions : Conditions) (plan : Plan) (cells : List ℕ
   pub gapped-still : (told : Timing) → TellsGapped now conditions plan cells told → TellsGapped t conditions plan cells told
   gapped-still told tells p from within =
       tells p from within ∙ retold (λ (x : Phase). is_gapped_now plan (given_of conditions) p x) p from within (still p from within).gapped
+
+  pub walks-still : (told : Timing) → TellsWalks now conditions cells told → TellsWalks t conditions cells told
+  walks-still told tells p from within = tells p from within ∙ retold (walks_again (given_of conditions) p) p from within (still p from within).walks

@@ -37,7 +37,7 @@ red_clear-by false true r one two = sym (two refl)
 red_clear-by false false true one two = refl
 red_clear-by false false false one two = refl
 
-walk-by : (w c : Bool) → is_walk (if w then Walk else (if c then PedestrianClear else DontWalk)) ≡ w
+pub walk-by : (w c : Bool) → is_walk (if w then Walk else (if c then PedestrianClear else DontWalk)) ≡ w
 walk-by true c = refl
 walk-by false true = refl
 walk-by false false = refl

@@ -84,7 +84,6 @@ fn due_clearance(plan: &Plan, conditions: &Conditions, p: Phase, was: &PhaseRow)
 }
 
 /// The tick up to which the pedestrian part of a green stays.
-#[tactic(auto, using(crate::proofs::DueLemmas::part_dont_walk))]
 fn due_pedestrian(plan: &Plan, conditions: &Conditions, p: Phase, was: &PhaseRow) -> u32
     ensures { (t : ℕ) → IsRowBy t was.now → t < result →
         pedestrian_now (plan_of plan.now) (given_of conditions.now) p (phase_of t was.now) ≡ pedestrian_of_row was.now }

@@ -1,10 +1,12 @@
 -- One-line mistakes, each with an example that tells it from the definition.
-use Rattle.std.specs.Prelude.{◌≡◌, ℕ, ◌==◌, Bool, true, false, ◌&&◌, ◌||◌, if◌then◌else◌, min, Option, Some, None, sum_by, refl, [], ◌∷◌}
+use Rattle.std.specs.Prelude.{◌≡◌, ℕ, ◌==◌, Bool, true, false, not, ◌&&◌, ◌||◌, if◌then◌else◌, min, Option, Some, None, sum_by, refl, [], ◌∷◌}
 use Rattle.tsb_cells.specs.declared.timer.Timer.{Timer}
 use Rattle.tsb_cells.specs.declared.timer.Timer.TheVariants.{Off, On}
 use Rattle.tsb_cells.specs.Timer.{started, has_reached}
 use Rattle.tsb_objects.specs.tsb_types.declared.interval.PedestrianInterval.{PedestrianInterval}
-use Rattle.tsb_objects.specs.tsb_types.declared.interval.PedestrianInterval.TheVariants.{DontWalk, Walk}
+use Rattle.tsb_objects.specs.tsb_types.declared.interval.PedestrianInterval.TheVariants.{DontWalk, Walk, PedestrianClear}
+use Rattle.tsb_objects.specs.tsb_types.Flow.{gives_walk}
+use Rattle.tsb_objects.specs.tsb_types.Intervals.{is_green, is_clearance}
 use Rattle.tsb_objects.specs.tsb_types.Lists.{run_from}
 use Rattle.tsb_objects.specs.tsb_plan.declared.object.Object.TheVariants.{PhaseMinimumGreen, PhasePassage, PhaseMaxRecall, PhaseSimGapDisable, PhaseRedRevert, PreemptMinimumGreen}
 use Rattle.tsb_objects.specs.tsb_plan.Parts.{preempt_minimum_green}
@@ -13,15 +15,15 @@ use Rattle.tsb_objects.specs.tsb_plan.Quad.{quad}
 use Rattle.tsb_objects.specs.tsb_plan.Two.{two}
 use Rattle.tsb_phase.specs.declared.ending.Ending.{Ending}
 use Rattle.tsb_phase.specs.declared.ending.Ending.TheVariants.{MaxOut}
-use Rattle.tsb_phase.specs.Phase.{Phase, Given, GreenHeld, none_held, held_of}
+use Rattle.tsb_phase.specs.Phase.{Phase, Given, GreenHeld, none_held, held_of, at_power_up}
 use Rattle.tsb_phase.specs.Green.{conflict_timer, begins_reduction, cars_waiting, reduction_timer, gap, initial, initial_has_passed, gap_has_expired, gapped_latch, is_gapped, has_maxed_out, forced_latch}
 use Rattle.tsb_phase.specs.DynamicMaximum.{maximum_in_use, effective_maximum, stepped, running_maximum_after}
-use Rattle.tsb_phase.specs.Pedestrian.{pedestrian_now}
+use Rattle.tsb_phase.specs.Pedestrian.{pedestrian_now, pedestrian_timer_now, may_walk_again}
 use Rattle.tsb_phase.specs.Ready.{has_timed_out, has_passed, red_revert_now, is_ready}
 use Rattle.tsb_phase.specs.Next.{next, pedestrian_at_start}
 use Rattle.tsb_phase.proofs.Examples.Examples.{plan, nothing, waiting, held, several}
 use Rattle.tsb_phase.proofs.Examples.GreenExamples.{driven_on, green_for}
-use Rattle.tsb_phase.proofs.Examples.PedestrianExamples.{called_by_pedestrians}
+use Rattle.tsb_phase.proofs.Examples.PedestrianExamples.{called_by_pedestrians, in_part, recycling, in_conflict, forced_before}
 use Rattle.tsb_phase.proofs.Examples.ClearanceExamples.{starts_one, in_red, at_instant, coordinated, green}
 use Rattle.tsb_phase.proofs.Examples.MaximumExamples.{growing, green_since}
 
@@ -194,3 +196,42 @@ changes_it = refl
 ends_by_gap : has_timed_out quad coordinated 2 green ≡ true
 unfolding quad run_from cars_waiting reduction_timer gap initial maximum_in_use
 ends_by_gap = refl
+
+-- ## By pedestrian recycle a walk begins in any interval
+
+abbrev pub may_walk_in_any : Given → ℕ → Phase → Bool
+may_walk_in_any given p w =
+    given.recycle p && (gives_walk (given.pedestrian_call p) given.service && not (w.forced && given.conflict p))
+
+no_walk_in_red : may_walk_again recycling 2 at_power_up ≡ false
+no_walk_in_red = refl
+
+would_walk_in_red : may_walk_in_any recycling 2 at_power_up ≡ true
+would_walk_in_red = refl
+
+-- ## .. or though the force-off stands, so that the green lasts for another walk while the conflict waits
+
+abbrev pub may_walk_though_forced : Given → ℕ → Phase → Bool
+may_walk_though_forced given p w =
+    is_green w.interval && (given.recycle p && gives_walk (given.pedestrian_call p) given.service)
+
+no_walk_once_forced : may_walk_again in_conflict 2 forced_before ≡ false
+no_walk_once_forced = refl
+
+would_walk_once_forced : may_walk_though_forced in_conflict 2 forced_before ≡ true
+would_walk_once_forced = refl
+
+-- ## .. or its timer runs on, which is Off in DontWalk: such a walk never ends
+
+abbrev pub timer_of_any_walk : PedestrianInterval → PedestrianInterval → Timer → Timer
+timer_of_any_walk was DontWalk read = Off
+timer_of_any_walk was Walk read = read
+timer_of_any_walk was PedestrianClear read = if is_clearance was then read else On 0
+
+begins_anew : pedestrian_timer_now quad recycling 2 (in_part 150 DontWalk Off) ≡ On 0
+unfolding pedestrian_now
+begins_anew = refl
+
+would_stay_off : timer_of_any_walk DontWalk (pedestrian_now quad recycling 2 (in_part 150 DontWalk Off)) Off ≡ Off
+unfolding pedestrian_now
+would_stay_off = refl

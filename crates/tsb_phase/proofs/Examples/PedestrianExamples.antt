@@ -1,7 +1,7 @@
 -- What the definitions of walk and pedestrian clearance give, by computing, and how a preempt cuts them. Phase 2 of the
 -- built-in plan of eight phases has a walk of 4 seconds and a clearance of 6; preempt 2 has a minimum green and a
 -- minimum walk of 2 seconds and a clearance of 3, and does not have phase 2 in its list.
-use Rattle.std.specs.Prelude.{◌≡◌, ℕ, ◌==◌, true, false, Some, refl}
+use Rattle.std.specs.Prelude.{◌≡◌, ℕ, ◌==◌, Bool, true, false, Some, [], ◌∷◌, List, map, refl}
 use Rattle.tsb_cells.specs.declared.timer.Timer.{Timer}
 use Rattle.tsb_cells.specs.declared.timer.Timer.TheVariants.{Off, On}
 use Rattle.tsb_objects.specs.tsb_types.declared.interval.Interval.TheVariants.{Green, Yellow}
@@ -13,7 +13,7 @@ use Rattle.tsb_objects.specs.tsb_plan.Quad.{quad}
 use Rattle.tsb_phase.specs.Phase.{Phase, Given, Moved, at_power_up, none_moved}
 use Rattle.tsb_phase.specs.Green.{reduction_timer, gap, initial}
 use Rattle.tsb_phase.specs.DynamicMaximum.{maximum_in_use}
-use Rattle.tsb_phase.specs.Pedestrian.{ended_by, pedestrian_now}
+use Rattle.tsb_phase.specs.Pedestrian.{ended_by, pedestrian_now, walks_again}
 use Rattle.tsb_phase.specs.Ready.{is_ready}
 use Rattle.tsb_phase.specs.Next.{next}
 use Rattle.tsb_phase.specs.Laws.{least_green}
@@ -45,7 +45,7 @@ no_walk : next quad (record called_by_pedestrians { service = Some 2 }) starts_t
 unfolding quad reduction_timer gap initial
 no_walk = refl
 
--- a call that comes in the green begins no walk
+-- a call that comes in the green begins no walk where the phase may not walk again
 no_late_walk : next quad called_by_pedestrians none_moved 2 (in_part 50 DontWalk Off) ≡ in_part 51 DontWalk Off
 unfolding quad reduction_timer gap initial pedestrian_now
 no_late_walk = refl
@@ -100,6 +100,98 @@ preempt_ends_rest = refl
 preempt_lets_rest : pedestrian_now resting (record nothing { service = Some 2 }) 2 (in_part 500 Walk (On 500)) ≡ Walk
 unfolding quad pedestrian_now
 preempt_lets_rest = refl
+
+-- ## Pedestrian recycle
+
+-- phase 2 is a coordinated phase of pattern 1 that may walk again in this tick, and has a pedestrian call
+abbrev pub recycling : Given
+recycling = record called_by_pedestrians { runs = Some 1; hold = λ p. p == 2; recycle = λ p. p == 2 }
+
+-- a walk begins in the tick of the call, and its timer with it
+walks_again_at_call : next quad recycling none_moved 2 (in_part 150 DontWalk Off) ≡ in_part 151 Walk (On 0)
+unfolding quad reduction_timer gap initial pedestrian_now
+walks_again_at_call = refl
+
+-- it goes on as any other
+goes_on : next quad recycling none_moved 2 (in_part 151 Walk (On 0)) ≡ in_part 152 Walk (On 1)
+unfolding quad reduction_timer gap initial pedestrian_now
+goes_on = refl
+
+-- none begins without the order, without a call, or while a preempt is in service
+abbrev pub unasked : Given
+unasked = record recycling { recycle = λ p. false }
+
+abbrev pub uncalled : Given
+uncalled = record recycling { pedestrian_call = λ p. false }
+
+abbrev pub in_service_of_1 : Given
+in_service_of_1 = record recycling { service = Some 1 }
+
+abbrev pub begins : Phase → Given → Bool
+begins w given = walks_again given 2 w
+
+needs_all_three : map (begins (in_part 150 DontWalk Off)) (recycling ∷ unasked ∷ uncalled ∷ in_service_of_1 ∷ [])
+    ≡ true ∷ false ∷ false ∷ false ∷ []
+needs_all_three = refl
+
+unasked_stays : next quad unasked none_moved 2 (in_part 150 DontWalk Off) ≡ in_part 151 DontWalk Off
+unfolding quad reduction_timer gap initial pedestrian_now
+unasked_stays = refl
+
+uncalled_stays : next quad uncalled none_moved 2 (in_part 150 DontWalk Off) ≡ in_part 151 DontWalk Off
+unfolding quad reduction_timer gap initial pedestrian_now
+uncalled_stays = refl
+
+in_service_stays : next quad in_service_of_1 none_moved 2 (in_part 150 DontWalk Off) ≡ in_part 151 DontWalk Off
+unfolding quad reduction_timer gap initial pedestrian_now
+in_service_stays = refl
+
+-- nor where its force-off stands against a conflict; one begins where the latch falls with its conflict
+abbrev pub forced_before : Phase
+forced_before = record (in_part 150 DontWalk Off) { forced = true }
+
+abbrev pub in_conflict : Given
+in_conflict = record recycling { conflict = λ p. p == 2 }
+
+force_off_stands : pedestrian_now quad in_conflict 2 forced_before ≡ DontWalk
+unfolding pedestrian_now
+force_off_stands = refl
+
+conflict_alone : pedestrian_now quad in_conflict 2 (in_part 150 DontWalk Off) ≡ Walk
+unfolding pedestrian_now
+conflict_alone = refl
+
+latch_falls : next quad recycling none_moved 2 forced_before ≡ in_part 151 Walk (On 0)
+unfolding quad reduction_timer gap initial pedestrian_now
+latch_falls = refl
+
+-- after a clearance it begins a tick behind its end
+not_in_that_tick : next quad recycling none_moved 2 (in_part 199 PedestrianClear (On 59)) ≡ in_part 200 DontWalk Off
+unfolding quad reduction_timer gap initial pedestrian_now
+not_in_that_tick = refl
+
+a_tick_behind : next quad recycling none_moved 2 (in_part 200 DontWalk Off) ≡ in_part 201 Walk (On 0)
+unfolding quad reduction_timer gap initial pedestrian_now
+a_tick_behind = refl
+
+-- it is told of the tick in which it begins, and of no other part: in DontWalk, Walk and clearance at its end, and of no
+-- phase that is Yellow or Red
+abbrev pub told_of : List Phase
+told_of =
+    in_part 150 DontWalk Off ∷ in_part 150 Walk (On 39) ∷ in_part 150 PedestrianClear (On 60)
+    ∷ record at_power_up { interval = Yellow; timer = On 3 } ∷ at_power_up ∷ []
+
+told_as_it_begins : map (walks_again recycling 2) told_of ≡ true ∷ false ∷ false ∷ false ∷ false ∷ []
+told_as_it_begins = refl
+
+-- its green does not end in that tick, also where it could without the walk
+could_end : is_ready quad (record unasked { hold = λ p. false }) 2 (in_part 150 DontWalk Off) ≡ true
+unfolding quad reduction_timer gap initial maximum_in_use pedestrian_now is_ready
+could_end = refl
+
+does_not_end : is_ready quad (record recycling { hold = λ p. false }) 2 (in_part 150 DontWalk Off) ≡ false
+unfolding quad reduction_timer gap initial maximum_in_use pedestrian_now is_ready
+does_not_end = refl
 
 -- ## Under a preempt that ends the phase
 

@@ -1,10 +1,10 @@
 use Rattle.std.proofs.Common.{◌-◌, subst, arith}
 use Rattle.tsb_objects.specs.tsb_plan.Plan.{Plan}
 use Rattle.tsb_objects.specs.tsb_plan.PlanOf.{plan_of}
-use Rattle.tsb_phase.specs.Promises.{IsQuiet, KeepsReady, KeepsOver, KeepsRedRevertPassed, KeepsGapped}
+use Rattle.tsb_phase.specs.Promises.{IsQuiet, KeepsReady, KeepsOver, KeepsRedRevertPassed, KeepsGapped, KeepsWalks}
 use Rattle.tsb_phase.specs.Layer.{cells_of}
 use Rattle.tsb_phase.proofs.ReadLemmas.{later}
-use Rattle.tsb_phase.proofs.QuietLemmas.{ticked-still, ready-still, over-still, reverted-still, gapped-still}
+use Rattle.tsb_phase.proofs.QuietLemmas.{ticked-still, ready-still, over-still, reverted-still, gapped-still, walks-still}
 use Rattle.tsb_phase.proofs.phases.Phases.due.Goals as goal
 
 pub still_until-requires-clause-by : goal.still_until-requires-clause-by
@@ -40,3 +40,8 @@ returns-clause-gapped c =
     subst (λ (q : Plan). KeepsGapped c.args.now c.args.conditions.now q (cells_of c.args.self.now) c.max.result) c.plan.ensures.plan (λ t after soon.
     gapped-still c.args.now t c.args.conditions.now (plan_of c.plan.result.now) (cells_of c.args.self.now) c.requires.begun c.requires.by after
     (λ p from within. c.still_until.ensures t p after (omega (arith, after, soon)) from within))
+
+pub returns-clause-walks : goal.returns-clause-walks
+returns-clause-walks c = λ t after soon.
+    walks-still c.args.now t c.args.conditions.now (plan_of c.plan.result.now) (cells_of c.args.self.now) c.requires.begun c.requires.by after
+    (λ p from within. c.still_until.ensures t p after (omega (arith, after, soon)) from within)

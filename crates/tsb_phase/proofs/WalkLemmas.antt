@@ -1,0 +1,78 @@
+-- A walk that begins within a green: it is told where it begins, and its phase is not ready in that tick.
+use Rattle.std.proofs.Common.{◌≡◌, ℕ, Bool, true, false, not, ◌&&◌, if◌then◌else◌, refl, sym, ap, ◌∙◌, inl, inr}
+use Rattle.std.proofs.lemmas.Bool.{and_parts, cases_Bool}
+use Rattle.tsb_objects.specs.tsb_types.declared.interval.PedestrianInterval.{PedestrianInterval}
+use Rattle.tsb_objects.specs.tsb_types.declared.interval.PedestrianInterval.TheVariants.{DontWalk, Walk, PedestrianClear}
+use Rattle.tsb_objects.specs.tsb_types.Intervals.{is_walk, is_dont_walk}
+use Rattle.tsb_objects.specs.tsb_plan.Plan.{Plan}
+use Rattle.tsb_phase.specs.declared.phase_row.PhaseRow.{PhaseRow}
+use Rattle.tsb_phase.specs.Phase.{Phase, Given}
+use Rattle.tsb_phase.specs.Pedestrian.{clearance_has_ended, may_walk_again, pedestrian_after, pedestrian_now, walks_again}
+use Rattle.tsb_phase.specs.Ready.{is_ready}
+use Rattle.tsb_phase.specs.Cells.{phase_of, pedestrian_of_row}
+use Rattle.tsb_phase.proofs.ReadyLemmas.{is_in_dont_walk, ready_is_in_dont_walk}
+use Rattle.tsb_phase.proofs.ToldLemmas.{walk-by}
+
+by_call : (b : Bool) → is_walk (if b then Walk else DontWalk) ≡ b
+by_call true = refl
+by_call false = refl
+
+by_time : (b : Bool) → is_walk (if b then DontWalk else PedestrianClear) ≡ false
+by_time true = refl
+by_time false = refl
+
+begins_in : (plan : Plan) (given : Given) (p : ℕ) (w : Phase) (part : PedestrianInterval) →
+    (not (is_walk part) && is_walk (pedestrian_after plan given p w part)) ≡ (is_dont_walk part && may_walk_again given p w)
+begins_in plan given p w DontWalk = by_call (may_walk_again given p w)
+begins_in plan given p w Walk = refl
+begins_in plan given p w PedestrianClear = by_time (clearance_has_ended plan given p w)
+
+-- a phase that was not in Walk is in it now exactly where a walk begins within its green
+pub walk_begins : (plan : Plan) (given : Given) (p : ℕ) (w : Phase) →
+    (not (is_walk w.pedestrian) && is_walk (pedestrian_now plan given p w)) ≡ walks_again given p w
+unfolding pedestrian_now
+walk_begins plan given p w = begins_in plan given p w w.pedestrian
+
+-- and so a row tells it
+pub row_tells : (now : ℕ) (plan : Plan) (given : Given) (p : ℕ) (was : PhaseRow) (part : PedestrianInterval) →
+    part ≡ pedestrian_now plan given p (phase_of now was) →
+    (not was.walk && is_walk part) ≡ walks_again given p (phase_of now was)
+row_tells now plan given p was part e =
+    ap (λ (b : Bool). not b && is_walk part) (sym (walk-by was.walk was.clearance))
+    ∙ ap (λ (x : PedestrianInterval). not (is_walk (pedestrian_of_row was)) && is_walk x) e
+    ∙ walk_begins plan given p (phase_of now was)
+
+-- what becomes of DontWalk
+pub from_dont_walk : (plan : Plan) (given : Given) (p : ℕ) (w : Phase) (walks : Bool) → w.pedestrian ≡ DontWalk →
+    walks ≡ may_walk_again given p w → pedestrian_now plan given p w ≡ (if walks then Walk else DontWalk)
+unfolding pedestrian_now
+from_dont_walk plan given p w walks e f = rw (e, f) refl
+
+-- where a walk begins within a green, the phase is in Walk
+pub is_in_walk : (plan : Plan) (given : Given) (p : ℕ) (w : Phase) → walks_again given p w ≡ true → pedestrian_now plan given p w ≡ Walk
+is_in_walk plan given p w h =
+    let both = and_parts (is_dont_walk w.pedestrian) (may_walk_again given p w) h in
+    from_dont_walk plan given p w true (is_in_dont_walk w.pedestrian both.0) (sym both.1)
+
+no_walk_in_dont_walk : DontWalk ≡ Walk → ⊥
+no_walk_in_dont_walk e = cc
+
+-- and is not ready
+pub not_ready : (plan : Plan) (given : Given) (p : ℕ) (w : Phase) → walks_again given p w ≡ true → is_ready plan given p w ≡ false
+not_ready plan given p w h =
+    elim (cases_Bool (is_ready plan given p w)) [
+      | inl ready ↦ absurd (no_walk_in_dont_walk (sym (ready_is_in_dont_walk plan given p w ready) ∙ is_in_walk plan given p w h))
+      | inr other ↦ other
+    ]
+
+none_of : (b : Bool) → (b && false) ≡ false
+none_of true = refl
+none_of false = refl
+
+not_asked : (given : Given) (p : ℕ) (w : Phase) → given.recycle p ≡ false → may_walk_again given p w ≡ false
+not_asked given p w e = rw e (none_of _)
+
+-- without the order a phase that was in DontWalk stays in it
+pub stays_in_dont_walk : (plan : Plan) (given : Given) (p : ℕ) (w : Phase) → given.recycle p ≡ false → w.pedestrian ≡ DontWalk →
+    pedestrian_now plan given p w ≡ DontWalk
+stays_in_dont_walk plan given p w e is = from_dont_walk plan given p w false is (sym (not_asked given p w e))
