@@ -72,7 +72,8 @@ abbrev pub is_unwanted : State → ℕ → Bool
 is_unwanted s p = is_outside (wanted_by s.plan s.preempts.service) p
 
 -- what phase timing would be told again, if outputs, conflicts and orders stay: a green's passage timer is Off where an
--- output is on, its conflict timer is On where there is a conflict, and its forced latch stands where it was forced off
+-- output is on, its conflict timer is On where there is a conflict, and its forced latch stands where it was forced off.
+-- No walk begins again in it: a walk that has not begun is not lacking
 unfoldable pub phases_again : State → phase.Given
 phases_again s = record {
   output = λ p. not (is_on (s.phases p).passage);
@@ -85,6 +86,7 @@ phases_again s = record {
   hold = clipped (hold s);
   must_end = clipped (is_unwanted s);
   forced = λ p. (s.phases p).forced;
+  recycle = λ p. false;
 }
 
 -- ## What a green lacks

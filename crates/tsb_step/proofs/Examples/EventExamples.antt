@@ -1,5 +1,5 @@
 -- The events of inputs, by computing, worked by hand from the plan of eight phases. Its overlap 1 includes phases 1 and 2.
-use Rattle.std.specs.Prelude.{◌≡◌, true, false, [], ◌∷◌, Some, is_some, refl}
+use Rattle.std.specs.Prelude.{◌≡◌, ℕ, ◌==◌, true, false, [], ◌∷◌, Some, is_some, refl}
 use Rattle.tsb_cells.specs.declared.timer.Timer.TheVariants.{On}
 use Rattle.tsb_types.specs.Events.{event}
 use Rattle.tsb_types.specs.Sets.{all_off}
@@ -12,7 +12,7 @@ use Rattle.tsb_step.specs.Quiet.{IsQuiet}
 use Rattle.tsb_step.specs.State.{State, start}
 use Rattle.tsb_step.specs.Tick.{phases_given, phase_read}
 use Rattle.tsb_step.proofs.Examples.Scenes as scenes
-use Rattle.tsb_step.proofs.Examples.Scenes.{after, all_red, called, green, preempt, resting, short, these, vehicle}
+use Rattle.tsb_step.proofs.Examples.Scenes.{after, all_red, button, called, green, preempt, resting, short, these, vehicle}
 
 -- what a computed line opens
 unfoldable pub opened : Unit {0}
@@ -72,6 +72,27 @@ pattern : events_of all_off resting (Pattern 1) ≡
     ∷ event 60 139 25 ∷ event 60 140 15 ∷ event 60 141 25 ∷ []
 unfolding opened
 pattern = refl
+
+-- ## A walk within a green
+
+-- with pedestrian recycle a button in the green of 2 begins a walk in the same tick, so that no call comes
+abbrev recycling : ℕ → State
+recycling n = record (scenes.recycling n) { memories = called [] }
+
+walks_again : events_of all_off (recycling 99) (Tick (button 2)) ≡ event 100 21 2 ∷ event 100 90 2 ∷ []
+unfolding opened
+walks_again = refl
+
+-- where no time is left for a walk the call comes
+comes : events_of all_off (recycling 660) (Tick (button 2)) ≡ event 661 45 2 ∷ event 661 90 2 ∷ []
+unfolding opened
+comes = refl
+
+-- one that stood is served
+serves : events_of all_off (record (recycling 99) { memories = record (called []) { pedestrian = λ p. p == 2 } }) (Tick all_off)
+    ≡ event 100 21 2 ∷ []
+unfolding opened
+serves = refl
 
 -- ## Causes
 

@@ -10,6 +10,8 @@ use Rattle.tsb_types.specs.declared.row.Row.{Row}
 use Rattle.tsb_types.specs.declared.stage.Stage.TheVariants.{Dwell}
 use Rattle.tsb_types.specs.Lists.{among, run_from}
 use Rattle.tsb_types.specs.Sets.{all_off, set_of_list}
+use Rattle.tsb_objects.specs.tsb_plan.declared.object.Object.TheVariants.{PhasePedestrianRecycle}
+use Rattle.tsb_objects.specs.tsb_plan.Plan.{with_value}
 use Rattle.tsb_objects.specs.tsb_plan.Quad.{quad}
 use Rattle.tsb_objects.specs.tsb_rules.PatternRules.{coordinated_count, side_sum, split_end, split_sum}
 use Rattle.tsb_objects.specs.tsb_rules.Rules.{broken_by_extensions, broken_by_parts, broken_by_phases, broken_by_rings, first_broken}
@@ -135,3 +137,7 @@ dwelling n = record red {
 -- pattern 1 runs, in which 2 and 6 are coordinated; they are Green, and 3 is called
 abbrev pub coordinated : ℕ → State
 coordinated n = record resting { now = n; pattern = Some 1; memories = called (3 ∷ []) }
+
+-- and 2 may walk again within its green, as long as 100 ticks are left to its instant, which is at 760
+abbrev pub recycling : ℕ → State
+recycling n = record (coordinated n) { plan = with_value quad PhasePedestrianRecycle 2 1 }

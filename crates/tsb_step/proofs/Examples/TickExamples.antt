@@ -1,8 +1,8 @@
 -- What a tick gives, by computing: each layer is told what was found in the same tick, and timers as the tick reads them.
-use Rattle.std.specs.Prelude.{◌≡◌, ℕ, true, false, [], ◌∷◌, map, Some, refl}
+use Rattle.std.specs.Prelude.{◌≡◌, ℕ, ◌==◌, true, false, [], ◌∷◌, map, Some, refl}
 use Rattle.tsb_cells.specs.declared.timer.Timer.TheVariants.{Off, On}
 use Rattle.tsb_types.specs.declared.interval.Interval.TheVariants.{Red, Green, Yellow}
-use Rattle.tsb_types.specs.declared.interval.PedestrianInterval.TheVariants.{Walk}
+use Rattle.tsb_types.specs.declared.interval.PedestrianInterval.TheVariants.{DontWalk, Walk, PedestrianClear}
 use Rattle.tsb_types.specs.Sets.{all_off}
 use Rattle.tsb_objects.specs.tsb_plan.declared.object.Object.TheVariants.{VehicleDetectorCallPhase, PhaseTimeBeforeReduction, PhaseCarsBeforeReduction, VehicleDetectorFailTime}
 use Rattle.tsb_objects.specs.tsb_plan.Plan.{with_values}
@@ -14,7 +14,7 @@ use Rattle.tsb_ring.specs.Rings.{Ring1, Ring2}
 use Rattle.tsb_transact.specs.Desk.{closed}
 use Rattle.tsb_transact.specs.declared.desk_state.DeskState.TheVariants.{Transaction}
 use Rattle.tsb_step.specs.State.{State, start, interval, pedestrian_part}
-use Rattle.tsb_step.proofs.Examples.Scenes.{opened, after, vehicle, button, green, clearing, these, all_red, called, intervals, red, resting, short, walking, at_barrier, entering, coordinated}
+use Rattle.tsb_step.proofs.Examples.Scenes.{opened, after, vehicle, button, preempt, green, clearing, these, all_red, called, intervals, red, resting, short, walking, at_barrier, entering, coordinated, recycling}
 
 -- ## From power-up
 
@@ -112,6 +112,68 @@ waits = refl
 waits_not : (after walking (button 2)).memories.pedestrian 2 ≡ false
 unfolding opened
 waits_not = refl
+
+-- ## Pedestrian recycle
+
+-- a button that is pressed in a green of 2 gives a walk in the same tick, up to the one at 660: then 100 ticks are left
+walks_again : map (λ n. pedestrian_part (after (recycling n) (button 2)) 2) (99 ∷ 659 ∷ 660 ∷ []) ≡ Walk ∷ Walk ∷ DontWalk ∷ []
+unfolding opened
+walks_again = refl
+
+-- its memory falls with the walk, and stands where none begins
+falls_with_walk : map (λ n. (after (recycling n) (button 2)).memories.pedestrian 2) (99 ∷ 659 ∷ 660 ∷ []) ≡ false ∷ false ∷ true ∷ []
+unfolding opened
+falls_with_walk = refl
+
+-- so it is with a memory of an earlier tick, as of a button that was pressed in the clearance
+abbrev pub remembering : ℕ → State
+remembering n = record (recycling n) { memories = record (called (3 ∷ [])) { pedestrian = λ p. p == 2 } }
+
+serves_memory : map (λ n. pedestrian_part (after (remembering n) all_off) 2) (99 ∷ 660 ∷ []) ≡ Walk ∷ DontWalk ∷ []
+unfolding opened
+serves_memory = refl
+
+memory_falls : map (λ n. (after (remembering n) all_off).memories.pedestrian 2) (99 ∷ 660 ∷ []) ≡ false ∷ true ∷ []
+unfolding opened
+memory_falls = refl
+
+-- its timer begins with it, and the green goes on
+begins_anew : ((after (recycling 99) (button 2)).phases 2).pedestrian_timer ≡ On 0
+unfolding opened
+begins_anew = refl
+
+goes_on : ((after (recycling 99) (button 2)).phases 2).timer ≡ On 60
+unfolding opened
+goes_on = refl
+
+-- none begins without a call, with a preempt in service, or without the object
+none_begins : map (λ s. pedestrian_part s 2)
+    (after (recycling 99) all_off ∷ after (remembering 99) (preempt 1) ∷ after (coordinated 99) (button 2) ∷ [])
+    ≡ DontWalk ∷ DontWalk ∷ DontWalk ∷ []
+unfolding opened
+none_begins = refl
+
+-- nor within a clearance, also where there is time: the button is remembered
+abbrev pub clearing_2 : State
+clearing_2 = record (recycling 99) {
+  phases = these (2 ∷ []) (record (green 59) { pedestrian = PedestrianClear; pedestrian_timer = On 9 }) all_red;
+}
+
+clears_on : pedestrian_part (after clearing_2 (button 2)) 2 ≡ PedestrianClear
+unfolding opened
+clears_on = refl
+
+is_kept : (after clearing_2 (button 2)).memories.pedestrian 2 ≡ true
+unfolding opened
+is_kept = refl
+
+-- nor once it was forced off, for a conflict that still waits: at 761 there is time to the next instant
+abbrev pub held_back : State
+held_back = record (remembering 760) { phases = these (2 ∷ 6 ∷ []) (record (green 19) { forced = true }) all_red }
+
+stays_forced : pedestrian_part (after held_back all_off) 2 ≡ DontWalk
+unfolding opened
+stays_forced = refl
 
 -- ## Phase timing
 

@@ -1,6 +1,6 @@
 -- What the laws of times refuse: for each law a mistake in the definitions, and by computing what comes of it. Beside each
 -- stands what the definitions as they are make of the same state, and so that the law's premises can be met.
-use Rattle.std.specs.Prelude.{◌≡◌, ℕ, nat_le, ◌==◌, Bool, true, false, [], ◌∷◌, Option, Some, None, refl}
+use Rattle.std.specs.Prelude.{◌≡◌, ℕ, nat_le, ◌==◌, Bool, true, false, if◌then◌else◌, [], ◌∷◌, Option, Some, None, refl}
 use Rattle.tsb_types.specs.Sets.{all_off}
 use Rattle.tsb_types.specs.declared.interval.Interval.TheVariants.{Green, Red, Yellow, RedClear}
 use Rattle.tsb_types.specs.declared.interval.PedestrianInterval.{PedestrianInterval}
@@ -20,7 +20,7 @@ use Rattle.tsb_objects.specs.tsb_plan.Quad.{quad}
 use Rattle.tsb_phase.specs.Phase as phase
 use Rattle.tsb_phase.specs.Phase.{Phase, Given, Moved, none_moved}
 use Rattle.tsb_phase.specs.Moves.{unforced}
-use Rattle.tsb_phase.specs.Pedestrian.{walk_time, after_walk}
+use Rattle.tsb_phase.specs.Pedestrian.{walk_time, after_walk, may_walk_again, pedestrian_now}
 use Rattle.tsb_phase.specs.Next.{new_forced}
 use Rattle.tsb_heads.specs.declared.monitor.Trip.TheVariants.{Conflict}
 use Rattle.tsb_heads.specs.Heads.{aspect_of}
@@ -30,8 +30,9 @@ use Rattle.tsb_transact.specs.declared.desk_state.DeskState.TheVariants.{Done}
 use Rattle.tsb_step.specs.declared.inputs.Input.TheVariants.{Tick, Pattern, Commit}
 use Rattle.tsb_machine.specs.declared.commands.Command.TheVariants.{Apply}
 use Rattle.tsb_machine.specs.declared.commands.Answer.TheVariants.{Took}
-use Rattle.tsb_step.proofs.Examples.Scenes.{opened, resting, walking, red, at_barrier, these, all_red}
+use Rattle.tsb_step.proofs.Examples.Scenes.{opened, button, resting, walking, red, at_barrier, these, all_red}
 use Rattle.tsb_step.proofs.Examples.StepExamples.{edit, editing}
+use Rattle.tsb_step.proofs.Examples.TickExamples.{clearing_2}
 use Rattle.tsb_step.specs.State.{State, start, interval, pedestrian_part}
 use Rattle.tsb_step.specs.Tick.{phases_given, phase_read, reverted}
 use Rattle.tsb_step.specs.Signs.{display, field}
@@ -107,6 +108,19 @@ walks_on = refl
 would_clear : walk_ends_at_once quad (phases_given walking all_off) 2 (pedestrian_part walking 2) ≡ PedestrianClear
 unfolding opened
 would_clear = refl
+
+-- ## Ticks end in time: a walk by pedestrian recycle that begins before the clearance has ended
+
+abbrev walk_for_clearance : Plan → Given → ℕ → Phase → PedestrianInterval
+walk_for_clearance plan given p w = if may_walk_again given p w then Walk else pedestrian_now plan given p w
+
+still_clears : pedestrian_part (step clearing_2 (Tick (button 2))) 2 ≡ PedestrianClear
+unfolding opened
+still_clears = refl
+
+would_walk_first : walk_for_clearance clearing_2.plan (phases_given clearing_2 (button 2)) 2 (phase_read clearing_2 2) ≡ Walk
+unfolding opened
+would_walk_first = refl
 
 -- ## Phases clear in yellow: a yellow that ends after a few ticks
 

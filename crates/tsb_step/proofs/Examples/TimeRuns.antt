@@ -15,7 +15,7 @@ use Rattle.tsb_types.specs.declared.limits.TheConstants.{TICKS}
 use Rattle.tsb_types.specs.Intervals.{is_green, is_yellow, is_red_clear, is_walk, is_clearance}
 use Rattle.tsb_types.specs.Sets.{all_off}
 use Rattle.tsb_objects.specs.tsb_plan.declared.object.Object.{Object}
-use Rattle.tsb_objects.specs.tsb_plan.declared.object.Object.TheVariants.{PhaseMinRecall, PhaseMaxRecall, PhasePedRecall, PhaseWalk, PhasePedestrianClear, PhaseMinimumGreen, OverlapIncludedPhases, PatternCycleTime, PatternSplitNumber, PatternSequenceNumber, SplitTime, SplitCoordPhase, UnitRedRevert}
+use Rattle.tsb_objects.specs.tsb_plan.declared.object.Object.TheVariants.{PhaseMinRecall, PhaseMaxRecall, PhasePedRecall, PhaseWalk, PhasePedestrianClear, PhaseMinimumGreen, PhasePedestrianRecycle, OverlapIncludedPhases, PatternCycleTime, PatternSplitNumber, PatternSequenceNumber, SplitTime, SplitCoordPhase, UnitRedRevert}
 use Rattle.tsb_objects.specs.tsb_plan.Objects.{has_index}
 use Rattle.tsb_objects.specs.tsb_plan.Parts.{is_minus_green_yellow}
 use Rattle.tsb_objects.specs.tsb_plan.Plan.{Plan, empty, is_same, with_value, with_values, red_revert}
@@ -418,3 +418,77 @@ is_over = refl
 at_zero : local (paced_at 100) ≡ Some 0
 unfolding opened paced brisk two
 at_zero = refl
+
+-- ## A walk within a green: by pedestrian recycle 2, which is recalled, walks again up to its instant, which is at 60
+
+abbrev recycled_values : List (Object × ℕ × ℕ)
+recycled_values = (PhasePedestrianRecycle, 2, 1) ∷ []
+
+unfoldable pub recycled : Plan
+recycled = with_values paced recycled_values
+
+recycled_count : recycled.phase_count ≡ 16
+unfolding recycled paced brisk two
+recycled_count = refl
+
+recycled_rules : first_broken recycled ≡ None
+unfolding opened recycled paced brisk two
+recycled_rules = refl
+
+recycled_none : HasNone recycled.value
+unfolding recycled
+recycled_none = none_with recycled_values paced refl paced_none
+
+recycled_taken : AreTaken recycled selected
+unfolding opened recycled paced brisk two
+recycled_taken = (tt, refl)
+
+recycled_not_ticked : (replay recycled selected).now ≡ 0
+unfolding opened recycled paced brisk two
+recycled_not_ticked = refl
+
+abbrev pub recycled_at : ℕ → State
+recycled_at n = replay recycled (ticks_after selected n)
+
+recycled_met : (n : ℕ) → n ≤ 500 → Meets recycled (ticks_after selected n)
+recycled_met n few =
+    let now = recycled_not_ticked in
+    meets_after recycled selected n (consistent recycled recycled_count recycled_rules recycled_none) recycled_taken refl (omega (arith, few, now))
+
+-- the first walk and its clearance end in tick 21, the second walk begins in tick 22
+again_before : pedestrian_part (recycled_at 21) 2 ≡ DontWalk
+unfolding opened recycled paced brisk two
+again_before = refl
+
+again_after : pedestrian_part (recycled_at 22) 2 ≡ Walk
+unfolding opened recycled paced brisk two
+again_after = refl
+
+tells_again : ((recycled_at 31).phases 2).pedestrian_timer ≡ On 9
+unfolding opened recycled paced brisk two
+tells_again = refl
+
+held_again : held_for (λ s. is_walk (pedestrian_part s 2)) recycled (ticks_after selected 31) ≡ 9
+unfolding opened recycled paced brisk two
+held_again = refl
+
+-- it ends in tick 32, its clearance in tick 42; a third would not end by tick 60, and the green ends there
+again_clears : pedestrian_part (recycled_at 32) 2 ≡ PedestrianClear
+unfolding opened recycled paced brisk two
+again_clears = refl
+
+again_ends : pedestrian_part (recycled_at 42) 2 ≡ DontWalk
+unfolding opened recycled paced brisk two
+again_ends = refl
+
+no_third : pedestrian_part (recycled_at 43) 2 ≡ DontWalk
+unfolding opened recycled paced brisk two
+no_third = refl
+
+green_until : interval (recycled_at 59) 2 ≡ Green
+unfolding opened recycled paced brisk two
+green_until = refl
+
+yellow_from : interval (recycled_at 60) 2 ≡ Yellow
+unfolding opened recycled paced brisk two
+yellow_from = refl
