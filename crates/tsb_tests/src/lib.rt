@@ -40,6 +40,8 @@ mod plans;
 #[cfg(test)]
 mod programs;
 #[cfg(test)]
+mod recycle;
+#[cfg(test)]
 mod rules;
 #[cfg(test)]
 mod sessions;

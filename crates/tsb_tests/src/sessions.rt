@@ -327,6 +327,37 @@ never\nnothing\ntick 0000001\n"
     assert!(rt; answers_on_quad(rt.alloc(), log, commands, answers));
 }
 
+/// A walk within a green, by pedestrian recycle, worked by hand: the button of phase 2 is pressed in tick 3 of its green.
+/// The undo of that tick gives back what was before it.
+#[test]
+fn walks_within_greens_are_answered(rt: HostRuntime) {
+    let log =
+        b"0000003 0000000000000000 01000000 0000\n0000004 0000000000000000 00000000 0000\n".as_slice();
+    let commands = b"pattern 1\nstep 2\nwhen ped 2\nstep 1\nwhen ped 2\nseek 1
+begin 1\nset 1 phasePedestrianRecycle 2 1\nverify 1\ncommit 1\nstep 2\nwhen ped 2\nundo\nshow\nwhen ped 2\nstep 2\nwhen ped 2\n"
+        .as_slice();
+    let answers = b"ok
+0000001 RGRRRGRR-------- -D-------------- G--- 0 0001
+0000002 RGRRRGRR-------- -D-------------- G--- 0 0002
+never
+0000003 RGRRRGRR-------- -D-------------- G--- 0 0003
+never
+0000001 RGRRRGRR-------- -D-------------- G--- 0 0001
+ok\nok\nok\nok
+0000002 RGRRRGRR-------- -D-------------- G--- 0 0002
+0000003 RGRRRGRR-------- -W-------------- G--- 0 0003
+tick 0000003
+undone tick
+0000002 RGRRRGRR-------- -D-------------- G--- 0 0002
+never
+0000003 RGRRRGRR-------- -W-------------- G--- 0 0003
+0000004 RGRRRGRR-------- -W-------------- G--- 0 0004
+tick 0000003
+"
+        .as_slice();
+    assert!(rt; answers_on_quad(rt.alloc(), log, commands, answers));
+}
+
 /// `step`, this many spaces, and `1`, with this after it.
 fn answers_spaced(alloc: Global, spaces: usize, end: &[u8], text: &[u8]) -> bool {
     let mut line = [b' '; 300];
