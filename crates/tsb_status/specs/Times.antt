@@ -26,7 +26,7 @@ phase_by x = record {
 abbrev pub read_by : PhaseTimes → Phase
 read_by x = as_read (phase_by x)
 
--- what phase timing would be told again of this phase
+-- what phase timing would be told again of this phase; that it may walk again is part of no time that is left
 abbrev pub given_by : GreenFound → PhaseTimes → Given
 given_by found x = record {
   output = λ p. not (is_on x.passage);
@@ -39,4 +39,5 @@ given_by found x = record {
   hold = λ p. found.is_held;
   must_end = λ p. found.must_end;
   forced = λ p. x.forced;
+  recycle = λ p. false;
 }
