@@ -322,15 +322,17 @@ pub fn phases_are_served_in_patterns()
 /// `coordForceMode` and all permissive times are 0, a phase is forced off where the local counter is at its force-off
 /// instant, and in no other tick; and no green is forced off for its length. Where `coordMaximumMode` is 0, maximums
 /// end greens in free operation alone. Where no pattern leads and lags, K20 asks that coordinated splits end at one
-/// time, and instants are as counted from the first coordinated phase. K23 then asks for nothing. So it is in every
-/// tick, for each phase, and whatever pattern is selected.
+/// time, and instants are as counted from the first coordinated phase. Where no phase has pedestrian recycle, none may
+/// walk again within its green. K23 then asks for nothing. So it is in every tick, for each phase, and whatever pattern
+/// is selected.
 ///
 /// Needs: for what instants are counted from, a plan that breaks no rule and a pattern that is used.
 /// Mistakes: force-off that is late whatever the mode is, `late_always` (`is_not_asked`, `would_ask`); that floats,
 /// `floating_always` (`is_not_forced`, `would_be_forced`); a permissive time where there is none, `permits_always`
 /// (`is_not_permitted`, `would_permit`); a maximum that acts in patterns, `maximum_always` (`is_not_out`,
 /// `would_be_out`); a K20 that lets splits end apart (`ends_at_another_time`, `would_agree`); instants from the begin
-/// of the cycle, `from_the_begin` (`is_counted`, `would_be_later`); a K23 that asks for a time, `asks_for_time`
+/// of the cycle, `from_the_begin` (`is_counted`, `would_be_later`); a second walk in each coordinated green,
+/// `recycles_always` (`is_not_recycled`, `would_walk_again`); a K23 that asks for a time, `asks_for_time`
 /// (`ends_in_time`, `would_refuse`).
 /// Witness: `two_has_none`, `quad_has_none` of OptionMistakes, the built-in plans.
 pub fn options_off_change_nothing()

@@ -6,13 +6,13 @@ use Rattle.std.proofs.lemmas.Bool.Decides.{nat_tests}
 use Rattle.tsb_step.specs.tsb_types.Lists.{first, or_else, run_from}
 use Rattle.tsb_step.specs.tsb_cells.Timer.{has_reached}
 use Rattle.tsb_step.specs.tsb_plan.declared.object.Object.TheVariants.{PatternCycleTime}
-use Rattle.tsb_step.specs.tsb_plan.Plan.{Plan, phases, is_enabled, ring_of}
+use Rattle.tsb_step.specs.tsb_plan.Plan.{Plan, phases, is_enabled, ring_of, recycles_walk}
 use Rattle.tsb_step.specs.tsb_plan.Parts.{floats, is_used, cycle, permissive_time, leads_and_lags, is_coordinated}
 use Rattle.tsb_step.specs.tsb_plan.Running.{is_coordinated_now, split_in_effect, split_green, floating_in, floating_time, maximum_by_mode, pattern_maximum}
 use Rattle.tsb_step.specs.tsb_rules.Consistent.{IsWhole}
 use Rattle.tsb_step.specs.tsb_rules.PatternRules.{permissive_times_end}
 use Rattle.tsb_step.specs.tsb_rules.Rules.{first_broken}
-use Rattle.tsb_step.specs.tsb_objects.Instants.{is_coordinated_in, coordinated_in_ring, first_coordinated}
+use Rattle.tsb_step.specs.tsb_objects.Instants.{is_coordinated_in, coordinated_in_ring, first_coordinated, recycles}
 use Rattle.tsb_step.specs.tsb_coord.Coordinated.{reference, instant_by, force_off, is_same_from_both, is_pattern}
 use Rattle.tsb_step.proofs.tsb_coord.LocalLemmas.{IsFirst, first_passes, its_parts, ends_agree, IsReference, reference_is}
 use Rattle.tsb_step.specs.tsb_phase.Phase.{Given, GreenHeld}
@@ -52,6 +52,12 @@ freely_alone plan given p held running none = go given.runs
         ≡ (is_none o && has_reached (conflict_timer given p held) (maximum_in_use plan p running))
     go None = refl
     go (Some n) = ap (has_reached_some (conflict_timer given p held)) (never_in_patterns plan (Some n) p none)
+
+-- ## No phase walks again
+
+pub never_recycles : (plan : Plan) (runs local : Option ℕ) (p : ℕ) → recycles_walk plan p ≡ false → recycles plan runs local p ≡ false
+never_recycles plan None local p off = refl
+never_recycles plan (Some n) local p off = rw off refl
 
 -- ## Rules K20 and K23
 

@@ -1,15 +1,15 @@
 -- The built-in plans have no options, and mistakes that the law of options refuses.
-use Rattle.std.proofs.Common.{◌≡◌, ℕ, ◌-◌, nat_lt, Bool, true, false, ◌&&◌, ◌||◌, Option, Some, None, is_some, is_none, refl}
+use Rattle.std.proofs.Common.{◌≡◌, ℕ, ◌-◌, nat_lt, Bool, true, false, not, ◌&&◌, ◌||◌, Option, Some, None, is_some, is_none, refl}
 use Rattle.tsb_step.specs.tsb_cells.declared.timer.Timer.TheVariants.{Off, On}
 use Rattle.tsb_step.specs.tsb_cells.Timer.{has_reached}
 use Rattle.tsb_step.specs.tsb_plan.Parts.{cycle, permissive_time}
 use Rattle.tsb_step.specs.tsb_plan.Plan.{Plan, maximum, yellow_change, red_clear}
 use Rattle.tsb_step.specs.tsb_plan.Quad.{quad}
-use Rattle.tsb_step.specs.tsb_plan.Running.{running, split_green}
+use Rattle.tsb_step.specs.tsb_plan.Running.{running, is_coordinated_now, split_green}
 use Rattle.tsb_step.specs.tsb_plan.Two.{two}
 use Rattle.tsb_step.specs.tsb_rules.PatternRules.{each_pattern, ends_with, permissive_times_end}
-use Rattle.tsb_step.specs.tsb_objects.Instants.{is_behind}
-use Rattle.tsb_step.specs.tsb_coord.Coordinated.{local, end_of, force_off, agree, yields_to, instant_of, is_late, asks_force_off}
+use Rattle.tsb_step.specs.tsb_objects.Instants.{is_behind, walk_and_clearance, is_left}
+use Rattle.tsb_step.specs.tsb_coord.Coordinated.{local, end_of, force_off, agree, yields_to, instant_of, is_late, asks_force_off, asks_recycle}
 use Rattle.tsb_step.specs.tsb_phase.Phase.{Given, GreenHeld}
 use Rattle.tsb_step.specs.tsb_phase.Green.{conflict_timer, has_maxed_out, forced_latch}
 use Rattle.tsb_step.proofs.Examples.Scenes.{opened}
@@ -17,11 +17,23 @@ use Rattle.tsb_laws.specs.Options.{HasNoOptions}
 
 two_has_none : HasNoOptions two
 unfolding two
-two_has_none = record { coord_force_mode = refl; coord_maximum_mode = refl; pattern_permissive_time = λ n. refl; pattern_lead_lag = λ n. refl }
+two_has_none = record {
+  coord_force_mode = refl;
+  coord_maximum_mode = refl;
+  pattern_permissive_time = λ n. refl;
+  pattern_lead_lag = λ n. refl;
+  phase_pedestrian_recycle = λ p. refl;
+}
 
 quad_has_none : HasNoOptions quad
 unfolding quad
-quad_has_none = record { coord_force_mode = refl; coord_maximum_mode = refl; pattern_permissive_time = λ n. refl; pattern_lead_lag = λ n. refl }
+quad_has_none = record {
+  coord_force_mode = refl;
+  coord_maximum_mode = refl;
+  pattern_permissive_time = λ n. refl;
+  pattern_lead_lag = λ n. refl;
+  phase_pedestrian_recycle = λ p. refl;
+}
 
 -- ## Force-off that is late whatever the mode is
 
@@ -61,6 +73,24 @@ would_permit : permits_always quad 770 (Some 1) 2 ≡ true
 unfolding opened
 would_permit = refl
 
+-- ## A second walk in each coordinated green
+
+-- with a cycle of 800 ticks
+abbrev recycles_always : Plan → ℕ → Option ℕ → ℕ → Bool
+recycles_always plan t selected p =
+    is_coordinated_now plan (running plan selected) p
+    && (not (asks_force_off plan t selected p)
+    && is_left 800 (walk_and_clearance plan p) (local plan t selected) (force_off plan (running plan selected) p))
+
+-- the instant of 2 is 760, and a walk from 660 and its pedestrian clearance, 100 ticks in all, would end just by it
+is_not_recycled : asks_recycle quad 660 (Some 1) 2 ≡ false
+unfolding opened
+is_not_recycled = refl
+
+would_walk_again : recycles_always quad 660 (Some 1) 2 ≡ true
+unfolding opened
+would_walk_again = refl
+
 -- ## Instants that are counted from the begin of the cycle
 
 abbrev from_the_begin : Plan → ℕ → ℕ → ℕ
@@ -88,6 +118,7 @@ waited_for = record {
   hold = λ p. false;
   must_end = λ p. false;
   forced = λ p. false;
+  recycle = λ p. false;
 }
 
 -- for 600 ticks, in which there was a conflict

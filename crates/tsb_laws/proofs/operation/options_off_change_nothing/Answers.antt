@@ -1,12 +1,13 @@
 use Rattle.std.proofs.Common.{◌≡◌, ℕ, ◌==◌, ◌*◌, Bool, false, ◌&&◌, ◌||◌, Some, None, refl, ap}
 use Rattle.std.proofs.Math.Path.{fun_ext}
-use Rattle.tsb_step.specs.tsb_plan.Plan.{Plan, side_of, is_concurrent}
+use Rattle.tsb_step.specs.tsb_plan.Plan.{Plan, side_of, is_concurrent, recycles_walk}
 use Rattle.tsb_step.specs.tsb_plan.Parts.{forces_late, floats, permissive_time, leads_and_lags, split_of, sequence_of}
-use Rattle.tsb_step.specs.tsb_plan.Running.{maximum_by_mode}
+use Rattle.tsb_step.specs.tsb_plan.Running.{running, maximum_by_mode}
 use Rattle.tsb_step.specs.tsb_rules.PatternRules.{some_and, each_pattern, split_end, ends_with, coordinated_agree, coordinated_phases_agree}
+use Rattle.tsb_step.specs.tsb_coord.Coordinated.{local}
 use Rattle.tsb_step.proofs.tsb_coord.LocalLemmas.{options_off}
 use Rattle.tsb_laws.specs.Options.{HasNoOptions}
-use Rattle.tsb_laws.proofs.operation.OptionLemmas.{never_floats, latched_by_instant, never_in_patterns, freely_alone, times_end, counted_from_first}
+use Rattle.tsb_laws.proofs.operation.OptionLemmas.{never_floats, latched_by_instant, never_in_patterns, freely_alone, never_recycles, times_end, counted_from_first}
 use Rattle.tsb_laws.proofs.operation.options_off_change_nothing.Goals as goal
 
 never_late : (plan : Plan) → HasNoOptions plan → forces_late plan ≡ false
@@ -23,6 +24,9 @@ no_time plan n none = ap (λ (seconds : ℕ). 10 * seconds) (none.pattern_permis
 
 not_apart : (plan : Plan) (n : ℕ) → HasNoOptions plan → leads_and_lags plan n ≡ false
 not_apart plan n none = ap (λ (value : ℕ). value == 1) (none.pattern_lead_lag n)
+
+no_second_walk : (plan : Plan) (p : ℕ) → HasNoOptions plan → recycles_walk plan p ≡ false
+no_second_walk plan p none = ap (λ (value : ℕ). value == 1) (none.phase_pedestrian_recycle p)
 
 ends_at_once : (plan : Plan) (n s t p q : ℕ) → HasNoOptions plan →
     ends_with plan (leads_and_lags plan n) s t p q
@@ -44,5 +48,6 @@ returns c plan none = record {
   acting = λ n p running_maximum. never_in_patterns plan (Some n) p (no_mode plan p none);
   ends = λ n s t p q. ends_at_once plan n s t p q none;
   coordinated = agree_at_once plan none;
+  recycled = λ t selected p. never_recycles plan (running plan selected) (local plan t selected) p (no_second_walk plan p none);
   permissive = times_end plan (λ n. no_time plan n none);
 }
