@@ -7,12 +7,13 @@ use Rattle.tsb_step.specs.tsb_plan.Plan.{Plan, is_enabled, ring_of, side_of, seq
 use Rattle.tsb_step.specs.tsb_plan.Parts.{split_of}
 use Rattle.tsb_step.specs.tsb_plan.Running.{running, split_in_effect, sequence_in_effect, mode_in, mode_in_effect, coordinates_in, is_coordinated_now, is_omitted_now, is_on_minimum_recall, is_on_maximum_recall, is_on_pedestrian_recall}
 use Rattle.tsb_step.specs.tsb_rules.PatternRules.{is_on, has_phases, split_on, split_sum, side_sum, split_before, ring_sequence, split_end}
-use Rattle.tsb_step.specs.tsb_coord.Coordinated.{local_in, local, end_in, instant_from, reference, instant_by, force_off, is_at_force_off, asks_force_off, asks_hold, asks_omit, sequence_now, serving_order}
+use Rattle.tsb_step.specs.tsb_coord.Coordinated.{local_in, local, end_in, instant_from, reference, instant_by, force_off, is_at_force_off, asks_force_off, asks_recycle, asks_hold, asks_omit, sequence_now, serving_order}
 use Rattle.tsb_step.specs.tsb_objects.Instants.{is_coordinated_in, coordinated_in_ring, first_coordinated}
 use Rattle.tsb_step.proofs.tsb_coord.LocalLemmas.{options_off}
 use Rattle.tsb_laws.specs.Widened.{IsNarrow, widened}
+use Rattle.tsb_laws.proofs.operation.OptionLemmas.{never_recycles}
 use Rattle.tsb_laws.proofs.versions.ListLemmas.{is_narrow, is_beyond, sum-up_to}
-use Rattle.tsb_laws.proofs.versions.PlanLemmas.{first-same, any-same, sum-same, beyond-narrow, not-enabled, enabled-narrow, split_time-same, split_mode-same, is_coordinated-same, not-coordinated, not-late, no-permissive_time, zeros, sequence-same}
+use Rattle.tsb_laws.proofs.versions.PlanLemmas.{first-same, any-same, sum-same, beyond-narrow, not-enabled, enabled-narrow, split_time-same, split_mode-same, is_coordinated-same, not-coordinated, not-late, no-permissive_time, no-second_walk, zeros, sequence-same}
 
 -- ## What runs
 
@@ -170,6 +171,13 @@ pub asks_force_off-same : (plan : Plan) (t : ℕ) (selected : Option ℕ) (p : �
 asks_force_off-same plan t selected p narrow =
     options_off (widened plan) t selected p (not-late plan narrow) (λ n. no-permissive_time plan n narrow)
     ∙ is_at_force_off-same plan t selected p narrow ∙ sym (options_off plan t selected p (not-late plan narrow) (λ n. no-permissive_time plan n narrow))
+
+-- in neither may a phase walk again
+pub asks_recycle-same : (plan : Plan) (t : ℕ) (selected : Option ℕ) (p : ℕ) → IsNarrow plan →
+    asks_recycle (widened plan) t selected p ≡ asks_recycle plan t selected p
+asks_recycle-same plan t selected p narrow =
+    never_recycles (widened plan) (running (widened plan) selected) (local (widened plan) t selected) p (no-second_walk plan p narrow)
+    ∙ sym (never_recycles plan (running plan selected) (local plan t selected) p (no-second_walk plan p narrow))
 
 pub asks_hold-same : (plan : Plan) (selected : Option ℕ) (p : ℕ) → IsNarrow plan → is_narrow p ≡ true →
     asks_hold (widened plan) selected p ≡ asks_hold plan selected p

@@ -6,8 +6,8 @@ use Rattle.std.proofs.lemmas.Bool.Decides.{nat_tests}
 use Rattle.tsb_step.specs.tsb_types.Lists.{first, run_from}
 use Rattle.tsb_step.specs.tsb_types.Sets.{names}
 use Rattle.tsb_step.proofs.tsb_types.SetLemmas.{names-above}
-use Rattle.tsb_step.specs.tsb_plan.declared.object.Object.TheVariants.{PhaseEnabled, PhaseRing, PhaseConcurrency, SplitTime, SplitMode, SplitCoordPhase, SequenceData, CoordForceMode, CoordMaximumMode, PatternPermissiveTime, PatternLeadLag}
-use Rattle.tsb_step.specs.tsb_plan.Plan.{Plan, phases, is_enabled, is_concurrent, sequence}
+use Rattle.tsb_step.specs.tsb_plan.declared.object.Object.TheVariants.{PhaseEnabled, PhaseRing, PhaseConcurrency, SplitTime, SplitMode, SplitCoordPhase, SequenceData, CoordForceMode, CoordMaximumMode, PatternPermissiveTime, PatternLeadLag, PhasePedestrianRecycle}
+use Rattle.tsb_step.specs.tsb_plan.Plan.{Plan, phases, is_enabled, is_concurrent, recycles_walk, sequence}
 use Rattle.tsb_step.specs.tsb_plan.Parts.{forces_late, floats, permissive_time, leads_and_lags, split_index, mode_of, split_time, split_mode, is_omitted, is_coordinated}
 use Rattle.tsb_step.specs.tsb_plan.Running.{maximum_by_mode}
 use Rattle.tsb_step.specs.tsb_ring.Rings.{Ring, Ring1, Ring2, in_ring}
@@ -138,6 +138,10 @@ no-permissive_time plan n narrow = rw (narrow.placed PatternPermissiveTime n ref
 -- coordinated splits end at one time
 pub not-apart : (plan : Plan) (n : ℕ) → IsNarrow plan → leads_and_lags plan n ≡ false
 not-apart plan n narrow = rw (narrow.placed PatternLeadLag n refl) refl
+
+-- no phase walks again within its green
+pub no-second_walk : (plan : Plan) (p : ℕ) → IsNarrow plan → recycles_walk plan p ≡ false
+no-second_walk plan p narrow = rw (narrow.placed PhasePedestrianRecycle p refl) refl
 
 -- ## Sequences
 

@@ -14,6 +14,7 @@ use Rattle.tsb_step.specs.tsb_calls.Memories.{Memories, has_output}
 use Rattle.tsb_step.specs.tsb_calls.Callable.{has_pedestrian_call, is_callable, has_conflict}
 use Rattle.tsb_step.specs.tsb_phase.Phase as phase
 use Rattle.tsb_step.specs.tsb_phase.Next as phase_next
+use Rattle.tsb_step.specs.tsb_phase.Pedestrian as pedestrian
 use Rattle.tsb_step.specs.tsb_phase.Ready.{is_ready}
 use Rattle.tsb_step.specs.tsb_ring.Rings as rings
 use Rattle.tsb_step.specs.tsb_ring.Rings.{Ring, number}
@@ -21,12 +22,12 @@ use Rattle.tsb_step.specs.tsb_ring.Next as rings_next
 use Rattle.tsb_step.specs.tsb_ring.Moves.{is_ended, is_started}
 use Rattle.tsb_step.specs.tsb_coord.Coordinated.{serving_order}
 use Rattle.tsb_step.specs.State.{State, interval}
-use Rattle.tsb_step.specs.Tick.{new_service, service, hold, forced, omitted, green_timer, new_detectors, calls_given, set, callable, conflict, pedestrian_call, phases_given, phase_read, ready, over, reverted, gapped, rings_given, moves, moved, done, next, preempts_given, preempts_read}
+use Rattle.tsb_step.specs.Tick.{new_service, service, hold, forced, recycle, omitted, green_timer, new_detectors, calls_given, set, callable, conflict, pedestrian_call, phases_given, phase_read, ready, over, reverted, gapped, walks_again, rings_given, moves, moved, done, next, preempts_given, preempts_read}
 use Rattle.tsb_step.proofs.tsb_phase.MoveLemmas.{stays_at_power_up}
 use Rattle.tsb_laws.specs.Widened.{IsNarrow, widened, widened_state, AreOfTable, IsLampWithin}
 use Rattle.tsb_laws.proofs.versions.ListLemmas.{is_narrow, IsSameOnNarrow, IsBeyondNarrow}
 use Rattle.tsb_laws.proofs.versions.PlanLemmas.{zeros, beyond-narrow}
-use Rattle.tsb_laws.proofs.versions.CoordLemmas.{running-same, asks_hold-same, asks_omit-same, asks_force_off-same, serving_order-same}
+use Rattle.tsb_laws.proofs.versions.CoordLemmas.{running-same, asks_hold-same, asks_omit-same, asks_force_off-same, asks_recycle-same, serving_order-same}
 use Rattle.tsb_laws.proofs.versions.PreemptLemmas as preempts
 use Rattle.tsb_laws.proofs.versions.CallLemmas as calls
 use Rattle.tsb_laws.proofs.versions.PhaseLemmas as phases
@@ -131,6 +132,9 @@ none-told s row narrow p out = ap (λ b. is_phase p && b) (none-beyond s row nar
 forced-same : (s : State) → IsNarrow s.plan → forced (widened_state s) ≡ forced s
 forced-same s narrow = fun_ext (λ p. asks_force_off-same s.plan (s.now + 1) s.pattern p narrow)
 
+recycle-same : (s : State) → IsNarrow s.plan → recycle (widened_state s) ≡ recycle s
+recycle-same s narrow = fun_ext (λ p. asks_recycle-same s.plan (s.now + 1) s.pattern p narrow)
+
 phases_given-same : (s : State) (row : Row) → IsNarrow s.plan →
     phases_given (widened_state s) row ≡ phases.wide_given (wide_hold s) (phases_given s row)
 unfolding phases_given
@@ -145,6 +149,7 @@ phases_given-same s row narrow = λ i. record {
   hold = wide_hold s;
   must_end = clipped (preempts.must_end-same s.plan (preempts_given s row) (preempts_read s) narrow i);
   forced = clipped (forced-same s narrow i);
+  recycle = clipped (recycle-same s narrow i);
 }
 
 none-given : (s : State) (row : Row) → IsNarrow s.plan → IsBeyondNarrow (phases_given s row).callable false
@@ -182,6 +187,10 @@ gapped-same : (s : State) (row : Row) → IsNarrow s.plan → gapped (widened_st
 gapped-same s row narrow =
     fun_ext (λ p. rw (phases_given-same s row narrow)
     (phases.gapped_now-same s.plan (wide_hold s) (phases_given s row) p (phase_read s p) narrow (none-given s row narrow)))
+
+-- a walk begins within a green in both or in neither
+walks-same : (s : State) (row : Row) → IsNarrow s.plan → walks_again (widened_state s) row ≡ walks_again s row
+walks-same s row narrow = fun_ext (λ p. ap (λ (given : phase.Given). pedestrian.walks_again given p (phase_read s p)) (phases_given-same s row narrow))
 
 -- ## Rings
 
@@ -236,6 +245,7 @@ done-same s row is = λ i. record {
   starts = is_started (tick-moves-same s row is i);
   ends = is_ended (tick-moves-same s row is i);
   gapped = clipped (gapped-same s row is.plan i);
+  walks = clipped (walks-same s row is.plan i);
   service = service-same s row is.plan i;
 }
 
