@@ -15,8 +15,8 @@ ghost use Rattle.tsb_laws.specs.Coordination.{CoordinatedEndByForceOff, OmittedA
 /// Witness: `an_intergreen` of CommitmentRuns.
 ///
 /// `walks`: Pedestrians have cleared before a conflicting green. From the beginning of a walk to the end of its green
-/// there are at least its walk and its pedestrian clearance, and then comes the intergreen. Under a preempt that ends
-/// the phase these are the smaller times.
+/// there are at least its walk and its pedestrian clearance, and then comes the intergreen. That is so of each walk,
+/// whether it begins with the green or within it. Under a preempt that ends the phase these are the smaller times.
 ///
 /// Needs: an untripped stretch.
 /// Not said: that the time is enough to cross the road.
