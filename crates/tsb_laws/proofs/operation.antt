@@ -42,6 +42,8 @@ pub mod ServedTickLemmas
 pub mod ServedRunLemmas
 pub mod CoordinatedCallLemmas
 pub mod CoordinatedInstantLemmas
+pub mod RecycleTimeLemmas
+pub mod RecycledTickLemmas
 pub mod CoordinatedForceLemmas
 pub mod CoordinatedRunLemmas
 pub mod CoordinatedBarrierLemmas

@@ -72,6 +72,8 @@ pub mod Options
 pub mod LateGreens
 -- by what else greens may end in a pattern: floating force-off, maximums and the permissive time
 pub mod PatternEnds
+-- when a phase walks again within its green, and that no force-off waits for such a walk
+pub mod RecycledWalks
 -- what the laws of runs, and those of cells and records, say of one run
 pub mod PlayLaws
 pub mod PlayRecords

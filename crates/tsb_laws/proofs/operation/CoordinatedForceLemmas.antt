@@ -8,7 +8,7 @@ use Rattle.tsb_step.specs.tsb_cells.declared.timer.Timer.TheVariants.{On}
 use Rattle.tsb_step.specs.tsb_cells.Timer.{advanced}
 use Rattle.tsb_step.specs.tsb_types.declared.interval.Interval.TheVariants.{Green}
 use Rattle.tsb_step.specs.tsb_types.declared.interval.PedestrianInterval.{PedestrianInterval}
-use Rattle.tsb_step.specs.tsb_types.declared.interval.PedestrianInterval.TheVariants.{DontWalk}
+use Rattle.tsb_step.specs.tsb_types.declared.interval.PedestrianInterval.TheVariants.{DontWalk, Walk}
 use Rattle.tsb_step.specs.tsb_types.declared.row.Row.{Row}
 use Rattle.tsb_step.specs.tsb_types.Intervals.{is_green, is_dont_walk}
 use Rattle.tsb_step.specs.tsb_types.Sets.{is_phase}
@@ -16,14 +16,17 @@ use Rattle.tsb_step.specs.tsb_plan.Plan.{Plan, walk, pedestrian_clear}
 use Rattle.tsb_step.specs.tsb_coord.Coordinated.{asks_force_off}
 use Rattle.tsb_step.specs.tsb_phase.Phase.{Phase, Given, held_of}
 use Rattle.tsb_step.specs.tsb_phase.Green.{initial, initial_has_passed, is_gapped, is_by_gap, has_maxed_out, floats_off, forced_latch}
-use Rattle.tsb_step.specs.tsb_phase.Pedestrian.{ended_by, pedestrian_now, pedestrian_timer_in}
+use Rattle.tsb_step.specs.tsb_phase.Pedestrian.{ended_by, pedestrian_now, walks_again, pedestrian_timer_in}
 use Rattle.tsb_step.specs.tsb_phase.Ready.{needs_forced, has_timed_out, may_end, green_is_done, is_ready}
 use Rattle.tsb_step.specs.tsb_ring.Moves.{is_ended, is_started}
 use Rattle.tsb_step.specs.State.{State, interval}
 use Rattle.tsb_step.specs.Tick.{service, runs, forced, conflict, phases_given, phase_read, moves, ready, next}
+use Rattle.tsb_step.specs.Good.{IsGood}
 use Rattle.tsb_laws.specs.ServedCalls.{longest_initial}
 use Rattle.tsb_laws.proofs.operation.PhaseTimeLemmas.{left, walking_in, Runs, IsTimed}
-use Rattle.tsb_laws.proofs.operation.PressedGreenLemmas.{initial_most, walks_down, walks_no_more}
+use Rattle.tsb_laws.proofs.operation.PressedGreenLemmas.{initial_most, rests_not, walks_down, walks_no_more}
+use Rattle.tsb_laws.proofs.operation.RecycleTimeLemmas.{fits_to}
+use Rattle.tsb_laws.proofs.operation.RecycledTickLemmas.{Again, again_parts}
 
 -- what is forced off may end, be it coordinated or not
 pub may_end_forced : (plan : Plan) (given : Given) (p : ℕ) (w : Phase) → forced_latch plan given p (held_of w) ≡ true → may_end plan given p w ≡ true
@@ -166,10 +169,43 @@ module _ (s : State) (row : Row) (p f : ℕ) (on : is_phase p ≡ true) (pressed
           let sooner : s.now + 1 + 1 ≤ f = below (s.now + 1) k (λ same. true≢false (sym (forced_at same) ∙ h)) in
           record { ahead = subst (λ (l : Bool). IsAhead f (s.now + 1 + 1) l) (sym now) sooner; less = omega (arith, after, before) }
 
-  pub presses_down : (i a b : ℕ) → walk s.plan p ≤ a → pedestrian_clear s.plan p ≤ b → IsTimed (s.phases p) → IsAhead f (s.now + 1) (s.phases p).forced →
+  -- where p may not walk again, its pedestrians have a tick less
+  walks_less : walks_again (phases_given s row) p (phase_read s p) ≡ false → (a b : ℕ) → walk s.plan p ≤ a → pedestrian_clear s.plan p ≤ b → IsTimed (s.phases p) →
+      walking_in a b (pedestrian_timer_in (s.phases p).pedestrian (pedestrian_now s.plan (phases_given s row) p (phase_read s p)) (phase_read s p).pedestrian_timer)
+      (pedestrian_now s.plan (phases_given s row) p (phase_read s p))
+      ≤ walking_in a b (s.phases p).pedestrian_timer (s.phases p).pedestrian - 1
+  walks_less again a b most_a most_b timed =
+      walks_down s.plan (phases_given s row) p (phase_read s p) ends_by_none (rests_not s.plan (phases_given s row) p busy) again a b most_a most_b
+      (s.phases p).pedestrian_timer refl timed.walk timed.clearance
+
+  -- a walk that begins within the green fits up to tick f, which is still to come
+  walks_fit : IsGood s → IsAhead f (s.now + 1) (s.phases p).forced → walks_again (phases_given s row) p (phase_read s p) ≡ true →
+      walking_in (walk s.plan p) (pedestrian_clear s.plan p)
+      (pedestrian_timer_in (s.phases p).pedestrian (pedestrian_now s.plan (phases_given s row) p (phase_read s p)) (phase_read s p).pedestrian_timer)
+      (pedestrian_now s.plan (phases_given s row) p (phase_read s p))
+      ≤ forcing_left f (s.now + 1) (s.phases p).forced - 1
+  walks_fit good ahead again =
+      let it : Again s row p = again_parts s row p again in
+      let clear : (s.phases p).forced ≡ false = not_both (s.phases p).forced (rw busy at it.unforced) in
+      let after : s.now + 1 ≤ f = subst (λ (l : Bool). IsAhead f (s.now + 1) l) clear ahead in
+      let fits = fits_to s p f good it.recycled (omega (arith, after)) comes in
+      let least = it.long in
+      let left_is = ap (λ (l : Bool). forcing_left f (s.now + 1) l) clear in
+      let part : pedestrian_now s.plan (phases_given s row) p (phase_read s p) ≡ Walk = it.now in
+      let same = ap (λ (x : PedestrianInterval). walking_in (walk s.plan p) (pedestrian_clear s.plan p) (pedestrian_timer_in (s.phases p).pedestrian x (phase_read s p).pedestrian_timer) x) part in
+      let begun = ap (λ (x : PedestrianInterval). walking_in (walk s.plan p) (pedestrian_clear s.plan p) (pedestrian_timer_in x Walk (phase_read s p).pedestrian_timer) Walk) it.dark in
+      omega (arith, fits, least, left_is, same, begun)
+    where
+      not_both : (x : Bool) → (x && true) ≡ false → x ≡ false
+      not_both true z = absurd (true≢false z)
+      not_both false z = refl
+
+  -- a green that does not end has a tick less, also where its pedestrians walk again
+  pub presses_down : IsGood s → (i : ℕ) → IsTimed (s.phases p) → IsAhead f (s.now + 1) (s.phases p).forced →
       interval s p ≡ Green → is_ended (moves s row) p ≡ false → is_started (moves s row) p ≡ false →
-      pattern_left f (s.now + 1 + 1) i a b ((next s row).phases p) ≤ pattern_left f (s.now + 1) i a b (s.phases p) - 1
-  presses_down i a b most_a most_b timed ahead e no_end no_start =
+      pattern_left f (s.now + 1 + 1) i (walk s.plan p) (pedestrian_clear s.plan p) ((next s row).phases p)
+      ≤ pattern_left f (s.now + 1) i (walk s.plan p) (pedestrian_clear s.plan p) (s.phases p) - 1
+  presses_down good i timed ahead e no_end no_start =
       let run : Runs (s.phases p).timer = timed.green e in
       let ticks : ((next s row).phases p).timer ≡ On (run.count + 1) = rw (no_start, e, no_end, run.is) refl in
       let first : left i ((next s row).phases p).timer ≡ left i (On (run.count + 1)) = ap (λ (t : Timer). left i t) ticks in
@@ -183,16 +219,44 @@ module _ (s : State) (row : Row) (p f : ℕ) (on : is_phase p ≡ true) (pressed
       (pedestrian_now s.plan (phases_given s row) p (phase_read s p)) =
       ap (λ (t : Timer). walking_in a b t ((next s row).phases p).pedestrian) timer
       ∙ ap (λ (x : PedestrianInterval). walking_in a b (pedestrian_timer_in (s.phases p).pedestrian (pedestrian_now s.plan (phases_given s row) p (phase_read s p)) (phase_read s p).pedestrian_timer) x) part in
-      let down = walks_down s.plan (phases_given s row) p (phase_read s p) ends_by_none busy a b most_a most_b (s.phases p).pedestrian_timer refl
-      timed.walk timed.clearance in
       at_most (forcing_left f (s.now + 1 + 1) ((next s row).phases p).forced) (forcing_left f (s.now + 1) (s.phases p).forced)
       (left i ((next s row).phases p).timer) (left i (s.phases p).timer)
       (walking_in a b ((next s row).phases p).pedestrian_timer ((next s row).phases p).pedestrian)
       (walking_in a b (s.phases p).pedestrian_timer (s.phases p).pedestrian)
-      (forces_down ahead e no_end no_start).less (omega (arith, first, was)) (omega (arith, same, down))
+      (forces_down ahead e no_end no_start).less (omega (arith, first, was))
+      (let less = down (walks_again (phases_given s row) p (phase_read s p)) refl in omega (arith, same, less))
     where
-      at_most : (c d j m x y : ℕ) → c ≤ d - 1 → j ≤ m - 1 → x ≤ y - 1 → max c (max j x) ≤ max d (max m y) - 1
+      a : ℕ
+      a = walk s.plan p
+
+      b : ℕ
+      b = pedestrian_clear s.plan p
+
+      down : (w : Bool) → walks_again (phases_given s row) p (phase_read s p) ≡ w →
+          walking_in a b (pedestrian_timer_in (s.phases p).pedestrian (pedestrian_now s.plan (phases_given s row) p (phase_read s p)) (phase_read s p).pedestrian_timer)
+          (pedestrian_now s.plan (phases_given s row) p (phase_read s p))
+          ≤ max (forcing_left f (s.now + 1) (s.phases p).forced) (walking_in a b (s.phases p).pedestrian_timer (s.phases p).pedestrian) - 1
+      down false again = let less = walks_less again a b (omega arith) (omega arith) timed in omega (arith, less)
+      down true again = let less = walks_fit good ahead again in omega (arith, less)
+
+      at_most : (c d j m x y : ℕ) → c ≤ d - 1 → j ≤ m - 1 → x ≤ max d y - 1 → max c (max j x) ≤ max d (max m y) - 1
       at_most c d j m x y f g h = omega (arith, f, g, h)
+
+  -- once it is forced off, its pedestrians do not walk again
+  none_again : IsAhead f (s.now + 1) (s.phases p).forced → forcing_left f (s.now + 1) (s.phases p).forced ≡ 0 →
+      walks_again (phases_given s row) p (phase_read s p) ≡ false
+  none_again ahead none = go (walks_again (phases_given s row) p (phase_read s p)) refl
+    where
+      go : (w : Bool) → walks_again (phases_given s row) p (phase_read s p) ≡ w → walks_again (phases_given s row) p (phase_read s p) ≡ false
+      go false h = h
+      go true h = absurd (bad (s.phases p).forced refl ahead none)
+        where
+          it : Again s row p
+          it = again_parts s row p h
+
+          bad : (l : Bool) → (s.phases p).forced ≡ l → IsAhead f (s.now + 1) l → forcing_left f (s.now + 1) l ≡ 0 → ⊥
+          bad true e k z = true≢false (rw (e, busy) at it.unforced)
+          bad false e k z = true≢false (sym (forced_at (omega (arith, k, z))) ∙ it.not_now)
 
   -- one that has none left is ready
   pub ready_then : (i a b : ℕ) → longest_initial s.plan p ≤ i → walk s.plan p ≤ a → pedestrian_clear s.plan p ≤ b → IsTimed (s.phases p) →
@@ -208,6 +272,6 @@ module _ (s : State) (row : Row) (p f : ℕ) (on : is_phase p ≡ true) (pressed
       let reached : nat_le (initial s.plan p ((phases_given s row).count p)) (run.count + 1) ≡ true = grind (arith, nat_tests, zero, most, most_i) in
       let long : initial_has_passed s.plan (phases_given s row) p (held_of (phase_read s p)) ≡ true = rw now reached in
       let still : pedestrian_now s.plan (phases_given s row) p (phase_read s p) ≡ DontWalk =
-      walks_no_more s.plan (phases_given s row) p (phase_read s p) ends_by_none busy a b most_a most_b (s.phases p).pedestrian_timer refl
+      walks_no_more s.plan (phases_given s row) p (phase_read s p) ends_by_none (rests_not s.plan (phases_given s row) p busy) (none_again ahead first) a b most_a most_b (s.phases p).pedestrian_timer refl
       timed.walk timed.clearance third in
       ready_by s.plan (phases_given s row) p (phase_read s p) (ap is_green e) still ends_by_none long (latched_now ahead first)

@@ -19,10 +19,10 @@ use Rattle.tsb_laws.specs.CoordinatedGreens.{ComesInCycle}
 use Rattle.tsb_laws.proofs.operation.CoordinatedCallLemmas.{IsRunning, running_is, runs_whole}
 
 -- each enabled phase has an instant in a pattern that runs, and it is below the cycle
-record HasOwnInstant (plan : Plan) (k p : ℕ) : Type 0 where
-  instant : ℕ
-  is : force_off plan (Some k) p ≡ Some instant
-  below : instant < cycle plan k
+pub record HasOwnInstant (plan : Plan) (k p : ℕ) : Type 0 where
+  pub instant : ℕ
+  pub is : force_off plan (Some k) p ≡ Some instant
+  pub below : instant < cycle plan k
 
 own_instant : (plan : Plan) → first_broken plan ≡ None → (k p : ℕ) → IsWhole plan k → 1 ≤ k → k ≤ 16 → is_used plan k ≡ true → is_enabled plan p ≡ true →
     HasOwnInstant plan k p
@@ -40,20 +40,20 @@ own_instant plan none k p parts from to used on = go (is_enabled plan one.phase)
     go true None e h = absurd cc
     go true (Some c) e h = record { instant = instant_from plan k c p; is = rw (on, e) refl; below = mod-lt _ (omega (arith, below)) }
 
+pub instant_now : (s : State) (k p : ℕ) → IsGood s → runs s ≡ Some k → is_enabled s.plan p ≡ true → HasOwnInstant s.plan k p
+instant_now s k p good running on =
+    let chosen : IsRunning s.plan s.pattern k = running_is s.plan s.pattern k running in
+    let number : IsPatternNumber k = good.pattern k chosen.selected in
+    own_instant s.plan good.plan.rules k p (runs_whole s k good running) number.from_one number.within chosen.used on
+
 comes_in : (s : State) (k p : ℕ) → IsGood s → runs s ≡ Some k → is_enabled s.plan p ≡ true → ComesInCycle s k p
 comes_in s k p good running on = go (met_within (cycle s.plan k) (counter s.plan k (s.now + 1)) own.instant (mod-lt _ some) own.below)
   where
-    chosen : IsRunning s.plan s.pattern k
-    chosen = running_is s.plan s.pattern k running
-
-    number : IsPatternNumber k
-    number = good.pattern k chosen.selected
-
     parts : IsWhole s.plan k
     parts = runs_whole s k good running
 
     own : HasOwnInstant s.plan k p
-    own = own_instant s.plan good.plan.rules k p parts number.from_one number.within chosen.used on
+    own = instant_now s k p good running on
 
     below : offset s.plan k < cycle s.plan k
     below = parts.below

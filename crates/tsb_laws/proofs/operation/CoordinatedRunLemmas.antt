@@ -109,8 +109,8 @@ walking_most a b t PedestrianClear = let most = left_most b t in omega (arith, m
 
 module _ (plan : Plan) (base : List Input) (f p n a b : ℕ) (ok : IsConsistent plan) (few : plan.phase_count ≤ 16)
     (comes : asks_force_off (replay plan base).plan f (replay plan base).pattern p ≡ true) (later_than : (replay plan base).now < f)
-    (soon : f ≤ (replay plan base).now + n + 1) (both : a + b ≤ n) (walk_in : walk (replay plan base).plan p ≤ a)
-    (clear_in : pedestrian_clear (replay plan base).plan p ≤ b) where
+    (soon : f ≤ (replay plan base).now + n + 1) (both : a + b ≤ n) (walk_is : walk (replay plan base).plan p ≡ a)
+    (clear_is : pedestrian_clear (replay plan base).plan p ≡ b) where
   abbrev left_after : List Input → ℕ
   left_after is = pattern_left f ((replay plan is).now + 1) n a b ((replay plan is).phases p)
 
@@ -140,8 +140,8 @@ module _ (plan : Plan) (base : List Input) (f p n a b : ℕ) (ok : IsConsistent 
     good : IsGood (replay plan is)
     on : is_phase p ≡ true
     comes_now : asks_force_off (replay plan is).plan f (replay plan is).pattern p ≡ true
-    walk_now : walk (replay plan is).plan p ≤ a
-    clear_now : pedestrian_clear (replay plan is).plan p ≤ b
+    walk_now : walk (replay plan is).plan p ≡ a
+    clear_now : pedestrian_clear (replay plan is).plan p ≡ b
 
   knows : (is : List Input) → AreTaken plan is → Same is → interval (replay plan is) p ≡ Green → Knows is
   knows is taken same green = record {
@@ -149,8 +149,8 @@ module _ (plan : Plan) (base : List Input) (f p n a b : ℕ) (ok : IsConsistent 
     on = is_one (replay plan is).plan p (few_now is) (good.rings.listed p (ap in_service green));
     comes_now = ap (λ (x : Plan). asks_force_off x f (replay plan is).pattern p) same.plan_is
         ∙ (ap (λ (o : Option ℕ). asks_force_off (replay plan base).plan f o p) same.pattern_is ∙ comes);
-    walk_now = subst (λ (x : Plan). walk x p ≤ a) (sym same.plan_is) walk_in;
-    clear_now = subst (λ (x : Plan). pedestrian_clear x p ≤ b) (sym same.plan_is) clear_in;
+    walk_now = ap (λ (x : Plan). walk x p) same.plan_is ∙ walk_is;
+    clear_now = ap (λ (x : Plan). pedestrian_clear x p) same.plan_is ∙ clear_is;
   }
     where
       good : IsGood (replay plan is)
@@ -195,8 +195,12 @@ module _ (plan : Plan) (base : List Input) (f p n a b : ℕ) (ok : IsConsistent 
 
       less : pattern_left f ((replay plan is).now + 1 + 1) n a b ((next (replay plan is) row).phases p) ≤ left_after is - 1
       less =
-          presses_down (replay plan is) row p f facts.on it.conflict it.runs it.quiet facts.comes_now n a b facts.walk_now facts.clear_now
-          (timed_run plan is ok taken dark p) before.ahead it.green no_end no_start
+          subst (λ (x : ℕ). pattern_left f ((replay plan is).now + 1 + 1) n x b ((next (replay plan is) row).phases p)
+          ≤ pattern_left f ((replay plan is).now + 1) n x b ((replay plan is).phases p) - 1) facts.walk_now
+          (subst (λ (y : ℕ). pattern_left f ((replay plan is).now + 1 + 1) n (walk (replay plan is).plan p) y ((next (replay plan is) row).phases p)
+          ≤ pattern_left f ((replay plan is).now + 1) n (walk (replay plan is).plan p) y ((replay plan is).phases p) - 1) facts.clear_now
+          (presses_down (replay plan is) row p f facts.on it.conflict it.runs it.quiet facts.comes_now facts.good n
+          (timed_run plan is ok taken dark p) before.ahead it.green no_end no_start))
 
   -- any other input
   none_less : (i : Input) (is : List Input) → Leaves (replay plan is) (replay plan (i ∷ is)) p → InTime is → InTime (i ∷ is)
@@ -255,8 +259,11 @@ module _ (plan : Plan) (base : List Input) (f p n a b : ℕ) (ok : IsConsistent 
       let last : InTime (later ++ base) = lasts later taken dark pressed.0 it.green in
       let most : left_after (later ++ base) ≤ (replay plan base).now + n - (replay plan (later ++ base)).now = last.most in
       ready_then (replay plan (later ++ base)) row p f facts.on it.conflict it.runs it.quiet facts.comes_now n a b
-      (subst (λ (x : Plan). longest_initial x p ≤ n) (sym same.plan_is) initial) facts.walk_now facts.clear_now
+      (subst (λ (x : Plan). longest_initial x p ≤ n) (sym same.plan_is) initial) (at_most facts.walk_now) (at_most facts.clear_now)
       (timed_run plan (later ++ base) ok taken dark_here p) last.ahead it.green (omega (arith, most, long))
+    where
+      at_most : {x y : ℕ} → x ≡ y → x ≤ y
+      at_most e = omega (arith, e)
 
 pub forced_may_end : (plan : Plan) (base later : List Input) (row : Row) (p n : ℕ) → IsConsistent plan → plan.phase_count ≤ 16 →
     AreTaken plan (later ++ base) → IsUntripped plan base later → HasGoneOn (is_pressed_in_pattern p) plan base (Tick row ∷ later) →
@@ -264,4 +271,4 @@ pub forced_may_end : (plan : Plan) (base later : List Input) (row : Row) (p n : 
     ready (replay plan (later ++ base)) row p ≡ true
 forced_may_end plan base later row p n ok few taken dark pressed most long =
     ready_at_last plan base most.tick p n (walk (replay plan base).plan p) (pedestrian_clear (replay plan base).plan p) ok few most.forced most.later most.soon most.walk
-    (omega arith) (omega arith) later row taken dark pressed most.initial long
+    refl refl later row taken dark pressed most.initial long

@@ -17,16 +17,18 @@ use Rattle.tsb_step.specs.declared.inputs.Input.{Input}
 use Rattle.tsb_step.specs.declared.inputs.Input.TheVariants as inputs
 use Rattle.tsb_step.specs.declared.inputs.Input.TheVariants.{Tick}
 use Rattle.tsb_step.specs.State.{State, Tripped, interval, pedestrian_part}
-use Rattle.tsb_step.specs.Tick.{calls_given, set, pedestrian_call, service, phases_given, phase_read, moves, moved, done, next}
+use Rattle.tsb_step.specs.Tick.{calls_given, set, pedestrian_call, service, phases_given, phase_read, walks_again, moves, moved, done, next}
 use Rattle.tsb_step.specs.Step.{step}
 use Rattle.tsb_step.specs.Runs.{replay, AreTaken}
 use Rattle.tsb_step.specs.Laws.{IsConsistent}
 use Rattle.tsb_step.specs.Good.{IsGood}
 use Rattle.tsb_step.proofs.ClearLemmas.{phases_then}
 use Rattle.tsb_step.proofs.GoodLemmas.{good_run}
+use Rattle.tsb_step.proofs.ClipLemmas.{clipped_holds}
 use Rattle.tsb_step.proofs.TellLemmas.{starts_no_green}
 use Rattle.tsb_laws.specs.KeptCalls.{restarts, RunsOn, TurnsGreen, BeginsWalk, Remembers, HasTurnedGreen, HasBegunWalk}
 use Rattle.tsb_laws.proofs.safety.DueLemmas.{count_run, clipped_at}
+use Rattle.tsb_laws.proofs.operation.RecycledTickLemmas.{Again, again_parts, again_walks}
 use Rattle.tsb_laws.proofs.operation.TickLemmas.{not_green, memories_then, memories_rest, memories_stay, turns_green, started_is_listed}
 
 or_true : (b : Bool) → (b || true) ≡ true
@@ -105,15 +107,31 @@ walk_begins s row p good dark few starts walks =
     not_so : pedestrian_part s p ≢ Walk
     not_so k = let bad : DontWalk ≡ Walk = sym (good.walks p (starts_no_green s row p good starts)) ∙ k in absurd cc
 
+-- so it does within the green of a phase that walks again
+walks_within : (s : State) (row : Row) (p : ℕ) → IsGood s → s.trip ≡ None → (done s row).walks p ≡ true → BeginsWalk s row p
+walks_within s row p good dark h = record { was_not = not_so; begins = again_walks s row p good dark it }
+  where
+    it : Again s row p
+    it = again_parts s row p (clipped_holds (walks_again s row) p h)
+
+    not_so : pedestrian_part s p ≢ Walk
+    not_so k = let bad : DontWalk ≡ Walk = sym it.dark ∙ k in absurd cc
+
 pedestrian_then : (s : State) (row : Row) (p : ℕ) → IsGood s → s.trip ≡ None → s.plan.phase_count ≤ 16 → (set s row).pedestrian p ≡ true →
     PedestrianAfter s row p
 pedestrian_then s row p good dark few h =
-    go (is_started (moves s row) p) (gives_walk (pedestrian_call s row p) (service s row)) refl refl
+    go (is_started (moves s row) p) (gives_walk (pedestrian_call s row p) (service s row)) ((done s row).walks p) refl refl refl
   where
-    go : (starts walks : Bool) → is_started (moves s row) p ≡ starts → gives_walk (pedestrian_call s row p) (service s row) ≡ walks → PedestrianAfter s row p
-    go true true k l = inr (walk_begins s row p good dark few k l)
-    go true false k l = pedestrian_stays s row p dark h (ap (λ (b : Bool). b && gives_walk (pedestrian_call s row p) (service s row)) k ∙ l)
-    go false walks k l = pedestrian_stays s row p dark h (ap (λ (b : Bool). b && gives_walk (pedestrian_call s row p) (service s row)) k)
+    at_start : Bool
+    at_start = gives_walk (pedestrian_call s row p) (service s row)
+
+    go : (starts walks again : Bool) → is_started (moves s row) p ≡ starts → gives_walk (pedestrian_call s row p) (service s row) ≡ walks → (done s row).walks p ≡ again →
+        PedestrianAfter s row p
+    go true true again k l m = inr (walk_begins s row p good dark few k l)
+    go starts walks true k l m = inr (walks_within s row p good dark m)
+    go true false false k l m =
+        pedestrian_stays s row p dark h (ap (λ (b : Bool). (b && at_start) || (done s row).walks p) k ∙ (ap (λ (b : Bool). b || (done s row).walks p) l ∙ m))
+    go false walks false k l m = pedestrian_stays s row p dark h (ap (λ (b : Bool). (b && at_start) || (done s row).walks p) k ∙ m)
 
 pub remembers : (s : State) → IsGood s → (row : Row) (p : ℕ) → s.plan.phase_count ≤ 16 → s.trip ≡ None → Remembers s row p
 remembers s good row p few dark = record {

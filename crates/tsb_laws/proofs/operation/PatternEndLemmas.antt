@@ -1,6 +1,6 @@
 -- A green of a pattern that has its initial time, its walk and its pedestrian clearance behind it is ready by floating
 -- force-off, by a maximum that acts in the pattern, and within its permissive time.
-use Rattle.std.proofs.Common.{◌≡◌, ℕ, suc, ◌+◌, ◌<◌, ◌≤◌, nat_le, nat_lt, Bool, true, false, ◌&&◌, ◌||◌, if◌then◌else◌, List, ◌∷◌, ◌++◌, Option, Some, None, is_some, is_none, refl, sym, ap, subst, arith, ◌∙◌, inl, inr, ◌⊎◌}
+use Rattle.std.proofs.Common.{◌≡◌, ℕ, suc, ◌+◌, ◌<◌, ◌≤◌, nat_le, nat_lt, Bool, true, false, not, ◌&&◌, ◌||◌, if◌then◌else◌, List, ◌∷◌, ◌++◌, Option, Some, None, is_some, is_none, refl, sym, ap, subst, arith, ◌∙◌, inl, inr, ◌⊎◌}
 use Rattle.std.proofs.lemmas.Bool.{and_parts, or_left, or_right, false≢true}
 use Rattle.std.proofs.lemmas.Bool.Decides.{nat_tests}
 use Rattle.tsb_step.specs.tsb_cells.declared.timer.Timer.{Timer}
@@ -10,8 +10,8 @@ use Rattle.tsb_step.specs.tsb_types.declared.row.Row.{Row}
 use Rattle.tsb_step.specs.tsb_types.Intervals.{is_green, in_service}
 use Rattle.tsb_step.specs.tsb_types.Sets.{is_phase}
 use Rattle.tsb_step.specs.tsb_plan.Plan.{Plan}
-use Rattle.tsb_step.specs.tsb_plan.Parts.{cycle, permissive_time}
-use Rattle.tsb_step.specs.tsb_plan.Running.{running, is_coordinated_now, maximum_by_mode, pattern_maximum, floating_time}
+use Rattle.tsb_step.specs.tsb_plan.Parts.{cycle, permissive_time, floats, is_coordinated}
+use Rattle.tsb_step.specs.tsb_plan.Running.{running, split_in_effect, coordinates_in, is_coordinated_now, split_green, floating_in, maximum_by_mode, pattern_maximum, floating_time}
 use Rattle.tsb_step.specs.tsb_coord.Coordinated.{counter, local_in, force_off, agree, is_from_to, is_forced_late, is_permitted, forces_off, asks_force_off}
 use Rattle.tsb_step.specs.tsb_phase.Phase.{Phase, Given, held_of}
 use Rattle.tsb_step.specs.tsb_phase.Green.{conflict_timer, has_reached_some, acting_maximum, is_gapped, is_by_gap, has_maxed_out, floats_off, forced_latch}
@@ -36,7 +36,7 @@ use Rattle.tsb_laws.proofs.operation.PressedGreenLemmas.{reached_all}
 use Rattle.tsb_laws.proofs.operation.PressedRunLemmas.{is_one}
 use Rattle.tsb_laws.proofs.operation.CoordinatedForceLemmas.{ready_by_end, ready_by, ended_by_none, told_conflict, floats_now, latches, ready_at_once}
 use Rattle.tsb_laws.proofs.operation.CoordinatedRunLemmas.{forced_may_end}
-use Rattle.tsb_laws.proofs.operation.PatternPressLemmas.{IsSame, same_on, HasItBehind, has_it_behind}
+use Rattle.tsb_laws.proofs.operation.PatternPressLemmas.{IsSame, same_on, held_as, HasItBehind, has_it_behind}
 
 one_of : (plan : Plan) (is : List Input) (p : ℕ) → IsConsistent plan → plan.phase_count ≤ 16 → AreTaken plan is → in_service (interval (replay plan is) p) ≡ true →
     is_phase p ≡ true
@@ -79,6 +79,19 @@ floating_is_ready plan is row p ok few taken dark it floated =
     (floats_in_pattern (replay plan is).plan (runs (replay plan is)) p floated.time floated.floating)
     (floats_true plan is row p ok taken dark (ap is_green it.green) floated)
 
+-- nor is there one of a coordinated phase
+floats_alone : (plan : Plan) (o : Option ℕ) (p time : ℕ) → floating_time plan o p ≡ Some time → is_coordinated_now plan o p ≡ false
+floats_alone plan o p time h = go (split_in_effect plan o) h
+  where
+    go : (t : Option ℕ) → floating_in plan t p ≡ Some time → coordinates_in plan t p ≡ false
+    go None k = absurd cc
+    go (Some t) k = among (floats plan) (is_coordinated plan t p) refl k
+      where
+        among : (f c : Bool) → is_coordinated plan t p ≡ c → (if f && not c then Some (split_green plan t p) else None) ≡ Some time → is_coordinated plan t p ≡ false
+        among true true e m = absurd cc
+        among true false e m = e
+        among false c e m = absurd cc
+
 -- what has waited for long enough lacks only its end
 lacks_only : (s : State) (row : Row) (p n : ℕ) → HasItBehind s row p n → LacksOnlyItsEnd s row p
 lacks_only s row p n it = record { green = it.green; conflict = it.conflict; quiet = it.quiet; initial = it.initial; dont_walk = it.dont_walk }
@@ -88,7 +101,13 @@ pub floating_may_end : (plan : Plan) (base later : List Input) (row : Row) (p n 
     HasFloated plan p (later ++ base) → ready (replay plan (later ++ base)) row p ≡ true
 floating_may_end plan base later row p n ok few taken dark waited floated =
     floating_is_ready plan (later ++ base) row p ok few taken (dark_now plan base later dark)
-    (lacks_only (replay plan (later ++ base)) row p n (has_it_behind plan base later row p n ok few taken dark waited)) floated
+    (lacks_only (replay plan (later ++ base)) row p n (has_it_behind plan base later row p n ok few taken dark waited other)) floated
+  where
+    same : IsSame plan base later
+    same = same_on plan base later p dark waited.pressed.0
+
+    other : hold (replay plan base) p ≡ false
+    other = sym (held_as plan base later p same) ∙ floats_alone (replay plan (later ++ base)).plan (runs (replay plan (later ++ base))) p floated.time floated.floating
 
 -- ## Maximums in patterns
 
@@ -147,7 +166,7 @@ maximum_may_end plan base later row p n m ok few taken dark waited acts within =
     ready_by_maximum (replay plan (later ++ base)) row p m it.on (lacks_only (replay plan (later ++ base)) row p n it) it.running acts_now long
   where
     it : HasItBehind (replay plan (later ++ base)) row p n
-    it = has_it_behind plan base later row p n ok few taken dark waited
+    it = has_it_behind plan base later row p n ok few taken dark waited (not_coordinated (replay plan base).plan (runs (replay plan base)) p m acts)
 
     same : IsSame plan base later
     same = same_on plan base later p dark waited.pressed.0

@@ -60,7 +60,7 @@ module _ (s : State) (row : Row) (longest : ℕ → ℕ) (good : IsGood s) (few 
       LastsInPattern (view s) p n → LastsInPattern (view (next s row)) p (n - 1)
   goes_down_one p n green pressed no_end no_start it =
       let down : Forces s row p it.tick (one p green) pressed running quiet it.forced = forces_down s row p it.tick (one p green) pressed running quiet it.forced it.ahead green no_end no_start in
-      let less = presses_down s row p it.tick (one p green) pressed running quiet it.forced (longest_initial s.plan p) (walk s.plan p) (pedestrian_clear s.plan p) (omega arith) (omega arith)
+      let less = presses_down s row p it.tick (one p green) pressed running quiet it.forced good (longest_initial s.plan p)
       (timed p) it.ahead green no_end no_start in
       let most = it.most in
       record { tick = it.tick; forced = it.forced; ahead = down.ahead; most = omega (arith, less, most) }

@@ -1,7 +1,7 @@
 -- A green that has had a conflict in each tick of a pattern for long enough has its initial time, its walk and its
 -- pedestrian clearance behind it, and its conflict has lasted as long: along a run, over inputs of every kind but those
 -- that select a pattern or commit.
-use Rattle.std.proofs.Common.{◌≡◌, ℕ, ◌+◌, ◌-◌, ◌≤◌, nat_le, true, false, max, List, [], ◌∷◌, ◌++◌, None, is_some, refl, sym, ap, subst, arith, ◌∙◌, inl, inr}
+use Rattle.std.proofs.Common.{◌≡◌, ℕ, ◌+◌, ◌-◌, ◌≤◌, nat_le, Bool, true, false, ◌&&◌, max, List, [], ◌∷◌, ◌++◌, Option, Some, None, is_some, refl, sym, ap, subst, arith, ◌∙◌, inl, inr}
 use Rattle.std.proofs.lemmas.Bool.{cases_Bool, true≢false}
 use Rattle.std.proofs.lemmas.Bool.Decides.{nat_tests}
 use Rattle.tsb_step.specs.tsb_cells.declared.timer.Timer.{Timer}
@@ -12,7 +12,9 @@ use Rattle.tsb_step.specs.tsb_types.declared.interval.PedestrianInterval.TheVari
 use Rattle.tsb_step.specs.tsb_types.declared.row.Row.{Row}
 use Rattle.tsb_step.specs.tsb_types.Intervals.{is_green, in_service}
 use Rattle.tsb_step.specs.tsb_types.Sets.{is_phase}
-use Rattle.tsb_step.specs.tsb_plan.Plan.{Plan, walk, pedestrian_clear}
+use Rattle.tsb_step.specs.tsb_plan.Plan.{Plan, walk, pedestrian_clear, recycles_walk}
+use Rattle.tsb_step.specs.tsb_plan.Running.{is_coordinated_now}
+use Rattle.tsb_step.specs.tsb_coord.Coordinated.{local_in, asks_hold, recycles}
 use Rattle.tsb_step.specs.tsb_phase.Phase.{Phase, held_of}
 use Rattle.tsb_step.specs.tsb_phase.Green.{initial, initial_has_passed}
 use Rattle.tsb_step.specs.tsb_phase.Pedestrian.{pedestrian_now}
@@ -21,7 +23,7 @@ use Rattle.tsb_step.specs.declared.inputs.Input.{Input}
 use Rattle.tsb_step.specs.declared.inputs.Input.TheVariants as inputs
 use Rattle.tsb_step.specs.declared.inputs.Input.TheVariants.{Tick}
 use Rattle.tsb_step.specs.State.{State, interval}
-use Rattle.tsb_step.specs.Tick.{service, runs, conflict, phases_given, phase_read, moves, next}
+use Rattle.tsb_step.specs.Tick.{service, runs, hold, recycle, conflict, phases_given, phase_read, moves, next}
 use Rattle.tsb_step.specs.Runs.{replay, AreTaken}
 use Rattle.tsb_step.specs.Laws.{IsConsistent}
 use Rattle.tsb_step.specs.Good.{IsGood}
@@ -35,7 +37,7 @@ use Rattle.tsb_laws.specs.PatternEnds.{HasWaitedInPattern}
 use Rattle.tsb_laws.proofs.safety.StretchLemmas.{dark_now, at_next}
 use Rattle.tsb_laws.proofs.safety.DueLemmas.{count_run}
 use Rattle.tsb_laws.proofs.operation.PhaseTimeLemmas.{left, walking_in, Runs, IsTimed}
-use Rattle.tsb_laws.proofs.operation.PressedGreenLemmas.{pressed_left, initial_most, walks_no_more, presses_down_quiet}
+use Rattle.tsb_laws.proofs.operation.PressedGreenLemmas.{pressed_left, initial_most, rests_not, walks_not, walks_no_more, presses_down_quiet}
 use Rattle.tsb_laws.proofs.operation.PressedRunLemmas.{timed_run, pressed_most, is_one, not_ended}
 use Rattle.tsb_laws.proofs.operation.CoordinatedForceLemmas.{ended_by_none, told_conflict}
 use Rattle.tsb_laws.proofs.operation.CoordinatedRunLemmas.{pattern_stays, Leaves, leaves, IsPressed, pressed_parts}
@@ -62,10 +64,28 @@ same_on plan base (i ∷ later) p dark pressed =
     leaves (replay plan (later ++ base)) i p refl pressed.1 (dark_now plan base later dark.0) in
     record { plan_is = it.plan ∙ before.plan_is; pattern_is = it.pattern ∙ before.pattern_is }
 
+-- and so are the coordinated phases
+pub held_as : (plan : Plan) (base later : List Input) (p : ℕ) → IsSame plan base later → hold (replay plan (later ++ base)) p ≡ hold (replay plan base) p
+held_as plan base later p same =
+    ap (λ (x : Plan). asks_hold x (replay plan (later ++ base)).pattern p) same.plan_is
+    ∙ ap (λ (o : Option ℕ). asks_hold (replay plan base).plan o p) same.pattern_is
+
+-- no other phase has pedestrian recycle
+others_not : (s : State) (p : ℕ) → hold s p ≡ false → recycle s p ≡ false
+others_not s p other = go (runs s) other
+  where
+    go : (o : Option ℕ) → is_coordinated_now s.plan o p ≡ false → recycles s.plan o (local_in s.plan (s.now + 1) o) p ≡ false
+    go None h = refl
+    go (Some n) h = rw h (never (recycles_walk s.plan p) _)
+      where
+        never : (a b : Bool) → ((a && false) && b) ≡ false
+        never true b = refl
+        never false b = refl
+
 -- ## Along a stretch
 
 module _ (plan : Plan) (base : List Input) (p n a b : ℕ) (ok : IsConsistent plan) (few : plan.phase_count ≤ 16) (both : a + b ≤ n)
-    (walk_in : walk (replay plan base).plan p ≤ a) (clear_in : pedestrian_clear (replay plan base).plan p ≤ b) where
+    (walk_in : walk (replay plan base).plan p ≤ a) (clear_in : pedestrian_clear (replay plan base).plan p ≤ b) (other : hold (replay plan base) p ≡ false) where
   abbrev left_after : List Input → ℕ
   left_after is = pressed_left n n a b ((replay plan is).phases p)
 
@@ -76,10 +96,10 @@ module _ (plan : Plan) (base : List Input) (p n a b : ℕ) (ok : IsConsistent pl
 
   -- a tick of the stretch
   one_less : (row : Row) (is : List Input) → AreTaken plan is → (replay plan is).trip ≡ None → IsPressed (replay plan is) row p →
-      (replay plan is).plan ≡ (replay plan base).plan → interval (replay plan (Tick row ∷ is)) p ≡ Green →
+      (replay plan is).plan ≡ (replay plan base).plan → hold (replay plan is) p ≡ false → interval (replay plan (Tick row ∷ is)) p ≡ Green →
       left_after is ≤ (replay plan base).now + n - (replay plan is).now →
       left_after (Tick row ∷ is) ≤ (replay plan base).now + n - (replay plan (Tick row ∷ is)).now
-  one_less row is taken dark it plan_is green before =
+  one_less row is taken dark it plan_is other_now green before =
       let now : (replay plan (Tick row ∷ is)).now ≡ (replay plan is).now + 1 = one_later (replay plan is) row in
       let same : left_after (Tick row ∷ is) ≡ pressed_left n n a b ((next (replay plan is) row).phases p) =
       ap (λ (f : ℕ → Phase). pressed_left n n a b (f p)) (phases_then (replay plan is) row dark) in
@@ -100,7 +120,8 @@ module _ (plan : Plan) (base : List Input) (p n a b : ℕ) (ok : IsConsistent pl
 
       down : pressed_left n n a b ((next (replay plan is) row).phases p) ≤ left_after is - 1
       down =
-          presses_down_quiet (replay plan is) row p (one_now is taken it.green) it.conflict it.quiet n n a b
+          presses_down_quiet (replay plan is) row p (one_now is taken it.green) it.conflict it.quiet
+          (walks_not (replay plan is) row p (others_not (replay plan is) p other_now)) n n a b
           (subst (λ (x : Plan). walk x p ≤ a) (sym plan_is) walk_in) (subst (λ (x : Plan). pedestrian_clear x p ≤ b) (sym plan_is) clear_in)
           (timed_run plan is ok taken dark p) it.green (not_ended (replay plan is) row p it.green no_start still_green) no_start
 
@@ -120,7 +141,7 @@ module _ (plan : Plan) (base : List Input) (p n a b : ℕ) (ok : IsConsistent pl
   lasts (inputs.Tick row ∷ later) taken dark pressed green =
       let it : IsPressed (replay plan (later ++ base)) row p = pressed_parts (replay plan (later ++ base)) row p pressed.1 in
       let same : IsSame plan base later = same_on plan base later p dark.0 pressed.0 in
-      one_less row (later ++ base) taken.0 (dark_now plan base later dark.0) it same.plan_is green
+      one_less row (later ++ base) taken.0 (dark_now plan base later dark.0) it same.plan_is (held_as plan base later p same ∙ other) green
       (lasts later taken.0 dark.0 pressed.0 it.green)
   lasts (i ∷ later) taken dark pressed green =
       let it : Leaves (replay plan (later ++ base)) (replay plan (i ∷ (later ++ base))) p =
@@ -141,7 +162,7 @@ pub record HasItBehind (s : State) (row : Row) (p n : ℕ) : Type 0 where
   pub long : left n (s.phases p).conflict ≡ 0
 
 module _ (s : State) (row : Row) (p n a b : ℕ) (on : is_phase p ≡ true) (it : IsPressed s row p) (timed : IsTimed (s.phases p))
-    (most_i : longest_initial s.plan p ≤ n) (most_a : walk s.plan p ≤ a) (most_b : pedestrian_clear s.plan p ≤ b) where
+    (most_i : longest_initial s.plan p ≤ n) (most_a : walk s.plan p ≤ a) (most_b : pedestrian_clear s.plan p ≤ b) (other : hold s p ≡ false) where
   pub behind : pressed_left n n a b (s.phases p) ≡ 0 → HasItBehind s row p n
   unfolding pressed_left
   behind none = record {
@@ -152,7 +173,7 @@ module _ (s : State) (row : Row) (p n a b : ℕ) (on : is_phase p ≡ true) (it 
     on = on;
     initial = rw now reached;
     dont_walk = walks_no_more s.plan (phases_given s row) p (phase_read s p) (ended_by_none s row p on it.conflict it.quiet)
-        (told_conflict s row p on it.conflict it.quiet) a b most_a most_b (s.phases p).pedestrian_timer refl timed.walk timed.clearance
+        (rests_not s.plan (phases_given s row) p (told_conflict s row p on it.conflict it.quiet)) (walks_not s row p (others_not s p other)) a b most_a most_b (s.phases p).pedestrian_timer refl timed.walk timed.clearance
         (omega (arith, none));
     long = omega (arith, none);
   }
@@ -171,16 +192,17 @@ module _ (s : State) (row : Row) (p n a b : ℕ) (on : is_phase p ≡ true) (it 
           grind (arith, nat_tests, zero, most, most_i)
 
 pub has_it_behind : (plan : Plan) (base later : List Input) (row : Row) (p n : ℕ) → IsConsistent plan → plan.phase_count ≤ 16 →
-    AreTaken plan (later ++ base) → IsUntripped plan base later → HasWaitedInPattern plan base later row p n →
+    AreTaken plan (later ++ base) → IsUntripped plan base later → HasWaitedInPattern plan base later row p n → hold (replay plan base) p ≡ false →
     HasItBehind (replay plan (later ++ base)) row p n
-has_it_behind plan base later row p n ok few taken dark waited =
+has_it_behind plan base later row p n ok few taken dark waited other =
     behind (replay plan (later ++ base)) row p n (walk (replay plan base).plan p) (pedestrian_clear (replay plan base).plan p)
-    (one_now plan base p n (walk (replay plan base).plan p) (pedestrian_clear (replay plan base).plan p) ok few waited.walks (omega arith) (omega arith) (later ++ base) taken it.green)
+    (one_now plan base p n (walk (replay plan base).plan p) (pedestrian_clear (replay plan base).plan p) ok few waited.walks (omega arith) (omega arith) other (later ++ base) taken it.green)
     it (timed_run plan (later ++ base) ok taken (dark_now plan base later dark) p)
     (subst (λ (x : Plan). longest_initial x p ≤ n) (sym same.plan_is) waited.initial)
     (subst (λ (x : Plan). walk x p ≤ walk (replay plan base).plan p) (sym same.plan_is) (omega arith))
     (subst (λ (x : Plan). pedestrian_clear x p ≤ pedestrian_clear (replay plan base).plan p) (sym same.plan_is) (omega arith))
-    (let most = lasts plan base p n (walk (replay plan base).plan p) (pedestrian_clear (replay plan base).plan p) ok few waited.walks (omega arith) (omega arith)
+    (held_as plan base later p same ∙ other)
+    (let most = lasts plan base p n (walk (replay plan base).plan p) (pedestrian_clear (replay plan base).plan p) ok few waited.walks (omega arith) (omega arith) other
     later taken dark waited.pressed.0 it.green in
     let long = waited.long in
     omega (arith, most, long))

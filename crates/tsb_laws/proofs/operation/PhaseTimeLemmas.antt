@@ -1,7 +1,7 @@
 -- How many ticks more a phase takes: to clear, to have passed its red revert, and under a preempt that ends it to be ready.
 -- Each is found of the phase as it stands, by times that no plan in effect exceeds, and goes down by one in each tick. By them
 -- the time is bounded in which a preempt reaches its stages.
-use Rattle.std.proofs.Common.{◌≡◌, ℕ, ◌+◌, ◌-◌, ◌<◌, ◌≤◌, ◌==◌, nat_le, Bool, true, false, not, ◌&&◌, if◌then◌else◌, min, max, Some, refl, sym, ap, arith, ◌∙◌}
+use Rattle.std.proofs.Common.{◌≡◌, ℕ, ◌+◌, ◌-◌, ◌<◌, ◌≤◌, ◌==◌, nat_le, Bool, true, false, not, ◌&&◌, if◌then◌else◌, min, max, Some, None, refl, sym, ap, arith, ◌∙◌}
 use Rattle.std.proofs.lemmas.Bool.{eqb-true, true≢false, false≢true}
 use Rattle.std.proofs.lemmas.Bool.Decides.{nat_tests}
 use Rattle.tsb_step.specs.tsb_cells.declared.timer.Timer.{Timer}
@@ -17,7 +17,7 @@ use Rattle.tsb_step.specs.tsb_plan.Parts.{preempt_minimum_green}
 use Rattle.tsb_step.specs.tsb_plan.Plan.{Plan, yellow_change, red_clear, red_revert, rests_in_walk}
 use Rattle.tsb_step.specs.tsb_phase.Phase.{Phase, Given}
 use Rattle.tsb_step.specs.tsb_phase.Green.{initial}
-use Rattle.tsb_step.specs.tsb_phase.Pedestrian.{ended_by, walk_time, clearance_time, is_resting_in_walk, walk_has_ended, clearance_has_ended, pedestrian_after, pedestrian_now, pedestrian_timer_in}
+use Rattle.tsb_step.specs.tsb_phase.Pedestrian.{ended_by, walk_time, clearance_time, is_resting_in_walk, walk_has_ended, clearance_has_ended, may_walk_again, pedestrian_after, pedestrian_now, pedestrian_timer_in}
 use Rattle.tsb_step.specs.tsb_phase.Ready.{yellow_is_done, is_ready, red_revert_passed}
 use Rattle.tsb_step.specs.tsb_ring.Moves.{is_ended, is_cleared, is_started}
 use Rattle.tsb_step.specs.State.{State, interval}
@@ -229,6 +229,14 @@ not_yet_reverted s p y r most e h = go (s.phases p).red_revert refl
 
 -- ## A green that a preempt ends
 
+-- the preempt that ends a phase is in service
+served : (given : Given) (p n : ℕ) → ended_by given p ≡ Some n → given.service ≡ Some n
+served given p n ends = go (given.must_end p) ends
+  where
+    go : (b : Bool) → (if b then given.service else None) ≡ Some n → given.service ≡ Some n
+    go true h = h
+    go false h = absurd cc
+
 module _ (plan : Plan) (given : Given) (p n : ℕ) (w : Phase) (ends : ended_by given p ≡ Some n) where
   does_not_rest : is_resting_in_walk plan given p ≡ false
   does_not_rest = rw ends (go (rests_in_walk plan p) (not (given.conflict p)))
@@ -237,6 +245,16 @@ module _ (plan : Plan) (given : Given) (p n : ℕ) (w : Phase) (ends : ended_by 
       go true true = refl
       go true false = refl
       go false b = refl
+
+  -- while a preempt is in service no walk begins within a green
+  no_walk : may_walk_again given p w ≡ false
+  no_walk = rw (served given p n ends) (go (is_green w.interval) (given.recycle p) (given.pedestrian_call p) (not (w.forced && given.conflict p)))
+    where
+      go : (a b c d : Bool) → (a && (b && ((c && false) && d))) ≡ false
+      go false b c d = refl
+      go true false c d = refl
+      go true true false d = refl
+      go true true true d = refl
 
   -- what a tick makes of the pedestrians, and how long they take then
   walks_down : (a b : ℕ) → walk_time plan p (Some n) ≤ a → clearance_time plan p (Some n) ≤ b → (t : Timer) → w.pedestrian_timer ≡ advanced t →
@@ -283,7 +301,7 @@ module _ (plan : Plan) (given : Given) (p n : ℕ) (w : Phase) (ends : ended_by 
       go : (x : PedestrianInterval) → w.pedestrian ≡ x →
           walking_in a b (pedestrian_timer_in w.pedestrian (pedestrian_after plan given p w w.pedestrian) w.pedestrian_timer)
           (pedestrian_after plan given p w w.pedestrian) ≤ walking_in a b t w.pedestrian - 1
-      go DontWalk e = rw e (omega arith)
+      go DontWalk e = rw (e, no_walk) (omega arith)
       go Walk e = rw e (in_walk e (walk_has_ended plan given p w) (clearance_time plan p (ended_by given p) == 0) refl)
       go PedestrianClear e = rw e (in_clear e (clearance_has_ended plan given p w) refl)
 
@@ -312,7 +330,7 @@ module _ (plan : Plan) (given : Given) (p n : ℕ) (w : Phase) (ends : ended_by 
           rw (now, ends, ended) refl
 
       go : (x : PedestrianInterval) → w.pedestrian ≡ x → pedestrian_after plan given p w w.pedestrian ≡ DontWalk
-      go DontWalk e = rw e refl
+      go DontWalk e = rw (e, no_walk) refl
       go Walk e = rw e (in_walk e)
       go PedestrianClear e = rw e (in_clear e)
 

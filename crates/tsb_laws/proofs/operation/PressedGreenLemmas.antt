@@ -1,6 +1,6 @@
 -- How many ticks more a green takes until it may end, in free operation and with no preempt in service, where it has a
 -- conflict in each tick: found of the phase as it stands, and one less after each tick.
-use Rattle.std.proofs.Common.{◌≡◌, ℕ, ◌+◌, ◌-◌, ◌*◌, ◌<◌, ◌≤◌, ◌==◌, nat_le, Bool, true, false, ◌&&◌, ◌||◌, if◌then◌else◌, min, max, Option, Some, None, is_none, refl, sym, ap, arith, ◌∙◌}
+use Rattle.std.proofs.Common.{◌≡◌, ℕ, ◌+◌, ◌-◌, ◌*◌, ◌<◌, ◌≤◌, ◌==◌, nat_le, Bool, true, false, not, ◌&&◌, ◌||◌, if◌then◌else◌, min, max, Option, Some, None, is_none, refl, sym, ap, arith, ◌∙◌}
 use Rattle.std.proofs.lemmas.Bool.{and_parts, eqb-true, true≢false, false≢true}
 use Rattle.std.proofs.lemmas.Bool.Decides.{nat_tests}
 use Rattle.tsb_step.specs.tsb_cells.declared.timer.Timer.{Timer}
@@ -10,17 +10,18 @@ use Rattle.tsb_step.specs.tsb_types.declared.interval.Interval.TheVariants.{Gree
 use Rattle.tsb_step.specs.tsb_types.declared.interval.PedestrianInterval.{PedestrianInterval}
 use Rattle.tsb_step.specs.tsb_types.declared.interval.PedestrianInterval.TheVariants.{DontWalk, Walk, PedestrianClear}
 use Rattle.tsb_step.specs.tsb_types.declared.row.Row.{Row}
-use Rattle.tsb_step.specs.tsb_types.Intervals.{is_green}
+use Rattle.tsb_step.specs.tsb_types.Intervals.{is_green, is_dont_walk}
+use Rattle.tsb_step.specs.tsb_types.Flow.{gives_walk}
 use Rattle.tsb_step.specs.tsb_types.Sets.{is_phase}
 use Rattle.tsb_step.specs.tsb_plan.Plan.{Plan, maximum, has_variable_initial, minimum_green, maximum_initial, added_initial, walk, pedestrian_clear, rests_in_walk}
 use Rattle.tsb_step.specs.tsb_phase.DynamicMaximum.{is_dynamic, highest_maximum, effective_maximum, maximum_in_use}
 use Rattle.tsb_step.specs.tsb_phase.Phase.{Phase, Given, held_of}
 use Rattle.tsb_step.specs.tsb_phase.Green.{initial, has_maxed_out, is_gapped, is_by_gap, forced_latch}
-use Rattle.tsb_step.specs.tsb_phase.Pedestrian.{ended_by, clearance_time, is_resting_in_walk, walk_has_ended, clearance_has_ended, pedestrian_after, pedestrian_now, pedestrian_timer_in}
+use Rattle.tsb_step.specs.tsb_phase.Pedestrian.{ended_by, clearance_time, is_resting_in_walk, walk_has_ended, clearance_has_ended, may_walk_again, pedestrian_after, pedestrian_now, walks_again, pedestrian_timer_in}
 use Rattle.tsb_step.specs.tsb_phase.Ready.{has_timed_out, is_ready}
 use Rattle.tsb_step.specs.tsb_ring.Moves.{is_ended, is_started}
 use Rattle.tsb_step.specs.State.{State, interval}
-use Rattle.tsb_step.specs.Tick.{service, runs, conflict, phases_given, phase_read, moves, ready, next}
+use Rattle.tsb_step.specs.Tick.{service, runs, recycle, conflict, phases_given, phase_read, moves, ready, next}
 use Rattle.tsb_laws.specs.ServedCalls.{is_free, longest_maximum, longest_initial}
 use Rattle.tsb_laws.proofs.safety.DueLemmas.{not_reached}
 use Rattle.tsb_laws.proofs.operation.PhaseTimeLemmas.{left, walking_in, Runs, IsTimed}
@@ -63,14 +64,20 @@ reached_all limit most (On n) h none = grind (arith, nat_tests, h, none)
 
 -- ## The pedestrians of a green that nothing but a conflict ends
 
-module _ (plan : Plan) (given : Given) (p : ℕ) (w : Phase) (ends : ended_by given p ≡ None) (busy : given.conflict p ≡ true) where
-  does_not_rest : is_resting_in_walk plan given p ≡ false
-  does_not_rest = rw busy (go (rests_in_walk plan p))
-    where
-      go : (a : Bool) → (a && false) ≡ false
-      go true = refl
-      go false = refl
+-- with a conflict the phase does not rest in walk
+pub rests_not : (plan : Plan) (given : Given) (p : ℕ) → given.conflict p ≡ true → is_resting_in_walk plan given p ≡ false
+rests_not plan given p busy = rw busy (go (rests_in_walk plan p))
+  where
+    go : (a : Bool) → (a && false) ≡ false
+    go true = refl
+    go false = refl
 
+-- a phase in DontWalk of which no walk begins within its green stays so
+pub stays_dark : (given : Given) (p : ℕ) (w : Phase) → walks_again given p w ≡ false → w.pedestrian ≡ DontWalk → may_walk_again given p w ≡ false
+stays_dark given p w again e = rw e at again
+
+module _ (plan : Plan) (given : Given) (p : ℕ) (w : Phase) (ends : ended_by given p ≡ None) (does_not_rest : is_resting_in_walk plan given p ≡ false)
+    (again : walks_again given p w ≡ false) where
   -- what a tick makes of the pedestrians, and how long they take then
   pub walks_down : (a b : ℕ) → walk plan p ≤ a → pedestrian_clear plan p ≤ b → (t : Timer) → w.pedestrian_timer ≡ advanced t →
       (w.pedestrian ≡ Walk → Runs t) → (w.pedestrian ≡ PedestrianClear → Runs t) →
@@ -112,7 +119,7 @@ module _ (plan : Plan) (given : Given) (p : ℕ) (w : Phase) (ends : ended_by gi
       go : (x : PedestrianInterval) → w.pedestrian ≡ x →
           walking_in a b (pedestrian_timer_in w.pedestrian (pedestrian_after plan given p w w.pedestrian) w.pedestrian_timer)
           (pedestrian_after plan given p w w.pedestrian) ≤ walking_in a b t w.pedestrian - 1
-      go DontWalk e = rw e (omega arith)
+      go DontWalk e = let dark = stays_dark given p w again e in rw (e, dark) (omega arith)
       go Walk e = rw e (in_walk e (walk_has_ended plan given p w) (clearance_time plan p (ended_by given p) == 0) refl)
       go PedestrianClear e = rw e (in_clear e (clearance_has_ended plan given p w) refl)
 
@@ -141,12 +148,14 @@ module _ (plan : Plan) (given : Given) (p : ℕ) (w : Phase) (ends : ended_by gi
           rw (now, ends, ended) refl
 
       go : (x : PedestrianInterval) → w.pedestrian ≡ x → pedestrian_after plan given p w w.pedestrian ≡ DontWalk
-      go DontWalk e = rw e refl
+      go DontWalk e = let dark = stays_dark given p w again e in rw (e, dark) refl
       go Walk e = rw e (in_walk e)
       go PedestrianClear e = rw e (in_clear e)
 
-  -- ## Its green
+-- ## Its green
 
+module _ (plan : Plan) (given : Given) (p : ℕ) (w : Phase) (ends : ended_by given p ≡ None) (busy : given.conflict p ≡ true)
+    (again : walks_again given p w ≡ false) where
   maxed_out : (m : ℕ) → longest_maximum plan p ≤ m → given.runs ≡ None → (t : Timer) → w.conflict ≡ advanced t → left m t ≡ 0 →
       has_maxed_out plan given p (held_of w) w.running_maximum ≡ true
   maxed_out m most free t read none =
@@ -174,7 +183,8 @@ module _ (plan : Plan) (given : Given) (p : ℕ) (w : Phase) (ends : ended_by gi
       let first : left m s ≡ 0 = omega (arith, none) in
       let second : left i t ≡ 0 = omega (arith, none) in
       let third : walking_in a b u w.pedestrian ≡ 0 = omega (arith, none) in
-      let still : pedestrian_now plan given p w ≡ DontWalk = walks_no_more a b most_a most_b u read_u on_walk on_clear third in
+      let still : pedestrian_now plan given p w ≡ DontWalk =
+      walks_no_more plan given p w ends (rests_not plan given p busy) again a b most_a most_b u read_u on_walk on_clear third in
       let out : has_maxed_out plan given p (held_of w) w.running_maximum ≡ true = maxed_out m most_m free s read_s first in
       let now : w.timer ≡ On (run.count + 1) = read_t ∙ ap advanced run.is in
       let zero : left i (On run.count) ≡ 0 = sym (ap (λ (x : Timer). left i x) run.is) ∙ second in
@@ -197,6 +207,19 @@ pub free_parts : (s : State) (row : Row) → is_free s row ≡ true → (service
 free_parts s row h =
     let both = and_parts (is_none (service s row)) (is_none (runs s)) h in (none_when (service s row) both.0, none_when (runs s) both.1)
 
+-- no walk begins within the green of a phase that has no pedestrian recycle in this tick
+pub walks_not : (s : State) (row : Row) (p : ℕ) → recycle s p ≡ false → walks_again (phases_given s row) p (phase_read s p) ≡ false
+unfolding phases_given
+walks_not s row p h =
+    go (is_dont_walk (s.phases p).pedestrian) (is_green (s.phases p).interval) (is_phase p) (recycle s p) h
+    (gives_walk ((phases_given s row).pedestrian_call p) (service s row) && not ((s.phases p).forced && (phases_given s row).conflict p))
+  where
+    go : (a b c d : Bool) → d ≡ false → (e : Bool) → (a && (b && ((c && d) && e))) ≡ false
+    go false b c d k e = refl
+    go true false c d k e = refl
+    go true true false d k e = refl
+    go true true true d k e = rw k refl
+
 module _ (s : State) (row : Row) (p : ℕ) (on : is_phase p ≡ true) (pressed : conflict s row p ≡ true) (quiet : service s row ≡ None) where
   ends_by_none : ended_by (phases_given s row) p ≡ None
   unfolding phases_given
@@ -206,12 +229,12 @@ module _ (s : State) (row : Row) (p : ℕ) (on : is_phase p ≡ true) (pressed :
   unfolding phases_given
   busy_told = rw (on, pressed) refl
 
-  -- a green that does not end has a tick less
-  pub presses_down_quiet : (m i a b : ℕ) → walk s.plan p ≤ a → pedestrian_clear s.plan p ≤ b → IsTimed (s.phases p) → interval s p ≡ Green →
+  -- where it may not walk again within its green, a green that does not end has a tick less
+  pub presses_down_quiet : walks_again (phases_given s row) p (phase_read s p) ≡ false → (m i a b : ℕ) → walk s.plan p ≤ a → pedestrian_clear s.plan p ≤ b → IsTimed (s.phases p) → interval s p ≡ Green →
       is_ended (moves s row) p ≡ false → is_started (moves s row) p ≡ false →
       pressed_left m i a b ((next s row).phases p) ≤ pressed_left m i a b (s.phases p) - 1
   unfolding pressed_left
-  presses_down_quiet m i a b most_a most_b timed e no_end no_start =
+  presses_down_quiet again m i a b most_a most_b timed e no_end no_start =
       let run : Runs (s.phases p).timer = timed.green e in
       let counts : ((next s row).phases p).conflict ≡ started (advanced (s.phases p).conflict) = rw (no_start, e, no_end, busy_told) refl in
       let zeroth : left m ((next s row).phases p).conflict ≡ left m (started (advanced (s.phases p).conflict)) = ap (λ (t : Timer). left m t) counts in
@@ -228,7 +251,7 @@ module _ (s : State) (row : Row) (p : ℕ) (on : is_phase p ≡ true) (pressed :
       (pedestrian_now s.plan (phases_given s row) p (phase_read s p)) =
       ap (λ (t : Timer). walking_in a b t ((next s row).phases p).pedestrian) timer
       ∙ ap (λ (x : PedestrianInterval). walking_in a b (pedestrian_timer_in (s.phases p).pedestrian (pedestrian_now s.plan (phases_given s row) p (phase_read s p)) (phase_read s p).pedestrian_timer) x) part in
-      let down = walks_down s.plan (phases_given s row) p (phase_read s p) ends_by_none busy_told a b most_a most_b (s.phases p).pedestrian_timer refl
+      let down = walks_down s.plan (phases_given s row) p (phase_read s p) ends_by_none (rests_not s.plan (phases_given s row) p busy_told) again a b most_a most_b (s.phases p).pedestrian_timer refl
       timed.walk timed.clearance in
       at_most (left m ((next s row).phases p).conflict) (left m (s.phases p).conflict)
       (left i ((next s row).phases p).timer) (left i (s.phases p).timer)
@@ -258,11 +281,14 @@ module _ (s : State) (row : Row) (p : ℕ) (on : is_phase p ≡ true) (pressed :
   unfolding phases_given
   told_hold = rw (on, (free_parts s row free).1) refl
 
+  told_again : walks_again (phases_given s row) p (phase_read s p) ≡ false
+  told_again = walks_not s row p (rw (free_parts s row free).1 refl)
+
   -- a green that does not end has a tick less
   pub presses_down : (m i a b : ℕ) → walk s.plan p ≤ a → pedestrian_clear s.plan p ≤ b → IsTimed (s.phases p) → interval s p ≡ Green →
       is_ended (moves s row) p ≡ false → is_started (moves s row) p ≡ false →
       pressed_left m i a b ((next s row).phases p) ≤ pressed_left m i a b (s.phases p) - 1
-  presses_down = presses_down_quiet s row p on pressed (free_parts s row free).0
+  presses_down = presses_down_quiet s row p on pressed (free_parts s row free).0 told_again
 
   -- one that is not ready has a tick left
   pub not_ready_yet : (m i a b : ℕ) → longest_maximum s.plan p ≤ m → longest_initial s.plan p ≤ i → walk s.plan p ≤ a → pedestrian_clear s.plan p ≤ b →
@@ -274,6 +300,6 @@ module _ (s : State) (row : Row) (p : ℕ) (on : is_phase p ≡ true) (pressed :
       go false k = grind (arith, nat_tests, k)
       go true k =
           let none : pressed_left m i a b (s.phases p) ≡ 0 = eqb-true (pressed_left m i a b (s.phases p)) 0 k in
-          absurd (true≢false (sym (is_ready_then s.plan (phases_given s row) p (phase_read s p) ended_by_none told_conflict m i a b most_m most_i most_a most_b
+          absurd (true≢false (sym (is_ready_then s.plan (phases_given s row) p (phase_read s p) ended_by_none told_conflict told_again m i a b most_m most_i most_a most_b
           told_runs told_hold (s.phases p).conflict (s.phases p).timer (s.phases p).pedestrian_timer refl refl refl (timed.green e) timed.walk timed.clearance
           (ap is_green e) none) ∙ h))

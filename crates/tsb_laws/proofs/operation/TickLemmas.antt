@@ -51,6 +51,16 @@ memories_rest s row lit = go (is_some s.trip) lit
     go true h = refl
     go false h = absurd (false≢true h)
 
+-- and its phases
+pub phases_rest : (s : State) (row : Row) → is_some s.trip ≡ true → (step s (Tick row)).phases ≡ s.phases
+unfolding step watched
+phases_rest s row lit = go (is_some s.trip) lit
+  where
+    go : (b : Bool) → b ≡ true →
+        (if b then record s { now = s.now + 1 } else (if b then next s row else watched s (next s row))).phases ≡ s.phases
+    go true h = refl
+    go false h = absurd (false≢true h)
+
 memories_lit : (s : State) (lamp : Option Lamp) → (with_lamp lamp s).memories ≡ s.memories
 unfolding watched
 memories_lit s lamp = go (is_some s.trip)
