@@ -35,6 +35,8 @@ class Case:
 
 
 LOST = "so a call of one can wait for ever while the other rests"
+IDLE_RECYCLE = "its pedestrian recycle has no effect, since no used pattern has it as a coordinated phase with a walk"
+WALKING_ON = "its walk begins again after each clearance in pattern 1, since it has pedestrian recall and pedestrian recycle"
 CASES = [
     Case(1, {"vehicleDetectorCallPhase.1": 0, "splitMode.1": 0}, ["phase 1: no detector, button, recall or split mode calls it"],
          {"phaseSoftRecall.1": 1}),
@@ -199,6 +201,17 @@ CASES = [
     Case(44, {"patternLeadLag.1": 1},
          ["pattern 1: patternLeadLag has no effect, since the splits of its coordinated phases end at one time"],
          {"sequenceData.17": 6, "sequenceData.18": 5}),
+    # Phases 2 and 6 are coordinated, and have walks.
+    Case(45, {"phasePedestrianRecycle.4": 1}, [f"phase 4: {IDLE_RECYCLE}"],
+         {"splitCoordPhase.2": 0, "splitCoordPhase.6": 0, "splitCoordPhase.4": 1, "splitCoordPhase.8": 1}),
+    Case(45, {"phasePedestrianRecycle.2": 1, "phaseWalk.2": 0, "phasePedestrianClear.2": 0, "pedestrianDetectorCallPhase.2": 0},
+         [f"phase 2: {IDLE_RECYCLE}"], {"phaseWalk.2": 7}),
+    Case(45, {"phasePedestrianRecycle.2": 1, "phasePedestrianRecycle.6": 1, "patternCycleTime.1": 0},
+         [f"phase {p}: {IDLE_RECYCLE}" for p in (2, 6)], {"patternCycleTime.1": 90}),
+    Case(46, {"phasePedestrianRecycle.2": 1, "phasePedRecall.2": 1}, [f"phase 2: {WALKING_ON}"], {"phasePedRecall.2": 0}),
+    Case(46, {"phasePedestrianRecycle.6": 1, "splitMode.6": 4}, [f"phase 6: {WALKING_ON}"], {"splitMode.6": 2}),
+    Case(46, {"phasePedestrianRecycle.6": 1, "splitMode.6": 3, "splitMode.2": 3}, [f"phase 6: {WALKING_ON}"],
+         {"phasePedestrianRecycle.6": 0}),
 ]
 
 

@@ -57,6 +57,10 @@ class Plan:
         """Whether a button calls the walk of a phase."""
         return any(self.value("pedestrianDetectorCallPhase", d) == phase for d in BUTTONS)
 
+    def recycles(self, phase: int) -> bool:
+        """Whether a phase has pedestrian recycle."""
+        return self.phase("PedestrianRecycle", phase) == 1
+
     def walks(self, phase: int) -> bool:
         """Whether a phase is enabled and has a walk."""
         return phase in self.enabled and self.phase("Walk", phase) > 0
@@ -285,7 +289,7 @@ def actuation(plan: Plan) -> Iterator[tuple[int, str]]:
 
 
 def coordination(plan: Plan) -> Iterator[tuple[int, str]]:
-    """Advices A27 to A32, and A42 to A44."""
+    """Advices A27 to A32, and A42 to A46."""
     for n in plan.patterns:
         for p in plan.enabled:
             omitted = plan.mode(n, p) == OMITTED
@@ -307,6 +311,14 @@ def coordination(plan: Plan) -> Iterator[tuple[int, str]]:
             if short:
                 yield 43, (f"phase {p}: its permissive time of {seconds(plan.permissive(n))} s can leave less than the minimum green "
                            f"of phase {short} before its force-off in pattern {n}")
+            called = plan.phase("PedRecall", p) or plan.mode(n, p) in (WALK, BOTH)
+            if plan.walks(p) and plan.recycles(p) and plan.coordinated(n, p) and called:
+                yield 46, (f"phase {p}: its walk begins again after each clearance in pattern {n}, "
+                           "since it has pedestrian recall and pedestrian recycle")
+    for p in plan.enabled:
+        if plan.recycles(p) and not (plan.walks(p) and any(plan.coordinated(n, p) for n in plan.patterns)):
+            yield 45, (f"phase {p}: its pedestrian recycle has no effect, "
+                       "since no used pattern has it as a coordinated phase with a walk")
     kinds = ["CycleTime", "OffsetTime", "SplitNumber", "SequenceNumber", "PermissiveTime", "LeadLag"]
     for n in plan.patterns:
         cycle, offset = plan.value("patternCycleTime", n), plan.value("patternOffsetTime", n)

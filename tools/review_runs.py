@@ -44,6 +44,11 @@ FORCED_LATE: Change = {"coordForceMode.1": 1}
 ACTUATED: Change = {f"splitMode.{phase}": 0 for phase in (1, 3, 4, 5, 7, 8)}
 # Clearances of 10 s beside Main Street.
 SHORT_CROSSINGS: Change = {"phasePedestrianClear.2": 10, "phasePedestrianClear.6": 10}
+# Pedestrian recycle, and a clearance of 4 s, for phase 4; the same for phase 2.
+RECYCLING: Change = {"phasePedestrianRecycle.4": 1, "phasePedestrianClear.4": 4}
+RECYCLING_MAIN: Change = {"phasePedestrianRecycle.2": 1, "phasePedestrianClear.2": 4}
+# The other street is coordinated.
+OTHERS_COORDINATED: Change = {"splitCoordPhase.2": 0, "splitCoordPhase.6": 0, "splitCoordPhase.4": 1, "splitCoordPhase.8": 1}
 # Someone presses button 4 in the first cycle, and cars stay on detectors 1 and 3.
 CROSSING = row(100, 1, 3, button=4) + row(103, 1, 3)
 
@@ -119,4 +124,18 @@ RUNS = [
         ["pattern 1", "step 599", "when interval 3", "step 1", "when interval 3"], ["ok", "tick 0000550", "tick 0000600"]),
     Run(43, True, changed(CLEAN, {**ACTUATED, "patternPermissiveTime.1": 15}), row(550, 3),
         ["pattern 1", "step 1499", "when interval 3", "step 1", "when interval 3"], ["ok", "tick 0000600", "tick 0001500"]),
+    # A car stays at phase 4, which is green from tick 550 to its instant, tick 850. Someone presses its button in between,
+    # and waits. Where phases 4 and 8 are coordinated they are green from tick 201 to 400, and the walk begins at once:
+    # with the clearance it takes 11 s, and 12 s are left.
+    Run(45, True, changed(CLEAN, RECYCLING), row(100, 4) + row(600, 4, button=4) + row(603, 4),
+        ["pattern 1", "step 849", "when interval 4", "when ped 4", "step 1", "when interval 4"],
+        ["ok", "tick 0000550", "never", "tick 0000850"]),
+    Run(45, False, changed(CLEAN, {**RECYCLING, **OTHERS_COORDINATED}), row(100, 4) + row(280, 4, button=4) + row(283, 4),
+        ["pattern 1", "step 280", "when interval 4", "when ped 4"], ["ok", "tick 0000201", "tick 0000280"]),
+    # Phase 2 is green from tick 101 to its instant, tick 400. Its walk of 7 s and its clearance of 4 s are over at tick 211,
+    # and by its recall it walks again a tick later. With its button alone it does not.
+    Run(46, True, changed(CLEAN, {**RECYCLING_MAIN, "phasePedRecall.2": 1}), "",
+        ["pattern 1", "step 211", "when ped 2", "step 1", "when ped 2"], ["ok", "tick 0000211", "tick 0000212"]),
+    Run(46, False, changed(CLEAN, RECYCLING_MAIN), row(50, button=2) + row(53),
+        ["pattern 1", "step 399", "when ped 2"], ["ok", "tick 0000211"]),
 ]

@@ -42,14 +42,14 @@ KINDS = ["it stands twice", "is no whole number: seconds", "is no whole number: 
 REVIEWED, REFUSED = 0, 1
 # What `tsb check` says of a plan that breaks a rule begins so.
 RULE = "plan: rule "
-ADVICES = 44
+ADVICES = 46
 # Display lines have so many characters.
 DISPLAY = 53
 # Objects of phases, detectors and so on, with the number of their indices and values that bring advices about.
 LIST = [0, 1, 2, 8, 9, 34, 33, 48, 72, 129, 132, 136, 192]
 VALUES = {
     **{f"phase{it}": (8, [0, 1]) for it in ["MinRecall", "MaxRecall", "PedRecall", "SoftRecall", "RestInWalk", "VariableInitial",
-                                           "NonLock", "DualEntry"]},
+                                           "NonLock", "DualEntry", "PedestrianRecycle"]},
     "phaseEnabled": (9, [0, 1]), "phaseConcurrency": (8, [1, 2, 3, 4, 8, 12, 16, 32, 48, 64, 128, 192]),
     "phaseWalk": (8, [0, 1, 3, 4, 5, 7, 10, 20]), "phasePedestrianClear": (8, [0, 1, 5, 9, 12, 15, 16, 20, 28, 40]),
     "phaseMinimumGreen": (8, [0, 1, 5, 9, 10, 14, 15]), "phaseMaximum1": (8, [5, 10, 20, 25, 30]), "phaseMaximum2": (8, [15, 20, 40]),

@@ -1,12 +1,13 @@
--- Advices on coordination: A27 to A32, and A42 to A44. Times are in tenths of a second.
+-- Advices on coordination: A27 to A32, and A42 to A46. Times are in tenths of a second.
 use Rattle.std.specs.Prelude.{ℕ, ◌+◌, ◌-◌, ◌*◌, ◌==◌, nat_lt, Bool, false, not, ◌&&◌, ◌||◌, Option, Some, None, is_some}
 use Rattle.std.specs.List.{list_any}
 use Rattle.tsb_types.specs.Lists.{first, run_from}
 use Rattle.tsb_plan.specs.declared.object.Object.TheVariants.{PatternCycleTime, PatternOffsetTime, PatternSplitNumber, PatternSequenceNumber, PatternPermissiveTime, PatternLeadLag}
 use Rattle.tsb_plan.specs.Parts.{is_used, cycle, offset, permissive_time, leads_and_lags}
-use Rattle.tsb_plan.specs.Plan.{Plan, phases, is_enabled, minimum_green, has_soft_recall}
-use Rattle.tsb_plan.specs.Running.{is_coordinated_now, is_omitted_now, pattern_maximum}
-use Rattle.tsb_objects.specs.Instants.{end_of}
+use Rattle.tsb_plan.specs.Plan.{Plan, phases, is_enabled, minimum_green, has_soft_recall, recycles_walk}
+use Rattle.tsb_plan.specs.Running.{is_coordinated_now, is_omitted_now, is_on_pedestrian_recall, pattern_maximum}
+use Rattle.tsb_rules.specs.Rules.{has_walk, serves_pedestrians}
+use Rattle.tsb_objects.specs.Instants.{end_of, may_recycle}
 use Rattle.tsb_review.specs.Calls.{is_recalled}
 use Rattle.tsb_review.specs.Pedestrians.{overruns_split, pedestrian_time}
 use Rattle.tsb_review.specs.Splits.{green_of_split, passed_by, left_short}
@@ -100,3 +101,18 @@ ends_apart plan n p = is_coordinated_now plan (Some n) p && list_any (ends_apart
 -- A44: the used pattern n leads and lags, and the splits of its coordinated phases end at one time
 abbrev pub leads_for_nothing : Plan → ℕ → Bool
 leads_for_nothing plan n = is_used plan n && (leads_and_lags plan n && not (list_any (ends_apart plan n) (phases plan)))
+
+-- some used pattern has p as a coordinated phase
+abbrev pub is_coordinated_by_pattern : Plan → ℕ → Bool
+is_coordinated_by_pattern plan p = list_any (λ n. is_used plan n && is_coordinated_now plan (Some n) p) (run_from 1 16)
+
+-- A45: p has pedestrian recycle, and no used pattern has it as a coordinated phase with a walk
+abbrev pub recycles_nothing : Plan → ℕ → Bool
+recycles_nothing plan p =
+    is_enabled plan p && (recycles_walk plan p && not (has_walk plan p && is_coordinated_by_pattern plan p))
+
+-- A46: the used pattern n has p as a coordinated phase with a walk and pedestrian recycle, and recalls its pedestrians:
+-- after each clearance its walk begins again
+abbrev pub walks_over_and_over : Plan → ℕ → ℕ → Bool
+walks_over_and_over plan n p =
+    is_used plan n && (serves_pedestrians plan p && (may_recycle plan (Some n) p && is_on_pedestrian_recall plan (Some n) p))

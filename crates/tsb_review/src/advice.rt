@@ -8,7 +8,7 @@ use crate::place::Shape;
 ///
 /// They stand in the order in which a review gives them: on service (A1 to A7), pedestrians (A8 to A14), clearance (A15
 /// and A16), actuation (A17 to A26), coordination (A27 to A32), preempts (A33 to A38), overlaps (A39 to A41), and
-/// options of coordination (A42 to A44).
+/// options of coordination (A42 to A46).
 #[derive(Clone, Copy)]
 pub enum Advice {
     /// An enabled phase is called by no detector, button, recall or split mode.
@@ -101,11 +101,15 @@ pub enum Advice {
     A43,
     /// A pattern leads and lags, and its coordinated splits end at one time.
     A44,
+    /// Pedestrian recycle of a phase that no used pattern has as a coordinated phase with a walk.
+    A45,
+    /// A coordinated phase has pedestrian recycle and pedestrian recall, so its walk begins again after each clearance.
+    A46,
 }
 
 impl Advice {
     /// All advices, in order.
-    pub const ALL: [Advice; 44] = [
+    pub const ALL: [Advice; 46] = [
         Advice::A1,
         Advice::A2,
         Advice::A3,
@@ -150,6 +154,8 @@ impl Advice {
         Advice::A42,
         Advice::A43,
         Advice::A44,
+        Advice::A45,
+        Advice::A46,
     ];
 
     /// What the advice is given for.
@@ -173,7 +179,8 @@ impl Advice {
             | Advice::A21
             | Advice::A22
             | Advice::A23
-            | Advice::A24 => Shape::Phase,
+            | Advice::A24
+            | Advice::A45 => Shape::Phase,
             Advice::A2 | Advice::A25 | Advice::A26 => Shape::Detector,
             Advice::A3 => Shape::Phases,
             Advice::A4
@@ -183,7 +190,8 @@ impl Advice {
             | Advice::A28
             | Advice::A29
             | Advice::A42
-            | Advice::A43 => Shape::Split,
+            | Advice::A43
+            | Advice::A46 => Shape::Split,
             Advice::A5 => Shape::Ring,
             Advice::A16 => Shape::Unit,
             Advice::A30 | Advice::A31 | Advice::A32 | Advice::A44 => Shape::Pattern,

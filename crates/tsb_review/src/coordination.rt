@@ -1,4 +1,4 @@
-//! Advices on coordination: A27 to A32, and A42 to A44. Times are in tenths of a second.
+//! Advices on coordination: A27 to A32, and A42 to A46. Times are in tenths of a second.
 #![tactic(auto, unfolding(tsb_plan::specs::PlanOf::plan_of))]
 
 ghost use Rattle.std.specs.Prelude.{◌≡◌, ◌==◌};
@@ -7,9 +7,9 @@ ghost use Rattle.tsb_plan.specs.Objects.{indices};
 ghost use Rattle.tsb_plan.specs.Plan.{phases};
 ghost use Rattle.tsb_plan.specs.PlanOf.{plan_of};
 ghost use Rattle.tsb_review.specs.Splits.{passed_by};
-ghost use Rattle.tsb_review.specs.Coordination.{spare_time, has_tight_split, overrun, makes_late, recalls_omitted, yields_alike, is_same_before, first_same, is_repeated, has_long_offset, is_actuated, yields_once, is_under, has_short_maximum, is_permissive, yields_too_long, ends_apart_from, ends_apart, leads_for_nothing};
+ghost use Rattle.tsb_review.specs.Coordination.{spare_time, has_tight_split, overrun, makes_late, recalls_omitted, yields_alike, is_same_before, first_same, is_repeated, has_long_offset, is_actuated, yields_once, is_under, has_short_maximum, is_permissive, yields_too_long, ends_apart_from, ends_apart, leads_for_nothing, is_coordinated_by_pattern, recycles_nothing, walks_over_and_over};
 
-use crate::calls::{is_recalled, is_recalled_in};
+use crate::calls::{has_walk, is_recalled, is_recalled_in, serves_pedestrians};
 use crate::pedestrians::{overruns_split, pedestrian_time};
 use crate::service::has_soft_recall;
 use crate::sought::{Sought, some_phase};
@@ -212,4 +212,34 @@ pub(crate) fn leads_for_nothing(plan: &Plan, pattern: Pattern) -> bool
     ensures { result ≡ leads_for_nothing (plan_of plan.now) pattern }
 {
     plan.is_used(pattern) && plan.leads_and_lags(pattern) && !has_ends_apart(plan, pattern)
+}
+
+/// Whether some used pattern has the phase as a coordinated one.
+fn is_coordinated_by_pattern(plan: &Plan, phase: Phase) -> bool
+    ensures { result ≡ is_coordinated_by_pattern (plan_of plan.now) phase }
+{
+    Pattern::all().iter().any(|pattern| {
+        plan.is_used(*pattern) && plan.is_coordinated_now(Some(*pattern), phase)
+    })
+}
+
+/// A45: whether the phase has pedestrian recycle, and no used pattern has it as a coordinated one with a walk.
+pub(crate) fn recycles_nothing(plan: &Plan, phase: Phase) -> bool
+    ensures { result ≡ recycles_nothing (plan_of plan.now) phase }
+{
+    plan.is_enabled(phase)
+        && plan.recycles_walk(phase)
+        && !(has_walk(plan, phase) && is_coordinated_by_pattern(plan, phase))
+}
+
+/// A46: whether the used pattern has the phase as a coordinated one with a walk and pedestrian recycle, and recalls its
+/// pedestrians, so that after each clearance its walk begins again.
+pub(crate) fn walks_over_and_over(plan: &Plan, pattern: Pattern, phase: Phase) -> bool
+    ensures { result ≡ walks_over_and_over (plan_of plan.now) pattern phase }
+{
+    plan.is_used(pattern)
+        && serves_pedestrians(plan, phase)
+        && plan.recycles_walk(phase)
+        && plan.is_coordinated_now(Some(pattern), phase)
+        && plan.is_on_pedestrian_recall(Some(pattern), phase)
 }

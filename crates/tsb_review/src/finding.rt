@@ -96,6 +96,7 @@ fn of_phase(plan: &Plan, advice: Advice, phase: Phase) -> bool
         Advice::A22 => actuation::adds_without_variable(plan, phase),
         Advice::A23 => actuation::has_limit_alone(plan, phase),
         Advice::A24 => actuation::has_step_alone(plan, phase),
+        Advice::A45 => coordination::recycles_nothing(plan, phase),
         _ => false,
     }
 }
@@ -158,6 +159,7 @@ fn of_split(plan: &Plan, advice: Advice, pattern: Pattern, phase: Phase) -> bool
         Advice::A29 => coordination::recalls_omitted(plan, pattern, phase),
         Advice::A42 => coordination::has_short_maximum(plan, pattern, phase),
         Advice::A43 => coordination::yields_too_long(plan, pattern, phase),
+        Advice::A46 => coordination::walks_over_and_over(plan, pattern, phase),
         _ => false,
     }
 }

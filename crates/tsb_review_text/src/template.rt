@@ -114,5 +114,11 @@ pub(crate) fn template(advice: Advice) -> &'static [u8]
         Advice::A44 => {
             b"A44 pattern P: patternLeadLag has no effect, since the splits of its coordinated phases end at one time"
         }
+        Advice::A45 => {
+            b"A45 phase P: its pedestrian recycle has no effect, since no used pattern has it as a coordinated phase with a walk"
+        }
+        Advice::A46 => {
+            b"A46 phase P: its walk begins again after each clearance in pattern S, since it has pedestrian recall and pedestrian recycle"
+        }
     }
 }
