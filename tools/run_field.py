@@ -39,7 +39,10 @@ OPTIONS = [
     ("coordination_maximum", "coordination", "coordination", "coordMaximumMode", (0, 1), 300),
     ("permissive_time", "coordination", "permissive_time", "patternPermissiveTime", (0, 5), 300),
     ("lead_and_lag", "coordination", "lead_and_lag", "pattern", (1, 2), 300),
+    ("pedestrian_recycle", "pedestrian_recycle", "pedestrian_recycle", "phasePedestrianRecycle", (0, 1), 300),
 ]
+# The indices at which an option is set, where they are not 1 alone.
+INDICES = {"phasePedestrianRecycle": (2, 6)}
 SVG = "{http://www.w3.org/2000/svg}"
 
 
@@ -433,7 +436,8 @@ def option_commands(option, value, seconds):
     if option == "pattern":
         run[0] = f"pattern {value}"
     else:
-        run = ["begin 1", f"set 1 {option} 1 {value}", "verify 1", "commit 1", *run]
+        edits = [f"set 1 {option} {index} {value}" for index in INDICES.get(option, (1,))]
+        run = ["begin 1", *edits, "verify 1", "commit 1", *run]
     return "".join(f"{it}\n" for it in run).encode()
 
 
