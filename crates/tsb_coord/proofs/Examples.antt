@@ -4,8 +4,10 @@ pub mod PatternExamples
 pub mod LateExamples
 pub mod PermissiveExamples
 pub mod LeadLagExamples
+pub mod RecycleExamples
 pub mod Mistakes
 pub mod LawMistakes
 pub mod LateMistakes
 pub mod PermissiveMistakes
+pub mod RecycleMistakes
 pub mod RangeMistakes

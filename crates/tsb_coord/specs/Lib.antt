@@ -1,4 +1,4 @@
--- the pattern that runs, its local counter, and hold, force-off and omit by it
+-- the pattern that runs, its local counter, and hold, force-off, pedestrian recycle and omit by it
 pub mod Coordinated
 -- the one cell, read and written, and the rows that can be
 pub mod Cells
