@@ -71,6 +71,37 @@ fn has_instants(plan: &Checked, wanted: &[u32; 8]) -> bool {
     true
 }
 
+/// Phase 2 walks for 4 seconds and clears in 6, and may walk again: the last time at 660. So may 4, which is not
+/// coordinated.
+const RECYCLING: [Value; 2] = [
+    (Object::PhasePedestrianRecycle, 2, 1),
+    (Object::PhasePedestrianRecycle, 4, 1),
+];
+
+/// Whether pattern 1 lets these walk again, each list at its local time.
+fn walks(plan: &Checked, wanted: &[(u32, u16)]) -> bool {
+    let n = Pattern::of(1);
+    for (local, phases) in wanted {
+        if !plan.plan().is_used(n) {
+            return false;
+        }
+        let forced = plan.forced_at(n, *local);
+        if plan.recycled_at(n, *local, forced).list() != *phases {
+            return false;
+        }
+    }
+    true
+}
+
+/// Whether the time for a walk of the phase ends here in pattern 1.
+fn has_recycle_end(plan: &Checked, phase: u8, wanted: Option<u32>) -> bool {
+    let n = Pattern::of(1);
+    if phase < 1 || phase > 16 || !plan.plan().is_used(n) {
+        return false;
+    }
+    plan.recycle_end(n, Phase::of(phase)) == wanted
+}
+
 /// Whether the phase has this end of a permissive time in pattern 1.
 fn has_end(plan: &Checked, phase: u8, wanted: Option<u32>) -> bool {
     let n = Pattern::of(1);
@@ -134,6 +165,57 @@ fn coordination_is_due_behind_permissive_times(rt: HostRuntime) {
     assert!(rt; matches!(&quad_with(&PERMISSIVE), Some(plan) if is_due(plan, &wanted)));
     let without = [(0, 110), (110, 111), (760, 761), (761, 910)];
     assert!(rt; matches!(&quad_with(&[]), Some(plan) if is_due(plan, &without)));
+}
+
+/// A coordinated phase walks again where walk and clearance end by its instant, and not where it is forced off.
+#[test]
+fn walks_fit_up_to_instants(rt: HostRuntime) {
+    let wanted = [
+        (0, 0x0002),
+        (660, 0x0002),
+        (661, 0),
+        (759, 0),
+        (760, 0),
+        (761, 0x0002),
+        (799, 0x0002),
+    ];
+    let plan = quad_with(&RECYCLING);
+    assert!(rt; matches!(&plan, Some(plan) if walks(plan, &wanted)));
+    assert!(rt; matches!(&plan, Some(plan) if has_recycle_end(plan, 2, Some(661))));
+    assert!(rt;
+        matches!(&plan, Some(plan)
+            if has_recycle_end(plan, 4, None) && has_recycle_end(plan, 6, None))
+    );
+    assert!(rt; matches!(&quad_with(&[]), Some(plan) if walks(plan, &[(0, 0), (761, 0)])));
+}
+
+/// None begins in the permissive time, up to 60 of the next cycle.
+#[test]
+fn permissive_times_hold_walks_back(rt: HostRuntime) {
+    let values = [RECYCLING[0], RECYCLING[1], PERMISSIVE[0]];
+    let wanted = [
+        (0, 0),
+        (60, 0),
+        (61, 0x0002),
+        (660, 0x0002),
+        (661, 0),
+        (799, 0),
+    ];
+    assert!(rt; matches!(&quad_with(&values), Some(plan) if walks(plan, &wanted)));
+}
+
+/// Another tick is due where a walk no longer fits.
+#[test]
+fn coordination_is_due_where_walks_fit_no_more(rt: HostRuntime) {
+    let wanted = [
+        (361, 510),
+        (511, 661),
+        (660, 661),
+        (661, 760),
+        (760, 761),
+        (761, 910),
+    ];
+    assert!(rt; matches!(&quad_with(&RECYCLING), Some(plan) if is_due(plan, &wanted)));
 }
 
 /// Local 0 is the end of ring 1's coordinated split, and ring 2's coordinated phase has its own instant.

@@ -77,7 +77,7 @@ fn quad_has_its_values(rt: HostRuntime) {
 }
 
 /// What is changed in the built-in plan, so that it tells of all that phases and detectors have.
-const CHANGES: [(Object, u32, u32); 16] = [
+const CHANGES: [(Object, u32, u32); 17] = [
     (Object::PhasePedRecall, 2, 1),
     (Object::PhaseSimGapDisable, 2, 1),
     (Object::PhaseRestInWalk, 2, 1),
@@ -88,6 +88,7 @@ const CHANGES: [(Object, u32, u32); 16] = [
     (Object::PhaseTimeToReduce, 2, 7),
     (Object::PhaseDynamicMaxLimit, 2, 14),
     (Object::PhaseDynamicMaxStep, 2, 15),
+    (Object::PhasePedestrianRecycle, 2, 1),
     (Object::VehicleDetectorDelay, 3, 20),
     (Object::VehicleDetectorExtend, 3, 50),
     (Object::VehicleDetectorNoActivity, 3, 1),
@@ -103,11 +104,13 @@ fn tells_phases_apart(plan: &Plan) -> bool {
         && plan.has_pedestrian_recall(second)
         && plan.disables_simultaneous_gap(second)
         && plan.rests_in_walk(second)
+        && plan.recycles_walk(second)
         && plan.has_variable_initial(second)
         && !plan.has_minimum_recall(third)
         && !plan.has_pedestrian_recall(third)
         && !plan.disables_simultaneous_gap(third)
         && !plan.rests_in_walk(third)
+        && !plan.recycles_walk(third)
         && !plan.has_variable_initial(third)
 }
 
