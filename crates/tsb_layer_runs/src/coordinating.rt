@@ -30,13 +30,14 @@ pub struct Coordinating {
     due: u32,
     runs: Option<Pattern>,
     forced: PhaseSet,
+    recycle: PhaseSet,
     ghost by: { IsBy (cells_of layer) },
     ghost closed: { is_open layer ≡ false },
 }
 
 impl Coordinating {
-    /// A line `o`: a tick; the pattern that runs, the sequence, hold, force-off and omit, and one more than the local
-    /// counter, or 0 in free operation.
+    /// A line `o`: a tick; the pattern that runs, the sequence, hold, force-off and omit; one more than the local
+    /// counter, or 0 in free operation; and pedestrian recycle.
     fn tell(&self, numbers: Numbers, plan: &Checked) -> Result<u32, Fault> {
         let mut numbers = numbers;
         let now = numbers.number()?;
@@ -53,6 +54,7 @@ impl Coordinating {
             Some(local) => numbers.tells(local.saturating_add(1))?,
             None => numbers.tells(0)?,
         }
+        numbers.tells_phases(said.recycle)?;
         numbers.ends()?;
         Ok(1)
     }
@@ -81,6 +83,7 @@ impl Driven for Coordinating {
             due: 0,
             runs: None,
             forced: PhaseSet::empty(),
+            recycle: PhaseSet::empty(),
         })
     }
 
@@ -107,7 +110,7 @@ impl Ticked for Coordinating {
     }
 
     /// One tick, as a bench has it: what coordination asked for holds until it is due, or until another pattern is
-    /// selected. It answers whether it asks for another force-off, or another pattern runs.
+    /// selected. It answers whether it asks for another force-off or pedestrian recycle, or another pattern runs.
     #[inline(always)]
     fn tick(&mut self, given: &Given, plan: &Checked, out: &mut Changes) -> Result<bool, Fault> {
         if self.now >= limits::TICKS {
@@ -128,9 +131,12 @@ impl Ticked for Coordinating {
         self.due = layer.due(now, plan);
         layer.close_onto(out, 0);
         self.layer = layer;
-        let is_other = said.runs != self.runs || said.forced != self.forced;
+        let is_other = said.runs != self.runs
+            || said.forced != self.forced
+            || said.recycle != self.recycle;
         self.runs = said.runs;
         self.forced = said.forced;
+        self.recycle = said.recycle;
         Ok(is_other)
     }
 
