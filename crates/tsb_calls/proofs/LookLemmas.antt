@@ -76,7 +76,7 @@ pub settled-alike : (d e : Done) (f k : ℕ → Bool) (m n : Memories) → Agree
     AreAlike (settled d f m) (settled e k n)
 settled-alike d e f k m n moved walks same = record {
   vehicle = λ p from to. vehicle p (moved.starts p from to) (moved.ends p from to) (moved.gapped p from to) (same.vehicle p from to);
-  pedestrian = λ p from to. pedestrian p (moved.starts p from to) (walks p from to) (same.pedestrian p from to);
+  pedestrian = λ p from to. pedestrian p (moved.starts p from to) (moved.walks p from to) (walks p from to) (same.pedestrian p from to);
   count = λ p from to. count p (moved.ends p from to) (same.count p from to);
 }
   where
@@ -84,9 +84,9 @@ settled-alike d e f k m n moved walks same = record {
         vehicle_after d m.vehicle p ≡ vehicle_after e n.vehicle p
     vehicle p a b c i = rw (a, b, c, i) refl
 
-    pedestrian : (p : ℕ) → d.starts p ≡ e.starts p → f p ≡ k p → m.pedestrian p ≡ n.pedestrian p →
+    pedestrian : (p : ℕ) → d.starts p ≡ e.starts p → d.walks p ≡ e.walks p → f p ≡ k p → m.pedestrian p ≡ n.pedestrian p →
         pedestrian_after d f m.pedestrian p ≡ pedestrian_after e k n.pedestrian p
-    pedestrian p a b c = rw (a, b, c, moved.service) refl
+    pedestrian p a b c i = rw (a, b, c, i, moved.service) refl
 
     count : (p : ℕ) → d.ends p ≡ e.ends p → m.count p ≡ n.count p → count_after d m.count p ≡ count_after e n.count p
     count p a b = rw (a, b) refl

@@ -35,6 +35,7 @@ pub record AgreeOnMoves (d e : Done) : Type 0 where
   pub starts : Agree d.starts e.starts
   pub ends : Agree d.ends e.ends
   pub gapped : Agree d.gapped e.gapped
+  pub walks : Agree d.walks e.walks
   pub service : d.service ≡ e.service
 
 -- then what is set and what is called is the same of phases: `m` and `n` are the memories as set

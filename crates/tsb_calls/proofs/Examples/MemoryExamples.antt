@@ -61,12 +61,13 @@ called_back = refl
 
 -- ## What the rings do
 
--- these phases start and these end; those that end have gapped out or not
+-- these phases start and these end; those that end have gapped out or not; no walk begins within a green
 abbrev pub moved : List ℕ → List ℕ → Bool → Done
 moved starts ends gapped = record {
   starts = λ p. among p starts;
   ends = λ p. among p ends;
   gapped = λ p. gapped;
+  walks = λ p. false;
   service = None;
 }
 
@@ -98,6 +99,31 @@ walk_of_2 service =
 falls_with_walk : walk_of_2 None ∷ walk_of_2 (Some 1) ∷ [] ≡ false ∷ true ∷ []
 unfolding quad run_from has_button pedestrian_memory
 falls_with_walk = refl
+
+-- and with a walk that begins within the green of these phases, also where its button is pressed in that tick
+abbrev pub walking : List ℕ → Done
+walking walks = record (moved [] [] true) { walks = λ p. among p walks }
+
+falls_within_green : (next quad (resting (2 ∷ 6 ∷ [])) (walking (2 ∷ [])) waiting).pedestrian 2 ≡ false
+unfolding quad run_from has_button pedestrian_memory
+falls_within_green = refl
+
+falls_at_once : (next quad (pressed DontWalk) (walking (2 ∷ [])) at_power_up).pedestrian 2 ≡ false
+unfolding quad run_from has_button pedestrian_memory
+falls_at_once = refl
+
+-- that of another phase stays, and so do vehicle memories and counts
+stays_for_another : (next quad (resting (2 ∷ 6 ∷ [])) (walking (6 ∷ [])) waiting).pedestrian 2 ≡ true
+unfolding quad run_from has_button pedestrian_memory
+stays_for_another = refl
+
+vehicles_stay : all_those (next quad (resting (2 ∷ 6 ∷ [])) (walking (2 ∷ [])) waiting).vehicle ≡ 3 ∷ 4 ∷ []
+unfolding quad run_from has_output vehicle_memory
+vehicles_stay = refl
+
+counts_stay : map (next quad (resting (2 ∷ 6 ∷ [])) (walking (2 ∷ [])) waiting).count (2 ∷ 3 ∷ []) ≡ 6 ∷ 6 ∷ []
+unfolding quad run_from actuations counted
+counts_stay = refl
 
 -- ## Cells
 

@@ -2,6 +2,7 @@
 -- calls phase d.
 use Rattle.std.specs.Prelude.{◌≡◌, ℕ, ◌+◌, ◌==◌, Bool, true, false, not, ◌&&◌, ◌||◌, if◌then◌else◌, [], ◌∷◌, refl}
 use Rattle.tsb_objects.specs.tsb_types.declared.interval.PedestrianInterval.TheVariants.{PedestrianClear}
+use Rattle.tsb_objects.specs.tsb_types.Flow.{gives_walk}
 use Rattle.tsb_objects.specs.tsb_types.Intervals.{is_dont_walk}
 use Rattle.tsb_objects.specs.tsb_types.Lists.{run_from, some_passes}
 use Rattle.tsb_objects.specs.tsb_plan.declared.object.Object.TheVariants.{PhaseNonLock}
@@ -10,9 +11,9 @@ use Rattle.tsb_objects.specs.tsb_plan.Quad.{quad}
 use Rattle.tsb_objects.specs.tsb_rules.Rules.{serves_pedestrians}
 use Rattle.tsb_calls.specs.Memories.{Memories, Given, at_power_up, was_green, has_output, actuations, has_button, locks_call, is_called_back, vehicle_memory, pedestrian_memory, counted, as_set}
 use Rattle.tsb_calls.specs.Callable.{is_called, is_free, is_callable_otherwise, is_callable, has_conflict}
-use Rattle.tsb_calls.specs.Settled.{Done, is_cut_short, vehicle_after}
+use Rattle.tsb_calls.specs.Settled.{Done, is_cut_short, vehicle_after, pedestrian_after}
 use Rattle.tsb_calls.proofs.Examples.Examples.{resting, rising, all_those, those, soft}
-use Rattle.tsb_calls.proofs.Examples.MemoryExamples.{pressed, one_is_non_locking, service_ends, moved}
+use Rattle.tsb_calls.proofs.Examples.MemoryExamples.{pressed, one_is_non_locking, service_ends, moved, walking}
 
 -- ## A green that is cut short sets vehicle memory of a locking phase alone
 
@@ -87,6 +88,18 @@ in_clearance = refl
 in_clearance_not : pedestrian_memory_in_dont_walk quad (pressed PedestrianClear) at_power_up 2 ≡ false
 unfolding quad run_from has_button
 in_clearance_not = refl
+
+-- ## Pedestrian memory falls with the start of a green alone, and stays where a walk begins within one
+
+abbrev pub pedestrian_after_start : Done → (ℕ → Bool) → (ℕ → Bool) → ℕ → Bool
+pedestrian_after_start done pedestrian_call memory p =
+    memory p && not (done.starts p && gives_walk (pedestrian_call p) done.service)
+
+served_by_second_walk : pedestrian_after (walking (2 ∷ [])) (λ p. true) (λ p. true) 2 ≡ false
+served_by_second_walk = refl
+
+would_walk_again : pedestrian_after_start (walking (2 ∷ [])) (λ p. true) (λ p. true) 2 ≡ true
+would_walk_again = refl
 
 -- ## Soft recall waits only for callable phases of its own side, or of its own ring
 
