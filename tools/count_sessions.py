@@ -4,9 +4,10 @@
     tools/count_sessions.py --reference FOLDER FILE..
 
 FOLDER holds the independent reference (make_sessions.py says what that is). Two tables are printed: totals, and for
-each command, refusal, rule, watch, trip, stage, force-off and cause of an ending in a pattern in how many places and in
-how many sessions it occurs. Of the sessions that have options of coordination it is told of how many the answers are
-others with an option at 0.
+each command, refusal, rule, watch, trip, stage, force-off, cause of an ending in a pattern and walk within a green in
+how many places and in how many sessions it occurs. Of a walk that pedestrian recycle does not begin it is told what
+keeps it back, once for as long as that does. Of the sessions that have options of coordination it is told of how many
+the answers are others with an option at 0.
 """
 import argparse
 import os
@@ -15,12 +16,13 @@ from collections import Counter
 
 import stored_cases
 from make_sessions import Reference
-from reference_events import (Tick, coordinated_phases, force_off_cause, force_off_instant, has_gapped_out,
-                              has_maxed_out, has_maximum_recall, is_coordinated, is_ended_by_preempt, is_forced_off,
+from reference_events import (Tick, behind_instant, conflicting, coordinated_phases, cycle_of, force_off_cause,
+                              force_off_instant, has_gapped_out, has_maxed_out, has_maximum_recall,
+                              has_pedestrian_recall, is_coordinated, is_ended_by_preempt, is_forced_off, is_pressed,
                               runs_pattern)
 
 # The options that are 0 where a plan does not name them, and their values that stand in a plan text or in a command.
-OPTIONS = "coordForceMode coordMaximumMode patternPermissiveTime patternLeadLag".split()
+OPTIONS = "coordForceMode coordMaximumMode patternPermissiveTime patternLeadLag phasePedestrianRecycle".split()
 
 
 def counting(bench, found):
@@ -37,7 +39,9 @@ def counting(bench, found):
             else:
                 count_change(found, given, before, self.states[-1])
                 if given[0] == "tick":
-                    count_coordination(found, self, Tick(bench, before, self.states[-1], given[1]))
+                    tick = Tick(bench, before, self.states[-1], given[1])
+                    count_coordination(found, self, tick)
+                    count_recycle(found, self, tick)
             return refusal
 
         def answer(self, command, out):
@@ -172,6 +176,66 @@ def count_force_offs(found, tick):
         if is_apart(tick.bench, tick.before):
             kind = "coordinated" if is_coordinated(tick.before, phase) else "other"
             found[f"force-offs with lead and lag {cause}, {kind} phase of ring {ring_of(tick, phase)}"] += 1
+
+
+def count_recycle(found, session, tick):
+    """Counts the walks that begin within greens, and what keeps others back from a tick on."""
+    for phase, held in walks_held_back(tick).items():
+        if (tick.after.ped[phase] == "W") != (held is None):
+            found["walks by pedestrian recycle that are not as told"] += 1
+        if held is None:
+            room = "with no tick to spare" if time_left(tick, phase) == walk_and_clearance(tick, phase) else "in time"
+            found[f"walk within a green, {room}"] += 1
+            found["walk within a green, while a conflict waits"] += bool(conflicting(tick, phase))
+        elif walks_held_back(tick_before(session, tick)).get(phase) != held:
+            found[f"no walk within a green by {held}"] += 1
+
+
+def tick_before(session, tick):
+    """The tick before the newest of a session, if that was the input before, and none otherwise."""
+    if len(session.inputs) < 2 or session.inputs[-2][0] != "tick":
+        return None
+    return Tick(tick.bench, session.states[-3], session.states[-2], session.inputs[-2][1])
+
+
+def walks_held_back(tick):
+    """What keeps each phase with pedestrian recycle from a walk that is green in don't walk and called by pedestrians:
+    none where nothing does."""
+    if tick is None or tick.before.trip:
+        return {}
+    before, plan = tick.before, tick.before.plan
+    green = [p for p in tick.bench.enabled(plan, before.lim) if (before.interval[p], before.ped[p]) == ("G", "D")]
+    asked = [p for p in green if plan["phasePedestrianRecycle"][p] and plan["phaseWalk"][p]]
+    return {p: held_back_by(tick, p) for p in asked
+            if before.pmem[p] or is_pressed(tick, p) or has_pedestrian_recall(before, p)}
+
+
+def held_back_by(tick, phase):
+    """What keeps a phase from a walk within its green, and none where nothing does."""
+    before = tick.before
+    if not runs_pattern(before):
+        return "free operation"
+    if not is_coordinated(before, phase):
+        return "a phase that is not coordinated"
+    if tick.after.service:
+        return "a preempt"
+    cause = force_off_cause(tick, phase)
+    if cause or before.forced[phase] and conflicting(tick, phase):
+        return f"a force-off {cause or 'that stands'}"
+    times = walk_and_clearance(tick, phase)
+    if times > time_left(tick, phase):
+        return "a cycle that is shorter" if times >= cycle_of(before) else "the time that is left"
+    return None
+
+
+def walk_and_clearance(tick, phase):
+    """The walk and the pedestrian clearance of a phase."""
+    return 10 * (tick.before.plan["phaseWalk"][phase] + tick.before.plan["phasePedestrianClear"][phase])
+
+
+def time_left(tick, phase):
+    """How long it is to the instant of a phase of the pattern that runs."""
+    return -behind_instant(tick, phase) % cycle_of(tick.before)
 
 
 def ring_of(tick, phase):

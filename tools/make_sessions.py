@@ -35,8 +35,8 @@ TITLES = {
     "late": "Sessions at random: detectors that fail, maximums that move, overlaps, trips, transactions, cycles of 0.",
     "aimed": "Sessions of what others seldom meet: each rule, refusals, stages, alarms, coincidences, the way back.",
     "tripped": "Sessions in which the monitor trips: in crossings, in each stage of preempts, in transactions, and back.",
-    "options": "Sessions in patterns with the options of coordination: force modes, maximums, permissive times, lead "
-               "and lag.",
+    "options": "Sessions with the options of coordination: force modes, maximums, permissive times, lead and lag, "
+               "pedestrian recycle.",
     "mangled": "Sessions of which the plan text, the log or the commands were mangled: bytes changed at random.",
 }
 

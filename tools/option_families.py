@@ -2,110 +2,13 @@
 
 A family is given a source of random numbers, a plan with short cycles (option_plans.py), and the table of its pattern
 1; it gives a log and commands. `options` makes the plan of a seed, gives the options values, and has the family of the
-seed make the rest.
+seed make the rest. The families of pedestrian recycle are in recycle_families.py; option_kit.py has what both share.
 """
+from option_kit import (FORCE, LEAD, MAXIMUM, PERMISSIVE, RECALLS, RECYCLE, a_time, an_edit, busy, change,
+                        changed_within, chosen, edits, numbers, some, steps, tick_at, watched)
 from option_plans import OMITTED, accepted, begins_at_an_instant, is_left_out
+from recycle_families import RECYCLES, walks_of_both_rings
 from session_families import commit, row
-
-FORCE, MAXIMUM, PERMISSIVE, LEAD = "coordForceMode coordMaximumMode patternPermissiveTime patternLeadLag".split()
-RECALLS = "phaseMinRecall phaseMaxRecall phasePedRecall".split()
-
-
-# --- options ---
-
-def a_time(rng, cycle, clearance=40):
-    """A permissive time of a pattern, in seconds: short, about as far as the cycle's end, or nearly the whole cycle."""
-    far = clearance // 10 + rng.choice([0, 1, 2, 4, 8])
-    return min(rng.choice([1, 2, 3, far, far, cycle - 1]), cycle - 1)
-
-
-def an_edit(rng, plan, number=None):
-    """An edit of an option: its name, index and new value. That of lead and lag breaks a rule where it is needed."""
-    name, number = rng.choice([FORCE, FORCE, MAXIMUM, PERMISSIVE, PERMISSIVE, LEAD]), number or rng.choice([1, 1, 2])
-    if name in (FORCE, MAXIMUM):
-        return name, 1, rng.randint(0, 2)
-    if name == LEAD:
-        return name, number, rng.randint(0, 1)
-    return name, number, rng.choice([0, a_time(rng, plan["patternCycleTime"][str(number)])])
-
-
-def edits(rng, plan):
-    """One or two edits of options, of two values."""
-    found = {}
-    for _ in range(rng.choice([1, 1, 2])):
-        name, index, value = an_edit(rng, plan)
-        found[name, index] = value
-    return [(name, index, value) for (name, index), value in found.items()]
-
-
-def change(rng, changes):
-    """Commands that change options. The desk is closed behind them where a rule may be broken, and now and then."""
-    closed = any(name == LEAD and not value for name, _, value in changes) or rng.random() < 0.1
-    return commit(rng.randint(1, 4), changes)[:None if closed else -1]
-
-
-def chosen(rng, seed, plan):
-    """Values of the options, which of them are on: of four seeds one has but one option on, if lead and lag is not."""
-    cycles = plan["patternCycleTime"]
-    values = {FORCE: {"1": seed % 3}, MAXIMUM: {"1": rng.choice([0, 0, 1, 2])},
-              PERMISSIVE: {number: rng.choice([0, a_time(rng, cycle)]) for number, cycle in cycles.items()}}
-    if rng.random() < 0.25:
-        alone = rng.choice(list(values))
-        values = {alone: values[alone]}
-    return values
-
-
-# --- logs and commands ---
-
-def numbers(plan, name):
-    """The numbers of a plan's object whose value is not 0."""
-    return [int(index) for index, value in plan[name].items() if value]
-
-
-def busy(rng, plan, last, gaps):
-    """A log in which all phases are called, with cars throughout but for some detectors now and then, and buttons."""
-    detectors = numbers(plan, "vehicleDetectorCallPhase")
-    found, now = row(1, detectors, [1] if rng.random() < 0.5 else []), 1
-    for _ in range(gaps):
-        now += rng.randint(1, max(2 * last // (gaps + 1), 2))
-        on = rng.sample(detectors, rng.randint(0, len(detectors)))
-        found += row(now, on, [1] if rng.random() < 0.4 else [])
-    return found
-
-
-def some(rng, plan, table):
-    """A log with cars throughout on some detectors: none on the phases whose instants come first, mostly, so that those
-    behind them begin before their splits do."""
-    called = {int(detector): phase for detector, phase in plan["vehicleDetectorCallPhase"].items()}
-    firsts = {min((p for p in table.found.phases if table.found.rings[p] == ring), key=table.instant, default=0)
-              for ring in (1, 2)}
-    on = [detector for detector, phase in called.items() if phase not in firsts or rng.random() < 0.2]
-    on = rng.sample(on, rng.randint(1, len(on))) if on and rng.random() < 0.4 else on
-    later = rng.sample(list(called), rng.randint(1, len(called)))
-    return row(1, on) + (row(rng.randint(60, 200), later) if rng.random() < 0.3 else "")
-
-
-def changed_within(rng, commands, changes):
-    """The commands with a change of options within the first long step behind a pattern."""
-    begun = next(place for place, command in enumerate(commands) if command.startswith("pattern"))
-    for place, command in enumerate(commands[begun:], begun):
-        word, *ticks = command.split(" ")
-        if word == "step" and int(ticks[0]) > 20:
-            before = rng.randint(1, int(ticks[0]) // 2)
-            parts = [f"step {before}", *change(rng, changes), f"step {int(ticks[0]) - before}"]
-            return commands[:place] + parts + commands[place + 1:]
-    return commands
-
-
-def watched(rng, plan):
-    """A value of the state that `when` can be asked for."""
-    phase = rng.choice(numbers(plan, "phaseEnabled"))
-    return rng.choice([f"when interval {phase}", f"when interval {phase}", f"when call {phase}"])
-
-
-def steps(rng, table, *shares):
-    """Ticks that are about one of these shares of a cycle."""
-    return f"step {max(1, round(rng.choice(shares) * 10 * table.cycle * rng.uniform(0.8, 1.2)))}"
 
 
 # --- families ---
@@ -211,12 +114,6 @@ def by_the_length(rng, plan, table):
     return some(rng, plan, table), found + [steps(rng, table, 0.1, 0.3)]
 
 
-def tick_at(plan, table, local):
-    """A tick number not long after the first ones at which the local counter of pattern 1 is this."""
-    tick = (local + 10 * plan["patternOffsetTime"].get("1", 0)) % (10 * table.cycle)
-    return tick if tick >= 30 else tick + 10 * table.cycle
-
-
 def yields(rng, plan, table, behinds):
     """Calls so many ticks behind instants of coordinated phases, which have nothing else to yield to."""
     for name in (*RECALLS, "phaseNonLock"):
@@ -285,7 +182,8 @@ def maximums_between(rng, plan, table):
 
 
 REFUSED = [(FORCE, 2, 0), (FORCE, 0, 1), (FORCE, 1, 3), (FORCE, 1, 4294967295), (MAXIMUM, 1, 3), (MAXIMUM, 2, 1),
-           (PERMISSIVE, 17, 1), (PERMISSIVE, 0, 1), (PERMISSIVE, 1, 256), (LEAD, 1, 2), (LEAD, 17, 0)]
+           (PERMISSIVE, 17, 1), (PERMISSIVE, 0, 1), (PERMISSIVE, 1, 256), (LEAD, 1, 2), (LEAD, 17, 0),
+           (RECYCLE, 17, 1), (RECYCLE, 0, 0), (RECYCLE, 16, 2)]
 
 
 def breaking(rng, plan, table):
@@ -338,7 +236,7 @@ def broken_plans(rng, plan, table):
 FAMILIES = [behind_instants, longer_than_splits, in_a_permissive_time, by_the_length, preempts_over_instants,
             lead_and_lag, changed_in_a_run, by_the_length, taken_off, maximums, other_patterns, in_a_permissive_time,
             left_out, by_the_length, calls_behind, lead_and_lag, at_an_instant, maximums_between, by_the_length,
-            in_a_permissive_time, refused_edits, broken_plans]
+            in_a_permissive_time, refused_edits, broken_plans, *RECYCLES]
 AIMS = {left_out: is_left_out, at_an_instant: begins_at_an_instant}
 
 
@@ -350,10 +248,11 @@ def family_of(seed):
 def options(reference, rng, seed):
     """The plan, log and commands of a seed: of three seeds, each begins with another force mode, or its family's."""
     family = family_of(seed)
-    apart = family is lead_and_lag or rng.random() < (0.4 if family in (refused_edits, broken_plans) else 0.25)
+    share = 0.4 if family in (refused_edits, broken_plans) else 0.25
+    apart = family in (lead_and_lag, walks_of_both_rings) or rng.random() < share
     plan, table = accepted(reference, rng, AIMS.get(family), apart)
     plan.update(chosen(rng, seed, plan))
     log, commands = family(rng, plan, table)
-    if rng.random() < 0.3 and family is not in_a_permissive_time:
+    if rng.random() < (0.1 if family in RECYCLES else 0.3) and family is not in_a_permissive_time:
         commands = changed_within(rng, commands, edits(rng, plan))
     return plan, log, commands

@@ -174,6 +174,13 @@ def patterns(rng, tables, omitted):
     return plan
 
 
+def walkers(rng, found, table):
+    """The phases that have a walk, each with a button: one, which is mostly coordinated, and now and then others."""
+    first = rng.choice(found.phases if rng.random() < 0.4 else table.held)
+    others = [p for p in found.phases if p != first]
+    return [first, *rng.sample(others, min(len(others), rng.choice([0, 0, 0, 1, 2])))]
+
+
 def a_plan(rng, omits, apart):
     """A plan of version 2 with two patterns, in which all phases have a detector, and the table of pattern 1."""
     found = Layout(rng, apart)
@@ -181,17 +188,18 @@ def a_plan(rng, omits, apart):
     omitted = set(rng.sample(found.phases, 1)) if omits and len(found.phases) > 2 else set()
     tables = [Table(rng, found, times, omitted, apart) for _ in range(rng.choice([1, 1, 2]))]
     turned = [side for side in found.all_sides if rng.random() < 0.5]
-    walking = rng.choice(found.phases)
+    walking = walkers(rng, found, tables[0])
     others = [p for p in found.phases if p not in tables[0].held]
-    beside = [p for p in found.phases if found.concurrency()[walking] >> p - 1 & 1]
+    beside = [p for p in found.phases if found.concurrency()[walking[0]] >> p - 1 & 1]
     plan = {"version": 2, "phaseEnabled": dict.fromkeys(found.phases, 1), "phaseRing": found.rings,
             "phaseSide": found.sides, "phaseConcurrency": found.concurrency(), **times,
             "sequenceData": found.sequence([]) | {32 + place: p for place, p in found.sequence(turned).items()},
             "vehicleDetectorCallPhase": dict(enumerate(found.phases, 1)), **patterns(rng, tables, omitted),
-            "phaseWalk": {walking: rng.choice([1, 2, 4])}, "phasePedestrianClear": {walking: rng.choice([1, 3, 6])},
-            "pedestrianDetectorCallPhase": {1: walking},
+            "phaseWalk": {p: rng.choice([1, 2, 4]) for p in walking},
+            "phasePedestrianClear": {p: rng.choice([1, 3, 6]) for p in walking},
+            "pedestrianDetectorCallPhase": dict(enumerate(walking, 1)),
             "preemptDwellPhase": {1: 1 << rng.choice(others or found.phases) - 1,
-                                  2: sum(1 << p - 1 for p in [walking, *beside[:1]])},
+                                  2: sum(1 << p - 1 for p in [walking[0], *beside[:1]])},
             "patternLeadLag": dict.fromkeys((1, 2), 1) if apart or rng.random() < 0.1 else {}}
     for name, chance in (("phaseNonLock", 0.4), ("phaseMaxRecall", 0.5), ("phaseSimGapDisable", 0.2)):
         if rng.random() < 0.5:
