@@ -18,9 +18,10 @@ MOST = [f"longest {it}" for it in GROUPS] + ["without 2 and 6"]
 Objects = Mapping[str, Mapping[int, int]]
 Commands = Mapping[int, str]
 
-# The options of each setting. A maximum of "maximum" is about the green of its split.
+# The options of each setting. A maximum of "maximum" is about the green of its split,
+# but that of phases 3 and 7 is what their cars need: walks of 4 and 8 begin sooner.
 LATE: Objects = {"coordForceMode": {1: 1}}
-MAXIMUMS = {1: 13, 2: 45, 3: 13, 4: 25, 5: 13, 6: 45, 7: 13, 8: 25}
+MAXIMUMS = {1: 13, 2: 45, 3: 8, 4: 25, 5: 13, 6: 45, 7: 8, 8: 25}
 SETTINGS: Mapping[str, Objects] = {
     "none": {},
     "late": LATE,
