@@ -21,6 +21,7 @@ pub struct Given {
     starts: PhaseSet,
     ends: PhaseSet,
     gapped: PhaseSet,
+    walks: PhaseSet,
     service: Option<Preempt>,
 }
 
@@ -70,6 +71,7 @@ impl Ticked for Calling {
             starts: numbers.phases()?,
             ends: numbers.phases()?,
             gapped: numbers.phases()?,
+            walks: numbers.phases()?,
             service: numbers.preempt()?,
         })
     }
@@ -86,6 +88,7 @@ impl Ticked for Calling {
             starts: given.starts,
             ends: given.ends,
             gapped: given.gapped,
+            walks: given.walks,
             pedestrian: called.pedestrian,
             service: given.service,
         };

@@ -75,11 +75,13 @@ impl<'a> Numbers<'a> {
             over: self.phases()?,
             red_revert_passed: self.phases()?,
             gapped: none,
+            walks: none,
         };
         let orders = Orders {
             hold: none,
             must_end: none,
             forced: none,
+            recycle: none,
             omit: self.phases()?,
             target: self.target()?,
         };

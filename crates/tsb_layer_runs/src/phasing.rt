@@ -158,7 +158,7 @@ impl Ticked for Phasing {
     fn is_due(answer: &Timing) -> bool {
         let ends = answer.ready.union(answer.over);
         let others = answer.red_revert_passed.union(answer.gapped);
-        ends.union(others).is_empty()
+        ends.union(others).union(answer.walks).is_empty()
     }
 
     #[inline(always)]
@@ -185,6 +185,7 @@ fn orders(numbers: &mut Numbers) -> Result<Orders, Fault> {
         hold: numbers.phases()?,
         must_end: numbers.phases()?,
         forced: numbers.phases()?,
+        recycle: numbers.phases()?,
         omit: PhaseSet::empty(),
         target: None,
     })
@@ -197,6 +198,7 @@ fn timing(numbers: &mut Numbers) -> Result<Timing, Fault> {
         over: numbers.phases()?,
         red_revert_passed: numbers.phases()?,
         gapped: numbers.phases()?,
+        walks: numbers.phases()?,
     })
 }
 
