@@ -51,3 +51,5 @@ mod times;
 mod types;
 #[cfg(test)]
 mod versions;
+#[cfg(test)]
+mod walks;
