@@ -23,6 +23,7 @@ use Rattle.tsb_phase.specs.Cells as phase_cells
 use Rattle.tsb_phase.specs.Cells.{phase_in, row_in}
 use Rattle.tsb_phase.specs.Next as phase_next
 use Rattle.tsb_phase.specs.Next.{interval_after}
+use Rattle.tsb_phase.specs.Pedestrian as pedestrian
 use Rattle.tsb_phase.specs.Phase as phase
 use Rattle.tsb_phase.specs.Phase.{Phase, as_read}
 use Rattle.tsb_phase.specs.Promises.{read_in}
@@ -173,4 +174,5 @@ timing_of now plan given cells = record {
   over = set (λ p. timing.is_over plan p (read_in now cells p));
   red_revert_passed = set (λ p. timing.red_revert_passed plan p (read_in now cells p));
   gapped = set (λ p. timing.is_gapped_now plan given p (read_in now cells p));
+  walks = set (λ p. pedestrian.walks_again given p (read_in now cells p));
 }

@@ -41,6 +41,7 @@ use Rattle.tsb_phase.specs.Phase as phase
 use Rattle.tsb_phase.specs.Phase.{none_moved}
 use Rattle.tsb_phase.specs.Promises as phases
 use Rattle.tsb_phase.specs.Promises.{read_in}
+use Rattle.tsb_phase.specs.Pedestrian as pedestrian
 use Rattle.tsb_phase.specs.Ready as timing
 use Rattle.tsb_phase.proofs.OwnLemmas.{looks_only}
 use Rattle.tsb_ring.specs.Cells.{rings_in}
@@ -51,7 +52,7 @@ use Rattle.tsb_ring.specs.Rings.{number}
 use Rattle.tsb_ring.proofs.MoveLemmas.{ends_ready, clears_over}
 use Rattle.tsb_coord.specs.Cells.{pattern_in}
 use Rattle.tsb_coord.specs.Coordinated as coordination
-use Rattle.tsb_coord.specs.Coordinated.{asks_force_off}
+use Rattle.tsb_coord.specs.Coordinated.{asks_force_off, asks_recycle}
 use Rattle.tsb_preempt.specs.Cells.{preempts_in}
 use Rattle.tsb_preempt.specs.Laws as preempt_laws
 use Rattle.tsb_preempt.specs.Preempts as preempts_words
@@ -62,7 +63,7 @@ use Rattle.tsb_preempt.proofs.OwnLemmas.{ticks-as-next}
 use Rattle.tsb_transact.specs.Desk.{Desk}
 use Rattle.tsb_step.specs.State.{State, interval, pedestrian_part}
 use Rattle.tsb_step.specs.Tick as tick
-use Rattle.tsb_step.specs.Tick.{preempts_given, calls_given, phases_given, rings_given, new_detectors, callable, ready, over, reverted, gapped, runs, hold, omitted, forced, service, service_ended, target, moves, moved, done, next}
+use Rattle.tsb_step.specs.Tick.{preempts_given, calls_given, phases_given, rings_given, new_detectors, callable, ready, over, reverted, gapped, walks_again, runs, hold, omitted, forced, recycle, service, service_ended, target, moves, moved, done, next}
 use Rattle.tsb_step.proofs.ClipLemmas.{clipped_holds}
 use Rattle.tsb_controller.specs.Found.{observed}
 use Rattle.tsb_controller.specs.Passing.{ArePhasesStill, AreOthersStill}
@@ -212,6 +213,16 @@ module _ (now t : ℕ) (plan : Plan) (desk : Desk) (lamp : Option Lamp) (row : R
   forced_same : clipped (forced u) ≡ clipped (forced s)
   forced_same = clipped-same (forced u) (forced s) forced_agree
 
+  recycle_agree : Agree (recycle u) (recycle s)
+  recycle_agree p from to =
+      ap (λ (n : ℕ). asks_recycle plan n (pattern_in r.pattern) p) (sym t_is)
+      ∙ sym ((o.coordination t behind sooner a.sensed.coordination a.seen.ordered).recycle p from to)
+      ∙ a.seen.ordered.recycle p from to
+      ∙ ap (λ (n : ℕ). asks_recycle plan n (pattern_in r.pattern) p) now_is
+
+  recycle_same : clipped (recycle u) ≡ clipped (recycle s)
+  recycle_same = clipped-same (recycle u) (recycle s) recycle_agree
+
   phases_same : phases_given u row ≡ phases_given s row
   unfolding phases_given
   phases_same = λ i. record {
@@ -225,6 +236,7 @@ module _ (now t : ℕ) (plan : Plan) (desk : Desk) (lamp : Option Lamp) (row : R
     hold = clipped (hold s);
     must_end = clipped (is_outside (target_same i));
     forced = forced_same i;
+    recycle = recycle_same i;
   }
 
   -- ### What tick `now` told, by what was seen
@@ -271,6 +283,8 @@ module _ (now t : ℕ) (plan : Plan) (desk : Desk) (lamp : Option Lamp) (row : R
         ∙ ap (λ (f : Option (ℕ → Bool)). is_outside f p) (a.seen.standing.target ∙ target_now) ∙ sym (clipped-agrees (tick.must_end s row) p from to);
     forced = λ p from to. ap (λ (x : Orders). has x.forced p) a.told.conditions_are.orders_are ∙ a.seen.ordered.forced p from to
         ∙ ap (λ (n : ℕ). asks_force_off plan n (pattern_in r.pattern) p) now_is ∙ sym (clipped-agrees (forced s) p from to);
+    recycle = λ p from to. ap (λ (x : Orders). has x.recycle p) a.told.conditions_are.orders_are ∙ a.seen.ordered.recycle p from to
+        ∙ ap (λ (n : ℕ). asks_recycle plan n (pattern_in r.pattern) p) now_is ∙ sym (clipped-agrees (recycle s) p from to);
   }
     where
       served_now : number_of (preempts_in now r.preempts).service ≡ service s row
@@ -300,6 +314,14 @@ module _ (now t : ℕ) (plan : Plan) (desk : Desk) (lamp : Option Lamp) (row : R
       ∙ set-has (λ q. timing.is_gapped_now plan (phases.given_of a.conditions) q (read_in now r.phases q)) p from to
       ∙ (told p from to).gapped (read_in now r.phases p)
 
+  walks_agree : Agree (walks_again u row) (walks_again s row)
+  walks_agree p from to =
+      ap (λ (g : phase.Given). pedestrian.walks_again g p (read_in t r.phases p)) phases_same
+      ∙ sym ((told p from to).walks (read_in t r.phases p))
+      ∙ sym (a.walks t behind before tells (set-has (λ q. pedestrian.walks_again (phases.given_of a.conditions) q (read_in now r.phases q))) p from to)
+      ∙ set-has (λ q. pedestrian.walks_again (phases.given_of a.conditions) q (read_in now r.phases q)) p from to
+      ∙ (told p from to).walks (read_in now r.phases p)
+
   over_agree : Agree (over u) (over s)
   over_agree p from to =
       sym (a.over t behind before tells (set-has (λ q. timing.is_over plan q (read_in now r.phases q))) p from to)
@@ -315,6 +337,9 @@ module _ (now t : ℕ) (plan : Plan) (desk : Desk) (lamp : Option Lamp) (row : R
 
   gapped_same : clipped (gapped u row) ≡ clipped (gapped s row)
   gapped_same = clipped-same (gapped u row) (gapped s row) gapped_agree
+
+  walks_same : clipped (walks_again u row) ≡ clipped (walks_again s row)
+  walks_same = clipped-same (walks_again u row) (walks_again s row) walks_agree
 
   over_same : clipped (over u) ≡ clipped (over s)
   over_same = clipped-same (over u) (over s) over_agree
@@ -351,6 +376,7 @@ module _ (now t : ℕ) (plan : Plan) (desk : Desk) (lamp : Option Lamp) (row : R
     starts = is_started (moves_same i);
     ends = is_ended (moves_same i);
     gapped = gapped_same i;
+    walks = walks_same i;
     service = service_same i;
   }
 

@@ -56,7 +56,7 @@ use Rattle.tsb_ring.proofs.ActLemmas.{acts_as_next}
 use Rattle.tsb_ring.proofs.LookLemmas.{moves-same}
 use Rattle.tsb_ring.proofs.MoveLemmas.{ends_ready, clears_over}
 use Rattle.tsb_coord.specs.Cells.{pattern_in}
-use Rattle.tsb_coord.specs.Coordinated.{asks_force_off}
+use Rattle.tsb_coord.specs.Coordinated.{asks_force_off, asks_recycle}
 use Rattle.tsb_preempt.specs.Cells.{preempts_in}
 use Rattle.tsb_preempt.specs.Laws as preempt_laws
 use Rattle.tsb_preempt.specs.Preempts as preempts_words
@@ -67,7 +67,7 @@ use Rattle.tsb_preempt.proofs.OwnLemmas.{orders-as-next, ticks-as-next}
 use Rattle.tsb_transact.specs.Desk.{Desk}
 use Rattle.tsb_step.specs.State.{State, interval}
 use Rattle.tsb_step.specs.Tick as tick
-use Rattle.tsb_step.specs.Tick.{preempts_given, calls_given, phases_given, rings_given, new_detectors, set, callable, conflict, pedestrian_call, ready, over, reverted, gapped, service, moves, moved, done, next}
+use Rattle.tsb_step.specs.Tick.{preempts_given, calls_given, phases_given, rings_given, new_detectors, set, callable, conflict, pedestrian_call, ready, over, reverted, gapped, walks_again, service, moves, moved, done, next}
 use Rattle.tsb_step.proofs.ClipLemmas.{clipped_holds}
 use Rattle.tsb_controller.specs.declared.values.Sensed.{Sensed}
 use Rattle.tsb_controller.specs.declared.values.Movement.{Movement}
@@ -232,6 +232,8 @@ module _ (now : ℕ) (plan : Plan) (desk : Desk) (lamp : Option Lamp) (row : Row
           ∙ sym (clipped-agrees (tick.must_end t row) p from to);
       forced = λ p from to. ap (λ (x : Orders). has x.forced p) are.orders_are ∙ sensed.ordered.forced p from to
           ∙ ap (λ (n : ℕ). asks_force_off plan n t.pattern p) now_is ∙ sym (clipped-agrees (tick.forced t) p from to);
+      recycle = λ p from to. ap (λ (x : Orders). has x.recycle p) are.orders_are ∙ sensed.ordered.recycle p from to
+          ∙ ap (λ (n : ℕ). asks_recycle plan n t.pattern p) now_is ∙ sym (clipped-agrees (tick.recycle t) p from to);
     }
 
     pub told : (p : ℕ) → 1 ≤ p → p ≤ 16 → IsToldTheSame plan (phases.given_of conditions) (phases_given t row) p
@@ -252,6 +254,9 @@ module _ (now : ℕ) (plan : Plan) (desk : Desk) (lamp : Option Lamp) (row : Row
 
     gapped_is : Agree (has m.timing.gapped) (gapped t row)
     gapped_is p from to = run.gapped p from to ∙ (alike_here p from to).gapped (as_read (was p))
+
+    walks_are : Agree (has m.timing.walks) (walks_again t row)
+    walks_are p from to = run.walks p from to ∙ (alike_here p from to).walks (as_read (was p))
 
     ticked_is : Agree (phase_in now run.timed) (λ p. phase_next.ticked plan (phases_given t row) p (was p))
     ticked_is p from to = run.ticked p from to ∙ (alike_here p from to).goes_on none_moved none_moved (was p) (record { ends = refl; clears = refl; starts = refl })
@@ -336,6 +341,7 @@ module _ (now : ℕ) (plan : Plan) (desk : Desk) (lamp : Option Lamp) (row : Row
           starts = λ p from to. decided.starts_are p ∙ ap (λ (x : Moves). is_started x p) moves_are;
           ends = λ p from to. decided.ends_are p ∙ ap (λ (x : Moves). is_ended x p) moves_are;
           gapped = λ p from to. ap (λ (x : PhaseSet). has x p) decided.gapped_are ∙ gapped_is p from to ∙ sym (clipped-agrees (gapped t row) p from to);
+          walks = λ p from to. ap (λ (x : PhaseSet). has x p) decided.walks_are ∙ walks_are p from to ∙ sym (clipped-agrees (walks_again t row) p from to);
           service = decided.service_is ∙ served;
         })
         (record { starts = started-off; ends = ended-off })

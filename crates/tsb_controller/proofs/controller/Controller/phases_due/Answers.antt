@@ -30,4 +30,5 @@ returns-clause-still c =
       over = c.due.ensures.over;
       reverted = c.due.ensures.red_revert_passed;
       gapped = c.due.ensures.gapped;
+      walks = c.due.ensures.walks;
     }

@@ -33,6 +33,7 @@ returns-clause-moved c = record {
   over = c.tick-timing.ensures.over;
   reverted = c.tick-timing.ensures.red_revert_passed;
   gapped = c.tick-timing.ensures.gapped;
+  walks = c.tick-timing.ensures.walks;
   decided = subst (λ (k : Conditions). IsDecided (checked_plan c.args.plan.now) k (rings.cells_of c.args.self.now.rings) c.decide-moves.result)
       c.for_rings.ensures c.decide-moves.ensures;
   ones = c.carry_out.ensures.ones;
