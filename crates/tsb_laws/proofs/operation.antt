@@ -46,6 +46,7 @@ pub mod RecycleTimeLemmas
 pub mod RecycledTickLemmas
 pub mod CoordinatedForceLemmas
 pub mod CoordinatedRunLemmas
+pub mod RecycledRunLemmas
 pub mod CoordinatedBarrierLemmas
 pub mod RingPlaceLemmas
 pub mod OpenTickLemmas

@@ -27,7 +27,7 @@ use Rattle.tsb_step.specs.Runs.{replay}
 use Rattle.tsb_step.specs.Signs.{display, field, IsSafe}
 use Rattle.tsb_step.specs.State.{State, interval}
 use Rattle.tsb_step.specs.Step.{step, verdict}
-use Rattle.tsb_step.specs.Tick.{service, must_end, runs, hold, at_force_off, omitted, conflict as has_conflict, ready, moves}
+use Rattle.tsb_step.specs.Tick.{service, must_end, runs, hold, forced, at_force_off, omitted, conflict as has_conflict, ready, moves}
 use Rattle.tsb_step.specs.TimeLaws.{held_for, is_tick, is_yellow_head, EndsInTime, HasHeld, IsSided, Rests, TellsTime}
 use Rattle.tsb_step.specs.WaitLaws.{IsKeptNext}
 use Rattle.tsb_laws.specs.AllRed.{HasBeenRed, HasBeenWanted}
@@ -47,6 +47,7 @@ use Rattle.tsb_laws.specs.CalledStarts.{EntersByCall}
 use Rattle.tsb_laws.specs.PreemptEntries.{EntersByPreempt}
 use Rattle.tsb_laws.specs.PreemptStages.{is_in_stage, StageTakesAtMost, time_to_stage, ReachesWithin, time_to_dwell, ReachesDwell}
 use Rattle.tsb_laws.specs.PreemptTurns.{GivesWay, EndsFrom}
+use Rattle.tsb_laws.specs.RecycledWalks.{WalksAgain, RecyclesCalls, is_unheld, is_unforced, IsOverByForceOff}
 use Rattle.tsb_laws.specs.RedReverts.{StartsAgain, HasReverted}
 use Rattle.tsb_laws.specs.RunningMaximum.{maximum_of, IsBounded, MovesByAStep}
 use Rattle.tsb_laws.specs.Stretches.{IsUntripped, has_held_since, largest, EndsGreen}
@@ -326,6 +327,16 @@ ReadiesMaximumGreens s = (row : Row) (p : ℕ) → LacksOnlyItsEnd s row p → H
 abbrev pub ReadiesPermittedGreens : State → Type 0
 ReadiesPermittedGreens s = (row : Row) (p : ℕ) → LacksOnlyItsEnd s row p → IsInPermissiveTime s p → ready s row p ≡ true
 
+-- what may walk again within its green does so in the next tick, and no other walk begins within a green
+abbrev pub RecyclesWalks : Plan → List Input → Type 0
+RecyclesWalks plan is = (row : Row) (p : ℕ) → RecyclesCalls (replay plan is) row p
+
+-- a walk that began within a green is over in the tick in which its phase is next forced off
+abbrev pub EndsRecycledWalks : Plan → List Input → Type 0
+EndsRecycledWalks plan is = (older later : List Input) (row next : Row) (p : ℕ) → is ≡ later ++ (Tick row ∷ older) →
+    IsUntripped plan (Tick row ∷ older) later → WalksAgain (replay plan older) row p → HasGoneOn (is_unforced p) plan (Tick row ∷ older) later →
+    forced (replay plan is) p ≡ true → is_unheld (replay plan is) next p ≡ true → IsOverByForceOff (replay plan is) next p
+
 -- a green that is ready and has a conflict ends by the next tick, or the other ring keeps it at the barrier
 abbrev pub MakesWay : Plan → List Input → Type 0
 MakesWay plan is = (row : Row) (r : Ring) (p : ℕ) → service (replay plan is) row ≡ None → IsFullyConcurrent (replay plan is).plan →
@@ -411,5 +422,7 @@ pub record KeepsLaws (plan : Plan) (is : List Input) (s : State) : Type 0 where
   pub maximums_end_greens_in_patterns_in_time : ReadiesMaximumGreensInTime plan is
   pub permissive_times_let_calls_in : ReadiesPermittedGreens s
   pub permissive_times_let_calls_in_in_time : ReadiesPermittedGreensInTime plan is
+  pub recycled_calls_walk : Untripped RecyclesWalks plan is
+  pub recycled_walks_end_in_time : EndsRecycledWalks plan is
   pub phases_are_served_in_patterns_called : ServesInPatterns is_called_in_pattern plan is
   pub phases_are_served_in_patterns_coordinated : ServesInPatterns is_out plan is

@@ -10,6 +10,7 @@ ghost use Rattle.tsb_laws.specs.PatternEnds.{FloatingGreensAreReady, FloatingGre
 ghost use Rattle.tsb_laws.specs.PreemptEntries.{PreemptsLetInTheirOwn};
 ghost use Rattle.tsb_laws.specs.PreemptStages.{DwellsAreReached, ExitsEnd, StagesAreReached};
 ghost use Rattle.tsb_laws.specs.PreemptTurns.{PreemptsGiveWay, ServicesEnd};
+ghost use Rattle.tsb_laws.specs.RecycledWalks.{RecycledCallsWalk, RecycledWalksEndInTime};
 ghost use Rattle.tsb_laws.specs.RunningMaximum.{MaximumsAreBounded, MaximumsMoveByAStep, OthersLeaveMaximums};
 ghost use Rattle.tsb_laws.specs.UnwantedGreens.{UnwantedGreensEnd};
 ghost use Rattle.tsb_laws.specs.WantedStarts.{WantedPhasesStart};
@@ -436,4 +437,32 @@ pub fn maximums_end_greens_in_patterns()
 pub fn permissive_times_let_calls_in()
     ensures ready { PermittedGreensAreReady }
     ensures in_time { PermittedGreensMayEnd }
+{}
+
+/// A pedestrian call begins a walk within a green, where there is time for it. A coordinated phase of the pattern that
+/// runs, with `phasePedestrianRecycle`, which was Green in DontWalk and has a pedestrian call, is in Walk after the tick,
+/// and its button is forgotten. That is so where it is forced off in none of the ticks that its walk and its pedestrian
+/// clearance take, and where no force-off stands for a conflict that it still has. No other walk begins within a green.
+///
+/// Needs: no preempt in service; an untripped run; at most 16 phases.
+/// Not said: anything of a walk that begins with a green.
+/// Mistakes: a rule by which the walk alone has to fit, `walk_alone` (`does_not_fit`, `would_fit`); one that asks for a
+/// tick more than both take, `tick_more` (`fits`, `would_wait`).
+/// Witness: `a_second_walk` of RecycledWalkRuns, in which both take all that is left.
+pub fn recycled_calls_walk()
+    ensures { RecycledCallsWalk }
+{}
+
+/// A walk that begins within a green is over by the next force-off. In the first tick in which its phase is forced off
+/// from then on, this was Green all the time, and its walk and its pedestrian clearance are over. So with a conflict it is
+/// ready there, once its initial time has passed: no force-off waits for such a walk.
+///
+/// Needs: up to that tick no pattern selected and nothing committed, no preempt in service and no rest in walk; an
+/// untripped run; at most 16 phases.
+/// Not said: that the green ends then, as it may wait for the other ring at the barrier (`coordination_goes_on`).
+/// Mistakes: a rule by which the walk alone has to fit, `walk_alone` (`would_fit`, `would_still_clear`); one that asks for
+/// a tick less than both take, `tick_less` (`would_begin`, `would_lack_one`).
+/// Witness: `a_walk_in_time` of RecycledWalkRuns, whose walk takes all that is left.
+pub fn recycled_walks_end_in_time()
+    ensures { RecycledWalksEndInTime }
 {}

@@ -15,3 +15,4 @@ pub mod CalledStartRuns
 pub mod OptionMistakes
 pub mod LateGreenRuns
 pub mod PatternEndRuns
+pub mod RecycledWalkRuns

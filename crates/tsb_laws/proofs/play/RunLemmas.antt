@@ -48,6 +48,7 @@ use Rattle.tsb_laws.proofs.operation.CoordinatedRunLemmas.{forced_may_end}
 use Rattle.tsb_laws.proofs.operation.CoordinatedBarrierLemmas.{makes_way_or_kept}
 use Rattle.tsb_laws.proofs.operation.LateGreenLemmas.{late_is_ready, late_may_end}
 use Rattle.tsb_laws.proofs.operation.PatternEndLemmas.{floating_is_ready, floating_may_end, maximum_is_ready, maximum_may_end, permitted_is_ready, permitted_may_end}
+use Rattle.tsb_laws.proofs.operation.RecycledRunLemmas.{calls_are_recycled, walk_is_over}
 use Rattle.tsb_laws.proofs.operation.ReturnRunLemmas.{served_in_pattern, coordinated_in_time}
 use Rattle.tsb_laws.proofs.safety.AllRedLemmas.{all_red_ends}
 use Rattle.tsb_laws.proofs.safety.CoordinationLemmas.{ends_by_force_off, omits_hold}
@@ -149,6 +150,9 @@ module _ (plan : Plan) (held : IsHeld plan) where
     permissive_times_let_calls_in = λ row p it span. permitted_is_ready plan is row p ok (few plan held) taken it span;
     permissive_times_let_calls_in_in_time = λ base later row p n e dark waited span.
         rw e (permitted_may_end plan base later row p n ok (few plan held) (rw e at taken) dark waited span);
+    recycled_calls_walk = λ dark row p. calls_are_recycled plan is row p ok (few plan held) taken dark;
+    recycled_walks_end_in_time = λ older later row next p e dark walks free comes last.
+        rw e (walk_is_over plan older later row next p ok (few plan held) (rw e at taken) dark walks free (rw e at comes) (rw e at last));
     phases_are_served_in_patterns_called = λ base later k j h r c e dark full running own times out.
         rw e (served_in_pattern plan base later k j h r c ok (few plan held) (rw e at taken) dark full running own times out);
     phases_are_served_in_patterns_coordinated = λ base later k j h r c e dark full running own times out.

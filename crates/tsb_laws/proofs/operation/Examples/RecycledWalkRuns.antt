@@ -1,0 +1,380 @@
+-- Runs from power-up that meet all premises of the laws of walks that begin within a green, and mistakes that these laws
+-- refuse.
+use Rattle.std.proofs.Common.{◌≡◌, ℕ, zero, suc, ◌+◌, ◌-◌, ◌<◌, ◌≤◌, nat_lt, Bool, true, false, not, ◌&&◌, ◌||◌, if◌then◌else◌, List, [], ◌∷◌, ◌++◌, Option, Some, None, is_some, is_none, option_map, refl, sym, ap, arith, ◌∙◌}
+use Rattle.std.proofs.lemmas.Bool.{and_from, true≢false, false≢true}
+use Rattle.std.proofs.lemmas.Bool.Decides.{nat_tests}
+use Rattle.tsb_step.specs.tsb_cells.Timer.{has_reached}
+use Rattle.tsb_step.specs.tsb_cells.declared.timer.Timer.TheVariants.{On}
+use Rattle.tsb_step.specs.tsb_types.declared.refusal.Refusal.TheVariants.{TickLimit}
+use Rattle.tsb_step.specs.tsb_types.Lists.{first, run_from}
+use Rattle.tsb_step.specs.tsb_types.Sets.{all_off}
+use Rattle.tsb_step.specs.tsb_types.declared.interval.Interval.TheVariants.{Green}
+use Rattle.tsb_step.specs.tsb_types.declared.interval.PedestrianInterval.TheVariants.{DontWalk, Walk, PedestrianClear}
+use Rattle.tsb_step.specs.tsb_types.declared.row.Row.{Row}
+use Rattle.tsb_step.specs.tsb_plan.declared.object.Object.{Object}
+use Rattle.tsb_step.specs.tsb_plan.declared.object.Object.TheVariants.{PhaseWalk, PhasePedestrianClear, PhaseRedClear, PatternOffsetTime, PhasePedestrianRecycle}
+use Rattle.tsb_step.specs.tsb_plan.Objects.{greatest}
+use Rattle.tsb_step.specs.tsb_plan.Parts.{cycle, preempt_delay}
+use Rattle.tsb_step.specs.tsb_plan.Plan.{Plan, walk, pedestrian_clear, rests_in_walk, with_values}
+use Rattle.tsb_step.specs.tsb_plan.Quad.{quad}
+use Rattle.tsb_step.specs.tsb_rules.Rules.{first_broken}
+use Rattle.tsb_step.specs.tsb_coord.Coordinated.{local, force_off, asks_force_off, walk_and_clearance, is_left}
+use Rattle.tsb_step.specs.tsb_phase.Pedestrian.{pedestrian_now}
+use Rattle.tsb_step.specs.tsb_preempt.Preempts.{Preempts, is_preempt, delay_timer, still_spent, requests, requesting, if_may_begin, beginning, going_on, service_by}
+use Rattle.tsb_step.specs.tsb_preempt.Preempts as preempts
+use Rattle.tsb_step.specs.tsb_preempt.Service.{Service, service_as_read, has_dwell}
+use Rattle.tsb_step.specs.declared.inputs.Input.{Input}
+use Rattle.tsb_step.specs.declared.inputs.Input.TheVariants.{Tick, Pattern}
+use Rattle.tsb_step.specs.State.{State, interval, pedestrian_part}
+use Rattle.tsb_step.specs.Signs.{watched}
+use Rattle.tsb_step.specs.Step.{verdict, step}
+use Rattle.tsb_step.specs.Tick.{preempts_given, new_service, service, runs, hold, forced, recycle, conflict, pedestrian_call, phases_given, phase_read, next}
+use Rattle.tsb_step.specs.Runs.{replay, AreTaken}
+use Rattle.tsb_step.specs.Laws.{IsConsistent, is_unlit}
+use Rattle.tsb_step.proofs.ClearLemmas.{one_later, plan_stays}
+use Rattle.tsb_step.proofs.Examples.Scenes.{opened, button}
+use Rattle.tsb_step.proofs.GoodLemmas.{good_run}
+use Rattle.tsb_step.proofs.TripLemmas.{faults_alone_trip}
+use Rattle.tsb_laws.specs.Stretches.{IsUntripped}
+use Rattle.tsb_laws.specs.CoordinatedGreens.{HasGoneOn}
+use Rattle.tsb_laws.specs.RecycledWalks.{WalksAgain, FitsBeforeForceOff, MayWalkAgain, is_unheld, is_unforced}
+use Rattle.tsb_laws.proofs.operation.CoordinatedRunLemmas.{pattern_stays}
+use Rattle.tsb_laws.proofs.operation.RecycleTimeLemmas.{recycled_so}
+use Rattle.tsb_laws.proofs.operation.RecycledRunLemmas.{calls_are_recycled}
+use Rattle.tsb_laws.proofs.safety.Examples.PlanFits.{Fits, values_fit, quad_fits, consistent}
+
+-- ## 2 is coordinated, and its button is pressed in tick 2: its walk takes 10 ticks, its clearance 10, and 20 are left
+
+-- its instant is 762, and local 742 is the second tick of pattern 1
+abbrev walk_values : List (Object × ℕ × ℕ)
+walk_values = (PhasePedestrianRecycle, 2, 1) ∷ (PhaseWalk, 2, 1) ∷ (PhasePedestrianClear, 2, 1) ∷ []
+
+abbrev walking_values : List (Object × ℕ × ℕ)
+walking_values = (PatternOffsetTime, 1, 6) ∷ (PhaseRedClear, 2, 8) ∷ walk_values
+
+unfoldable walking : Plan
+walking = with_values quad walking_values
+
+walking_fits : Fits greatest walking.value
+unfolding walking
+walking_fits = values_fit greatest walking_values quad refl (quad_fits greatest refl refl)
+
+walking_count : walking.phase_count ≡ 16
+unfolding quad walking
+walking_count = refl
+
+walking_breaks_none : first_broken walking ≡ None
+unfolding opened walking
+walking_breaks_none = refl
+
+walking_consistent : IsConsistent walking
+walking_consistent = consistent greatest walking walking_count walking_breaks_none walking_fits
+
+few : walking.phase_count ≤ 16
+few = let count = walking_count in omega (arith, count)
+
+abbrev started : List Input
+started = Tick all_off ∷ Pattern 1 ∷ []
+
+abbrev base : List Input
+base = Tick (button 2) ∷ started
+
+base_taken : AreTaken walking base
+unfolding opened walking
+base_taken = (((tt, refl), refl), refl)
+
+starts_dark : (replay walking started).trip ≡ None
+unfolding opened walking
+starts_dark = refl
+
+may_recycle_2 : recycle (replay walking started) 2 ≡ true
+unfolding opened walking
+may_recycle_2 = refl
+
+both_fit : FitsBeforeForceOff (replay walking started) 2
+both_fit = (recycled_so (replay walking started) 2 (good_run walking started walking_consistent base_taken.0) may_recycle_2).fits
+
+-- all but that is computed
+record Computed : Type 0 where
+  recycles : (replay walking started).plan.value PhasePedestrianRecycle 2 ≡ 1
+  coordinated : hold (replay walking started) 2 ≡ true
+  green : interval (replay walking started) 2 ≡ Green
+  dont_walk : pedestrian_part (replay walking started) 2 ≡ DontWalk
+  called : pedestrian_call (replay walking started) (button 2) 2 ≡ true
+  quiet : service (replay walking started) (button 2) ≡ None
+  unforced : ((replay walking started).phases 2).forced ≡ false
+
+computed : Computed
+unfolding opened walking
+computed = record { recycles = refl; coordinated = refl; green = refl; dont_walk = refl; called = refl; quiet = refl; unforced = refl }
+
+may_2 : MayWalkAgain (replay walking started) (button 2) 2
+may_2 = record {
+  recycles = rw computed.recycles refl;
+  coordinated = computed.coordinated;
+  green = computed.green;
+  dont_walk = computed.dont_walk;
+  called = computed.called;
+  quiet = computed.quiet;
+  unforced = ap (λ (b : Bool). b && conflict (replay walking started) (button 2) 2) computed.unforced;
+  fits = both_fit;
+}
+
+record ASecondWalk (plan : Plan) (is : List Input) (row : Row) (p : ℕ) : Type 0 where
+  consistent : IsConsistent plan
+  few : plan.phase_count ≤ 16
+  taken : AreTaken plan is
+  untripped : (replay plan is).trip ≡ None
+  may : MayWalkAgain (replay plan is) row p
+
+a_second_walk : ASecondWalk walking started (button 2) 2
+a_second_walk = record { consistent = walking_consistent; few = few; taken = base_taken.0; untripped = starts_dark; may = may_2 }
+
+-- ## And 20 ticks later it is forced off
+
+-- so many ticks with no input on
+abbrev quiet_for : ℕ → List Input
+quiet_for zero = []
+quiet_for (suc k) = Tick all_off ∷ quiet_for k
+
+-- no preempt has an input, and none is in service
+record NoPreempt (w : Preempts) : Type 0 where
+  switches : (n : ℕ) → w.switch n ≡ false
+  served : w.service ≡ None
+
+-- none of the four asks
+none_of_four : (test : ℕ → Bool) → test 1 ≡ false → test 2 ≡ false → test 3 ≡ false → test 4 ≡ false → first test (run_from 1 4) ≡ None
+unfolding run_from
+none_of_four test one two three four = rw (one, two, three, four) refl
+
+no_input : (d w e : Bool) → w ≡ false → (d && (w && e)) ≡ false
+no_input true w e h = rw h refl
+no_input false w e h = refl
+
+module _ (s : State) (it : NoPreempt s.preempts) where
+  abbrev given : preempts.Given
+  given = preempts_given s all_off
+
+  abbrev read : Preempts
+  read = preempts.as_read s.preempts
+
+  none_asks : (n : ℕ) → given.row n ≡ false → requests s.plan given read n ≡ false
+  none_asks n off =
+      no_input (has_dwell s.plan n) (given.row n || s.preempts.switch n) (has_reached (delay_timer given read n) (preempt_delay s.plan n) && not (still_spent given read n))
+      (rw (off, it.switches n) refl)
+
+  none_begins : beginning s.plan given read ≡ None
+  unfolding beginning requesting
+  none_begins =
+      ap (λ (o : Option ℕ). if_may_begin read.service o)
+      (none_of_four (requests s.plan given read) (none_asks 1 refl) (none_asks 2 refl) (none_asks 3 refl) (none_asks 4 refl))
+
+  none_is_served : new_service s all_off ≡ None
+  unfolding new_service preempts.new_service
+  none_is_served =
+      ap (λ (o : Option ℕ). service_by s.plan given read o) none_begins
+      ∙ ap (λ (o : Option Service). going_on s.plan given read (service_as_read o)) it.served
+
+  none_served_then : (next s all_off).preempts.service ≡ None
+  unfolding new_service
+  none_served_then = none_is_served
+
+  quiet_now : service s all_off ≡ None
+  quiet_now = ap (λ (o : Option Service). option_map (λ x. x.preempt) o) none_is_served
+
+-- the preempts after a tick of a controller that has not tripped
+preempts_then : (s : State) (row : Row) → s.trip ≡ None → (step s (Tick row)).preempts ≡ (next s row).preempts
+unfolding step watched
+preempts_then s row dark = go (is_some s.trip) (ap is_some dark)
+  where
+    go : (b : Bool) → b ≡ false →
+        (if b then record s { now = s.now + 1 } else (if b then next s row else watched s (next s row))).preempts ≡ (next s row).preempts
+    go true h = absurd (true≢false h)
+    go false h = refl
+
+none_then : (s : State) → s.trip ≡ None → NoPreempt s.preempts → NoPreempt (step s (Tick all_off)).preempts
+none_then s dark it = record {
+  switches = λ n. ap (λ (w : Preempts). w.switch n) (preempts_then s all_off dark) ∙ it.switches n;
+  served = ap (λ (w : Preempts). w.service) (preempts_then s all_off dark) ∙ none_served_then s it;
+}
+
+-- so many ticks later
+record At (k : ℕ) : Type 0 where
+  taken : AreTaken walking (quiet_for k ++ base)
+  unlit : is_unlit walking (quiet_for k ++ base) ≡ true
+  now_is : (replay walking (quiet_for k ++ base)).now ≡ k + 2
+  plan_is : (replay walking (quiet_for k ++ base)).plan ≡ walking
+  pattern_is : (replay walking (quiet_for k ++ base)).pattern ≡ Some 1
+  no_preempt : NoPreempt (replay walking (quiet_for k ++ base)).preempts
+
+at_base : At 0
+unfolding opened walking
+at_base = record { taken = base_taken; unlit = refl; now_is = refl; plan_is = refl; pattern_is = refl; no_preempt = record { switches = λ n. refl; served = refl } }
+
+run_dark : (k : ℕ) → At k → (replay walking (quiet_for k ++ base)).trip ≡ None
+run_dark k it = faults_alone_trip walking (quiet_for k ++ base) walking_consistent it.taken it.unlit
+
+tick_taken : (s : State) (row : Row) → s.now ≤ 1000 → verdict s (Tick row) ≡ None
+unfolding verdict
+tick_taken s row low = go (nat_lt s.now 6000000) (grind (arith, nat_tests, low))
+  where
+    go : (b : Bool) → b ≡ true → (if b then None else Some TickLimit) ≡ None
+    go true h = refl
+    go false h = absurd (false≢true h)
+
+at_next : (k : ℕ) → k ≤ 900 → At k → At (suc k)
+at_next k low it = record {
+  taken = (it.taken, tick_taken (replay walking (quiet_for k ++ base)) all_off (let now = it.now_is in omega (arith, low, now)));
+  unlit = it.unlit;
+  now_is = (let now = it.now_is in let one = one_later (replay walking (quiet_for k ++ base)) all_off in omega (arith, now, one));
+  plan_is = plan_stays (replay walking (quiet_for k ++ base)) all_off ∙ it.plan_is;
+  pattern_is = pattern_stays (replay walking (quiet_for k ++ base)) all_off ∙ it.pattern_is;
+  no_preempt = none_then (replay walking (quiet_for k ++ base)) (run_dark k it) it.no_preempt;
+}
+
+run_at : (k : ℕ) → k ≤ 900 → At k
+run_at zero low = at_base
+run_at (suc k) low = at_next k (omega (arith, low)) (run_at k (omega (arith, low)))
+
+untripped : (k : ℕ) → k ≤ 900 → IsUntripped walking base (quiet_for k)
+untripped zero low = run_dark zero (run_at zero low)
+untripped (suc k) low = (untripped k (omega (arith, low)), run_dark (suc k) (run_at (suc k) low))
+
+-- 2 does not rest in walk
+rests_not : rests_in_walk walking 2 ≡ false
+unfolding opened walking
+rests_not = refl
+
+unheld : (k : ℕ) → At k → is_unheld (replay walking (quiet_for k ++ base)) all_off 2 ≡ true
+unheld k it =
+    and_from (is_none (service (replay walking (quiet_for k ++ base)) all_off))
+    (not (rests_in_walk (replay walking (quiet_for k ++ base)).plan 2 && not (conflict (replay walking (quiet_for k ++ base)) all_off 2)))
+    (ap is_none (quiet_now (replay walking (quiet_for k ++ base)) it.no_preempt))
+    (ap (λ (b : Bool). not (b && not (conflict (replay walking (quiet_for k ++ base)) all_off 2))) (ap (λ (x : Plan). rests_in_walk x 2) it.plan_is ∙ rests_not))
+
+forced_is : (k : ℕ) → At k → forced (replay walking (quiet_for k ++ base)) 2 ≡ asks_force_off walking (k + 3) (Some 1) 2
+forced_is k it =
+    ap (λ (x : Plan). asks_force_off x ((replay walking (quiet_for k ++ base)).now + 1) (replay walking (quiet_for k ++ base)).pattern 2) it.plan_is
+    ∙ (ap (λ (o : Option ℕ). asks_force_off walking ((replay walking (quiet_for k ++ base)).now + 1) o 2) it.pattern_is
+    ∙ ap (λ (t : ℕ). asks_force_off walking t (Some 1) 2) (let now = it.now_is in omega (arith, now)))
+
+-- the walk and the clearance of tick 2 fit
+record AtStart : Type 0 where
+  now_is : (replay walking started).now ≡ 1
+  plan_is : (replay walking started).plan ≡ walking
+  pattern_is : (replay walking started).pattern ≡ Some 1
+  both : walk walking 2 + pedestrian_clear walking 2 ≡ 20
+
+at_start : AtStart
+unfolding opened walking
+at_start = record { now_is = refl; plan_is = refl; pattern_is = refl; both = refl }
+
+not_forced : (t : ℕ) → 2 ≤ t → t ≤ 21 → asks_force_off walking t (Some 1) 2 ≡ false
+not_forced t from to =
+    sym (ap (λ (x : Plan). asks_force_off x t (replay walking started).pattern 2) at_start.plan_is ∙ ap (λ (o : Option ℕ). asks_force_off walking t o 2) at_start.pattern_is)
+    ∙ both_fit t (let now = at_start.now_is in omega (arith, now, from))
+    (let now = at_start.now_is in
+    let both = at_start.both in
+    let same = ap (λ (x : Plan). walk x 2 + pedestrian_clear x 2) at_start.plan_is in
+    omega (arith, now, both, same, to))
+
+unforced_for : (k : ℕ) → k ≤ 19 → HasGoneOn (is_unforced 2) walking base (quiet_for k)
+unforced_for zero low = tt
+unforced_for (suc k) low =
+    let it : At k = run_at k (omega (arith, low)) in (
+      unforced_for k (omega (arith, low)),
+      and_from (is_unheld (replay walking (quiet_for k ++ base)) all_off 2) (not (forced (replay walking (quiet_for k ++ base)) 2)) (unheld k it)
+          (ap not (forced_is k it ∙ not_forced (k + 3) (omega arith) (omega (arith, low)))),
+    )
+
+record AWalkInTime (plan : Plan) (is later : List Input) (row last : Row) (p : ℕ) : Type 0 where
+  consistent : IsConsistent plan
+  few : plan.phase_count ≤ 16
+  taken : AreTaken plan (later ++ (Tick row ∷ is))
+  untripped : IsUntripped plan (Tick row ∷ is) later
+  walks : WalksAgain (replay plan is) row p
+  unforced : HasGoneOn (is_unforced p) plan (Tick row ∷ is) later
+  comes : forced (replay plan (later ++ (Tick row ∷ is))) p ≡ true
+  unheld : is_unheld (replay plan (later ++ (Tick row ∷ is))) last p ≡ true
+
+-- it is forced off in tick 22
+comes_at_22 : asks_force_off walking 22 (Some 1) 2 ≡ true
+unfolding opened walking
+comes_at_22 = refl
+
+a_walk_in_time : AWalkInTime walking started (quiet_for 19) (button 2) all_off 2
+a_walk_in_time = record {
+  consistent = walking_consistent;
+  few = few;
+  taken = (run_at 19 (omega arith)).taken;
+  untripped = untripped 19 (omega arith);
+  walks = (calls_are_recycled walking started (button 2) 2 walking_consistent few base_taken.0 starts_dark).walks may_2;
+  unforced = unforced_for 19 (omega arith);
+  comes = forced_is 19 (run_at 19 (omega arith)) ∙ comes_at_22;
+  unheld = unheld 19 (run_at 19 (omega arith));
+}
+
+-- ## Mistakes
+
+-- a time fits up to the force-off instant
+abbrev fits_by : (Plan → ℕ → ℕ) → State → ℕ → Bool
+fits_by time s p = is_left (cycle s.plan 1) (time s.plan p) (local s.plan (s.now + 1) s.pattern) (force_off s.plan (runs s) p)
+
+abbrev by_both : State → ℕ → Bool
+by_both s p = fits_by (λ plan q. walk_and_clearance plan q) s p
+
+-- the walk alone has to fit
+abbrev walk_alone : State → ℕ → Bool
+walk_alone s p = fits_by (λ plan q. walk plan q) s p
+
+-- in the same plan with local 752 in the second tick, 10 ticks are left
+unfoldable short : Plan
+short = with_values quad ((PatternOffsetTime, 1, 5) ∷ (PhaseRedClear, 2, 8) ∷ walk_values)
+
+does_not_fit : by_both (replay short started) 2 ≡ false
+unfolding opened short
+does_not_fit = refl
+
+would_fit : walk_alone (replay short started) 2 ≡ true
+unfolding opened short
+would_fit = refl
+
+-- 10 ticks later, when it is forced off, such a walk has just ended
+would_still_clear : pedestrian_now short (phases_given (replay short started) all_off) 2
+    (record (phase_read (replay short started) 2) { pedestrian = Walk; pedestrian_timer = On 10 }) ≡ PedestrianClear
+unfolding opened short
+would_still_clear = refl
+
+-- a tick more has to fit
+abbrev tick_more : State → ℕ → Bool
+tick_more s p = fits_by (λ plan q. walk_and_clearance plan q + 1) s p
+
+fits : by_both (replay walking started) 2 ≡ true
+unfolding opened walking
+fits = refl
+
+would_wait : tick_more (replay walking started) 2 ≡ false
+unfolding opened walking
+would_wait = refl
+
+-- a tick less does
+abbrev tick_less : State → ℕ → Bool
+tick_less s p = fits_by (λ plan q. walk_and_clearance plan q - 1) s p
+
+-- with a red clearance that is a tick longer 19 are left
+unfoldable shorter : Plan
+shorter = with_values quad ((PatternOffsetTime, 1, 6) ∷ (PhaseRedClear, 2, 9) ∷ walk_values)
+
+lacks_a_tick : by_both (replay shorter started) 2 ≡ false
+unfolding opened shorter
+lacks_a_tick = refl
+
+would_begin : tick_less (replay shorter started) 2 ≡ true
+unfolding opened shorter
+would_begin = refl
+
+-- 19 ticks later, when it is forced off, its clearance lacks one
+would_lack_one : pedestrian_now shorter (phases_given (replay shorter started) all_off) 2
+    (record (phase_read (replay shorter started) 2) { pedestrian = PedestrianClear; pedestrian_timer = On 9 }) ≡ PedestrianClear
+unfolding opened shorter
+would_lack_one = refl
