@@ -2,8 +2,8 @@
 
 They aim at what makes a coordinated phase wait: walks and clearances that are longer than splits or than the cycle,
 splits of their least time, unequal clearances, maximum recalls, phases that are omitted, lead and lag. The options of
-coordination have each of their values; permissive times are below the cycle, and with `patternLeadLag` the coordinated
-splits of the two rings may end apart.
+coordination have each of their values; permissive times are below the cycle, with `patternLeadLag` the coordinated
+splits of the two rings may end apart, and in two plans of three each phase may walk again within its green.
 """
 import random
 from dataclasses import dataclass
@@ -132,13 +132,14 @@ def splits(rng: random.Random, found: Layout, asked: dict[str, Values], apart: b
     return split, coordinated
 
 
-def options(rng: random.Random, cycle: int, apart: bool) -> dict[str, Values]:
+def options(rng: random.Random, cycle: int, apart: bool, phases: list[int]) -> dict[str, Values]:
     """The options of coordination; half of the plans have no permissive time, and a third no maximum in a pattern."""
     return {
         "coordForceMode": {1: rng.randint(0, 2)},
         "coordMaximumMode": {1: rng.randint(0, 2)},
         "patternPermissiveTime": {1: rng.choice([0, rng.randrange(cycle)])},
         "patternLeadLag": {1: int(apart)},
+        "phasePedestrianRecycle": dict.fromkeys(phases, int(rng.random() < 2 / 3)),
     }
 
 
@@ -174,7 +175,7 @@ def plan(rng: random.Random, longest: int = 255) -> dict[str, Any] | None:
     walkers = [p for p in phases if asked["phaseWalk"][p]]
     rows: dict[str, Values] = {
         **asked,
-        **options(rng, cycle, apart),
+        **options(rng, cycle, apart, phases),
         "phaseEnabled": dict.fromkeys(phases, 1),
         "phaseRing": found.rings,
         "phaseSide": found.sides,

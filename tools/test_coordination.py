@@ -5,11 +5,13 @@
 
 FOLDER holds the reference, which is no part of this repository (make_sessions.py says which files). Each seed is one
 run: a plan of coordinated_plans.py, some ticks in free operation, and then its pattern for 8 cycles, with detectors
-that change at random. What is tested stands in `crates/tsb_laws/specs/CoordinatedGreens.antt`: how long a coordinated
-phase is not Green, by the time that is proved and by the shorter one that is stated and not proved; and how long any
-phase that stays called is not Green, by the time that is proved. It ends with status 1 where a run breaks a law, and
-tells the largest share of each time that a wait took, and how often a coordinated phase was not Green for a whole
-cycle.
+that change at random; in every second run buttons are on just where a walk takes all that is left to its force-off, or
+a tick more. What is tested stands in `crates/tsb_laws/specs/CoordinatedGreens.antt`: how long a coordinated phase is
+not Green, by the time that is proved and by the shorter one that is stated and not proved; and how long any phase that
+stays called is not Green, by the time that is proved. Each tick goes to `recycled_walks.py` too, which tests the laws
+of walks that begin within a green. It ends with status 1 where a run breaks a law, and tells the largest share of each
+time that a wait took, how often a coordinated phase was not Green for a whole cycle, and how many such walks there
+were.
 """
 import argparse
 import importlib
@@ -22,6 +24,7 @@ from dataclasses import dataclass, field
 from typing import Any
 
 import coordinated_plans
+from recycled_walks import Walks, Watch
 from served_calls import SIDES, is_called
 
 CYCLES = 8
@@ -59,6 +62,7 @@ class Waits:
     stated: Longest = field(default_factory=Longest)
     proved: Longest = field(default_factory=Longest)
     called: Longest = field(default_factory=Longest)
+    walks: Walks = field(default_factory=Walks)
 
 
 def reference(folder: str) -> Any:
@@ -146,11 +150,16 @@ def run(bench: Any, seed: int, waits: Waits) -> None:
     others = [p for p in times.phases if p not in coordinated and state.plan["splitMode"][p] != OMITTED]
     since = dict.fromkeys(times.phases, 0)
     waits.phases += len(coordinated)
+    watch = Watch(bench, seed, state, waits.walks)
     for _ in range(CYCLES * 10 * state.plan["patternCycleTime"][1]):
         for c in coordinated:
             since[c] = 0 if state.interval[c] == bench.G else since[c] + 1
             count(waits, seed, times, c, since[c])
-        after = bench.step(state, ("tick", next(inputs)))
+        row = next(inputs)
+        if seed % 2:
+            row = row[0], (watch.is_at_limit(state),) * len(row[1]), row[2]
+        after = bench.step(state, ("tick", row))
+        watch.see(state, after, row)
         for q in others:
             since[q] = since[q] + 1 if is_called(bench, state, after, q) else 0
             waits.called.see(seed, q, since[q], times.to_be_served(q))
@@ -178,8 +187,10 @@ def main() -> int:
           f"{waits.long} times for a cycle or more\n"
           f"of the time that is stated {waits.stated.told()}\n"
           f"of the time that is proved {waits.proved.told()}\n"
-          f"other phases that stayed called, of the time that is proved: {waits.called.told()}")
-    return 1 if waits.stated.broken + waits.proved.broken + waits.called.broken else 0
+          f"other phases that stayed called, of the time that is proved: {waits.called.told()}\n"
+          f"{waits.walks.told()}")
+    late = waits.stated.broken + waits.proved.broken + waits.called.broken
+    return 1 if late or waits.walks.broken else 0
 
 
 if __name__ == "__main__":

@@ -4,11 +4,12 @@
     tools/test_stated_laws.py --reference FOLDER --seeds LO HI
 
 FOLDER holds the reference, which is no part of this repository (make_sessions.py says which files). Each seed is one
-run: a plan at random, and 1,500 to 4,000 ticks with inputs of all kinds between; in every second run commits aim at
-the ticks in which an interval, a pedestrian part or a stage has just changed. What is tested stands in
-`crates/tsb_laws/specs/PreemptStages.antt`: a preempt that stays in a stage has all phases of that stage Green in time,
-from each tick in the stage on; and a preempt that stays in service has all of its dwell phases Green in time. The
-third is the older bound of `PreemptDwells.antt`, which is false, and is counted alone.
+run: a plan at random, in version 2 with pedestrian recycle of half of its phases, and 1,500 to 4,000 ticks with inputs
+of all kinds between; in every second run commits aim at the ticks in which an interval, a pedestrian part or a stage
+has just changed. What is tested stands in `crates/tsb_laws/specs/PreemptStages.antt`: a preempt that stays in a stage
+has all phases of that stage Green in time, from each tick in the stage on; and a preempt that stays in service has all
+of its dwell phases Green in time. The third is the older bound of `PreemptDwells.antt`, which is false, and is counted
+alone.
 Each seed is one run of `served_calls.py` too, which tests in what time called phases are served.
 It ends with status 1 where a run breaks a law, the older bound aside, and tells how often the premises were met.
 """
@@ -85,7 +86,10 @@ def run(gen, bench, seed):
     def accepts(plan):
         return bench.read_plan(json.dumps(plan).encode(), bench.V2)[1] is None
 
-    plan, _ = bench.read_plan(json.dumps(gen.plan(rng, 2, accepts)).encode(), bench.V2)
+    asked = gen.plan(rng, 2, accepts)
+    if asked["version"] == 2:
+        asked["phasePedestrianRecycle"] = {str(p): rng.randint(0, 1) for p in range(1, 17)}
+    plan, _ = bench.read_plan(json.dumps(asked).encode(), bench.V2)
     state = bench.power_up(plan, bench.V2)
     yield None, state
     inputs, aims, turned = rows(rng), seed % 2 == 1, False
