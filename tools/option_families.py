@@ -152,7 +152,7 @@ def lead_and_lag(rng, plan, table):
     return log, found + [steps(rng, table, 0.2, 0.4)]
 
 
-def maximums(rng, plan, table):
+def maximums_in_patterns(rng, plan, table):
     """Maximums in a pattern, shorter and longer than splits, with cars throughout."""
     plan[MAXIMUM] = {"1": rng.choice([0, 1, 1, 2, 2])}
     plan["phasePassage"] = dict.fromkeys(plan["phasePassage"], 255)
@@ -234,9 +234,9 @@ def broken_plans(rng, plan, table):
 
 
 FAMILIES = [behind_instants, longer_than_splits, in_a_permissive_time, by_the_length, preempts_over_instants,
-            lead_and_lag, changed_in_a_run, by_the_length, taken_off, maximums, other_patterns, in_a_permissive_time,
-            left_out, by_the_length, calls_behind, lead_and_lag, at_an_instant, maximums_between, by_the_length,
-            in_a_permissive_time, refused_edits, broken_plans, *RECYCLES]
+            lead_and_lag, changed_in_a_run, by_the_length, taken_off, maximums_in_patterns, other_patterns,
+            in_a_permissive_time, left_out, by_the_length, calls_behind, lead_and_lag, at_an_instant, maximums_between,
+            by_the_length, in_a_permissive_time, refused_edits, broken_plans, *RECYCLES]
 AIMS = {left_out: is_left_out, at_an_instant: begins_at_an_instant}
 
 
