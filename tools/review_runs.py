@@ -74,7 +74,8 @@ RUNS = [
     Run(14, True, example("main_and_oak"), AT_INSTANT,
         ["pattern 1", "step 2309", "when ped 2", "when interval 3", "step 1", "when interval 3"],
         ["ok", "tick 0001365", "tick 0001420", "tick 0002310"]),
-    # A clearance of 10 s: phase 3 begins 1 s before its instant. It ends after the 7 s of phase 8, which is green beside it.
+    # A clearance of 10 s: phase 3 begins 1 s before its instant. It ends after the 7 s of phase 8, which is green
+    # beside it.
     Run(14, False, changed(example("main_and_oak"), SHORT_CROSSINGS), AT_INSTANT,
         ["pattern 1", "step 1470", "when interval 3"], ["ok", "tick 0001470"]),
     # With a permissive time of 2 s the car can come 2 s later, and phase 3 begins 1 s behind its instant again.
@@ -116,24 +117,24 @@ RUNS = [
         ["pattern 1", "step 839", "when interval 4", "step 1", "when interval 4"], ["ok", "tick 0000650", "tick 0000840"]),
     Run(42, False, changed(CLEAN, {"coordMaximumMode.1": 1, "phaseMaximum1.4": 20}), row(100, 3, 4),
         ["pattern 1", "step 849", "when interval 4", "step 1", "when interval 4"], ["ok", "tick 0000650", "tick 0000850"]),
-    # A car comes to detector 3 at the end of a permissive time, and stays. The instant of phase 3 is tick 600. With 11 s
-    # its minimum ends 1 s behind it, and with 10 s at it. With 15 s it begins there, and is green for a cycle.
+    # A car comes to detector 3 at the end of a permissive time, and stays. The instant of phase 3 is tick 600. With 11
+    # s its minimum ends 1 s behind it, and with 10 s at it. With 15 s it begins there, and is green for a cycle.
     Run(43, True, changed(CLEAN, {**ACTUATED, "patternPermissiveTime.1": 11}), row(510, 3),
         ["pattern 1", "step 609", "when interval 3", "step 1", "when interval 3"], ["ok", "tick 0000560", "tick 0000610"]),
     Run(43, False, changed(CLEAN, {**ACTUATED, "patternPermissiveTime.1": 10}), row(500, 3),
         ["pattern 1", "step 599", "when interval 3", "step 1", "when interval 3"], ["ok", "tick 0000550", "tick 0000600"]),
     Run(43, True, changed(CLEAN, {**ACTUATED, "patternPermissiveTime.1": 15}), row(550, 3),
         ["pattern 1", "step 1499", "when interval 3", "step 1", "when interval 3"], ["ok", "tick 0000600", "tick 0001500"]),
-    # A car stays at phase 4, which is green from tick 550 to its instant, tick 850. Someone presses its button in between,
-    # and waits. Where phases 4 and 8 are coordinated they are green from tick 201 to 400, and the walk begins at once:
-    # with the clearance it takes 11 s, and 12 s are left.
+    # A car stays at phase 4, which is green from tick 550 to its instant, tick 850. Someone presses its button in
+    # between, and waits. Where phases 4 and 8 are coordinated they are green from tick 201 to 400, and the walk begins
+    # at once: with the clearance it takes 11 s, and 12 s are left.
     Run(45, True, changed(CLEAN, RECYCLING), row(100, 4) + row(600, 4, button=4) + row(603, 4),
         ["pattern 1", "step 849", "when interval 4", "when ped 4", "step 1", "when interval 4"],
         ["ok", "tick 0000550", "never", "tick 0000850"]),
     Run(45, False, changed(CLEAN, {**RECYCLING, **OTHERS_COORDINATED}), row(100, 4) + row(280, 4, button=4) + row(283, 4),
         ["pattern 1", "step 280", "when interval 4", "when ped 4"], ["ok", "tick 0000201", "tick 0000280"]),
-    # Phase 2 is green from tick 101 to its instant, tick 400. Its walk of 7 s and its clearance of 4 s are over at tick 211,
-    # and by its recall it walks again a tick later. With its button alone it does not.
+    # Phase 2 is green from tick 101 to its instant, tick 400. Its walk of 7 s and its clearance of 4 s are over at tick
+    # 211, and by its recall it walks again a tick later. With its button alone it does not.
     Run(46, True, changed(CLEAN, {**RECYCLING_MAIN, "phasePedRecall.2": 1}), "",
         ["pattern 1", "step 211", "when ped 2", "step 1", "when ped 2"], ["ok", "tick 0000211", "tick 0000212"]),
     Run(46, False, changed(CLEAN, RECYCLING_MAIN), row(50, button=2) + row(53),

@@ -1,6 +1,6 @@
--- Pedestrian recycle: when a coordinated phase walks again within its green, and that no force-off waits for such a walk.
--- The laws here are the contracts of a function in src/operation.rt, and proved there. Times are in tenths of a second,
--- which are ticks.
+-- Pedestrian recycle: when a coordinated phase walks again within its green, and that no force-off waits for such a
+-- walk. The laws here are the contracts of a function in src/operation.rt, and proved there. Times are in tenths of a
+-- second, which are ticks.
 use Rattle.std.specs.Prelude.{◌≡◌, ℕ, ◌+◌, ◌<◌, ◌≤◌, Bool, true, false, not, ◌&&◌, List, ◌∷◌, ◌++◌, None, is_none}
 use Rattle.tsb_step.specs.tsb_types.declared.interval.Interval.TheVariants.{Green}
 use Rattle.tsb_step.specs.tsb_types.declared.interval.PedestrianInterval.TheVariants.{DontWalk, Walk}
@@ -28,8 +28,8 @@ pub record WalksAgain (s : State) (row : Row) (p : ℕ) : Type 0 where
   pub dont_walk : pedestrian_part s p ≡ DontWalk
   pub walks : pedestrian_part (step s (Tick row)) p ≡ Walk
 
--- a walk of p that begins in the next tick ends with its pedestrian clearance by the next force-off of p: in none of the
--- ticks that both take is p forced off
+-- a walk of p that begins in the next tick ends with its pedestrian clearance by the next force-off of p: in none of
+-- the ticks that both take is p forced off
 abbrev pub FitsBeforeForceOff : State → ℕ → Type 0
 FitsBeforeForceOff s p = (t : ℕ) → s.now < t → t ≤ s.now + (walk s.plan p + pedestrian_clear s.plan p) →
     asks_force_off s.plan t s.pattern p ≡ false
@@ -77,8 +77,8 @@ pub record IsOverByForceOff (s : State) (row : Row) (p : ℕ) : Type 0 where
   pub may_end : conflict s row p ≡ true → initial_has_passed s.plan (phases_given s row) p (held_of (phase_read s p)) ≡ true →
       ready s row p ≡ true
 
--- A walk that begins within a green, in the tick `row`, is over by the tick `next` of the next force-off, its pedestrian
--- clearance too. So none comes later by it.
+-- A walk that begins within a green, in the tick `row`, is over by the tick `next` of the next force-off, its
+-- pedestrian clearance too. So none comes later by it.
 abbrev pub RecycledWalksEndInTime : Type 0
 RecycledWalksEndInTime = (plan : Plan) (is later : List Input) (row next : Row) (p : ℕ) → IsConsistent plan → plan.phase_count ≤ 16 →
     AreTaken plan (later ++ (Tick row ∷ is)) → IsUntripped plan (Tick row ∷ is) later → WalksAgain (replay plan is) row p →

@@ -440,9 +440,10 @@ pub fn permissive_times_let_calls_in()
 {}
 
 /// A pedestrian call begins a walk within a green, where there is time for it. A coordinated phase of the pattern that
-/// runs, with `phasePedestrianRecycle`, which was Green in DontWalk and has a pedestrian call, is in Walk after the tick,
-/// and its button is forgotten. That is so where it is forced off in none of the ticks that its walk and its pedestrian
-/// clearance take, and where no force-off stands for a conflict that it still has. No other walk begins within a green.
+/// runs, with `phasePedestrianRecycle`, which was Green in DontWalk and has a pedestrian call, is in Walk after the
+/// tick, and its button is forgotten. That is so where it is forced off in none of the ticks that its walk and its
+/// pedestrian clearance take, and where no force-off stands for a conflict that it still has. No other walk begins
+/// within a green.
 ///
 /// Needs: no preempt in service; an untripped run; at most 16 phases.
 /// Not said: anything of a walk that begins with a green.
@@ -454,14 +455,14 @@ pub fn recycled_calls_walk()
 {}
 
 /// A walk that begins within a green is over by the next force-off. In the first tick in which its phase is forced off
-/// from then on, this was Green all the time, and its walk and its pedestrian clearance are over. So with a conflict it is
-/// ready there, once its initial time has passed: no force-off waits for such a walk.
+/// from then on, this was Green all the time, and its walk and its pedestrian clearance are over. So with a conflict it
+/// is ready there, once its initial time has passed: no force-off waits for such a walk.
 ///
 /// Needs: up to that tick no pattern selected and nothing committed, no preempt in service and no rest in walk; an
 /// untripped run; at most 16 phases.
 /// Not said: that the green ends then, as it may wait for the other ring at the barrier (`coordination_goes_on`).
-/// Mistakes: a rule by which the walk alone has to fit, `walk_alone` (`would_fit`, `would_still_clear`); one that asks for
-/// a tick less than both take, `tick_less` (`would_begin`, `would_lack_one`).
+/// Mistakes: a rule by which the walk alone has to fit, `walk_alone` (`would_fit`, `would_still_clear`); one that asks
+/// for a tick less than both take, `tick_less` (`would_begin`, `would_lack_one`).
 /// Witness: `a_walk_in_time` of RecycledWalkRuns, whose walk takes all that is left.
 pub fn recycled_walks_end_in_time()
     ensures { RecycledWalksEndInTime }

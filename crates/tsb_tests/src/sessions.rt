@@ -185,8 +185,8 @@ fn is_shown_at_the_end(alloc: Global, commands: &[u8], answer: usize) -> bool {
     ends(alloc, &mut reader, &mut &screen) && screen.shown.get() == answer
 }
 
-/// The last answers are flushed as well: those to a line without a line feed, those before `quit`, and those of commands
-/// that end with a line feed.
+/// The last answers are flushed as well: those to a line without a line feed, those before `quit`, and those of
+/// commands that end with a line feed.
 #[test]
 fn the_last_answers_are_shown(rt: HostRuntime) {
     for (commands, answer) in [
@@ -327,8 +327,8 @@ never\nnothing\ntick 0000001\n"
     assert!(rt; answers_on_quad(rt.alloc(), log, commands, answers));
 }
 
-/// A walk within a green, by pedestrian recycle, worked by hand: the button of phase 2 is pressed in tick 3 of its green.
-/// The undo of that tick gives back what was before it.
+/// A walk within a green, by pedestrian recycle, worked by hand: the button of phase 2 is pressed in tick 3 of its
+/// green. The undo of that tick gives back what was before it.
 #[test]
 fn walks_within_greens_are_answered(rt: HostRuntime) {
     let log =

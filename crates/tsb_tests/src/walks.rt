@@ -1,5 +1,5 @@
-//! Walks within a green, by phase timing alone, worked by hand. Phase 2 of the built-in plan of eight phases starts with
-//! a pedestrian call in tick 1: its walk of 4 s ends in tick 41, and its pedestrian clearance of 6 s in tick 101.
+//! Walks within a green, by phase timing alone, worked by hand. Phase 2 of the built-in plan of eight phases starts
+//! with a pedestrian call in tick 1: its walk of 4 s ends in tick 41, and its pedestrian clearance of 6 s in tick 101.
 ghost use Rattle.std.specs.Prelude.{◌≡◌, ◌<◌, ◌^◌, false};
 ghost use Rattle.tsb_phase.specs.Cells.{IsBy};
 ghost use Rattle.tsb_phase.specs.Layer.{cells_of, is_open};
@@ -11,8 +11,8 @@ use tsb_objects::{
 use tsb_phase::{Conditions, Phases};
 use tsb_types::limits;
 
-/// What ticks give phase 2 from a tick on: whether it may walk again within its green, whether it has a pedestrian call,
-/// whether a phase waits for it, whether it is forced off, and whether preempt 1 is in service.
+/// What ticks give phase 2 from a tick on: whether it may walk again within its green, whether it has a pedestrian
+/// call, whether a phase waits for it, whether it is forced off, and whether preempt 1 is in service.
 #[derive(Clone, Copy)]
 struct Given {
     from: u32,

@@ -1,5 +1,5 @@
--- When a phase walks again within its green; and such a walk in a run: until its phase is forced off it stays Green, and
--- its walk and its pedestrian clearance are over by then.
+-- When a phase walks again within its green; and such a walk in a run: until its phase is forced off it stays Green,
+-- and its walk and its pedestrian clearance are over by then.
 use Rattle.std.proofs.Common.{◌≡◌, ℕ, ◌+◌, ◌-◌, ◌<◌, ◌≤◌, Bool, true, false, not, ◌&&◌, ◌||◌, if◌then◌else◌, List, [], ◌∷◌, ◌++◌, Option, Some, None, is_some, is_none, refl, sym, ap, subst, arith, ◌∙◌, inl, inr}
 use Rattle.std.proofs.lemmas.Bool.{and_parts, and_from, cases_Bool, true≢false, false≢true}
 use Rattle.tsb_step.specs.tsb_cells.declared.timer.Timer.{Timer}

@@ -1,4 +1,5 @@
--- A tick in which a walk begins within a green, by pedestrian recycle: what it has found, and what it makes of the phase.
+-- A tick in which a walk begins within a green, by pedestrian recycle: what it has found, and what it makes of the
+-- phase.
 use Rattle.std.proofs.Common.{◌≡◌, ◌≢◌, ℕ, ◌*◌, ◌≤◌, nat_le, Bool, true, false, not, ◌&&◌, ◌||◌, if◌then◌else◌, Option, Some, None, is_some, is_none, refl, sym, ap, arith, ◌∙◌, inl, inr}
 use Rattle.std.proofs.lemmas.Bool.{and_parts, cases_Bool, true≢false, false≢true}
 use Rattle.std.proofs.lemmas.Bool.Decides.{nat_tests}

@@ -1,5 +1,5 @@
--- Runs from power-up that meet all premises of the laws of walks that begin within a green, and mistakes that these laws
--- refuse.
+-- Runs from power-up that meet all premises of the laws of walks that begin within a green, and mistakes that these
+-- laws refuse.
 use Rattle.std.proofs.Common.{◌≡◌, ℕ, zero, suc, ◌+◌, ◌-◌, ◌<◌, ◌≤◌, nat_lt, Bool, true, false, not, ◌&&◌, ◌||◌, if◌then◌else◌, List, [], ◌∷◌, ◌++◌, Option, Some, None, is_some, is_none, option_map, refl, sym, ap, arith, ◌∙◌}
 use Rattle.std.proofs.lemmas.Bool.{and_from, true≢false, false≢true}
 use Rattle.std.proofs.lemmas.Bool.Decides.{nat_tests}
